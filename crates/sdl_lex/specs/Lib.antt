@@ -1,0 +1,4 @@
+pub mod Byte
+pub mod LexError
+pub mod Place
+pub mod Token

@@ -1,0 +1,18 @@
+//! Classes of bytes.
+
+ghost use Rattle.std.specs.Prelude.{◌≡◌};
+ghost use Rattle.sdl_lex.specs.Byte.{is_blank, is_word_byte};
+
+/// Blank, tab, CR and LF.
+pub fn is_blank(b: u8) -> bool
+    ensures { result ≡ is_blank b }
+{
+    b == b' ' || b == b'\t' || b == b'\r' || b == b'\n'
+}
+
+/// What a word may have after its first letter.
+pub fn is_word_byte(b: u8) -> bool
+    ensures { result ≡ is_word_byte b }
+{
+    b.is_ascii_alphanumeric() || b == b'_'
+}

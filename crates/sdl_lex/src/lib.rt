@@ -1,0 +1,19 @@
+//! The tokens of a specification in SDL/PR: words, numbers, character strings and marks.
+//!
+//! `lex` cuts a text into its tokens, slices of the text in order with only blanks and comments between them, or
+//! tells the first fault of the text and its place. Keywords are words here: what a word means, the parser says.
+#![tactic(auto)]
+
+mod byte;
+mod error;
+mod lexer;
+mod piece;
+mod place;
+#[cfg(test)]
+mod tests;
+mod token;
+
+pub use error::LexError;
+pub use lexer::lex;
+pub use place::{Place, place_of};
+pub use token::{Kind, Token};
