@@ -1,0 +1,10 @@
+pub mod Class
+pub mod PlainPort
+pub mod Port
+pub mod Same
+pub mod Search
+pub mod Selection
+pub mod Take
+pub mod Text
+pub mod Timers
+pub mod Value

@@ -1,0 +1,6 @@
+use Rattle.std.specs.Prelude.{List}
+use Rattle.port_model.specs.declared.value.Value.{Value}
+
+-- values in the order of the parameters
+abbrev pub ValueList : Type 0
+ValueList = List Value

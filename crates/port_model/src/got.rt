@@ -1,0 +1,23 @@
+ghost use Rattle.std.specs.Prelude.{◌≡◌};
+ghost use Rattle.port_model.specs.Take.{name_of};
+
+use crate::{Item, SignalId, TimerKey};
+
+/// What waits in a port: a signal, or the signal of a timer that has expired.
+#[derive(Debug, PartialEq, Eq, Drop)]
+pub enum Got {
+    Signal(Item),
+    Timer(TimerKey),
+}
+
+impl Got {
+    /// The name of the signal or of the timer.
+    pub fn name(&self) -> SignalId
+        ensures { result ≡ name_of self.now }
+    {
+        match self {
+            Got::Signal(item) => item.name,
+            Got::Timer(key) => key.name,
+        }
+    }
+}

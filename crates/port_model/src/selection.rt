@@ -1,0 +1,50 @@
+ghost use Rattle.std.specs.Prelude.{◌≡◌, ◌↔◌, IsTrue, Contains};
+ghost use Rattle.port_model.specs.Selection.{class_of};
+
+use crate::SignalId;
+use std::marker::Model;
+
+/// What a state does with a signal or a timer of one name.
+#[derive(Clone, Copy, Debug, PartialEq, Eq)]
+pub enum Class {
+    /// Named by a priority input.
+    Priority,
+    /// Named by an input.
+    Input,
+    /// Named by a save.
+    Saved,
+    /// Named by none of these: it is consumed without effect.
+    Discard,
+}
+
+/// The class of each name in one state. The class of a name stands at its number; a name past the end is `Discard`.
+#[derive(Debug, Drop)]
+pub struct Selection {
+    pub classes: Vec<Class>,
+}
+
+impl Model for Selection {
+    ghost use Rattle.port_model.specs.Class.{ClassList};
+
+    ghost Value = { ClassList };
+
+    ghost view = { λ selection. selection.classes.items };
+}
+
+impl Selection {
+    pub fn class_of(&self, name: SignalId) -> Class
+        ensures { result ≡ class_of self.now name }
+    {
+        self.classes
+            .get(name.0 as usize)
+            .copied()
+            .unwrap_or(Class::Discard)
+    }
+
+    /// Whether some name has the class `Priority`.
+    pub fn has_priority(&self) -> bool
+        ensures { IsTrue result ↔ Contains self.now Class.Priority }
+    {
+        self.classes.contains(&Class::Priority)
+    }
+}

@@ -1,0 +1,12 @@
+use crate::Got;
+
+/// What a take gave.
+#[derive(Debug, PartialEq, Eq, Drop)]
+pub enum Taken {
+    /// Taken by an input or a priority input.
+    Consumed(Got),
+    /// Taken by no input, and lost.
+    Discarded(Got),
+    /// All that waits is saved, or nothing waits.
+    Nothing,
+}
