@@ -1,4 +1,6 @@
 pub mod Class
+pub mod History
+pub mod Laws
 pub mod PlainPort
 pub mod Port
 pub mod Same

@@ -19,10 +19,11 @@ name_of (Timer key) = key.name
 abbrev pub HasClass : Class → List Class → Got → Type 0
 HasClass c classes got = class_of classes (name_of got) ≡ c
 
--- an entry is of no priority input, or of a save
+-- no priority input names the entry
 abbrev pub IsOrdinary : List Class → Got → Type 0
 IsOrdinary classes got = class_of classes (name_of got) ≢ class.Priority
 
+-- a save names the entry
 abbrev pub IsSaved : List Class → Got → Type 0
 IsSaved classes got = class_of classes (name_of got) ≡ class.Saved
 

@@ -1,5 +1,6 @@
 ghost use Rattle.std.specs.Prelude.{◌≡◌};
 ghost use Rattle.port_model.specs.Take.{name_of};
+ghost use Rattle.port_model.specs.Timers.{is_signal_of};
 
 use crate::{Item, SignalId, TimerKey};
 
@@ -18,6 +19,16 @@ impl Got {
         match self {
             Got::Signal(item) => item.name,
             Got::Timer(key) => key.name,
+        }
+    }
+
+    /// Whether this is the signal of the timer with that key.
+    pub fn is_signal_of(&self, key: &TimerKey) -> bool
+        ensures { result ≡ is_signal_of key.now self.now }
+    {
+        match self {
+            Got::Signal(_) => false,
+            Got::Timer(expired) => expired == key,
         }
     }
 }

@@ -7,6 +7,7 @@
 mod error;
 mod got;
 mod item;
+pub mod laws;
 mod pid;
 mod plain_port;
 mod search;

@@ -1,13 +1,13 @@
-ghost use Rattle.std.specs.Prelude.{MatchOption, All};
-ghost use Rattle.port_model.specs.Take.{IsOrdinary, IsSaved, HasClass};
-ghost use Rattle.port_model.specs.Search.{IsFirst, IsFirstUnsaved};
+ghost use Rattle.std.specs.Prelude.{◌≡◌};
+ghost use Rattle.port_model.specs.Search.{FindsPriority, FindsUnsaved};
+ghost use Rattle.port_model.specs.Timers.{without_signal};
 
-use crate::{Class, Got, Selection};
+use crate::{Class, Got, Selection, TimerKey};
 use std::collections::VecDeque;
 
 // The place of the first entry of a priority input. Where the state has none, what waits isn't looked at.
 pub fn first_priority(waiting: &VecDeque<Got>, selection: &Selection) -> Option<usize>
-    ensures { MatchOption result (All (IsOrdinary selection.now) waiting.now.items) (IsFirst (IsOrdinary selection.now) (HasClass Class.Priority selection.now) waiting.now.items) }
+    ensures { FindsPriority selection.now waiting.now.items result }
 {
     if !selection.has_priority() {
         return None;
@@ -22,7 +22,7 @@ pub fn first_priority(waiting: &VecDeque<Got>, selection: &Selection) -> Option<
 
 // The place of the first entry that isn't saved, and its class.
 pub fn first_unsaved(waiting: &VecDeque<Got>, selection: &Selection) -> Option<(usize, Class)>
-    ensures { MatchOption result (All (IsSaved selection.now) waiting.now.items) (λ found. IsFirstUnsaved selection.now waiting.now.items found.0 found.1) }
+    ensures { FindsUnsaved selection.now waiting.now.items result }
 {
     for place in 0..waiting.len() {
         match selection.class_of(waiting[place].name()) {
@@ -31,4 +31,11 @@ pub fn first_unsaved(waiting: &VecDeque<Got>, selection: &Selection) -> Option<(
         }
     }
     None
+}
+
+// Takes the signal of the timer with this key out of the list.
+pub fn forget(waiting: &mut VecDeque<Got>, key: &TimerKey)
+    ensures { waiting.new.items ≡ without_signal key.now waiting.old.items }
+{
+    waiting.retain(|got| !got.is_signal_of(key));
 }

@@ -32,6 +32,7 @@ impl Model for Selection {
 }
 
 impl Selection {
+    /// The class of a name.
     pub fn class_of(&self, name: SignalId) -> Class
         ensures { result ≡ class_of self.now name }
     {

@@ -58,18 +58,21 @@ impl Values {
         self.list.get(index).copied()
     }
 
+    /// The values in order.
     pub fn as_slice(&self) -> &[Value]
         ensures { result.now ≡ self.now }
     {
         self.list.as_slice()
     }
 
+    /// How many values there are.
     pub fn len(&self) -> usize
         ensures { result ≡ length self.now }
     {
         self.list.len()
     }
 
+    /// Whether there are none.
     pub fn is_empty(&self) -> bool
         ensures { IsTrue result ↔ (self.now ≡ []) }
     {
@@ -96,7 +99,6 @@ impl fmt::Display for Values {
 }
 
 impl PartialEq for Values {
-    ghost use Rattle.std.specs.Prelude.{◌≡◌, ◌↔◌, IsTrue};
     ghost use Rattle.std.specs.Cmp.{partial_equiv_from_equiv};
     ghost use Rattle.port_model.specs.Same.{same_values, same_values_equiv};
 

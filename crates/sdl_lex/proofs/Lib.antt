@@ -1,1 +1,13 @@
+pub mod ByteLemmas
+pub mod CommentLemmas
+pub mod DecimalLemmas
+pub mod FaultLemmas
+pub mod KindLemmas
+pub mod LexerLemmas
+pub mod ListLemmas
+pub mod MarkLemmas
+pub mod PartLemmas
+pub mod RunLemmas
+pub mod SliceLemmas
+pub mod TextLemmas
 pub mod TokenLemmas

@@ -1,4 +1,7 @@
 pub mod Byte
+pub mod Kind
 pub mod LexError
+pub mod Part
+pub mod Piece
 pub mod Place
 pub mod Token

@@ -1,7 +1,7 @@
 //! Classes of bytes.
 
 ghost use Rattle.std.specs.Prelude.{◌≡◌};
-ghost use Rattle.sdl_lex.specs.Byte.{is_blank, is_word_byte};
+ghost use Rattle.sdl_lex.specs.Byte.{is_blank, is_mark_byte, is_word_byte};
 
 /// Blank, tab, CR and LF.
 pub fn is_blank(b: u8) -> bool
@@ -15,4 +15,14 @@ pub fn is_word_byte(b: u8) -> bool
     ensures { result ≡ is_word_byte b }
 {
     b.is_ascii_alphanumeric() || b == b'_'
+}
+
+/// The marks of one byte.
+pub fn is_mark_byte(b: u8) -> bool
+    ensures { result ≡ is_mark_byte b }
+{
+    matches!(
+        b,
+        b'(' | b')' | b',' | b';' | b':' | b'=' | b'<' | b'>' | b'+' | b'-' | b'*' | b'/'
+    )
 }

@@ -1,13 +1,16 @@
 //! The list of a text's tokens.
 
-ghost use Rattle.std.specs.Prelude.{◌≡◌, ◌<◌, ◌≤◌, ◌↔◌, length, take, IfOk, IsErrOf, All};
-ghost use Rattle.sdl_lex.specs.LexError.{refusal};
-ghost use Rattle.sdl_lex.specs.Place.{place_after};
-ghost use Rattle.sdl_lex.specs.Token.{InOrder, IsWithin};
+ghost use Rattle.std.specs.Prelude.{◌≡◌, ◌<◌, ◌≤◌, ◌↔◌, ℕ, length, List, IfErr, IfOk, IsErrOf, All};
+ghost use Rattle.sdl_lex.specs.LexError.{IsInText, Refuses, place};
+ghost use Rattle.sdl_lex.specs.Part.{Lexes};
+ghost use Rattle.sdl_lex.specs.Piece.{refusal};
+ghost use Rattle.sdl_lex.specs.Token.{InOrder, IsSlice, IsWithin};
+ghost use Rattle.sdl_lex.specs.declared.error.LexError as error;
+ghost use Rattle.sdl_lex.specs.declared.token.Token as token;
 
 use crate::error::LexError;
 use crate::piece::{Fault, cut};
-use crate::place::place_of;
+use crate::place::{Place, place_of};
 use crate::token::Token;
 use std::alloc::Global;
 
@@ -16,9 +19,14 @@ const MAX_TEXT: usize = 1_048_576;
 
 /// The tokens of a text, in order. Of several faults the first in the text is told, but `TooLong` before all.
 pub fn lex(alloc: Global, text: &[u8]) -> Result<Vec<Token>, LexError>
+    ensures tokens { IfOk result (λ tokens. Lexes text.now tokens.items) }
+    ensures fault { IfErr result (λ e. Refuses e text.now) }
+    ensures too_long { IsErrOf result LexError.TooLong ↔ (1048576 < length text.now) }
+
+    // What a caller needs to take the tokens' bytes from the text.
     ensures in_order { IfOk result (λ tokens. InOrder 0 tokens.items (length text.now)) }
     ensures within { IfOk result (λ tokens. All (IsWithin (length text.now)) tokens.items) }
-    ensures too_long { IsErrOf result LexError.TooLong ↔ (1048576 < length text.now) }
+    ensures slices { IfOk result (λ tokens. All (IsSlice text.now) tokens.items) }
 {
     if text.len() > MAX_TEXT {
         return Err(LexError::TooLong);
@@ -29,7 +37,7 @@ pub fn lex(alloc: Global, text: &[u8]) -> Result<Vec<Token>, LexError>
         let start = text.len() - rest.len();
         let piece = match cut(rest) {
             Ok(piece) => piece,
-            Err(fault) => return Err(refusal(fault, text, start)),
+            Err(fault) => return Err(refusal(fault, place_of(text, start))),
         };
         let (_, after) = rest.split_at(piece.len);
         if let Some(kind) = piece.kind {
@@ -42,11 +50,9 @@ pub fn lex(alloc: Global, text: &[u8]) -> Result<Vec<Token>, LexError>
     Ok(tokens)
 }
 
-fn refusal(fault: Fault, text: &[u8], offset: usize) -> LexError
-    requires { offset ≤ length text.now }
-    ensures { result ≡ refusal fault (place_after (take offset text.now)) }
+fn refusal(fault: Fault, place: Place) -> LexError
+    ensures { result ≡ refusal fault place }
 {
-    let place = place_of(text, offset);
     match fault {
         Fault::BadByte => LexError::BadByte(place),
         Fault::OpenComment => LexError::OpenComment(place),
@@ -55,3 +61,18 @@ fn refusal(fault: Fault, text: &[u8], offset: usize) -> LexError
         Fault::NameTooLong => LexError::NameTooLong(place),
     }
 }
+
+/// A text has one list of tokens. The function does nothing: its contract is a law.
+pub fn one_list()
+    ensures { (text : List ℕ) (tokens others : List token.Token) → Lexes text tokens
+        → Lexes text others → tokens ≡ others }
+{}
+
+/// A text with a fault has no list of tokens, and its faults stand at one place, so that the fault is its first.
+/// The function does nothing: its contract is a law.
+pub fn one_fault()
+    ensures no_list { (text : List ℕ) (error : error.LexError) (tokens : List token.Token) → IsInText error
+        → Refuses error text → ¬ Lexes text tokens }
+    ensures one_place { (text : List ℕ) (error other : error.LexError) → IsInText error → IsInText other
+        → Refuses error text → Refuses other text → place error ≡ place other }
+{}

@@ -14,6 +14,6 @@ mod tests;
 mod token;
 
 pub use error::LexError;
-pub use lexer::lex;
+pub use lexer::{lex, one_fault, one_list};
 pub use place::{Place, place_of};
 pub use token::{Kind, Token};

@@ -1,11 +1,16 @@
 //! What stands at the front of a text: a blank, a comment or a token.
 
-ghost use Rattle.std.specs.Prelude.{◌≡◌, ◌<◌, ◌≤◌, length, take, IfOk, IfSome};
-ghost use Rattle.std.specs.List.{prefix_len, AllPass};
-ghost use Rattle.std.specs.Char.{is_ascii_digit};
-ghost use Rattle.sdl_lex.specs.Byte.{is_word_byte};
+ghost use Rattle.std.specs.Prelude.{◌≡◌, ◌<◌, ◌≤◌, length, pos, slice_index, take, true, false, [], ◌∷◌, IfNone, IfSome, OnSome};
+ghost use Rattle.std.specs.Char.{is_ascii_alphabetic, is_ascii_digit};
+ghost use Rattle.std.specs.List.{AllPass, prefix_len};
+ghost use Rattle.std.specs.Option.{option_copied};
+ghost use Rattle.sdl_lex.specs.Byte.{is_word_byte, is_quote};
+ghost use Rattle.sdl_lex.specs.Kind.{decimal, is_mark};
+ghost use Rattle.sdl_lex.specs.Part.{BeginsComment};
+ghost use Rattle.sdl_lex.specs.Piece as spec;
+ghost use Rattle.sdl_lex.specs.Piece.{Found, is_other};
 
-use crate::byte::{is_blank, is_word_byte};
+use crate::byte::{is_blank, is_mark_byte, is_word_byte};
 use crate::token::Kind;
 
 /// How many bytes a word may have.
@@ -36,7 +41,7 @@ pub enum Fault {
 /// The first piece of a text.
 pub fn cut(bytes: &[u8]) -> Result<Piece, Fault>
     requires { 0 < length bytes.now }
-    ensures { IfOk result (λ p. (0 < p.len) × (p.len ≤ length bytes.now)) }
+    ensures { Found result bytes.now }
 {
     let first = bytes[0];
     if is_blank(first) {
@@ -47,7 +52,7 @@ pub fn cut(bytes: &[u8]) -> Result<Piece, Fault>
         number(bytes)
     } else if first == b'\'' {
         text(bytes)
-    } else if let [b'/', b'*', ..] = bytes {
+    } else if begins_comment(bytes) {
         comment(bytes)
     } else {
         mark(bytes)
@@ -55,8 +60,8 @@ pub fn cut(bytes: &[u8]) -> Result<Piece, Fault>
 }
 
 fn word(bytes: &[u8]) -> Result<Piece, Fault>
-    requires { 0 < prefix_len is_word_byte bytes.now }
-    ensures { IfOk result (λ p. (0 < p.len) × (p.len ≤ length bytes.now)) }
+    requires { is_ascii_alphabetic (slice_index bytes.now 0) ≡ true }
+    ensures { Found result bytes.now }
 {
     let len = word_len(bytes);
     if len > MAX_WORD {
@@ -76,8 +81,8 @@ fn word_len(bytes: &[u8]) -> usize
 }
 
 fn number(bytes: &[u8]) -> Result<Piece, Fault>
-    requires { 0 < prefix_len is_ascii_digit bytes.now }
-    ensures { IfOk result (λ p. (0 < p.len) × (p.len ≤ length bytes.now)) }
+    requires { is_ascii_digit (slice_index bytes.now 0) ≡ true }
+    ensures { Found result bytes.now }
 {
     let len = digits_len(bytes);
     let (digits, _) = bytes.split_at(len);
@@ -101,6 +106,9 @@ fn digits_len(bytes: &[u8]) -> usize
 /// The value of decimal digits, unless it is too large.
 fn decimal(digits: &[u8]) -> Option<i64>
     requires { AllPass is_ascii_digit digits.now }
+    ensures value { IfSome result (λ n. n ≡ pos (decimal digits.now)) }
+    ensures small { OnSome result (decimal digits.now ≤ 9223372036854775807) }
+    ensures big { IfNone result (9223372036854775807 < decimal digits.now) }
 {
     let mut value = 0;
     for b in digits {
@@ -114,8 +122,8 @@ fn decimal(digits: &[u8]) -> Option<i64>
 }
 
 fn text(bytes: &[u8]) -> Result<Piece, Fault>
-    requires { 0 < length bytes.now }
-    ensures { IfOk result (λ p. (0 < p.len) × (p.len ≤ length bytes.now)) }
+    requires { is_quote (slice_index bytes.now 0) ≡ true }
+    ensures { Found result bytes.now }
 {
     let (_, body) = bytes.split_at(1);
     match after_text(body) {
@@ -129,7 +137,8 @@ fn text(bytes: &[u8]) -> Result<Piece, Fault>
 
 /// What follows the closing quote of a character string, whose opening quote stands before `body`.
 fn after_text(body: &[u8]) -> Option<&[u8]>
-    ensures { IfSome result (λ after. length after.now ≤ length body.now) }
+    ensures value { option_copied result ≡ spec.after_text body.now }
+    ensures within { IfSome result (λ after. length after.now ≤ length body.now) }
 {
     let mut rest = body;
     loop {
@@ -142,9 +151,16 @@ fn after_text(body: &[u8]) -> Option<&[u8]>
     }
 }
 
+fn begins_comment(bytes: &[u8]) -> bool
+    ensures begins { result ≡ true → BeginsComment bytes.now }
+    ensures other { result ≡ false → ¬ BeginsComment bytes.now }
+{
+    matches!(bytes, [b'/', b'*', ..])
+}
+
 fn comment(bytes: &[u8]) -> Result<Piece, Fault>
-    requires { 1 < length bytes.now }
-    ensures { IfOk result (λ p. (0 < p.len) × (p.len ≤ length bytes.now)) }
+    requires { BeginsComment bytes.now }
+    ensures { Found result bytes.now }
 {
     let (_, body) = bytes.split_at(2);
     match after_comment(body) {
@@ -158,7 +174,8 @@ fn comment(bytes: &[u8]) -> Result<Piece, Fault>
 
 /// What follows the first `*/`.
 fn after_comment(body: &[u8]) -> Option<&[u8]>
-    ensures { IfSome result (λ after. length after.now ≤ length body.now) }
+    ensures value { option_copied result ≡ spec.after_comment body.now }
+    ensures within { IfSome result (λ after. length after.now ≤ length body.now) }
 {
     let mut rest = body;
     loop {
@@ -171,19 +188,39 @@ fn after_comment(body: &[u8]) -> Option<&[u8]>
 }
 
 fn mark(bytes: &[u8]) -> Result<Piece, Fault>
-    ensures { IfOk result (λ p. (0 < p.len) × (p.len ≤ length bytes.now)) }
+    requires some { 0 < length bytes.now }
+    requires other { is_other (slice_index bytes.now 0) ≡ true }
+    requires no_comment { ¬ BeginsComment bytes.now }
+    ensures { Found result bytes.now }
 {
-    let len = match bytes {
-        [b':' | b'/' | b'<' | b'>', b'=', ..] => 2,
-        [b'=', b'>', ..] => 2,
-        [
-            b'(' | b')' | b',' | b';' | b':' | b'=' | b'<' | b'>' | b'+' | b'-' | b'*' | b'/',
-            ..
-        ] => 1,
-        _ => return Err(Fault::BadByte),
-    };
+    let len = mark_len(bytes);
+    if len == 0 {
+        return Err(Fault::BadByte);
+    }
     Ok(Piece {
         kind: Some(Kind::Mark),
         len,
     })
+}
+
+/// How many bytes the longest mark at the front has; 0 where none is.
+fn mark_len(bytes: &[u8]) -> usize
+    ensures { result ≡ spec.mark_len bytes.now }
+{
+    match bytes {
+        [first, second, ..] if is_pair(*first, *second) => 2,
+        [first, ..] if is_mark_byte(*first) => 1,
+        _ => 0,
+    }
+}
+
+/// Whether two bytes are one mark.
+fn is_pair(first: u8, second: u8) -> bool
+    ensures { result ≡ is_mark (first ∷ second ∷ []) }
+{
+    match first {
+        b':' | b'/' | b'<' | b'>' => second == b'=',
+        b'=' => second == b'>',
+        _ => false,
+    }
 }

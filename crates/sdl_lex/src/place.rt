@@ -1,7 +1,7 @@
 //! Lines and columns.
 
-ghost use Rattle.std.specs.Prelude.{◌≡◌, ◌≤◌, length, take};
-ghost use Rattle.sdl_lex.specs.Place.{last_line_len, place_after};
+ghost use Rattle.std.specs.Prelude.{◌≡◌, ◌≤◌, length, take, Some};
+ghost use Rattle.sdl_lex.specs.Place.{last_line_len, place_after, place_text};
 
 use std::fmt;
 
@@ -19,6 +19,8 @@ impl Place {
 
 /// Writes `L:C`.
 impl fmt::Display for Place {
+    ghost output = { λ p. Some (place_text p) };
+
     fn fmt<W: fmt::Write>(&self, f: &mut fmt::Formatter<W>) -> fmt::Result {
         let line = self.line;
         let column = self.column;

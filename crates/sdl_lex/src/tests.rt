@@ -96,6 +96,7 @@ fn writes_the_line_of_a_refusal(rt: HostRuntime) -> Result<(), Fail> {
         (LexError::Memory, "lex Memory"),
     ];
     for (error, line) in lines {
+        assert_eq!(rt; error.place().is_none(), error == LexError::Memory);
         let written = format!(in rt.alloc(); "{error}")?;
         assert_eq!(rt; written.as_str(), line);
     }

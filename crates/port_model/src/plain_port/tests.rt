@@ -1,5 +1,7 @@
-use super::PlainPort;
-use crate::{Class, Got, Item, Pid, Selection, SignalId, Taken, Value, Values};
+use super::{MOST_SETS, PlainPort};
+use crate::{
+    Class, Got, Item, Pid, PortError, Selection, SignalId, Taken, TimerKey, Value, Values,
+};
 use std::alloc::{AllocError, Global};
 use std::process::Abort;
 use std::test::Fail;
@@ -142,5 +144,121 @@ fn a_stopped_port_drops_what_comes(rt: HostRuntime) -> Result<(), Fail> {
         [Class::Input, Class::Input],
         &[Told::Nothing],
     )?;
+    Ok(())
+}
+
+fn key(alloc: Global, number: i64) -> Result<TimerKey, AllocError> {
+    Ok(TimerKey {
+        name: SignalId(0),
+        values: Values::new(vec![in alloc; Value::Int(number)]?),
+    })
+}
+
+const INPUTS: [Class; 2] = [Class::Input, Class::Input];
+
+#[test]
+fn a_timer_is_active_until_its_signal_is_taken(rt: HostRuntime) -> Result<(), Fail> {
+    let alloc = rt.alloc();
+    let mut port = PlainPort::new(alloc);
+    let timer = key(alloc, 1)?;
+    let arm = port.set(timer.copied()?, 10)?;
+    assert_eq!(rt; (arm, port.next_due()), (1, Some(10)));
+    for (at, expires) in [(9, false), (10, true), (11, false)] {
+        assert_eq!(rt; port.expire(&timer, 1, 10, at)?, expires);
+        assert!(rt; port.active(&timer));
+    }
+    assert_eq!(rt; port.next_due(), None);
+    expect_takes(
+        &rt,
+        alloc,
+        &mut port,
+        INPUTS,
+        &[consumed(0, 1), Told::Nothing],
+    )?;
+    assert!(rt; !port.active(&timer));
+    Ok(())
+}
+
+#[test]
+fn a_reset_takes_the_waiting_signal_too(rt: HostRuntime) -> Result<(), Fail> {
+    let alloc = rt.alloc();
+    let mut port = PlainPort::new(alloc);
+    let timer = key(alloc, 1)?;
+    let arm = port.set(timer.copied()?, 10)?;
+    assert!(rt; port.expire(&timer, arm, 10, 10)?);
+    put(&mut port, alloc, 1, 2)?;
+    port.reset(&timer);
+    assert!(rt; !port.active(&timer));
+    expect_takes(
+        &rt,
+        alloc,
+        &mut port,
+        INPUTS,
+        &[consumed(1, 2), Told::Nothing],
+    )?;
+    Ok(())
+}
+
+#[test]
+fn a_set_ends_the_one_before(rt: HostRuntime) -> Result<(), Fail> {
+    let alloc = rt.alloc();
+    let mut port = PlainPort::new(alloc);
+    let timer = key(alloc, 1)?;
+    for (arm, due) in [(1, 10), (2, 20), (3, 20)] {
+        assert_eq!(rt; port.set(timer.copied()?, due)?, arm);
+        assert!(rt; !port.expire(&timer, 1, 10, 9)?);
+        assert_eq!(rt; port.expire(&timer, 2, 20, 30)?, arm == 2);
+    }
+    expect_takes(&rt, alloc, &mut port, INPUTS, &[Told::Nothing])?;
+    assert_eq!(rt; port.next_due(), Some(20));
+    Ok(())
+}
+
+#[test]
+fn keys_of_one_name_are_told_apart(rt: HostRuntime) -> Result<(), Fail> {
+    let alloc = rt.alloc();
+    let mut port = PlainPort::new(alloc);
+    let (first, second) = (key(alloc, 1)?, key(alloc, 2)?);
+    port.set(first.copied()?, 10)?;
+    port.set(second.copied()?, 5)?;
+    assert_eq!(rt; port.next_due(), Some(5));
+    port.reset(&second);
+    assert_eq!(rt; (port.active(&first), port.active(&second)), (true, false));
+    assert_eq!(rt; port.next_due(), Some(10));
+    Ok(())
+}
+
+#[test]
+fn room_once_made_holds_one_entry(rt: HostRuntime) -> Result<(), Fail> {
+    let alloc = rt.alloc();
+    let mut port = PlainPort::new(alloc);
+    let timer = key(alloc, 1)?;
+    let arm = port.set(timer.copied()?, 10)?;
+    port.reserve()?;
+    assert!(rt; port.expire_reserved(timer, arm, 10, 10));
+    port.reserve()?;
+    port.put_reserved(Item {
+        name: SignalId(1),
+        values: Values::none(alloc),
+        sender: Pid::Null,
+    });
+    expect_takes(
+        &rt,
+        alloc,
+        &mut port,
+        INPUTS,
+        &[consumed(0, 1), Told::Consumed(1, None)],
+    )?;
+    Ok(())
+}
+
+#[test]
+fn sets_are_counted_up_to_the_most(rt: HostRuntime) -> Result<(), Fail> {
+    let alloc = rt.alloc();
+    let mut port = PlainPort::new(alloc);
+    port.sets = MOST_SETS - 1;
+    assert_eq!(rt; port.set(key(alloc, 1)?, 10), Ok(4611686018427387904));
+    assert_eq!(rt; port.set(key(alloc, 2)?, 5), Err(PortError::SetsSpent));
+    assert_eq!(rt; port.next_due(), Some(10));
     Ok(())
 }

@@ -7,7 +7,7 @@ pub returns-in_default : goal.returns-in_default
 returns-in_default c = (
   first_found (IsSaved c.args.selection.now) (HasClass c.class_of.result c.args.selection.now) _ _ c.index.result.now
       (omega arith) c.loop-place.invariant c.index.ensures (search rules),
-  c.in_default.not-Saved,
+  (search rules),
 )
 
 pub loop-place-preserved : goal.loop-place-preserved

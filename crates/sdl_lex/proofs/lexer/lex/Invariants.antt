@@ -1,12 +1,9 @@
-use Rattle.std.proofs.Common.{◌≤◌, ◌-◌, length}
-use Rattle.sdl_lex.specs.Token.{InOrder}
+use Rattle.std.proofs.Common.{length}
+use Rattle.sdl_lex.proofs.LexerLemmas.{CutSoFar}
 use Rattle.sdl_lex.proofs.lexer.lex.Given as goal
 
 abbrev pub invariant-loop-rest : goal.invariant-loop-rest
-invariant-loop-rest l = record {
-  suffix : length l.rest ≤ length l.text;
-  in_order : InOrder 0 l.tokens.items (length l.text - length l.rest);
-}
+invariant-loop-rest l = CutSoFar l.text l.rest l.tokens.items
 
 abbrev pub decreases-loop-rest : goal.decreases-loop-rest
 decreases-loop-rest l = length l.rest

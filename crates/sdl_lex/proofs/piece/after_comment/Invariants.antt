@@ -1,8 +1,12 @@
-use Rattle.std.proofs.Common.{◌≤◌, length}
+use Rattle.std.proofs.Common.{◌≡◌, ◌≤◌, length}
+use Rattle.sdl_lex.specs.Piece.{after_comment}
 use Rattle.sdl_lex.proofs.piece.after_comment.Given as goal
 
 abbrev pub invariant-loop-rest : goal.invariant-loop-rest
-invariant-loop-rest l = length l.rest ≤ length l.fn.body
+invariant-loop-rest l = record {
+  same : after_comment l.rest ≡ after_comment l.fn.body;
+  suffix : length l.rest ≤ length l.fn.body;
+}
 
 abbrev pub decreases-loop-rest : goal.decreases-loop-rest
 decreases-loop-rest l = length l.rest

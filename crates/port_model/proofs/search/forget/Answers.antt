@@ -1,0 +1,7 @@
+use Rattle.std.proofs.Common.{rules, not}
+use Rattle.std.proofs.lemmas.Fn.{filter_same}
+use Rattle.port_model.specs.Timers.{is_signal_of}
+use Rattle.port_model.proofs.search.forget.Goals as goal
+
+pub returns : goal.returns
+returns c = filter_same _ (λ got. not (is_signal_of c.args.key.now got)) _ (λ x b f' k. search rules) _ _ c.retain.ensures.filtered

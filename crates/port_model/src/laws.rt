@@ -1,0 +1,22 @@
+//! What holds of every port, whatever happens to it: laws on the definitions, as functions that do nothing.
+ghost use Rattle.port_model.specs.Laws.{KeepsOrder, KeepsSaved, ResetsForGood, StopsForGood};
+
+/// The signals of one sender are never reordered by what happens to a port.
+pub fn keeps_order()
+    ensures { KeepsOrder }
+{}
+
+/// A saved entry stays.
+pub fn keeps_saved()
+    ensures { KeepsSaved }
+{}
+
+/// What was reset is never consumed, unless it is set again.
+pub fn resets_for_good()
+    ensures { ResetsForGood }
+{}
+
+/// After a stop nothing is consumed.
+pub fn stops_for_good()
+    ensures { StopsForGood }
+{}

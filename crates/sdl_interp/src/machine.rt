@@ -1,0 +1,62 @@
+//! What the transitions of an instance work on.
+
+ghost use Rattle.std.specs.Prelude.{◌≡◌, ◌≤◌, OnOk, IfErr};
+ghost use Rattle.sdl_interp.specs.Machine.{HasRoom, IsSame, Notes};
+
+use crate::world::World;
+use port_model::{Pid, PlainPort, Value};
+use sdl_report::{Event, Failure, Record};
+use sdl_system::StateId;
+
+/// Where an instance is between two steps.
+#[derive(Clone, Copy, Debug, PartialEq, Eq)]
+pub enum Position {
+    BeforeStart,
+    In(StateId),
+    Ended,
+}
+
+/// The working state of an instance. Until it ends, one place of its record is free, and before the start two are.
+#[derive(Drop)]
+pub struct Machine {
+    pub port: PlainPort,
+    pub variables: Vec<Option<Value>>,
+    pub sender: Pid,
+    /// The time of the latest step, in ticks.
+    pub now: u64,
+    /// The statements of the running transition so far.
+    pub done: u32,
+    pub trace: Record,
+}
+
+/// Makes room for an event beside the free place.
+pub fn make_room(machine: &mut Machine) -> Result<(), Failure>
+    ensures ok { OnOk result (HasRoom machine.new 2) }
+    ensures room { HasRoom machine.old 1 → HasRoom machine.new 1 }
+    ensures same { IsSame machine.old machine.new }
+    ensures err { IfErr result (λ why. why ≡ Failure.Memory) }
+{
+    match machine.trace.events.reserve(2) {
+        Ok(()) => Ok(()),
+        Err(_) => Err(Failure::Memory),
+    }
+}
+
+/// Records an event in a free place.
+pub fn note(machine: &mut Machine, event: Event)
+    requires { HasRoom machine.old 1 }
+    ensures notes { Notes machine.old event machine.new }
+    ensures room { HasRoom machine.old 2 → HasRoom machine.new 1 }
+{
+    machine.trace.events.push_reserved(event);
+}
+
+/// Reads the clock. Where it lies before the time of the latest step, that time stays.
+pub fn read_clock<W: World>(machine: &mut Machine, world: &mut W) -> u64
+    ensures time { machine.new ≡ record machine.old { now = result } }
+    ensures later { machine.old.now ≤ result }
+{
+    let at = world.now().max(machine.now);
+    machine.now = at;
+    at
+}

@@ -1,0 +1,34 @@
+use Rattle.std.specs.Prelude.{ℕ, Option, None, Some, slice_get, Bool, true, false, count_by}
+use Rattle.port_model.specs.declared.selection.Class.{Class}
+use Rattle.port_model.specs.declared.selection.Class.TheVariants.{Discard}
+use Rattle.port_model.specs.declared.item.SignalId.{SignalId}
+use Rattle.port_model.specs.Selection as selection
+use Rattle.sdl_parse.specs.declared.tree.Definition.{Definition}
+use Rattle.sdl_parse.specs.declared.tree.Definition.TheVariants.{Signals, Process}
+use Rattle.sdl_parse.specs.declared.tree.Tree.{Tree}
+use Rattle.sdl_system.specs.declared.process.State as state
+use Rattle.sdl_system.specs.declared.process.Process as process
+use Rattle.sdl_system.specs.declared.system.System.{System}
+
+-- the class of a signal in a state, where there is one
+abbrev pub class_in : Option state.State → SignalId → Class
+class_in None signal = Discard
+class_in (Some s) signal = selection.class_of s.selection signal
+
+-- the class of a signal in the state of this number of a process, where there is one
+abbrev pub class_in_process : Option process.Process → ℕ → SignalId → Class
+class_in_process None number signal = Discard
+class_in_process (Some p) number signal = class_in (slice_get p.states.items number) signal
+
+-- the class of a signal in a state of a process, both by their numbers
+abbrev pub class_of : System → ℕ → ℕ → SignalId → Class
+class_of system number state signal = class_in_process (slice_get system.processes.items number) state signal
+
+-- whether it defines a process
+abbrev pub is_process : Definition → Bool
+is_process (Signals list) = false
+is_process (Process definition) = true
+
+-- how many processes a specification defines
+abbrev pub process_count : Tree → ℕ
+process_count tree = count_by is_process tree.definitions.items

@@ -1,0 +1,59 @@
+//! What names mean inside a process.
+
+ghost use Rattle.std.specs.Prelude.{◌<◌, IfSome};
+ghost use Rattle.sdl_system.specs.Names.{name_count};
+ghost use Rattle.sdl_system.specs.Signals.{signal_count};
+ghost use Rattle.sdl_system.specs.Variables.{variable_count};
+
+use crate::fault::{Faults, Kind, Token};
+use crate::id::{StateId, VariableId};
+use crate::resolve::names::Names;
+use crate::resolve::signals::Signals;
+use crate::resolve::variables::Variables;
+use port_model::SignalId;
+use sdl_parse::tree::Name;
+
+/// The names that stand in a process for something: signals of its own or the system's, its variables
+/// and its states.
+#[derive(Clone, Copy)]
+pub struct Scope<'a, 't> {
+    pub signals: &'a Signals<'t>,
+    pub process: u32,
+    pub variables: &'a Variables<'t>,
+    pub states: &'a Names<'t>,
+}
+
+impl<'a, 't> Scope<'a, 't> {
+    /// The signal that a name means, or None, and it is noted as Unknown.
+    pub fn signal(&self, name: &'t Name, faults: &mut Faults<'t>) -> Option<SignalId>
+        ensures { IfSome result (λ signal. signal.0 < signal_count self.now.signals.now) }
+    {
+        let signal = self.signals.visible_in(self.process, name.text.as_str());
+        if signal.is_none() {
+            faults.note(Kind::Unknown, Token::of_name(name));
+        }
+        signal
+    }
+
+    /// The variable that a name means, or None, and it is noted as Unknown.
+    pub fn variable(&self, name: &'t Name, faults: &mut Faults<'t>) -> Option<VariableId>
+        ensures { IfSome result (λ variable. variable.0 < variable_count self.now.variables.now) }
+    {
+        let variable = self.variables.number(name.text.as_str());
+        if variable.is_none() {
+            faults.note(Kind::Unknown, Token::of_name(name));
+        }
+        variable
+    }
+
+    /// The state that a name means, or None, and it is noted as NoState.
+    pub fn state(&self, name: &'t Name, faults: &mut Faults<'t>) -> Option<StateId>
+        ensures { IfSome result (λ state. state.0 < name_count self.now.states.now) }
+    {
+        let number = self.states.number(name.text.as_str());
+        if number.is_none() {
+            faults.note(Kind::NoState, Token::of_name(name));
+        }
+        Some(StateId(number?))
+    }
+}

@@ -1,0 +1,14 @@
+//! Sorts by their names.
+
+use crate::fault::{Faults, Kind, Token};
+use crate::system::Sort;
+use sdl_parse::tree::Name;
+
+/// The sort of this name. A name that is no sort's is Unknown, and stands for Integer, so that it
+/// breaks no other check.
+pub fn resolve_sort<'t>(name: &'t Name, faults: &mut Faults<'t>) -> Sort {
+    if name.text.as_str() != "Integer" {
+        faults.note(Kind::Unknown, Token::of_name(name));
+    }
+    Sort::Integer
+}

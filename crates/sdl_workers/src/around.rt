@@ -1,0 +1,36 @@
+use port_model::{Item, SignalId};
+use sdl_interp::World;
+use sdl_system::{Agent, ProcessId, System, Target};
+use std::alloc::AllocError;
+
+/// A signal on its way.
+#[derive(Drop)]
+pub struct Sent {
+    pub target: Target,
+    pub item: Item,
+}
+
+/// What an instance sees of the run during one step of a serial run: the clock stands still, nobody else
+/// acts, and what it sends is delivered when the step is done.
+#[derive(Drop)]
+pub struct Around<'s> {
+    pub system: &'s System,
+    pub clock: u64,
+    pub living: &'s [Option<u32>],
+    pub sent: Vec<Sent>,
+}
+
+impl World for Around<'_> {
+    fn now(&mut self) -> u64 {
+        self.clock
+    }
+
+    fn route(&mut self, signal: SignalId, from: ProcessId) -> Target {
+        self.system.route(signal, Agent::Process(from), self.living)
+    }
+
+    fn send(&mut self, target: Target, item: Item) -> Result<(), AllocError> {
+        self.sent.push(Sent { target, item })?;
+        Ok(())
+    }
+}

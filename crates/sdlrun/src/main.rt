@@ -1,0 +1,41 @@
+//! `sdlrun` reads a specification in SDL/PR with a script of timed signals from standard input, runs its
+//! process instances, and writes the exact trace of each, or one line that names a refusal and its place.
+//!
+//! `run_text` is the whole program over any reader and writer; `main` reads the command line, calls it, and
+//! maps its answer to an exit status.
+#![tactic(auto)]
+
+mod command_line;
+mod input;
+mod options;
+mod refusal;
+#[cfg(test)]
+mod tests;
+mod text;
+
+use command_line::Request;
+use options::{Outcome, TextFault};
+use std::process::ExitCode;
+use text::run_text;
+
+fn main(rt: HostRuntime) -> ExitCode {
+    let options = match command_line::read_command_line(&rt) {
+        Request::Run(options) => options,
+        Request::Answered => return ExitCode::SUCCESS,
+        Request::Misused => return ExitCode::from(4),
+        Request::Fault(fault) => return ended(&rt, fault),
+    };
+    match run_text(rt.alloc(), &mut rt.stdin(), &mut rt.stdout(), &options) {
+        Ok(Outcome::Whole) => ExitCode::SUCCESS,
+        Ok(Outcome::Cut) => ExitCode::from(1),
+        Ok(Outcome::TextRefused) => ExitCode::from(2),
+        Ok(Outcome::RunRefused) => ExitCode::from(3),
+        Err(fault) => ended(&rt, fault),
+    }
+}
+
+/// Says on standard error which fault ended the program.
+fn ended(rt: &impl Eprint, fault: TextFault) -> ExitCode {
+    let _ = eprintln!(rt; "sdlrun: {fault}");
+    ExitCode::from(3)
+}

@@ -1,0 +1,198 @@
+use super::{answer_of, expect, framed};
+use crate::options::Outcome;
+use sdl_lex::LexError;
+use sdl_parse::ParseError;
+use sdl_report::ScriptError;
+use sdl_system::BuildError;
+use sdl_workers::RunError;
+use std::test::Fail;
+
+/// A text, and the line that refuses it.
+const TEXTS: [(&str, &str); 16] = [
+    ("system S; # ", "lex 1:11 BadByte"),
+    ("system S; /* x", "lex 1:11 OpenComment"),
+    ("system S comment 'x;", "lex 1:18 OpenString"),
+    (
+        "system S;\n  signal 9223372036854775808;",
+        "lex 2:10 NumberTooBig",
+    ),
+    ("system ; %", "lex 1:10 BadByte"),
+    ("", "parse 1:1 Expected system"),
+    ("system S signal a;", "parse 1:10 Expected ;"),
+    (
+        "system S; signal a; endsystem S;",
+        "parse 1:21 Expected process",
+    ),
+    (
+        "system S; process P; start; stop; endprocess P; process Q; start; stop; endprocess; endsystem;",
+        "parse 1:49 Expected endsystem",
+    ),
+    (
+        "system S; process P; start; stop; endprocess Q; endsystem S;",
+        "parse 1:46 Expected P",
+    ),
+    ("system S; signal ;", "parse 1:18 Expected name"),
+    (
+        "system S; process P; start; stop; endprocess; endsystem; x",
+        "parse 1:58 Expected end",
+    ),
+    ("system S; PROCEDURE f;", "parse 1:11 LeftOut procedure"),
+    ("system S; signal 'a';", "parse 1:18 LeftOut text"),
+    (
+        "system S; signal a, a; process P; start; stop; endprocess; endsystem;",
+        "build 1:21 Duplicate a",
+    ),
+    (
+        "system S; signal w(Integer, Integer, Integer, Integer, Integer, Integer, Integer, Integer, Integer, Integer, Integer, Integer, Integer, Integer, Integer, Integer, Integer); process P; start; stop; endprocess; endsystem;",
+        "build 1:164 Limit Integer",
+    ),
+];
+
+/// The body of a process, and the line that refuses the text round it.
+const BODIES: [(&str, &str); 17] = [
+    (
+        "dcl n Integer := ; start; stop;",
+        "parse 1:67 Expected expression",
+    ),
+    (
+        "start; stop; state s; save a;",
+        "parse 1:72 Expected endprocess",
+    ),
+    (
+        "dcl n Integer := (((((((((((((((((((((((((((((((((((((((((((((((((((((((((((((((((1))))))))))))))))))))))))))))))))))))))))))))))))))))))))))))))))); start; stop;",
+        "parse 1:131 TooDeep",
+    ),
+    ("dcl n Real; start; stop;", "build 1:56 Unknown Real"),
+    (
+        "dcl n Integer; start; task n := m + 1; stop;",
+        "build 1:82 Unknown m",
+    ),
+    (
+        "start; nextstate s; state s; input x; stop;",
+        "build 1:85 Unknown x",
+    ),
+    (
+        "dcl n Integer, n Integer; start; stop;",
+        "build 1:65 Duplicate n",
+    ),
+    ("start; output a, v; stop;", "build 1:67 Sort v"),
+    (
+        "dcl n Integer; start; nextstate s; state s; input a(n); stop;",
+        "build 1:100 Sort a",
+    ),
+    (
+        "dcl m Integer := 1, n Integer := m; start; stop;",
+        "build 1:83 Sort m",
+    ),
+    (
+        "start; nextstate s; state s; input a; stop; input b, a; stop;",
+        "build 1:103 TwiceInState a",
+    ),
+    (
+        "start; nextstate s; state s; input a, a(); stop;",
+        "build 1:88 Sort a",
+    ),
+    (
+        "start; nextstate t; state s; input a; stop;",
+        "build 1:67 NoState t",
+    ),
+    (
+        "start; nextstate -; state s; input a; stop;",
+        "build 1:67 NoState -",
+    ),
+    (
+        "dcl n Integer := 9223372036854775807 + 1; start; stop;",
+        "build 1:67 BadCount 9223372036854775807",
+    ),
+    (
+        "dcl n Integer; start; task n := 1; state s; input a; stop;",
+        "build 1:65 NoEnd start",
+    ),
+    (
+        "start; nextstate s; state s; INPUT a;",
+        "build 1:79 NoEnd INPUT",
+    ),
+];
+
+/// A script for a process that inputs a and v(Integer), and the line that refuses it.
+const SCRIPTS: [(&str, &str); 16] = [
+    ("x", "script 1 Syntax"),
+    ("5 a\n3 v(1)\n", "script 2 BackInTime"),
+    ("0 w\n", "script 1 UnknownSignal"),
+    ("0 a\n0 c\n", "script 2 UnknownSignal"),
+    ("# one\n0 v\n", "script 2 Arguments"),
+    ("0 v(9223372036854775808)\n", "script 1 Arguments"),
+    ("0 v(true)\n", "script 1 Arguments"),
+    ("0 v(1,2)\n", "script 1 Arguments"),
+    ("0 v(-9223372036854775808)\n0 v()\n", "script 2 Syntax"),
+    ("1000000000000000\n1000000000000001\n", "script 2 Syntax"),
+    ("0 a a\n", "script 1 Syntax"),
+    ("0 input\n", "script 1 Syntax"),
+    (" # x\n", "script 1 Syntax"),
+    ("0 a\r", "script 1 Syntax"),
+    ("7\n6 w(1)\n", "script 2 BackInTime"),
+    ("%script\n", "script 1 Syntax"),
+];
+
+#[test]
+fn refused_texts(rt: HostRuntime) -> Result<(), Fail> {
+    for (text, line) in TEXTS {
+        expect(&rt, text, 1, line, Outcome::TextRefused)?;
+    }
+    for (body, line) in BODIES {
+        let text = framed(rt.alloc(), body, "")?;
+        expect(&rt, text.as_str(), 1, line, Outcome::TextRefused)?;
+    }
+    for (script, line) in SCRIPTS {
+        let body = "start; nextstate s; state s; input a, v; nextstate -;";
+        let text = framed(rt.alloc(), body, script)?;
+        expect(&rt, text.as_str(), 1, line, Outcome::TextRefused)?;
+    }
+    Ok(())
+}
+
+#[test]
+fn refused_lengths(rt: HostRuntime) -> Result<(), Fail> {
+    let name = vec![in rt.alloc(); b'n'; 256]?;
+    let answer = answer_of(rt.alloc(), name.as_slice(), 1)?;
+    assert_eq!(rt;
+        answer.written.as_slice(),
+        b"lex 1:1 NameTooLong\n".as_slice()
+    );
+    let specification = vec![in rt.alloc(); b' '; 1_048_577]?;
+    let answer = answer_of(rt.alloc(), specification.as_slice(), 1)?;
+    assert_eq!(rt; answer.written.as_slice(), b"lex 1:1 TooLong\n".as_slice());
+    let text = framed(rt.alloc(), "start; stop;", "")?;
+    let mut input = text.as_bytes().to_vec(rt.alloc())?;
+    input.resize(2_097_152, b'\n')?;
+    assert_eq!(rt;
+        answer_of(rt.alloc(), input.as_slice(), 9)?.outcome,
+        Outcome::Whole
+    );
+    input.push(b'\n')?;
+    let answer = answer_of(rt.alloc(), input.as_slice(), 9)?;
+    assert_eq!(rt; answer.written.as_slice(), b"lex 1:1 TooLong\n".as_slice());
+    Ok(())
+}
+
+#[test]
+fn refusals_for_want_of_memory(rt: HostRuntime) -> Result<(), Fail> {
+    let lines = [
+        format!(in rt.alloc(); "{}", ParseError::Lex(LexError::Memory))?,
+        format!(in rt.alloc(); "{}", ParseError::Memory)?,
+        format!(in rt.alloc(); "{}", BuildError::Memory)?,
+        format!(in rt.alloc(); "{}", ScriptError::Memory)?,
+        format!(in rt.alloc(); "{}", RunError::Memory)?,
+    ];
+    let wanted = [
+        "lex Memory",
+        "parse Memory",
+        "build Memory",
+        "script Memory",
+        "run Memory",
+    ];
+    for (line, wanted) in lines.iter().zip(wanted) {
+        assert_eq!(rt; line.as_str(), wanted);
+    }
+    Ok(())
+}
