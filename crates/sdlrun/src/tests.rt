@@ -5,6 +5,7 @@ use std::io::{self, ErrorKind, Read, Write};
 use std::process::Abort;
 use std::test::Fail;
 
+mod examples;
 mod refusals;
 mod rows;
 

@@ -5,6 +5,7 @@ use sdl_parse::ParseError;
 use sdl_report::ScriptError;
 use sdl_system::BuildError;
 use sdl_workers::RunError;
+use std::alloc::{AllocError, Global};
 use std::test::Fail;
 
 /// A text, and the line that refuses it.
@@ -172,6 +173,76 @@ fn refused_lengths(rt: HostRuntime) -> Result<(), Fail> {
     input.push(b'\n')?;
     let answer = answer_of(rt.alloc(), input.as_slice(), 9)?;
     assert_eq!(rt; answer.written.as_slice(), b"lex 1:1 TooLong\n".as_slice());
+    Ok(())
+}
+
+/// A text of so many numbered lines between a first and a last one.
+#[derive(Clone, Copy)]
+struct Numbered {
+    first: &'static str,
+    before: &'static str,
+    after: &'static str,
+    count: u32,
+    last: &'static str,
+}
+
+impl Numbered {
+    fn text(&self, alloc: Global) -> Result<String, AllocError> {
+        let before = self.before;
+        let after = self.after;
+        let mut text = String::from_str(alloc, self.first)?;
+        for number in 0..self.count {
+            write!(text, "\n{before}{number}{after}")?;
+        }
+        text.push('\n')?;
+        text.push_str(self.last)?;
+        Ok(text)
+    }
+}
+
+const SIGNALS: Numbered = Numbered {
+    first: "system S; signal",
+    before: "n",
+    after: ",",
+    count: 999,
+    last: "m; process P; start; stop; endprocess; endsystem;",
+};
+
+const STATES: Numbered = Numbered {
+    first: "system S; process P; start; stop;",
+    before: "state s",
+    after: ";",
+    count: 1000,
+    last: "endprocess; endsystem;",
+};
+
+const STATEMENTS: Numbered = Numbered {
+    first: "system S; process P; dcl n Integer; start;",
+    before: "task n := ",
+    after: ";",
+    count: 50_000,
+    last: "stop; endprocess; endsystem;",
+};
+
+#[test]
+fn refused_numbers_of_definitions(rt: HostRuntime) -> Result<(), Fail> {
+    let limits = [
+        (SIGNALS, "build 1002:1 Limit m\n"),
+        (STATES, "build 1002:7 Limit s1000\n"),
+        (STATEMENTS, "build 50002:1 Limit task\n"),
+    ];
+    for (most, line) in limits {
+        let text = most.text(rt.alloc())?;
+        let answer = answer_of(rt.alloc(), text.as_bytes(), 9)?;
+        assert_eq!(rt; answer.outcome, Outcome::Whole);
+        let one_more = Numbered {
+            count: most.count + 1,
+            ..most
+        };
+        let text = one_more.text(rt.alloc())?;
+        let answer = answer_of(rt.alloc(), text.as_bytes(), 9)?;
+        assert_eq!(rt; answer.written.as_slice(), line.as_bytes());
+    }
     Ok(())
 }
 
