@@ -1,8 +1,8 @@
-use Rattle.std.proofs.Common.{◌≡◌, ℕ, ◌⊎◌, List, [], ◌∷◌, Option, None, Some, length, refl}
+use Rattle.std.proofs.Common.{◌≡◌, List, [], ◌∷◌, Option, length, refl}
 use Rattle.port_model.specs.declared.value.Value.{Value}
 use Rattle.sdl_system.specs.declared.id.VariableId.{VariableId}
 use Rattle.sdl_interp.specs.Evaluation.{Variables}
-use Rattle.sdl_interp.specs.Stimulus.{received}
+use Rattle.sdl_interp.specs.Reception.{received}
 
 pub received_nowhere : (places : List (Option VariableId)) (values : List Value) (variables : Variables) → length places ≡ 0 → received places values variables ≡ variables
 received_nowhere [] values variables none = refl

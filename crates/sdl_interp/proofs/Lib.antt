@@ -1,3 +1,10 @@
+pub mod Behaviours
 pub mod Chains
-pub mod Growth
+pub mod Events
+pub mod Goes
+pub mod Histories
 pub mod Inputs
+pub mod Pieces
+pub mod Runs
+pub mod Statements
+pub mod Truths

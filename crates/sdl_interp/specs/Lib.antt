@@ -1,5 +1,10 @@
 pub mod Evaluation
+pub mod Goes
+pub mod Inside
 pub mod Instance
+pub mod Leads
 pub mod Machine
-pub mod Statement
-pub mod Stimulus
+pub mod Place
+pub mod Reception
+pub mod Runs
+pub mod World

@@ -1,7 +1,8 @@
 //! The value of an expression (Z.104: expressions).
 
-ghost use Rattle.std.specs.Prelude.{◌≡◌, ◌⊎◌, Ok, Err, IfOk, IfErr};
-ghost use Rattle.sdl_interp.specs.Evaluation.{value_of, value_of_chain, value_at, values_of, negated, combined, operated_by, operand_of};
+ghost use Rattle.std.specs.Prelude.{◌≡◌, ◌⊎◌, Ok, Err, IfOk, IfErr, map};
+ghost use Rattle.sdl_interp.specs.Evaluation.{value_of, value_at, values_of, negated, combined, operated};
+ghost use Rattle.sdl_system.specs.Term.{term_of, term_of_chain, operand_of};
 
 use port_model::Value;
 use sdl_parse::tree::Operator;
@@ -12,7 +13,7 @@ use std::alloc::Global;
 /// The value of an expression under these variables, or how its evaluation fails.
 #[cycle(evaluation)]
 pub fn evaluate(expression: &Expression, variables: &[Option<Value>]) -> Result<Value, Failure>
-    ensures { result ≡ value_of expression.now variables.now }
+    ensures { result ≡ value_of (term_of expression.now) variables.now }
 {
     match expression {
         Expression::Number(number) => Ok(Value::Int(*number)),
@@ -25,7 +26,7 @@ pub fn evaluate(expression: &Expression, variables: &[Option<Value>]) -> Result<
 // The operands from left to right: the first failure is the answer.
 #[cycle(evaluation)]
 fn evaluate_chain(chain: &Chain, variables: &[Option<Value>]) -> Result<Value, Failure>
-    ensures { result ≡ value_of_chain chain.now variables.now }
+    ensures { result ≡ value_of (term_of_chain chain.now) variables.now }
 {
     let mut value = evaluate(&chain.first, variables)?;
     for link in &chain.rest {
@@ -36,7 +37,7 @@ fn evaluate_chain(chain: &Chain, variables: &[Option<Value>]) -> Result<Value, F
 
 #[cycle(evaluation)]
 fn evaluate_link(left: Value, link: &Link, variables: &[Option<Value>]) -> Result<Value, Failure>
-    ensures { result ≡ operated_by (operand_of variables.now link.now) (Ok left) }
+    ensures { result ≡ operated (combined (operand_of link.now).operator) (Ok left) (value_of (operand_of link.now).term variables.now) }
 {
     let right = evaluate(&link.operand, variables)?;
     operate(link.operator, left, right)
@@ -82,8 +83,8 @@ pub fn evaluate_all(
     expressions: &[Expression],
     variables: &[Option<Value>],
 ) -> Result<Vec<Value>, Failure>
-    ensures ok { IfOk result (λ values. values_of expressions.now variables.now ≡ Ok values.items) }
-    ensures err { IfErr result (λ why. (why ≡ Failure.Memory) ⊎ (values_of expressions.now variables.now ≡ Err why)) }
+    ensures ok { IfOk result (λ values. values_of (map term_of expressions.now) variables.now ≡ Ok values.items) }
+    ensures err { IfErr result (λ why. (why ≡ Failure.Memory) ⊎ (values_of (map term_of expressions.now) variables.now ≡ Err why)) }
 {
     let mut values = Vec::new(alloc);
     for expression in expressions {

@@ -1,6 +1,7 @@
-ghost use Rattle.std.specs.Prelude.{◌≡◌, ◌≢◌, ◌<◌, ◌↔◌, ◌++◌, length, map, slice_get, Some, IfOk, IfErr, OnOk, OnErr};
-ghost use Rattle.port_model.specs.Port.{put_into};
-ghost use Rattle.sdl_interp.specs.Instance.{created, GoesOn, IsQuiet, IsRecordOf, closing};
+ghost use Rattle.std.specs.Prelude.{◌≡◌, ◌≢◌, ◌<◌, ◌↔◌, ◌++◌, length, map, slice_get, Some, IsTrue, IfOk, IfErr, OnOk, OnErr};
+ghost use Rattle.port_model.specs.Port.{empty_port, put_into};
+ghost use Rattle.sdl_interp.specs.Instance.{closed, closing, created, HasRun, HasRunOf, IsAtRest, IsQuiet, IsRecordOf, Moves};
+ghost use Rattle.sdl_system.specs.Behaviour.{Behaviour, IsBehaviour};
 
 use crate::machine::{Machine, Position, note};
 use crate::stimulus::respond;
@@ -31,8 +32,8 @@ pub struct Instance<'a> {
 }
 
 impl<'a> Model for Instance<'a> {
-    ghost use Rattle.sdl_interp.specs.Machine.{IsReady};
-    ghost use Rattle.sdl_interp.specs.Instance.{InstanceValue, instance_of};
+    ghost use Rattle.sdl_interp.specs.Instance.{InstanceValue};
+    ghost use Rattle.sdl_interp.specs.Inside.{instance_of, IsInstance};
     ghost use Rattle.sdl_system.specs.contracts.process.Expression as expression;
     ghost use Rattle.std.specs.Coded.{codes};
 
@@ -43,11 +44,12 @@ impl<'a> Model for Instance<'a> {
 
     ghost view = { λ i. instance_of i.process.now i.position i.machine };
 
-    ghost invariant = { λ i. IsReady i.position i.machine };
+    ghost invariant = { λ i. IsInstance i.process.now i.position i.machine };
 }
 
 impl<'a> Instance<'a> {
-    /// An instance that stands before its start, with the number `pid`. For want of memory the port comes back.
+    /// An instance that stands before its start, with the number `pid`, over a port that has had no call yet. For want of
+    /// memory the port comes back.
     pub fn new(
         alloc: Global,
         system: &'a System,
@@ -56,8 +58,9 @@ impl<'a> Instance<'a> {
         parent: Pid,
         port: PlainPort,
     ) -> Result<Instance<'a>, (AllocError, PlainPort)>
-        requires { process.0 < length system.now.processes.items }
-        ensures ok { IfOk result (λ instance. instance ≡ created process pid parent instance.definition port.state) }
+        requires process { process.0 < length system.now.processes.items }
+        requires port { port.state ≡ empty_port }
+        ensures ok { IfOk result (λ instance. instance ≡ created (record { process = process; pid = pid; parent = parent }) instance.definition) }
         ensures definition { IfOk result (λ instance. slice_get system.now.processes.items process.0 ≡ Some instance.definition) }
         ensures err { IfErr result (λ refused. refused.1.state ≡ port.state) }
     {
@@ -101,12 +104,12 @@ impl<'a> Instance<'a> {
     /// Makes one step: the start transition before the start, and in a state the transition of the signal that the port
     /// gives, or its discard.
     pub fn step<W: World>(&mut self, alloc: Global, world: &mut W) -> Stepped
-        ensures grows { GoesOn self.old self.new }
+        ensures moves { result ≢ Stepped.Idle → self.old.position ≢ Position.Ended → (p : Behaviour) → IsBehaviour self.old.definition p
+            → Moves p self.old (W.value world.old) self.new (W.value world.new) }
         ensures ended { (result ≡ Stepped.Ended) ↔ (self.new.position ≡ Position.Ended) }
-        ensures moved { result ≡ Stepped.Moved → self.new.events ≢ self.old.events }
-        ensures idle { result ≡ Stepped.Idle → self.new ≡ self.old }
-        ensures quiet { result ≡ Stepped.Idle → IsQuiet self.old.definition self.old.position self.old.port }
-        ensures over { self.old.position ≡ Position.Ended → self.new ≡ self.old }
+        ensures idle { result ≡ Stepped.Idle → (self.new ≡ self.old) × (W.value world.new ≡ W.value world.old) }
+        ensures quiet { result ≡ Stepped.Idle → (p : Behaviour) → IsBehaviour self.old.definition p → IsQuiet p self.old.position self.old.port }
+        ensures over { self.old.position ≡ Position.Ended → (self.new ≡ self.old) × (W.value world.new ≡ W.value world.old) }
     {
         match respond(alloc, self.process, self.position, &mut self.machine, world) {
             None => Stepped::Idle,
@@ -122,7 +125,8 @@ impl<'a> Instance<'a> {
 
     /// What the instance has done so far.
     pub fn trace(&self) -> &Record
-        ensures { IsRecordOf result.now self.now self.now.events }
+        ensures trace { IsRecordOf result.now self.now.who self.now.events }
+        ensures run { (p : Behaviour) → IsBehaviour self.now.definition p → HasRunOf p self.now }
     {
         &self.machine.trace
     }
@@ -130,8 +134,11 @@ impl<'a> Instance<'a> {
     /// Ends the record of an instance that has not ended, and gives it back with the port. Takes no memory. `whole` says
     /// that the run is whole, and the latest step was idle.
     pub fn close(self, whole: bool) -> (Record, PlainPort)
-        ensures closed { IsRecordOf result.0 self.entry (self.entry.events ++ closing whole self.entry.position) }
+        requires { IsTrue whole → (p : Behaviour) → IsBehaviour self.definition p → IsAtRest p self }
+        ensures closed { IsRecordOf result.0 self.entry.who (self.entry.events ++ closing whole self.entry.position) }
         ensures port { result.1.state ≡ self.entry.port }
+        ensures run { (p : Behaviour) → IsBehaviour self.entry.definition p
+            → HasRun p self.entry.who result.0.events.items (closed self.entry.position) self.entry.store self.entry.port }
     {
         let Instance {
             process: _,

@@ -1,7 +1,8 @@
 //! What the transitions of an instance work on.
 
 ghost use Rattle.std.specs.Prelude.{◌≡◌, ◌≤◌, OnOk, IfErr};
-ghost use Rattle.sdl_interp.specs.Machine.{HasRoom, IsSame, Notes};
+ghost use Rattle.sdl_interp.specs.Machine.{value_of, noted, HasRoom, IsGoing};
+ghost use Rattle.sdl_interp.specs.World.{IsReading};
 
 use crate::world::World;
 use port_model::{Pid, PlainPort, Value};
@@ -32,8 +33,9 @@ pub struct Machine {
 /// Makes room for an event beside the free place.
 pub fn make_room(machine: &mut Machine) -> Result<(), Failure>
     ensures ok { OnOk result (HasRoom machine.new 2) }
-    ensures room { HasRoom machine.old 1 → HasRoom machine.new 1 }
-    ensures same { IsSame machine.old machine.new }
+    ensures going { IsGoing machine.old → IsGoing machine.new }
+    ensures same { value_of machine.new ≡ value_of machine.old }
+    ensures port { machine.new.port ≡ machine.old.port }
     ensures err { IfErr result (λ why. why ≡ Failure.Memory) }
 {
     match machine.trace.events.reserve(2) {
@@ -45,7 +47,8 @@ pub fn make_room(machine: &mut Machine) -> Result<(), Failure>
 /// Records an event in a free place.
 pub fn note(machine: &mut Machine, event: Event)
     requires { HasRoom machine.old 1 }
-    ensures notes { Notes machine.old event machine.new }
+    ensures notes { value_of machine.new ≡ noted (value_of machine.old) event }
+    ensures port { machine.new.port ≡ machine.old.port }
     ensures room { HasRoom machine.old 2 → HasRoom machine.new 1 }
 {
     machine.trace.events.push_reserved(event);
@@ -55,6 +58,8 @@ pub fn note(machine: &mut Machine, event: Event)
 pub fn read_clock<W: World>(machine: &mut Machine, world: &mut W) -> u64
     ensures time { machine.new ≡ record machine.old { now = result } }
     ensures later { machine.old.now ≤ result }
+    ensures reading { IsReading (W.value world.old) machine.old.now result }
+    ensures quiet { W.value world.new ≡ W.value world.old }
 {
     let at = world.now().max(machine.now);
     machine.now = at;

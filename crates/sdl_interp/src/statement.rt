@@ -1,8 +1,12 @@
 //! The statements of a transition (Z.102: task, output).
 
-ghost use Rattle.std.specs.Prelude.{◌≡◌, ◌+◌, ◌≤◌, Some, OnOk, OnErr, IfErr, slice_set};
-ghost use Rattle.sdl_interp.specs.Machine.{HasRoom, IsSame, Grows};
-ghost use Rattle.sdl_interp.specs.Statement.{Assigns, FailsToAssign, Sends, FailsToSend};
+ghost use Rattle.std.specs.Prelude.{◌≡◌, ◌+◌, ◌≤◌, Some, OnOk, OnErr, IfOk, IfErr, map, slice_set};
+ghost use Rattle.sdl_interp.specs.Goes.{Does, DoesWrong};
+ghost use Rattle.sdl_interp.specs.Leads.{Fails};
+ghost use Rattle.sdl_interp.specs.Machine.{store_of, value_of, IsGoing};
+ghost use Rattle.sdl_interp.specs.World.{WorldValue};
+ghost use Rattle.sdl_system.specs.Body.{Body, assigning, before, sending, statement as mark, assign as assignment_body, send as send_body};
+ghost use Rattle.sdl_system.specs.Term.{term_of};
 
 use crate::evaluation::{evaluate, evaluate_all};
 use crate::machine::{Machine, make_room, note};
@@ -16,16 +20,16 @@ use std::alloc::Global;
 const MOST_STATEMENTS: u32 = 10_000;
 
 /// Performs one statement. A statement past the last one that is allowed is not evaluated.
-#[tactic(auto, using(crate::proofs::Growth::growth))]
 pub fn perform<W: World>(
     alloc: Global,
     statement: &Statement,
     machine: &mut Machine,
     world: &mut W,
 ) -> Result<(), Failure>
-    requires { HasRoom machine.old 1 }
-    ensures room { HasRoom machine.new 1 }
-    ensures grows { Grows machine.old machine.new }
+    requires { IsGoing machine.old }
+    ensures going { IsGoing machine.new }
+    ensures ok { OnOk result (Does (before statement.now) (value_of machine.old) (W.value world.old) (value_of machine.new) (W.value world.new)) }
+    ensures err { IfErr result (DoesWrong (before statement.now) (value_of machine.old) (W.value world.old) (value_of machine.new) (W.value world.new)) }
 {
     count(machine)?;
     match statement {
@@ -35,8 +39,11 @@ pub fn perform<W: World>(
 }
 
 fn count(machine: &mut Machine) -> Result<(), Failure>
-    ensures ok { OnOk result (machine.new ≡ record machine.old { done = machine.old.done + 1 }) }
-    ensures err { IfErr result (λ why. (why ≡ Failure.TooLong) × (10000 ≤ machine.old.done) × (machine.new ≡ machine.old)) }
+    requires { IsGoing machine.old }
+    ensures going { IsGoing machine.new }
+    ensures ok { OnOk result ((w : WorldValue) → Does mark (value_of machine.old) w (value_of machine.new) w) }
+    ensures err { IfErr result (λ why. (rest : Body) → Fails (mark rest) (store_of machine.old) why) }
+    ensures same { OnErr result (machine.new ≡ machine.old) }
 {
     if machine.done >= MOST_STATEMENTS {
         return Err(Failure::TooLong);
@@ -45,11 +52,11 @@ fn count(machine: &mut Machine) -> Result<(), Failure>
     Ok(())
 }
 
-#[tactic(auto, using(crate::proofs::Growth::growth))]
 fn assign_all(assignments: &[Assignment], machine: &mut Machine) -> Result<(), Failure>
-    requires { HasRoom machine.old 1 }
-    ensures room { HasRoom machine.new 1 }
-    ensures grows { Grows machine.old machine.new }
+    requires { IsGoing machine.old }
+    ensures going { IsGoing machine.new }
+    ensures ok { OnOk result ((w : WorldValue) → Does (assigning assignments.now) (value_of machine.old) w (value_of machine.new) w) }
+    ensures err { IfErr result (λ why. (w : WorldValue) → DoesWrong (assigning assignments.now) (value_of machine.old) w (value_of machine.new) w why) }
 {
     for assignment in assignments {
         assign(assignment, machine)?;
@@ -58,12 +65,11 @@ fn assign_all(assignments: &[Assignment], machine: &mut Machine) -> Result<(), F
 }
 
 fn assign(assignment: &Assignment, machine: &mut Machine) -> Result<(), Failure>
-    requires { HasRoom machine.old 1 }
-    ensures ok { OnOk result (Assigns assignment.now machine.old machine.new) }
-    ensures err { IfErr result (FailsToAssign assignment.now machine.old) }
-    ensures same { OnErr result (IsSame machine.old machine.new) }
-    ensures room { HasRoom machine.new 1 }
-    ensures grows { Grows machine.old machine.new }
+    requires { IsGoing machine.old }
+    ensures going { IsGoing machine.new }
+    ensures ok { OnOk result ((w : WorldValue) → Does (assignment_body assignment.now.variable (term_of assignment.now.value)) (value_of machine.old) w (value_of machine.new) w) }
+    ensures err { IfErr result (λ why. (rest : Body) → Fails (assignment_body assignment.now.variable (term_of assignment.now.value) rest) (store_of machine.old) why) }
+    ensures same { OnErr result (value_of machine.new ≡ value_of machine.old) }
 {
     let value = evaluate(&assignment.value, &machine.variables)?;
     make_room(machine)?;
@@ -87,16 +93,16 @@ pub fn set(variables: &mut Vec<Option<Value>>, variable: VariableId, value: Valu
     }
 }
 
-#[tactic(auto, using(crate::proofs::Growth::growth))]
 fn send_all<W: World>(
     alloc: Global,
     outputs: &[Output],
     machine: &mut Machine,
     world: &mut W,
 ) -> Result<(), Failure>
-    requires { HasRoom machine.old 1 }
-    ensures room { HasRoom machine.new 1 }
-    ensures grows { Grows machine.old machine.new }
+    requires { IsGoing machine.old }
+    ensures going { IsGoing machine.new }
+    ensures ok { OnOk result (Does (sending outputs.now) (value_of machine.old) (W.value world.old) (value_of machine.new) (W.value world.new)) }
+    ensures err { IfErr result (DoesWrong (sending outputs.now) (value_of machine.old) (W.value world.old) (value_of machine.new) (W.value world.new)) }
 {
     for output in outputs {
         send(alloc, output, machine, world)?;
@@ -111,12 +117,12 @@ fn send<W: World>(
     machine: &mut Machine,
     world: &mut W,
 ) -> Result<(), Failure>
-    requires { HasRoom machine.old 1 }
-    ensures ok { OnOk result (Sends output.now machine.old machine.new) }
-    ensures err { IfErr result (FailsToSend output.now machine.old) }
-    ensures same { OnErr result (IsSame machine.old machine.new) }
-    ensures room { HasRoom machine.new 1 }
-    ensures grows { Grows machine.old machine.new }
+    requires { IsGoing machine.old }
+    ensures going { IsGoing machine.new }
+    ensures ok { OnOk result (Does (send_body output.now.signal (map term_of output.now.values.items)) (value_of machine.old) (W.value world.old) (value_of machine.new) (W.value world.new)) }
+    ensures err { IfErr result (λ why. (rest : Body) → Fails (send_body output.now.signal (map term_of output.now.values.items) rest) (store_of machine.old) why) }
+    ensures same { OnErr result (value_of machine.new ≡ value_of machine.old) }
+    ensures quiet { OnErr result (W.value world.new ≡ W.value world.old) }
 {
     let values = Values::new(evaluate_all(alloc, &output.values, &machine.variables)?);
     make_room(machine)?;

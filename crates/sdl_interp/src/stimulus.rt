@@ -1,22 +1,29 @@
 //! What begins a step: the start, or what the port gives in a state (Z.101, Z.102: start, state, input, save).
 
-ghost use Rattle.std.specs.Prelude.{◌≡◌, ◌≢◌, All, Some, IfNone, OnSome, unwrap_or};
-ghost use Rattle.port_model.specs.Take.{IsSaved};
-ghost use Rattle.sdl_interp.specs.Machine.{HasRoom, IsReady, IsAtRest, Grows, Acts};
+ghost use Rattle.std.specs.Prelude.{◌≡◌, ◌≢◌, ◌<◌, ℕ, length, Option, Some, None, IfNone, IfSome, slice_get, true};
+ghost use Rattle.port_model.specs.Port.{PortState};
+ghost use Rattle.port_model.specs.Selection.{class_of};
+ghost use Rattle.port_model.specs.Take.{Takes, name_of};
+ghost use Rattle.sdl_interp.specs.Goes.{Goes, IsOneStep};
 ghost use Rattle.sdl_interp.specs.Instance.{IsQuiet};
-ghost use Rattle.sdl_interp.specs.Stimulus.{Consumes, Discards, received, sender_of, values_of};
+ghost use Rattle.sdl_interp.specs.Machine.{value_of, HasRoom, IsGoing, IsPositionBelow, IsReady};
+ghost use Rattle.sdl_interp.specs.Place as place;
+ghost use Rattle.sdl_interp.specs.Reception.{received, sender_of, values_of};
+ghost use Rattle.sdl_system.specs.Behaviour.{Behaviour, IsBehaviour, Reception, StateBehaviour};
+ghost use Rattle.sdl_system.specs.Body.{body_of};
+ghost use Rattle.sdl_system.specs.Selection.{SelectsInputs};
+ghost use Rattle.sdl_system.specs.Soundness.{IsEndBelow};
 
 use crate::machine::{Machine, Position, make_room, note, read_clock};
 use crate::statement::set;
 use crate::transition;
 use crate::world::World;
-use port_model::{Got, Pid, SignalId, Taken, Value};
+use port_model::{Class, Got, Pid, SignalId, Taken, Value};
 use sdl_report::{Event, Failure};
-use sdl_system::{Input, Process, State, StateId, Transition, VariableId};
+use sdl_system::{End, Input, Process, State, StateId, Transition, VariableId};
 use std::alloc::Global;
 
 /// One step from this position, and the position that it leads to. None: there was nothing to take, and nothing changes.
-#[tactic(auto, using(crate::proofs::Growth::growth))]
 pub fn respond<W: World>(
     alloc: Global,
     process: &Process,
@@ -24,74 +31,82 @@ pub fn respond<W: World>(
     machine: &mut Machine,
     world: &mut W,
 ) -> Option<Position>
-    requires { IsReady position machine.old }
-    ensures ready { IsReady (unwrap_or result position) machine.new }
-    ensures grows { Grows machine.old machine.new }
-    ensures acts { position ≢ Position.Ended → OnSome result (Acts machine.old machine.new) }
-    ensures idle { IfNone result (IsAtRest machine.old machine.new) }
-    ensures quiet { IfNone result (IsQuiet process.now position machine.old.port.state) }
-    ensures over { position ≡ Position.Ended → (result ≡ Some Position.Ended) × (machine.new ≡ machine.old) }
+    requires ready { IsReady position machine.old }
+    requires state { IsPositionBelow (length process.now.states.items) position }
+    ensures ready { IfSome result (λ to. IsReady to machine.new) }
+    ensures state { IfSome result (IsPositionBelow (length process.now.states.items)) }
+    ensures goes { IfSome result (λ to. position ≢ Position.Ended → (p : Behaviour) → IsBehaviour process.now p → Goes IsOneStep p (place.place_of position) (value_of machine.old) (W.value world.old) (place.place_of to) (value_of machine.new) (W.value world.new)) }
+    ensures idle { IfNone result (value_of machine.new ≡ value_of machine.old) }
+    ensures room { IfNone result (IsReady position machine.new) }
+    ensures still { IfNone result (W.value world.new ≡ W.value world.old) }
+    ensures quiet { IfNone result ((p : Behaviour) → IsBehaviour process.now p → IsQuiet p position machine.old.port.state) }
+    ensures over { position ≡ Position.Ended → (result ≡ Some Position.Ended) × (machine.new ≡ machine.old) × (W.value world.new ≡ W.value world.old) }
 {
     match position {
         Position::BeforeStart => Some(start(alloc, &process.start, machine, world)),
-        Position::In(id) => {
-            let state = process.states.get(id.0 as usize)?;
-            receive(alloc, process, id, state, machine, world)
-        }
+        Position::In(id) => receive(alloc, process, id, machine, world),
         Position::Ended => Some(Position::Ended),
     }
 }
 
-#[tactic(auto, using(crate::proofs::Growth::growth))]
 fn start<W: World>(
     alloc: Global,
     transition: &Transition,
     machine: &mut Machine,
     world: &mut W,
 ) -> Position
-    requires { HasRoom machine.old 2 }
+    requires ready { IsReady Position.BeforeStart machine.old }
+    requires same { transition.now.end ≢ End.Same }
     ensures ready { IsReady result machine.new }
-    ensures acts { Acts machine.old machine.new }
+    ensures state { (count : ℕ) → IsEndBelow count transition.now.end → IsPositionBelow count result }
+    ensures goes { (p : Behaviour) → p.start ≡ body_of transition.now → Goes IsOneStep p place.AtStart (value_of machine.old) (W.value world.old) (place.place_of result) (value_of machine.new) (W.value world.new) }
 {
-    let at = read_clock(machine, world);
-    note(machine, Event::Start { at });
+    begin(machine, world);
     transition::make(alloc, transition, None, machine, world)
 }
 
+// The start transition begins.
+fn begin<W: World>(machine: &mut Machine, world: &mut W)
+    requires { IsReady Position.BeforeStart machine.old }
+    ensures going { IsGoing machine.new }
+    ensures goes { (p : Behaviour) → Goes IsOneStep p place.AtStart (value_of machine.old) (W.value world.old) (place.Doing None p.start) (value_of machine.new) (W.value world.new) }
+{
+    let at = read_clock(machine, world);
+    machine.done = 0;
+    note(machine, Event::Start { at });
+}
+
 // Room for the event comes first, so that nothing that was taken is lost.
-#[tactic(auto, using(crate::proofs::Growth::growth))]
 fn receive<W: World>(
     alloc: Global,
     process: &Process,
     id: StateId,
-    state: &State,
     machine: &mut Machine,
     world: &mut W,
 ) -> Option<Position>
-    requires { HasRoom machine.old 1 }
-    ensures ready { IsReady (unwrap_or result (Position.In id)) machine.new }
-    ensures grows { Grows machine.old machine.new }
-    ensures acts { OnSome result (Acts machine.old machine.new) }
-    ensures idle { IfNone result (IsAtRest machine.old machine.new) }
-    ensures quiet { IfNone result (All (IsSaved state.now.selection) machine.old.port.state.waiting) }
+    requires going { IsGoing machine.old }
+    requires state { id.0 < length process.now.states.items }
+    ensures ready { IfSome result (λ to. IsReady to machine.new) }
+    ensures state { IfSome result (IsPositionBelow (length process.now.states.items)) }
+    ensures goes { IfSome result (λ to. (p : Behaviour) → IsBehaviour process.now p → Goes IsOneStep p (place.In id) (value_of machine.old) (W.value world.old) (place.place_of to) (value_of machine.new) (W.value world.new)) }
+    ensures idle { IfNone result (value_of machine.new ≡ value_of machine.old) }
+    ensures room { IfNone result (IsGoing machine.new) }
+    ensures still { IfNone result (W.value world.new ≡ W.value world.old) }
+    ensures quiet { IfNone result ((p : Behaviour) → IsBehaviour process.now p → IsQuiet p (Position.In id) machine.old.port.state) }
 {
     if let Err(why) = make_room(machine) {
         return Some(fail(machine, world, why));
     }
-    let got = match machine.port.take(&state.selection) {
-        Taken::Nothing => return None,
+    let state = state_of(process, id);
+    match machine.port.take(&state.selection) {
+        Taken::Nothing => None,
         Taken::Discarded(got) => {
-            discard(machine, world, got);
-            return Some(Position::In(id));
-        }
-        Taken::Consumed(got) => got,
-    };
-    match input_of(process, state, got.name()) {
-        None => {
             discard(machine, world, got);
             Some(Position::In(id))
         }
-        Some((input, transition)) => {
+        Taken::Consumed(got) => {
+            let input = input_of(state, got.name());
+            let transition = transition_of(process, input);
             consume(machine, world, input, got);
             Some(transition::make(alloc, transition, Some(id), machine, world))
         }
@@ -100,48 +115,70 @@ fn receive<W: World>(
 
 // A take for which there is no room: nothing was taken.
 fn fail<W: World>(machine: &mut Machine, world: &mut W, why: Failure) -> Position
-    requires { HasRoom machine.old 1 }
+    requires going { IsGoing machine.old }
+    requires why { why ≡ Failure.Memory }
     ensures ended { result ≡ Position.Ended }
-    ensures acts { Acts machine.old machine.new }
+    ensures goes { (p : Behaviour) (n : StateId) → Goes IsOneStep p (place.In n) (value_of machine.old) (W.value world.old) place.Ended (value_of machine.new) (W.value world.new) }
 {
     let at = read_clock(machine, world);
     note(machine, Event::FailedAt { at, why });
     transition::end(machine)
 }
 
+// The state of this number.
+fn state_of(process: &Process, id: StateId) -> &State
+    requires { id.0 < length process.now.states.items }
+    ensures { slice_get process.now.states.items id.0 ≡ Some result.now }
+{
+    &process.states[id.0 as usize]
+}
+
+// The input of a signal that the state inputs.
+fn input_of(state: &State, name: SignalId) -> &Input
+    requires selects { SelectsInputs state.now }
+    requires class { class_of state.now.selection name ≢ Class.Discard }
+    ensures { slice_get state.now.inputs.items name.0 ≡ Some (Some result.now) }
+{
+    match state.inputs.get(name.0 as usize) {
+        Some(Some(input)) => input,
+        _ => unreachable!(),
+    }
+}
+
+// The transition that an input begins.
+fn transition_of<'p>(process: &'p Process, input: &Input) -> &'p Transition
+    requires { input.now.transition.0 < length process.now.transitions.items }
+    ensures { slice_get process.now.transitions.items input.now.transition.0 ≡ Some result.now }
+{
+    &process.transitions[input.transition.0 as usize]
+}
+
+// A signal that was taken from the port `before` is gone.
 fn discard<W: World>(machine: &mut Machine, world: &mut W, got: Got)
-    requires { HasRoom machine.old 2 }
-    ensures discards { Discards got machine.old machine.new }
+    requires room { HasRoom machine.old 2 }
     ensures room { HasRoom machine.new 1 }
-    ensures acts { Acts machine.old machine.new }
+    ensures port { machine.new.port ≡ machine.old.port }
+    ensures goes { (p : Behaviour) (n : StateId) (state : StateBehaviour) (before : PortState) → slice_get p.states n.0 ≡ Some state → before.alive ≡ true → Takes state.classes before (Taken.Discarded got) machine.old.port.state
+        → Goes IsOneStep p (place.In n) (record (value_of machine.old) { port = before }) (W.value world.old) (place.In n) (value_of machine.new) (W.value world.new) }
 {
     let at = read_clock(machine, world);
     machine.sender = sender_of(&got, machine.trace.pid);
     note(machine, Event::Discarded { at, got });
 }
 
+// The input of a signal that was taken from the port `before` begins.
 fn consume<W: World>(machine: &mut Machine, world: &mut W, input: &Input, got: Got)
-    requires { HasRoom machine.old 2 }
-    ensures consumes { Consumes input.now got machine.old machine.new }
+    requires room { HasRoom machine.old 2 }
     ensures room { HasRoom machine.new 1 }
-    ensures acts { Acts machine.old machine.new }
+    ensures port { machine.new.port ≡ machine.old.port }
+    ensures goes { (p : Behaviour) (n : StateId) (state : StateBehaviour) (r : Reception) (before : PortState) → slice_get p.states n.0 ≡ Some state → slice_get state.receptions (name_of got).0 ≡ Some (Some r) → r.variables ≡ input.now.variables.items → before.alive ≡ true → Takes state.classes before (Taken.Consumed got) machine.old.port.state
+        → Goes IsOneStep p (place.In n) (record (value_of machine.old) { port = before }) (W.value world.old) (place.Doing (Some n) r.body) (value_of machine.new) (W.value world.new) }
 {
     let at = read_clock(machine, world);
+    machine.done = 0;
     machine.sender = sender_of(&got, machine.trace.pid);
     receive_values(&mut machine.variables, &input.variables, values_of(&got));
     note(machine, Event::Consumed { at, got });
-}
-
-// The input of a signal in a state with its transition. In a checked system there is one for each signal that the state
-// inputs; where there is none, the signal is discarded.
-fn input_of<'p>(
-    process: &'p Process,
-    state: &'p State,
-    name: SignalId,
-) -> Option<(&'p Input, &'p Transition)> {
-    let input = state.inputs.get(name.0 as usize)?.as_ref()?;
-    let transition = process.transitions.get(input.transition.0 as usize)?;
-    Some((input, transition))
 }
 
 // A place without a variable drops its value, and so do the values past the last place.

@@ -1,8 +1,15 @@
 //! A transition, from its first statement to the state that it leads to (Z.102: transition, nextstate, stop).
 
-ghost use Rattle.std.specs.Prelude.{◌≡◌, None, Some};
+ghost use Rattle.std.specs.Prelude.{◌≡◌, ◌≢◌, ◌<◌, ℕ, Option, OnOk, IfErr, IfSome};
 ghost use Rattle.port_model.specs.Port.{stopped};
-ghost use Rattle.sdl_interp.specs.Machine.{HasRoom, IsReady, Grows};
+ghost use Rattle.sdl_interp.specs.Goes.{AreInner, Does, DoesWrong, Enters, Goes};
+ghost use Rattle.sdl_interp.specs.Leads.{Fails};
+ghost use Rattle.sdl_interp.specs.Machine.{store_of, value_of, IsGoing, IsPositionBelow, IsReady};
+ghost use Rattle.sdl_interp.specs.Place as place;
+ghost use Rattle.sdl_interp.specs.World.{WorldValue};
+ghost use Rattle.sdl_system.specs.Behaviour.{Behaviour};
+ghost use Rattle.sdl_system.specs.Body.{Body, all_before, body_of, end_of, to_stop};
+ghost use Rattle.sdl_system.specs.Soundness.{IsEndBelow};
 
 use crate::machine::{Machine, Position, make_room, note};
 use crate::statement::perform;
@@ -11,8 +18,7 @@ use sdl_report::{Event, Failure};
 use sdl_system::{End, StateId, Statement, Transition};
 use std::alloc::Global;
 
-/// Makes a transition that began in the state `from`, or before the start where there is none.
-#[tactic(auto, using(crate::proofs::Growth::growth))]
+/// Makes a transition that began in the state `from`, or with the start where there is none.
 pub fn make<W: World>(
     alloc: Global,
     transition: &Transition,
@@ -20,30 +26,28 @@ pub fn make<W: World>(
     machine: &mut Machine,
     world: &mut W,
 ) -> Position
-    requires { HasRoom machine.old 1 }
+    requires going { IsGoing machine.old }
+    requires same { from ≡ None → transition.now.end ≢ End.Same }
     ensures ready { IsReady result machine.new }
-    ensures grows { Grows machine.old machine.new }
+    ensures state { (count : ℕ) → IfSome from (λ state. state.0 < count) → IsEndBelow count transition.now.end → IsPositionBelow count result }
+    ensures goes { (p : Behaviour) → Goes AreInner p (place.Doing from (body_of transition.now)) (value_of machine.old) (W.value world.old) (place.place_of result) (value_of machine.new) (W.value world.new) }
 {
-    machine.done = 0;
     match perform_all(alloc, &transition.statements, machine, world) {
+        Ok(()) => finish(transition.end, from, machine),
         Err(why) => fail(machine, why),
-        Ok(()) => match destination(transition.end, from) {
-            Some(state) => enter(machine, state),
-            None => stop(machine),
-        },
     }
 }
 
-#[tactic(auto, using(crate::proofs::Growth::growth))]
 fn perform_all<W: World>(
     alloc: Global,
     statements: &[Statement],
     machine: &mut Machine,
     world: &mut W,
 ) -> Result<(), Failure>
-    requires { HasRoom machine.old 1 }
-    ensures room { HasRoom machine.new 1 }
-    ensures grows { Grows machine.old machine.new }
+    requires { IsGoing machine.old }
+    ensures going { IsGoing machine.new }
+    ensures ok { OnOk result (Does (all_before statements.now) (value_of machine.old) (W.value world.old) (value_of machine.new) (W.value world.new)) }
+    ensures err { IfErr result (DoesWrong (all_before statements.now) (value_of machine.old) (W.value world.old) (value_of machine.new) (W.value world.new)) }
 {
     for statement in statements {
         perform(alloc, statement, machine, world)?;
@@ -51,20 +55,29 @@ fn perform_all<W: World>(
     Ok(())
 }
 
-// The state that a transition leads to, or none where the instance stops. A start transition has no state to go back to:
-// no checked system has `nextstate -` there, and here it stops the instance.
-fn destination(end: End, from: Option<StateId>) -> Option<StateId> {
+// What ends a transition, once its statements are performed.
+fn finish(end: End, from: Option<StateId>, machine: &mut Machine) -> Position
+    requires going { IsGoing machine.old }
+    requires same { from ≡ None → end ≢ End.Same }
+    ensures ready { IsReady result machine.new }
+    ensures state { (count : ℕ) → IfSome from (λ state. state.0 < count) → IsEndBelow count end → IsPositionBelow count result }
+    ensures goes { (p : Behaviour) (w : WorldValue) → Goes AreInner p (place.Doing from (end_of end)) (value_of machine.old) w (place.place_of result) (value_of machine.new) w }
+{
     match end {
-        End::Same => from,
-        End::NextState(state) => Some(state),
-        End::Stop => None,
+        End::Same => match from {
+            Some(state) => enter(machine, state),
+            None => unreachable!(),
+        },
+        End::NextState(state) => enter(machine, state),
+        End::Stop => stop(machine),
     }
 }
 
 fn enter(machine: &mut Machine, state: StateId) -> Position
-    requires { HasRoom machine.old 1 }
+    requires { IsGoing machine.old }
     ensures ready { IsReady result machine.new }
-    ensures grows { Grows machine.old machine.new }
+    ensures state { (count : ℕ) → state.0 < count → IsPositionBelow count result }
+    ensures goes { (p : Behaviour) (from : Option StateId) (rest : Body) (w : WorldValue) → Enters from rest state → Goes AreInner p (place.Doing from rest) (value_of machine.old) w (place.place_of result) (value_of machine.new) w }
 {
     if let Err(why) = make_room(machine) {
         return fail(machine, why);
@@ -74,18 +87,18 @@ fn enter(machine: &mut Machine, state: StateId) -> Position
 }
 
 fn stop(machine: &mut Machine) -> Position
-    requires { HasRoom machine.old 1 }
+    requires { IsGoing machine.old }
     ensures ended { result ≡ Position.Ended }
-    ensures grows { Grows machine.old machine.new }
+    ensures goes { (p : Behaviour) (from : Option StateId) (w : WorldValue) → Goes AreInner p (place.Doing from to_stop) (value_of machine.old) w place.Ended (value_of machine.new) w }
 {
     note(machine, Event::Stop);
     end(machine)
 }
 
 fn fail(machine: &mut Machine, why: Failure) -> Position
-    requires { HasRoom machine.old 1 }
+    requires { IsGoing machine.old }
     ensures ended { result ≡ Position.Ended }
-    ensures grows { Grows machine.old machine.new }
+    ensures goes { (p : Behaviour) (from : Option StateId) (rest : Body) (w : WorldValue) → Fails rest (store_of machine.old) why → Goes AreInner p (place.Doing from rest) (value_of machine.old) w place.Ended (value_of machine.new) w }
 {
     note(machine, Event::Failed { why });
     end(machine)
@@ -94,8 +107,7 @@ fn fail(machine: &mut Machine, why: Failure) -> Position
 /// Ends an instance: what stands in its port or comes into it is discarded.
 pub fn end(machine: &mut Machine) -> Position
     ensures ended { result ≡ Position.Ended }
-    ensures port { machine.new ≡ record machine.old { port = machine.new.port } }
-    ensures stopped { machine.new.port.state ≡ stopped machine.old.port.state }
+    ensures stopped { value_of machine.new ≡ record (value_of machine.old) { port = stopped machine.old.port.state } }
 {
     machine.port.stop();
     Position::Ended

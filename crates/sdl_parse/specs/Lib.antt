@@ -1,2 +1,3 @@
 pub mod Cursor
+pub mod Reserved
 pub mod Tree

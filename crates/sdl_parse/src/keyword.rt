@@ -1,6 +1,9 @@
 //! The reserved words and their spellings: all in lower or all in upper case, a literal also with a capital
 //! first letter. Every other word is a name.
 
+ghost use Rattle.std.specs.Prelude.{◌≡◌};
+ghost use Rattle.sdl_parse.specs.Reserved.{is_case_of, is_reserved, is_spelling_of};
+
 use std::fmt;
 
 /// The keywords and the literals.
@@ -146,8 +149,23 @@ impl fmt::Display for Keyword {
 }
 
 /// Whether a word is reserved, so that no name is spelled like it.
-pub fn is_reserved(word: &[u8]) -> bool {
-    Keyword::of(word).is_some() || left_out(word).is_some()
+#[tactic(auto, unfolding(crate::specs::Reserved::is_reserved))]
+pub fn is_reserved(word: &[u8]) -> bool
+    ensures { result ≡ is_reserved word.now }
+{
+    is_spelling_of(&KEYWORDS, word) || is_case_of(&LEFT_OUT, word)
+}
+
+fn is_spelling_of(table: &[(Keyword, &str)], word: &[u8]) -> bool
+    ensures { result ≡ is_spelling_of table.now word.now }
+{
+    table.iter().any(|(_, text)| text.as_bytes() == word)
+}
+
+fn is_case_of(table: &[(&str, &str)], word: &[u8]) -> bool
+    ensures { result ≡ is_case_of table.now word.now }
+{
+    table.iter().any(|(lower, upper)| lower.as_bytes() == word || upper.as_bytes() == word)
 }
 
 /// The word in lower case, if it is one that the standard reserves for what is left out here.

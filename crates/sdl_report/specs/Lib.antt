@@ -1,5 +1,10 @@
 pub mod Event
 pub mod Gathered
 pub mod Name
+pub mod Part
+pub mod Reading
 pub mod ReportText
 pub mod Script
+pub mod ScriptText
+pub mod Spelled
+pub mod Spelling

@@ -1,5 +1,11 @@
 //! A place in a line of a script.
 
+ghost use Rattle.std.specs.Prelude.{◌≡◌, ◌-◌, ◌^◌, ◌≤◌, length, min, IsSomeAnd};
+ghost use Rattle.std.specs.Str.{IsAscii};
+ghost use Rattle.sdl_report.specs.Part as part;
+ghost use Rattle.sdl_report.specs.Part.{decimal};
+
+use crate::byte::{blanks_len, digits_len, word_len};
 use std::marker::Model;
 use std::str;
 
@@ -18,15 +24,17 @@ impl<'a> Model for Cursor<'a> {
 }
 
 impl<'a> Cursor<'a> {
-    ghost use Rattle.std.specs.Prelude.{◌≡◌, ◌<◌, ◌≤◌, ◌↔◌, [], length, IsTrue};
-    ghost use Rattle.std.specs.Bool.{OnTrue};
+    ghost use Rattle.std.specs.Prelude.{◌≡◌, ◌<◌, ◌≤◌, ◌↔◌, Some, None, [], drop, take, length, if◌then◌else◌, IfNone, IsTrue, MatchOption};
+    ghost use Rattle.std.specs.Bool.{OnTrue, OnFalse};
+    ghost use Rattle.sdl_report.specs.Part.{past_blanks};
+    ghost use Rattle.sdl_report.specs.Reading.{mark, number, word};
 
     pub fn new(line: &'a [u8]) -> Self
-        ensures { length result ≤ length line.now }
+        ensures { result ≡ past_blanks line.now }
     {
-        let mut cursor = Cursor { rest: line };
-        cursor.take_while(is_blank);
-        cursor
+        Cursor {
+            rest: past_blanks(line),
+        }
     }
 
     pub fn is_at_end(&self) -> bool
@@ -37,13 +45,13 @@ impl<'a> Cursor<'a> {
 
     /// Steps over this byte and the blanks behind it, where it comes next.
     pub fn eat(&mut self, byte: u8) -> bool
-        ensures shorter { length self.new ≤ length self.old }
+        ensures read { (if result then Some self.new else None) ≡ mark byte self.old }
+        ensures kept { OnFalse result (self.new ≡ self.old) }
         ensures eaten { OnTrue result (length self.new < length self.old) }
     {
         match self.rest.split_first() {
             Some((first, behind)) if *first == byte => {
-                self.rest = behind;
-                self.take_while(is_blank);
+                self.rest = past_blanks(behind);
                 true
             }
             _ => false,
@@ -52,59 +60,72 @@ impl<'a> Cursor<'a> {
 
     /// The digits that come next, as a number. What is past 64 bits becomes `u64::MAX`, which no place of a script admits.
     pub fn number(&mut self) -> Option<u64>
-        ensures { length self.new ≤ length self.old }
+        ensures read { MatchOption result (number self.old ≡ None) (λ n. number self.old ≡ Some (n, self.new)) }
+        ensures kept { IfNone result (self.new ≡ self.old) }
+        ensures shorter { length self.new ≤ length self.old }
     {
-        let digits = self.take_while(|byte| byte.is_ascii_digit());
-        self.take_while(is_blank);
-        if digits.is_empty() {
-            None
-        } else {
-            Some(saturated(digits))
+        let len = digits_len(self.rest);
+        if len == 0 {
+            return None;
         }
+        Some(saturated(self.pass(len)))
     }
 
     /// The word that comes next: a letter, and behind it letters, digits and `_`.
+    #[tactic(auto, using(crate::proofs::RunLemmas::word_ascii))]
     pub fn word(&mut self) -> Option<&'a str>
-        ensures { length self.new ≤ length self.old }
+        ensures read { MatchOption result (word self.old ≡ None) (λ w. word self.old ≡ Some (w.now, self.new)) }
+        ensures shorter { length self.new ≤ length self.old }
     {
-        if !self
-            .rest
-            .first()
-            .is_some_and(|first| first.is_ascii_alphabetic())
-        {
+        let first = self.rest.first()?;
+        if !first.is_ascii_alphabetic() {
             return None;
         }
-        let word = self.take_while(|byte| byte.is_ascii_alphanumeric() || byte == b'_');
-        self.take_while(is_blank);
-        str::from_utf8(word).ok()
+        let len = word_len(self.rest);
+        ascii_text(self.pass(len))
     }
 
-    // The longest run of such bytes that comes next.
-    fn take_while<F: Fn(u8) -> bool + Drop>(&mut self, fits: F) -> &'a [u8]
-        requires { F.IsAlwaysCallable fits }
-        ensures { length self.new ≤ length self.old }
+    // Steps over so many bytes and the blanks behind them.
+    fn pass(&mut self, len: usize) -> &'a [u8]
+        requires { len ≤ length self.old }
+        ensures run { result.now ≡ take len self.old }
+        ensures rest { self.new ≡ past_blanks (drop len self.old) }
+        ensures shorter { length self.new ≤ length self.old }
     {
-        let end = self
-            .rest
-            .iter()
-            .position(|byte| !fits(*byte))
-            .unwrap_or(self.rest.len());
-        let (run, behind) = self.rest.split_at(end);
-        self.rest = behind;
+        let (run, behind) = self.rest.split_at(len);
+        self.rest = past_blanks(behind);
         run
     }
 }
 
-/// Whether a byte is a blank or a tab.
-pub fn is_blank(byte: u8) -> bool {
-    matches!(byte, b' ' | b'\t')
+fn past_blanks(bytes: &[u8]) -> &[u8]
+    ensures value { result.now ≡ part.past_blanks bytes.now }
+    ensures shorter { length result.now ≤ length bytes.now }
+{
+    let (_, rest) = bytes.split_at(blanks_len(bytes));
+    rest
+}
+
+#[tactic(auto, using(crate::proofs::RunLemmas::ascii_is_text))]
+fn ascii_text(bytes: &[u8]) -> Option<&str>
+    requires { IsAscii bytes.now }
+    ensures { IsSomeAnd result (λ text. text.now ≡ bytes.now) }
+{
+    match str::from_utf8(bytes) {
+        Ok(text) => Some(text),
+        Err(_) => None,
+    }
 }
 
 // The value of some digits, at most `u64::MAX`.
-fn saturated(digits: &[u8]) -> u64 {
-    digits.iter().fold(0u64, |number, digit| {
-        number
+fn saturated(digits: &[u8]) -> u64
+    ensures { result ≡ min (decimal digits.now) (2 ^ 64 - 1) }
+{
+    let mut value = 0u64;
+    for digit in digits {
+        value = value
             .saturating_mul(10)
-            .saturating_add(u64::from(digit.saturating_sub(b'0')))
-    })
+            .saturating_add(u64::from(digit.saturating_sub(b'0')));
+    }
+    value
 }

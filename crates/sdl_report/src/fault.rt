@@ -1,5 +1,8 @@
 //! What is wrong with a line of a script.
 
+ghost use Rattle.std.specs.Prelude.{◌≡◌};
+ghost use Rattle.sdl_report.specs.ScriptText.{refusal};
+
 use crate::ScriptError;
 use std::alloc::{AllocError, AllocFailed};
 
@@ -15,7 +18,9 @@ pub enum Fault {
 
 impl Fault {
     /// The refusal of the script, where this is the fault of the line of that number.
-    pub fn at(self, line: usize) -> ScriptError {
+    pub fn at(self, line: usize) -> ScriptError
+        ensures { result ≡ refusal self line }
+    {
         match self {
             Fault::Syntax => ScriptError::Syntax(line),
             Fault::BackInTime => ScriptError::BackInTime(line),

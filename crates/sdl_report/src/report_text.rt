@@ -1,35 +1,18 @@
 //! The text of a report.
 
-ghost use Rattle.std.specs.Prelude.{◌≡◌, [], ◌++◌, OnOk};
+ghost use Rattle.std.specs.Prelude.{◌≡◌, ℕ, [], ◌++◌, take, OnErr, OnOk};
 ghost use Rattle.std.specs.String.{string_bytes};
 ghost use Rattle.std.specs.Io.KnownBytes.{Appends};
-ghost use Rattle.sdl_report.specs.Gathered.{Grows};
+ghost use Rattle.sdl_report.specs.Gathered.{Breaks, Grows};
 ghost use Rattle.sdl_report.specs.ReportText.{end_text, event_line, heading_text, line, record_text, report_text};
 
 use crate::event_line::push_event;
 use crate::names::process_name;
+use crate::write_whole::{WriteFault, write_text};
 use crate::{Event, Record, Report};
 use sdl_system::System;
 use std::alloc::{AllocError, Global};
 use std::io::Write;
-use thiserror::Error;
-
-/// Why a report was not written to its end. A prefix of it may have gone out.
-#[derive(Clone, Copy, Debug, PartialEq, Eq, Error)]
-pub enum WriteFault {
-    /// The writer answered an error.
-    #[error("write failed")]
-    Write,
-    /// A line could not be made.
-    #[error("out of memory")]
-    Memory,
-}
-
-impl From<AllocError> for WriteFault {
-    fn from(_error: AllocError) -> WriteFault {
-        WriteFault::Memory
-    }
-}
 
 // So much text is gathered, in bytes, before it goes out.
 const PIECE: usize = 8192;
@@ -43,8 +26,10 @@ pub fn write_report<W: Write>(
     system: &System,
     writer: &mut W,
 ) -> Result<(), WriteFault>
-    ensures { OnOk result (Appends (W.contents writer.old) (W.contents writer.new)
+    ensures ok { OnOk result (Appends (W.contents writer.old) (W.contents writer.new)
         (report_text system.now report.now)) }
+    ensures err { OnErr result ((k : ℕ) × Appends (W.contents writer.old) (W.contents writer.new)
+        (take k (report_text system.now report.now))) }
 {
     let mut text = String::new(alloc);
     for record in &report.records {
@@ -61,8 +46,10 @@ fn write_record<W: Write>(
     system: &System,
     writer: &mut W,
 ) -> Result<(), WriteFault>
-    ensures { OnOk result (Grows (W.contents writer.old) (string_bytes text.old)
+    ensures ok { OnOk result (Grows (W.contents writer.old) (string_bytes text.old)
         (W.contents writer.new) (string_bytes text.new) (record_text system.now «record».now)) }
+    ensures err { OnErr result (Breaks (W.contents writer.old) (string_bytes text.old)
+        (W.contents writer.new) (record_text system.now «record».now)) }
 {
     push_heading(text, record, system)?;
     for event in &record.events {
@@ -79,8 +66,10 @@ fn write_event<W: Write>(
     system: &System,
     writer: &mut W,
 ) -> Result<(), WriteFault>
-    ensures { OnOk result (Grows (W.contents writer.old) (string_bytes text.old)
+    ensures ok { OnOk result (Grows (W.contents writer.old) (string_bytes text.old)
         (W.contents writer.new) (string_bytes text.new) (event_line system.now «record».now event.now)) }
+    ensures err { OnErr result (Breaks (W.contents writer.old) (string_bytes text.old)
+        (W.contents writer.new) (event_line system.now «record».now event.now)) }
 {
     push_event(text, event, record, system)?;
     if text.len() >= PIECE {
@@ -118,15 +107,10 @@ fn send<W: Write>(text: &mut String, writer: &mut W) -> Result<(), WriteFault>
     ensures empty { OnOk result (string_bytes text.new ≡ []) }
     ensures sent { OnOk result (Appends (W.contents writer.old) (W.contents writer.new)
         (string_bytes text.old)) }
+    ensures err { OnErr result (Breaks (W.contents writer.old) (string_bytes text.old)
+        (W.contents writer.new) []) }
 {
-    match writer.write_all(text.as_bytes()) {
-        Ok(()) => {
-            text.clear();
-            Ok(())
-        }
-        Err(_) => Err(WriteFault::Write),
-    }
+    write_text(writer, text.as_bytes())?;
+    text.clear();
+    Ok(())
 }
-
-#[cfg(test)]
-mod tests;

@@ -1,13 +1,19 @@
 //! Scripts of timed signals from the environment.
 
-ghost use Rattle.std.specs.Prelude.{◌≡◌, ◌+◌, ◌<◌, ◌≤◌, length, IfOk, OnOk, OnErr, IfSome};
+ghost use Rattle.std.specs.Prelude.{◌≡◌, ◌<◌, length, IfErr, IfOk, IfSome, OnOk};
+ghost use Rattle.std.specs.Bool.{OnFalse, OnTrue};
+ghost use Rattle.std.specs.List.{list_all};
+ghost use Rattle.sdl_report.specs.Part.{is_blank};
 ghost use Rattle.sdl_report.specs.Script.{IsFromEnv, IsNext, IsScript, end_of};
+ghost use Rattle.sdl_report.specs.ScriptText.{Adds, HasFault, Refuses, Says, SaysNothing, SaysScript};
 
-use crate::cursor::is_blank;
+use crate::byte::is_blank;
 use crate::fault::Fault;
-use crate::spelling::{SpelledSignal, Spelling};
-use port_model::{Item, Pid, Value, Values};
-use sdl_system::{Sort, System};
+use crate::line::split_line;
+use crate::meaning::item_of;
+use crate::spelling::Spelling;
+use port_model::Item;
+use sdl_system::System;
 use std::alloc::Global;
 use thiserror::Error;
 
@@ -58,7 +64,9 @@ impl Script {
 /// those that begin with `#`, are read over. Between the parts of a line blanks and tabs may stand. Of several faults the
 /// first line's is told, and in it the first of Syntax, BackInTime, UnknownSignal and Arguments.
 pub fn read_script(alloc: Global, system: &System, text: &[u8]) -> Result<Script, ScriptError>
-    ensures { IfOk result (λ script. IsScript system.now script.lines.items) }
+    ensures script { IfOk result (λ script. IsScript system.now script.lines.items) }
+    ensures read { IfOk result (λ script. SaysScript system.now text.now script.lines.items) }
+    ensures refused { IfErr result (λ error. Refuses error system.now text.now) }
 {
     let mut script = Script {
         lines: Vec::new(alloc),
@@ -76,26 +84,13 @@ pub fn read_script(alloc: Global, system: &System, text: &[u8]) -> Result<Script
     Ok(script)
 }
 
-// The first line without its end, and the text behind it.
-fn split_line(text: &[u8]) -> (&[u8], &[u8])
-    requires { 0 < length text.now }
-    ensures { length result.1.now < length text.now }
-{
-    match text.iter().position(|byte| *byte == b'\n') {
-        None => (text, &text[text.len()..]),
-        Some(end) => {
-            let line = &text[..end];
-            (line.strip_suffix(b"\r").unwrap_or(line), &text[end + 1..])
-        }
-    }
-}
-
 // Adds what a line says behind the script.
 #[tactic(auto, using(crate::proofs::ScriptLemmas::script_grows))]
 fn add_line(alloc: Global, script: &mut Script, system: &System, line: &[u8]) -> Result<(), Fault>
     requires { IsScript system.now script.old.lines.items }
-    ensures ok { OnOk result (IsScript system.now script.new.lines.items) }
-    ensures err { OnErr result (script.new.lines.items ≡ script.old.lines.items) }
+    ensures script { OnOk result (IsScript system.now script.new.lines.items) }
+    ensures added { OnOk result (Adds system.now line.now script.old.lines.items script.new.lines.items) }
+    ensures fault { IfErr result (λ fault. HasFault fault system.now (end_of script.old.lines.items) line.now) }
 {
     if let Some(said) = read_line(alloc, system, line, script.end())? {
         script.lines.push(said)?;
@@ -110,9 +105,11 @@ fn read_line(
     line: &[u8],
     earliest: u64,
 ) -> Result<Option<ScriptLine>, Fault>
-    ensures { IfOk result (λ said. IfSome said (IsNext system.now earliest)) }
+    ensures next { IfOk result (λ said. IfSome said (IsNext system.now earliest)) }
+    ensures says { IfOk result (Says system.now line.now) }
+    ensures fault { IfErr result (λ fault. HasFault fault system.now earliest line.now) }
 {
-    if line.first() == Some(&b'#') || line.iter().all(|byte| is_blank(*byte)) {
+    if says_nothing(line) {
         return Ok(None);
     }
     let Spelling { at, signal } = Spelling::read(alloc, line)?;
@@ -126,47 +123,15 @@ fn read_line(
     Ok(Some(ScriptLine { at, signal }))
 }
 
-// The signal that the environment sends by this spelling.
-fn item_of(alloc: Global, system: &System, spelled: &SpelledSignal<'_>) -> Result<Item, Fault>
-    ensures { IfOk result (IsFromEnv system.now) }
+fn says_nothing(line: &[u8]) -> bool
+    ensures nothing { OnTrue result (SaysNothing line.now) }
+    ensures something { OnFalse result (¬ SaysNothing line.now) }
 {
-    let Some(name) = system.signal_of_name(spelled.name) else {
-        return Err(Fault::UnknownSignal);
-    };
-    let Some(signal) = system.signal(name) else {
-        return Err(Fault::UnknownSignal);
-    };
-    if !system.is_reached_from_env(name) {
-        return Err(Fault::UnknownSignal);
-    }
-    let values = sorted_values(alloc, &spelled.values, &signal.sorts)?;
-    Ok(Item {
-        name,
-        values: Values::new(values),
-        sender: Pid::Env,
-    })
+    line.first() == Some(&b'#') || is_blank_line(line)
 }
 
-// The values, where each is of its parameter's sort.
-fn sorted_values(
-    alloc: Global,
-    spelled: &[Option<Value>],
-    sorts: &[Sort],
-) -> Result<Vec<Value>, Fault>
-    ensures { IfOk result (λ values. length values.items ≡ length sorts.now) }
+fn is_blank_line(line: &[u8]) -> bool
+    ensures { result ≡ list_all is_blank line.now }
 {
-    if spelled.len() != sorts.len() {
-        return Err(Fault::Arguments);
-    }
-    let mut values = Vec::new(alloc);
-    for (value, sort) in spelled.iter().zip(sorts) {
-        match (value, sort) {
-            (Some(Value::Int(number)), Sort::Integer) => values.push(Value::Int(*number))?,
-            _ => return Err(Fault::Arguments),
-        }
-    }
-    Ok(values)
+    line.iter().all(|byte| is_blank(*byte))
 }
-
-#[cfg(test)]
-mod tests;

@@ -1,6 +1,10 @@
 //! The parts of a line of a script, as they are spelled.
 
-ghost use Rattle.std.specs.Prelude.{◌≤◌, length, IfOk};
+ghost use Rattle.std.specs.Prelude.{◌≡◌, ◌≤◌, Option, Some, None, List, length, IfErr, IfOk, MatchResult};
+ghost use Rattle.port_model.specs.declared.value.Value as the_value;
+ghost use Rattle.sdl_report.specs.Reading as reading;
+ghost use Rattle.sdl_report.specs.Spelled.{IsSyntaxFault, plain_signal};
+ghost use Rattle.sdl_report.specs.Spelling.{IsNoSpelling, SpellsLine, SpellsValues, literal, negative, numbered, positive};
 
 use crate::cursor::Cursor;
 use crate::fault::Fault;
@@ -28,21 +32,21 @@ pub struct SpelledSignal<'a> {
 impl<'a> Spelling<'a> {
     /// Takes a line apart. The fault is Syntax or Memory.
     pub fn read(alloc: Global, line: &'a [u8]) -> Result<Self, Fault>
-        ensures { IfOk result (λ spelling. spelling.at ≤ LATEST_TIME) }
+        ensures ok { IfOk result (λ spelling. SpellsLine spelling.at (plain_signal spelling.signal) line.now) }
+        ensures err { IfErr result (λ fault. IsSyntaxFault fault (IsNoSpelling line.now)) }
     {
         let mut cursor = Cursor::new(line);
         let at = read_time(&mut cursor)?;
         if cursor.is_at_end() {
             return Ok(Spelling { at, signal: None });
         }
-        let name = cursor.word().ok_or(Fault::Syntax)?;
+        let Some(name) = cursor.word() else {
+            return Err(Fault::Syntax);
+        };
         if is_reserved(name.as_bytes()) {
             return Err(Fault::Syntax);
         }
         let values = read_values(alloc, &mut cursor)?;
-        if !cursor.is_at_end() {
-            return Err(Fault::Syntax);
-        }
         Ok(Spelling {
             at,
             signal: Some(SpelledSignal { name, values }),
@@ -51,7 +55,9 @@ impl<'a> Spelling<'a> {
 }
 
 fn read_time(cursor: &mut Cursor<'_>) -> Result<u64, Fault>
-    ensures { IfOk result (λ at. at ≤ LATEST_TIME) }
+    ensures { MatchResult result
+        (λ at. (reading.number cursor.old ≡ Some (at, cursor.new)) × (at ≤ LATEST_TIME))
+        (λ fault. (fault ≡ Fault.Syntax) × reading.HasNoTime cursor.old) }
 {
     match cursor.number() {
         Some(at) if at <= LATEST_TIME => Ok(at),
@@ -59,48 +65,87 @@ fn read_time(cursor: &mut Cursor<'_>) -> Result<u64, Fault>
     }
 }
 
-// `[ "(" value {"," value} ")" ]`
-fn read_values(alloc: Global, cursor: &mut Cursor<'_>) -> Result<Vec<Option<Value>>, Fault> {
+// `[ "(" value {"," value} ")" ]`, up to the end of the line.
+fn read_values(alloc: Global, cursor: &mut Cursor<'_>) -> Result<Vec<Option<Value>>, Fault>
+    ensures ok { IfOk result (λ values. SpellsValues values.items cursor.old) }
+    ensures err { IfErr result (λ fault. IsSyntaxFault fault ((values : List (Option the_value.Value)) → ¬ SpellsValues values cursor.old)) }
+{
     let mut values = Vec::new(alloc);
-    if !cursor.eat(b'(') {
+    if cursor.is_at_end() {
         return Ok(values);
+    }
+    if !cursor.eat(b'(') {
+        return Err(Fault::Syntax);
     }
     values.push(read_value(cursor)?)?;
     while cursor.eat(b',') {
         values.push(read_value(cursor)?)?;
     }
-    if cursor.eat(b')') {
+    if cursor.eat(b')') && cursor.is_at_end() {
         Ok(values)
     } else {
         Err(Fault::Syntax)
     }
 }
 
-// `["-"] NUMBER | "true" | "false" | "null" | "env" | "#" NUMBER`. A number past 64 bits signed, behind `#` past 32 bits,
-// is `None`.
+// `["-"] NUMBER | "true" | "false" | "null" | "env" | "#" NUMBER`.
 fn read_value(cursor: &mut Cursor<'_>) -> Result<Option<Value>, Fault>
-    ensures { length cursor.new ≤ length cursor.old }
+    ensures read { MatchResult result
+        (λ value. reading.value cursor.old ≡ Some (value, cursor.new))
+        (λ fault. (fault ≡ Fault.Syntax) × (reading.value cursor.old ≡ None)) }
+    ensures shorter { length cursor.new ≤ length cursor.old }
 {
     if cursor.eat(b'#') {
         let number = cursor.number().ok_or(Fault::Syntax)?;
-        return Ok(
-            u32::try_from(number)
-                .ok()
-                .map(|number| Value::Pid(Pid::Of(number))),
-        );
+        return Ok(instance(number));
     }
     if cursor.eat(b'-') {
         let number = cursor.number().ok_or(Fault::Syntax)?;
-        return Ok(0i64.checked_sub_unsigned(number).map(Value::Int));
+        return Ok(negative(number));
     }
     if let Some(number) = cursor.number() {
-        return Ok(i64::try_from(number).ok().map(Value::Int));
+        return Ok(positive(number));
     }
-    match cursor.word().ok_or(Fault::Syntax)? {
-        "true" | "True" | "TRUE" => Ok(Some(Value::Bool(true))),
-        "false" | "False" | "FALSE" => Ok(Some(Value::Bool(false))),
-        "null" | "Null" | "NULL" => Ok(Some(Value::Pid(Pid::Null))),
-        "env" | "ENV" => Ok(Some(Value::Pid(Pid::Env))),
-        _ => Err(Fault::Syntax),
+    let word = cursor.word().ok_or(Fault::Syntax)?;
+    let value = literal(word).ok_or(Fault::Syntax)?;
+    Ok(Some(value))
+}
+
+// A number past 32 bits is no instance's.
+fn instance(number: u64) -> Option<Value>
+    ensures { result ≡ numbered number }
+{
+    match u32::try_from(number) {
+        Ok(number) => Some(Value::Pid(Pid::Of(number))),
+        Err(_) => None,
+    }
+}
+
+// A number past 64 bits signed is none of an Integer.
+fn negative(number: u64) -> Option<Value>
+    ensures { result ≡ negative number }
+{
+    0i64.checked_sub_unsigned(number).map(Value::Int)
+}
+
+// As before.
+fn positive(number: u64) -> Option<Value>
+    ensures { result ≡ positive number }
+{
+    match i64::try_from(number) {
+        Ok(number) => Some(Value::Int(number)),
+        Err(_) => None,
+    }
+}
+
+fn literal(word: &str) -> Option<Value>
+    ensures { result ≡ literal word.now }
+{
+    match word {
+        "true" | "True" | "TRUE" => Some(Value::Bool(true)),
+        "false" | "False" | "FALSE" => Some(Value::Bool(false)),
+        "null" | "Null" | "NULL" => Some(Value::Pid(Pid::Null)),
+        "env" | "ENV" => Some(Value::Pid(Pid::Env)),
+        _ => None,
     }
 }

@@ -1,8 +1,13 @@
+pub mod Behaviour
+pub mod Body
 pub mod Constant
 pub mod Names
+pub mod Reserved
 pub mod Route
 pub mod Selection
 pub mod Signals
+pub mod Soundness
 pub mod States
 pub mod System
+pub mod Term
 pub mod Variables

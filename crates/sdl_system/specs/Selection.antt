@@ -1,8 +1,7 @@
-use Rattle.std.specs.Prelude.{◌≡◌, List, Option, is_some, map, All, if◌then◌else◌}
+use Rattle.std.specs.Prelude.{◌≡◌, List, Option, is_some, map, if◌then◌else◌}
 use Rattle.port_model.specs.declared.selection.Class.{Class}
 use Rattle.port_model.specs.declared.selection.Class.TheVariants as class
 use Rattle.sdl_system.specs.declared.process.Input.{Input}
-use Rattle.sdl_system.specs.declared.process.Process.{Process}
 use Rattle.sdl_system.specs.declared.process.State.{State}
 
 -- a signal that the state inputs is Input, any other is Discard
@@ -16,7 +15,3 @@ selection_of inputs = map class_of_input inputs
 -- the state selects the signals that it inputs
 abbrev pub SelectsInputs : State → Type 0
 SelectsInputs state = state.selection ≡ selection_of state.inputs.items
-
--- so do all states of the process
-pub record SelectsItsInputs (process : Process) : Type 0 where
-  pub states : All SelectsInputs process.states.items

@@ -1,4 +1,7 @@
-use Rattle.std.specs.Prelude.{ℕ, Option, None, Some, slice_get, Bool, true, false, count_by}
+use Rattle.std.specs.Prelude.{ℕ, List, Option, None, Some, slice_get, Bool, true, false, count_by, All}
+use Rattle.std.specs.Str.{bytes_eq}
+use Rattle.std.specs.String.{string_bytes}
+use Rattle.indexmap.specs.IndexMap.{get_by}
 use Rattle.port_model.specs.declared.selection.Class.{Class}
 use Rattle.port_model.specs.declared.selection.Class.TheVariants.{Discard}
 use Rattle.port_model.specs.declared.item.SignalId.{SignalId}
@@ -9,6 +12,7 @@ use Rattle.sdl_parse.specs.declared.tree.Tree.{Tree}
 use Rattle.sdl_system.specs.declared.process.State as state
 use Rattle.sdl_system.specs.declared.process.Process as process
 use Rattle.sdl_system.specs.declared.system.System.{System}
+use Rattle.sdl_system.specs.Selection.{SelectsInputs}
 
 -- the class of a signal in a state, where there is one
 abbrev pub class_in : Option state.State → SignalId → Class
@@ -24,6 +28,10 @@ class_in_process (Some p) number signal = class_in (slice_get p.states.items num
 abbrev pub class_of : System → ℕ → ℕ → SignalId → Class
 class_of system number state signal = class_in_process (slice_get system.processes.items number) state signal
 
+-- the signal of this name in the system's own scope, where there is one
+abbrev pub signal_of_name : System → List ℕ → Option SignalId
+signal_of_name system name = get_by (λ own. bytes_eq name (string_bytes own)) system.own_signals
+
 -- whether it defines a process
 abbrev pub is_process : Definition → Bool
 is_process (Signals list) = false
@@ -32,3 +40,7 @@ is_process (Process definition) = true
 -- how many processes a specification defines
 abbrev pub process_count : Tree → ℕ
 process_count tree = count_by is_process tree.definitions.items
+
+-- the states of a process select the signals that they input
+pub record SelectsItsInputs (definition : process.Process) : Type 0 where
+  pub states : All SelectsInputs definition.states.items

@@ -1,10 +1,12 @@
 //! A process with its names resolved.
+ghost use Rattle.sdl_system.specs.Soundness.{IsSound};
 
 use crate::id::{StateId, TransitionId, VariableId};
 use port_model::{Selection, SignalId, Value};
 use sdl_parse::tree::Operator;
 
-/// A process: what its instances are made of.
+/// A process: what its instances are made of. Each number in it is the number of something, a state selects just what it
+/// inputs, and the start leads to no state that it came from.
 #[derive(Debug, Drop)]
 pub struct Process {
     pub name: String,
@@ -12,6 +14,7 @@ pub struct Process {
     pub start: Transition,
     pub transitions: Vec<Transition>,
     pub states: Vec<State>,
+    pub ghost sound: { IsSound start transitions.items states.items },
 }
 
 /// A variable with the value that it has before the start, where it has one.

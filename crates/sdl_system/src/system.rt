@@ -1,7 +1,6 @@
 //! Specifications whose names are resolved and whose checks hold.
 ghost use Rattle.std.specs.Prelude.{◌≡◌, slice_get, option_copied, vec_len, All, IfOk};
-ghost use Rattle.sdl_system.specs.Selection.{SelectsItsInputs};
-ghost use Rattle.sdl_system.specs.System.{process_count};
+ghost use Rattle.sdl_system.specs.System.{process_count, SelectsItsInputs};
 
 use crate::error::BuildError;
 use crate::fault::{Fault, Faults, Kind, Token};
@@ -39,7 +38,7 @@ pub struct System {
 }
 
 impl System {
-    ghost use Rattle.sdl_system.specs.System.{class_of};
+    ghost use Rattle.sdl_system.specs.System.{class_of, signal_of_name};
 
     /// The process of this number.
     pub fn process(&self, process: ProcessId) -> Option<&Process>
@@ -56,7 +55,9 @@ impl System {
     }
 
     /// The signal of this name in the system's own scope.
-    pub fn signal_of_name(&self, name: &str) -> Option<SignalId> {
+    pub fn signal_of_name(&self, name: &str) -> Option<SignalId>
+        ensures { result ≡ signal_of_name self.now name.now }
+    {
         self.own_signals.get(name).copied()
     }
 

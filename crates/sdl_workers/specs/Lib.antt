@@ -1,0 +1,5 @@
+pub mod Global
+pub mod Course
+pub mod Report
+pub mod Around
+pub mod Serial

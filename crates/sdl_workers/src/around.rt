@@ -1,7 +1,10 @@
+//! What an instance sees of a serial run.
+
 use port_model::{Item, SignalId};
 use sdl_interp::World;
 use sdl_system::{Agent, ProcessId, System, Target};
 use std::alloc::AllocError;
+use std::marker::Model;
 
 /// A signal on its way.
 #[derive(Drop)]
@@ -10,8 +13,16 @@ pub struct Sent {
     pub item: Item,
 }
 
-/// What an instance sees of the run during one step of a serial run: the clock stands still, nobody else
-/// acts, and what it sends is delivered when the step is done.
+impl Model for Sent {
+    ghost use Rattle.sdl_interp.specs.World.{Sent as Sending};
+
+    ghost Value = { Sending };
+
+    ghost view = { λ s. record { target = s.target; item = s.item } };
+}
+
+/// What an instance sees of the run during one step of a serial run: the clock stands still, nobody else acts, and what it
+/// sends is delivered when the step is done.
 #[derive(Drop)]
 pub struct Around<'s> {
     pub system: &'s System,
@@ -21,6 +32,10 @@ pub struct Around<'s> {
 }
 
 impl World for Around<'_> {
+    ghost use Rattle.sdl_workers.specs.Around.{world_of};
+
+    ghost value = { world_of };
+
     fn now(&mut self) -> u64 {
         self.clock
     }

@@ -1,12 +1,16 @@
 //! Runs the instances of a system against a script.
 //!
-//! `run_serial` makes all steps in one thread, in sweeps over the instances by ascending number, and lets
-//! time move only where every living instance is at rest. It returns on every system and script, since a
-//! run is cut at a limit of transitions; its only error is want of memory.
+//! `run_serial` makes all steps in one thread, in sweeps over the instances by ascending number, and lets time move only
+//! where every instance is at rest. Its report is in serial order: one list of whole transitions, discards and signals of
+//! the script leads from the first instances to the records, and at each of its steps the clock, the living instances and
+//! what waits in the ports are those of the list so far (`IsSerialReport`). A whole report has all instances at rest, the
+//! script put and fewer transitions than the limit, a cut one just as many as the limit. It returns on every system and
+//! script, and its only error is want of memory.
 #![tactic(auto)]
 
 mod around;
 mod error;
+mod member;
 mod run;
 mod serial;
 

@@ -1,4 +1,7 @@
-ghost use Rattle.std.specs.Prelude.{◌≡◌, IfOk, vec_len, length};
+ghost use Rattle.std.specs.Prelude.{◌≡◌, IfOk, IfErr, List};
+ghost use Rattle.sdl_system.specs.Behaviour.{Behaviour};
+ghost use Rattle.sdl_workers.specs.Global.{AreBehaviours};
+ghost use Rattle.sdl_workers.specs.Report.{IsSerialReport};
 
 use crate::error::RunError;
 use crate::serial::Serial;
@@ -14,22 +17,13 @@ pub fn run_serial(
     script: &Script,
     limit: u64,
 ) -> Result<Report, RunError>
-    ensures { IfOk result (λ report. vec_len report.records ≡ length system.now.processes.items) }
+    ensures serial { IfOk result (λ report. (ps : List Behaviour) → AreBehaviours system.now ps
+        → IsSerialReport ps system.now script.now.lines.items limit report) }
+    ensures err { IfErr result (λ why. why ≡ RunError.Memory) }
 {
-    let mut serial = Serial::begin(alloc, system, limit)?;
-    for line in &script.lines {
-        if line.at > serial.clock {
-            serial.settle(alloc)?;
-            if serial.left == 0 {
-                break;
-            }
-            serial.clock = line.at;
-        }
-        serial.hear(line)?;
-    }
-    serial.settle(alloc)?;
-    let end = serial.clock;
-    let whole = serial.left > 0;
+    let mut serial = Serial::begin(alloc, system, script.lines.as_slice(), limit)?;
+    let whole = serial.run(alloc)?;
+    let end = if whole { script.end() } else { serial.clock };
     let records = serial.close(alloc, whole)?;
     Ok(Report {
         records,

@@ -1,106 +1,91 @@
 //! The state of a serial run.
 
-ghost use Rattle.std.specs.Prelude.{◌≡◌, ◌<◌, ◌≤◌, ◌↔◌, IfOk, IsTrue, vec_len, length};
+ghost use Rattle.std.specs.Prelude.{◌≡◌, ◌+◌, ◌<◌, ◌≤◌, ◌⊎◌, ◌∷◌, [], All, IfOk, OnOk, IsTrue, List, vec_len, length, take};
+ghost use Rattle.sdl_system.specs.Behaviour.{Behaviour};
+ghost use Rattle.sdl_workers.specs.Global.{AreBehaviours, IsNoneBefore, IsNoneDue, beginning, delivered_all, put_to};
+ghost use Rattle.sdl_workers.specs.Report.{AreClosed};
+ghost use Rattle.sdl_workers.specs.Serial.{IsResting, IsSerial, Reaches, instances_of, state_of};
 
 use crate::around::{Around, Sent};
 use crate::error::RunError;
-use port_model::{Item, Pid, PlainPort};
-use sdl_interp::{Instance, Stepped};
-use sdl_report::{Event, Record, ScriptLine};
-use sdl_system::{Agent, ProcessId, System, Target};
+use crate::member::Member;
+use port_model::Item;
+use sdl_report::{Record, ScriptLine};
+use sdl_system::{Agent, System, Target};
 use std::alloc::Global;
 
-/// An instance of the run. While it rests it needs no step: its last step was idle or ended it, and
-/// nothing was put into its port since.
-#[derive(Drop)]
-pub struct Member<'a> {
-    instance: Instance<'a>,
-    rests: bool,
-}
-
-/// A run that goes on: the instances by ascending number from 1, the least living number of each process,
-/// the clock in ticks, and how many transitions may still be made before the run is cut.
+/// A run that goes on: the system, what is left of the script, the instances by ascending number from 1, the least living
+/// number of each process, the clock in ticks, whether the script has begun, and how many transitions may still be made
+/// before the run is cut. The script begins when all have rested for the first time.
 #[derive(Drop)]
 pub struct Serial<'a> {
-    system: &'a System,
-    members: Vec<Member<'a>>,
-    living: Vec<Option<u32>>,
+    pub system: &'a System,
+    pub script: &'a [ScriptLine],
+    pub members: Vec<Member<'a>>,
+    pub living: Vec<Option<u32>>,
     pub clock: u64,
+    pub begun: bool,
     pub left: u64,
 }
 
 impl<'a> Serial<'a> {
     /// The initial instances, one of each process in the order of the text, at time 0.
-    pub fn begin(alloc: Global, system: &'a System, limit: u64) -> Result<Self, RunError>
-        ensures members { IfOk result (λ run. vec_len run.members ≡ length system.now.processes.items) }
+    pub fn begin(
+        alloc: Global,
+        system: &'a System,
+        script: &'a [ScriptLine],
+        limit: u64,
+    ) -> Result<Self, RunError>
+        ensures serial { IfOk result IsSerial }
+        ensures state { IfOk result (λ run. state_of run ≡ beginning system.now script.now) }
         ensures left { IfOk result (λ run. run.left ≡ limit) }
     {
         let mut members = Vec::new(alloc);
         let mut living = Vec::new(alloc);
         // No memory holds more instances than 32 bits can number.
-        let count = u32::try_from(system.processes.len()).map_err(|_| RunError::Memory)?;
+        let Ok(count) = u32::try_from(system.processes.len()) else {
+            return Err(RunError::Memory);
+        };
         for number in 0..count {
-            let port = PlainPort::new(alloc);
-            let made = Instance::new(
-                alloc,
-                system,
-                ProcessId(number),
-                number + 1,
-                Pid::Null,
-                port,
-            );
-            let instance = made.map_err(|_| RunError::Memory)?;
-            members
-                .push(Member {
-                    instance,
-                    rests: false,
-                })
-                .map_err(|_| RunError::Memory)?;
+            let member = Member::begin(alloc, system, number)?;
+            members.push(member).map_err(|_| RunError::Memory)?;
             living.push(Some(number + 1)).map_err(|_| RunError::Memory)?;
         }
         Ok(Serial {
             system,
+            script,
             members,
             living,
             clock: 0,
+            begun: false,
             left: limit,
         })
     }
 
-    /// Puts what the environment sends in this line of the script into the port of its target.
-    pub fn hear(&mut self, line: &ScriptLine) -> Result<(), RunError>
-        ensures members { vec_len self.new.members ≡ vec_len self.old.members }
-        ensures left { self.new.left ≡ self.old.left }
-        ensures clock { self.new.clock ≡ self.old.clock }
+    /// Runs until all instances rest and the script is at its end, and says whether they do: else no transition is left.
+    pub fn run(&mut self, alloc: Global) -> Result<bool, RunError>
+        requires serial { IsSerial self.old }
+        requires due { IsNoneDue (state_of self.old) }
+        ensures kept { OnOk result (IsSerial self.new) }
+        ensures runs { OnOk result (Reaches self.old self.new) }
+        ensures whole { IfOk result (λ whole. IsTrue whole → All IsResting self.new.members.items × (self.new.script.now ≡ []) × (0 < self.new.left)) }
+        ensures cut { IfOk result (λ whole. IsTrue whole ⊎ (self.new.left ≡ 0)) }
     {
-        let Some(signal) = &line.signal else {
-            return Ok(());
-        };
-        let target = self
-            .system
-            .route(signal.name, Agent::Env, self.living.as_slice());
-        let values = signal.values.copied().map_err(|_| RunError::Memory)?;
-        let item = Item {
-            name: signal.name,
-            values,
-            sender: signal.sender,
-        };
-        self.put(target, item)
-    }
-
-    /// Sweeps until every instance rests, or no transition is left.
-    pub fn settle(&mut self, alloc: Global) -> Result<(), RunError>
-        ensures members { vec_len self.new.members ≡ vec_len self.old.members }
-        ensures left { self.new.left ≤ self.old.left }
-        ensures clock { self.new.clock ≡ self.old.clock }
-    {
-        while self.left > 0 && self.sweep(alloc)? {}
-        Ok(())
+        while self.settle(alloc)? {
+            let Some((line, later)) = self.script.split_first() else {
+                return Ok(true);
+            };
+            self.advance(line, later)?;
+        }
+        Ok(false)
     }
 
     /// The records by ascending number.
     pub fn close(self, alloc: Global, whole: bool) -> Result<Vec<Record>, RunError>
-        ensures { IfOk result (λ records. vec_len records ≡ vec_len self.entry.members) }
+        requires serial { IsSerial self }
+        requires rest { IsTrue whole → All IsResting self.members.items }
+        ensures { IfOk result (λ records. (ps : List Behaviour) → AreBehaviours self.entry.system.now ps
+            → AreClosed ps whole (instances_of self.entry.members.items) records.items) }
     {
         let mut records = Vec::new(alloc);
         for member in self.members {
@@ -110,83 +95,160 @@ impl<'a> Serial<'a> {
         Ok(records)
     }
 
-    /// Each instance that doesn't rest makes one step, by ascending number. Answers whether a transition
-    /// was made.
+    /// Sweeps until every instance rests, or no transition is left. Says whether every instance rests.
+    fn settle(&mut self, alloc: Global) -> Result<bool, RunError>
+        requires serial { IsSerial self.old }
+        requires due { IsNoneDue (state_of self.old) }
+        ensures kept { OnOk result (IsSerial self.new) }
+        ensures same { self.new ≡ record self.old { members = self.new.members; living = self.new.living; left = self.new.left } }
+        ensures runs { OnOk result (Reaches self.old self.new) }
+        ensures rest { IfOk result (λ rest. IsTrue rest → All IsResting self.new.members.items × (0 < self.new.left)) }
+        ensures cut { IfOk result (λ rest. IsTrue rest ⊎ (self.new.left ≡ 0)) }
+    {
+        while self.left > 0 {
+            if !self.sweep(alloc)? {
+                return Ok(true);
+            }
+        }
+        Ok(false)
+    }
+
+    /// Each instance that doesn't rest makes one step, by ascending number. Says whether a transition was made.
     fn sweep(&mut self, alloc: Global) -> Result<bool, RunError>
-        ensures moved { IfOk result (λ moved. IsTrue moved ↔ (self.new.left < self.old.left)) }
-        ensures members { vec_len self.new.members ≡ vec_len self.old.members }
-        ensures left { self.new.left ≤ self.old.left }
-        ensures clock { self.new.clock ≡ self.old.clock }
+        requires serial { IsSerial self.old }
+        requires due { IsNoneDue (state_of self.old) }
+        requires left { 0 < self.old.left }
+        ensures kept { OnOk result (IsSerial self.new) }
+        ensures same { self.new ≡ record self.old { members = self.new.members; living = self.new.living; left = self.new.left } }
+        ensures runs { OnOk result (Reaches self.old self.new) }
+        ensures moved { IfOk result (λ moved. IsTrue moved → self.new.left < self.old.left) }
+        ensures still { IfOk result (λ moved. IsTrue moved ⊎ (All IsResting self.new.members.items × (self.new.left ≡ self.old.left))) }
     {
         let before = self.left;
         for place in 0..self.members.len() {
             if self.left == 0 {
                 break;
             }
-            self.step(alloc, place)?;
+            self.visit(alloc, place)?;
         }
         Ok(self.left < before)
     }
 
     /// One step of the instance at a place, unless it rests.
-    fn step(&mut self, alloc: Global, place: usize) -> Result<(), RunError>
-        requires { 0 < self.old.left }
-        ensures members { vec_len self.new.members ≡ vec_len self.old.members }
+    fn visit(&mut self, alloc: Global, place: usize) -> Result<(), RunError>
+        requires serial { IsSerial self.old }
+        requires due { IsNoneDue (state_of self.old) }
+        requires left { 0 < self.old.left }
+        requires place { place < vec_len self.old.members }
+        ensures kept { OnOk result (IsSerial self.new) }
+        ensures same { self.new ≡ record self.old { members = self.new.members; living = self.new.living; left = self.new.left } }
+        ensures count { vec_len self.new.members ≡ vec_len self.old.members }
+        ensures runs { OnOk result (Reaches self.old self.new) }
         ensures left { self.new.left ≤ self.old.left }
-        ensures clock { self.new.clock ≡ self.old.clock }
+        ensures rests { OnOk result (self.new.left ≡ self.old.left → All IsResting (take place self.old.members.items)
+            → All IsResting (take (place + 1) self.new.members.items)) }
     {
-        let Some(member) = self.members.get_mut(place) else {
-            return Ok(());
-        };
-        if member.rests {
+        if self.members[place].rests {
             return Ok(());
         }
-        let recorded = member.instance.trace().events.len();
+        self.step(alloc, place)?;
+        Ok(())
+    }
+
+    /// One step of the instance at a place.
+    fn step(&mut self, alloc: Global, place: usize) -> Result<(), RunError>
+        requires serial { IsSerial self.old }
+        requires due { IsNoneDue (state_of self.old) }
+        requires left { 0 < self.old.left }
+        requires place { place < vec_len self.old.members }
+        ensures kept { OnOk result (IsSerial self.new) }
+        ensures same { self.new ≡ record self.old { members = self.new.members; living = self.new.living; left = self.new.left } }
+        ensures count { vec_len self.new.members ≡ vec_len self.old.members }
+        ensures runs { OnOk result (Reaches self.old self.new) }
+        ensures left { self.new.left ≤ self.old.left }
+        ensures rests { OnOk result (self.new.left ≡ self.old.left → All IsResting (take place self.old.members.items)
+            → All IsResting (take (place + 1) self.new.members.items)) }
+    {
         let mut around = Around {
             system: self.system,
             clock: self.clock,
             living: self.living.as_slice(),
             sent: Vec::new(alloc),
         };
-        let stepped = member.instance.step(alloc, &mut around);
+        let reaction = self.members[place].step(alloc, &mut around);
         let Around {
             system: _,
             clock: _,
             living: _,
             sent,
         } = around;
-        member.rests = stepped != Stepped::Moved;
-        let record = member.instance.trace();
-        let process = record.process;
-        if record
-            .events
-            .get(recorded)
-            .is_some_and(Event::begins_transition)
-        {
-            self.left -= 1;
-        }
-        if stepped == Stepped::Ended {
-            self.bury(process);
-        }
-        self.deliver(sent)
+        self.living[place] = reaction.living;
+        self.left -= u64::from(reaction.began);
+        self.deliver(sent)?;
+        Ok(())
     }
 
-    /// Takes the ended instance of a process out of the living. A process has one instance.
-    fn bury(&mut self, process: ProcessId)
-        ensures members { vec_len self.new.members ≡ vec_len self.old.members }
-        ensures left { self.new.left ≡ self.old.left }
-        ensures clock { self.new.clock ≡ self.old.clock }
+    /// Moves the clock to the time of the next line of the script, and hears it and all lines that are due then.
+    fn advance(&mut self, line: &ScriptLine, later: &'a [ScriptLine]) -> Result<(), RunError>
+        requires serial { IsSerial self.old }
+        requires due { IsNoneDue (state_of self.old) }
+        requires rest { All IsResting self.old.members.items }
+        requires next { self.old.script.now ≡ line.now ∷ later.now }
+        ensures kept { OnOk result (IsSerial self.new) }
+        ensures due { OnOk result (IsNoneDue (state_of self.new)) }
+        ensures runs { OnOk result (Reaches self.old self.new) }
+        ensures fewer { OnOk result (length self.new.script.now < length self.old.script.now) }
     {
-        if let Some(living) = self.living.get_mut(process.0 as usize) {
-            *living = None;
+        self.clock = line.at;
+        self.begun = true;
+        self.hear(line, later)?;
+        while let Some((line, later)) = self.script.split_first() {
+            if self.clock < line.at {
+                break;
+            }
+            self.hear(line, later)?;
         }
+        Ok(())
+    }
+
+    /// Takes the next line off the script, and puts what the environment sends in it into the port of its target.
+    fn hear(&mut self, line: &ScriptLine, later: &'a [ScriptLine]) -> Result<(), RunError>
+        requires serial { IsSerial self.old }
+        requires next { self.old.script.now ≡ line.now ∷ later.now }
+        requires due { IsTrue self.old.begun × (line.now.at ≤ self.old.clock) }
+        ensures kept { OnOk result (IsSerial self.new) }
+        ensures same { self.new ≡ record self.old { members = self.new.members; script = self.new.script } }
+        ensures script { self.new.script.now ≡ later.now }
+        ensures runs { OnOk result (Reaches self.old self.new) }
+    {
+        self.script = later;
+        let Some(signal) = &line.signal else {
+            return Ok(());
+        };
+        let target = self
+            .system
+            .route(signal.name, Agent::Env, self.living.as_slice());
+        let Ok(values) = signal.values.copied() else {
+            return Err(RunError::Memory);
+        };
+        let heard = Item {
+            name: signal.name,
+            values,
+            sender: signal.sender,
+        };
+        self.put(target, heard)?;
+        Ok(())
     }
 
     /// Puts what a step sent into the ports of its targets, in the order of sending.
+    #[tactic(auto, using(crate::proofs::Puts::delivered_all_more))]
     fn deliver(&mut self, sent: Vec<Sent>) -> Result<(), RunError>
-        ensures members { vec_len self.new.members ≡ vec_len self.old.members }
-        ensures left { self.new.left ≡ self.old.left }
-        ensures clock { self.new.clock ≡ self.old.clock }
+        requires { IsSerial self.old }
+        ensures kept { OnOk result (IsSerial self.new) }
+        ensures same { self.new ≡ record self.old { members = self.new.members } }
+        ensures count { vec_len self.new.members ≡ vec_len self.old.members }
+        ensures instances { OnOk result (instances_of self.new.members.items ≡ delivered_all (instances_of self.old.members.items) sent.items) }
+        ensures nothing { sent.items ≡ [] → self.new.members ≡ self.old.members }
     {
         for Sent { target, item } in sent {
             self.put(target, item)?;
@@ -197,9 +259,11 @@ impl<'a> Serial<'a> {
     /// Puts a signal into the port of its target, which then doesn't rest any more. What goes to the
     /// environment, to null or to nobody is gone.
     fn put(&mut self, target: Target, item: Item) -> Result<(), RunError>
-        ensures members { vec_len self.new.members ≡ vec_len self.old.members }
-        ensures left { self.new.left ≡ self.old.left }
-        ensures clock { self.new.clock ≡ self.old.clock }
+        requires { IsSerial self.old }
+        ensures kept { OnOk result (IsSerial self.new) }
+        ensures same { self.new ≡ record self.old { members = self.new.members } }
+        ensures count { vec_len self.new.members ≡ vec_len self.old.members }
+        ensures instances { OnOk result (instances_of self.new.members.items ≡ put_to (instances_of self.old.members.items) target item) }
     {
         let Target::Instance(number) = target else {
             return Ok(());
@@ -207,11 +271,10 @@ impl<'a> Serial<'a> {
         let Some(place) = number.checked_sub(1) else {
             return Ok(());
         };
-        let Some(member) = self.members.get_mut(place as usize) else {
-            return Ok(());
-        };
-        member.instance.put(item).map_err(|_| RunError::Memory)?;
-        member.rests = false;
+        let place = place as usize;
+        if place < self.members.len() {
+            self.members[place].put(item)?;
+        }
         Ok(())
     }
 }

@@ -1,4 +1,6 @@
-use Rattle.std.specs.Prelude.{◌≡◌, ◌≢◌, ◌⊎◌, ℕ, List, [], ◌∷◌, ◌++◌, All, codes}
+use Rattle.std.specs.Prelude.{◌≡◌, ◌≢◌, ◌⊎◌, ◌<◌, ℕ, List, [], ◌∷◌, ◌++◌, All, Option, IfSome, length, codes}
+use Rattle.sdlrun.specs.declared.input.Input.{Input}
+use Rattle.sdlrun.specs.declared.input.Input.TheVariants.{Bytes, TooLong}
 
 -- bytes without a line end, and the LF that ends them
 abbrev pub IsLine : List ℕ → Type 0
@@ -20,3 +22,8 @@ IsParted input specification script =
     (IsPlain specification × ((line : List ℕ) × IsScriptLine line × (input ≡ specification ++ (line ++ script))))
     ⊎ (IsPlain specification × (input ≡ specification ++ codes "%script") × (script ≡ []))
     ⊎ ((text last : List ℕ) × IsPlain text × (input ≡ text ++ last) × All (λ b. b ≢ 10) last × (last ≢ codes "%script") × (specification ≡ input) × (script ≡ []))
+
+-- all that a reader had is held, or it had more than 2,097,152 bytes
+abbrev pub IsRead : Option (List ℕ) → Input → Type 0
+IsRead remaining (Bytes bytes) = IfSome remaining (λ all. bytes.items ≡ all)
+IsRead remaining TooLong = IfSome remaining (λ all. 2097152 < length all)

@@ -1,7 +1,7 @@
 //! What comes in: the whole input, and its two parts.
 
-ghost use Rattle.std.specs.Prelude.{◌≡◌, ◌≢◌, ◌++◌, ◌↔◌, All, IsTrue, MatchOption, codes};
-ghost use Rattle.sdlrun.specs.Input.{IsLine, IsParted, IsScriptLine};
+ghost use Rattle.std.specs.Prelude.{◌≡◌, ◌≢◌, ◌<◌, ◌++◌, ◌↔◌, ◌⊎◌, All, IsTrue, IfOk, IfErr, MatchOption, codes, vec_len};
+ghost use Rattle.sdlrun.specs.Input.{IsLine, IsParted, IsRead, IsScriptLine};
 
 use crate::options::TextFault;
 use std::alloc::Global;
@@ -25,9 +25,12 @@ pub enum Input {
 }
 
 /// Reads all that the reader has, in at most 4,194,304 reads.
-pub fn read_input<R: Read>(alloc: Global, reader: &mut R) -> Result<Input, TextFault> {
+pub fn read_input<R: Read>(alloc: Global, reader: &mut R) -> Result<Input, TextFault>
+    ensures ok { IfOk result (IsRead (R.remaining reader.old)) }
+    ensures err { IfErr result (λ fault. (fault ≡ TextFault.Read) ⊎ (fault ≡ TextFault.Memory)) }
+{
     let mut input = Vec::new(alloc);
-    let mut piece = vec![in alloc; 0u8; PIECE].map_err(|_| TextFault::Memory)?;
+    let mut piece = new_piece(alloc)?;
     for _turn in 0..MOST_READS {
         let count = match reader.read(piece.as_mut_slice()) {
             Ok(count) => count,
@@ -45,6 +48,14 @@ pub fn read_input<R: Read>(alloc: Global, reader: &mut R) -> Result<Input, TextF
         }
     }
     Err(TextFault::Read)
+}
+
+/// Room for the bytes of one read.
+fn new_piece(alloc: Global) -> Result<Vec<u8>, TextFault>
+    ensures ok { IfOk result (λ piece. 0 < vec_len piece) }
+    ensures err { IfErr result (λ fault. fault ≡ TextFault.Memory) }
+{
+    vec![in alloc; 0u8; PIECE].map_err(|_| TextFault::Memory)
 }
 
 /// The specification and the script: what stands before the first line that is exactly `%script`, and what

@@ -9,6 +9,7 @@ mod command_line;
 mod input;
 mod options;
 mod refusal;
+mod refusal_text;
 #[cfg(test)]
 mod tests;
 mod text;

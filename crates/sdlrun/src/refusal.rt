@@ -9,18 +9,23 @@ use thiserror::Error;
 #[derive(Debug, Drop, Error)]
 pub enum Refusal {
     #[error(transparent)]
-    Parse(#[from] ParseError),
+    Parse(ParseError),
     #[error(transparent)]
-    Build(#[from] BuildError),
+    Build(BuildError),
     #[error(transparent)]
-    Script(#[from] ScriptError),
+    Script(ScriptError),
     #[error(transparent)]
-    Run(#[from] RunError),
+    Run(RunError),
 }
 
 impl Refusal {
+    ghost use Rattle.sdlrun.specs.Answer.{outcome_of};
+    ghost use Rattle.std.specs.Prelude.{◌≡◌};
+
     /// Whether the text is refused or its run.
-    pub fn outcome(&self) -> Outcome {
+    pub fn outcome(&self) -> Outcome
+        ensures { result ≡ outcome_of self.now }
+    {
         match self {
             Refusal::Run(_) => Outcome::RunRefused,
             _ => Outcome::TextRefused,

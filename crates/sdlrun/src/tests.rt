@@ -7,7 +7,10 @@ use std::test::Fail;
 
 mod examples;
 mod refusals;
+mod reports;
 mod rows;
+mod scripts;
+mod system;
 
 /// What a text gives: the outcome and all that was written.
 #[derive(Drop)]

@@ -1,81 +1,123 @@
+ghost use Rattle.std.specs.Prelude.{Some};
+
 use super::*;
-use port_model::{Got, SignalId, Values};
+use Act::{Put, Step};
+use port_model::{SignalId, Values};
 use sdl_parse::parse;
-use sdl_system::{Target, build};
+use sdl_report::{Report, write_report};
+use sdl_system::{Agent, Target, build};
 use std::process::Abort;
 use std::test::Fail;
 
-/// A clock that is set by hand, and all that was sent.
+/// A signal that was sent, and whom it reaches.
 #[derive(Drop)]
-struct Outside {
-    time: u64,
-    room: usize,
-    sent: Vec<Item>,
+struct Sent {
+    target: Target,
+    item: Item,
 }
 
-impl Outside {
-    fn new(alloc: Global) -> Self {
+impl Model for Sent {
+    ghost use Rattle.sdl_interp.specs.World.{Sent as Sending};
+
+    ghost Value = { Sending };
+
+    ghost view = { λ sent. record { target = sent.target; item = sent.item } };
+}
+
+/// A clock that is set by hand, and what was sent, for which there is room so many times.
+#[derive(Drop)]
+struct Outside<'s> {
+    system: &'s System,
+    clock: u64,
+    living: &'s [Option<u32>],
+    room: usize,
+    sent: Vec<Sent>,
+}
+
+impl<'s> Outside<'s> {
+    fn new(alloc: Global, system: &'s System, room: usize) -> Self {
         Outside {
-            time: 0,
-            room: 10,
+            system,
+            clock: 0,
+            living: &[Some(5)],
+            room,
             sent: Vec::new(alloc),
         }
     }
 }
 
-impl World for Outside {
+impl World for Outside<'_> {
+    ghost value = { λ w. record { system = w.system.now; clock = Some w.clock; living = Some w.living.now; sent = w.sent.items } };
+
     fn now(&mut self) -> u64 {
-        self.time
+        self.clock
     }
 
-    fn route(&mut self, signal: SignalId, _from: ProcessId) -> Target {
-        match signal.0 {
-            3 => Target::Env,
-            number => Target::Instance(number),
-        }
+    fn route(&mut self, signal: SignalId, from: ProcessId) -> Target {
+        self.system.route(signal, Agent::Process(from), self.living)
     }
 
-    fn send(&mut self, _target: Target, item: Item) -> Result<(), AllocError> {
+    fn send(&mut self, target: Target, item: Item) -> Result<(), AllocError> {
         if self.sent.len() >= self.room {
             return Err(AllocError);
         }
-        self.sent.push(item)?;
+        self.sent.push(Sent { target, item })?;
         Ok(())
     }
 }
 
-// The system of a specification with one process, whose signals are inc, get, quit and val in this order, and whose variables
-// are n, which begins at 0, and m.
+/// What happens to an instance: a signal is put into its port, or it makes a step at a time of the clock.
+#[derive(Clone, Copy)]
+enum Act<'a> {
+    Put(u32, &'a [i64]),
+    Step(u64),
+}
+
+/// A process, by its start transition and its states, and what happens to an instance of it. At the end one step more is
+/// made where the run is whole.
+#[derive(Clone, Copy)]
+struct Case<'a> {
+    start: &'a str,
+    states: &'a str,
+    room: usize,
+    acts: &'a [Act<'a>],
+    whole: bool,
+}
+
+// A process that counts in n and keeps in m what it was told last.
+const COUNTER: Case<'static> = Case {
+    start: "",
+    states: "input inc(m); task n := n + 1; nextstate -; input get; output val(n), val(m); nextstate -; input quit; stop;",
+    room: 10,
+    acts: &[],
+    whole: false,
+};
+
+// The system of a process whose variables are n, which begins at 0, and m. The signals are inc, get, quit and val, in this
+// order.
 fn system(alloc: Global, start: &str, states: &str) -> Result<System, Fail> {
-    let mut text = String::from_str(
-        alloc,
-        "system S; signal inc(Integer), get, quit, val(Integer); process P; dcl n Integer := 0; dcl m Integer; start; ",
+    let text = format!(in alloc;
+        "system S; signal inc(Integer), get, quit, val(Integer); process P; dcl n Integer := 0; dcl m Integer; start; {start} nextstate idle; state idle; {states} endstate idle; endprocess P; endsystem S;"
     )?;
-    text.push_str(start)?;
-    text.push_str(" nextstate idle; state idle; ")?;
-    text.push_str(states)?;
-    text.push_str(" endstate idle; endprocess P; endsystem S;")?;
     let tree = parse(alloc, text.as_bytes())?;
     Ok(build(alloc, &tree)?)
 }
 
-fn instance<'a>(
+fn instance<'s>(
     rt: &impl Abort,
     alloc: Global,
-    system: &'a System,
-) -> Result<Instance<'a>, AllocError> {
-    assert_eq!(rt; system.processes.len(), 1);
-    match Instance::new(
+    system: &'s System,
+) -> Result<Instance<'s>, AllocError> {
+    assert!(rt; !system.processes.is_empty());
+    Instance::new(
         alloc,
         system,
         ProcessId(0),
         5,
         Pid::Null,
         PlainPort::new(alloc),
-    ) {
-        Ok(instance) => Ok(instance),
-        Err((error, _)) => Err(error),
-    }
+    )
+    .map_err(|refused| refused.0)
 }
 
 fn put(
@@ -93,149 +135,166 @@ fn put(
         values: Values::new(values),
         sender: Pid::Env,
     };
-    match instance.put(item) {
-        Ok(()) => Ok(()),
-        Err((error, _)) => Err(error),
+    instance.put(item).map_err(|refused| refused.0)
+}
+
+// What each step came to.
+fn perform(
+    alloc: Global,
+    instance: &mut Instance<'_>,
+    outside: &mut Outside<'_>,
+    acts: &[Act<'_>],
+) -> Result<String, AllocError> {
+    let mut steps = String::new(alloc);
+    for act in acts {
+        match act {
+            Put(name, numbers) => put(alloc, instance, *name, numbers)?,
+            Step(clock) => {
+                outside.clock = *clock;
+                let stepped = instance.step(alloc, outside);
+                write!(steps, "{stepped:?} ")?;
+            }
+        }
+    }
+    Ok(steps)
+}
+
+fn finish(
+    alloc: Global,
+    mut instance: Instance<'_>,
+    outside: &mut Outside<'_>,
+    whole: bool,
+) -> Record {
+    if !whole {
+        return instance.close(false).0;
+    }
+    match instance.step(alloc, outside) {
+        Stepped::Idle => instance.close(true).0,
+        _ => instance.close(false).0,
     }
 }
 
-fn told_got(alloc: Global, at: u64, word: &str, got: &Got) -> Result<String, AllocError> {
-    let name = got.name().0;
-    match got {
-        Got::Signal(item) => {
-            let sender = item.sender;
-            format!(in alloc; "{at} {word} {name} from {sender}")
-        }
-        Got::Timer(_) => format!(in alloc; "{at} {word} timer {name}"),
-    }
+// The text of a record, its lines joined by `|`.
+fn lines(alloc: Global, system: &System, trace: Record) -> Result<String, Fail> {
+    let mut records = Vec::new(alloc);
+    records.push(trace)?;
+    let report = Report {
+        records,
+        end: 0,
+        whole: true,
+    };
+    let mut text = Vec::new(alloc);
+    write_report(alloc, &report, system, &mut text)?;
+    let text = String::from_utf8_lossy(alloc, text.as_slice())?;
+    Ok(text.as_str().replace(alloc, "\n", "|")?)
 }
 
-fn told(alloc: Global, event: &Event) -> Result<String, AllocError> {
-    match event {
-        Event::Start { at } => format!(in alloc; "{at} start"),
-        Event::Consumed { at, got } => told_got(alloc, *at, "input", got),
-        Event::Discarded { at, got } => told_got(alloc, *at, "discard", got),
-        Event::FailedAt { at, why } => format!(in alloc; "{at} failed {why}"),
-        Event::Task { variable, value } => {
-            let variable = variable.0;
-            format!(in alloc; "task {variable} {value}")
-        }
-        Event::Output {
-            signal,
-            values,
-            target,
-        } => {
-            let signal = signal.0;
-            let values = values.as_slice();
-            format!(in alloc; "output {signal} {values:?} {target:?}")
-        }
-        Event::NextState { state } => {
-            let state = state.0;
-            format!(in alloc; "nextstate {state}")
-        }
-        Event::Stop => format!(in alloc; "stop"),
-        Event::Failed { why } => format!(in alloc; "failed {why}"),
-        Event::Rest { state } => {
-            let state = state.0;
-            format!(in alloc; "rest {state}")
-        }
-        Event::Cut { state } => format!(in alloc; "cut {state:?}"),
-    }
-}
-
-fn all_told(alloc: Global, record: &Record) -> Result<String, AllocError> {
+fn signals(alloc: Global, sent: &[Sent]) -> Result<String, AllocError> {
     let mut text = String::new(alloc);
-    for event in &record.events {
-        let line = told(alloc, event)?;
-        text.push_str(line.as_str())?;
-        text.push_str("|")?;
+    for Sent { target, item } in sent {
+        let name = item.name.0;
+        let values = &item.values;
+        let sender = item.sender;
+        write!(text, "{name}{values} from {sender} to {target:?};")?;
     }
     Ok(text)
 }
 
-fn counter(alloc: Global) -> Result<System, Fail> {
-    system(
-        alloc,
-        "",
-        "input inc(m); task n := n + 1; nextstate -; input get; output val(n); nextstate -; input quit; stop;",
-    )
+// What the steps came to, the record, and the signals that were sent.
+fn told(rt: &impl Abort, alloc: Global, system: &System, case: Case<'_>) -> Result<String, Fail> {
+    let mut outside = Outside::new(alloc, system, case.room);
+    let mut instance = instance(rt, alloc, system)?;
+    let steps = perform(alloc, &mut instance, &mut outside, case.acts)?;
+    let record = finish(alloc, instance, &mut outside, case.whole);
+    let lines = lines(alloc, system, record)?;
+    let sent = signals(alloc, outside.sent.as_slice())?;
+    Ok(format!(in alloc; "{steps}|{lines}{sent}")?)
+}
+
+fn expect(rt: &impl Abort, alloc: Global, case: Case<'_>, wanted: &str) -> Result<(), Fail> {
+    let system = system(alloc, case.start, case.states)?;
+    let told = told(rt, alloc, &system, case)?;
+    assert_eq!(rt; told.as_str(), wanted);
+    Ok(())
 }
 
 #[test]
 fn counts_answers_and_stops(rt: HostRuntime) -> Result<(), Fail> {
-    let alloc = rt.alloc();
-    let system = counter(alloc)?;
-    let mut outside = Outside::new(alloc);
-    let mut instance = instance(&rt, alloc, &system)?;
-    assert_eq!(rt; instance.step(alloc, &mut outside), Stepped::Moved);
-    assert_eq!(rt; instance.step(alloc, &mut outside), Stepped::Idle);
-    put(alloc, &mut instance, 0, &[8, 9, 10])?;
-    put(alloc, &mut instance, 1, &[])?;
-    outside.time = 3;
-    assert_eq!(rt; instance.step(alloc, &mut outside), Stepped::Moved);
-    outside.time = 2;
-    assert_eq!(rt; instance.step(alloc, &mut outside), Stepped::Moved);
-    put(alloc, &mut instance, 2, &[])?;
-    outside.time = 7;
-    assert_eq!(rt; instance.step(alloc, &mut outside), Stepped::Ended);
-    put(alloc, &mut instance, 0, &[])?;
-    assert_eq!(rt; instance.step(alloc, &mut outside), Stepped::Ended);
-    assert_eq!(rt;
-        instance.machine.variables.as_slice(),
-        [Some(Value::Int(1)), Some(Value::Int(8))].as_slice()
-    );
-    let (record, _port) = instance.close(true);
-    assert_eq!(rt;
-        all_told(alloc, &record)?.as_str(),
-        "0 start|nextstate 0|3 input 0 from env|task 0 1|nextstate 0|3 input 1 from env|output 3 [Int(1)] Env|nextstate 0|7 input 2 from env|stop|"
-    );
-    assert_eq!(rt; record.pid, 5);
-    assert_eq!(rt; outside.sent.len(), 1);
-    for item in &outside.sent {
-        assert_eq!(rt; item.name, SignalId(3));
-        assert_eq!(rt; item.values.as_slice(), [Value::Int(1)].as_slice());
-        assert_eq!(rt; item.sender, Pid::Of(5));
+    let case = Case {
+        acts: &[
+            Step(0),
+            Step(0),
+            Put(0, &[8, 9, 10]),
+            Put(1, &[]),
+            Step(3),
+            Step(2),
+            Put(2, &[]),
+            Step(7),
+            Put(0, &[]),
+            Step(7),
+        ],
+        ..COUNTER
+    };
+    expect(
+        &rt,
+        rt.alloc(),
+        case,
+        "Moved Idle Moved Moved Ended Ended |instance #5 P parent null|0 start|  nextstate idle|3 input inc(8,9,10) from env|  task n := 1|  nextstate idle|3 input get from env|  output val(1) to env|  output val(8) to env|  nextstate idle|7 input quit from env|  stop|end 0 whole|3(1) from #5 to Env;3(8) from #5 to Env;",
+    )
+}
+
+#[test]
+fn discards_and_closes(rt: HostRuntime) -> Result<(), Fail> {
+    let begun = Case {
+        acts: &[Step(0)],
+        ..COUNTER
+    };
+    let discarded = Case {
+        acts: &[Step(0), Put(3, &[1]), Step(2)],
+        ..COUNTER
+    };
+    let cases = [
+        (
+            discarded,
+            true,
+            "Moved Moved |instance #5 P parent null|0 start|  nextstate idle|2 discard val(1) from env|rest idle|end 0 whole|",
+        ),
+        (
+            begun,
+            true,
+            "Moved |instance #5 P parent null|0 start|  nextstate idle|rest idle|end 0 whole|",
+        ),
+        (
+            begun,
+            false,
+            "Moved |instance #5 P parent null|0 start|  nextstate idle|cut idle|end 0 whole|",
+        ),
+        (
+            COUNTER,
+            false,
+            "|instance #5 P parent null|cut start|end 0 whole|",
+        ),
+    ];
+    for (case, whole, wanted) in cases {
+        expect(&rt, rt.alloc(), Case { whole, ..case }, wanted)?;
     }
     Ok(())
 }
 
 #[test]
-fn discards_and_knows_the_sender(rt: HostRuntime) -> Result<(), Fail> {
+fn knows_the_sender(rt: HostRuntime) -> Result<(), Fail> {
     let alloc = rt.alloc();
-    let system = counter(alloc)?;
-    let mut outside = Outside::new(alloc);
+    let system = system(alloc, COUNTER.start, COUNTER.states)?;
+    let mut outside = Outside::new(alloc, &system, COUNTER.room);
     let mut instance = instance(&rt, alloc, &system)?;
-    instance.step(alloc, &mut outside);
     assert_eq!(rt; instance.machine.sender, Pid::Null);
-    put(alloc, &mut instance, 3, &[1])?;
-    assert_eq!(rt; instance.step(alloc, &mut outside), Stepped::Moved);
+    perform(
+        alloc,
+        &mut instance,
+        &mut outside,
+        &[Step(0), Put(3, &[1]), Step(0)],
+    )?;
     assert_eq!(rt; instance.machine.sender, Pid::Env);
-    assert_eq!(rt;
-        all_told(alloc, instance.trace())?.as_str(),
-        "0 start|nextstate 0|0 discard 3 from env|"
-    );
-    let (record, _port) = instance.close(true);
-    assert_eq!(rt;
-        all_told(alloc, &record)?.as_str(),
-        "0 start|nextstate 0|0 discard 3 from env|rest 0|"
-    );
-    Ok(())
-}
-
-#[test]
-fn closes_by_a_cut(rt: HostRuntime) -> Result<(), Fail> {
-    let alloc = rt.alloc();
-    let system = counter(alloc)?;
-    let mut outside = Outside::new(alloc);
-    let (record, _port) = instance(&rt, alloc, &system)?.close(true);
-    assert_eq!(rt; all_told(alloc, &record)?.as_str(), "cut None|");
-    let mut moved = instance(&rt, alloc, &system)?;
-    moved.step(alloc, &mut outside);
-    let (record, _port) = moved.close(false);
-    assert_eq!(rt;
-        all_told(alloc, &record)?.as_str(),
-        "0 start|nextstate 0|cut Some(StateId(0))|"
-    );
     Ok(())
 }
 
@@ -243,19 +302,39 @@ fn closes_by_a_cut(rt: HostRuntime) -> Result<(), Fail> {
 fn evaluates(rt: HostRuntime) -> Result<(), Fail> {
     let alloc = rt.alloc();
     let cases = [
-        ("5 - 3 - 1", "0 start|task 0 1|nextstate 0|"),
-        ("5 - (3 - 1)", "0 start|task 0 3|nextstate 0|"),
-        ("-4 + n", "0 start|task 0 -4|nextstate 0|"),
-        ("9223372036854775807 + 1 - 1", "0 start|failed Overflow|"),
-        ("-(-9223372036854775807 - 1)", "0 start|failed Overflow|"),
-        ("m + 1", "0 start|failed Undefined|"),
+        (
+            "5 - 3 - 1",
+            "Moved |instance #5 P parent null|0 start|  task n := 1|  nextstate idle|cut idle|end 0 whole|",
+        ),
+        (
+            "5 - (3 - 1)",
+            "Moved |instance #5 P parent null|0 start|  task n := 3|  nextstate idle|cut idle|end 0 whole|",
+        ),
+        (
+            "-4 + n",
+            "Moved |instance #5 P parent null|0 start|  task n := -4|  nextstate idle|cut idle|end 0 whole|",
+        ),
+        (
+            "9223372036854775807 + 1 - 1",
+            "Ended |instance #5 P parent null|0 start|  failed Overflow|end 0 whole|",
+        ),
+        (
+            "-(-9223372036854775807 - 1)",
+            "Ended |instance #5 P parent null|0 start|  failed Overflow|end 0 whole|",
+        ),
+        (
+            "m + 1",
+            "Ended |instance #5 P parent null|0 start|  failed Undefined|end 0 whole|",
+        ),
     ];
     for (value, wanted) in cases {
-        let task = format!(in alloc; "task n := {value};")?;
-        let system = system(alloc, task.as_str(), "input quit; stop;")?;
-        let mut instance = instance(&rt, alloc, &system)?;
-        instance.step(alloc, &mut Outside::new(alloc));
-        assert_eq!(rt; all_told(alloc, instance.trace())?.as_str(), wanted);
+        let start = format!(in alloc; "task n := {value};")?;
+        let case = Case {
+            start: start.as_str(),
+            acts: &[Step(0)],
+            ..COUNTER
+        };
+        expect(&rt, alloc, case, wanted)?;
     }
     Ok(())
 }
@@ -263,40 +342,53 @@ fn evaluates(rt: HostRuntime) -> Result<(), Fail> {
 #[test]
 fn fails_at_the_statement_past_the_limit(rt: HostRuntime) -> Result<(), Fail> {
     let alloc = rt.alloc();
-    for (count, stepped) in [(10_000u32, Stepped::Moved), (10_001, Stepped::Ended)] {
-        let mut tasks = String::new(alloc);
-        for _ in 0..count {
-            tasks.push_str("task n := n + 1; ")?;
-        }
-        let system = system(alloc, tasks.as_str(), "input quit; stop;")?;
-        let mut instance = instance(&rt, alloc, &system)?;
-        assert_eq!(rt; instance.step(alloc, &mut Outside::new(alloc)), stepped);
-        assert_eq!(rt; instance.trace().events.len(), 10_002);
-        assert_eq!(rt;
-            instance.machine.variables.first(),
-            Some(&Some(Value::Int(10_000)))
-        );
+    for (count, wanted) in [
+        (
+            10_000usize,
+            "Moved 10002 Some(Some(Int(10000))) Some(NextState { state: StateId(0) })",
+        ),
+        (
+            10_001,
+            "Ended 10002 Some(Some(Int(10000))) Some(Failed { why: TooLong })",
+        ),
+    ] {
+        let tasks = "task n := n + 1; ".repeat(alloc, count)?;
+        let system = system(alloc, tasks.as_str(), COUNTER.states)?;
+        assert_eq!(rt; started(&rt, alloc, &system)?.as_str(), wanted);
     }
     Ok(())
 }
 
+// What the first step came to, and how far it came: the number of events, the first variable and the latest event.
+fn started(rt: &impl Abort, alloc: Global, system: &System) -> Result<String, Fail> {
+    let mut outside = Outside::new(alloc, system, 0);
+    let mut instance = instance(rt, alloc, system)?;
+    let steps = perform(alloc, &mut instance, &mut outside, &[Step(0)])?;
+    let count = instance.trace().events.len();
+    let variable = instance.machine.variables.first();
+    let latest = instance.trace().events.last();
+    Ok(format!(in alloc; "{steps}{count} {variable:?} {latest:?}")?)
+}
+
 #[test]
 fn sends_in_order(rt: HostRuntime) -> Result<(), Fail> {
-    let alloc = rt.alloc();
     for (room, wanted) in [
         (
             2usize,
-            "0 start|output 0 [Int(1)] Instance(0)|output 3 [Int(2)] Env|nextstate 0|",
+            "Moved |instance #5 P parent null|0 start|  output inc(1) to env|  output val(2) to env|  nextstate idle|cut idle|end 0 whole|0(1) from #5 to Env;3(2) from #5 to Env;",
         ),
-        (1, "0 start|output 0 [Int(1)] Instance(0)|failed Memory|"),
+        (
+            1,
+            "Ended |instance #5 P parent null|0 start|  output inc(1) to env|  failed Memory|end 0 whole|0(1) from #5 to Env;",
+        ),
     ] {
-        let system = system(alloc, "output inc(1), val(2);", "input quit; stop;")?;
-        let mut outside = Outside::new(alloc);
-        outside.room = room;
-        let mut instance = instance(&rt, alloc, &system)?;
-        instance.step(alloc, &mut outside);
-        assert_eq!(rt; all_told(alloc, instance.trace())?.as_str(), wanted);
-        assert_eq!(rt; outside.sent.len(), room);
+        let case = Case {
+            start: "output inc(1), val(2);",
+            acts: &[Step(0)],
+            room,
+            ..COUNTER
+        };
+        expect(&rt, rt.alloc(), case, wanted)?;
     }
     Ok(())
 }

@@ -1,9 +1,11 @@
 //! A process with its names resolved.
-ghost use Rattle.std.specs.Prelude.{IfOk};
-ghost use Rattle.sdl_system.specs.Selection.{SelectsItsInputs};
+ghost use Rattle.std.specs.Prelude.{◌≢◌, IfOk};
+ghost use Rattle.sdl_system.specs.Names.{name_count};
+ghost use Rattle.sdl_system.specs.Soundness.{EndsBelow};
+ghost use Rattle.sdl_system.specs.System.{SelectsItsInputs};
 
 use crate::fault::{Faults, Kind, Token};
-use crate::process::Process;
+use crate::process::{End, Process, Transition};
 use crate::resolve::scope::Scope;
 use crate::resolve::signals::Signals;
 use crate::resolve::states::{Behaviour, state_names};
@@ -30,9 +32,7 @@ pub fn resolve_process<'t>(
         variables: &variables,
         states: &states,
     };
-    check_start(&definition.start, faults);
-    let start = &definition.start;
-    let start = resolve_transition(alloc, scope, start.word, &start.transition, faults)?;
+    let start = resolve_start(alloc, scope, &definition.start, faults)?;
     let behaviour = Behaviour::of_parts(alloc, scope, &definition.states, faults)?;
     Ok(Process {
         name: definition.name.text.clone()?,
@@ -43,9 +43,27 @@ pub fn resolve_process<'t>(
     })
 }
 
-/// A start begins in no state, so that it can't stay in it.
-fn check_start<'t>(start: &'t Start, faults: &mut Faults<'t>) {
+/// The start transition. It begins in no state, so that it can't stay in it: that is noted, and a stop
+/// stands for it.
+fn resolve_start<'t>(
+    alloc: Global,
+    scope: Scope<'_, 't>,
+    start: &'t Start,
+    faults: &mut Faults<'t>,
+) -> Result<Transition, AllocError>
+    ensures begins { IfOk result (λ transition. transition.end ≢ End.Same) }
+    ensures leads { IfOk result (EndsBelow (name_count scope.entry.states.now)) }
+{
+    let resolved = resolve_transition(alloc, scope, start.word, &start.transition, faults)?;
     if let Some(Terminator::NextState(NextState::Same(dash))) = &start.transition.terminator {
         faults.note(Kind::NoState, Token::of_word(*dash));
     }
+    let end = match resolved.end {
+        End::Same => End::Stop,
+        end => end,
+    };
+    Ok(Transition {
+        statements: resolved.statements,
+        end,
+    })
 }

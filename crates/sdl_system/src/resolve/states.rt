@@ -1,8 +1,9 @@
 //! The states of a process: what each signal does in them.
-ghost use Rattle.std.specs.Prelude.{◌≡◌, ◌+◌, ◌<◌, vec_len, All, IfOk, OnOk};
+ghost use Rattle.std.specs.Prelude.{◌≡◌, ◌+◌, ◌<◌, ℕ, vec_len, map, All, IfOk, OnOk};
 ghost use Rattle.sdl_system.specs.Names.{name_count};
 ghost use Rattle.sdl_system.specs.Selection.{selection_of, SelectsInputs};
-ghost use Rattle.sdl_system.specs.States.{IsStateBelow};
+ghost use Rattle.sdl_system.specs.Soundness.{EndsBelow};
+ghost use Rattle.sdl_system.specs.States.{InputsBelow, IsIdle, IsStateBelow, StatesBelow, inputs_of};
 
 use crate::fault::{Faults, Kind, Token};
 use crate::id::{StateId, TransitionId, VariableId};
@@ -30,6 +31,8 @@ pub fn state_names<'t>(alloc: Global, parts: &'t [StatePart]) -> Result<Names<'t
 pub struct Behaviour {
     pub states: Vec<State>,
     pub transitions: Vec<Transition>,
+    pub ghost ends: { All (EndsBelow (vec_len states)) transitions.items },
+    pub ghost inputs: { StatesBelow (vec_len transitions) states.items },
 }
 
 impl Behaviour {
@@ -51,8 +54,10 @@ impl Behaviour {
         for part in parts {
             behaviour.add_part(alloc, scope, part, faults)?;
         }
-        select_inputs(alloc, &mut behaviour.states)?;
-        Ok(behaviour)
+        Ok(Behaviour {
+            states: with_selections(alloc, behaviour.states)?,
+            transitions: behaviour.transitions,
+        })
     }
 
     fn add_part<'t>(
@@ -82,7 +87,8 @@ impl Behaviour {
         part: &'t InputPart,
         faults: &mut Faults<'t>,
     ) -> Result<(), AllocError>
-        requires { All (IsStateBelow (vec_len self.old.states)) states.now }
+        requires below { All (IsStateBelow (vec_len self.old.states)) states.now }
+        requires states { vec_len self.old.states ≡ name_count scope.states.now }
         ensures { vec_len self.new.states ≡ vec_len self.old.states }
     {
         let Ok(number) = u32::try_from(self.transitions.len()) else {
@@ -107,8 +113,10 @@ impl Behaviour {
         transition: TransitionId,
         faults: &mut Faults<'t>,
     ) -> Result<(), AllocError>
-        requires { All (IsStateBelow (vec_len self.old.states)) states.now }
-        ensures { vec_len self.new.states ≡ vec_len self.old.states }
+        requires below { All (IsStateBelow (vec_len self.old.states)) states.now }
+        requires begun { transition.0 < vec_len self.old.transitions }
+        ensures states { vec_len self.new.states ≡ vec_len self.old.states }
+        ensures transitions { self.new.transitions ≡ self.old.transitions }
     {
         let name = &input.signal;
         let Some(signal) = scope.signal(name, faults) else {
@@ -118,13 +126,13 @@ impl Behaviour {
             faults.note(Kind::Sort, Token::of_name(name));
         }
         let variables = resolve_variables(alloc, scope, &input.variables, faults)?;
-        let input = Input {
-            variables,
-            transition,
-        };
         for state in states {
+            let input = Input {
+                variables: Vec::from_slice(alloc, variables.as_slice())?,
+                transition,
+            };
             let state = &mut self.states[state.0 as usize];
-            if !admit(&mut state.inputs, signal, input.clone()?)? {
+            if !admit(&mut state.inputs, signal, input)? {
                 faults.note(Kind::TwiceInState, Token::of_name(name));
             }
         }
@@ -134,7 +142,8 @@ impl Behaviour {
 
 /// States of these names that input nothing.
 fn idle_states(alloc: Global, names: &Names<'_>) -> Result<Vec<State>, AllocError>
-    ensures { IfOk result (λ states. vec_len states ≡ name_count names.now) }
+    ensures len { IfOk result (λ states. vec_len states ≡ name_count names.now) }
+    ensures idle { IfOk result (λ states. All IsIdle states.items) }
 {
     let mut states = Vec::new(alloc);
     for text in names.texts() {
@@ -192,11 +201,11 @@ fn admit(
     inputs: &mut Vec<Option<Input>>,
     signal: SignalId,
     input: Input,
-) -> Result<bool, AllocError> {
+) -> Result<bool, AllocError>
+    ensures { (count : ℕ) → input.transition.0 < count → InputsBelow count inputs.old.items → InputsBelow count inputs.new.items }
+{
     let place = signal.0 as usize;
-    if place >= inputs.len() {
-        inputs.resize_with(place + 1, || None)?;
-    }
+    make_place(inputs, place)?;
     if inputs[place].is_some() {
         return Ok(false);
     }
@@ -204,14 +213,27 @@ fn admit(
     Ok(true)
 }
 
+/// Lets the inputs reach as far as this place.
+fn make_place(inputs: &mut Vec<Option<Input>>, place: usize) -> Result<(), AllocError>
+    ensures reached { OnOk result (place < vec_len inputs.new) }
+    ensures kept { (count : ℕ) → InputsBelow count inputs.old.items → InputsBelow count inputs.new.items }
+{
+    while inputs.len() <= place {
+        inputs.push(None)?;
+    }
+    Ok(())
+}
+
 /// Gives each state its selection.
-fn select_inputs(alloc: Global, states: &mut [State]) -> Result<(), AllocError>
-    ensures { OnOk result (All SelectsInputs states.new) }
+fn with_selections(alloc: Global, mut states: Vec<State>) -> Result<Vec<State>, AllocError>
+    ensures len { IfOk result (λ selected. vec_len selected ≡ vec_len states) }
+    ensures selected { IfOk result (λ selected. All SelectsInputs selected.items) }
+    ensures inputs { IfOk result (λ selected. map inputs_of selected.items ≡ map inputs_of states.items) }
 {
     for state in states.iter_mut() {
         state.selection = selection_of(alloc, state.inputs.as_slice())?;
     }
-    Ok(())
+    Ok(states)
 }
 
 /// The class of each signal in a state with these inputs.

@@ -1,4 +1,7 @@
 //! Transitions with their names resolved.
+ghost use Rattle.std.specs.Prelude.{IfOk, IfSome};
+ghost use Rattle.sdl_system.specs.Names.{name_count};
+ghost use Rattle.sdl_system.specs.Soundness.{EndsBelow, IsEndBelow};
 
 use crate::fault::{Faults, Kind, Token};
 use crate::process::{Assignment, End, Output, Statement, Transition};
@@ -15,7 +18,9 @@ pub fn resolve_transition<'t>(
     word: Word,
     transition: &'t tree::Transition,
     faults: &mut Faults<'t>,
-) -> Result<Transition, AllocError> {
+) -> Result<Transition, AllocError>
+    ensures { IfOk result (EndsBelow (name_count scope.entry.states.now)) }
+{
     let mut statements = Vec::new(alloc);
     for action in &transition.actions {
         statements.push(resolve_action(alloc, scope, action, faults)?)?;
@@ -37,7 +42,9 @@ fn resolve_terminator<'t>(
     scope: Scope<'_, 't>,
     terminator: &'t Terminator,
     faults: &mut Faults<'t>,
-) -> Option<End> {
+) -> Option<End>
+    ensures { IfSome result (IsEndBelow (name_count scope.entry.states.now)) }
+{
     match terminator {
         Terminator::Stop => Some(End::Stop),
         Terminator::NextState(NextState::Same(_)) => Some(End::Same),

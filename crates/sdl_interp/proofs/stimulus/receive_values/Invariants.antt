@@ -1,7 +1,7 @@
 use Rattle.std.proofs.Common.{◌≡◌}
 use Rattle.std.specs.Iterator.Adapters.{zip_first, zip_second}
 use Rattle.std.specs.Slice.Iter.{iter_rest}
-use Rattle.sdl_interp.specs.Stimulus.{received}
+use Rattle.sdl_interp.specs.Reception.{received}
 use Rattle.sdl_interp.proofs.stimulus.receive_values.Given as goal
 
 abbrev pub invariant-loop-place : goal.invariant-loop-place

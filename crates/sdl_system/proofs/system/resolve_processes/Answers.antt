@@ -1,7 +1,7 @@
 use Rattle.std.proofs.Common.{arith}
 use Rattle.std.proofs.lemmas.Grind.{common_steps}
 use Rattle.std.proofs.lemmas.List.Elements.{All-push}
-use Rattle.sdl_system.specs.Selection.{SelectsItsInputs}
+use Rattle.sdl_system.specs.System.{SelectsItsInputs}
 use Rattle.sdl_system.proofs.system.resolve_processes.Goals as goal
 
 pub loop-definition-preserved : goal.loop-definition-preserved

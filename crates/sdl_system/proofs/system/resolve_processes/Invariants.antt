@@ -1,5 +1,5 @@
 use Rattle.std.proofs.Common.{◌≡◌, vec_len, All, count_by, take}
-use Rattle.sdl_system.specs.Selection.{SelectsItsInputs}
+use Rattle.sdl_system.specs.System.{SelectsItsInputs}
 use Rattle.sdl_system.specs.System.{is_process}
 use Rattle.sdl_system.proofs.system.resolve_processes.Given as goal
 

@@ -1,8 +1,13 @@
-use Rattle.std.proofs.Common.{◌≡◌, ◌≤◌, vec_len}
+use Rattle.std.proofs.Common.{◌≡◌}
+use Rattle.sdl_workers.specs.Serial.{IsSerial, Reaches}
 use Rattle.sdl_workers.proofs.serial.Serial.settle.Given as goal
 
 abbrev pub invariant-loop-self : goal.invariant-loop-self
-invariant-loop-self l = (vec_len l.self.members ≡ vec_len l.fn.self.members) × (l.self.left ≤ l.fn.self.left) × (l.self.clock ≡ l.fn.self.clock)
+invariant-loop-self l = record {
+  serial : IsSerial l.self;
+  same : l.self ≡ record l.fn.self { members = l.self.members; living = l.self.living; left = l.self.left };
+  runs : Reaches l.fn.self l.self;
+}
 
 abbrev pub decreases-loop-self : goal.decreases-loop-self
 decreases-loop-self l = l.self.left

@@ -1,0 +1,75 @@
+-- The line that tells a refusal.
+use Rattle.std.specs.Prelude.{◌≡◌, ℕ, List, [], ◌∷◌, ◌++◌, codes}
+use Rattle.std.specs.Fmt.{decimal}
+use Rattle.std.specs.String.{string_bytes}
+use Rattle.sdl_lex.specs.Place.{place_text}
+use Rattle.sdl_lex.specs.declared.error.LexError.{LexError}
+use Rattle.sdl_lex.specs.declared.error.LexError.TheVariants as lex
+use Rattle.sdl_lex.specs.declared.place.Place.{Place}
+use Rattle.sdl_parse.specs.declared.error.ParseError.{ParseError}
+use Rattle.sdl_parse.specs.declared.error.ParseError.TheVariants as parse
+use Rattle.sdl_parse.specs.declared.tree.Name.{Name}
+use Rattle.sdl_report.specs.declared.script.ScriptError.{ScriptError}
+use Rattle.sdl_report.specs.declared.script.ScriptError.TheVariants as script
+use Rattle.sdl_system.specs.declared.error.BuildError.{BuildError}
+use Rattle.sdl_system.specs.declared.error.BuildError.TheVariants as build
+use Rattle.sdl_workers.specs.declared.error.RunError.{RunError}
+use Rattle.sdlrun.specs.declared.refusal.Refusal.{Refusal}
+use Rattle.sdlrun.specs.declared.refusal.Refusal.TheVariants.{Parse, Build, Script, Run}
+
+-- `lex L:C Name`
+abbrev pub lex_text : LexError → List ℕ
+lex_text lex.TooLong = codes "lex 1:1 TooLong"
+lex_text (lex.BadByte place) = codes "lex " ++ place_text place ++ codes " BadByte"
+lex_text (lex.OpenComment place) = codes "lex " ++ place_text place ++ codes " OpenComment"
+lex_text (lex.OpenString place) = codes "lex " ++ place_text place ++ codes " OpenString"
+lex_text (lex.NumberTooBig place) = codes "lex " ++ place_text place ++ codes " NumberTooBig"
+lex_text (lex.NameTooLong place) = codes "lex " ++ place_text place ++ codes " NameTooLong"
+lex_text lex.Memory = codes "lex Memory"
+
+-- `parse L:C Name word`; what the word is that was expected or is left out is not said here
+abbrev pub IsParseText : ParseError → List ℕ → Type 0
+IsParseText (parse.Lex error) text = text ≡ lex_text error
+IsParseText (parse.Expected place wanted) text = (word : List ℕ) × (text ≡ codes "parse " ++ place_text place ++ codes " Expected " ++ word)
+IsParseText (parse.LeftOut place word) text = text ≡ codes "parse " ++ place_text place ++ codes " LeftOut " ++ word.now
+IsParseText (parse.TooDeep place) text = text ≡ codes "parse " ++ place_text place ++ codes " TooDeep"
+IsParseText parse.Memory text = text ≡ codes "parse Memory"
+
+-- `build L:C Name name`, with the token at fault as the text has it
+abbrev pub told_of : List ℕ → Name → List ℕ
+told_of kind name = codes "build " ++ place_text name.place ++ kind ++ string_bytes name.text
+
+abbrev pub build_text : BuildError → List ℕ
+build_text (build.Unknown name) = told_of (codes " Unknown ") name
+build_text (build.Duplicate name) = told_of (codes " Duplicate ") name
+build_text (build.Sort name) = told_of (codes " Sort ") name
+build_text (build.TwiceInState name) = told_of (codes " TwiceInState ") name
+build_text (build.NoState name) = told_of (codes " NoState ") name
+build_text (build.BadCount name) = told_of (codes " BadCount ") name
+build_text (build.NoEnd name) = told_of (codes " NoEnd ") name
+build_text (build.Limit name) = told_of (codes " Limit ") name
+build_text build.Memory = codes "build Memory"
+
+-- `script L Name`, with the line's number
+abbrev pub script_text : ScriptError → List ℕ
+script_text (script.Syntax number) = codes "script " ++ decimal number ++ codes " Syntax"
+script_text (script.BackInTime number) = codes "script " ++ decimal number ++ codes " BackInTime"
+script_text (script.UnknownSignal number) = codes "script " ++ decimal number ++ codes " UnknownSignal"
+script_text (script.Arguments number) = codes "script " ++ decimal number ++ codes " Arguments"
+script_text script.Memory = codes "script Memory"
+
+abbrev pub run_text : RunError → List ℕ
+run_text error = codes "run Memory"
+
+abbrev pub IsRefusalText : Refusal → List ℕ → Type 0
+IsRefusalText (Parse error) text = IsParseText error text
+IsRefusalText (Build error) text = text ≡ build_text error
+IsRefusalText (Script error) text = text ≡ script_text error
+IsRefusalText (Run error) text = text ≡ run_text error
+
+-- such a text as a line
+abbrev pub IsLineOf : (List ℕ → Type 0) → List ℕ → Type 0
+IsLineOf Is line = (text : List ℕ) × Is text × (line ≡ text ++ 10 ∷ [])
+
+abbrev pub IsRefusalLine : Refusal → List ℕ → Type 0
+IsRefusalLine refusal line = IsLineOf (IsRefusalText refusal) line
