@@ -1,6 +1,6 @@
 -- The beginning and the end of a run.
-use Rattle.std.proofs.Common.{◌≡◌, ◌⊎◌, ℕ, zero, suc, ◌+◌, ◌<◌, ◌≤◌, Bool, true, false, IsTrue, List, [], ◌∷◌, ◌++◌, map, length, take, Option, None, Some, refl, inl, inr, ap, ◌∙◌, sym, subst, arith, slice_get, All, add-one}
-use Rattle.std.proofs.lemmas.List.{map-append, take_all}
+use Rattle.std.proofs.Common.{◌≡◌, ◌⊎◌, ℕ, zero, suc, ◌+◌, ◌<◌, Bool, true, false, IsTrue, List, [], ◌∷◌, ◌++◌, take, Some, refl, inl, inr, ap, ◌∙◌, sym, subst, arith, slice_get, All}
+use Rattle.std.proofs.lemmas.List.{map-append}
 use Rattle.port_model.specs.declared.pid.Pid.TheVariants.{Null}
 use Rattle.sdl_interp.specs.Instance.{InstanceValue, HasRun, IsRecordOf, closed, closing, created}
 use Rattle.sdl_report.specs.Script.{end_of}
@@ -11,15 +11,17 @@ use Rattle.sdl_system.specs.Behaviour.{Behaviour, IsBehaviour}
 use Rattle.sdl_system.specs.declared.process.Process.{Process}
 use Rattle.sdl_system.specs.declared.system.System.{System}
 use Rattle.sdl_workers.specs.Course.{Happening, Course, transitions_of}
-use Rattle.sdl_workers.specs.Global.{Global, AreBehaviours, Rests, beginning, first_instances}
-use Rattle.sdl_workers.specs.Report.{Closes, AreClosed, Ends, EndsWhole, EndsCut, IsSerialReport}
+use Rattle.sdl_workers.specs.Global.{AreBehaviours, beginning, first_instances}
+use Rattle.sdl_workers.specs.Report.{Closes, AreClosed, Ends, IsSerialReport}
 use Rattle.sdl_workers.specs.Serial.{instances_of, state_of, IsSerial, IsResting, Reaches}
 use Rattle.sdl_workers.specs.declared.member.Member.{Member}
 use Rattle.sdl_workers.specs.declared.serial.Serial.{Serial}
 use Rattle.sdl_workers.proofs.Living.{member_at}
+use Rattle.sdl_workers.proofs.Matching.{are_heard, are_matched}
 use Rattle.sdl_workers.proofs.Puts.{instance_there}
 use Rattle.sdl_workers.proofs.Resting.{all_rest}
 use Rattle.sdl_workers.proofs.Steps.{behaves_at}
+use Rattle.sdl_workers.proofs.Told.{are_told}
 
 first_suc : (n : ℕ) (processes : List Process) (k : ℕ) (process : Process) → slice_get processes k ≡ Some process → first_instances n (take (suc k) processes) ≡ first_instances n (take k processes) ++ created (record { process = record { 0 = n + k }; pid = n + k + 1; parent = Null }) process ∷ []
 first_suc n [] k process there = let wrong : ⊥ = cc in elim wrong [ ]
@@ -80,10 +82,14 @@ report ps system lines limit s t told behaviours state left reaches serial rests
     let first = subst (λ all. AreBehaviours all ps) (sym (ap (λ g. g.system) state)) behaviours in
     let run = reaches ps first in
     let last = subst (λ all. AreBehaviours all ps) (sym run.same_system) first in
+    let course : Course ps (beginning system lines) run.happenings (state_of t) = subst (λ g. Course ps g run.happenings (state_of t)) state run.course in
     record {
       happenings = run.happenings;
       last = state_of t;
-      course = subst (λ g. Course ps g run.happenings (state_of t)) state run.course;
+      course = course;
+      told = are_told behaviours course;
+      heard = are_heard course;
+      matched = λ env. are_matched env course;
       records = records ps last;
       ends = ends_by ps lines limit t run.happenings told.end told.whole last serial (run.counted ∙ left) rests cut is_end;
     }

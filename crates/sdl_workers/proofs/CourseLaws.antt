@@ -1,5 +1,5 @@
 -- Courses join, and so does how far a run goes.
-use Rattle.std.proofs.Common.{◌≡◌, ℕ, ◌+◌, List, [], ◌∷◌, ◌++◌, refl, ap, ◌∙◌, sym, subst, append_assoc, append-nil, arith}
+use Rattle.std.proofs.Common.{◌≡◌, ◌+◌, List, [], ◌∷◌, ◌++◌, ap, ◌∙◌, sym, subst, append_assoc, append-nil, arith}
 use Rattle.sdl_system.specs.Behaviour.{Behaviour}
 use Rattle.sdl_workers.specs.Course.{Happening, Course, begins, goes, Follows, transitions_of, transitions_of_one}
 use Rattle.sdl_workers.specs.Global.{Global, AreBehaviours, IsNoneDue}

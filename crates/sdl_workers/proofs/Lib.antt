@@ -5,4 +5,6 @@ pub mod Puts
 pub mod StepLaws
 pub mod Steps
 pub mod Resting
+pub mod Told
+pub mod Matching
 pub mod Closing

@@ -1,18 +1,18 @@
 -- What a put, and a step, do to the lists of a serial run.
-use Rattle.std.proofs.Common.{◌≡◌, ◌≢◌, ℕ, zero, suc, ◌+◌, ◌<◌, ◌≤◌, Bool, true, false, List, [], ◌∷◌, ◌++◌, map, length, Option, None, Some, refl, ap, ◌∙◌, sym, subst, arith, slice_get, All, set, get_or, add-zero, unwrap_or}
+use Rattle.std.proofs.Common.{◌≡◌, ℕ, zero, suc, ◌+◌, false, List, [], ◌∷◌, ◌++◌, map, Some, refl, ap, ◌∙◌, sym, subst, arith, slice_get, All, set, unwrap_or}
 use Rattle.std.specs.Option.{option_map}
 use Rattle.std.proofs.lemmas.List.{map-set}
 use Rattle.std.proofs.lemmas.List.Elements.{All-set}
-use Rattle.std.proofs.lemmas.Option.{slice_get-map, slice_get_within}
+use Rattle.std.proofs.lemmas.Option.{slice_get-map}
 use Rattle.port_model.specs.Port.{PortState, put_into}
 use Rattle.port_model.specs.declared.item.Item.{Item}
-use Rattle.sdl_interp.specs.Instance.{InstanceValue, created}
+use Rattle.sdl_interp.specs.Instance.{InstanceValue}
 use Rattle.sdl_interp.specs.World.{Sent}
 use Rattle.sdl_system.specs.declared.process.Process.{Process}
 use Rattle.sdl_system.specs.declared.route.Target.{Target}
 use Rattle.sdl_system.specs.declared.route.Target.TheVariants.{Instance}
-use Rattle.sdl_workers.specs.Global.{instance_at, put_found, put_to, delivered, delivered_all, is_ended}
-use Rattle.sdl_workers.specs.Serial.{instances_of, IsMember, AreMembers, IsMarked, IsSerial, living_number}
+use Rattle.sdl_workers.specs.Global.{put_found, put_to, delivered, delivered_all}
+use Rattle.sdl_workers.specs.Serial.{IsMember, instances_of, AreMembers, IsMarked, IsSerial, living_number}
 use Rattle.sdl_workers.specs.declared.member.Member.{Member}
 use Rattle.sdl_workers.specs.declared.serial.Serial.{Serial}
 

@@ -1,8 +1,8 @@
 -- A take for which memory was refused ends the instance, and nothing comes behind it in that step.
-use Rattle.std.proofs.Common.{◌≡◌, ◌⊎◌, ℕ, ◌+◌, Bool, true, false, List, [], ◌∷◌, ◌++◌, None, Some, Option, refl, inl, inr, append-nil, ap, ◌∙◌, sym}
+use Rattle.std.proofs.Common.{◌≡◌, ◌⊎◌, ℕ, false, List, [], ◌∷◌, ◌++◌, None, Some, refl, inl, inr, append-nil, ap, ◌∙◌}
 use Rattle.port_model.specs.History.{PortEvent}
 use Rattle.port_model.specs.Port.{PortState}
-use Rattle.sdl_interp.specs.Goes.{IsFirst, IsOneStep, AreInner}
+use Rattle.sdl_interp.specs.Goes.{IsOneStep}
 use Rattle.sdl_interp.specs.Instance.{InstanceValue, Moves}
 use Rattle.sdl_interp.specs.Leads.{Leads}
 use Rattle.sdl_interp.specs.Place.{Identity, Place, AtStart, In, Doing, Ended, Closed, Store, place_of}
@@ -14,7 +14,7 @@ use Rattle.sdl_report.specs.declared.event.Event.{Event}
 use Rattle.sdl_report.specs.declared.event.Event.TheVariants as event
 use Rattle.sdl_report.specs.declared.event.Failure.{Failure}
 use Rattle.sdl_system.specs.Behaviour.{Behaviour}
-use Rattle.sdl_system.specs.Body.{Body, statement, assign, send, to_state, to_same, to_stop}
+use Rattle.sdl_system.specs.Body.{statement, assign, send, to_state, to_same, to_stop}
 use Rattle.sdl_workers.specs.Course.{is_transition}
 
 last_of : (events : List Event) (happened refusal : Event) (rest : List Event) → events ++ happened ∷ [] ≡ refusal ∷ rest → ((events ≡ []) × (happened ≡ refusal) × (rest ≡ [])) ⊎ ((more : List Event) × (events ≡ refusal ∷ more))

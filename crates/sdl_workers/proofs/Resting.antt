@@ -1,15 +1,14 @@
 -- All rest: what the marks say, and the moves of the clock and the script.
-use Rattle.std.proofs.Common.{◌≡◌, ◌⊎◌, ℕ, zero, suc, ◌+◌, ◌<◌, ◌≤◌, Bool, true, false, ltb, IsTrue, List, [], ◌∷◌, ◌++◌, map, length, take, Option, None, Some, refl, inl, inr, ap, ◌∙◌, sym, subst, arith, rules, tests, slice_get, All, get_or}
+use Rattle.std.proofs.Common.{◌≡◌, ◌⊎◌, ℕ, suc, ◌+◌, ◌<◌, ◌≤◌, true, ltb, IsTrue, List, [], ◌∷◌, length, take, Some, refl, inl, inr, ap, sym, subst, arith, rules, tests, slice_get, All}
 use Rattle.std.proofs.lemmas.Bool.{cases_lt}
 use Rattle.std.proofs.lemmas.List.{take_all}
-use Rattle.std.proofs.lemmas.Option.{get_or_from_slice_get, slice_get-get_or, slice_get_within}
-use Rattle.sdl_interp.specs.Instance.{InstanceValue}
+use Rattle.std.proofs.lemmas.Option.{get_or_from_slice_get, slice_get_within}
 use Rattle.sdl_interp.specs.World.{Sent}
 use Rattle.sdl_report.specs.declared.script.ScriptLine.{ScriptLine}
-use Rattle.sdl_system.specs.Behaviour.{Behaviour, IsBehaviour}
-use Rattle.sdl_workers.specs.Course.{Happening, Heard, Ticked, Hears, Ticks, IsSentBy}
-use Rattle.sdl_workers.specs.Global.{Global, AreBehaviours, IsNoneDue, Rests, delivered_all}
-use Rattle.sdl_workers.specs.Serial.{instances_of, state_of, until_of, IsMarked, IsSerial, IsResting, Reaches, Advances}
+use Rattle.sdl_system.specs.Behaviour.{Behaviour}
+use Rattle.sdl_workers.specs.Course.{Heard, Ticked, Hears, Ticks, IsSentBy}
+use Rattle.sdl_workers.specs.Global.{AreBehaviours, IsNoneDue, Rests, delivered_all}
+use Rattle.sdl_workers.specs.Serial.{instances_of, state_of, until_of, IsMarked, IsSerial, IsResting, Reaches}
 use Rattle.sdl_workers.specs.declared.member.Member.{Member}
 use Rattle.sdl_workers.specs.declared.serial.Serial.{Serial}
 use Rattle.sdl_workers.proofs.CourseLaws.{advances_one}

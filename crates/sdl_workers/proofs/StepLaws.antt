@@ -1,7 +1,6 @@
 -- A step of an instance is a step of its member.
-use Rattle.std.proofs.Common.{◌≡◌, ◌≢◌, ◌⊎◌, ℕ, ◌+◌, Bool, true, false, not, List, [], ◌∷◌, ◌++◌, length, None, Some, Option, slice_get, refl, inl, inr, ap, ◌∙◌, sym, subst}
+use Rattle.std.proofs.Common.{◌≡◌, ◌≢◌, ◌⊎◌, ℕ, Bool, true, false, not, List, [], ◌∷◌, ◌++◌, length, slice_get, refl, inl, inr, ap, ◌∙◌, sym}
 use Rattle.std.specs.Option.{option_map_or}
-use Rattle.std.proofs.lemmas.Option.{slice_get_past}
 use denote.Enum.Bare.{sameb}
 use Rattle.sdl_interp.specs.Instance.{InstanceValue, Moves}
 use Rattle.sdl_interp.specs.World.{WorldValue}
@@ -15,8 +14,7 @@ use Rattle.sdl_report.specs.declared.event.Event.{Event}
 use Rattle.sdl_system.specs.Behaviour.{Behaviour, IsBehaviour}
 use Rattle.sdl_workers.specs.Course.{is_transition}
 use Rattle.sdl_workers.specs.Global.{is_ended}
-use Rattle.sdl_workers.specs.Serial.{Reacts, IsStill, HasMoved, Makes}
-use Rattle.sdl_workers.specs.declared.member.Member.{Member}
+use Rattle.sdl_workers.specs.Serial.{Reacts, IsStill, HasMoved}
 
 -- whether the event at this place begins a transition
 abbrev pub begins_at : List Event → ℕ → Bool

@@ -1,18 +1,16 @@
 -- A step of a member is a step of the whole.
-use Rattle.std.proofs.Common.{◌≡◌, ◌≢◌, ◌⊎◌, ℕ, zero, suc, ◌+◌, ◌-◌, ◌<◌, ◌≤◌, Bool, true, false, cond, if◌then◌else◌, List, [], ◌∷◌, ◌++◌, map, length, take, Option, None, Some, refl, inl, inr, ap, ◌∙◌, sym, subst, arith, slice_get, All, set}
+use Rattle.std.proofs.Common.{◌≡◌, ℕ, zero, suc, ◌+◌, ◌-◌, ◌<◌, Bool, true, false, cond, List, [], ◌∷◌, ◌++◌, length, take, Option, Some, refl, inl, inr, ap, ◌∙◌, sym, subst, arith, slice_get, All, set}
 use Rattle.std.proofs.lemmas.List.{take_more_set}
 use Rattle.std.proofs.lemmas.List.Elements.{All-append, All-cons, All-nil}
 use Rattle.std.proofs.lemmas.Option.{slice_get_within}
 use mir.Val.{bool_byte}
-use Rattle.sdl_interp.specs.Instance.{InstanceValue, Moves}
+use Rattle.sdl_interp.specs.Instance.{InstanceValue}
 use Rattle.sdl_interp.specs.World.{WorldValue, Sent, sends_of}
-use Rattle.sdl_interp.specs.declared.machine.Position.TheVariants as position
 use Rattle.sdl_system.specs.Behaviour.{Behaviour, IsBehaviour, behaviour_of}
-use Rattle.sdl_system.specs.declared.process.Process.{Process}
 use Rattle.sdl_system.specs.declared.system.System.{System}
-use Rattle.sdl_workers.specs.Course.{Happening, Moved, Steps, is_transition, transitions_of_one}
+use Rattle.sdl_workers.specs.Course.{Moved, Steps, is_transition}
 use Rattle.sdl_workers.specs.Global.{Global, AreBehaviours, around, delivered_all, instance_at, with_instance, is_ended, living_of, IsNoneDue}
-use Rattle.sdl_workers.specs.Serial.{instances_of, state_of, IsMember, IsSerial, IsResting, Reacts, IsStill, HasMoved, Makes, Reaches, Advances, living_number}
+use Rattle.sdl_workers.specs.Serial.{instances_of, state_of, IsSerial, IsResting, Reacts, IsStill, HasMoved, Reaches}
 use Rattle.sdl_workers.specs.declared.member.Member.{Member}
 use Rattle.sdl_workers.specs.declared.serial.Serial.{Serial}
 use Rattle.sdl_workers.proofs.CourseLaws.{advances_one, reaches_same}

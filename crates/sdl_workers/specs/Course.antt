@@ -1,5 +1,5 @@
 -- The serial order of a run: one list of all that happens (Z.101: agents; Z.102: start, input, output).
-use Rattle.std.specs.Prelude.{◌≡◌, ◌≢◌, ℕ, ◌+◌, ◌<◌, ◌≤◌, if◌then◌else◌, Bool, false, List, [], ◌∷◌, ◌++◌, All, Option, None, Some, slice_get}
+use Rattle.std.specs.Prelude.{◌≡◌, ◌≢◌, ℕ, ◌+◌, ◌<◌, if◌then◌else◌, Bool, false, List, [], ◌∷◌, ◌++◌, All, Option, None, Some, slice_get}
 use Rattle.port_model.specs.History.{PortEvent}
 use Rattle.port_model.specs.declared.item.Item.{Item}
 use Rattle.sdl_interp.specs.Instance.{InstanceValue, Moves}

@@ -1,5 +1,6 @@
 pub mod Global
 pub mod Course
 pub mod Report
+pub mod Records
 pub mod Around
 pub mod Serial

@@ -9,6 +9,7 @@ use Rattle.sdl_system.specs.Behaviour.{Behaviour}
 use Rattle.sdl_system.specs.declared.system.System.{System}
 use Rattle.sdl_workers.specs.Global.{Global, Rests, beginning}
 use Rattle.sdl_workers.specs.Course.{Happening, Course, transitions_of}
+use Rattle.sdl_workers.specs.Records.{AreTold, AreMatched, AreFromEnv, lines_of}
 
 -- The record of an instance at the end of a run: all that it did, closed with Rest where the run is whole, with Cut where it
 -- was cut, and with nothing where the instance has ended. It is a run of the instance's process.
@@ -42,10 +43,16 @@ Ends true ps lines limit happenings last end = EndsWhole ps lines limit happenin
 Ends false ps lines limit happenings last end = EndsCut limit happenings last end
 
 -- The report of a serial run: a course from the first instances, before their start at time 0, to a state whose instances are
--- those of the records.
+-- those of the records. Each instance's events are those that the course tells of it, and a run of its process on the history of
+-- its port that the course tells: its own calls, and a put of each signal that was sent to it, when it was sent.
+-- The script's lines are heard in their order. So each put is an output of one record or a signal of the script, where the
+-- script's signals come from the environment.
 pub record IsSerialReport (ps : List Behaviour) (system : System) (lines : List ScriptLine) (limit : ℕ) (report : Report) : Type 0 where
   pub happenings : List Happening
   pub last : Global
   pub course : Course ps (beginning system lines) happenings last
+  pub told : AreTold ps happenings last
+  pub heard : lines_of happenings ++ last.script ≡ lines
+  pub matched : AreFromEnv lines → AreMatched happenings
   pub records : AreClosed ps report.whole last.instances report.records.items
   pub ends : Ends report.whole ps lines limit happenings last report.end

@@ -2,7 +2,7 @@
 
 ghost use Rattle.std.specs.Prelude.{◌≡◌, ◌+◌, ◌<◌, ◌≤◌, ◌⊎◌, ◌∷◌, [], All, IfOk, OnOk, IsTrue, List, vec_len, length, take};
 ghost use Rattle.sdl_system.specs.Behaviour.{Behaviour};
-ghost use Rattle.sdl_workers.specs.Global.{AreBehaviours, IsNoneBefore, IsNoneDue, beginning, delivered_all, put_to};
+ghost use Rattle.sdl_workers.specs.Global.{AreBehaviours, IsNoneDue, beginning, delivered_all, put_to};
 ghost use Rattle.sdl_workers.specs.Report.{AreClosed};
 ghost use Rattle.sdl_workers.specs.Serial.{IsResting, IsSerial, Reaches, instances_of, state_of};
 

@@ -1,4 +1,4 @@
-use Rattle.std.proofs.Common.{◌≡◌, refl, arith, rules, inl, inr, ap, ◌∙◌, sym, subst}
+use Rattle.std.proofs.Common.{inl, inr, ap, ◌∙◌}
 use Rattle.sdl_workers.specs.Global.{beginning}
 use Rattle.sdl_workers.proofs.run.run_serial.Goals as goal
 use Rattle.sdl_workers.proofs.run.run_serial.Goals.{then-whole, else-whole}

@@ -1,6 +1,4 @@
-use Rattle.std.proofs.Common.{◌≡◌, false, length, slice_get, ap, ◌∙◌}
-use Rattle.std.specs.Option.{option_map_or}
-use Rattle.sdl_report.specs.Event.{is_beginning}
+use Rattle.std.proofs.Common.{◌≡◌, length}
 use Rattle.sdl_workers.specs.Around.{world_of}
 use Rattle.sdl_workers.proofs.StepLaws.{reacts, begins_at}
 use Rattle.sdl_workers.proofs.member.Member.step.Goals as goal

@@ -1,4 +1,4 @@
-use Rattle.std.proofs.Common.{◌≡◌, ◌+◌, ◌<◌, true, refl, arith, rules, length, ap, ◌∙◌, sym, subst}
+use Rattle.std.proofs.Common.{◌≡◌, ◌+◌, true, refl, arith, length, ap, ◌∙◌}
 use Rattle.sdl_workers.specs.declared.serial.Serial.{Serial}
 use Rattle.sdl_workers.proofs.CourseLaws.{reaches_on}
 use Rattle.sdl_workers.proofs.Resting.{tick_reaches}

@@ -1,4 +1,4 @@
-use Rattle.std.proofs.Common.{◌≡◌, ◌<◌, length, true, IsTrue}
+use Rattle.std.proofs.Common.{◌<◌, length, IsTrue}
 use Rattle.sdl_workers.specs.Serial.{IsSerial, Reaches}
 use Rattle.sdl_workers.proofs.serial.Serial.advance.Given as goal
 

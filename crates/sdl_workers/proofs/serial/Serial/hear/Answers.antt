@@ -1,5 +1,4 @@
-use Rattle.std.proofs.Common.{◌≡◌, refl, arith, rules, [], ◌∷◌, List, ap, ◌∙◌, sym, subst}
-use Rattle.port_model.specs.declared.item.Item.{Item}
+use Rattle.std.proofs.Common.{◌≡◌, refl, [], ◌∷◌, List, ap, ◌∙◌, sym, subst}
 use Rattle.sdl_interp.specs.World.{Sent}
 use Rattle.sdl_system.specs.Route.{Routes}
 use Rattle.sdl_system.specs.declared.route.Agent.TheVariants.{Env}

@@ -1,4 +1,4 @@
-use Rattle.std.proofs.Common.{◌≡◌, ◌+◌, length, refl, arith, rules, sym, Some, slice_get}
+use Rattle.std.proofs.Common.{◌≡◌, length, refl, arith, rules, Some, slice_get}
 use Rattle.std.proofs.lemmas.Option.{slice_get_read}
 use Rattle.port_model.specs.Port.{put_into}
 use Rattle.sdl_workers.proofs.Puts.{put_at, serial_put}

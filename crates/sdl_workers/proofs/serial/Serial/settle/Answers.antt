@@ -1,4 +1,4 @@
-use Rattle.std.proofs.Common.{◌≡◌, ◌≤◌, refl, arith, rules}
+use Rattle.std.proofs.Common.{refl}
 use Rattle.sdl_workers.proofs.CourseLaws.{moved_on, reaches_on, reaches_same}
 use Rattle.sdl_workers.proofs.serial.Serial.settle.Goals as goal
 

@@ -1,8 +1,8 @@
-use Rattle.std.proofs.Common.{◌≡◌, ◌+◌, ◌-◌, ◌<◌, length, refl, arith, rules, sym, Some, slice_get, cond, ap, ◌∙◌, subst, set, take}
+use Rattle.std.proofs.Common.{◌≡◌, ◌+◌, length, refl, rules, Some, slice_get, cond, ap, ◌∙◌, subst, set}
 use Rattle.std.proofs.lemmas.Option.{slice_get_read}
 use Rattle.sdl_workers.specs.Around.{world_of}
 use Rattle.sdl_workers.specs.Global.{around, delivered_all}
-use Rattle.sdl_workers.specs.Serial.{IsSerial, Reaches, Reacts, instances_of, state_of}
+use Rattle.sdl_workers.specs.Serial.{Reacts, instances_of, state_of}
 use Rattle.sdl_workers.proofs.Puts.{instances_set, serial_set}
 use Rattle.sdl_workers.proofs.Steps.{around_is, left_after, reacts_who, rests_on, state_after, step_reaches}
 use Rattle.sdl_workers.proofs.serial.Serial.step.Goals as goal

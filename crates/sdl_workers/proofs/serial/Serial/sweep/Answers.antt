@@ -1,4 +1,4 @@
-use Rattle.std.proofs.Common.{◌≡◌, ◌≤◌, refl, arith, rules, inl, inr}
+use Rattle.std.proofs.Common.{refl, arith, rules, inl, inr}
 use Rattle.sdl_workers.proofs.CourseLaws.{moved_on, reaches_on, reaches_same}
 use Rattle.sdl_workers.proofs.Resting.{swept}
 use Rattle.sdl_workers.proofs.serial.Serial.sweep.Goals as goal
