@@ -1,15 +1,14 @@
-use Rattle.std.proofs.Common.{◌≡◌, sym, subst, refl, inl, inr, ℕ, List, Option, Bool, true, false, take, Result, Ok, Err, IfOk, IfErr, OnOk}
-use Rattle.std.specs.Io.KnownBytes.{Appends, Keeps}
+use Rattle.std.proofs.Common.{◌≡◌, sym, subst, refl, inl, inr, ℕ, List, Option, Bool, true, false, Result, Ok, Err, IfOk, IfErr, OnOk}
+use Rattle.std.specs.Io.KnownBytes.{Appends}
 use Rattle.sdl_report.specs.ReportText.{report_text}
 use Rattle.sdl_report.specs.declared.record.Report.{Report}
 use Rattle.sdl_system.specs.declared.system.System.{System}
-use Rattle.sdlrun.specs.Answer.{Allows, Answers, BreaksOff, BrokenOff, FailsToTell, Faulted, IsRunOfInput, Refuses, Reports, Says, Written, outcome_by, outcome_of}
+use Rattle.sdlrun.specs.Answer.{Allows, BreaksOff, FailsToTell, Faulted, IsRunOfInput, Says, Written, outcome_by, outcome_of}
 use Rattle.sdlrun.specs.Input.{IsRead}
 use Rattle.sdlrun.specs.RefusalText.{IsRefusalLine}
 use Rattle.sdlrun.specs.declared.input.Input.{Input}
 use Rattle.sdlrun.specs.declared.input.Input.TheVariants.{Bytes, TooLong}
 use Rattle.sdlrun.specs.declared.options.Outcome.{Outcome}
-use Rattle.sdlrun.specs.declared.options.Outcome.TheVariants as outcome
 use Rattle.sdlrun.specs.declared.options.TextFault.{TextFault}
 use Rattle.sdlrun.specs.declared.options.TextFault.TheVariants as fault
 use Rattle.sdlrun.specs.declared.refusal.Refusal.{Refusal}

@@ -5,7 +5,6 @@ use Rattle.std.specs.String.{string_bytes}
 use Rattle.sdl_lex.specs.Place.{place_text}
 use Rattle.sdl_lex.specs.declared.error.LexError.{LexError}
 use Rattle.sdl_lex.specs.declared.error.LexError.TheVariants as lex
-use Rattle.sdl_lex.specs.declared.place.Place.{Place}
 use Rattle.sdl_parse.specs.declared.error.ParseError.{ParseError}
 use Rattle.sdl_parse.specs.declared.error.ParseError.TheVariants as parse
 use Rattle.sdl_parse.specs.declared.tree.Name.{Name}

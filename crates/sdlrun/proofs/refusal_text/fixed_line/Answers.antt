@@ -1,4 +1,4 @@
-use Rattle.std.proofs.Common.{◌≡◌, codes, refl, subst, sym}
+use Rattle.std.proofs.Common.{codes, refl, subst, sym}
 use Rattle.sdlrun.specs.RefusalText.{IsRefusalText}
 use Rattle.sdlrun.proofs.refusal_text.fixed_line.Goals as goal
 
