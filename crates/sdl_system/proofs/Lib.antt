@@ -1,1 +1,14 @@
+pub mod Adding
+pub mod Bodies
+pub mod Chains
+pub mod CheckLemmas
+pub mod Collecting
+pub mod Extending
+pub mod InputLemmas
+pub mod Levels
+pub mod LimitLemmas
+pub mod Numbering
+pub mod ProcessLemmas
+pub mod ReceptionLemmas
+pub mod SignalLemmas
 pub mod StateLemmas

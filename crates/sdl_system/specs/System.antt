@@ -1,6 +1,6 @@
-use Rattle.std.specs.Prelude.{ℕ, List, Option, None, Some, slice_get, Bool, true, false, count_by, All}
+use Rattle.std.specs.Prelude.{ℕ, ◌≡◌, List, [], ◌∷◌, map, string_bytes, Option, None, Some, slice_get, Bool, true, false, count_by, All}
+use Rattle.std.specs.List.{flat_map}
 use Rattle.std.specs.Str.{bytes_eq}
-use Rattle.std.specs.String.{string_bytes}
 use Rattle.indexmap.specs.IndexMap.{get_by}
 use Rattle.port_model.specs.declared.selection.Class.{Class}
 use Rattle.port_model.specs.declared.selection.Class.TheVariants.{Discard}
@@ -8,11 +8,15 @@ use Rattle.port_model.specs.declared.item.SignalId.{SignalId}
 use Rattle.port_model.specs.Selection as selection
 use Rattle.sdl_parse.specs.declared.tree.Definition.{Definition}
 use Rattle.sdl_parse.specs.declared.tree.Definition.TheVariants.{Signals, Process}
+use Rattle.sdl_parse.specs.declared.tree.ProcessDefinition.{ProcessDefinition}
 use Rattle.sdl_parse.specs.declared.tree.Tree.{Tree}
+use Rattle.sdl_system.specs.Declarations.{all_groups, declared_of, variables_in}
+use Rattle.sdl_system.specs.Names.{text_of}
 use Rattle.sdl_system.specs.declared.process.State as state
 use Rattle.sdl_system.specs.declared.process.Process as process
 use Rattle.sdl_system.specs.declared.system.System.{System}
 use Rattle.sdl_system.specs.Selection.{SelectsInputs}
+use Rattle.sdl_system.specs.States.{name_of_state, state_names_in}
 
 -- the class of a signal in a state, where there is one
 abbrev pub class_in : Option state.State → SignalId → Class
@@ -40,6 +44,21 @@ is_process (Process definition) = true
 -- how many processes a specification defines
 abbrev pub process_count : Tree → ℕ
 process_count tree = count_by is_process tree.definitions.items
+
+abbrev pub processes_in : Definition → List ProcessDefinition
+processes_in (Signals list) = []
+processes_in (Process definition) = definition ∷ []
+
+-- the processes that a specification defines, in the order of the text
+abbrev pub process_definitions : List Definition → List ProcessDefinition
+process_definitions definitions = flat_map processes_in definitions
+
+-- the process has the name of its definition, the states that its state lists name, and the variables that it declares, each
+-- with its initial value
+pub record DeclaresAs (definition : ProcessDefinition) (declared : process.Process) : Type 0 where
+  pub name : string_bytes declared.name ≡ text_of definition.name
+  pub states : map name_of_state declared.states.items ≡ state_names_in definition.states.items
+  pub variables : map declared_of declared.variables.items ≡ variables_in (all_groups definition.definitions.items)
 
 -- the states of a process select the signals that they input
 pub record SelectsItsInputs (definition : process.Process) : Type 0 where

@@ -1,4 +1,6 @@
 //! Faults of a specification, and which of them is told.
+ghost use Rattle.std.specs.Prelude.{◌≡◌, ◌≢◌, true, false, IfOk};
+ghost use Rattle.sdl_system.specs.declared.error.BuildError.TheVariants.{Memory};
 
 use crate::error::BuildError;
 use sdl_lex::Place;
@@ -55,7 +57,9 @@ impl<'t> Fault<'t> {
     }
 
     /// The refusal that tells this fault.
-    pub fn refusal(&self, alloc: Global) -> Result<BuildError, AllocError> {
+    pub fn refusal(&self, alloc: Global) -> Result<BuildError, AllocError>
+        ensures { IfOk result (λ refusal. refusal ≢ Memory) }
+    {
         let text = String::from_str(alloc, self.token.text)?;
         let name = Name {
             text,
@@ -81,12 +85,18 @@ pub struct Faults<'t> {
 }
 
 impl<'t> Faults<'t> {
-    pub fn new() -> Self {
+    ghost use Rattle.sdl_system.specs.Fault.{is_clean};
+
+    pub fn new() -> Self
+        ensures { is_clean result ≡ true }
+    {
         Faults { least: None }
     }
 
     /// Notes that a check is broken at a token.
-    pub fn note(&mut self, kind: Kind, token: Token<'t>) {
+    pub fn note(&mut self, kind: Kind, token: Token<'t>)
+        ensures { is_clean self.new ≡ false }
+    {
         let fault = Fault { kind, token };
         let is_least = match &self.least {
             None => true,
@@ -97,7 +107,9 @@ impl<'t> Faults<'t> {
         }
     }
 
-    pub fn least(&self) -> Option<Fault<'t>> {
+    pub fn least(&self) -> Option<Fault<'t>>
+        ensures { result ≡ self.now.least }
+    {
         self.least
     }
 }

@@ -2,6 +2,7 @@
 
 mod constant;
 mod expression;
+mod found;
 mod names;
 mod process;
 mod scope;
@@ -13,4 +14,4 @@ mod variables;
 
 pub use names::Names;
 pub use process::resolve_process;
-pub use signals::Signals;
+pub use signals::{Signals, local_signals};

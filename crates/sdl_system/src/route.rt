@@ -1,6 +1,8 @@
 //! Where a signal goes.
-ghost use Rattle.std.specs.Prelude.{◌≡◌};
-ghost use Rattle.sdl_system.specs.Route.{has_input, inputs, is_input_somewhere, is_sender, receiver_in, Routes};
+ghost use Rattle.std.specs.Prelude.{◌≡◌, ◌≤◌, length, All, IfOk};
+ghost use Rattle.std.specs.List.{AllZip};
+ghost use Rattle.port_model.specs.declared.item.SignalId.{SignalId};
+ghost use Rattle.sdl_system.specs.Route.{HasInputs, has_input, has_place, inputs, is_input_in, is_input_somewhere, is_sender, receiver_in, Routes};
 
 use crate::id::ProcessId;
 use crate::process::{Process, State};
@@ -102,35 +104,25 @@ pub struct InputSet {
 
 impl InputSet {
     /// For each process by its number the signals that it inputs.
-    pub fn of_processes(alloc: Global, processes: &[Process]) -> Result<Vec<InputSet>, AllocError> {
+    pub fn of_processes(alloc: Global, processes: &[Process]) -> Result<Vec<InputSet>, AllocError>
+        ensures { IfOk result (λ sets. AllZip HasInputs processes.now sets.items) }
+    {
         let mut sets = Vec::new(alloc);
         for process in processes {
-            let mut set = InputSet {
-                by_number: Vec::new(alloc),
-            };
-            set.add_states(process.states.as_slice())?;
-            sets.push(set)?;
+            sets.push(InputSet::of_states(alloc, &process.states)?)?;
         }
         Ok(sets)
     }
 
-    fn add_states(&mut self, states: &[State]) -> Result<(), AllocError> {
-        for state in states {
-            self.add_state(state)?;
+    /// The signals that some of these states input.
+    fn of_states(alloc: Global, states: &[State]) -> Result<InputSet, AllocError>
+        ensures { IfOk result (λ set. (signal : SignalId) → has_input set signal ≡ is_input_in states.now signal.0) }
+    {
+        let mut by_number = Vec::new(alloc);
+        for number in 0..most_inputs(states) {
+            by_number.push(is_input_in(states, number))?;
         }
-        Ok(())
-    }
-
-    fn add_state(&mut self, state: &State) -> Result<(), AllocError> {
-        if self.by_number.len() < state.inputs.len() {
-            self.by_number.resize(state.inputs.len(), false)?;
-        }
-        for (number, input) in state.inputs.iter().enumerate() {
-            if input.is_some() {
-                self.by_number[number] = true;
-            }
-        }
-        Ok(())
+        Ok(InputSet { by_number })
     }
 
     fn has(&self, signal: SignalId) -> bool
@@ -140,5 +132,32 @@ impl InputSet {
             Some(has) => *has,
             None => false,
         }
+    }
+}
+
+/// How far the inputs of these states reach at most.
+fn most_inputs(states: &[State]) -> usize
+    ensures { All (λ state. length state.inputs.items ≤ result) states.now }
+{
+    let mut most: usize = 0;
+    for state in states {
+        most = most.max(state.inputs.len());
+    }
+    most
+}
+
+/// Whether some of these states inputs the signal of this number.
+fn is_input_in(states: &[State], number: usize) -> bool
+    ensures { result ≡ is_input_in states.now number }
+{
+    states.iter().any(|state| has_place(state, number))
+}
+
+fn has_place(state: &State, number: usize) -> bool
+    ensures { result ≡ has_place number state.now }
+{
+    match state.inputs.get(number) {
+        Some(input) => input.is_some(),
+        None => false,
     }
 }

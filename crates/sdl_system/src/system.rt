@@ -1,9 +1,17 @@
 //! Specifications whose names are resolved and whose checks hold.
-ghost use Rattle.std.specs.Prelude.{◌≡◌, slice_get, option_copied, vec_len, All, IfOk};
-ghost use Rattle.sdl_system.specs.System.{process_count, SelectsItsInputs};
+ghost use Rattle.std.specs.Prelude.{◌≡◌, ◌≢◌, ◌&&◌, slice_get, option_copied, is_none, vec_len, All, IfErr, IfOk, IsTrue, OnOk, map};
+ghost use Rattle.std.specs.List.{AllZip};
+ghost use Rattle.sdl_system.specs.Checks.{Holds, are_right_definitions, are_right_processes, numbered_processes};
+ghost use Rattle.sdl_system.specs.Declarations.{all_signals, defined_in, defined_of};
+ghost use Rattle.sdl_system.specs.Fault.{is_clean};
+ghost use Rattle.sdl_system.specs.Meaning.{MeansAll, MeansNumbered};
+ghost use Rattle.sdl_system.specs.Route.{RoutesByInputs};
+ghost use Rattle.sdl_system.specs.Signals.{parameter_counts, signal_names};
+ghost use Rattle.sdl_system.specs.declared.error.BuildError.TheVariants.{Memory};
+ghost use Rattle.sdl_system.specs.System.{DeclaresAs, process_count, process_definitions, SelectsItsInputs};
 
 use crate::error::BuildError;
-use crate::fault::{Fault, Faults, Kind, Token};
+use crate::fault::{Fault, Faults};
 use crate::id::{ProcessId, StateId};
 use crate::limits::first_past_limit;
 use crate::process::Process;
@@ -86,6 +94,12 @@ impl System {
 pub fn build(alloc: Global, tree: &Tree) -> Result<System, BuildError>
     ensures processes { IfOk result (λ system. vec_len system.processes ≡ process_count tree.now) }
     ensures selections { IfOk result (λ system. All SelectsItsInputs system.processes.items) }
+    ensures signals { IfOk result (λ system. map defined_of system.signals.items ≡ map defined_in (all_signals tree.now.definitions.items)) }
+    ensures declared { IfOk result (λ system. AllZip DeclaresAs (process_definitions tree.now.definitions.items) system.processes.items) }
+    ensures routes { IfOk result RoutesByInputs }
+    ensures holds { OnOk result (Holds tree.now) }
+    ensures means { IfOk result (λ system. MeansAll tree.now.definitions.items system.processes.items) }
+    ensures refused { IfErr result (λ error. error ≢ Memory → Holds tree.now → ⊥) }
 {
     if let Some(fault) = first_past_limit(alloc, tree)? {
         return Err(fault.refusal(alloc)?);
@@ -102,6 +116,11 @@ pub fn build(alloc: Global, tree: &Tree) -> Result<System, BuildError>
 fn resolve<'t>(alloc: Global, tree: &'t Tree) -> Result<(System, Option<Fault<'t>>), AllocError>
     ensures processes { IfOk result (λ found. vec_len found.0.processes ≡ process_count tree.now) }
     ensures selections { IfOk result (λ found. All SelectsItsInputs found.0.processes.items) }
+    ensures signals { IfOk result (λ found. map defined_of found.0.signals.items ≡ map defined_in (all_signals tree.now.definitions.items)) }
+    ensures declared { IfOk result (λ found. AllZip DeclaresAs (process_definitions tree.now.definitions.items) found.0.processes.items) }
+    ensures routes { IfOk result (λ found. RoutesByInputs found.0) }
+    ensures means { IfOk result (λ found. IsTrue (are_right_definitions tree.now.definitions.items) → MeansAll tree.now.definitions.items found.0.processes.items) }
+    ensures noted { IfOk result (λ found. is_none found.1 ≡ are_right_definitions tree.now.definitions.items) }
 {
     let mut faults: Faults<'t> = Faults::new();
     let signals = Signals::of_tree(alloc, tree, &mut faults)?;
@@ -123,6 +142,9 @@ fn resolve_processes<'t>(
 ) -> Result<Vec<Process>, AllocError>
     ensures len { IfOk result (λ processes. vec_len processes ≡ process_count tree.now) }
     ensures selections { IfOk result (λ processes. All SelectsItsInputs processes.items) }
+    ensures declared { IfOk result (λ processes. AllZip DeclaresAs (process_definitions tree.now.definitions.items) processes.items) }
+    ensures means { IfOk result (λ processes. AllZip (MeansNumbered (signal_names signals.now) (parameter_counts signals.now)) (numbered_processes tree.now.definitions.items) processes.items) }
+    ensures noted { OnOk result (is_clean faults.new ≡ (is_clean faults.old && are_right_processes (signal_names signals.now) (parameter_counts signals.now) tree.now.definitions.items)) }
 {
     let mut names = Names::new(alloc);
     let mut processes = Vec::new(alloc);
@@ -133,9 +155,7 @@ fn resolve_processes<'t>(
         let Ok(number) = u32::try_from(processes.len()) else {
             return Err(AllocError);
         };
-        if !names.add(definition.name.text.as_str())? {
-            faults.note(Kind::Duplicate, Token::of_name(&definition.name));
-        }
+        names.declare(&definition.name, faults)?;
         processes.push(resolve_process(alloc, signals, number, definition, faults)?)?;
     }
     Ok(processes)

@@ -1,6 +1,7 @@
 -- What the program answers to its input.
-use Rattle.std.specs.Prelude.{◌≡◌, ◌⊎◌, ℕ, Bool, true, false, List, Option, All, take, vec_len}
+use Rattle.std.specs.Prelude.{◌≡◌, ◌≢◌, ◌⊎◌, ℕ, Bool, true, false, List, Option, All, map, take, vec_len}
 use Rattle.std.specs.Io.KnownBytes.{Appends, Keeps}
+use Rattle.std.specs.List.{AllZip}
 use Rattle.sdl_lex.specs.declared.error.LexError.TheVariants as lex
 use Rattle.sdl_parse.specs.declared.error.ParseError.TheVariants as parse
 use Rattle.sdl_parse.specs.declared.tree.Tree.{Tree}
@@ -12,7 +13,13 @@ use Rattle.sdl_report.specs.declared.record.Report.{Report}
 use Rattle.sdl_report.specs.declared.script.Script.{Script}
 use Rattle.sdl_report.specs.declared.script.ScriptError.{ScriptError}
 use Rattle.sdl_system.specs.Behaviour.{Behaviour}
-use Rattle.sdl_system.specs.System.{SelectsItsInputs, process_count}
+use Rattle.sdl_system.specs.Checks.{Holds}
+use Rattle.sdl_system.specs.Declarations.{all_signals, defined_in, defined_of}
+use Rattle.sdl_system.specs.Meaning.{MeansAll}
+use Rattle.sdl_system.specs.Route.{RoutesByInputs}
+use Rattle.sdl_system.specs.System.{DeclaresAs, SelectsItsInputs, process_count, process_definitions}
+use Rattle.sdl_system.specs.declared.error.BuildError.{BuildError}
+use Rattle.sdl_system.specs.declared.error.BuildError.TheVariants as build
 use Rattle.sdl_system.specs.declared.system.System.{System}
 use Rattle.sdl_workers.specs.Global.{AreBehaviours}
 use Rattle.sdl_workers.specs.Report.{IsSerialReport}
@@ -27,10 +34,16 @@ use Rattle.sdlrun.specs.declared.options.TextFault.TheVariants as fault
 use Rattle.sdlrun.specs.declared.refusal.Refusal.{Refusal}
 use Rattle.sdlrun.specs.declared.refusal.Refusal.TheVariants as refusal
 
--- what `build` says of the system of a tree
+-- The system is that of a tree whose checks hold: it has its signals and processes by number, and each process does what its
+-- definition says.
 pub record IsBuilt (tree : Tree) (system : System) : Type 0 where
+  pub holds : Holds tree
+  pub signals : map defined_of system.signals.items ≡ map defined_in (all_signals tree.definitions.items)
   pub processes : vec_len system.processes ≡ process_count tree
+  pub declared : AllZip DeclaresAs (process_definitions tree.definitions.items) system.processes.items
+  pub means : MeansAll tree.definitions.items system.processes.items
   pub selections : All SelectsItsInputs system.processes.items
+  pub routes : RoutesByInputs system
 
 -- the input is a specification, of which this tree was parsed and this system built, and the text of a script
 pub record IsBuiltFrom (input : List ℕ) (script : List ℕ) (system : System) : Type 0 where
@@ -61,6 +74,14 @@ abbrev pub outcome_of : Refusal → Outcome
 outcome_of (refusal.Run error) = outcome.RunRefused
 outcome_of refused = outcome.TextRefused
 
+-- a specification is refused where a check of its tree is broken, or where memory was refused
+pub record IsBuildRefused (input : List ℕ) (error : BuildError) : Type 0 where
+  pub specification : List ℕ
+  pub script : List ℕ
+  pub parted : IsParted input specification script
+  pub tree : Tree
+  pub broken : error ≢ build.Memory → Holds tree → ⊥
+
 -- a script is refused at the line, and for the fault, that is told
 pub record IsScriptRefused (input : List ℕ) (error : ScriptError) : Type 0 where
   pub script : List ℕ
@@ -68,10 +89,10 @@ pub record IsScriptRefused (input : List ℕ) (error : ScriptError) : Type 0 whe
   pub source : IsBuiltFrom input script system
   pub at_fault : faults.Refuses error system script
 
--- What may be told of these bytes. Of a specification that is refused, and of a run, nothing more is said than the line does.
+-- What may be told of these bytes. Of a text that has no tree, and of a run, nothing more is said than the line does.
 abbrev pub AllowsOf : List ℕ → Refusal → Type 0
 AllowsOf bytes (refusal.Parse error) = Unit {0}
-AllowsOf bytes (refusal.Build error) = Unit {0}
+AllowsOf bytes (refusal.Build error) = IsBuildRefused bytes error
 AllowsOf bytes (refusal.Script error) = IsScriptRefused bytes error
 AllowsOf bytes (refusal.Run error) = Unit {0}
 

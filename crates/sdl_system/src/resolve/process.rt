@@ -1,15 +1,23 @@
 //! A process with its names resolved.
-ghost use Rattle.std.specs.Prelude.{◌≢◌, IfOk};
+ghost use Rattle.std.specs.Prelude.{◌≡◌, ◌≢◌, ◌&&◌, is_some, IfOk, IfSome, OnOk};
+ghost use Rattle.std.specs.Option.{option_map};
+ghost use Rattle.sdl_system.specs.Body.{body_of};
+ghost use Rattle.sdl_system.specs.Checks.{is_right_process};
+ghost use Rattle.sdl_system.specs.Fault.{is_clean};
+ghost use Rattle.sdl_system.specs.Meaning.{MeansIfRight};
 ghost use Rattle.sdl_system.specs.Names.{name_count};
+ghost use Rattle.sdl_system.specs.Scope.{scope_in, scope_of};
+ghost use Rattle.sdl_system.specs.Signals.{parameter_counts, signal_names};
 ghost use Rattle.sdl_system.specs.Soundness.{EndsBelow};
-ghost use Rattle.sdl_system.specs.System.{SelectsItsInputs};
+ghost use Rattle.sdl_system.specs.System.{DeclaresAs, SelectsItsInputs};
+ghost use Rattle.sdl_system.specs.Transition.{start_in};
 
 use crate::fault::{Faults, Kind, Token};
 use crate::process::{End, Process, Transition};
 use crate::resolve::scope::Scope;
 use crate::resolve::signals::Signals;
 use crate::resolve::states::{Behaviour, state_names};
-use crate::resolve::transition::resolve_transition;
+use crate::resolve::transition::{or_stop, resolve_transition};
 use crate::resolve::variables::Variables;
 use sdl_parse::tree::{NextState, ProcessDefinition, Start, Terminator};
 use std::alloc::{AllocError, Global};
@@ -22,7 +30,10 @@ pub fn resolve_process<'t>(
     definition: &'t ProcessDefinition,
     faults: &mut Faults<'t>,
 ) -> Result<Process, AllocError>
-    ensures { IfOk result SelectsItsInputs }
+    ensures selects { IfOk result SelectsItsInputs }
+    ensures declares { IfOk result (DeclaresAs definition.now) }
+    ensures means { IfOk result (MeansIfRight (scope_in (signal_names signals.now) (parameter_counts signals.now) number definition.now) definition.now) }
+    ensures noted { OnOk result (is_clean faults.new ≡ (is_clean faults.old && is_right_process (scope_in (signal_names signals.now) (parameter_counts signals.now) number definition.now) definition.now)) }
 {
     let variables = Variables::of_process(alloc, &definition.definitions, faults)?;
     let states = state_names(alloc, &definition.states)?;
@@ -32,7 +43,10 @@ pub fn resolve_process<'t>(
         variables: &variables,
         states: &states,
     };
-    let start = resolve_start(alloc, scope, &definition.start, faults)?;
+    let start = or_stop(
+        alloc,
+        resolve_start(alloc, scope, &definition.start, faults)?,
+    );
     let behaviour = Behaviour::of_parts(alloc, scope, &definition.states, faults)?;
     Ok(Process {
         name: definition.name.text.clone()?,
@@ -43,27 +57,25 @@ pub fn resolve_process<'t>(
     })
 }
 
-/// The start transition. It begins in no state, so that it can't stay in it: that is noted, and a stop
-/// stands for it.
+/// The start transition, or None where a fault was noted in it. It begins in no state, so that it can't
+/// stay in it.
 fn resolve_start<'t>(
     alloc: Global,
     scope: Scope<'_, 't>,
     start: &'t Start,
     faults: &mut Faults<'t>,
-) -> Result<Transition, AllocError>
-    ensures begins { IfOk result (λ transition. transition.end ≢ End.Same) }
-    ensures leads { IfOk result (EndsBelow (name_count scope.entry.states.now)) }
+) -> Result<Option<Transition>, AllocError>
+    ensures body { IfOk result (λ found. option_map body_of found ≡ start_in (scope_of scope.entry) start.now.transition) }
+    ensures noted { IfOk result (λ found. is_clean faults.new ≡ (is_clean faults.old && is_some found)) }
+    ensures begins { IfOk result (λ found. IfSome found (λ transition. transition.end ≢ End.Same)) }
+    ensures below { IfOk result (λ found. IfSome found (EndsBelow (name_count scope.entry.states.now))) }
 {
     let resolved = resolve_transition(alloc, scope, start.word, &start.transition, faults)?;
-    if let Some(Terminator::NextState(NextState::Same(dash))) = &start.transition.terminator {
-        faults.note(Kind::NoState, Token::of_word(*dash));
+    match &start.transition.terminator {
+        Some(Terminator::NextState(NextState::Same(dash))) => {
+            faults.note(Kind::NoState, Token::of_word(*dash));
+            Ok(None)
+        }
+        _ => Ok(resolved),
     }
-    let end = match resolved.end {
-        End::Same => End::Stop,
-        end => end,
-    };
-    Ok(Transition {
-        statements: resolved.statements,
-        end,
-    })
 }

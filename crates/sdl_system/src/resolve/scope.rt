@@ -1,6 +1,6 @@
 //! What names mean inside a process.
-
-ghost use Rattle.std.specs.Prelude.{◌<◌, IfSome};
+ghost use Rattle.std.specs.Prelude.{◌≡◌, ◌<◌, ◌&&◌, is_some, IfSome};
+ghost use Rattle.sdl_system.specs.Fault.{is_clean};
 ghost use Rattle.sdl_system.specs.Names.{name_count};
 ghost use Rattle.sdl_system.specs.Signals.{signal_count};
 ghost use Rattle.sdl_system.specs.Variables.{variable_count};
@@ -24,9 +24,13 @@ pub struct Scope<'a, 't> {
 }
 
 impl<'a, 't> Scope<'a, 't> {
+    ghost use Rattle.sdl_system.specs.Scope.{scope_of, signal_in, signal_taking, state_in, variable_in};
+
     /// The signal that a name means, or None, and it is noted as Unknown.
     pub fn signal(&self, name: &'t Name, faults: &mut Faults<'t>) -> Option<SignalId>
-        ensures { IfSome result (λ signal. signal.0 < signal_count self.now.signals.now) }
+        ensures signal { result ≡ signal_in (scope_of self.now) name.now }
+        ensures noted { is_clean faults.new ≡ (is_clean faults.old && is_some result) }
+        ensures below { IfSome result (λ signal. signal.0 < signal_count self.now.signals.now) }
     {
         let signal = self.signals.visible_in(self.process, name.text.as_str());
         if signal.is_none() {
@@ -35,9 +39,31 @@ impl<'a, 't> Scope<'a, 't> {
         signal
     }
 
+    /// The signal that a name means, if it takes just so many values. Another number of values is noted
+    /// as a fault of Sort.
+    pub fn signal_taking(
+        &self,
+        name: &'t Name,
+        count: usize,
+        faults: &mut Faults<'t>,
+    ) -> Option<SignalId>
+        ensures signal { result ≡ signal_taking (scope_of self.now) name.now count }
+        ensures noted { is_clean faults.new ≡ (is_clean faults.old && is_some result) }
+    {
+        let signal = self.signal(name, faults)?;
+        if self.signals.parameters(signal) == count {
+            Some(signal)
+        } else {
+            faults.note(Kind::Sort, Token::of_name(name));
+            None
+        }
+    }
+
     /// The variable that a name means, or None, and it is noted as Unknown.
     pub fn variable(&self, name: &'t Name, faults: &mut Faults<'t>) -> Option<VariableId>
-        ensures { IfSome result (λ variable. variable.0 < variable_count self.now.variables.now) }
+        ensures variable { result ≡ variable_in (scope_of self.now) name.now }
+        ensures noted { is_clean faults.new ≡ (is_clean faults.old && is_some result) }
+        ensures below { IfSome result (λ variable. variable.0 < variable_count self.now.variables.now) }
     {
         let variable = self.variables.number(name.text.as_str());
         if variable.is_none() {
@@ -48,12 +74,16 @@ impl<'a, 't> Scope<'a, 't> {
 
     /// The state that a name means, or None, and it is noted as NoState.
     pub fn state(&self, name: &'t Name, faults: &mut Faults<'t>) -> Option<StateId>
-        ensures { IfSome result (λ state. state.0 < name_count self.now.states.now) }
+        ensures state { result ≡ state_in (scope_of self.now) name.now }
+        ensures noted { is_clean faults.new ≡ (is_clean faults.old && is_some result) }
+        ensures below { IfSome result (λ state. state.0 < name_count self.now.states.now) }
     {
-        let number = self.states.number(name.text.as_str());
-        if number.is_none() {
-            faults.note(Kind::NoState, Token::of_name(name));
+        match self.states.number(name.text.as_str()) {
+            Some(number) => Some(StateId(number)),
+            None => {
+                faults.note(Kind::NoState, Token::of_name(name));
+                None
+            }
         }
-        Some(StateId(number?))
     }
 }

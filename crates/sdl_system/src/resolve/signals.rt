@@ -1,5 +1,9 @@
 //! The signals of a specification, and which of them a name means.
-ghost use Rattle.std.specs.Prelude.{◌≡◌, ◌<◌, ◌≤◌, ◌^◌, IfSome, vec_len};
+ghost use Rattle.std.specs.Prelude.{◌≡◌, ◌<◌, ◌≤◌, ◌^◌, ◌&&◌, IfSome, slice_index, vec_len, ◌++◌, [], ◌∷◌, flat_map, length, map, IfOk, OnOk};
+ghost use Rattle.std.specs.List.{list_all};
+ghost use Rattle.sdl_system.specs.Declarations.{all_signals, defined_in, has_known_sorts, is_integer, local_signals, number_after, signals_in};
+ghost use Rattle.sdl_system.specs.Different.{Adds, are_different, firsts};
+ghost use Rattle.sdl_system.specs.Fault.{is_clean};
 ghost use Rattle.indexmap.specs.IndexSet.{index_set_len};
 
 use crate::fault::{Faults, Kind, Token};
@@ -7,9 +11,7 @@ use crate::resolve::sort::resolve_sort;
 use crate::system::{Signal, Sort};
 use indexmap::{IndexMap, IndexSet};
 use port_model::SignalId;
-use sdl_parse::tree::{
-    Definition, LocalDefinition, Name, ProcessDefinition, SignalDefinition, Tree,
-};
+use sdl_parse::tree::{Definition, LocalDefinition, Name, SignalDefinition, Tree};
 use std::alloc::{AllocError, Global};
 
 /// What a signal is defined for.
@@ -31,9 +33,12 @@ pub struct Signals<'t> {
 }
 
 impl<'t> Signals<'t> {
-    ghost use Rattle.sdl_system.specs.Signals.{signal_count};
+    ghost use Rattle.sdl_system.specs.Signals.{defined_signals, is_same, named, names_from, names_in, parameter_counts, signal_at, signal_count, signal_names, visible_in};
 
-    fn new(alloc: Global) -> Self {
+    fn new(alloc: Global) -> Self
+        ensures signals { defined_signals result ≡ [] }
+        ensures names { signal_names result ≡ [] }
+    {
         Signals {
             names: IndexSet::new(alloc),
             list: Vec::new(alloc),
@@ -45,34 +50,55 @@ impl<'t> Signals<'t> {
         alloc: Global,
         tree: &'t Tree,
         faults: &mut Faults<'t>,
-    ) -> Result<Signals<'t>, AllocError> {
+    ) -> Result<Signals<'t>, AllocError>
+        ensures signals { IfOk result (λ signals. defined_signals signals ≡ map defined_in (all_signals tree.now.definitions.items)) }
+        ensures names { IfOk result (λ signals. signal_names signals ≡ firsts is_same (names_from 0 tree.now.definitions.items)) }
+        ensures noted { OnOk result (is_clean faults.new ≡ (is_clean faults.old && (are_different is_same (names_from 0 tree.now.definitions.items) && list_all has_known_sorts (all_signals tree.now.definitions.items)))) }
+    {
         let mut signals = Signals::new(alloc);
         let mut process = 0u32;
         for definition in &tree.definitions {
-            match definition {
-                Definition::Signals(list) => {
-                    signals.define_all(alloc, Level::System, list, faults)?;
-                }
-                Definition::Process(definition) => {
-                    signals.define_local(alloc, Level::Process(process), definition, faults)?;
-                    process = process.checked_add(1).ok_or(AllocError)?;
-                }
-            }
+            signals.define_in(alloc, process, definition, faults)?;
+            process = process_after(process, definition)?;
         }
         Ok(signals)
+    }
+
+    fn define_in(
+        &mut self,
+        alloc: Global,
+        process: u32,
+        definition: &'t Definition,
+        faults: &mut Faults<'t>,
+    ) -> Result<(), AllocError>
+        ensures signals { OnOk result (defined_signals self.new ≡ defined_signals self.old ++ map defined_in (signals_in definition.now)) }
+        ensures noted { OnOk result (Adds is_same (signal_names self.old) (names_in process definition.now) (signal_names self.new) (is_clean faults.old) (list_all has_known_sorts (signals_in definition.now)) (is_clean faults.new)) }
+    {
+        match definition {
+            Definition::Signals(list) => self.define_all(alloc, Level::System, list, faults),
+            Definition::Process(definition) => {
+                self.define_local(
+                    alloc,
+                    Level::Process(process),
+                    &definition.definitions,
+                    faults,
+                )
+            }
+        }
     }
 
     fn define_local(
         &mut self,
         alloc: Global,
         level: Level,
-        process: &'t ProcessDefinition,
+        definitions: &'t [LocalDefinition],
         faults: &mut Faults<'t>,
-    ) -> Result<(), AllocError> {
-        for definition in &process.definitions {
-            if let LocalDefinition::Signals(list) = definition {
-                self.define_all(alloc, level, list, faults)?;
-            }
+    ) -> Result<(), AllocError>
+        ensures signals { OnOk result (defined_signals self.new ≡ defined_signals self.old ++ map defined_in (flat_map local_signals definitions.now)) }
+        ensures noted { OnOk result (Adds is_same (signal_names self.old) (map (named level) (flat_map local_signals definitions.now)) (signal_names self.new) (is_clean faults.old) (list_all has_known_sorts (flat_map local_signals definitions.now)) (is_clean faults.new)) }
+    {
+        for definition in definitions {
+            self.define_all(alloc, level, local_signals(definition), faults)?;
         }
         Ok(())
     }
@@ -83,7 +109,10 @@ impl<'t> Signals<'t> {
         level: Level,
         list: &'t [SignalDefinition],
         faults: &mut Faults<'t>,
-    ) -> Result<(), AllocError> {
+    ) -> Result<(), AllocError>
+        ensures signals { OnOk result (defined_signals self.new ≡ defined_signals self.old ++ map defined_in list.now) }
+        ensures noted { OnOk result (Adds is_same (signal_names self.old) (map (named level) list.now) (signal_names self.new) (is_clean faults.old) (list_all has_known_sorts list.now) (is_clean faults.new)) }
+    {
         for definition in list {
             self.define(alloc, level, definition, faults)?;
         }
@@ -96,7 +125,10 @@ impl<'t> Signals<'t> {
         level: Level,
         definition: &'t SignalDefinition,
         faults: &mut Faults<'t>,
-    ) -> Result<(), AllocError> {
+    ) -> Result<(), AllocError>
+        ensures signals { OnOk result (defined_signals self.new ≡ defined_signals self.old ++ defined_in definition.now ∷ []) }
+        ensures noted { OnOk result (Adds is_same (signal_names self.old) (named level definition.now ∷ []) (signal_names self.new) (is_clean faults.old) (has_known_sorts definition.now) (is_clean faults.new)) }
+    {
         if self.list.len() > u32::MAX as usize {
             return Err(AllocError);
         }
@@ -114,15 +146,19 @@ impl<'t> Signals<'t> {
 
     /// The signal of this name at this level.
     fn at_level(&self, level: Level, text: &'t str) -> Option<SignalId>
-        ensures { IfSome result (λ signal. signal.0 < signal_count self.now) }
+        ensures signal { result ≡ signal_at (signal_names self.now) level text.now }
+        ensures below { IfSome result (λ signal. signal.0 < signal_count self.now) }
     {
-        let number = self.names.get_index_of(&(level, text))?;
-        Some(SignalId(number as u32))
+        match self.names.get_index_of(&(level, text)) {
+            Some(number) => Some(SignalId(number as u32)),
+            None => None,
+        }
     }
 
     /// The signal that a name in a process means: its own, or else the system's.
     pub fn visible_in(&self, process: u32, text: &'t str) -> Option<SignalId>
-        ensures { IfSome result (λ signal. signal.0 < signal_count self.now) }
+        ensures signal { result ≡ visible_in (signal_names self.now) process text.now }
+        ensures below { IfSome result (λ signal. signal.0 < signal_count self.now) }
     {
         match self.at_level(Level::Process(process), text) {
             Some(signal) => Some(signal),
@@ -133,6 +169,7 @@ impl<'t> Signals<'t> {
     /// How many parameters a signal has.
     pub fn parameters(&self, signal: SignalId) -> usize
         requires { signal.0 < signal_count self.now }
+        ensures { result ≡ slice_index (parameter_counts self.now) signal.0 }
     {
         self.list[signal.0 as usize].sorts.len()
     }
@@ -150,9 +187,29 @@ impl<'t> Signals<'t> {
 
     /// The signals by their numbers.
     pub fn into_list(self) -> Vec<Signal>
-        ensures { vec_len result ≡ signal_count self.entry }
+        ensures { result ≡ self.entry.list }
     {
         self.list
+    }
+}
+
+/// The number of the process that comes next behind a definition.
+fn process_after(process: u32, definition: &Definition) -> Result<u32, AllocError>
+    ensures { IfOk result (λ next. next ≡ number_after process definition.now) }
+{
+    match definition {
+        Definition::Signals(_) => Ok(process),
+        Definition::Process(_) => process.checked_add(1).ok_or(AllocError),
+    }
+}
+
+/// The signals among what a process defines.
+pub fn local_signals(definition: &LocalDefinition) -> &[SignalDefinition]
+    ensures { result.now ≡ local_signals definition.now }
+{
+    match definition {
+        LocalDefinition::Signals(list) => list,
+        LocalDefinition::Variables(_) => &[],
     }
 }
 
@@ -160,7 +217,10 @@ fn resolve_sorts<'t>(
     alloc: Global,
     names: &'t [Name],
     faults: &mut Faults<'t>,
-) -> Result<Vec<Sort>, AllocError> {
+) -> Result<Vec<Sort>, AllocError>
+    ensures len { IfOk result (λ sorts. vec_len sorts ≡ length names.now) }
+    ensures noted { OnOk result (is_clean faults.new ≡ (is_clean faults.old && list_all is_integer names.now)) }
+{
     let mut sorts = Vec::new(alloc);
     for name in names {
         sorts.push(resolve_sort(name, faults))?;

@@ -1,5 +1,14 @@
 use Rattle.sdlrun.proofs.text.run_bytes.Goals as goal
 
+pub returns-in-Err-build-clause-err : goal.returns-in-Err-build-clause-err
+returns-in-Err-build-clause-err c = record {
+  specification = c.parts.result.0.now;
+  script = c.parts.result.1.now;
+  parted = c.parts.ensures;
+  tree = c.in-Ok.tree;
+  broken = c.in-Err-build.ensures.refused;
+}
+
 pub returns-in-Err-read_script-clause-err : goal.returns-in-Err-read_script-clause-err
 returns-in-Err-read_script-clause-err c = record {
   script = c.parts.result.1.now;
@@ -8,7 +17,15 @@ returns-in-Err-read_script-clause-err c = record {
     specification = c.parts.result.0.now;
     parted = c.parts.ensures;
     tree = c.in-Ok.tree;
-    built = record { processes = c.in-Ok-build.ensures.processes; selections = c.in-Ok-build.ensures.selections };
+    built = record {
+      holds = c.in-Ok-build.ensures.holds;
+      signals = c.in-Ok-build.ensures.signals;
+      processes = c.in-Ok-build.ensures.processes;
+      declared = c.in-Ok-build.ensures.declared;
+      means = c.in-Ok-build.ensures.means;
+      selections = c.in-Ok-build.ensures.selections;
+      routes = c.in-Ok-build.ensures.routes;
+    };
   };
   at_fault = c.in-Err-read_script.ensures.refused;
 }
@@ -20,7 +37,15 @@ returns-in-Ok-run_serial-clause-ok c = record {
     specification = c.parts.result.0.now;
     parted = c.parts.ensures;
     tree = c.in-Ok.tree;
-    built = record { processes = c.in-Ok-build.ensures.processes; selections = c.in-Ok-build.ensures.selections };
+    built = record {
+      holds = c.in-Ok-build.ensures.holds;
+      signals = c.in-Ok-build.ensures.signals;
+      processes = c.in-Ok-build.ensures.processes;
+      declared = c.in-Ok-build.ensures.declared;
+      means = c.in-Ok-build.ensures.means;
+      selections = c.in-Ok-build.ensures.selections;
+      routes = c.in-Ok-build.ensures.routes;
+    };
   };
   read = c.in-Ok-read_script.script;
   is_script = c.in-Ok-read_script.ensures.script;

@@ -1,11 +1,11 @@
 use Rattle.sdl_system.proofs.StateLemmas.{InputsBelow-set}
 use Rattle.sdl_system.proofs.resolve.states.admit.Goals as goal
 
-pub returns-in_err-make_place : goal.returns-in_err-make_place
-returns-in_err-make_place c count begun below = c.make_place.ensures.kept count below
+pub returns-in_err-make_place-clause-below : goal.returns-in_err-make_place-clause-below
+returns-in_err-make_place-clause-below c count begun below = c.make_place.ensures.kept count below
 
-pub returns-then-is_some : goal.returns-then-is_some
-returns-then-is_some c count begun below = c.make_place.ensures.kept count below
+pub returns-then-is_some-clause-below : goal.returns-then-is_some-clause-below
+returns-then-is_some-clause-below c count begun below = c.make_place.ensures.kept count below
 
-pub returns : goal.returns
-returns c count begun below = InputsBelow-set count _ _ _ begun (c.make_place.ensures.kept count below)
+pub returns-clause-below : goal.returns-clause-below
+returns-clause-below c count begun below = InputsBelow-set count _ _ _ begun (c.make_place.ensures.kept count below)

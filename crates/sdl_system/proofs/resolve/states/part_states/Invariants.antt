@@ -1,7 +1,12 @@
-use Rattle.std.proofs.Common.{All}
-use Rattle.sdl_system.specs.Names.{name_count}
+use Rattle.std.proofs.Common.{◌≡◌, All, take}
+use Rattle.std.specs.List.{filter_map}
+use Rattle.sdl_system.specs.Names.{name_count, names_of}
+use Rattle.sdl_system.specs.Receptions.{state_named}
 use Rattle.sdl_system.specs.States.{IsStateBelow}
 use Rattle.sdl_system.proofs.resolve.states.part_states.Given as goal
 
-abbrev pub invariant-loop-name : goal.invariant-loop-name
-invariant-loop-name l = All (IsStateBelow (name_count l.known)) l.states.items
+abbrev pub invariant-loop-text : goal.invariant-loop-text
+invariant-loop-text l = record {
+  below : All (IsStateBelow (name_count l.known)) l.states.items;
+  named : l.states.items ≡ filter_map (λ text. state_named (names_of l.known) text.now) (take l.text-index l.text-items);
+}

@@ -1,0 +1,5 @@
+pub mod Ends
+pub mod Numbers
+pub mod Rule
+pub mod Steps
+pub mod Views

@@ -1,0 +1,7 @@
+use Rattle.std.proofs.Common.{◌∙◌, ap, is_none, sym}
+use Rattle.sdl_system.proofs.LimitLemmas.{Counts-definition, Counts-kept}
+use Rattle.sdl_system.proofs.limits.first_past_limit.Goals as goal
+
+pub loop-definition-preserved : goal.loop-definition-preserved
+loop-definition-preserved c =
+    Counts-definition _ _ _ _ _ _ c.loop-definition-test.true c.definition-item.is c.loop-definition.invariant c.in_ok-definition.ensures
