@@ -1,5 +1,5 @@
 -- Lists to which only what is new is added, and loops that add to them.
-use Rattle.std.proofs.Common.{◌≡◌, ◌∙◌, ◌++◌, ◌&&◌, ◌<◌, ◌≤◌, ◌+◌, ℕ, Bool, true, false, List, [], ◌∷◌, fold, flat_map, get_or, length, map, not, take, refl, sym, ap, subst, append_assoc, append-nil}
+use Rattle.std.proofs.Common.{◌≡◌, ◌∙◌, ◌++◌, ◌&&◌, ◌<◌, ◌≤◌, ◌+◌, ℕ, Bool, true, false, List, [], ◌∷◌, fold, flat_map, get_or, length, map, not, take, refl, sym, ap, subst, append-nil}
 use Rattle.std.specs.List.{list_all}
 use Rattle.std.proofs.lemmas.Grind.{take_at_read}
 use Rattle.std.proofs.lemmas.List.{map-append, take_all}
@@ -39,9 +39,6 @@ both-noted true false b d e = refl
 both-noted true true b true e = refl
 both-noted true true true false e = refl
 both-noted true true false false e = refl
-
-pub Adds-none : {A : Type 0} (same : A → A → Bool) (old : List A) (was : Bool) → Adds same old [] old was true was
-Adds-none same old was = record { names = refl; noted = sym (and-true was) }
 
 with-one : (was right new : Bool) → ((was && right) && new) ≡ (was && ((new && true) && right))
 with-one false right new = refl

@@ -1,5 +1,5 @@
 -- The checks of a whole specification.
-use Rattle.std.proofs.Common.{◌≡◌, ◌∙◌, ◌&&◌, ◌++◌, ℕ, All, Bool, true, false, List, [], ◌∷◌, ap, append_assoc, append-nil, fold, is_some, map, not, refl, subst, sym, vec_len}
+use Rattle.std.proofs.Common.{◌≡◌, ◌∙◌, ◌&&◌, ◌++◌, ℕ, Bool, true, false, List, [], ◌∷◌, ap, append_assoc, append-nil, fold, is_some, map, not, refl, subst, sym, vec_len}
 use Rattle.std.specs.List.{AllByRecursion, AllZip, list_all}
 use Rattle.std.proofs.lemmas.Bool.{and_from, and_parts, cond-false, not-true}
 use Rattle.std.proofs.lemmas.List.Elements.{All-from_recursion, recursion_from_All}
@@ -54,8 +54,8 @@ definitions-noted definitions names parameters was first now clean is counts sig
     processes
     ∙ ap (λ b. b && are_right_processes names parameters definitions) (signals ∙ ap (λ b. b && are_right_signals definitions) clean)
     ∙ and-where (are_right_signals definitions) (are_right_processes names parameters definitions) (are_right_processes (names_from 0 definitions) (map parameters_of (all_signals definitions)) definitions)
-        (λ right. ap (λ list. are_right_processes list parameters definitions) (signal_names-right definitions names is right)
-            ∙ ap (λ list. are_right_processes (names_from 0 definitions) list definitions) counts)
+    (λ right. ap (λ list. are_right_processes list parameters definitions) (signal_names-right definitions names is right)
+    ∙ ap (λ list. are_right_processes (names_from 0 definitions) list definitions) counts)
 
 AllZip-where : {A B : Type 0} (right : A → Bool) (P Q : A → B → Type 0) → ((x : A) (y : B) → P x y → right x ≡ true → Q x y) → (xs : List A) (ys : List B) → list_all right xs ≡ true → AllZip P xs ys → AllZip Q xs ys
 AllZip-where right P Q step [] [] all zipped = zipped

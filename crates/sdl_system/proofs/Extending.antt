@@ -1,5 +1,5 @@
 -- Loops that add to names or to a list, and note what is wrong.
-use Rattle.std.proofs.Common.{◌≡◌, ◌∙◌, ◌++◌, ◌&&◌, ◌<◌, ◌≤◌, ◌+◌, ℕ, Bool, true, false, List, [], ◌∷◌, fold, flat_map, get_or, length, not, cond, take, refl, sym, ap, subst, append_assoc, append-nil, arith, bytes_eq}
+use Rattle.std.proofs.Common.{◌≡◌, ◌∙◌, ◌++◌, ◌&&◌, ◌<◌, ◌≤◌, ◌+◌, ℕ, Bool, true, false, List, [], ◌∷◌, fold, flat_map, get_or, length, cond, take, refl, sym, ap, subst, append_assoc, append-nil, arith, bytes_eq}
 use Rattle.std.specs.List.{list_all}
 use Rattle.std.proofs.lemmas.List.{length-append, length-map, length_push, take_all}
 use Rattle.std.proofs.lemmas.List.Concat.{flat_map-append}
@@ -14,12 +14,6 @@ use Rattle.sdl_system.specs.Names.{Declares, all_new, is_named, text_of, with_na
 
 pub Declares-none : (names : List (List ℕ)) (was : Bool) → Declares names [] names was was
 Declares-none names was = record { names = refl; noted = sym (and-true was) }
-
-pub Declares-one : (names : List (List ℕ)) (text : List ℕ) (new : List (List ℕ)) (was is_new now : Bool) → new ≡ with_name names text → is_new ≡ not (is_named names text) → now ≡ (was && is_new) → Declares names (text ∷ []) new was now
-Declares-one names text new was is_new now is one noted = record {
-  names = is;
-  noted = noted ∙ ap (λ b. was && b) (one ∙ sym (and-true (not (is_named names text))));
-}
 
 pub Declares-then : (names xs between ys new : List (List ℕ)) (was mid now : Bool) → Declares names xs between was mid → Declares between ys new mid now → Declares names (xs ++ ys) new was now
 Declares-then names xs between ys new was mid now first second = record {

@@ -34,6 +34,6 @@ signals-insert key text keys new was right between is_new now spelled is one bef
     Adds-same is_same (map key_name keys) (key_name key ∷ []) (record { level = key.0; text = text } ∷ []) (map key_name new) was right right now
     (ap (λ t. let name : SignalName = record { level = key.0; text = t } in name ∷ []) spelled) refl
     (Adds-one is_same (map key_name keys) (key_name key) (map key_name new) was right between is_new now
-        (ap (map key_name) is ∙ with_new-keys key_name is_same (λ other. (level.ghosts).eq key.0 other.0 && bytes_eq key.1.now other.1.now) key (same-key key) keys)
-        (one ∙ ap not (is_among-keys key_name is_same (λ other. (level.ghosts).eq key.0 other.0 && bytes_eq key.1.now other.1.now) key (same-key key) keys))
-        before after)
+    (ap (map key_name) is ∙ with_new-keys key_name is_same (λ other. (level.ghosts).eq key.0 other.0 && bytes_eq key.1.now other.1.now) key (same-key key) keys)
+    (one ∙ ap not (is_among-keys key_name is_same (λ other. (level.ghosts).eq key.0 other.0 && bytes_eq key.1.now other.1.now) key (same-key key) keys))
+    before after)

@@ -1,6 +1,6 @@
 -- Names and their numbers.
 use Rattle.sdl_system.specs.Different.{is_among, with_new}
-use Rattle.std.proofs.Common.{true, false, ◌||◌, ◌++◌, sym, ◌≡◌, ℕ, ◌+◌, Bool, List, [], ◌∷◌, None, Some, map, length, position, cond, not, nat_lt, refl, ap, ◌∙◌}
+use Rattle.std.proofs.Common.{true, false, ◌||◌, ◌++◌, sym, ◌≡◌, ◌+◌, Bool, List, [], ◌∷◌, None, Some, map, length, position, cond, not, nat_lt, refl, ap, ◌∙◌}
 use Rattle.std.specs.List.{list_any, position_or_len, prefix_len}
 use Rattle.std.proofs.lemmas.List.{length-map, map_push}
 

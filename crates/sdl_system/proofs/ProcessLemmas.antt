@@ -1,5 +1,5 @@
 -- The process definitions of a specification, and what holds of each of them.
-use Rattle.std.proofs.Common.{◌≡◌, ◌∙◌, ◌&&◌, ◌+◌, ◌<◌, ◌++◌, ℕ, Bool, true, List, [], ◌∷◌, Option, None, Some, IfSome, IsTrue, ap, get_or, is_some, arith, bytes_eq, length, map, option_map, subst, sym, take}
+use Rattle.std.proofs.Common.{◌≡◌, ◌∙◌, ◌&&◌, ◌+◌, ◌<◌, ◌++◌, ℕ, Bool, true, List, [], ◌∷◌, Option, None, Some, IfSome, ap, get_or, is_some, arith, bytes_eq, length, map, option_map, subst, sym, take}
 use Rattle.std.specs.List.{enumerate_from, list_all}
 use Rattle.std.proofs.lemmas.Bool.{and_parts}
 use Rattle.sdl_parse.specs.declared.tree.Definition.{Definition}
@@ -51,7 +51,7 @@ process-adds signals parameters definitions i item definition number names new w
     (sym (ap (map process_text) (process_definitions-more definitions i item definition below at is) ∙ map_push process_text earlier definition))
     (sym (ap (list_all right) (numbered_processes-more definitions i item definition number below at is count) ∙ list_all-push right numbered (number, definition)))
     (Adds-then bytes_eq [] (map process_text earlier) names (process_text definition ∷ []) new was (list_all right numbered) mid (right (number, definition)) now before
-        (Adds-declared names (process_text definition ∷ []) new mid between (right (number, definition)) now declares noted))
+    (Adds-declared names (process_text definition ∷ []) new mid between (right (number, definition)) now declares noted))
 
 -- a scope of these names
 abbrev pub scope_with : List SignalName → List ℕ → ℕ → List (List ℕ) → List (List ℕ) → Scope

@@ -1,5 +1,5 @@
 -- Receptions that are entered one behind the other.
-use Rattle.std.proofs.Common.{All, Bor, IfSome, fold, option_to_list, ◌≡◌, ◌≢◌, ◌∙◌, ◌++◌, ◌&&◌, ◌||◌, ◌==◌, ◌+◌, ◌<◌, ◌≤◌, ℕ, Bool, true, false, not, List, [], ◌∷◌, Option, None, Some, find, flat_map, get_or, is_none, is_some, length, map, option_map, set, slice_get, suc, take, zero, inl, inr, cond, refl, sym, ap, subst, append_assoc, append-nil, arith}
+use Rattle.std.proofs.Common.{All, Bor, IfSome, fold, option_to_list, ◌≡◌, ◌∙◌, ◌++◌, ◌&&◌, ◌||◌, ◌==◌, ◌+◌, ◌<◌, ◌≤◌, ℕ, Bool, true, false, not, List, [], ◌∷◌, Option, None, Some, find, flat_map, get_or, is_none, is_some, length, map, option_map, set, slice_get, suc, take, zero, inl, inr, cond, refl, sym, ap, subst, append_assoc, append-nil, arith}
 use Rattle.std.specs.List.{cons_option, filter_map, list_all, list_any}
 use Rattle.std.specs.Option.{option_map_or, option_or}
 use Rattle.std.proofs.Math.ListN.{get_or-append, get_or-map}
@@ -59,12 +59,6 @@ are_new-append before (x ∷ xs) ys =
     ap (λ b. not (list_any (is_for x.state.0 x.signal.0) before) && b) (are_new-append (before ++ x ∷ []) xs ys)
     ∙ ap (λ list. not (list_any (is_for x.state.0 x.signal.0) before) && (are_new (before ++ x ∷ []) xs && are_new list ys)) (append_assoc before (x ∷ []) xs)
     ∙ sym (and-assoc (not (list_any (is_for x.state.0 x.signal.0) before)) (are_new (before ++ x ∷ []) xs) (are_new (before ++ x ∷ xs) ys))
-
-pub Enters-none : (states : List StateBehaviour) (was : Bool) → Enters [] true states states was was
-Enters-none states was = record {
-  receives = λ before received. subst (λ list. Receives states list) (sym (append-nil before)) received;
-  noted = λ before received. sym (and-true was);
-}
 
 four : (a p s q t : Bool) → ((a && (p && s)) && (q && t)) ≡ (a && ((p && q) && (s && t)))
 four false p s q t = refl
@@ -242,11 +236,11 @@ Enters-one transitions states id state after signal input reception was now free
       noted = λ before received.
           noted
           ∙ ap (λ b. was && b) (is_free
-              ∙ sym (reception_of-none transitions (input_at (inputs_of state) signal.0) (begins-at (length transitions) (inputs_of state) signal.0 (subst (λ row. InputsBelow (length transitions) row) (row-same states id.0 state entered.within entered.at) (row-below (length transitions) states id.0 below))))
-              ∙ ap (λ row. is_none (reception_of transitions (input_at row signal.0))) (sym (row-same states id.0 state entered.within entered.at))
-              ∙ ap is_none (sym (reception_at-inputs transitions states id.0 signal.0) ∙ received.each id.0 signal.0)
-              ∙ first_reception-none before id.0 signal.0
-              ∙ sym (and-true (not (list_any (is_for id.0 signal.0) before))));
+          ∙ sym (reception_of-none transitions (input_at (inputs_of state) signal.0) (begins-at (length transitions) (inputs_of state) signal.0 (subst (λ row. InputsBelow (length transitions) row) (row-same states id.0 state entered.within entered.at) (row-below (length transitions) states id.0 below))))
+          ∙ ap (λ row. is_none (reception_of transitions (input_at row signal.0))) (sym (row-same states id.0 state entered.within entered.at))
+          ∙ ap is_none (sym (reception_at-inputs transitions states id.0 signal.0) ∙ received.each id.0 signal.0)
+          ∙ first_reception-none before id.0 signal.0
+          ∙ sym (and-true (not (list_any (is_for id.0 signal.0) before))));
     }
 
 idle-row : (states : List State) (state : ℕ) → All IsIdle states → get_or (map inputs_of states) state [] ≡ []
@@ -291,17 +285,6 @@ Enters-noted xs p old new was mid now checked entered = record {
       entered.noted before received ∙ ap (λ b. b && are_new before xs) checked ∙ and-assoc was p (are_new before xs);
 }
 
-Enters-nothing : (p : Bool) (states : List StateBehaviour) (was now : Bool) → now ≡ (was && p) → Enters [] p states states was now
-Enters-nothing p states was now noted = Enters-noted [] p states states was now now noted (Enters-none states now)
-
--- an input whose signal is unknown
-pub input-refused : (scope : Scope) (states : List StateId) (body : Body) (input : tree.Input) (table : List StateBehaviour) (was now : Bool) → None ≡ signal_in scope input.signal → now ≡ (was && false) → Enters (input_receptions scope states body input) (is_right_input scope input) table table was now
-input-refused scope states body input table was now unknown noted =
-    Enters-same [] (input_receptions scope states body input) false (is_right_input scope input) table table was now
-    (ap (λ found. option_map_or (in_states states (reception_in scope body input)) found []) unknown)
-    (ap (λ found. option_map_or (has_parameters scope (length input.variables.items)) found false && list_all (is_declared scope) input.variables.items) unknown)
-    (Enters-nothing false table was now noted)
-
 -- an input whose signal is visible
 pub input-entered : (scope : Scope) (states : List StateId) (body : Body) (input : tree.Input) (signal : SignalId) (old new : List StateBehaviour) (was known counted named now : Bool) → Some signal ≡ signal_in scope input.signal → known ≡ (was && true) → counted ≡ (known && has_parameters scope (length input.variables.items) signal) → named ≡ (counted && list_all (is_declared scope) input.variables.items) → Enters (in_states states (reception_in scope body input) signal) true old new named now → Enters (input_receptions scope states body input) (is_right_input scope input) old new was now
 input-entered scope states body input signal old new was known counted named now visible is_known is_counted is_named entered =
@@ -311,8 +294,8 @@ input-entered scope states body input signal old new was known counted named now
     (ap (λ found. option_map_or (in_states states (reception_in scope body input)) found []) visible)
     (ap (λ found. option_map_or (has_parameters scope (length input.variables.items)) found false && list_all (is_declared scope) input.variables.items) visible)
     (Enters-noted (in_states states (reception_in scope body input) signal) (has && declared) old new was named now
-      (is_named ∙ ap (λ b. b && declared) (is_counted ∙ ap (λ b. b && has) (is_known ∙ and-true was)) ∙ and-assoc was has declared)
-      entered)
+    (is_named ∙ ap (λ b. b && declared) (is_counted ∙ ap (λ b. b && has) (is_known ∙ and-true was)) ∙ and-assoc was has declared)
+    entered)
 
 -- the loop over the states has entered the reception in all of them
 pub Enters-all_states : (signal : SignalId) (entered said : Reception) (states : List StateId) (i : ℕ) (old new : List StateBehaviour) (was now : Bool) → length states ≤ i → entered ≡ said → Enters (in_states (take i states) entered signal) true old new was now → Enters (in_states states said signal) true old new was now

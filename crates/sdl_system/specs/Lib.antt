@@ -5,6 +5,7 @@ pub mod Constant
 pub mod Counts
 pub mod Declarations
 pub mod Different
+pub mod Entering
 pub mod Expression
 pub mod Fault
 pub mod Limits

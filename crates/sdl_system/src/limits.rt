@@ -44,7 +44,7 @@ pub fn first_past_limit(alloc: Global, tree: &Tree) -> Result<Option<Fault<'_>>,
     Ok(count.faults.least())
 }
 
-/// What is left of the limits of the whole text, and what went past one.
+/// What is left of the limits of the whole text, each counted in what it bounds, and what went past one.
 #[derive(Debug, Drop)]
 struct Count<'t> {
     signals: usize,
@@ -115,7 +115,11 @@ impl<'t> Count<'t> {
     fn signal(&mut self, signal: &'t SignalDefinition)
         ensures { Counts self.old self.new 1 0 0 (has_few_parameters signal.now) }
     {
-        count_one(&mut self.signals, Token::of_name(&signal.name), &mut self.faults);
+        count_one(
+            &mut self.signals,
+            Token::of_name(&signal.name),
+            &mut self.faults,
+        );
         count_parameters(signal, &mut self.faults);
     }
 
@@ -147,7 +151,11 @@ impl<'t> Count<'t> {
         ensures { Counts self.old self.new 0 0 1 true }
     {
         let (Action::Task { word, .. } | Action::Output { word, .. }) = action;
-        count_one(&mut self.statements, Token::of_word(*word), &mut self.faults);
+        count_one(
+            &mut self.statements,
+            Token::of_word(*word),
+            &mut self.faults,
+        );
     }
 
     fn states(&mut self, alloc: Global, parts: &'t [StatePart]) -> Result<(), AllocError>

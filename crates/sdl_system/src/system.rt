@@ -7,8 +7,8 @@ ghost use Rattle.sdl_system.specs.Fault.{is_clean};
 ghost use Rattle.sdl_system.specs.Meaning.{MeansAll, MeansNumbered};
 ghost use Rattle.sdl_system.specs.Route.{RoutesByInputs};
 ghost use Rattle.sdl_system.specs.Signals.{parameter_counts, signal_names};
-ghost use Rattle.sdl_system.specs.declared.error.BuildError.TheVariants.{Memory};
 ghost use Rattle.sdl_system.specs.System.{DeclaresAs, process_count, process_definitions, SelectsItsInputs};
+ghost use Rattle.sdl_system.specs.declared.error.BuildError.TheVariants.{Memory};
 
 use crate::error::BuildError;
 use crate::fault::{Fault, Faults};
@@ -90,7 +90,8 @@ impl System {
     }
 }
 
-/// Resolves the names of a specification and makes every check.
+/// Resolves the names of a specification and makes every check. A system is answered exactly where every check holds and
+/// memory is there, and it is the tree's: `Limit` is told before every other check, and of those the first in the text.
 pub fn build(alloc: Global, tree: &Tree) -> Result<System, BuildError>
     ensures processes { IfOk result (λ system. vec_len system.processes ≡ process_count tree.now) }
     ensures selections { IfOk result (λ system. All SelectsItsInputs system.processes.items) }
@@ -111,8 +112,8 @@ pub fn build(alloc: Global, tree: &Tree) -> Result<System, BuildError>
     }
 }
 
-/// The system of a specification, and the fault to tell where a check is broken. What a fault was noted
-/// in is left out of the system.
+/// The system of a specification, and the fault to tell where a check but the limits is broken. What a
+/// fault was noted in is left out of the system.
 fn resolve<'t>(alloc: Global, tree: &'t Tree) -> Result<(System, Option<Fault<'t>>), AllocError>
     ensures processes { IfOk result (λ found. vec_len found.0.processes ≡ process_count tree.now) }
     ensures selections { IfOk result (λ found. All SelectsItsInputs found.0.processes.items) }

@@ -6,7 +6,7 @@ ghost use Rattle.sdl_system.specs.Behaviour.{Reception, reception_of};
 ghost use Rattle.sdl_system.specs.Body.{Body, body_of};
 ghost use Rattle.sdl_system.specs.Fault.{is_clean};
 ghost use Rattle.sdl_system.specs.Names.{name_count, names_of};
-ghost use Rattle.sdl_system.specs.Receptions.{Enters, Receives, are_right_parts, has_parameters, in_state, input_part_receptions, input_receptions, is_declared, is_right_input, is_right_input_part, is_right_part, is_right_stimulus, part_receptions, receptions_in, state_named, states_named, states_of, stimulus_receptions, variable_at};
+ghost use Rattle.sdl_system.specs.Receptions.{Receives, are_right_parts, has_parameters, in_state, input_part_receptions, input_receptions, is_declared, is_right_input, is_right_input_part, is_right_part, is_right_stimulus, part_receptions, receptions_in, state_named, states_named, states_of, stimulus_receptions, variable_at};
 ghost use Rattle.sdl_system.specs.Scope.{scope_of};
 ghost use Rattle.sdl_system.specs.Selection.{selection_of, SelectsInputs};
 ghost use Rattle.sdl_system.specs.Signals.{signal_count};
@@ -45,6 +45,8 @@ pub struct Behaviour {
 }
 
 impl Behaviour {
+    ghost use Rattle.sdl_system.specs.Entering.{EntersAll};
+
     /// The behaviour that these parts of states give.
     pub fn of_parts<'t>(
         alloc: Global,
@@ -82,7 +84,7 @@ impl Behaviour {
         requires { vec_len self.old.states ≡ name_count scope.states.now }
         ensures states { vec_len self.new.states ≡ vec_len self.old.states }
         ensures names { map name_of_state self.new.states.items ≡ map name_of_state self.old.states.items }
-        ensures receptions { OnOk result (Enters (part_receptions (scope_of scope.entry) part.now) (is_right_part (scope_of scope.entry) part.now) (states_of self.old.transitions.items self.old.states.items) (states_of self.new.transitions.items self.new.states.items) (is_clean faults.old) (is_clean faults.new)) }
+        ensures receptions { OnOk result (EntersAll (part_receptions (scope_of scope.entry) part.now) (is_right_part (scope_of scope.entry) part.now) self.old self.new faults.old faults.new) }
     {
         let states = part_states(alloc, scope.states, &part.names)?;
         for stimulus in &part.stimuli {
@@ -104,7 +106,7 @@ impl Behaviour {
         requires states { vec_len self.old.states ≡ name_count scope.states.now }
         ensures states { vec_len self.new.states ≡ vec_len self.old.states }
         ensures names { map name_of_state self.new.states.items ≡ map name_of_state self.old.states.items }
-        ensures receptions { OnOk result (Enters (stimulus_receptions (scope_of scope.entry) states.now stimulus.now) (is_right_stimulus (scope_of scope.entry) stimulus.now) (states_of self.old.transitions.items self.old.states.items) (states_of self.new.transitions.items self.new.states.items) (is_clean faults.old) (is_clean faults.new)) }
+        ensures receptions { OnOk result (EntersAll (stimulus_receptions (scope_of scope.entry) states.now stimulus.now) (is_right_stimulus (scope_of scope.entry) stimulus.now) self.old self.new faults.old faults.new) }
     {
         match stimulus {
             Stimulus::Input(part) => self.add_inputs(alloc, scope, states, part, faults),
@@ -124,7 +126,7 @@ impl Behaviour {
         requires states { vec_len self.old.states ≡ name_count scope.states.now }
         ensures states { vec_len self.new.states ≡ vec_len self.old.states }
         ensures names { map name_of_state self.new.states.items ≡ map name_of_state self.old.states.items }
-        ensures receptions { OnOk result (Enters (input_part_receptions (scope_of scope.entry) states.now part.now) (is_right_input_part (scope_of scope.entry) part.now) (states_of self.old.transitions.items self.old.states.items) (states_of self.new.transitions.items self.new.states.items) (is_clean faults.old) (is_clean faults.new)) }
+        ensures receptions { OnOk result (EntersAll (input_part_receptions (scope_of scope.entry) states.now part.now) (is_right_input_part (scope_of scope.entry) part.now) self.old self.new faults.old faults.new) }
     {
         let Ok(number) = u32::try_from(self.transitions.len()) else {
             return Err(AllocError);
@@ -154,7 +156,7 @@ impl Behaviour {
         ensures states { vec_len self.new.states ≡ vec_len self.old.states }
         ensures transitions { self.new.transitions ≡ self.old.transitions }
         ensures names { map name_of_state self.new.states.items ≡ map name_of_state self.old.states.items }
-        ensures receptions { OnOk result ((body : Body) → option_map body_of (slice_get self.old.transitions.items transition.0) ≡ Some body → Enters (input_receptions (scope_of scope.entry) states.now body input.now) (is_right_input (scope_of scope.entry) input.now) (states_of self.old.transitions.items self.old.states.items) (states_of self.new.transitions.items self.new.states.items) (is_clean faults.old) (is_clean faults.new)) }
+        ensures receptions { OnOk result ((body : Body) → option_map body_of (slice_get self.old.transitions.items transition.0) ≡ Some body → EntersAll (input_receptions (scope_of scope.entry) states.now body input.now) (is_right_input (scope_of scope.entry) input.now) self.old self.new faults.old faults.new) }
     {
         let Some(signal) = scope.signal(&input.signal, faults) else {
             return Ok(());
@@ -186,28 +188,13 @@ impl Behaviour {
         ensures states { vec_len self.new.states ≡ vec_len self.old.states }
         ensures transitions { self.new.transitions ≡ self.old.transitions }
         ensures names { map name_of_state self.new.states.items ≡ map name_of_state self.old.states.items }
-        ensures receptions { OnOk result ((reception : Reception) → reception_of self.old.transitions.items (Some input) ≡ Some reception → Enters (in_state signal reception state ∷ []) true (states_of self.old.transitions.items self.old.states.items) (states_of self.new.transitions.items self.new.states.items) (is_clean faults.old) (is_clean faults.new)) }
+        ensures receptions { OnOk result ((reception : Reception) → reception_of self.old.transitions.items (Some input) ≡ Some reception → EntersAll (in_state signal reception state ∷ []) true self.old self.new faults.old faults.new) }
     {
         let state = &mut self.states[state.0 as usize];
         if !admit(&mut state.inputs, signal, input)? {
             faults.note(Kind::TwiceInState, Token::of_name(name));
         }
         Ok(())
-    }
-}
-
-/// Notes an input with more variables than its signal has parameters as a fault of Sort.
-fn check_parameters<'t>(
-    scope: Scope<'_, 't>,
-    input: &'t tree::Input,
-    signal: SignalId,
-    faults: &mut Faults<'t>,
-)
-    requires { signal.0 < signal_count scope.signals.now }
-    ensures { is_clean faults.new ≡ (is_clean faults.old && has_parameters (scope_of scope.entry) (length input.now.variables.items) signal) }
-{
-    if input.variables.len() > scope.signals.parameters(signal) {
-        faults.note(Kind::Sort, Token::of_name(&input.signal));
     }
 }
 
@@ -254,6 +241,21 @@ fn state_named(known: &Names<'_>, text: &str) -> Option<StateId>
     match known.number(text) {
         Some(number) => Some(StateId(number)),
         None => None,
+    }
+}
+
+/// Notes an input with more variables than its signal has parameters as a fault of Sort.
+fn check_parameters<'t>(
+    scope: Scope<'_, 't>,
+    input: &'t tree::Input,
+    signal: SignalId,
+    faults: &mut Faults<'t>,
+)
+    requires { signal.0 < signal_count scope.signals.now }
+    ensures { is_clean faults.new ≡ (is_clean faults.old && has_parameters (scope_of scope.entry) (length input.now.variables.items) signal) }
+{
+    if input.variables.len() > scope.signals.parameters(signal) {
+        faults.note(Kind::Sort, Token::of_name(&input.signal));
     }
 }
 

@@ -1,5 +1,4 @@
-use Rattle.std.proofs.Common.{◌∙◌, ap, is_none, sym}
-use Rattle.sdl_system.proofs.LimitLemmas.{Counts-definition, Counts-kept}
+use Rattle.sdl_system.proofs.LimitLemmas.{Counts-definition}
 use Rattle.sdl_system.proofs.limits.first_past_limit.Goals as goal
 
 pub loop-definition-preserved : goal.loop-definition-preserved

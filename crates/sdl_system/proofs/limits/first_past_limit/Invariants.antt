@@ -7,6 +7,6 @@ use Rattle.sdl_system.specs.Counts.{Counts}
 use Rattle.sdl_system.proofs.limits.first_past_limit.Given as goal
 
 abbrev pub invariant-loop-definition : goal.invariant-loop-definition
-invariant-loop-definition l = 
+invariant-loop-definition l =
     let definitions = take l.definition-index l.definition-items in
     Counts l.initial.count l.count (length (all_signals definitions)) (length (process_definitions definitions)) (sum_by process_statements (process_definitions definitions)) (list_all has_few_parameters (all_signals definitions) && list_all has_few_states (process_definitions definitions))

@@ -6,6 +6,6 @@ use Rattle.sdl_system.specs.Counts.{Counts}
 use Rattle.sdl_system.proofs.limits.Count.local_signals.Given as goal
 
 abbrev pub invariant-loop-definition : goal.invariant-loop-definition
-invariant-loop-definition l = 
+invariant-loop-definition l =
     let list = flat_map local_signals (take l.definition-index l.definitions) in
     Counts l.initial.self l.self (length list) 0 0 (list_all has_few_parameters list)

@@ -5,6 +5,6 @@ use Rattle.sdl_system.specs.Counts.{Counts}
 use Rattle.sdl_system.proofs.limits.Count.signals.Given as goal
 
 abbrev pub invariant-loop-signal : goal.invariant-loop-signal
-invariant-loop-signal l = 
+invariant-loop-signal l =
     let list = take l.signal-index l.list in
     Counts l.initial.self l.self (length list) 0 0 (list_all has_few_parameters list)

@@ -30,8 +30,8 @@ returns-clause-means c =
     let variables = variable_names c.in_ok-variables.variables in
     let states = names_of c.in_ok-states.states in
     let same = scope_in-same (signal_names signals) (parameter_counts signals) c.args.number c.args.definition.now variables states
-            (c.in_ok-variables.ensures.names ∙ ap (λ list. distinct (variable_texts (all_groups list))) c.deref.ensures.value)
-            (c.in_ok-states.ensures ∙ ap state_names_in c.deref-2.ensures.value) in
+    (c.in_ok-variables.ensures.names ∙ ap (λ list. distinct (variable_texts (all_groups list))) c.deref.ensures.value)
+    (c.in_ok-states.ensures ∙ ap state_names_in c.deref-2.ensures.value) in
     process-means (scope_with (signal_names signals) (parameter_counts signals) c.args.number variables states) _ c.args.definition.now _ c.in_ok-resolve_start.field-0 _ same c.deref-3.ensures.value
     c.or_stop-start.ensures.found c.in_ok-resolve_start.ensures.body c.in_ok-behaviour.ensures.receptions
 
@@ -41,8 +41,8 @@ returns-clause-noted c =
     let variables = variable_names c.in_ok-variables.variables in
     let states = names_of c.in_ok-states.states in
     let same = scope_in-same (signal_names signals) (parameter_counts signals) c.args.number c.args.definition.now variables states
-            (c.in_ok-variables.ensures.names ∙ ap (λ list. distinct (variable_texts (all_groups list))) c.deref.ensures.value)
-            (c.in_ok-states.ensures ∙ ap state_names_in c.deref-2.ensures.value) in
+    (c.in_ok-variables.ensures.names ∙ ap (λ list. distinct (variable_texts (all_groups list))) c.deref.ensures.value)
+    (c.in_ok-states.ensures ∙ ap state_names_in c.deref-2.ensures.value) in
     process-noted (scope_with (signal_names signals) (parameter_counts signals) c.args.number variables states) _ c.args.definition.now _ c.in_ok-resolve_start.field-0 (is_clean c.args.faults.now) _ _ _ same c.deref-3.ensures.value
     (c.in_ok-variables.ensures.noted ∙ ap (λ list. is_clean c.args.faults.now && (are_distinct (variable_texts (all_groups list)) && list_all is_right_group (all_groups list))) c.deref.ensures.value)
     c.in_ok-resolve_start.ensures.body c.in_ok-resolve_start.ensures.noted c.in_ok-behaviour.ensures.noted

@@ -1,4 +1,4 @@
-use Rattle.std.proofs.Common.{◌≡◌, ◌∙◌, ◌&&◌, ap, map, option_map, slice_get}
+use Rattle.std.proofs.Common.{◌∙◌, ◌&&◌, ap, map, option_map, slice_get}
 use Rattle.std.specs.List.{list_all}
 use Rattle.sdl_system.specs.Behaviour.{Reception}
 use Rattle.sdl_system.specs.Body.{body_of}
@@ -20,8 +20,8 @@ loop-state-preserved c = record {
       (get_or-within c.args.states.now c.loop-state.state-index _ _ c.loop-state-test.true)
       (c.loop-state.invariant.entered body is)
       (c.in_ok-enter.ensures.receptions reception
-        (reception_of-begun c.loop-state.self.transitions.items (record { variables = c.in_ok-from_slice.field-0; transition = c.args.transition }) c.in_ok-variables.variables.items body
-          (c.in_ok-from_slice.ensures.items ∙ c.as_slice.ensures.value) begun));
+      (reception_of-begun c.loop-state.self.transitions.items (record { variables = c.in_ok-from_slice.field-0; transition = c.args.transition }) c.in_ok-variables.variables.items body
+      (c.in_ok-from_slice.ensures.items ∙ c.as_slice.ensures.value) begun));
 }
 
 pub returns-clause-receptions : goal.returns-clause-receptions

@@ -1,4 +1,4 @@
-use Rattle.std.proofs.Common.{◌≡◌, ◌∙◌, ◌&&◌, ap, arith, is_some, length, option_map, slice_get, subst, sym, unwrap_or, vec_len}
+use Rattle.std.proofs.Common.{◌≡◌, ◌∙◌, ◌&&◌, ap, arith, is_some, length, option_map, slice_get, subst, unwrap_or, vec_len}
 use Rattle.std.specs.List.{flat_map, list_all}
 use Rattle.sdl_system.specs.Body.{body_of, to_stop}
 use Rattle.sdl_system.specs.Fault.{is_clean}
@@ -27,7 +27,7 @@ loop-input-preserved c =
     let does = c.or_stop-transition.ensures.body ∙ ap (λ found. unwrap_or found to_stop) c.in_ok-transition.ensures.body in
     let at : c.in-Ok.number ≡ length c.args.self.now.transitions.items = omega arith in
     let begun = ap (λ transitions. option_map body_of (slice_get transitions.items c.in-Ok.number)) c.loop-input.invariant.transitions
-        ∙ body-pushed c.args.self.now.transitions.items c.push.new.self.items c.or_stop-transition.result c.in-Ok.number body c.in_ok-push.ensures.items at does in
+    ∙ body-pushed c.args.self.now.transitions.items c.push.new.self.items c.or_stop-transition.result c.in-Ok.number body c.in_ok-push.ensures.items at does in
     record {
       count = c.in_ok-add_input.ensures.states ∙ c.loop-input.invariant.count;
       transitions = c.in_ok-add_input.ensures.transitions ∙ c.loop-input.invariant.transitions;

@@ -1,4 +1,4 @@
-use Rattle.std.proofs.Common.{◌≡◌, ◌∙◌, ◌&&◌, ◌<◌, length, false, true, ap, refl, vec_len, arith, subst, sym}
+use Rattle.std.proofs.Common.{◌≡◌, ◌∙◌, ◌&&◌, ◌<◌, length, false, true, ap, vec_len, arith, subst, sym}
 use Rattle.std.proofs.Math.Seq.{map-set_same}
 use Rattle.sdl_system.specs.Fault.{is_clean}
 use Rattle.sdl_system.specs.States.{InputsBelow, inputs_of, name_of_state}

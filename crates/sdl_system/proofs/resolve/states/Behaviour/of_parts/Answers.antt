@@ -1,6 +1,5 @@
 use Rattle.std.proofs.Common.{[], ◌∙◌, rules, sym}
-use Rattle.sdl_system.specs.Fault.{is_clean}
-use Rattle.sdl_system.specs.Receptions.{is_right_part, part_receptions, receptions_in, states_of}
+use Rattle.sdl_system.specs.Receptions.{is_right_part, part_receptions, receptions_in}
 use Rattle.sdl_system.specs.Scope.{scope_of}
 use Rattle.sdl_system.proofs.ReceptionLemmas.{Enters-all, Enters-more, Receives-idle, Receives-same}
 use Rattle.sdl_system.proofs.StateLemmas.{EndsBelow-same, StatesBelow-idle, StatesBelow-same}

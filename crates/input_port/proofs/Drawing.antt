@@ -1,0 +1,173 @@
+use Rattle.std.proofs.Common.{◌≡◌, ℕ, cond, Bool, true, false, List, [], ◌∷◌, ◌++◌, map, Result, Ok, Err, MatchBool, MatchResult, refl, sym, ap, ◌∙◌, subst, append_assoc, append-nil, All, ⊎_elim}
+use Rattle.port_model.specs.declared.error.PortError.{PortError}
+use Rattle.port_model.specs.declared.taken.Taken.TheVariants.{Consumed, Discarded, Nothing}
+use Rattle.port_model.specs.declared.selection.Class.TheVariants as class
+use Rattle.std.proofs.lemmas.List.{map-append}
+use Rattle.port_model.specs.declared.selection.Class.{Class}
+use Rattle.port_model.specs.declared.taken.Taken.{Taken}
+use Rattle.port_model.specs.Port.{PortState, expires}
+use Rattle.port_model.specs.Take as take
+use Rattle.input_port.specs.declared.rule.Placed.{Placed}
+use Rattle.input_port.specs.Ends.{Owning, Retiring, Solitary}
+use Rattle.port_model.specs.declared.got.Got.TheVariants as got
+use Rattle.port_model.specs.Timers.{with_waiting}
+use Rattle.input_port.specs.declared.entry.Entry.{Entry}
+use Rattle.input_port.specs.declared.entry.Entry.TheVariants.{Signal, Timer}
+use Rattle.input_port.specs.Calls.{after_entry, after_draw, after_draws, known_after, entry_of, AreNext, Finishes, TakesHere, IsDrawn, HasDrawn, IsDrawnSince, HasDrawnSince}
+use Rattle.input_port.specs.Put.{longer}
+use Rattle.input_port.proofs.PutLists.{starts_all, starts_through}
+
+-- entries drawn one after the other
+pub after_draws-append : (port : PortState) (xs ys : List Placed) → after_draws port (xs ++ ys) ≡ after_draws (after_draws port xs) ys
+after_draws-append port [] ys = refl
+after_draws-append port (x ∷ xs) ys = after_draws-append (after_draw port x) xs ys
+
+pub known_after-append : (known drawn xs ys : List Placed) → known_after known drawn (xs ++ ys) ≡ known_after (known_after known drawn xs) (drawn ++ xs) ys
+known_after-append known drawn [] ys = ap (λ d. known_after known d ys) (sym (append-nil drawn))
+known_after-append known drawn (x ∷ xs) ys =
+    let long = longer known (drawn ++ x ∷ []) in
+    known_after-append long (drawn ++ x ∷ []) xs ys
+    ∙ ap (λ d. known_after (known_after long (drawn ++ x ∷ []) xs) d ys) (append_assoc drawn (x ∷ []) xs)
+
+pub AreNext-append : (drawn xs ys : List Placed) → AreNext drawn xs → AreNext (drawn ++ xs) ys → AreNext drawn (xs ++ ys)
+AreNext-append drawn [] ys a b = subst (λ d. AreNext d ys) (append-nil drawn) b
+AreNext-append drawn (x ∷ xs) ys a b =
+    (a.0, a.1, AreNext-append (drawn ++ x ∷ []) xs ys a.2 (subst (λ d. AreNext d ys) (sym (append_assoc drawn (x ∷ []) xs)) b))
+
+-- nothing drawn
+pub draws_none : (old : Owning) → HasDrawn old old
+draws_none old = (
+  [],
+  record {
+    port = refl;
+    pid = refl;
+    gathered = refl;
+    drawn = sym (append-nil old.drawn);
+    next = tt;
+    known = refl;
+    kept = starts_all old.known;
+    state = refl;
+  },
+)
+
+-- some drawn, and then some more
+pub draws_more : (old mid new : Owning) → HasDrawn old mid → HasDrawn mid new → HasDrawn old new
+draws_more old mid new a b =
+    let f = a.1 in
+    let s = b.1 in (
+      a.0 ++ b.0,
+      record {
+        port = s.port ∙ f.port;
+        pid = s.pid ∙ f.pid;
+        gathered = s.gathered ∙ f.gathered;
+        drawn = s.drawn ∙ ap (λ l. l ++ b.0) f.drawn ∙ append_assoc old.drawn a.0 b.0;
+        next = AreNext-append old.drawn a.0 b.0 f.next (subst (λ d. AreNext d b.0) f.drawn s.next);
+        known = s.known ∙ ap (λ k. known_after k mid.drawn b.0) f.known ∙ ap (λ d. known_after (known_after old.known old.drawn a.0) d b.0) f.drawn
+            ∙ sym (known_after-append old.known old.drawn a.0 b.0);
+        kept = starts_through new.known mid.known old.known s.kept f.kept;
+        state = s.state ∙ ap (λ p. after_draws p b.0) f.state ∙ sym (after_draws-append old.state a.0 b.0);
+      },
+    )
+
+-- a pull draws one entry or none
+pub pull_draws : (old new : Owning) (r : Result Bool PortError)
+    → MatchResult r (λ more. MatchBool more ((placed : Placed) × IsDrawn old new (placed ∷ [])) ((new ≡ old) × (new.known ≡ new.drawn))) (λ error. (error ≡ PortError.Memory) × (new ≡ old))
+    → HasDrawn old new
+pull_draws old new (Ok true) pulled = (pulled.0 ∷ [], pulled.1)
+pull_draws old new (Ok false) pulled = subst (HasDrawn old) (sym pulled.0) (draws_none old)
+pull_draws old new (Err error) pulled = subst (HasDrawn old) (sym pulled.1) (draws_none old)
+
+-- a take that finds nothing in the port changes nothing
+pub nothing_taken : (classes : List Class) (old new : Owning) → take.Takes classes old.state Nothing new.state → new ≡ record old { state = new.state } → new ≡ old
+nothing_taken classes old new takes same = same ∙ ap (λ s. record old { state = s }) takes.1
+
+-- what is known where a take goes on: the port found nothing, and one entry more was drawn, or none
+pub goes_on : (classes : List Class) (first old mid new : Owning) (r : Result Bool PortError) → HasDrawn first old
+    → take.Takes classes old.state Nothing mid.state → mid ≡ record old { state = mid.state }
+    → MatchResult r (λ more. MatchBool more ((placed : Placed) × IsDrawn mid new (placed ∷ [])) ((new ≡ mid) × (new.known ≡ new.drawn))) (λ error. (error ≡ PortError.Memory) × (new ≡ mid))
+    → HasDrawn first new
+goes_on classes first old mid new r before takes same pulled =
+    draws_more first old new before (subst (λ o. HasDrawn o new) (nothing_taken classes old mid takes same) (pull_draws mid new r pulled))
+
+-- The same after a stop: `grown` is what the owner would be, had its port not been stopped.
+abbrev grown : Retiring → Retiring → List Placed → Owning
+grown old new news = record new.owner { state = after_draws old.owner.state news }
+
+since_some : (old new : Retiring) (news : List Placed) → IsDrawn old.owner (grown old new news) news → new.owner.state ≡ old.owner.state
+    → new.since ≡ old.since ++ map entry_of news → HasDrawnSince old new
+since_some old new news draws state since = (news, record { draws = draws; state = state; since = since })
+
+pub since_none : (old : Retiring) → HasDrawnSince old old
+unfolding draws_none
+since_none old = since_some old old [] (draws_none old.owner).1 refl (sym (append-nil old.since))
+
+pub since_more : (old mid new : Retiring) → HasDrawnSince old mid → HasDrawnSince mid new → HasDrawnSince old new
+since_more old mid new a b =
+    let f = a.1 in
+    let s = b.1 in
+    let first : IsDrawn old.owner (grown old mid a.0) a.0 = f.draws in
+    let next : IsDrawn mid.owner (grown mid new b.0) b.0 = s.draws in
+    let both : IsDrawn old.owner (grown old new (a.0 ++ b.0)) (a.0 ++ b.0) = record {
+      port = next.port ∙ first.port;
+      pid = next.pid ∙ first.pid;
+      gathered = next.gathered ∙ first.gathered;
+      drawn = next.drawn ∙ ap (λ l. l ++ b.0) first.drawn ∙ append_assoc old.owner.drawn a.0 b.0;
+      next = AreNext-append old.owner.drawn a.0 b.0 first.next (subst (λ d. AreNext d b.0) first.drawn next.next);
+      known = next.known ∙ ap (λ k. known_after k mid.owner.drawn b.0) first.known
+          ∙ ap (λ d. known_after (known_after old.owner.known old.owner.drawn a.0) d b.0) first.drawn
+          ∙ sym (known_after-append old.owner.known old.owner.drawn a.0 b.0);
+      kept = starts_through new.owner.known mid.owner.known old.owner.known next.kept first.kept;
+      state = refl;
+    } in
+    since_some old new (a.0 ++ b.0) both (s.state ∙ f.state)
+    (s.since ∙ ap (λ l. l ++ map entry_of b.0) f.since ∙ append_assoc old.since (map entry_of a.0) (map entry_of b.0)
+    ∙ ap (λ l. old.since ++ l) (sym (map-append entry_of a.0 b.0)))
+
+pub pull_since : (old new : Retiring) (r : Result Bool PortError)
+    → MatchResult r (λ more. MatchBool more ((placed : Placed) × IsDrawnSince old new (placed ∷ [])) ((new ≡ old) × (new.owner.known ≡ new.owner.drawn))) (λ error. (error ≡ PortError.Memory) × (new ≡ old))
+    → HasDrawnSince old new
+pull_since old new (Ok true) pulled = (pulled.0 ∷ [], pulled.1)
+pull_since old new (Ok false) pulled = subst (HasDrawnSince old) (sym pulled.0) (since_none old)
+pull_since old new (Err error) pulled = subst (HasDrawnSince old) (sym pulled.1) (since_none old)
+
+-- a draw leaves a stopped port stopped, and a living one alive
+chosen-alive : (b : Bool) (p q : PortState) → p.alive ≡ q.alive → (cond b p q).alive ≡ q.alive
+chosen-alive true p q e = e
+chosen-alive false p q e = refl
+
+after_entry-alive : (port : PortState) (at : ℕ) (entry : Entry) → (after_entry port at entry).alive ≡ port.alive
+after_entry-alive port at (Signal item) = chosen-alive port.alive (record port { waiting = port.waiting ++ got.Signal item ∷ [] }) port refl
+after_entry-alive port at (Timer fuse) = chosen-alive (expires port fuse.key fuse.arm fuse.due at)
+    (record port { waiting = port.waiting ++ got.Timer fuse.key ∷ []; timers = with_waiting fuse.key fuse.arm port.timers }) port refl
+
+pub after_draws-alive : (port : PortState) (news : List Placed) → (after_draws port news).alive ≡ port.alive
+after_draws-alive port [] = refl
+after_draws-alive port (x ∷ xs) = after_draws-alive (after_draw port x) xs ∙ after_entry-alive port x.at x.entry
+
+-- a take leaves a living port alive, and so do draws
+pub taken-alive : (classes : List Class) (old new : PortState) (taken : Taken) → take.Takes classes old taken new → new.alive ≡ old.alive
+taken-alive classes old new (Consumed g) takes = ⊎_elim (λ (t : take.TakesFirst (take.IsOrdinary classes) old g new × take.HasClass class.Priority classes g). ap (λ p. p.alive) t.0.now)
+    (λ (t : All (take.IsOrdinary classes) old.waiting × take.TakesFirst (take.IsSaved classes) old g new × take.HasClass class.Input classes g). ap (λ p. p.alive) t.1.now) takes
+taken-alive classes old new (Discarded g) takes = ap (λ p. p.alive) takes.1.now
+taken-alive classes old new Nothing takes = ap (λ p. p.alive) takes.1
+
+pub drawn-alive : (old new : Owning) → HasDrawn old new → new.state.alive ≡ old.state.alive
+drawn-alive old new a = ap (λ p. p.alive) a.1.state ∙ after_draws-alive old.state a.0
+
+-- all that was put is drawn, and so is all that the owner knew
+pub finishes : (old mid : Owning) (left : Solitary) → HasDrawn old mid → mid.known ≡ mid.drawn → left.pid ≡ mid.pid → left.state ≡ mid.state → Finishes old left
+finishes old mid left a fresh pid state =
+    let s = a.1 in
+    record {
+      news = a.0;
+      known = (s.kept.0, sym (fresh ∙ s.drawn) ∙ s.kept.1);
+      pid = pid ∙ s.pid;
+      alive = ap (λ p. p.alive) state ∙ drawn-alive old mid a;
+      state = state ∙ s.state;
+    }
+
+pub take-alive : (classes : List Class) (old new : Owning) (r : Result Taken PortError)
+    → MatchResult r (λ taken. TakesHere classes old new taken) (λ error. (error ≡ PortError.Memory) × HasDrawn old new)
+    → new.state.alive ≡ old.state.alive
+take-alive classes old new (Ok taken) is = taken-alive classes (after_draws old.state is.news) new.state taken is.take ∙ after_draws-alive old.state is.news
+take-alive classes old new (Err error) is = drawn-alive old new is.1

@@ -1,0 +1,17 @@
+use Rattle.std.proofs.Common.{rules}
+use Rattle.input_port.specs.Calls.{popped_list}
+use Rattle.input_port.proofs.Meeting.{comes_back}
+use Rattle.input_port.proofs.owner.Owner.meet.Goals as goal
+
+pub returns-clause-meet : goal.returns-clause-meet
+returns-clause-meet g c = record {
+  news = popped_list c.take_in-popped.result;
+  draws = search rules;
+  kept = search rules;
+  told = search rules;
+  port = search rules;
+  number = search rules;
+  own = comes_back c.args.sender c.again.result _ _ c.take_in-popped.new.pass.me.view.client _ c.take_in-popped.ensures.taken
+      (search rules) (search rules) (search rules) (search rules) (search rules);
+  seen = search rules;
+}

@@ -1,0 +1,150 @@
+use Rattle.std.specs.Prelude.{◌≡◌, ℕ, true, ◌+◌, ◌<◌, List, [], ◌∷◌, ◌++◌, length, map, Option, None, Some, Contains}
+use Rattle.port_model.specs.declared.selection.Class.{Class}
+use Rattle.port_model.specs.declared.selection.Class.TheVariants as class
+use Rattle.port_model.specs.declared.taken.Taken.{Taken}
+use Rattle.port_model.specs.declared.taken.Taken.TheVariants.{Consumed, Nothing}
+use Rattle.port_model.specs.Port.{PortState, put_into, expire_in}
+use Rattle.port_model.specs.Take as take
+use Rattle.input_port.specs.declared.entry.Entry.{Entry}
+use Rattle.input_port.specs.declared.entry.Entry.TheVariants.{Signal, Timer}
+use Rattle.input_port.specs.declared.rule.Placed.{Placed}
+use Rattle.input_port.specs.declared.rule.View.{View}
+use Rattle.input_port.specs.Ends.{Sending, Owning, Retiring, Solitary, sent_by}
+use Rattle.input_port.specs.Put.{StartsWith, of, longer}
+
+-- A put or an expiry of a sender: behind all that it had seen came entries of others, and then just this one, as its next.
+pub record Puts (old new : Sending) (at : ℕ) (entry : Entry) : Type 0 where
+  pub port : new.port ≡ old.port
+  pub number : new.number ≡ old.number
+  pub between : List Placed
+  pub others : of old.number between ≡ []
+  pub seen : new.seen ≡ (old.seen ++ between) ++ record { number = old.number; count = sent_by old + 1; at = at; entry = entry } ∷ []
+
+-- what the port becomes by an entry where it is drawn: a signal's put, or a timer's expiry
+abbrev pub after_entry : PortState → ℕ → Entry → PortState
+after_entry port at (Signal item) = put_into port item
+after_entry port at (Timer fuse) = expire_in port fuse.key fuse.arm fuse.due at
+
+abbrev pub after_draw : PortState → Placed → PortState
+after_draw port placed = after_entry port placed.at placed.entry
+
+-- and by some entries, one after the other
+abbrev pub after_draws : PortState → List Placed → PortState
+after_draws port [] = port
+after_draws port (placed ∷ more) = after_draws (after_draw port placed) more
+
+-- The known list after some entries are drawn: with each of them it goes on as far as before, or up to what is drawn,
+-- whichever is longer.
+abbrev pub known_after : List Placed → List Placed → List Placed → List Placed
+known_after known drawn [] = known
+known_after known drawn (placed ∷ more) = known_after (longer known (drawn ++ placed ∷ [])) (drawn ++ placed ∷ []) more
+
+-- Of the entries that are drawn after some others each is the next of its number.
+abbrev pub AreNext : List Placed → List Placed → Type 0
+AreNext drawn [] = Unit {0}
+AreNext drawn (placed ∷ more) =
+    (0 < placed.number) × (placed.count ≡ length (of placed.number drawn) + 1) × AreNext (drawn ++ placed ∷ []) more
+
+-- The owner drew these entries, in their order, and each made of its port what a put or an expiry makes. What it knew it knows.
+pub record IsDrawn (old new : Owning) (news : List Placed) : Type 0 where
+  pub port : new.port ≡ old.port
+  pub pid : new.pid ≡ old.pid
+  pub gathered : new.gathered ≡ old.gathered
+  pub drawn : new.drawn ≡ old.drawn ++ news
+  pub next : AreNext old.drawn news
+  pub known : new.known ≡ known_after old.known old.drawn news
+  pub kept : StartsWith new.known old.known
+  pub state : new.state ≡ after_draws old.state news
+
+-- it drew some entries, or none
+abbrev pub HasDrawn : Owning → Owning → Type 0
+HasDrawn old new = (news : List Placed) × IsDrawn old new news
+
+-- the reply is not the signal or timer of a priority input
+abbrev pub IsNoPriority : List Class → Taken → Type 0
+IsNoPriority classes (Consumed got) = take.IsOrdinary classes got
+IsNoPriority classes taken = Unit {0}
+
+-- A take of the owner: it draws some entries, and then takes from its port as the standard says. After Nothing it was at a
+-- fresh point: all of its known list is drawn. In a state with a priority input so it was after each other reply than an entry
+-- of a priority input.
+pub record TakesHere (classes : List Class) (old new : Owning) (taken : Taken) : Type 0 where
+  pub news : List Placed
+  pub draws : IsDrawn old (record new { state = after_draws old.state news }) news
+  pub take : take.Takes classes (after_draws old.state news) taken new.state
+  pub fresh : taken ≡ Nothing → new.known ≡ new.drawn
+  pub passed : Contains classes class.Priority → IsNoPriority classes taken → new.known ≡ new.drawn
+
+-- what a pop gave, as a list
+abbrev pub popped_list : Option Placed → List Placed
+popped_list None = []
+popped_list (Some placed) = placed ∷ []
+
+-- The owner takes a sender's pass in, and these entries are drawn on the way. It knows all that it knew and all that the sender
+-- had seen. The sender is the last of the gathered, and all that it has put stands in the known list.
+pub record TakesIn (v u w : View) (news : List Placed) : Type 0 where
+  pub takes : w.takes ≡ true
+  pub drawn : w.drawn ≡ v.drawn ++ news
+  pub next : AreNext v.drawn news
+  pub known : w.seen ≡ known_after (longer v.seen u.seen) v.drawn news
+  pub longest : StartsWith w.seen (longer v.seen u.seen)
+  pub kept : StartsWith w.seen v.seen
+  pub told : StartsWith w.seen u.seen
+  pub gathered : w.gathered ≡ record { number = u.number; count = u.count } ∷ v.gathered
+  pub all : length (of u.number w.seen) ≡ u.count
+
+-- A gathering: the owner knows all that it knew and all that the sender had seen, and all that the sender has put is among
+-- that. On the way it draws these entries: one, or none.
+pub record IsGathered (old new : Owning) (sender : Sending) (news : List Placed) : Type 0 where
+  pub draws : IsDrawn (record old { known = longer old.known sender.seen; gathered = old.gathered + 1 }) new news
+  pub kept : StartsWith new.known old.known
+  pub told : StartsWith new.known sender.seen
+  pub all : length (of sender.number new.known) ≡ sent_by sender
+
+abbrev pub Gathers : Owning → Owning → Sending → Type 0
+Gathers old new sender = (news : List Placed) × IsGathered old new sender news
+
+-- A meeting: the owner knows all that it knew and all that the sender had seen, and the sender comes back with its number and
+-- its entries, and has seen all that the owner knows. On the way the owner draws one entry, or none.
+pub record Meets (old new : Owning) (sender back : Sending) : Type 0 where
+  pub news : List Placed
+  pub draws : IsDrawn (record old { known = longer old.known sender.seen }) new news
+  pub kept : StartsWith new.known old.known
+  pub told : StartsWith new.known sender.seen
+  pub port : back.port ≡ sender.port
+  pub number : back.number ≡ sender.number
+  pub own : of back.number back.seen ≡ of sender.number sender.seen
+  pub seen : back.seen ≡ new.known
+
+-- All that was put is drawn: what is left is the port of the standard after it, for one thread. What the owner knew is drawn too.
+pub record Finishes (old : Owning) (left : Solitary) : Type 0 where
+  pub news : List Placed
+  pub known : StartsWith (old.drawn ++ news) old.known
+  pub pid : left.pid ≡ old.pid
+  pub alive : left.state.alive ≡ old.state.alive
+  pub state : left.state ≡ after_draws old.state news
+
+abbrev pub entry_of : Placed → Entry
+entry_of placed = placed.entry
+
+-- After its stop the owner drew these entries, in their order, and keeps them. Its port is as the stop left it.
+pub record IsDrawnSince (old new : Retiring) (news : List Placed) : Type 0 where
+  pub draws : IsDrawn old.owner (record new.owner { state = after_draws old.owner.state news }) news
+  pub state : new.owner.state ≡ old.owner.state
+  pub since : new.since ≡ old.since ++ map entry_of news
+
+abbrev pub HasDrawnSince : Retiring → Retiring → Type 0
+HasDrawnSince old new = (news : List Placed) × IsDrawnSince old new news
+
+-- A gathering after the stop: as before it, and what is drawn on the way is kept.
+pub record GathersSince (old new : Retiring) (sender : Sending) : Type 0 where
+  pub news : List Placed
+  pub gathers : IsGathered old.owner (record new.owner { state = after_draws old.owner.state news }) sender news
+  pub state : new.owner.state ≡ old.owner.state
+  pub since : new.since ≡ old.since ++ map entry_of news
+
+-- All that was put is drawn after the stop: these are the entries drawn since. What the owner knew is drawn too.
+pub record FinishesSince (old : Retiring) (answer : List Entry) : Type 0 where
+  pub news : List Placed
+  pub known : StartsWith (old.owner.drawn ++ news) old.owner.known
+  pub list : answer ≡ old.since ++ map entry_of news

@@ -1,0 +1,7 @@
+pub mod Calls
+pub mod Ends
+pub mod Left
+pub mod Put
+pub mod Rule
+pub mod Steps
+pub mod Views

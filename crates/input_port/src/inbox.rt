@@ -1,0 +1,55 @@
+ghost use Rattle.std.specs.Prelude.{◌≡◌, ◌⊎◌, ◌+◌, true, List, MatchResult};
+ghost use Rattle.port_model.specs.Port.{remove_from, set_in, stopped};
+ghost use Rattle.port_model.specs.Timers.{due_times, is_active, IsLeast};
+ghost use Rattle.port_model.specs.declared.plain_port.TheConstants.{MOST_SETS};
+ghost use Rattle.input_port.specs.Calls.{TakesHere, HasDrawn};
+ghost use Rattle.input_port.specs.Ends.{Owning};
+ghost use Rattle.input_port.specs.declared.entry.Entry.{Entry};
+
+use crate::Fuse;
+use port_model::{PortError, Selection, Taken, TimerKey};
+
+/// The owner's calls of an input port, whatever stands behind it. After `stop` none of them is called: that is the caller's
+/// condition.
+pub trait Inbox {
+    /// What the owner has drawn and knows, and its port.
+    ghost owning: { Self → Owning };
+
+    /// What it has drawn since its stop.
+    ghost since: { Self → List Entry };
+
+    /// Takes from the port (Z.102, priority input, save). For want of memory nothing is taken.
+    fn take(&mut self, selection: &Selection) -> Result<Taken, PortError>
+        requires { (Self.owning self.old).state.alive ≡ true }
+        ensures since { Self.since self.new ≡ Self.since self.old }
+        ensures alive { (Self.owning self.new).state.alive ≡ true }
+        ensures take { MatchResult result (λ taken. TakesHere selection.now (Self.owning self.old) (Self.owning self.new) taken) (λ error. (error ≡ PortError.Memory) × HasDrawn (Self.owning self.old) (Self.owning self.new)) };
+
+    /// Sets a timer for the time `due`, after a reset.
+    fn set(&mut self, key: TimerKey, due: u64) -> Result<Fuse, PortError>
+        requires { (Self.owning self.old).state.alive ≡ true }
+        ensures since { Self.since self.new ≡ Self.since self.old }
+        ensures set { MatchResult result (λ fuse. (Self.owning self.new ≡ record (Self.owning self.old) { state = set_in (Self.owning self.old).state key due }) × (fuse ≡ record { pid = (Self.owning self.old).pid; key = key; arm = (Self.owning self.old).state.sets + 1; due = due })) (λ error. (Self.owning self.new ≡ Self.owning self.old) × (((error ≡ PortError.SetsSpent) × ((Self.owning self.old).state.sets ≡ MOST_SETS)) ⊎ (error ≡ PortError.Memory))) };
+
+    /// Resets a timer.
+    fn reset(&mut self, key: &TimerKey)
+        requires { (Self.owning self.old).state.alive ≡ true }
+        ensures since { Self.since self.new ≡ Self.since self.old }
+        ensures reset { Self.owning self.new ≡ record (Self.owning self.old) { state = remove_from (Self.owning self.old).state key.now } };
+
+    /// Whether a timer is active.
+    fn active(&self, key: &TimerKey) -> bool
+        requires { (Self.owning self.now).state.alive ≡ true }
+        ensures { result ≡ is_active key.now (Self.owning self.now).state.timers };
+
+    /// The least due time of a timer that is set and has not expired.
+    fn next_due(&self) -> Option<u64>
+        requires { (Self.owning self.now).state.alive ≡ true }
+        ensures { IsLeast (due_times (Self.owning self.now).state.timers) result };
+
+    /// Ends the port (Z.101, stop).
+    fn stop(&mut self)
+        requires { (Self.owning self.old).state.alive ≡ true }
+        ensures since { Self.since self.new ≡ Self.since self.old }
+        ensures stop { Self.owning self.new ≡ record (Self.owning self.old) { state = stopped (Self.owning self.old).state } };
+}

@@ -1,0 +1,140 @@
+//! The rule of a port, and what each atomic step tells.
+ghost use Rattle.std.specs.Prelude.{◌≡◌};
+
+use crate::Entry;
+use crossbeam_queue::protocol::{Join, Lesson, Outcome, Protocol, Split};
+use crossbeam_queue::{RuledSegQueue, SegPass};
+use std::collections::LinkedList;
+
+/// What the queue holds: an entry, with its sender's number and its place among the entries of that sender, from 1. `at` is
+/// the time of an expiry, and 0 for a signal.
+#[derive(Drop)]
+pub struct Placed {
+    pub number: u64,
+    pub count: u64,
+    pub at: u64,
+    pub entry: Entry,
+}
+
+impl Placed {
+    pub fn into_entry(self) -> Entry
+        ensures { result ≡ self.entry }
+    {
+        let Placed {
+            number: _,
+            count: _,
+            at: _,
+            entry,
+        } = self;
+        entry
+    }
+}
+
+/// A sender that was gathered: its number, and how many entries it put. No value of it is made.
+pub struct Gone {
+    pub number: u64,
+    pub count: u64,
+}
+
+/// What a pass may do, and what it knows. No value of it is made.
+pub struct View {
+    /// It gives out numbers, and has given those up to `number`.
+    pub gives: bool,
+    /// It puts under `number`, and has put `count` entries.
+    pub sends: bool,
+    /// It takes.
+    pub takes: bool,
+    pub number: u64,
+    pub count: u64,
+    /// The beginning of the put list that it has seen; the owner's is its known list.
+    pub seen: LinkedList<Placed>,
+    /// The shorter of the two lists at the owner's last gathering.
+    pub told: LinkedList<Placed>,
+    pub drawn: LinkedList<Placed>,
+    /// The senders that the owner has gathered, the last one first.
+    pub gathered: LinkedList<Gone>,
+}
+
+pub struct OnePort;
+
+impl Protocol<Placed, View> for OnePort {
+    ghost use Rattle.input_port.specs.Rule.{Kept};
+    ghost use Rattle.input_port.specs.Views.{whole};
+
+    ghost holds = { Kept };
+
+    ghost first = { whole };
+}
+
+/// The first pass in two: the owner's and the desk's.
+pub struct Ends;
+
+impl Split<View> for Ends {
+    ghost use Rattle.input_port.specs.Views.{desk, owner_of};
+
+    ghost left = { owner_of };
+
+    ghost right = { λ v. desk v.number };
+}
+
+/// A new sender, from the desk's pass.
+pub struct NewSender;
+
+impl Split<View> for NewSender {
+    ghost use Rattle.std.specs.Prelude.{◌+◌, []};
+    ghost use Rattle.input_port.specs.Views.{desk, sender};
+
+    ghost left = { λ v. desk (v.number + 1) };
+
+    ghost right = { λ v. sender (v.number + 1) 0 [] };
+}
+
+/// A sender goes to the owner, which then knows all that it had seen.
+pub struct Gathers;
+
+impl Join<View> for Gathers {
+    ghost use Rattle.input_port.specs.Views.{gathers, spent};
+
+    ghost both = { gathers };
+
+    ghost spent = { spent };
+}
+
+/// The sender that was gathered last comes back, and has seen all that the owner knows.
+pub struct SendsAgain;
+
+impl Split<View> for SendsAgain {
+    ghost use Rattle.input_port.specs.Views.{last_gathered, without_last};
+
+    ghost left = { without_last };
+
+    ghost right = { last_gathered };
+}
+
+/// A push: the entry stands behind all that the sender had seen.
+pub struct Pushed;
+
+impl Outcome<Placed, View> for Pushed {
+    ghost use Rattle.input_port.specs.Steps.{Adds};
+
+    ghost then = { Adds };
+}
+
+/// A pop with an entry, which is drawn; and one without, a fresh point.
+pub struct Popped;
+
+impl Outcome<Placed, View> for Popped {
+    ghost use Rattle.input_port.specs.Steps.{Draws};
+
+    ghost then = { Draws };
+}
+
+impl Lesson<Placed, View> for Popped {
+    ghost use Rattle.input_port.specs.Steps.{IsFresh};
+
+    ghost fact = { IsFresh };
+}
+
+pub type Queue = RuledSegQueue<Placed, View, OnePort>;
+
+pub type Pass = SegPass<Placed, View>;

@@ -1,0 +1,6 @@
+use Rattle.std.specs.Prelude.{List}
+use Rattle.input_port.specs.declared.entry.Fuse.{Fuse}
+
+-- fuses, in an order
+abbrev pub FuseList : Type 0
+FuseList = List Fuse

@@ -1,0 +1,5 @@
+pub mod Clock
+pub mod DueOrder
+pub mod Fuses
+pub mod Slots
+pub mod Tournament

@@ -1,0 +1,42 @@
+ghost use Rattle.std.specs.Prelude.{◌≡◌, ◌%◌};
+ghost use Rattle.sdl_timers.specs.DueOrder.{due_of, earlier};
+
+use input_port::Fuse;
+
+/// Where a fuse stands in due order: by its time, then by the number of its port, then by that of its set.
+#[derive(Clone, Copy, Debug, PartialEq, Eq, PartialOrd, Ord)]
+pub struct Due {
+    pub time: u64,
+    pub pid: u32,
+    pub arm: u64,
+}
+
+impl Due {
+    pub fn of(fuse: &Fuse) -> Self
+        ensures { result ≡ due_of fuse.now }
+    {
+        Due {
+            time: fuse.due(),
+            pid: fuse.pid(),
+            arm: fuse.arm(),
+        }
+    }
+
+    /// The slot of the wheel in which the fuse waits.
+    pub fn slot(self) -> u8
+        ensures { result ≡ self.time % 256 }
+    {
+        (self.time % 256) as u8
+    }
+}
+
+/// The one that is due first, the left one of two that tie.
+pub fn earlier(left: Option<Due>, right: Option<Due>) -> Option<Due>
+    ensures { result ≡ earlier left right }
+{
+    match (left, right) {
+        (Some(a), Some(b)) => Some(if b < a { b } else { a }),
+        (Some(a), None) => Some(a),
+        (None, other) => other,
+    }
+}
