@@ -1,0 +1,5 @@
+pub mod CanonicalLemmas
+pub mod ExampleLemmas
+pub mod KeywordLemmas
+pub mod ViewLemmas
+pub mod WordLemmas

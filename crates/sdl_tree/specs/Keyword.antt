@@ -1,0 +1,69 @@
+-- The spellings of words, and the words that no name is spelled like.
+use Rattle.std.specs.Prelude.{ℕ, Bool, ◌||◌, Option, List, [], ◌∷◌, ◌++◌, map, is_some, option_map, codes}
+use Rattle.std.specs.Borrow.{Bor}
+use Rattle.std.specs.Char.{to_ascii_uppercase}
+use Rattle.std.specs.List.{find}
+use Rattle.std.specs.Str.{bytes_eq}
+use Rattle.sdl_tree.specs.declared.mark.Mark.{Mark}
+use Rattle.sdl_tree.specs.Mark.{keywords, literals, signs, text}
+
+abbrev pub in_upper_case : List ℕ → List ℕ
+in_upper_case word = map to_ascii_uppercase word
+
+abbrev pub with_capital : List ℕ → List ℕ
+with_capital [] = []
+with_capital (b ∷ bytes) = to_ascii_uppercase b ∷ bytes
+
+-- each keyword in lower and in upper case
+abbrev pub keyword_spellings : List Mark → List (Mark × List ℕ)
+keyword_spellings [] = []
+keyword_spellings (m ∷ marks) = (m, text m) ∷ (m, in_upper_case (text m)) ∷ keyword_spellings marks
+
+-- each literal also with a capital first letter
+abbrev pub literal_spellings : List Mark → List (Mark × List ℕ)
+literal_spellings [] = []
+literal_spellings (m ∷ marks) = (m, text m) ∷ (m, in_upper_case (text m)) ∷ (m, with_capital (text m)) ∷ literal_spellings marks
+
+-- the words of the standard that the language leaves out
+abbrev pub left_out_words : List (List ℕ)
+left_out_words =
+    codes "alternative" ∷ codes "any" ∷ codes "call" ∷ codes "exception" ∷ codes "exceptionhandler" ∷
+    codes "export" ∷ codes "exported" ∷ codes "gate" ∷ codes "if" ∷ codes "import" ∷ codes "imported" ∷
+    codes "inherits" ∷ codes "interface" ∷ codes "macro" ∷ codes "macrodefinition" ∷ codes "newtype" ∷
+    codes "none" ∷ codes "package" ∷ codes "procedure" ∷ codes "referenced" ∷ codes "remote" ∷ codes "return" ∷
+    codes "revealed" ∷ codes "select" ∷ codes "service" ∷ codes "signalroute" ∷ codes "substructure" ∷
+    codes "syntype" ∷ codes "this" ∷ codes "type" ∷ codes "via" ∷ codes "view" ∷ codes "viewed" ∷
+    codes "virtual" ∷ []
+
+-- an entry of a table, with its text
+abbrev pub spelled : Mark × Bor (List ℕ) → Mark × List ℕ
+spelled entry = (entry.0, entry.1.now)
+
+-- a word in lower and in upper case
+abbrev pub both_cases : Bor (List ℕ) × Bor (List ℕ) → List ℕ × List ℕ
+both_cases entry = (entry.0.now, entry.1.now)
+
+-- the lower case of the first word with this text in lower or in upper case
+abbrev pub lower_case_in : List (List ℕ × List ℕ) → List ℕ → Option (List ℕ)
+lower_case_in table word =
+    let lower : List ℕ × List ℕ → List ℕ = λ entry. entry.0 in
+    option_map lower (find (λ entry. bytes_eq entry.0 word || bytes_eq entry.1 word) table)
+
+-- the first entry with this text
+abbrev pub entry_in : List (Mark × List ℕ) → List ℕ → Option (Mark × List ℕ)
+entry_in table bytes = find (λ entry. bytes_eq entry.1 bytes) table
+
+-- the mark that the bytes spell, with its spelling
+unfoldable pub keyword_found : List ℕ → Option (Mark × List ℕ)
+keyword_found bytes = entry_in (keyword_spellings keywords ++ literal_spellings literals) bytes
+
+unfoldable pub sign_found : List ℕ → Option (Mark × List ℕ)
+sign_found bytes = entry_in (map (λ m. (m, text m)) signs) bytes
+
+-- the word in lower case, if the bytes spell a word that is left out
+unfoldable pub left_out_found : List ℕ → Option (List ℕ)
+left_out_found bytes = lower_case_in (map (λ lower. (lower, in_upper_case lower)) left_out_words) bytes
+
+-- whether a word is reserved: a keyword or a literal, or a word for what is left out
+unfoldable pub is_reserved : List ℕ → Bool
+is_reserved word = is_some (keyword_found word) || is_some (left_out_found word)

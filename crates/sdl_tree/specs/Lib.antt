@@ -1,0 +1,10 @@
+pub mod Canonical
+pub mod Depth
+pub mod Examples
+pub mod Keyword
+pub mod Laws
+pub mod Mark
+pub mod Spells
+pub mod Tree
+pub mod Views
+pub mod Words

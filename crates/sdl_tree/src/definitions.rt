@@ -1,0 +1,163 @@
+//! The system, its blocks and processes, and what they define.
+
+use crate::behaviour::{BodyPart, Start};
+use crate::expressions::Expression;
+use crate::name::{Name, SortName, Spelling};
+
+/// A specification: one system.
+#[derive(Debug, Drop)]
+pub struct Tree {
+    pub name: Name,
+    pub definitions: Vec<SystemDefinition>,
+}
+
+/// What a system defines.
+#[derive(Debug, Drop)]
+pub enum SystemDefinition {
+    Shared(Definition),
+    Block(BlockDefinition),
+}
+
+/// A block and what it defines.
+#[derive(Debug, Drop)]
+pub struct BlockDefinition {
+    pub name: Name,
+    pub definitions: Vec<BlockPart>,
+}
+
+/// What a block defines.
+#[derive(Debug, Drop)]
+pub enum BlockPart {
+    Shared(Definition),
+    Connect(ChannelConnection),
+}
+
+/// What both a system and a block can define.
+#[derive(Debug, Drop)]
+pub enum Definition {
+    Signals(Vec<SignalDefinition>),
+    SignalList(SignalListDefinition),
+    Synonyms(Vec<SynonymDefinition>),
+    Channel(ChannelDefinition),
+    Process(ProcessDefinition),
+}
+
+/// One signal with the sorts of its parameters. The list is empty where no parentheses stand.
+#[derive(Debug, Drop)]
+pub struct SignalDefinition {
+    pub name: Name,
+    pub sorts: Vec<SortName>,
+}
+
+/// A name for a list of signals.
+#[derive(Debug, Drop)]
+pub struct SignalListDefinition {
+    pub name: Name,
+    pub items: Vec<SignalListItem>,
+}
+
+/// A signal, or in parentheses a list of signals, by its name.
+#[derive(Debug, Drop)]
+pub enum SignalListItem {
+    Signal(Name),
+    List(Name),
+}
+
+/// A name for a constant value.
+#[derive(Debug, Drop)]
+pub struct SynonymDefinition {
+    pub name: Name,
+    pub sort: SortName,
+    pub value: Expression,
+}
+
+/// A channel with its one or two paths.
+#[derive(Debug, Drop)]
+pub struct ChannelDefinition {
+    pub name: Name,
+    /// Whether `nodelay` stands.
+    pub is_nodelay: bool,
+    pub first: ChannelPath,
+    pub second: Option<ChannelPath>,
+}
+
+/// One direction of a channel, with the signals that it carries.
+#[derive(Debug, Drop)]
+pub struct ChannelPath {
+    pub from: ChannelEnd,
+    pub to: ChannelEnd,
+    pub signals: Vec<SignalListItem>,
+}
+
+/// An end of a channel path: the environment, or a block or process.
+#[derive(Debug, Drop)]
+pub enum ChannelEnd {
+    Env(Spelling),
+    Agent(Name),
+}
+
+/// Channels outside of a block that are joined with channels in it.
+#[derive(Debug, Drop)]
+pub struct ChannelConnection {
+    pub outer: Vec<Name>,
+    pub inner: Vec<Name>,
+}
+
+/// A process: its formal parameters, its own definitions, the start transition and the body behind it.
+#[derive(Debug, Drop)]
+pub struct ProcessDefinition {
+    pub name: Name,
+    pub counts: Option<Counts>,
+    pub parameters: Vec<ParameterGroup>,
+    pub definitions: Vec<LocalDefinition>,
+    pub start: Start,
+    pub body: Vec<BodyPart>,
+}
+
+/// How many instances a process has at first and at most, with the parts that stand.
+#[derive(Debug, Drop)]
+pub struct Counts {
+    pub parenthesis: Spelling,
+    pub initial: Option<Expression>,
+    pub bound: Option<Bound>,
+}
+
+/// What stands from the comma on in the counts of a process.
+#[derive(Debug, Drop)]
+pub struct Bound {
+    pub maximum: Option<Expression>,
+}
+
+/// Formal parameters of one sort.
+#[derive(Debug, Drop)]
+pub struct ParameterGroup {
+    pub names: Vec<Name>,
+    pub sort: SortName,
+}
+
+/// What a process defines for itself.
+#[derive(Debug, Drop)]
+pub enum LocalDefinition {
+    Signals(Vec<SignalDefinition>),
+    SignalList(SignalListDefinition),
+    Synonyms(Vec<SynonymDefinition>),
+    SignalSet(Vec<SignalListItem>),
+    Variables(Vec<VariableGroup>),
+    Timers(Vec<TimerDefinition>),
+}
+
+/// Variables of one sort, with one initial value for all of them where there is one.
+#[derive(Debug, Drop)]
+pub struct VariableGroup {
+    pub names: Vec<Name>,
+    pub sort: SortName,
+    pub initial: Option<Expression>,
+}
+
+/// One timer with the sorts of its parameters and its default duration, where it has one.
+#[derive(Debug, Drop)]
+pub struct TimerDefinition {
+    pub name: Name,
+    pub sorts: Vec<SortName>,
+    pub duration: Option<Expression>,
+}

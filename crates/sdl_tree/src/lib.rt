@@ -1,0 +1,32 @@
+//! The tree of a specification in SDL/PR, as public data, and the definitions of which text spells which tree.
+//!
+//! `specs/` has the grammar of the language (Z.106) as a relation between words and trees: `Words` says what each
+//! token of a text means, `Tree` what a tree is without its places, `Spells` which words spell which tree, and
+//! `Canonical` which words a tree is written with. The canonical words of a tree spell it.
+#![tactic(auto)]
+
+mod behaviour;
+mod definitions;
+mod expressions;
+mod keyword;
+pub mod laws;
+mod mark;
+mod name;
+#[cfg(test)]
+mod tests;
+
+pub use behaviour::{
+    Action, ActionStatement, Answer, AnswerPart, Assignment, BodyPart, ContinuousSignal,
+    FreeAction, Input, InputPart, Inputs, NextState, PriorityInput, ResetGroup, SavePart, Saved,
+    SetClause, Start, StatePart, States, Stimulus, Terminator, TerminatorStatement, Transition,
+};
+pub use definitions::{
+    BlockDefinition, BlockPart, Bound, ChannelConnection, ChannelDefinition, ChannelEnd,
+    ChannelPath, Counts, Definition, LocalDefinition, ParameterGroup, ProcessDefinition,
+    SignalDefinition, SignalListDefinition, SignalListItem, SynonymDefinition, SystemDefinition,
+    TimerDefinition, Tree, VariableGroup,
+};
+pub use expressions::{Applied, Chain, Expression, KeywordValue, Link, Operator, UnaryOperator};
+pub use keyword::{is_reserved, keyword_of, left_out, sign_of};
+pub use mark::Mark;
+pub use name::{Name, Number, SortName, Spelling};

@@ -1,0 +1,194 @@
+//! The marks: what the grammar fixes, which is each keyword, each literal and each mark of other characters.
+
+ghost use Rattle.std.specs.Prelude.{◌≡◌};
+ghost use Rattle.sdl_tree.specs.Mark as spec;
+
+use std::fmt;
+
+/// A keyword, a literal or a mark of other characters.
+#[derive(Clone, Copy, Debug, PartialEq, Eq)]
+pub enum Mark {
+    Active,
+    And,
+    Block,
+    Channel,
+    Comment,
+    Connect,
+    Connection,
+    Create,
+    Dcl,
+    Decision,
+    Else,
+    EndBlock,
+    EndChannel,
+    EndConnection,
+    EndDecision,
+    EndProcess,
+    EndState,
+    EndSystem,
+    Env,
+    Fpar,
+    From,
+    Input,
+    Join,
+    Mod,
+    NextState,
+    NoDelay,
+    Not,
+    Now,
+    Offspring,
+    Or,
+    Output,
+    Parent,
+    Priority,
+    Process,
+    Provided,
+    Rem,
+    Reset,
+    Save,
+    SelfPid,
+    Sender,
+    Set,
+    Signal,
+    SignalList,
+    SignalSet,
+    Start,
+    State,
+    Stop,
+    Synonym,
+    System,
+    Task,
+    Timer,
+    To,
+    With,
+    Xor,
+
+    True,
+    False,
+    Null,
+
+    /// `:=`
+    Assign,
+    /// `/=`
+    NotEqual,
+    /// `<=`
+    LessOrEqual,
+    /// `>=`
+    GreaterOrEqual,
+    /// `=>`
+    Implies,
+    /// `(`
+    Open,
+    /// `)`
+    Close,
+    /// `,`
+    Comma,
+    /// `;`
+    Semicolon,
+    /// `:`
+    Colon,
+    /// `=`
+    Equal,
+    /// `<`
+    Less,
+    /// `>`
+    Greater,
+    /// `+`
+    Plus,
+    /// `-`
+    Minus,
+    /// `*`
+    Asterisk,
+    /// `/`
+    Slash,
+}
+
+impl Mark {
+    /// The mark as it is written: words in lower case.
+    pub fn text(self) -> &'static str
+        ensures { result.now ≡ spec.text self }
+    {
+        match self {
+            Mark::Active => "active",
+            Mark::And => "and",
+            Mark::Block => "block",
+            Mark::Channel => "channel",
+            Mark::Comment => "comment",
+            Mark::Connect => "connect",
+            Mark::Connection => "connection",
+            Mark::Create => "create",
+            Mark::Dcl => "dcl",
+            Mark::Decision => "decision",
+            Mark::Else => "else",
+            Mark::EndBlock => "endblock",
+            Mark::EndChannel => "endchannel",
+            Mark::EndConnection => "endconnection",
+            Mark::EndDecision => "enddecision",
+            Mark::EndProcess => "endprocess",
+            Mark::EndState => "endstate",
+            Mark::EndSystem => "endsystem",
+            Mark::Env => "env",
+            Mark::Fpar => "fpar",
+            Mark::From => "from",
+            Mark::Input => "input",
+            Mark::Join => "join",
+            Mark::Mod => "mod",
+            Mark::NextState => "nextstate",
+            Mark::NoDelay => "nodelay",
+            Mark::Not => "not",
+            Mark::Now => "now",
+            Mark::Offspring => "offspring",
+            Mark::Or => "or",
+            Mark::Output => "output",
+            Mark::Parent => "parent",
+            Mark::Priority => "priority",
+            Mark::Process => "process",
+            Mark::Provided => "provided",
+            Mark::Rem => "rem",
+            Mark::Reset => "reset",
+            Mark::Save => "save",
+            Mark::SelfPid => "self",
+            Mark::Sender => "sender",
+            Mark::Set => "set",
+            Mark::Signal => "signal",
+            Mark::SignalList => "signallist",
+            Mark::SignalSet => "signalset",
+            Mark::Start => "start",
+            Mark::State => "state",
+            Mark::Stop => "stop",
+            Mark::Synonym => "synonym",
+            Mark::System => "system",
+            Mark::Task => "task",
+            Mark::Timer => "timer",
+            Mark::To => "to",
+            Mark::With => "with",
+            Mark::Xor => "xor",
+            Mark::True => "true",
+            Mark::False => "false",
+            Mark::Null => "null",
+            Mark::Assign => ":=",
+            Mark::NotEqual => "/=",
+            Mark::LessOrEqual => "<=",
+            Mark::GreaterOrEqual => ">=",
+            Mark::Implies => "=>",
+            Mark::Open => "(",
+            Mark::Close => ")",
+            Mark::Comma => ",",
+            Mark::Semicolon => ";",
+            Mark::Colon => ":",
+            Mark::Equal => "=",
+            Mark::Less => "<",
+            Mark::Greater => ">",
+            Mark::Plus => "+",
+            Mark::Minus => "-",
+            Mark::Asterisk => "*",
+            Mark::Slash => "/",
+        }
+    }
+}
+
+impl fmt::Display for Mark {
+    fn fmt<W: fmt::Write>(&self, f: &mut fmt::Formatter<W>) -> fmt::Result {
+        f.write_str(self.text())
+    }
+}
