@@ -8,7 +8,8 @@ use Rattle.port_model.specs.declared.taken.Taken.{Taken}
 use Rattle.port_model.specs.Port.{PortState, expires}
 use Rattle.port_model.specs.Take as take
 use Rattle.input_port.specs.declared.rule.Placed.{Placed}
-use Rattle.input_port.specs.Ends.{Owning, Retiring, Solitary}
+use Rattle.input_port.specs.Ends.{Owning, Retiring}
+use Rattle.input_port.specs.Fuses.{fuses_after, AreWaiting}
 use Rattle.port_model.specs.declared.got.Got.TheVariants as got
 use Rattle.port_model.specs.Timers.{with_waiting}
 use Rattle.input_port.specs.declared.entry.Entry.{Entry}
@@ -47,6 +48,7 @@ draws_none old = (
     known = refl;
     kept = starts_all old.known;
     state = refl;
+    fuses = refl;
   },
 )
 
@@ -66,6 +68,7 @@ draws_more old mid new a b =
             ∙ sym (known_after-append old.known old.drawn a.0 b.0);
         kept = starts_through new.known mid.known old.known s.kept f.kept;
         state = s.state ∙ ap (λ p. after_draws p b.0) f.state ∙ sym (after_draws-append old.state a.0 b.0);
+        fuses = s.fuses ∙ f.fuses;
       },
     )
 
@@ -78,12 +81,12 @@ pull_draws old new (Ok false) pulled = subst (HasDrawn old) (sym pulled.0) (draw
 pull_draws old new (Err error) pulled = subst (HasDrawn old) (sym pulled.1) (draws_none old)
 
 -- a take that finds nothing in the port changes nothing
-pub nothing_taken : (classes : List Class) (old new : Owning) → take.Takes classes old.state Nothing new.state → new ≡ record old { state = new.state } → new ≡ old
+pub nothing_taken : (classes : List Class) (old new : Owning) → take.Takes classes old.state Nothing new.state → new ≡ record old { state = new.state; fuses = fuses_after Nothing old.fuses } → new ≡ old
 nothing_taken classes old new takes same = same ∙ ap (λ s. record old { state = s }) takes.1
 
 -- what is known where a take goes on: the port found nothing, and one entry more was drawn, or none
 pub goes_on : (classes : List Class) (first old mid new : Owning) (r : Result Bool PortError) → HasDrawn first old
-    → take.Takes classes old.state Nothing mid.state → mid ≡ record old { state = mid.state }
+    → take.Takes classes old.state Nothing mid.state → mid ≡ record old { state = mid.state; fuses = fuses_after Nothing old.fuses }
     → MatchResult r (λ more. MatchBool more ((placed : Placed) × IsDrawn mid new (placed ∷ [])) ((new ≡ mid) × (new.known ≡ new.drawn))) (λ error. (error ≡ PortError.Memory) × (new ≡ mid))
     → HasDrawn first new
 goes_on classes first old mid new r before takes same pulled =
@@ -118,6 +121,7 @@ since_more old mid new a b =
           ∙ sym (known_after-append old.owner.known old.owner.drawn a.0 b.0);
       kept = starts_through new.owner.known mid.owner.known old.owner.known next.kept first.kept;
       state = refl;
+      fuses = next.fuses ∙ first.fuses;
     } in
     since_some old new (a.0 ++ b.0) both (s.state ∙ f.state)
     (s.since ∙ ap (λ l. l ++ map entry_of b.0) f.since ∙ append_assoc old.since (map entry_of a.0) (map entry_of b.0)
@@ -154,16 +158,16 @@ taken-alive classes old new Nothing takes = ap (λ p. p.alive) takes.1
 pub drawn-alive : (old new : Owning) → HasDrawn old new → new.state.alive ≡ old.state.alive
 drawn-alive old new a = ap (λ p. p.alive) a.1.state ∙ after_draws-alive old.state a.0
 
--- all that was put is drawn, and so is all that the owner knew
-pub finishes : (old mid : Owning) (left : Solitary) → HasDrawn old mid → mid.known ≡ mid.drawn → left.pid ≡ mid.pid → left.state ≡ mid.state → Finishes old left
-finishes old mid left a fresh pid state =
+-- all that was put is drawn, and so is all that the owner knew, and the answer is what waits then
+pub finishes : (old mid : Owning) (answer : List Entry) → HasDrawn old mid → mid.known ≡ mid.drawn
+    → AreWaiting mid.state.waiting mid.fuses answer → Finishes old answer
+finishes old mid answer a fresh list =
     let s = a.1 in
     record {
       news = a.0;
+      next = s.next;
       known = (s.kept.0, sym (fresh ∙ s.drawn) ∙ s.kept.1);
-      pid = pid ∙ s.pid;
-      alive = ap (λ p. p.alive) state ∙ drawn-alive old mid a;
-      state = state ∙ s.state;
+      list = subst (λ p. AreWaiting p.waiting old.fuses answer) s.state (subst (λ f. AreWaiting mid.state.waiting f answer) s.fuses list);
     }
 
 pub take-alive : (classes : List Class) (old new : Owning) (r : Result Taken PortError)

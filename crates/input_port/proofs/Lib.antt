@@ -1,4 +1,5 @@
 pub mod Drawing
+pub mod Fusing
 pub mod Meeting
 pub mod Moves
 pub mod Passes

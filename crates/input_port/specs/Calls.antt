@@ -9,7 +9,8 @@ use Rattle.input_port.specs.declared.entry.Entry.{Entry}
 use Rattle.input_port.specs.declared.entry.Entry.TheVariants.{Signal, Timer}
 use Rattle.input_port.specs.declared.rule.Placed.{Placed}
 use Rattle.input_port.specs.declared.rule.View.{View}
-use Rattle.input_port.specs.Ends.{Sending, Owning, Retiring, Solitary, sent_by}
+use Rattle.input_port.specs.Ends.{Sending, Owning, Retiring, sent_by}
+use Rattle.input_port.specs.Fuses.{fuses_after, AreWaiting}
 use Rattle.input_port.specs.Put.{StartsWith, of, longer}
 
 -- A put or an expiry of a sender: behind all that it had seen came entries of others, and then just this one, as its next.
@@ -46,6 +47,7 @@ AreNext drawn (placed ∷ more) =
     (0 < placed.number) × (placed.count ≡ length (of placed.number drawn) + 1) × AreNext (drawn ++ placed ∷ []) more
 
 -- The owner drew these entries, in their order, and each made of its port what a put or an expiry makes. What it knew it knows.
+-- No set or reset was made: the fuses are the same.
 pub record IsDrawn (old new : Owning) (news : List Placed) : Type 0 where
   pub port : new.port ≡ old.port
   pub pid : new.pid ≡ old.pid
@@ -55,6 +57,7 @@ pub record IsDrawn (old new : Owning) (news : List Placed) : Type 0 where
   pub known : new.known ≡ known_after old.known old.drawn news
   pub kept : StartsWith new.known old.known
   pub state : new.state ≡ after_draws old.state news
+  pub fuses : new.fuses ≡ old.fuses
 
 -- it drew some entries, or none
 abbrev pub HasDrawn : Owning → Owning → Type 0
@@ -70,8 +73,9 @@ IsNoPriority classes taken = Unit {0}
 -- of a priority input.
 pub record TakesHere (classes : List Class) (old new : Owning) (taken : Taken) : Type 0 where
   pub news : List Placed
-  pub draws : IsDrawn old (record new { state = after_draws old.state news }) news
+  pub draws : IsDrawn old (record new { state = after_draws old.state news; fuses = old.fuses }) news
   pub take : take.Takes classes (after_draws old.state news) taken new.state
+  pub fuses : new.fuses ≡ fuses_after taken old.fuses
   pub fresh : taken ≡ Nothing → new.known ≡ new.drawn
   pub passed : Contains classes class.Priority → IsNoPriority classes taken → new.known ≡ new.drawn
 
@@ -116,13 +120,13 @@ pub record Meets (old new : Owning) (sender back : Sending) : Type 0 where
   pub own : of back.number back.seen ≡ of sender.number sender.seen
   pub seen : back.seen ≡ new.known
 
--- All that was put is drawn: what is left is the port of the standard after it, for one thread. What the owner knew is drawn too.
-pub record Finishes (old : Owning) (left : Solitary) : Type 0 where
+-- All that was put is drawn, and what the owner knew among it. The answer is what waits in the port of the standard after that:
+-- what was put and neither taken nor reset, in its order, each timer's signal with the fuse that its set gave.
+pub record Finishes (old : Owning) (answer : List Entry) : Type 0 where
   pub news : List Placed
+  pub next : AreNext old.drawn news
   pub known : StartsWith (old.drawn ++ news) old.known
-  pub pid : left.pid ≡ old.pid
-  pub alive : left.state.alive ≡ old.state.alive
-  pub state : left.state ≡ after_draws old.state news
+  pub list : AreWaiting (after_draws old.state news).waiting old.fuses answer
 
 abbrev pub entry_of : Placed → Entry
 entry_of placed = placed.entry
@@ -146,5 +150,6 @@ pub record GathersSince (old new : Retiring) (sender : Sending) : Type 0 where
 -- All that was put is drawn after the stop: these are the entries drawn since. What the owner knew is drawn too.
 pub record FinishesSince (old : Retiring) (answer : List Entry) : Type 0 where
   pub news : List Placed
+  pub next : AreNext old.owner.drawn news
   pub known : StartsWith (old.owner.drawn ++ news) old.owner.known
   pub list : answer ≡ old.since ++ map entry_of news

@@ -3,6 +3,7 @@ use Rattle.std.specs.declared.alloc.Global.{Global}
 use Rattle.crossbeam_queue.specs.SegTies.{SegId}
 use Rattle.port_model.specs.Port.{PortState}
 use Rattle.input_port.specs.declared.entry.Entry.{Entry}
+use Rattle.input_port.specs.declared.entry.Fuse.{Fuse}
 use Rattle.input_port.specs.declared.entry.Entry.TheVariants.{Signal, Timer}
 use Rattle.input_port.specs.declared.rule.Placed.{Placed}
 use Rattle.input_port.specs.declared.rule.View.{View}
@@ -20,7 +21,8 @@ pub record Sending : Type 0 where
   pub seen : List Placed
 
 -- What a caller sees of the owner: which port it is of, and its number; the entries that it has drawn; its known list; how many
--- senders are gathered with it; and the port of the standard that its calls and the drawn entries have made.
+-- senders are gathered with it; the port of the standard that its calls and the drawn entries have made; and the fuses of the
+-- active timers, as their sets gave them.
 pub record Owning : Type 0 where
   pub port : SegId Global
   pub pid : ℕ
@@ -28,18 +30,20 @@ pub record Owning : Type 0 where
   pub known : List Placed
   pub gathered : ℕ
   pub state : PortState
+  pub fuses : List Fuse
 
 -- a port that no queue stands behind, and the owner of a port for one thread, who draws nothing
 abbrev pub no_port : SegId Global
 no_port = record { web = (0, 0); heap = record { memory = record { seal = tt } } }
 
-abbrev pub single : ℕ → PortState → Owning
-single pid state = record { port = no_port; pid = pid; drawn = []; known = []; gathered = 0; state = state }
+abbrev pub single : ℕ → PortState → List Fuse → Owning
+single pid state fuses = record { port = no_port; pid = pid; drawn = []; known = []; gathered = 0; state = state; fuses = fuses }
 
 -- what a caller sees of a port for one thread
 pub record Solitary : Type 0 where
   pub pid : ℕ
   pub state : PortState
+  pub fuses : List Fuse
 
 -- what a caller sees of an owner after its stop: the owner, and the entries that it has drawn since, which had no effect
 pub record Retiring : Type 0 where

@@ -1,9 +1,10 @@
-ghost use Rattle.std.specs.Prelude.{◌≡◌, ◌≤◌, MatchResult};
+ghost use Rattle.std.specs.Prelude.{◌≡◌, ◌≤◌, [], MatchResult};
 ghost use Rattle.port_model.specs.Port.{empty_port, expires, expire_in, put_into};
 ghost use Rattle.input_port.specs.Ends.{single};
 
+use crate::fused_port::FusedPort;
 use crate::{Fuse, Inbox, Unput};
-use port_model::{Item, PlainPort, PortError, Selection, Taken, TimerKey};
+use port_model::{Item, PortError, Selection, Taken, TimerKey};
 use std::alloc::Global;
 use std::marker::Model;
 
@@ -11,7 +12,7 @@ use std::marker::Model;
 #[derive(Drop)]
 pub struct Alone {
     pid: u32,
-    plain: PlainPort,
+    fused: FusedPort,
 }
 
 impl Model for Alone {
@@ -19,33 +20,27 @@ impl Model for Alone {
 
     ghost Value = { Solitary };
 
-    ghost view = { λ a. record { pid = a.pid; state = a.plain.state } };
+    ghost view = { λ a. record { pid = a.pid; state = a.fused.state; fuses = a.fused.fuses } };
 }
 
 impl Alone {
     /// An empty port of the instance `pid`. Takes no memory.
     pub fn new(alloc: Global, pid: u32) -> Self
-        ensures { result ≡ record { pid = pid; state = empty_port } }
+        ensures { result ≡ record { pid = pid; state = empty_port; fuses = [] } }
     {
         Alone {
             pid,
-            plain: PlainPort::new(alloc),
+            fused: FusedPort::new(alloc),
         }
-    }
-
-    pub(crate) fn of(pid: u32, plain: PlainPort) -> Self
-        ensures { result ≡ record { pid = pid; state = plain.state } }
-    {
-        Alone { pid, plain }
     }
 
     /// Puts a signal behind all that waits. A stopped port drops it. For want of memory the signal comes back.
     pub fn put(&mut self, item: Item) -> Result<(), Unput<Item>>
         ensures { MatchResult result (λ _. self.new ≡ record self.old { state = put_into self.old.state item }) (λ back. (back.value ≡ item) × (self.new ≡ self.old)) }
     {
-        match self.plain.put(item) {
+        match self.fused.put(item) {
             Ok(()) => Ok(()),
-            Err((_, value)) => Err(Unput { value }),
+            Err(value) => Err(Unput { value }),
         }
     }
 
@@ -55,7 +50,7 @@ impl Alone {
         requires { fuse.due ≤ at }
         ensures { MatchResult result (λ expired. (expired ≡ expires self.old.state fuse.key fuse.arm fuse.due at) × (self.new ≡ record self.old { state = expire_in self.old.state fuse.key fuse.arm fuse.due at })) (λ back. (back.value ≡ fuse) × (self.new ≡ self.old)) }
     {
-        match self.plain.expire(fuse.key(), fuse.arm(), fuse.due(), at) {
+        match self.fused.expire(&fuse, at) {
             Ok(expired) => Ok(expired),
             Err(_) => Err(Unput { value: fuse }),
         }
@@ -66,35 +61,31 @@ impl Inbox for Alone {
     ghost use Rattle.std.specs.Prelude.{[]};
     ghost use Rattle.input_port.specs.Ends.{single};
 
-    ghost owning = { λ a. single a.pid a.state };
+    ghost owning = { λ a. single a.pid a.state a.fuses };
 
     ghost since = { λ a. [] };
 
     fn take(&mut self, selection: &Selection) -> Result<Taken, PortError> {
-        Ok(self.plain.take(selection))
+        Ok(self.fused.take(selection))
     }
 
     fn set(&mut self, key: TimerKey, due: u64) -> Result<Fuse, PortError> {
-        let Ok(copy) = key.copied() else {
-            return Err(PortError::Memory);
-        };
-        let arm = self.plain.set(copy, due)?;
-        Ok(Fuse::new(self.pid, key, arm, due))
+        self.fused.set(self.pid, key, due)
     }
 
     fn reset(&mut self, key: &TimerKey) {
-        self.plain.reset(key);
+        self.fused.reset(key);
     }
 
     fn active(&self, key: &TimerKey) -> bool {
-        self.plain.active(key)
+        self.fused.active(key)
     }
 
     fn next_due(&self) -> Option<u64> {
-        self.plain.next_due()
+        self.fused.next_due()
     }
 
     fn stop(&mut self) {
-        self.plain.stop();
+        self.fused.stop();
     }
 }

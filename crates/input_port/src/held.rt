@@ -1,7 +1,7 @@
 ghost use Rattle.std.specs.Prelude.{◌≡◌, [], true, MatchResult};
-ghost use Rattle.input_port.specs.Left.{Leaves, HasDrawnHere};
+ghost use Rattle.input_port.specs.Held.{Leaves, HasDrawnHere};
 
-use crate::{Entry, Fuse, Inbox, Left, Owner, Port, Retired};
+use crate::{Entry, Fuse, Inbox, Owner, Port, Retired};
 use port_model::{PortError, Selection, Taken, TimerKey};
 use std::marker::Model;
 use std::sync::Wait;
@@ -44,10 +44,10 @@ impl<'a, R: Wait> Held<'a, R> {
         }
     }
 
-    /// Draws all that was put, and gives what the port holds: as `Owner::finish`, or after a stop as `Retired::finish`. For
-    /// want of memory the inbox comes back, and keeps what it has drawn.
-    pub fn finish(self) -> Result<Left, (PortError, Self)>
-        ensures { MatchResult result (λ left. Leaves self.entry left) (λ back. (back.0 ≡ PortError.Memory) × HasDrawnHere self.entry back.1) }
+    /// Draws all that was put, and gives what is left: as `Owner::finish`, or after a stop as `Retired::finish`. For want of
+    /// memory the inbox comes back, and keeps what it has drawn.
+    pub fn finish(self) -> Result<Vec<Entry>, (PortError, Self)>
+        ensures { MatchResult result (λ list. Leaves self.entry list.items) (λ back. (back.0 ≡ PortError.Memory) × HasDrawnHere self.entry back.1) }
     {
         let Held {
             rt,
@@ -58,7 +58,7 @@ impl<'a, R: Wait> Held<'a, R> {
         } = self;
         if !stopped {
             return match owner.finish(rt, port) {
-                Ok(alone) => Ok(Left::Port(alone)),
+                Ok(list) => Ok(list),
                 Err((error, owner)) => Err((
                     error,
                     Held {
@@ -72,7 +72,7 @@ impl<'a, R: Wait> Held<'a, R> {
             };
         }
         match Retired::new(owner, since).finish(rt, port) {
-            Ok(list) => Ok(Left::Since(list)),
+            Ok(list) => Ok(list),
             Err((error, retired)) => {
                 let (owner, since) = retired.into_parts();
                 Err((

@@ -1,7 +1,8 @@
 //! The input port of an SDL agent (Z.101, Z.102: input port, save, timers) for many senders and one owner, without a lock.
 //!
 //! A port is a queue that all threads share and a plain port that its owner alone has. Senders push signals and expiries
-//! into the queue; the owner pops them, puts each into its plain port in turn, and takes from there.
+//! into the queue; the owner pops them, puts each into its plain port in turn, and takes from there. Beside its plain port it
+//! keeps the fuses of its active timers, so that what is left at the end comes back just as it was put.
 //! `specs/Rule.antt` has the rule over what the queue holds and over what each sender, the owner and the desk know. It
 //! stands at every moment, and each call is an atomic step that keeps it. `Owner::stop` consumes the owner: a take, set or
 //! reset after it is a use of a moved value, and does not compile.
@@ -11,9 +12,9 @@ mod alone;
 pub mod birth;
 mod desk;
 mod entry;
+mod fused_port;
 mod held;
 mod inbox;
-mod left;
 mod owner;
 mod retired;
 mod rule;
@@ -27,7 +28,6 @@ pub use desk::Desk;
 pub use entry::{Entry, Fuse};
 pub use held::Held;
 pub use inbox::Inbox;
-pub use left::Left;
 pub use owner::Owner;
 pub use retired::Retired;
 pub use sender::Sender;

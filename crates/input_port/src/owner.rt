@@ -1,16 +1,18 @@
-ghost use Rattle.std.specs.Prelude.{◌≡◌, ◌↔◌, ◌⊎◌, ◌<◌, ◌+◌, ◌-◌, ◌^◌, [], ◌∷◌, true, None, MatchBool, MatchOption, MatchResult};
+ghost use Rattle.std.specs.Prelude.{◌≡◌, ◌↔◌, ◌⊎◌, ◌<◌, ◌+◌, ◌-◌, ◌^◌, [], ◌∷◌, ◌++◌, true, None, MatchBool, MatchOption, MatchResult};
 ghost use Rattle.port_model.specs.Port.{empty_port, remove_from, set_in, stopped};
 ghost use Rattle.port_model.specs.Take.{Takes};
 ghost use Rattle.port_model.specs.Timers.{due_times, is_active, IsLeast};
 ghost use Rattle.port_model.specs.declared.plain_port.TheConstants.{MOST_SETS};
+ghost use Rattle.input_port.specs.Fuses.{fuses_after, without_fuse};
 ghost use Rattle.input_port.specs.Views.{owner};
 ghost use Rattle.input_port.specs.declared.rule.Placed.{Placed};
 ghost use Rattle.input_port.specs.Calls.{after_draw, after_draws, popped_list, Finishes, Gathers, HasDrawn, IsDrawn, IsGathered, Meets, TakesHere, TakesIn};
 ghost use Rattle.crossbeam_queue.specs.SegTies.{IsSegPassOf};
 
+use crate::fused_port::FusedPort;
 use crate::rule::{Pass, Placed, Queue};
-use crate::{Alone, Entry, Fuse, Port, Retired, Sender, steps};
-use port_model::{PlainPort, PortError, Selection, Taken, TimerKey};
+use crate::{Entry, Fuse, Port, Retired, Sender, steps};
+use port_model::{PortError, Selection, Taken, TimerKey};
 use std::alloc::Global;
 use std::marker::Model;
 use std::sync::Wait;
@@ -21,7 +23,7 @@ pub struct Owner {
     alloc: Global,
     pid: u32,
     pass: Pass,
-    plain: PlainPort,
+    fused: FusedPort,
     gathered: u64,
 }
 
@@ -37,7 +39,8 @@ impl Model for Owner {
       drawn = o.pass.me.view.client.drawn;
       known = o.pass.me.view.client.seen;
       gathered = o.gathered;
-      state = o.plain.state;
+      state = o.fused.state;
+      fuses = o.fused.fuses;
     } };
 
     ghost invariant = { λ o. IsOwning o.pass.me.view.client o.gathered × (o.pass.me.hand ≡ None) × (o.pass.me.spare ≡ None) };
@@ -47,13 +50,13 @@ impl Owner {
     pub(crate) fn new(alloc: Global, pid: u32, pass: Pass) -> Self
         requires view { pass.me.view.client ≡ owner [] [] [] [] }
         requires free { (pass.me.hand ≡ None) × (pass.me.spare ≡ None) }
-        ensures { result ≡ record { port = record { web = pass.web; heap = pass.heap }; pid = pid; drawn = []; known = []; gathered = 0; state = empty_port } }
+        ensures { result ≡ record { port = record { web = pass.web; heap = pass.heap }; pid = pid; drawn = []; known = []; gathered = 0; state = empty_port; fuses = [] } }
     {
         Owner {
             alloc,
             pid,
             pass,
-            plain: PlainPort::new(alloc),
+            fused: FusedPort::new(alloc),
             gathered: 0,
         }
     }
@@ -127,9 +130,9 @@ impl Owner {
     // Takes from what is drawn.
     fn choose(&mut self, selection: &Selection) -> Taken
         ensures take { Takes selection.now self.old.state result self.new.state }
-        ensures same { self.new ≡ record self.old { state = self.new.state } }
+        ensures same { self.new ≡ record self.old { state = self.new.state; fuses = fuses_after result self.old.fuses } }
     {
-        self.plain.take(selection)
+        self.fused.take(selection)
     }
 
     // Draws one entry, if the queue has one. The room for it is made first, so that no entry is lost for want of memory.
@@ -138,13 +141,13 @@ impl Owner {
         ensures port { self.new.port ≡ self.old.port }
         ensures pulled { MatchResult result (λ more. MatchBool more ((placed : Placed) × IsDrawn self.old self.new (placed ∷ [])) ((self.new ≡ self.old) × (self.new.known ≡ self.new.drawn))) (λ error. (error ≡ PortError.Memory) × (self.new ≡ self.old)) }
     {
-        if let Err(_) = self.plain.reserve() {
+        if let Err(_) = self.fused.reserve() {
             return Err(PortError::Memory);
         }
         match steps::pop(rt, &port.queue, &mut self.pass) {
             None => Ok(false),
             Some(placed) => {
-                draw(&mut self.plain, placed);
+                self.fused.draw(placed);
                 Ok(true)
             }
         }
@@ -166,11 +169,11 @@ impl Owner {
         if self.gathered == u64::MAX {
             return Err((PortError::Memory, sender));
         }
-        if let Err(_) = self.plain.reserve() {
+        if let Err(_) = self.fused.reserve() {
             return Err((PortError::Memory, sender));
         }
         let popped = take_in(rt, &port.queue, &mut self.pass, sender.into_pass());
-        draw_popped(&mut self.plain, popped);
+        draw_popped(&mut self.fused, popped);
         self.gathered += 1;
         Ok(())
     }
@@ -189,12 +192,12 @@ impl Owner {
         ensures port { self.new.port ≡ self.old.port }
         ensures meet { MatchResult result (λ back. Meets self.old self.new sender back) (λ back. (back.0 ≡ PortError.Memory) × (back.1 ≡ sender) × (self.new ≡ self.old)) }
     {
-        if let Err(_) = self.plain.reserve() {
+        if let Err(_) = self.fused.reserve() {
             return Err((PortError::Memory, sender));
         }
         let (number, count, signals) = sender.numbers();
         let popped = take_in(rt, &port.queue, &mut self.pass, sender.into_pass());
-        draw_popped(&mut self.plain, popped);
+        draw_popped(&mut self.fused, popped);
         let pass = steps::split_again(&port.queue, &mut self.pass);
         Ok(Sender::again(pass, number, count, signals))
     }
@@ -203,47 +206,43 @@ impl Owner {
     /// key is dropped then, and nothing changes.
     pub fn set(&mut self, key: TimerKey, due: u64) -> Result<Fuse, PortError>
         ensures port { self.new.port ≡ self.old.port }
-        ensures set { MatchResult result (λ fuse. (self.new ≡ record self.old { state = set_in self.old.state key due }) × (fuse ≡ record { pid = self.old.pid; key = key; arm = self.old.state.sets + 1; due = due })) (λ error. (self.new ≡ self.old) × (((error ≡ PortError.SetsSpent) × (self.old.state.sets ≡ MOST_SETS)) ⊎ (error ≡ PortError.Memory))) }
+        ensures set { MatchResult result (λ fuse. (self.new ≡ record self.old { state = set_in self.old.state key due; fuses = without_fuse key self.old.fuses ++ fuse ∷ [] }) × (fuse ≡ record { pid = self.old.pid; key = key; arm = self.old.state.sets + 1; due = due })) (λ error. (self.new ≡ self.old) × (((error ≡ PortError.SetsSpent) × (self.old.state.sets ≡ MOST_SETS)) ⊎ (error ≡ PortError.Memory))) }
     {
-        let Ok(copy) = key.copied() else {
-            return Err(PortError::Memory);
-        };
-        let arm = self.plain.set(copy, due)?;
-        Ok(Fuse::new(self.pid, key, arm, due))
+        self.fused.set(self.pid, key, due)
     }
 
     /// Resets a timer: it isn't active any more, and its signal doesn't wait.
     pub fn reset(&mut self, key: &TimerKey)
-        ensures { self.new ≡ record self.old { state = remove_from self.old.state key.now } }
+        ensures { self.new ≡ record self.old { state = remove_from self.old.state key.now; fuses = without_fuse key.now self.old.fuses } }
     {
-        self.plain.reset(key);
+        self.fused.reset(key);
     }
 
     /// Whether a timer is active.
     pub fn active(&self, key: &TimerKey) -> bool
         ensures { result ≡ is_active key.now self.now.state.timers }
     {
-        self.plain.active(key)
+        self.fused.active(key)
     }
 
     /// The least due time of a timer that is set and has not expired.
     pub fn next_due(&self) -> Option<u64>
         ensures { IsLeast (due_times self.now.state.timers) result }
     {
-        self.plain.next_due()
+        self.fused.next_due()
     }
 
     // Ends the port, as `stop`, where the owner can't be consumed.
     pub(crate) fn halt(&mut self)
-        ensures { self.new ≡ record self.old { state = stopped self.old.state } }
+        ensures { self.new ≡ record self.old { state = stopped self.old.state; fuses = [] } }
     {
-        self.plain.stop();
+        self.fused.stop();
     }
 
     /// Ends the port (Z.101, stop): what waits is discarded, no timer is active, and later entries have no effect. There is no
     /// owner any more, and so no further take, set or reset. Takes no memory.
     pub fn stop(mut self) -> Retired
-        ensures { result ≡ record { owner = record self { state = stopped self.state }; since = [] } }
+        ensures { result ≡ record { owner = record self { state = stopped self.state; fuses = [] }; since = [] } }
     {
         let since = self.nothing_since();
         self.halt();
@@ -281,24 +280,36 @@ impl Owner {
         popped
     }
 
-    /// Draws all that was put, and gives the port of the owner as one for one thread, with its list and its timers. It is not
-    /// given as entries, since an expired timer has no due time any more, and so no fuse. For want of memory the owner comes
-    /// back, with what it has drawn in its port. That the port is the owner's is the caller's condition.
-    pub fn finish<R: Wait>(mut self, rt: &R, port: &Port) -> Result<Alone, (PortError, Owner)>
+    /// Draws all that was put, and gives what is left in the port: what was put and neither taken nor reset, in order. For want
+    /// of memory the owner comes back, with what it has drawn in its port. That the port is the owner's is the caller's
+    /// condition.
+    pub fn finish<R: Wait>(mut self, rt: &R, port: &Port) -> Result<Vec<Entry>, (PortError, Owner)>
         requires { self.port ≡ port.now.queue }
-        ensures { MatchResult result (λ left. Finishes self left) (λ back. (back.0 ≡ PortError.Memory) × HasDrawn self back.1) }
+        ensures { MatchResult result (λ list. Finishes self list.items) (λ back. (back.0 ≡ PortError.Memory) × HasDrawn self back.1) }
     {
         if let Err(error) = self.drain(rt, port) {
             return Err((error, self));
         }
         let Owner {
-            alloc: _,
+            alloc,
             pid,
-            pass: _,
-            plain,
-            gathered: _,
+            pass,
+            fused,
+            gathered,
         } = self;
-        Ok(Alone::of(pid, plain))
+        match fused.into_entries(alloc) {
+            Ok(list) => Ok(list),
+            Err(fused) => Err((
+                PortError::Memory,
+                Owner {
+                    alloc,
+                    pid,
+                    pass,
+                    fused,
+                    gathered,
+                },
+            )),
+        }
     }
 }
 
@@ -314,27 +325,13 @@ fn take_in<R: Wait>(rt: &R, queue: &Queue, pass: &mut Pass, other: Pass) -> Opti
     steps::pop(rt, queue, pass)
 }
 
-// Puts what was popped into the plain port, into the room that was made.
-fn draw_popped(plain: &mut PlainPort, popped: Option<Placed>)
-    requires { 0 < plain.old.room }
-    ensures { plain.new.state ≡ after_draws plain.old.state (popped_list popped) }
+// Puts what was popped into the owner's port, into the room that was made.
+fn draw_popped(fused: &mut FusedPort, popped: Option<Placed>)
+    requires { 0 < fused.old.room }
+    ensures state { fused.new.state ≡ after_draws fused.old.state (popped_list popped) }
+    ensures fuses { fused.new.fuses ≡ fused.old.fuses }
 {
     if let Some(placed) = popped {
-        draw(plain, placed);
-    }
-}
-
-// Puts an entry into the plain port, into the room that was made.
-fn draw(plain: &mut PlainPort, placed: Placed)
-    requires { 0 < plain.old.room }
-    ensures { plain.new.state ≡ after_draw plain.old.state placed }
-{
-    let at = placed.at;
-    match placed.into_entry() {
-        Entry::Signal(item) => plain.put_reserved(item),
-        Entry::Timer(fuse) => {
-            let (key, arm, due) = fuse.into_parts();
-            plain.expire_reserved(key, arm, due, at);
-        }
+        fused.draw(placed);
     }
 }

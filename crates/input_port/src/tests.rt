@@ -1,7 +1,7 @@
 ghost use Rattle.std.specs.Prelude.{◌≡◌, true};
 
 use crate::birth::port;
-use crate::{Alone, Entry, Held, Inbox, Left, Owner, Port, Sender};
+use crate::{Alone, Entry, Held, Inbox, Owner, Port, Sender};
 use port_model::{
     Class, Got, Item, Pid, PortError, Selection, SignalId, Taken, TimerKey, Value, Values,
 };
@@ -49,11 +49,19 @@ fn consumed(taken: Result<Taken, PortError>) -> Option<(u32, i64)> {
     }
 }
 
-// The same of an entry that was drawn after a stop.
-fn drawn(list: &[Entry], index: usize) -> Option<(u32, i64)> {
+// The same of an entry that is left.
+fn left(list: &[Entry], index: usize) -> Option<(u32, i64)> {
     match list.get(index)? {
         Entry::Signal(item) => Some(shown(item)),
         Entry::Timer(fuse) => Some((fuse.key().name.0, 0)),
+    }
+}
+
+// Of a timer's signal that is left: the port, the number of the set, and the due time.
+fn fuse(list: &[Entry], index: usize) -> Option<(u32, u64, u64)> {
+    match list.get(index)? {
+        Entry::Signal(_) => None,
+        Entry::Timer(fuse) => Some((fuse.pid(), fuse.arm(), fuse.due())),
     }
 }
 
@@ -169,7 +177,10 @@ fn two_senders(rt: HostRuntime) -> Result<(), Fail> {
     assert_eq!(rt; owner.gather(&rt, &port, second).is_ok(), true);
     assert_eq!(rt; takes_ten(&rt, &port, &mut owner, &inputs), true);
     assert_eq!(rt; takes_nothing(&rt, &port, &mut owner, &inputs), true);
-    assert_eq!(rt; owner.finish(&rt, &port).is_ok(), true);
+    assert_eq!(rt;
+        owner.finish(&rt, &port).map(|list| list.len()).ok(),
+        Some(0)
+    );
     Ok(())
 }
 
@@ -196,7 +207,10 @@ fn meet(rt: HostRuntime) -> Result<(), Fail> {
         true
     );
     assert_eq!(rt; takes_nothing(&rt, &port, &mut owner, &inputs), true);
-    assert_eq!(rt; owner.finish(&rt, &port).is_ok(), true);
+    assert_eq!(rt;
+        owner.finish(&rt, &port).map(|list| list.len()).ok(),
+        Some(0)
+    );
     Ok(())
 }
 
@@ -265,9 +279,9 @@ fn stop_and_workers(rt: HostRuntime) -> Result<(), Fail> {
     let Ok(since) = retired.finish(&rt, &port) else {
         return Err(Fail::new("no memory to finish"));
     };
-    assert_eq!(rt; (since.len(), drawn(&since, 0)), (3, Some((5, 1))));
+    assert_eq!(rt; (since.len(), left(&since, 0)), (3, Some((5, 1))));
     assert_eq!(rt;
-        (drawn(&since, 1), drawn(&since, 2)),
+        (left(&since, 1), left(&since, 2)),
         (Some((6, 2)), Some((7, 3)))
     );
     Ok(())
@@ -337,28 +351,96 @@ fn uses_held(rt: HostRuntime) -> Result<(), Fail> {
     let mut held = Held::new(&rt, &port, owner);
     assert_eq!(rt; uses_inbox(alloc, &mut held)?, (true, Some(5), true));
     assert_eq!(rt; puts(&rt, alloc, &port, &mut sender, &[(3, 1)]), true);
-    let Ok(Left::Since(since)) = held.finish() else {
-        return Err(Fail::new("no entries since the stop"));
+    let Ok(since) = held.finish() else {
+        return Err(Fail::new("no memory to finish"));
     };
-    assert_eq!(rt; (since.len(), drawn(&since, 0)), (1, Some((3, 1))));
+    assert_eq!(rt; (since.len(), left(&since, 0)), (1, Some((3, 1))));
+    Ok(())
+}
+
+// Puts the signal (0, 1), the expiry of a timer 2 that was set for the time 5, and the signal (1, 2).
+fn puts_three<R: Wait>(
+    rt: &R,
+    alloc: Global,
+    port: &Port,
+    owner: &mut Owner,
+    sender: &mut Sender,
+) -> Result<(), Fail>
+    requires owner { owner.old.port ≡ port.now.queue }
+    requires sender { sender.old.port ≡ port.now.queue }
+    ensures owner { owner.new.port ≡ owner.old.port }
+    ensures alive { owner.new.state.alive ≡ owner.old.state.alive }
+    ensures sender { sender.new.port ≡ sender.old.port }
+{
+    let expiring = owner.set(key(alloc, 2), 5)?;
+    let first = puts(rt, alloc, port, sender, &[(0, 1)]);
+    let expired = expiring.due() <= 6 && sender.expire(rt, port, expiring, 6).is_ok();
+    let second = puts(rt, alloc, port, sender, &[(1, 2)]);
+    if first && expired && second {
+        return Ok(());
+    }
+    Err(Fail::new("no memory to put"))
+}
+
+// What was drawn and what was not comes back in one order. A timer that is set and has not expired isn't among it.
+#[test]
+fn finish_gives_what_waits(rt: HostRuntime) -> Result<(), Fail> {
+    let alloc = rt.alloc();
+    let saves = selection(alloc, &[Class::Saved, Class::Saved, Class::Saved])?;
+    let (port, mut owner, mut desk) = port(alloc, 7)?;
+    let mut sender = desk.sender(&port)?;
+    let _running = owner.set(key(alloc, 3), 9)?;
+    puts_three(&rt, alloc, &port, &mut owner, &mut sender)?;
+    assert_eq!(rt; takes_nothing(&rt, &port, &mut owner, &saves), true);
+    assert_eq!(rt; puts(&rt, alloc, &port, &mut sender, &[(0, 3)]), true);
+    let Ok(list) = owner.finish(&rt, &port) else {
+        return Err(Fail::new("no memory to finish"));
+    };
+    assert_eq!(rt; list.len(), 4);
+    assert_eq!(rt;
+        (left(&list, 0), left(&list, 1)),
+        (Some((0, 1)), Some((2, 0)))
+    );
+    assert_eq!(rt;
+        (left(&list, 2), left(&list, 3)),
+        (Some((1, 2)), Some((0, 3)))
+    );
+    assert_eq!(rt; (fuse(&list, 0), fuse(&list, 1)), (None, Some((7, 2, 5))));
+    Ok(())
+}
+
+// What was taken, and a timer's signal that was drawn and then reset, are not left.
+#[test]
+fn finish_leaves_out_what_is_gone(rt: HostRuntime) -> Result<(), Fail> {
+    let alloc = rt.alloc();
+    let some = selection(alloc, &[Class::Input, Class::Saved, Class::Saved])?;
+    let (port, mut owner, mut desk) = port(alloc, 7)?;
+    let mut sender = desk.sender(&port)?;
+    puts_three(&rt, alloc, &port, &mut owner, &mut sender)?;
+    assert_eq!(rt; takes(&rt, &port, &mut owner, &some, &[(0, 1)]), true);
+    assert_eq!(rt; takes_nothing(&rt, &port, &mut owner, &some), true);
+    owner.reset(&key(alloc, 2));
+    let Ok(list) = owner.finish(&rt, &port) else {
+        return Err(Fail::new("no memory to finish"));
+    };
+    assert_eq!(rt; (list.len(), left(&list, 0)), (1, Some((1, 2))));
     Ok(())
 }
 
 #[test]
-fn finishes_what_was_not_stopped(rt: HostRuntime) -> Result<(), Fail> {
+fn held_finishes_what_was_not_stopped(rt: HostRuntime) -> Result<(), Fail> {
     let alloc = rt.alloc();
-    let inputs = selection(alloc, &[Class::Input, Class::Input, Class::Input])?;
-    let (port, owner, mut desk) = port(alloc, 7)?;
+    let (port, mut owner, mut desk) = port(alloc, 7)?;
     let mut sender = desk.sender(&port)?;
-    assert_eq!(rt; puts(&rt, alloc, &port, &mut sender, &[(0, 1)]), true);
-    let mut held = Held::new(&rt, &port, owner);
-    let fuse = held.set(key(alloc, 2), 3)?;
-    let Ok(Left::Port(mut left)) = held.finish() else {
-        return Err(Fail::new("no port is left"));
+    puts_three(&rt, alloc, &port, &mut owner, &mut sender)?;
+    let Ok(list) = Held::new(&rt, &port, owner).finish() else {
+        return Err(Fail::new("no memory to finish"));
     };
-    assert_eq!(rt; left.expire(fuse, 3), Ok(true));
-    assert_eq!(rt; consumed(left.take(&inputs)), Some((0, 1)));
-    assert_eq!(rt; consumed(left.take(&inputs)), Some((2, 0)));
+    assert_eq!(rt; (list.len(), fuse(&list, 1)), (3, Some((7, 1, 5))));
+    assert_eq!(rt;
+        (left(&list, 0), left(&list, 2)),
+        (Some((0, 1)), Some((1, 2)))
+    );
     Ok(())
 }
 

@@ -1,3 +1,4 @@
+pub mod Coherence
 pub mod Histories
 pub mod Keys
 pub mod Least

@@ -1,4 +1,5 @@
 pub mod Class
+pub mod Coherence
 pub mod History
 pub mod Laws
 pub mod PlainPort

@@ -1,4 +1,5 @@
 ghost use Rattle.std.specs.Prelude.{◌≡◌, ◌↔◌, ◌⊎◌, ◌+◌, ◌<◌, true, length, slice_index_or, remove, IfOk, IfErr, IsErrOf, OnOk, OnErr};
+ghost use Rattle.port_model.specs.Coherence.{IsCoherent};
 ghost use Rattle.port_model.specs.Port.{empty_port, expires, expire_in, put_into, remove_from, set_in, stopped};
 ghost use Rattle.port_model.specs.Take.{Takes};
 ghost use Rattle.port_model.specs.Timers.{after_taking, due_times, is_active, IsLeast};
@@ -25,6 +26,7 @@ impl Model for PlainPort {
     ghost use Rattle.std.specs.Prelude.{◌-◌, ◌≤◌};
     ghost use Rattle.std.specs.VecDeque.{deque_len, deque_capacity};
     ghost use Rattle.port_model.specs.declared.plain_port.TheConstants.{MOST_SETS};
+    ghost use Rattle.port_model.specs.Coherence.{IsCoherent};
     ghost use Rattle.port_model.specs.PlainPort.{PlainPortValue};
 
     ghost Value = { PlainPortValue };
@@ -34,7 +36,7 @@ impl Model for PlainPort {
       room = deque_capacity port.waiting - deque_len port.waiting;
     } };
 
-    ghost invariant = { λ port. port.sets ≤ MOST_SETS };
+    ghost invariant = { λ port. (port.sets ≤ MOST_SETS) × IsCoherent port.waiting.items port.timers.items };
 }
 
 impl PlainPort {
@@ -218,6 +220,28 @@ impl PlainPort {
         self.waiting.clear();
         self.timers.clear();
         self.alive = false;
+    }
+
+    /// How many entries wait.
+    pub fn waiting_len(&self) -> usize
+        ensures { result ≡ length self.now.state.waiting }
+    {
+        self.waiting.len()
+    }
+
+    /// What waits, in order. Each timer's signal among it is that of the one active timer of its key, and stands there once.
+    /// Takes no memory.
+    pub fn into_waiting(self) -> VecDeque<Got>
+        ensures waiting { result.items ≡ self.state.waiting }
+        ensures timers { IsCoherent result.items self.state.timers }
+    {
+        let PlainPort {
+            waiting,
+            timers: _,
+            sets: _,
+            alive: _,
+        } = self;
+        waiting
     }
 }
 

@@ -2,8 +2,8 @@
 use Rattle.std.proofs.Common.{◌≡◌, ◌∙◌, ◌<◌, ◌+◌, ◌++◌, ℕ, sym, ap, Result, Ok, Err, List, [], ◌∷◌, length, get_or, drop, refl, map}
 use Rattle.std.proofs.lemmas.List.{at_drop_more}
 use Rattle.port_model.specs.declared.value.Value.{Value}
-use Rattle.sdl_parse.specs.declared.tree.Operator.{Operator}
-use Rattle.sdl_parse.specs.declared.tree.Operator.TheVariants.{Plus, Minus}
+use Rattle.sdl_core.specs.declared.expressions.Operator.{Operator}
+use Rattle.sdl_core.specs.declared.expressions.Operator.TheVariants.{Plus, Minus}
 use Rattle.sdl_system.specs.Term.{Term, Operand, joined, chained, expression_step, chain_step, link_step, term_of, term_of_chain, operand_of}
 use Rattle.sdl_system.specs.declared.process.Chain.{Chain, out-Chain}
 use Rattle.sdl_system.specs.declared.process.Link.{Link}

@@ -2,8 +2,8 @@
 use Rattle.std.specs.Prelude.{◌^◌, ◌-ℤ◌, ◌+ℤ◌, ℤ, pos, negsuc, neg_ℤ, Bool, nat_lt, if◌then◌else◌, List, [], ◌∷◌, Option, None, Some, Result, Ok, Err, slice_get}
 use Rattle.port_model.specs.declared.value.Value.{Value}
 use Rattle.port_model.specs.declared.value.Value.TheVariants.{Int}
-use Rattle.sdl_parse.specs.declared.tree.Operator.{Operator}
-use Rattle.sdl_parse.specs.declared.tree.Operator.TheVariants.{Plus, Minus}
+use Rattle.sdl_core.specs.declared.expressions.Operator.{Operator}
+use Rattle.sdl_core.specs.declared.expressions.Operator.TheVariants.{Plus, Minus}
 use Rattle.sdl_report.specs.declared.event.Failure.{Failure}
 use Rattle.sdl_report.specs.declared.event.Failure.TheVariants.{Overflow, Undefined}
 use Rattle.sdl_system.specs.Term.{Term, number, variable, negative, sum, difference}

@@ -5,7 +5,7 @@ ghost use Rattle.sdl_interp.specs.Evaluation.{value_of, value_at, values_of, neg
 ghost use Rattle.sdl_system.specs.Term.{term_of, term_of_chain, operand_of};
 
 use port_model::Value;
-use sdl_parse::tree::Operator;
+use sdl_core::Operator;
 use sdl_report::Failure;
 use sdl_system::{Chain, Expression, Link, VariableId};
 use std::alloc::Global;

@@ -1,137 +1,127 @@
-//! A cursor over the tokens of a text.
+//! A cursor over the words of a text.
 
-ghost use Rattle.std.specs.Prelude.{◌≡◌, ◌-◌, ◌≤◌, length, take};
-ghost use Rattle.sdl_lex.specs.Place.{place_after};
-ghost use Rattle.sdl_lex.specs.Token.{InOrder};
+ghost use Rattle.std.specs.Prelude.{◌≡◌, length, map, option_map};
+ghost use Rattle.sdl_parse.specs.Item.{item_meaning, meaning};
+ghost use Rattle.sdl_parse.specs.Reading as spec;
+ghost use Rattle.sdl_parse.specs.Reads.{Reads};
+ghost use Rattle.sdl_tree.specs.Views.{plain_name};
 
-use crate::error::{ParseError, Wanted};
-use crate::keyword::{Keyword, left_out};
-use crate::mark::Mark;
-use crate::tree::{Name, Word};
-use sdl_lex::{Kind, Place, Token};
+use crate::error::Wanted;
+use crate::fault::Fault;
+use crate::word::{Item, Word};
+use sdl_lex::Place;
+use sdl_tree::{Mark, Name, Number, Spelling};
 use std::alloc::Global;
 use std::marker::Model;
 
-/// What a token means to the grammar.
-#[derive(Clone, Copy, Debug)]
-pub enum Front {
-    /// A keyword or literal in this spelling.
-    Keyword(Keyword, &'static str),
-    Mark(Mark),
-    Name,
-    Number(i64),
-    Text,
-    /// A word that is left out here, in lower case.
-    LeftOut(&'static str),
-    /// No token of the language.
-    Other,
-    /// The end of the text.
-    End,
-}
-
-/// The tokens that are not read yet. The first of them, or the end of the text, is the front.
+/// The words that are not read yet. The first of them, or the end of the text, is the front.
 #[derive(Drop)]
 pub struct Cursor<'t> {
-    text: &'t [u8],
-    tokens: &'t [Token],
-    front: Front,
-    /// The bytes of the front.
-    spelling: &'t [u8],
-    /// The offset of the front, and its place.
-    at: usize,
-    place: Place,
+    items: &'t [Item<'t>],
+    /// The place just past the text.
+    end: Place,
 }
 
 impl<'t> Model for Cursor<'t> {
-    ghost use Rattle.std.specs.Prelude.{ℕ, length};
-    ghost use Rattle.sdl_parse.specs.Cursor.{IsPlaced};
+    ghost use Rattle.std.specs.Prelude.{map};
+    ghost use Rattle.sdl_tree.specs.Spells.Parts.{Words};
+    ghost use Rattle.sdl_parse.specs.Item.{item_meaning};
 
-    // How many tokens are left.
-    ghost Value = { ℕ };
+    ghost Value = { Words };
 
-    ghost view = { λ c. length c.tokens.now };
-
-    ghost invariant = { IsPlaced };
+    ghost view = { λ c. map item_meaning c.items.now };
 }
 
 impl<'t> Cursor<'t> {
-    /// The cursor before all tokens of a text.
-    pub fn new(text: &'t [u8], tokens: &'t [Token]) -> Cursor<'t>
-        requires { InOrder 0 tokens.now (length text.now) }
-        ensures { result ≡ length tokens.now }
+    /// The cursor before all words of a text, which ends at this place.
+    pub fn new(items: &'t [Item<'t>], end: Place) -> Cursor<'t>
+        ensures { result ≡ map item_meaning items.now }
     {
-        Cursor::before(text, tokens, 0, Place::START)
+        Cursor { items, end }
     }
 
-    /// The cursor before these tokens, which stand at the offset `from` or later; `place` is the place of `from`.
-    fn before(text: &'t [u8], tokens: &'t [Token], from: usize, place: Place) -> Cursor<'t>
-        requires in_order { InOrder from tokens.now (length text.now) }
-        requires placed { place ≡ place_after (take from text.now) }
-        ensures { result ≡ length tokens.now }
+    /// A second cursor at the same place, to look ahead with.
+    pub fn again(&self) -> Cursor<'t>
+        ensures { result ≡ self.now }
     {
-        let Some((token, _)) = tokens.split_first() else {
-            let at = text.len();
-            return Cursor {
-                text,
-                tokens,
-                front: Front::End,
-                spelling: &[],
-                at,
-                place: moved(text, from, place, at),
-            };
-        };
-        let spelling = slice_of(text, *token);
         Cursor {
-            text,
-            tokens,
-            front: front_of(token.kind, spelling),
-            spelling,
-            at: token.start,
-            place: moved(text, from, place, token.start),
+            items: self.items,
+            end: self.end,
         }
     }
 
-    /// What stands next.
-    pub fn front(&self) -> Front {
-        self.front
+    /// What stands next, if not the end of the text.
+    #[tactic(auto, unfolding(crate::specs::Reading::front))]
+    pub fn front(&self) -> Option<Word<'t>>
+        ensures { option_map meaning result ≡ spec.front self.now }
+    {
+        match self.items {
+            [first, ..] => Some(first.word),
+            [] => None,
+        }
     }
 
     /// The place of what stands next; at the end of the text, the place just past it.
     pub fn place(&self) -> Place {
-        self.place
-    }
-
-    /// The bytes of the token that stands next.
-    pub fn spelling(&self) -> &'t [u8] {
-        self.spelling
-    }
-
-    /// How many tokens are left, and so how many turns a list can take at most.
-    pub fn left(&self) -> usize
-        ensures { result ≡ self.now }
-    {
-        self.tokens.len()
-    }
-
-    /// Goes past one token.
-    pub fn pass(&mut self)
-        ensures { self.new ≡ self.old - 1 }
-    {
-        if let Some((_, after)) = self.tokens.split_first() {
-            *self = Cursor::before(self.text, after, self.at, self.place);
+        match self.items {
+            [first, ..] => first.place,
+            [] => self.end,
         }
     }
 
-    pub fn sees(&self, mark: Mark) -> bool {
-        matches!(self.front, Front::Mark(next) if next == mark)
+    /// How many words are left, and so how many turns a list can take at most.
+    pub fn left(&self) -> usize
+        ensures { result ≡ length self.now }
+    {
+        self.items.len()
     }
 
-    pub fn sees_keyword(&self, keyword: Keyword) -> bool {
-        matches!(self.front, Front::Keyword(next, _) if next == keyword)
+    /// Goes past one word.
+    #[tactic(auto, unfolding(crate::specs::Reading::rest))]
+    pub fn pass(&mut self)
+        ensures { self.new ≡ spec.rest self.old }
+    {
+        if let [_, rest @ ..] = self.items {
+            self.items = rest;
+        }
+    }
+
+    /// The mark that stands next, if one does.
+    #[tactic(auto, unfolding(crate::specs::Reading::mark_at))]
+    pub fn mark(&self) -> Option<Mark>
+        ensures { result ≡ spec.mark_at self.now }
+    {
+        match self.front() {
+            Some(Word::Fixed(mark, _)) => Some(mark),
+            _ => None,
+        }
+    }
+
+    /// Whether the mark stands next.
+    #[tactic(auto, unfolding(crate::specs::Reading::sees, crate::specs::Reading::same_mark))]
+    pub fn sees(&self, mark: Mark) -> bool
+        ensures { result ≡ spec.sees mark self.now }
+    {
+        match self.front() {
+            Some(Word::Fixed(next, _)) => next == mark,
+            _ => false,
+        }
+    }
+
+    /// Whether a name stands next.
+    #[tactic(auto, unfolding(crate::specs::Reading::sees_name))]
+    pub fn sees_name(&self) -> bool
+        ensures { result ≡ spec.sees_name self.now }
+    {
+        matches!(self.front(), Some(Word::Name(_)))
     }
 
     /// Whether the mark stands next, which is then passed.
-    pub fn eat(&mut self, mark: Mark) -> bool {
+    #[tactic(auto, unfolding(crate::specs::Reading::after))]
+    pub fn eat(&mut self, mark: Mark) -> bool
+        ensures found { result ≡ spec.sees mark self.old }
+        ensures after { self.new ≡ spec.after mark self.old }
+    {
         let found = self.sees(mark);
         if found {
             self.pass();
@@ -139,128 +129,72 @@ impl<'t> Cursor<'t> {
         found
     }
 
-    /// Whether the keyword stands next, which is then passed.
-    pub fn eat_keyword(&mut self, keyword: Keyword) -> bool {
-        let found = self.sees_keyword(keyword);
-        if found {
-            self.pass();
-        }
-        found
-    }
-
     /// Passes this mark.
-    pub fn mark(&mut self, mark: Mark) -> Result<Word, ParseError> {
-        let word = Word {
-            text: mark.text(),
-            place: self.place,
-        };
-        if self.eat(mark) {
-            Ok(word)
-        } else {
-            Err(self.refusal(Wanted::Mark(mark)))
+    #[tactic(auto, unfolding(crate::specs::Reading::expect))]
+    pub fn expect(&mut self, mark: Mark) -> Result<Spelling, Fault>
+        ensures { Reads (λ _. tt) (spec.expect mark self.old) result self.new }
+    {
+        if !self.sees(mark) {
+            return Err(Fault::Expected(Wanted::Mark(mark)));
         }
+        let spelling = self.spelling();
+        self.pass();
+        Ok(spelling)
     }
 
-    /// Passes this keyword.
-    pub fn keyword(&mut self, keyword: Keyword) -> Result<Word, ParseError> {
+    /// How the mark that stands next is spelled, and where; nothing for what is no mark.
+    pub fn spelling(&self) -> Spelling {
+        let place = self.place();
         match self.front() {
-            Front::Keyword(next, text) if next == keyword => {
-                let place = self.place;
-                self.pass();
-                Ok(Word { text, place })
-            }
-            _ => Err(self.refusal(Wanted::Keyword(keyword))),
+            Some(Word::Fixed(_, text)) => Spelling { text, place },
+            _ => Spelling { text: "", place },
         }
     }
 
     /// Passes a name.
-    pub fn name(&mut self, alloc: Global) -> Result<Name, ParseError> {
-        match self.front {
-            Front::Name => self.copied(alloc),
-            _ => Err(self.refusal(Wanted::Name)),
+    #[tactic(auto, unfolding(crate::specs::Reading::name))]
+    pub fn name(&mut self, alloc: Global) -> Result<Name, Fault>
+        ensures { Reads plain_name (spec.name self.old) result self.new }
+    {
+        match self.front() {
+            Some(Word::Name(text)) => {
+                let text = String::from_str(alloc, text)?;
+                let place = self.place();
+                self.pass();
+                Ok(Name { text, place })
+            }
+            _ => Err(Fault::Expected(Wanted::Name)),
         }
     }
 
-    /// Passes a token whose spelling goes into the tree. It is ASCII, so nothing of it is lost.
-    pub fn copied(&mut self, alloc: Global) -> Result<Name, ParseError> {
-        let text = String::from_utf8_lossy(alloc, self.spelling)?;
-        let place = self.place;
-        self.pass();
-        Ok(Name { text, place })
+    /// Passes a number.
+    #[tactic(auto, unfolding(crate::specs::Reading::number))]
+    pub fn number(&mut self, alloc: Global) -> Result<Number, Fault>
+        ensures { Reads (λ n. n.value) (spec.number self.old) result self.new }
+    {
+        match self.front() {
+            Some(Word::Number(value, digits)) => {
+                let text = String::from_str(alloc, digits)?;
+                let place = self.place();
+                self.pass();
+                let digits = Name { text, place };
+                Ok(Number { value, digits })
+            }
+            _ => Err(Fault::Expected(Wanted::Number)),
+        }
     }
 
     /// Passes a character string.
-    pub fn text(&mut self) -> Result<(), ParseError> {
-        match self.front {
-            Front::Text => {
+    #[tactic(auto, unfolding(crate::specs::Reading::text))]
+    pub fn text(&mut self) -> Result<(), Fault>
+        ensures { Reads (λ _. tt) (spec.text self.old) result self.new }
+    {
+        match self.front() {
+            Some(Word::Text) => {
                 self.pass();
                 Ok(())
             }
-            _ => Err(self.refusal(Wanted::Text)),
+            _ => Err(Fault::Expected(Wanted::Text)),
         }
     }
-
-    /// That the text ends here.
-    pub fn end(&self) -> Result<(), ParseError> {
-        match self.front {
-            Front::End => Ok(()),
-            _ => Err(self.refusal(Wanted::End)),
-        }
-    }
-
-    /// The refusal of what stands next, where something else must stand.
-    pub fn refusal(&self, wanted: Wanted) -> ParseError {
-        match self.front {
-            Front::Text => ParseError::LeftOut(self.place, "text"),
-            Front::LeftOut(word) => ParseError::LeftOut(self.place, word),
-            _ => ParseError::Expected(self.place, wanted),
-        }
-    }
-}
-
-/// The bytes of a token.
-fn slice_of(text: &[u8], token: Token) -> &[u8]
-    requires ordered { token.start ≤ token.end }
-    requires within { token.end ≤ length text.now }
-{
-    &text[token.start..token.end]
-}
-
-fn front_of(kind: Kind, spelling: &[u8]) -> Front {
-    match kind {
-        Kind::Word => word(spelling),
-        Kind::Number(value) => Front::Number(value),
-        Kind::Text => Front::Text,
-        Kind::Mark => Mark::of(spelling).map_or(Front::Other, Front::Mark),
-    }
-}
-
-fn word(spelling: &[u8]) -> Front {
-    if let Some((keyword, text)) = Keyword::of(spelling) {
-        Front::Keyword(keyword, text)
-    } else if let Some(lower) = left_out(spelling) {
-        Front::LeftOut(lower)
-    } else {
-        Front::Name
-    }
-}
-
-/// The place of the offset `to`, from the place of an offset before it.
-fn moved(text: &[u8], from: usize, place: Place, to: usize) -> Place
-    requires forward { from ≤ to }
-    requires within { to ≤ length text.now }
-    requires placed { place ≡ place_after (take from text.now) }
-    ensures { result ≡ place_after (take to text.now) }
-{
-    let mut line = place.line;
-    let mut column = place.column;
-    for at in from..to {
-        if text[at] == b'\n' {
-            line += 1;
-            column = 1;
-        } else {
-            column += 1;
-        }
-    }
-    Place { line, column }
 }

@@ -1,7 +1,7 @@
 -- A chain of the tree, and the chain of the process that it gives.
 use Rattle.std.proofs.Common.{[], ◌∷◌, ◌&&◌, Bool, ◌≡◌, ◌∙◌, List, map, Option, ap, refl}
-use Rattle.sdl_parse.specs.declared.tree.Chain.{Chain, out-Chain}
-use Rattle.sdl_parse.specs.declared.tree.Expression.TheFolds.{fold_out-Chain}
+use Rattle.sdl_core.specs.declared.expressions.Chain.{Chain, out-Chain}
+use Rattle.sdl_core.specs.declared.expressions.Expression.TheFolds.{fold_out-Chain}
 use Rattle.sdl_system.specs.Expression.{chain_in, chain_layer, expression_layer, link_layer, operand_in, term_in}
 use Rattle.std.specs.List.{list_all}
 use Rattle.sdl_system.specs.Constant.{chain_names_nothing, chain_nothing_layer, link_names_nothing, link_nothing_layer, names_nothing, nothing_layer}

@@ -3,10 +3,10 @@ use Rattle.std.proofs.Common.{◌≡◌, ◌∙◌, ◌&&◌, ◌++◌, ℕ, Boo
 use Rattle.std.specs.List.{AllByRecursion, AllZip, list_all}
 use Rattle.std.proofs.lemmas.Bool.{and_from, and_parts, cond-false, not-true}
 use Rattle.std.proofs.lemmas.List.Elements.{All-from_recursion, recursion_from_All}
-use Rattle.sdl_parse.specs.declared.tree.Definition.{Definition}
-use Rattle.sdl_parse.specs.declared.tree.ProcessDefinition.{ProcessDefinition}
-use Rattle.sdl_parse.specs.declared.tree.SignalDefinition.{SignalDefinition}
-use Rattle.sdl_parse.specs.declared.tree.Tree.{Tree}
+use Rattle.sdl_core.specs.declared.definitions.Definition.{Definition}
+use Rattle.sdl_core.specs.declared.definitions.ProcessDefinition.{ProcessDefinition}
+use Rattle.sdl_tree.specs.declared.definitions.SignalDefinition.{SignalDefinition}
+use Rattle.sdl_core.specs.declared.definitions.Tree.{Tree}
 use Rattle.sdl_system.specs.Checks.{Holds, NumberedHolds, ProcessHolds, are_right_definitions, are_right_processes, are_right_signals, are_right_variables, is_right_numbered, is_right_process, numbered_processes, parameters_of, process_text, scope_of_process}
 use Rattle.sdl_system.specs.Declarations.{all_groups, all_signals, defined_in, defined_of, has_known_sorts, is_right_group, variable_texts}
 use Rattle.sdl_system.specs.Different.{are_different, are_new, firsts, is_among, with_new}
@@ -33,6 +33,11 @@ fold-different same old (x ∷ xs) right =
 signal_names-right : (definitions : List Definition) (names : List SignalName) → names ≡ firsts is_same (names_from 0 definitions) → are_right_signals definitions ≡ true → names ≡ names_from 0 definitions
 signal_names-right definitions names is right =
     is ∙ fold-different is_same [] (names_from 0 definitions) (and_parts (are_different is_same (names_from 0 definitions)) (list_all has_known_sorts (all_signals definitions)) right).0
+
+-- the signals have the names of the text, where the checks hold
+pub signal_names-whole : (definitions : List Definition) (names : List SignalName) → names ≡ firsts is_same (names_from 0 definitions) → are_right_definitions definitions ≡ true → names ≡ names_from 0 definitions
+signal_names-whole definitions names is right =
+    signal_names-right definitions names is (and_parts (are_right_signals definitions) (are_right_processes (names_from 0 definitions) (map parameters_of (all_signals definitions)) definitions) right).0
 
 map-twice : {A B C : Type 0} (g : B → C) (f : A → B) (xs : List A) → map g (map f xs) ≡ map (λ x. g (f x)) xs
 map-twice g f [] = refl

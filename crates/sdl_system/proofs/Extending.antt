@@ -6,7 +6,7 @@ use Rattle.std.proofs.lemmas.List.Concat.{flat_map-append}
 use Rattle.std.proofs.lemmas.List.Folds.{list_all-append}
 use Rattle.sdl_system.proofs.Adding.{are_new-append, flat_map-push, fold-append, list_all-push, take-next}
 use Rattle.sdl_system.proofs.Collecting.{and-assoc, and-true}
-use Rattle.sdl_parse.specs.declared.tree.VariableGroup.{VariableGroup}
+use Rattle.sdl_core.specs.declared.definitions.VariableGroup.{VariableGroup}
 use Rattle.sdl_system.specs.Declarations.{Declared, declared, declared_in, group_texts, initial_of, variable_texts, variables_in}
 use Rattle.sdl_system.specs.Different.{Adds}
 use Rattle.sdl_system.specs.Fault.{Extends}

@@ -16,7 +16,7 @@ eq-is_level (Process m) System = refl
 eq-is_level (Process m) (Process n) = refl
 
 -- what a key of the signals is the name of
-abbrev key_name : Level × Bor (List ℕ) → SignalName
+abbrev pub key_name : Level × Bor (List ℕ) → SignalName
 key_name key = record { level = key.0; text = key.1.now }
 
 -- the place of a level and a text among the keys

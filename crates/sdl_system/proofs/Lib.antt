@@ -8,6 +8,7 @@ pub mod InputLemmas
 pub mod Levels
 pub mod LimitLemmas
 pub mod Numbering
+pub mod OwnLemmas
 pub mod ProcessLemmas
 pub mod ReceptionLemmas
 pub mod SignalLemmas

@@ -5,8 +5,8 @@ use Rattle.std.proofs.lemmas.Bool.{and_from, and_parts}
 use Rattle.std.proofs.lemmas.List.{length-append, take_all}
 use Rattle.std.proofs.lemmas.List.Folds.{list_all-append}
 use Rattle.std.proofs.lemmas.List.Sums.{sum_by-append}
-use Rattle.sdl_parse.specs.declared.tree.Definition.{Definition}
-use Rattle.sdl_parse.specs.declared.tree.StatePart.{StatePart}
+use Rattle.sdl_core.specs.declared.definitions.Definition.{Definition}
+use Rattle.sdl_core.specs.declared.behaviour.StatePart.{StatePart}
 use Rattle.sdl_system.proofs.Adding.{flat_map-push, take-next}
 use Rattle.sdl_system.proofs.Collecting.{and-true}
 use Rattle.sdl_system.specs.Counts.{Counts, CountsStates}

@@ -2,10 +2,10 @@
 use Rattle.std.proofs.Common.{◌≡◌, ◌∙◌, ◌&&◌, ◌+◌, ◌<◌, ◌++◌, ℕ, Bool, true, List, [], ◌∷◌, Option, None, Some, IfSome, ap, get_or, is_some, arith, bytes_eq, length, map, option_map, subst, sym, take}
 use Rattle.std.specs.List.{enumerate_from, list_all}
 use Rattle.std.proofs.lemmas.Bool.{and_parts}
-use Rattle.sdl_parse.specs.declared.tree.Definition.{Definition}
-use Rattle.sdl_parse.specs.declared.tree.Definition.TheVariants.{Process}
-use Rattle.sdl_parse.specs.declared.tree.ProcessDefinition.{ProcessDefinition}
-use Rattle.sdl_parse.specs.declared.tree.StatePart.{StatePart}
+use Rattle.sdl_core.specs.declared.definitions.Definition.{Definition}
+use Rattle.sdl_core.specs.declared.definitions.Definition.TheVariants.{Process}
+use Rattle.sdl_core.specs.declared.definitions.ProcessDefinition.{ProcessDefinition}
+use Rattle.sdl_core.specs.declared.behaviour.StatePart.{StatePart}
 use Rattle.std.proofs.lemmas.List.{map_push}
 use Rattle.sdl_system.proofs.Adding.{Adds-same, Adds-then, flat_map-push, list_all-push, take-next}
 use Rattle.sdl_system.proofs.Collecting.{and-assoc, is_some-option_map}

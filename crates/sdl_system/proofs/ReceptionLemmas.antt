@@ -12,8 +12,8 @@ use Rattle.std.proofs.lemmas.List.Folds.{find-append, list_all-append}
 use Rattle.std.proofs.lemmas.Grind.{get_or-set_at}
 use Rattle.std.proofs.lemmas.Option.{slice_get-get_or, slice_get_cases}
 use Rattle.port_model.specs.declared.item.SignalId.{SignalId}
-use Rattle.sdl_parse.specs.declared.tree.Input as tree
-use Rattle.sdl_parse.specs.declared.tree.Name.{Name}
+use Rattle.sdl_tree.specs.declared.behaviour.Input as tree
+use Rattle.sdl_tree.specs.declared.name.Name.{Name}
 use Rattle.sdl_system.proofs.Collecting.{and-assoc, and-true}
 use Rattle.sdl_system.proofs.Adding.{flat_map-push, take-next}
 use Rattle.sdl_system.proofs.StateLemmas.{InputsBelow-nil}

@@ -2,7 +2,7 @@
 use Rattle.std.proofs.Common.{◌≡◌, ◌∙◌, ◌++◌, ◌+◌, ◌<◌, ℕ, Bool, List, [], ◌∷◌, ap, append_assoc, append-nil, fold, get_or, length, sym, take}
 use Rattle.std.specs.List.{list_all}
 use Rattle.std.proofs.lemmas.List.Folds.{list_all-append}
-use Rattle.sdl_parse.specs.declared.tree.Definition.{Definition}
+use Rattle.sdl_core.specs.declared.definitions.Definition.{Definition}
 use Rattle.sdl_system.proofs.Adding.{Adds-same, Adds-then, flat_map-push, take-next}
 use Rattle.sdl_system.specs.Declarations.{all_signals, has_known_sorts, number_after, signals_in}
 use Rattle.sdl_system.specs.Different.{Adds}

@@ -1,10 +1,10 @@
 -- The checks of a specification (Z.101, Z.102, Z.104).
 use Rattle.std.specs.Prelude.{ℕ, ◌&&◌, All, Bool, IsSome, IsTrue, List, is_some, map, vec_len}
 use Rattle.std.specs.List.{enumerate_from, list_all}
-use Rattle.sdl_parse.specs.declared.tree.Definition.{Definition}
-use Rattle.sdl_parse.specs.declared.tree.ProcessDefinition.{ProcessDefinition}
-use Rattle.sdl_parse.specs.declared.tree.SignalDefinition.{SignalDefinition}
-use Rattle.sdl_parse.specs.declared.tree.Tree.{Tree}
+use Rattle.sdl_core.specs.declared.definitions.Definition.{Definition}
+use Rattle.sdl_core.specs.declared.definitions.ProcessDefinition.{ProcessDefinition}
+use Rattle.sdl_tree.specs.declared.definitions.SignalDefinition.{SignalDefinition}
+use Rattle.sdl_core.specs.declared.definitions.Tree.{Tree}
 use Rattle.sdl_system.specs.Declarations.{all_groups, all_signals, has_known_sorts, is_right_group, variable_texts}
 use Rattle.sdl_system.specs.Different.{are_different}
 use Rattle.sdl_system.specs.Limits.{KeepsLimits}

@@ -1,13 +1,13 @@
 -- Constant expressions: they name nothing, and have a value where neither it nor a part of it passes 64 bits signed.
 use Rattle.std.specs.Prelude.{ℤ, pos, negsuc, neg_ℤ, ◌^◌, ◌+ℤ◌, ◌-ℤ◌, ◌&&◌, Bool, true, false, Option, None, Some, fold, is_some, nat_lt, option_and_then, if◌then◌else◌}
 use Rattle.std.specs.List.{list_all}
-use Rattle.sdl_parse.specs.declared.tree.Chain.{Chain}
-use Rattle.sdl_parse.specs.declared.tree.Expression.{Expression}
-use Rattle.sdl_parse.specs.declared.tree.Expression.TheOpen.{Expression-F, Chain-F, Link-F}
-use Rattle.sdl_parse.specs.declared.tree.Expression.TheFolds.{fold-Expression, fold-Chain, fold-Link}
-use Rattle.sdl_parse.specs.declared.tree.Link.{Link}
-use Rattle.sdl_parse.specs.declared.tree.Operator.{Operator}
-use Rattle.sdl_parse.specs.declared.tree.Operator.TheVariants.{Plus, Minus}
+use Rattle.sdl_core.specs.declared.expressions.Chain.{Chain}
+use Rattle.sdl_core.specs.declared.expressions.Expression.{Expression}
+use Rattle.sdl_core.specs.declared.expressions.Expression.TheOpen.{Expression-F, Chain-F, Link-F}
+use Rattle.sdl_core.specs.declared.expressions.Expression.TheFolds.{fold-Expression, fold-Chain, fold-Link}
+use Rattle.sdl_core.specs.declared.expressions.Link.{Link}
+use Rattle.sdl_core.specs.declared.expressions.Operator.{Operator}
+use Rattle.sdl_core.specs.declared.expressions.Operator.TheVariants.{Plus, Minus}
 
 -- the number, unless it passes 64 bits signed
 abbrev pub in_range : ℤ → Option ℤ

@@ -5,14 +5,15 @@ use Rattle.std.specs.Option.{option_map}
 use Rattle.std.specs.Str.{bytes_eq}
 use Rattle.port_model.specs.declared.value.Value.{Value}
 use Rattle.port_model.specs.declared.value.Value.TheVariants.{Int}
-use Rattle.sdl_parse.specs.declared.tree.Definition.{Definition}
-use Rattle.sdl_parse.specs.declared.tree.Definition.TheVariants as definition
-use Rattle.sdl_parse.specs.declared.tree.Expression.{Expression}
-use Rattle.sdl_parse.specs.declared.tree.LocalDefinition.{LocalDefinition}
-use Rattle.sdl_parse.specs.declared.tree.LocalDefinition.TheVariants.{Signals, Variables}
-use Rattle.sdl_parse.specs.declared.tree.Name.{Name}
-use Rattle.sdl_parse.specs.declared.tree.SignalDefinition.{SignalDefinition}
-use Rattle.sdl_parse.specs.declared.tree.VariableGroup.{VariableGroup}
+use Rattle.sdl_core.specs.declared.definitions.Definition.{Definition}
+use Rattle.sdl_core.specs.declared.definitions.Definition.TheVariants as definition
+use Rattle.sdl_core.specs.declared.expressions.Expression.{Expression}
+use Rattle.sdl_core.specs.declared.definitions.LocalDefinition.{LocalDefinition}
+use Rattle.sdl_core.specs.declared.definitions.LocalDefinition.TheVariants.{Signals, Variables}
+use Rattle.sdl_tree.specs.declared.name.Name.{Name}
+use Rattle.sdl_tree.specs.declared.name.SortName.{SortName}
+use Rattle.sdl_tree.specs.declared.definitions.SignalDefinition.{SignalDefinition}
+use Rattle.sdl_core.specs.declared.definitions.VariableGroup.{VariableGroup}
 use Rattle.sdl_system.specs.Constant.{constant_of, is_right_constant}
 use Rattle.sdl_system.specs.Names.{text_of, texts_of}
 use Rattle.sdl_system.specs.declared.process.Variable as process
@@ -55,8 +56,8 @@ declared_in group = map (declared (initial_of group.initial)) group.names.items
 abbrev pub variables_in : List VariableGroup → List Declared
 variables_in groups = flat_map declared_in groups
 
-abbrev pub is_integer : Name → Bool
-is_integer sort = bytes_eq (text_of sort) (codes "Integer")
+abbrev pub is_integer : SortName → Bool
+is_integer sort = bytes_eq (text_of sort.spelled) (codes "Integer")
 
 abbrev pub is_right_initial : Option Expression → Bool
 is_right_initial None = true

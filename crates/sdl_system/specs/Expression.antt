@@ -1,12 +1,12 @@
 -- The term of an expression of the tree: each name in it is a variable's.
 use Rattle.std.specs.Prelude.{Option, Some}
 use Rattle.std.specs.Option.{option_map}
-use Rattle.sdl_parse.specs.declared.tree.Chain.{Chain}
-use Rattle.sdl_parse.specs.declared.tree.Expression.{Expression}
-use Rattle.sdl_parse.specs.declared.tree.Expression.TheOpen.{Expression-F, Chain-F, Link-F}
-use Rattle.sdl_parse.specs.declared.tree.Expression.TheFolds.{fold-Expression, fold-Chain, fold-Link}
-use Rattle.sdl_parse.specs.declared.tree.Link.{Link}
-use Rattle.sdl_parse.specs.declared.tree.Operator.{Operator}
+use Rattle.sdl_core.specs.declared.expressions.Chain.{Chain}
+use Rattle.sdl_core.specs.declared.expressions.Expression.{Expression}
+use Rattle.sdl_core.specs.declared.expressions.Expression.TheOpen.{Expression-F, Chain-F, Link-F}
+use Rattle.sdl_core.specs.declared.expressions.Expression.TheFolds.{fold-Expression, fold-Chain, fold-Link}
+use Rattle.sdl_core.specs.declared.expressions.Link.{Link}
+use Rattle.sdl_core.specs.declared.expressions.Operator.{Operator}
 use Rattle.sdl_system.specs.Partial.{all_some, both}
 use Rattle.sdl_system.specs.Scope.{Scope, variable_in}
 use Rattle.sdl_system.specs.Term.{Term, Operand, number, variable, negative, chained}

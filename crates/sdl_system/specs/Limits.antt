@@ -1,13 +1,13 @@
 -- How large a specification may be.
 use Rattle.std.specs.Prelude.{ℕ, ◌+◌, ◌≤◌, Bool, IsTrue, List, length, nat_le, sum_by, vec_len}
 use Rattle.std.specs.List.{list_all}
-use Rattle.sdl_parse.specs.declared.tree.Definition.{Definition}
-use Rattle.sdl_parse.specs.declared.tree.ProcessDefinition.{ProcessDefinition}
-use Rattle.sdl_parse.specs.declared.tree.SignalDefinition.{SignalDefinition}
-use Rattle.sdl_parse.specs.declared.tree.StatePart.{StatePart}
-use Rattle.sdl_parse.specs.declared.tree.Stimulus.{Stimulus}
-use Rattle.sdl_parse.specs.declared.tree.Stimulus.TheVariants.{Input}
-use Rattle.sdl_parse.specs.declared.tree.Transition.{Transition}
+use Rattle.sdl_core.specs.declared.definitions.Definition.{Definition}
+use Rattle.sdl_core.specs.declared.definitions.ProcessDefinition.{ProcessDefinition}
+use Rattle.sdl_tree.specs.declared.definitions.SignalDefinition.{SignalDefinition}
+use Rattle.sdl_core.specs.declared.behaviour.StatePart.{StatePart}
+use Rattle.sdl_core.specs.declared.behaviour.Stimulus.{Stimulus}
+use Rattle.sdl_core.specs.declared.behaviour.Stimulus.TheVariants.{Input}
+use Rattle.sdl_core.specs.declared.behaviour.Transition.{Transition}
 use Rattle.sdl_system.specs.Declarations.{all_signals}
 use Rattle.sdl_system.specs.States.{state_names_in}
 use Rattle.sdl_system.specs.System.{process_definitions}

@@ -1,8 +1,8 @@
 -- What a process does, where the checks of its definition hold.
 use Rattle.std.specs.Prelude.{◌≡◌, ℕ, IsTrue, List, Some}
 use Rattle.std.specs.List.{AllZip}
-use Rattle.sdl_parse.specs.declared.tree.Definition.{Definition}
-use Rattle.sdl_parse.specs.declared.tree.ProcessDefinition.{ProcessDefinition}
+use Rattle.sdl_core.specs.declared.definitions.Definition.{Definition}
+use Rattle.sdl_core.specs.declared.definitions.ProcessDefinition.{ProcessDefinition}
 use Rattle.sdl_system.specs.Body.{body_of}
 use Rattle.sdl_system.specs.Checks.{is_right_process, numbered_processes, scope_of_process}
 use Rattle.sdl_system.specs.Receptions.{Receives, receptions_in, states_of}

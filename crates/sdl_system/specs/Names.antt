@@ -1,7 +1,7 @@
 use Rattle.std.specs.Prelude.{ℕ, ◌≡◌, ◌&&◌, Bool, List, Option, fold, map, position, string_bytes}
 use Rattle.std.specs.Str.{bytes_eq}
 use Rattle.indexmap.specs.IndexSet.{index_set_len}
-use Rattle.sdl_parse.specs.declared.tree.Name.{Name}
+use Rattle.sdl_tree.specs.declared.name.Name.{Name}
 use Rattle.sdl_system.specs.Different.{are_different, are_new, firsts, is_among, with_new}
 use Rattle.sdl_system.specs.declared.resolve.names.Names.{Names}
 

@@ -3,13 +3,13 @@ use Rattle.std.specs.Prelude.{◌≡◌, ◌==◌, ◌&&◌, ◌++◌, ℕ, Bool
 use Rattle.std.specs.List.{filter_map, flat_map, list_all, list_any}
 use Rattle.std.specs.Option.{option_map_or}
 use Rattle.port_model.specs.declared.item.SignalId.{SignalId}
-use Rattle.sdl_parse.specs.declared.tree.Input.{Input}
-use Rattle.sdl_parse.specs.declared.tree.InputPart.{InputPart}
-use Rattle.sdl_parse.specs.declared.tree.Name.{Name}
-use Rattle.sdl_parse.specs.declared.tree.StatePart.{StatePart}
-use Rattle.sdl_parse.specs.declared.tree.Stimulus.{Stimulus}
-use Rattle.sdl_parse.specs.declared.tree.Stimulus.TheVariants as stimulus
-use Rattle.sdl_parse.specs.declared.tree.Transition.{Transition}
+use Rattle.sdl_tree.specs.declared.behaviour.Input.{Input}
+use Rattle.sdl_core.specs.declared.behaviour.InputPart.{InputPart}
+use Rattle.sdl_tree.specs.declared.name.Name.{Name}
+use Rattle.sdl_core.specs.declared.behaviour.StatePart.{StatePart}
+use Rattle.sdl_core.specs.declared.behaviour.Stimulus.{Stimulus}
+use Rattle.sdl_core.specs.declared.behaviour.Stimulus.TheVariants as stimulus
+use Rattle.sdl_core.specs.declared.behaviour.Transition.{Transition}
 use Rattle.sdl_system.specs.Behaviour.{Reception, StateBehaviour, state_of}
 use Rattle.sdl_system.specs.Body.{Body, to_stop}
 use Rattle.sdl_system.specs.Names.{distinct, number_of, texts_of}

@@ -1,2 +1,2 @@
 -- Which words no name is spelled like.
-pub use Rattle.sdl_parse.specs.Reserved.{is_reserved}
+pub use Rattle.sdl_tree.specs.Keyword.{is_reserved}

@@ -2,8 +2,8 @@
 use Rattle.std.specs.Prelude.{ℕ, ◌==◌, List, Option, None, Some, option_and_then, slice_index, string_bytes, if◌then◌else◌}
 use Rattle.std.specs.Option.{option_map}
 use Rattle.port_model.specs.declared.item.SignalId.{SignalId}
-use Rattle.sdl_parse.specs.declared.tree.Name.{Name}
-use Rattle.sdl_parse.specs.declared.tree.ProcessDefinition.{ProcessDefinition}
+use Rattle.sdl_tree.specs.declared.name.Name.{Name}
+use Rattle.sdl_core.specs.declared.definitions.ProcessDefinition.{ProcessDefinition}
 use Rattle.sdl_system.specs.Declarations.{all_groups, variable_texts}
 use Rattle.sdl_system.specs.Names.{distinct, names_of, number_of}
 use Rattle.sdl_system.specs.Signals.{SignalName, parameter_counts, signal_names, visible_in}

@@ -1,10 +1,11 @@
-use Rattle.std.specs.Prelude.{ℕ, ◌==◌, ◌++◌, ◌&&◌, Bool, true, false, List, [], ◌∷◌, Option, None, Some, flat_map, map, position, vec_len}
+use Rattle.std.specs.Prelude.{ℕ, ◌==◌, ◌++◌, ◌&&◌, Bool, true, false, List, [], ◌∷◌, Option, None, Some, String, ◌≡◌, flat_map, map, position, vec_len}
 use Rattle.std.specs.Option.{option_map}
 use Rattle.std.specs.Str.{bytes_eq}
+use Rattle.indexmap.specs.IndexMap.{IndexMap, get_by_text}
 use Rattle.port_model.specs.declared.item.SignalId.{SignalId}
-use Rattle.sdl_parse.specs.declared.tree.Definition.{Definition}
-use Rattle.sdl_parse.specs.declared.tree.Definition.TheVariants as definition
-use Rattle.sdl_parse.specs.declared.tree.SignalDefinition.{SignalDefinition}
+use Rattle.sdl_core.specs.declared.definitions.Definition.{Definition}
+use Rattle.sdl_core.specs.declared.definitions.Definition.TheVariants as definition
+use Rattle.sdl_tree.specs.declared.definitions.SignalDefinition.{SignalDefinition}
 use Rattle.sdl_system.specs.Declarations.{Defined, defined_of, local_signals, number_after}
 use Rattle.sdl_system.specs.Names.{text_of}
 use Rattle.sdl_system.specs.declared.resolve.signals.Level.{Level}
@@ -59,6 +60,10 @@ names_from number (first ∷ rest) = names_in number first ++ names_from (number
 abbrev pub signal_at : List SignalName → Level → List ℕ → Option SignalId
 signal_at names level text =
     option_map (λ number. record { 0 = number }) (position (λ name. is_level level name.level && bytes_eq text name.text) names)
+
+-- the table gives for each text the signal that has it for its name at the system's own level
+abbrev pub NamesOwn : {Y S : Type 0} → List SignalName → IndexMap (String Y) SignalId S → Type 0
+NamesOwn names table = (text : List ℕ) → get_by_text table text ≡ signal_at names System text
 
 -- the first of two, if it is there
 abbrev pub first_of : {A : Type 0} → Option A → Option A → Option A

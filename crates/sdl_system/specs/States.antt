@@ -1,6 +1,6 @@
 use Rattle.std.specs.Prelude.{◌≡◌, ℕ, ◌<◌, List, [], Option, None, All, map, slice_index_or, string_bytes}
 use Rattle.std.specs.List.{flat_map}
-use Rattle.sdl_parse.specs.declared.tree.StatePart.{StatePart}
+use Rattle.sdl_core.specs.declared.behaviour.StatePart.{StatePart}
 use Rattle.sdl_system.specs.Names.{distinct, texts_of}
 use Rattle.sdl_system.specs.Soundness.{BeginsBelow}
 use Rattle.sdl_system.specs.declared.id.StateId.{StateId}

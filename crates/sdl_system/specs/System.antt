@@ -6,14 +6,16 @@ use Rattle.port_model.specs.declared.selection.Class.{Class}
 use Rattle.port_model.specs.declared.selection.Class.TheVariants.{Discard}
 use Rattle.port_model.specs.declared.item.SignalId.{SignalId}
 use Rattle.port_model.specs.Selection as selection
-use Rattle.sdl_parse.specs.declared.tree.Definition.{Definition}
-use Rattle.sdl_parse.specs.declared.tree.Definition.TheVariants.{Signals, Process}
-use Rattle.sdl_parse.specs.declared.tree.ProcessDefinition.{ProcessDefinition}
-use Rattle.sdl_parse.specs.declared.tree.Tree.{Tree}
+use Rattle.sdl_core.specs.declared.definitions.Definition.{Definition}
+use Rattle.sdl_core.specs.declared.definitions.Definition.TheVariants.{Signals, Process}
+use Rattle.sdl_core.specs.declared.definitions.ProcessDefinition.{ProcessDefinition}
+use Rattle.sdl_core.specs.declared.definitions.Tree.{Tree}
 use Rattle.sdl_system.specs.Declarations.{all_groups, declared_of, variables_in}
 use Rattle.sdl_system.specs.Names.{text_of}
+use Rattle.sdl_system.specs.Signals.{names_from, signal_at}
 use Rattle.sdl_system.specs.declared.process.State as state
 use Rattle.sdl_system.specs.declared.process.Process as process
+use Rattle.sdl_system.specs.declared.resolve.signals.Level.TheVariants as level
 use Rattle.sdl_system.specs.declared.system.System.{System}
 use Rattle.sdl_system.specs.Selection.{SelectsInputs}
 use Rattle.sdl_system.specs.States.{name_of_state, state_names_in}
@@ -35,6 +37,10 @@ class_of system number state signal = class_in_process (slice_get system.process
 -- the signal of this name in the system's own scope, where there is one
 abbrev pub signal_of_name : System → List ℕ → Option SignalId
 signal_of_name system name = get_by (λ own. bytes_eq name (string_bytes own)) system.own_signals
+
+-- a name of a script means the signal that the system itself defines by it
+abbrev pub NamesSignals : List Definition → System → Type 0
+NamesSignals definitions system = (text : List ℕ) → signal_of_name system text ≡ signal_at (names_from 0 definitions) level.System text
 
 -- whether it defines a process
 abbrev pub is_process : Definition → Bool

@@ -1,7 +1,7 @@
 -- An expression as plain data (Z.104: expressions).
 use Rattle.std.specs.Prelude.{ℤ, List, [], ◌∷◌}
-use Rattle.sdl_parse.specs.declared.tree.Operator.{Operator}
-use Rattle.sdl_parse.specs.declared.tree.Operator.TheVariants.{Plus, Minus}
+use Rattle.sdl_core.specs.declared.expressions.Operator.{Operator}
+use Rattle.sdl_core.specs.declared.expressions.Operator.TheVariants.{Plus, Minus}
 use Rattle.sdl_system.specs.declared.id.VariableId.{VariableId}
 use Rattle.sdl_system.specs.declared.process.Chain.{Chain}
 use Rattle.sdl_system.specs.declared.process.Expression.{Expression}

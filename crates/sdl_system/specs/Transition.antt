@@ -2,14 +2,14 @@
 use Rattle.std.specs.Prelude.{Bool, true, false, if◌then◌else◌, Option, None, Some, List, [], ◌∷◌, length, map}
 use Rattle.std.specs.Option.{option_map}
 use Rattle.port_model.specs.declared.item.SignalId.{SignalId}
-use Rattle.sdl_parse.specs.declared.tree.Action.{Action}
-use Rattle.sdl_parse.specs.declared.tree.Action.TheVariants as action
-use Rattle.sdl_parse.specs.declared.tree.Assignment.{Assignment}
-use Rattle.sdl_parse.specs.declared.tree.NextState.TheVariants as next
-use Rattle.sdl_parse.specs.declared.tree.Output.{Output}
-use Rattle.sdl_parse.specs.declared.tree.Terminator.{Terminator}
-use Rattle.sdl_parse.specs.declared.tree.Terminator.TheVariants as terminator
-use Rattle.sdl_parse.specs.declared.tree.Transition.{Transition}
+use Rattle.sdl_core.specs.declared.behaviour.Action.{Action}
+use Rattle.sdl_core.specs.declared.behaviour.Action.TheVariants as action
+use Rattle.sdl_core.specs.declared.behaviour.Assignment.{Assignment}
+use Rattle.sdl_tree.specs.declared.behaviour.NextState.TheVariants as next
+use Rattle.sdl_core.specs.declared.behaviour.Output.{Output}
+use Rattle.sdl_core.specs.declared.behaviour.Terminator.{Terminator}
+use Rattle.sdl_core.specs.declared.behaviour.Terminator.TheVariants as terminator
+use Rattle.sdl_core.specs.declared.behaviour.Transition.{Transition}
 use Rattle.sdl_system.specs.Body.{Body, statement, assign, send, end_of}
 use Rattle.sdl_system.specs.Expression.{term_in}
 use Rattle.sdl_system.specs.Partial.{all_some, both}

@@ -2,7 +2,7 @@
 ghost use Rattle.std.specs.Prelude.{◌≡◌};
 ghost use Rattle.sdl_system.specs.declared.error.BuildError.TheVariants.{Memory};
 
-use sdl_parse::tree::Name;
+use sdl_tree::Name;
 use std::alloc::AllocError;
 use thiserror::Error;
 

@@ -4,7 +4,7 @@ ghost use Rattle.sdl_system.specs.declared.error.BuildError.TheVariants.{Memory}
 
 use crate::error::BuildError;
 use sdl_lex::Place;
-use sdl_parse::tree::{Name, Word};
+use sdl_tree::{Name, Spelling};
 use std::alloc::{AllocError, Global};
 
 /// A token of the text, as it is spelled, and where it stands.
@@ -22,7 +22,7 @@ impl<'t> Token<'t> {
         }
     }
 
-    pub fn of_word(word: Word) -> Token<'t> {
+    pub fn of_spelling(word: Spelling) -> Token<'t> {
         Token {
             text: word.text,
             place: word.place,

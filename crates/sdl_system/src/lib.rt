@@ -14,8 +14,6 @@ mod process;
 mod resolve;
 mod route;
 mod system;
-#[cfg(test)]
-mod tests;
 
 pub use error::BuildError;
 pub use id::{ProcessId, StateId, TransitionId, VariableId};
@@ -24,5 +22,5 @@ pub use process::{
     Variable,
 };
 pub use route::{Agent, Target};
-pub use sdl_parse::is_reserved;
+pub use sdl_tree::is_reserved;
 pub use system::{Signal, Sort, System, build};

@@ -11,10 +11,10 @@ ghost use Rattle.sdl_system.specs.System.{processes_in};
 
 use crate::fault::{Fault, Faults, Kind, Token};
 use crate::resolve::{Names, local_signals};
-use sdl_parse::tree::{
-    Action, Definition, LocalDefinition, Name, ProcessDefinition, SignalDefinition, StatePart,
-    Stimulus, Transition, Tree,
+use sdl_core::{
+    Action, Definition, LocalDefinition, ProcessDefinition, StatePart, Stimulus, Transition, Tree,
 };
+use sdl_tree::{Name, SignalDefinition};
 use std::alloc::{AllocError, Global};
 
 /// The signals of a specification.
@@ -153,7 +153,7 @@ impl<'t> Count<'t> {
         let (Action::Task { word, .. } | Action::Output { word, .. }) = action;
         count_one(
             &mut self.statements,
-            Token::of_word(*word),
+            Token::of_spelling(*word),
             &mut self.faults,
         );
     }
@@ -185,7 +185,7 @@ fn count_parameters<'t>(signal: &'t SignalDefinition, faults: &mut Faults<'t>)
     ensures { is_clean faults.new ≡ (is_clean faults.old && has_few_parameters signal.now) }
 {
     if let Some(sort) = signal.sorts.get(MOST_PARAMETERS) {
-        faults.note(Kind::Limit, Token::of_name(sort));
+        faults.note(Kind::Limit, Token::of_name(&sort.spelled));
     }
 }
 

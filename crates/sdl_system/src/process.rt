@@ -3,7 +3,7 @@ ghost use Rattle.sdl_system.specs.Soundness.{IsSound};
 
 use crate::id::{StateId, TransitionId, VariableId};
 use port_model::{Selection, SignalId, Value};
-use sdl_parse::tree::Operator;
+use sdl_core::Operator;
 
 /// A process: what its instances are made of. Each number in it is the number of something, a state selects just what it
 /// inputs, and the start leads to no state that it came from.

@@ -7,7 +7,7 @@ ghost use Rattle.sdl_system.specs.Fault.{is_clean};
 ghost use Rattle.sdl_system.specs.Meaning.{MeansAll, MeansNumbered};
 ghost use Rattle.sdl_system.specs.Route.{RoutesByInputs};
 ghost use Rattle.sdl_system.specs.Signals.{parameter_counts, signal_names};
-ghost use Rattle.sdl_system.specs.System.{DeclaresAs, process_count, process_definitions, SelectsItsInputs};
+ghost use Rattle.sdl_system.specs.System.{DeclaresAs, NamesSignals, process_count, process_definitions, SelectsItsInputs};
 ghost use Rattle.sdl_system.specs.declared.error.BuildError.TheVariants.{Memory};
 
 use crate::error::BuildError;
@@ -19,7 +19,7 @@ use crate::resolve::{Names, Signals, resolve_process};
 use crate::route::InputSet;
 use indexmap::IndexMap;
 use port_model::{Class, SignalId};
-use sdl_parse::tree::{Definition, Tree};
+use sdl_core::{Definition, Tree};
 use std::alloc::{AllocError, Global};
 
 /// A sort of values.
@@ -96,6 +96,7 @@ pub fn build(alloc: Global, tree: &Tree) -> Result<System, BuildError>
     ensures processes { IfOk result (λ system. vec_len system.processes ≡ process_count tree.now) }
     ensures selections { IfOk result (λ system. All SelectsItsInputs system.processes.items) }
     ensures signals { IfOk result (λ system. map defined_of system.signals.items ≡ map defined_in (all_signals tree.now.definitions.items)) }
+    ensures named { IfOk result (NamesSignals tree.now.definitions.items) }
     ensures declared { IfOk result (λ system. AllZip DeclaresAs (process_definitions tree.now.definitions.items) system.processes.items) }
     ensures routes { IfOk result RoutesByInputs }
     ensures holds { OnOk result (Holds tree.now) }
@@ -118,6 +119,7 @@ fn resolve<'t>(alloc: Global, tree: &'t Tree) -> Result<(System, Option<Fault<'t
     ensures processes { IfOk result (λ found. vec_len found.0.processes ≡ process_count tree.now) }
     ensures selections { IfOk result (λ found. All SelectsItsInputs found.0.processes.items) }
     ensures signals { IfOk result (λ found. map defined_of found.0.signals.items ≡ map defined_in (all_signals tree.now.definitions.items)) }
+    ensures named { IfOk result (λ found. IsTrue (are_right_definitions tree.now.definitions.items) → NamesSignals tree.now.definitions.items found.0) }
     ensures declared { IfOk result (λ found. AllZip DeclaresAs (process_definitions tree.now.definitions.items) found.0.processes.items) }
     ensures routes { IfOk result (λ found. RoutesByInputs found.0) }
     ensures means { IfOk result (λ found. IsTrue (are_right_definitions tree.now.definitions.items) → MeansAll tree.now.definitions.items found.0.processes.items) }

@@ -9,6 +9,8 @@ use Rattle.sdl_tree.specs.declared.behaviour.AnswerPart.{AnswerPart}
 use Rattle.sdl_tree.specs.declared.behaviour.AnswerPart as answer_part
 use Rattle.sdl_tree.specs.declared.behaviour.Assignment.{Assignment}
 use Rattle.sdl_tree.specs.declared.behaviour.BodyPart.{BodyPart}
+use Rattle.sdl_tree.specs.declared.behaviour.Destination.{Destination}
+use Rattle.sdl_tree.specs.declared.behaviour.EnablingCondition.{EnablingCondition}
 use Rattle.sdl_tree.specs.declared.behaviour.BodyPart.TheVariants as body
 use Rattle.sdl_tree.specs.declared.behaviour.Input.{Input}
 use Rattle.sdl_tree.specs.declared.behaviour.Inputs.{Inputs}
@@ -31,6 +33,7 @@ use Rattle.sdl_tree.specs.declared.definitions.BlockDefinition.{BlockDefinition}
 use Rattle.sdl_tree.specs.declared.definitions.BlockPart.{BlockPart}
 use Rattle.sdl_tree.specs.declared.definitions.BlockPart.TheVariants as block
 use Rattle.sdl_tree.specs.declared.definitions.Bound.{Bound}
+use Rattle.sdl_tree.specs.declared.definitions.ChannelConnection.{ChannelConnection}
 use Rattle.sdl_tree.specs.declared.definitions.ChannelDefinition.{ChannelDefinition}
 use Rattle.sdl_tree.specs.declared.definitions.ChannelEnd.{ChannelEnd}
 use Rattle.sdl_tree.specs.declared.definitions.ChannelEnd.TheVariants as channel_end
@@ -38,6 +41,7 @@ use Rattle.sdl_tree.specs.declared.definitions.ChannelPath.{ChannelPath}
 use Rattle.sdl_tree.specs.declared.definitions.Counts.{Counts}
 use Rattle.sdl_tree.specs.declared.definitions.Definition.{Definition}
 use Rattle.sdl_tree.specs.declared.definitions.Definition.TheVariants as definition
+use Rattle.sdl_tree.specs.declared.definitions.FormalParameters.{FormalParameters}
 use Rattle.sdl_tree.specs.declared.definitions.LocalDefinition.{LocalDefinition}
 use Rattle.sdl_tree.specs.declared.definitions.LocalDefinition.TheVariants as «local»
 use Rattle.sdl_tree.specs.declared.definitions.ParameterGroup.{ParameterGroup}
@@ -46,10 +50,13 @@ use Rattle.sdl_tree.specs.declared.definitions.SignalDefinition.{SignalDefinitio
 use Rattle.sdl_tree.specs.declared.definitions.SignalListDefinition.{SignalListDefinition}
 use Rattle.sdl_tree.specs.declared.definitions.SignalListItem.{SignalListItem}
 use Rattle.sdl_tree.specs.declared.definitions.SignalListItem.TheVariants as item
+use Rattle.sdl_tree.specs.declared.definitions.SignalSet.{SignalSet}
 use Rattle.sdl_tree.specs.declared.definitions.SynonymDefinition.{SynonymDefinition}
+use Rattle.sdl_tree.specs.declared.definitions.SynonymDefinitions.{SynonymDefinitions}
 use Rattle.sdl_tree.specs.declared.definitions.SystemDefinition.{SystemDefinition}
 use Rattle.sdl_tree.specs.declared.definitions.SystemDefinition.TheVariants as system
 use Rattle.sdl_tree.specs.declared.definitions.TimerDefinition.{TimerDefinition}
+use Rattle.sdl_tree.specs.declared.definitions.TimerDefinitions.{TimerDefinitions}
 use Rattle.sdl_tree.specs.declared.definitions.Tree.{Tree}
 use Rattle.sdl_tree.specs.declared.definitions.VariableGroup.{VariableGroup}
 use Rattle.sdl_tree.specs.declared.expressions.Applied.{Applied}
@@ -118,6 +125,9 @@ plain_applied a = record { name = plain_name a.name; values = plain_exprs a.valu
 abbrev pub plain_assignment : Assignment → plain.Assignment
 plain_assignment a = record { variable = plain_name a.variable; value = plain_expr a.value }
 
+abbrev pub plain_destination : Destination → plain.Expr
+plain_destination d = plain_expr d.value
+
 abbrev pub plain_clause : SetClause → plain.SetClause
 plain_clause c = record { time = option_map plain_expr c.time; timer = plain_applied c.timer }
 
@@ -151,7 +161,7 @@ abbrev mutual
 
   pub plain_action : action.Action → plain.Action
   plain_action (action.Task word assignments) = plain.Task (map plain_assignment assignments.items)
-  plain_action (action.Output word outputs destination) = plain.Output (map plain_applied outputs.items) (option_map plain_expr destination)
+  plain_action (action.Output word outputs destination) = plain.Output (map plain_applied outputs.items) (option_map plain_destination destination)
   plain_action (action.Set word clauses) = plain.Set (map plain_clause clauses.items)
   plain_action (action.Reset word groups) = plain.Reset (map plain_group groups.items)
   plain_action (action.Create word process) = plain.Create (plain_applied process)
@@ -192,6 +202,9 @@ plain_items xs = map plain_item xs
 abbrev pub plain_input : Input → plain.Input
 plain_input i = record { signal = plain_name i.signal; variables = map (option_map plain_name) i.variables.items }
 
+abbrev pub plain_condition : EnablingCondition → plain.Expr
+plain_condition c = plain_expr c.condition
+
 abbrev pub plain_inputs : Inputs → plain.Inputs
 plain_inputs (inputs.Listed is) = plain.InputList (map plain_input is.items)
 plain_inputs (inputs.All asterisk) = plain.InputAll
@@ -201,7 +214,7 @@ plain_saved (saved.Listed items) = plain.SaveList (plain_items items.items)
 plain_saved (saved.All asterisk) = plain.SaveAll
 
 abbrev pub plain_stimulus : Stimulus → plain.Stimulus
-plain_stimulus (stimulus.Input s) = plain.InputPart (plain_inputs s.inputs) (option_map plain_expr s.condition) (plain_transition s.transition)
+plain_stimulus (stimulus.Input s) = plain.InputPart (plain_inputs s.inputs) (option_map plain_condition s.condition) (plain_transition s.transition)
 plain_stimulus (stimulus.Priority s) = plain.PriorityInput (map plain_input s.inputs.items) (plain_transition s.transition)
 plain_stimulus (stimulus.Save s) = plain.SavePart (plain_saved s.saved)
 plain_stimulus (stimulus.Continuous s) =
@@ -226,8 +239,15 @@ plain_signal_list l = record { name = plain_name l.name; items = plain_items l.i
 abbrev pub plain_synonym : SynonymDefinition → plain.SynonymDefinition
 plain_synonym s = record { name = plain_name s.name; sort = plain_sort s.sort; value = plain_expr s.value }
 
+abbrev pub plain_synonyms : SynonymDefinitions → List plain.SynonymDefinition
+plain_synonyms s = map plain_synonym s.synonyms.items
+
 abbrev pub plain_parameters : ParameterGroup → plain.ParameterGroup
 plain_parameters g = record { names = plain_names g.names.items; sort = plain_sort g.sort }
+
+abbrev pub plain_fpar : Option FormalParameters → List plain.ParameterGroup
+plain_fpar None = []
+plain_fpar (Some f) = map plain_parameters f.groups.items
 
 abbrev pub plain_variables : VariableGroup → plain.VariableGroup
 plain_variables g = record { names = plain_names g.names.items; sort = plain_sort g.sort; initial = option_map plain_expr g.initial }
@@ -235,13 +255,19 @@ plain_variables g = record { names = plain_names g.names.items; sort = plain_sor
 abbrev pub plain_timer : TimerDefinition → plain.TimerDefinition
 plain_timer t = record { name = plain_name t.name; sorts = plain_sorts t.sorts.items; duration = option_map plain_expr t.duration }
 
+abbrev pub plain_timers : TimerDefinitions → List plain.TimerDefinition
+plain_timers t = map plain_timer t.timers.items
+
+abbrev pub plain_signal_set : SignalSet → List plain.SignalListItem
+plain_signal_set s = plain_items s.items.items
+
 abbrev pub plain_local : LocalDefinition → plain.LocalDefinition
 plain_local («local».Signals signals) = plain.LocalSignals (map plain_signal signals.items)
 plain_local («local».SignalList list) = plain.LocalSignalList (plain_signal_list list)
-plain_local («local».Synonyms synonyms) = plain.LocalSynonyms (map plain_synonym synonyms.items)
-plain_local («local».SignalSet items) = plain.SignalSet (plain_items items.items)
+plain_local («local».Synonyms synonyms) = plain.LocalSynonyms (plain_synonyms synonyms)
+plain_local («local».SignalSet signals) = plain.SignalSet (plain_signal_set signals)
 plain_local («local».Variables groups) = plain.Variables (map plain_variables groups.items)
-plain_local («local».Timers timers) = plain.Timers (map plain_timer timers.items)
+plain_local («local».Timers timers) = plain.Timers (plain_timers timers)
 
 abbrev pub plain_bound : Bound → plain.Bound
 plain_bound b = record { maximum = option_map plain_expr b.maximum }
@@ -253,7 +279,7 @@ abbrev pub plain_process : ProcessDefinition → plain.ProcessDefinition
 plain_process p = record {
   name = plain_name p.name;
   counts = option_map plain_counts p.counts;
-  parameters = map plain_parameters p.parameters.items;
+  parameters = plain_fpar p.parameters;
   definitions = map plain_local p.definitions.items;
   start = plain_transition p.start.transition;
   body = map plain_body_part p.body.items;
@@ -277,13 +303,16 @@ plain_channel c = record {
 abbrev pub plain_definition : Definition → plain.Definition
 plain_definition (definition.Signals signals) = plain.Signals (map plain_signal signals.items)
 plain_definition (definition.SignalList list) = plain.SignalList (plain_signal_list list)
-plain_definition (definition.Synonyms synonyms) = plain.Synonyms (map plain_synonym synonyms.items)
+plain_definition (definition.Synonyms synonyms) = plain.Synonyms (plain_synonyms synonyms)
 plain_definition (definition.Channel channel) = plain.Channel (plain_channel channel)
 plain_definition (definition.Process process) = plain.Process (plain_process process)
 
+abbrev pub plain_connection : ChannelConnection → plain.BlockPart
+plain_connection c = plain.Connect (plain_names c.outer.items) (plain_names c.inner.items)
+
 abbrev pub plain_block_part : BlockPart → plain.BlockPart
 plain_block_part (block.Shared d) = plain.InBlock (plain_definition d)
-plain_block_part (block.Connect c) = plain.Connect (plain_names c.outer.items) (plain_names c.inner.items)
+plain_block_part (block.Connect c) = plain_connection c
 
 abbrev pub plain_block : BlockDefinition → plain.BlockDefinition
 plain_block b = record { name = plain_name b.name; definitions = map plain_block_part b.definitions.items }

@@ -50,8 +50,15 @@ pub enum Stimulus {
 pub struct InputPart {
     pub word: Spelling,
     pub inputs: Inputs,
-    pub condition: Option<Expression>,
+    pub condition: Option<EnablingCondition>,
     pub transition: Transition,
+}
+
+/// The condition under which an input is taken, with the word `provided`.
+#[derive(Debug, Drop)]
+pub struct EnablingCondition {
+    pub word: Spelling,
+    pub condition: Expression,
 }
 
 /// The signals of an input.
@@ -138,7 +145,7 @@ pub enum Action {
     Output {
         word: Spelling,
         outputs: Vec<Applied>,
-        destination: Option<Expression>,
+        destination: Option<Destination>,
     },
     Set {
         word: Spelling,
@@ -159,6 +166,13 @@ pub enum Action {
         parts: Vec<AnswerPart>,
         otherwise: Option<Transition>,
     },
+}
+
+/// Where the signals of an output go, with the word `to`.
+#[derive(Debug, Drop)]
+pub struct Destination {
+    pub word: Spelling,
+    pub value: Expression,
 }
 
 /// `variable := value`.

@@ -18,9 +18,10 @@ pub enum SystemDefinition {
     Block(BlockDefinition),
 }
 
-/// A block and what it defines.
+/// A block and what it defines, with the word `block`.
 #[derive(Debug, Drop)]
 pub struct BlockDefinition {
+    pub word: Spelling,
     pub name: Name,
     pub definitions: Vec<BlockPart>,
 }
@@ -37,7 +38,7 @@ pub enum BlockPart {
 pub enum Definition {
     Signals(Vec<SignalDefinition>),
     SignalList(SignalListDefinition),
-    Synonyms(Vec<SynonymDefinition>),
+    Synonyms(SynonymDefinitions),
     Channel(ChannelDefinition),
     Process(ProcessDefinition),
 }
@@ -49,9 +50,10 @@ pub struct SignalDefinition {
     pub sorts: Vec<SortName>,
 }
 
-/// A name for a list of signals.
+/// A name for a list of signals, with the word `signallist`.
 #[derive(Debug, Drop)]
 pub struct SignalListDefinition {
+    pub word: Spelling,
     pub name: Name,
     pub items: Vec<SignalListItem>,
 }
@@ -63,6 +65,13 @@ pub enum SignalListItem {
     List(Name),
 }
 
+/// The names that one `synonym` defines.
+#[derive(Debug, Drop)]
+pub struct SynonymDefinitions {
+    pub word: Spelling,
+    pub synonyms: Vec<SynonymDefinition>,
+}
+
 /// A name for a constant value.
 #[derive(Debug, Drop)]
 pub struct SynonymDefinition {
@@ -71,9 +80,10 @@ pub struct SynonymDefinition {
     pub value: Expression,
 }
 
-/// A channel with its one or two paths.
+/// A channel with its one or two paths, and with the word `channel`.
 #[derive(Debug, Drop)]
 pub struct ChannelDefinition {
+    pub word: Spelling,
     pub name: Name,
     /// Whether `nodelay` stands.
     pub is_nodelay: bool,
@@ -96,19 +106,22 @@ pub enum ChannelEnd {
     Agent(Name),
 }
 
-/// Channels outside of a block that are joined with channels in it.
+/// Channels outside of a block that are joined with channels in it, with the word `connect`.
 #[derive(Debug, Drop)]
 pub struct ChannelConnection {
+    pub word: Spelling,
     pub outer: Vec<Name>,
     pub inner: Vec<Name>,
 }
 
-/// A process: its formal parameters, its own definitions, the start transition and the body behind it.
+/// A process: its formal parameters, its own definitions, the start transition and the body behind it, with the
+/// word `process`.
 #[derive(Debug, Drop)]
 pub struct ProcessDefinition {
+    pub word: Spelling,
     pub name: Name,
     pub counts: Option<Counts>,
-    pub parameters: Vec<ParameterGroup>,
+    pub parameters: Option<FormalParameters>,
     pub definitions: Vec<LocalDefinition>,
     pub start: Start,
     pub body: Vec<BodyPart>,
@@ -128,6 +141,13 @@ pub struct Bound {
     pub maximum: Option<Expression>,
 }
 
+/// The formal parameters of a process, with the word `fpar`.
+#[derive(Debug, Drop)]
+pub struct FormalParameters {
+    pub word: Spelling,
+    pub groups: Vec<ParameterGroup>,
+}
+
 /// Formal parameters of one sort.
 #[derive(Debug, Drop)]
 pub struct ParameterGroup {
@@ -140,10 +160,10 @@ pub struct ParameterGroup {
 pub enum LocalDefinition {
     Signals(Vec<SignalDefinition>),
     SignalList(SignalListDefinition),
-    Synonyms(Vec<SynonymDefinition>),
-    SignalSet(Vec<SignalListItem>),
+    Synonyms(SynonymDefinitions),
+    SignalSet(SignalSet),
     Variables(Vec<VariableGroup>),
-    Timers(Vec<TimerDefinition>),
+    Timers(TimerDefinitions),
 }
 
 /// Variables of one sort, with one initial value for all of them where there is one.
@@ -152,6 +172,20 @@ pub struct VariableGroup {
     pub names: Vec<Name>,
     pub sort: SortName,
     pub initial: Option<Expression>,
+}
+
+/// The signals that a process can receive, with the word `signalset`.
+#[derive(Debug, Drop)]
+pub struct SignalSet {
+    pub word: Spelling,
+    pub items: Vec<SignalListItem>,
+}
+
+/// The timers that one `timer` defines.
+#[derive(Debug, Drop)]
+pub struct TimerDefinitions {
+    pub word: Spelling,
+    pub timers: Vec<TimerDefinition>,
 }
 
 /// One timer with the sorts of its parameters and its default duration, where it has one.

@@ -17,14 +17,16 @@ mod tests;
 
 pub use behaviour::{
     Action, ActionStatement, Answer, AnswerPart, Assignment, BodyPart, ContinuousSignal,
-    FreeAction, Input, InputPart, Inputs, NextState, PriorityInput, ResetGroup, SavePart, Saved,
-    SetClause, Start, StatePart, States, Stimulus, Terminator, TerminatorStatement, Transition,
+    Destination, EnablingCondition, FreeAction, Input, InputPart, Inputs, NextState, PriorityInput,
+    ResetGroup, SavePart, Saved, SetClause, Start, StatePart, States, Stimulus, Terminator,
+    TerminatorStatement, Transition,
 };
 pub use definitions::{
     BlockDefinition, BlockPart, Bound, ChannelConnection, ChannelDefinition, ChannelEnd,
-    ChannelPath, Counts, Definition, LocalDefinition, ParameterGroup, ProcessDefinition,
-    SignalDefinition, SignalListDefinition, SignalListItem, SynonymDefinition, SystemDefinition,
-    TimerDefinition, Tree, VariableGroup,
+    ChannelPath, Counts, Definition, FormalParameters, LocalDefinition, ParameterGroup,
+    ProcessDefinition, SignalDefinition, SignalListDefinition, SignalListItem, SignalSet,
+    SynonymDefinition, SynonymDefinitions, SystemDefinition, TimerDefinition, TimerDefinitions,
+    Tree, VariableGroup,
 };
 pub use expressions::{Applied, Chain, Expression, KeywordValue, Link, Operator, UnaryOperator};
 pub use keyword::{is_reserved, keyword_of, left_out, sign_of};

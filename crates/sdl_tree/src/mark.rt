@@ -1,6 +1,6 @@
 //! The marks: what the grammar fixes, which is each keyword, each literal and each mark of other characters.
 
-ghost use Rattle.std.specs.Prelude.{◌≡◌};
+ghost use Rattle.std.specs.Prelude.{◌≡◌, Some};
 ghost use Rattle.sdl_tree.specs.Mark as spec;
 
 use std::fmt;
@@ -187,7 +187,10 @@ impl Mark {
     }
 }
 
+/// Writes the mark's text.
 impl fmt::Display for Mark {
+    ghost output = { λ m. Some (spec.text m) };
+
     fn fmt<W: fmt::Write>(&self, f: &mut fmt::Formatter<W>) -> fmt::Result {
         f.write_str(self.text())
     }

@@ -1,73 +1,113 @@
-use Rattle.std.proofs.Common.{◌≡◌, sym, subst, refl, inl, inr, ℕ, List, Option, Bool, true, false, Result, Ok, Err, IfOk, IfErr, OnOk}
-use Rattle.std.specs.Io.KnownBytes.{Appends}
+-- What the calls of a command give, put together into what is said of the input.
+use Rattle.std.proofs.Common.{◌≡◌, ◌⊎◌, sym, subst, refl, inl, inr, ℕ, List, Option, Bool, true, false, Result, Ok, Err, IfOk, IfErr, OnOk, take}
+use Rattle.std.specs.Io.KnownBytes.{Appends, Keeps}
 use Rattle.sdl_report.specs.ReportText.{report_text}
 use Rattle.sdl_report.specs.declared.record.Report.{Report}
 use Rattle.sdl_system.specs.declared.system.System.{System}
-use Rattle.sdlrun.specs.Answer.{Allows, BreaksOff, FailsToTell, Faulted, IsRunOfInput, Says, Written, outcome_by, outcome_of}
+use Rattle.sdl_tree.specs.Canonical.{canonical_text}
+use Rattle.sdl_tree.specs.Tree as plain
+use Rattle.sdlrun.specs.Answer.{Allows, BreaksOff, BreaksOffTelling, FailsToPrint, FailsToTell, Faulted, Fails, IsRunOfInput, IsTextOfInput, Refuses, Says, SaysCut, SaysWhole, Tells, Written, outcome_by, outcome_of}
 use Rattle.sdlrun.specs.Input.{IsRead}
 use Rattle.sdlrun.specs.RefusalText.{IsRefusalLine}
 use Rattle.sdlrun.specs.declared.input.Input.{Input}
 use Rattle.sdlrun.specs.declared.input.Input.TheVariants.{Bytes, TooLong}
+use Rattle.sdlrun.specs.declared.options.Command.{Command}
+use Rattle.sdlrun.specs.declared.options.Command.TheVariants as command
+use Rattle.sdlrun.specs.declared.options.Options.{Options}
 use Rattle.sdlrun.specs.declared.options.Outcome.{Outcome}
+use Rattle.sdlrun.specs.declared.options.Outcome.TheVariants as outcome
 use Rattle.sdlrun.specs.declared.options.TextFault.{TextFault}
 use Rattle.sdlrun.specs.declared.options.TextFault.TheVariants as fault
 use Rattle.sdlrun.specs.declared.refusal.Refusal.{Refusal}
 use Rattle.sdlrun.specs.declared.refusal.Refusal.TheVariants as refusal
 
 -- the report of a run is what is said of its input
-pub report_says : (input : Input) (limit : ℕ) (system : System) (report : Report) (whole : Bool) → report.whole ≡ whole → IsRunOfInput input limit system report → Says input limit (outcome_by whole) (report_text system report)
-report_says (Bytes bytes) limit system report true is run = record { system = system; report = report; run = run; is_whole = is; says = refl }
-report_says (Bytes bytes) limit system report false is run = record { system = system; report = report; run = run; is_whole = is; says = refl }
-report_says TooLong limit system report whole is run = absurd run
+pub report_says : (input : Input) (options : Options) (system : System) (report : Report) (whole : Bool) → options.command ≡ command.Run → report.whole ≡ whole → IsRunOfInput input options.limit system report → Says input options (outcome_by whole) (report_text system report)
+report_says (Bytes bytes) options system report true asked is run =
+    subst (λ c. SaysWhole c bytes.items options.limit (report_text system report)) (sym asked) (record { system = system; report = report; run = run; is_whole = is; says = refl })
+report_says (Bytes bytes) options system report false asked is run =
+    subst (λ c. SaysCut c bytes.items options.limit (report_text system report)) (sym asked) (record { system = system; report = report; run = run; is_whole = is; says = refl })
+report_says TooLong options system report whole asked is run = absurd run
 
--- the line of a refusal is what is said of its input
-pub refusal_says : (input : Input) (limit : ℕ) (refused : Refusal) (line : List ℕ) → Allows input refused → IsRefusalLine refused line → Says input limit (outcome_of refused) line
-refusal_says (Bytes bytes) limit (refusal.Parse error) line allowed is = record { refused = refusal.Parse error; allowed = allowed; kind = refl; line = is }
-refusal_says (Bytes bytes) limit (refusal.Build error) line allowed is = record { refused = refusal.Build error; allowed = allowed; kind = refl; line = is }
-refusal_says (Bytes bytes) limit (refusal.Script error) line allowed is = record { refused = refusal.Script error; allowed = allowed; kind = refl; line = is }
-refusal_says (Bytes bytes) limit (refusal.Run error) line allowed is = record { refused = refusal.Run error; allowed = allowed; kind = refl; line = is }
-refusal_says TooLong limit (refusal.Parse error) line allowed is = record { refused = refusal.Parse error; allowed = allowed; kind = refl; line = is }
-refusal_says TooLong limit (refusal.Build error) line allowed is = record { refused = refusal.Build error; allowed = allowed; kind = refl; line = is }
-refusal_says TooLong limit (refusal.Script error) line allowed is = record { refused = refusal.Script error; allowed = allowed; kind = refl; line = is }
-refusal_says TooLong limit (refusal.Run error) line allowed is = record { refused = refusal.Run error; allowed = allowed; kind = refl; line = is }
+-- so is the canonical text of its tree
+pub canonical_says : (input : Input) (options : Options) (tree : plain.Tree) → options.command ≡ command.Check → IsTextOfInput input tree → Says input options outcome.Whole (canonical_text tree)
+canonical_says (Bytes bytes) options tree asked source =
+    subst (λ c. SaysWhole c bytes.items options.limit (canonical_text tree)) (sym asked) (record { tree = tree; source = source; says = refl })
+canonical_says TooLong options tree asked source = absurd source
 
-pub reported : {remaining old new : Option (List ℕ)} {limit : ℕ} {how : Outcome} (input : Input) (system : System) (report : Report) → IsRead remaining input → IsRunOfInput input limit system report → how ≡ outcome_by report.whole → Appends old new (report_text system report) → Written remaining limit how old new
-reported {remaining} {old} {new} {limit} {how} input system report read run is out = record {
-  text = report_text system report;
-  answers = record { input = input; read = read; says = subst (λ o. Says input limit o (report_text system report)) (sym is) (report_says input limit system report report.whole refl run) };
-  out = out;
-}
+-- and the line of a refusal
+refusal_says' : (asked : Command) (input : Input) (options : Options) (refused : Refusal) (line : List ℕ) → Allows asked input refused → IsRefusalLine refused line → Refuses asked input (outcome_of refused) line
+refusal_says' asked input options why line allowed is = record { refused = why; allowed = allowed; kind = refl; line = is }
 
-pub refused : {remaining old new : Option (List ℕ)} {limit : ℕ} {how : Outcome} (input : Input) (why : Refusal) → Allows input why → IsRead remaining input → how ≡ outcome_of why → (line : List ℕ) × IsRefusalLine why line × Appends old new line → Written remaining limit how old new
-refused {remaining} {old} {new} {limit} {how} input why allowed read is told = record {
-  text = told.0;
-  answers = record { input = input; read = read; says = subst (λ o. Says input limit o told.0) (sym is) (refusal_says input limit why told.0 allowed told.1) };
-  out = told.2;
-}
+says_refused : (input : Input) (options : Options) (why : Refusal) (line : List ℕ) → Refuses options.command input (outcome_of why) line → Says input options (outcome_of why) line
+says_refused (Bytes bytes) options (refusal.Parse error) line r = r
+says_refused (Bytes bytes) options (refusal.NotRun error) line r = r
+says_refused (Bytes bytes) options (refusal.Build error) line r = r
+says_refused (Bytes bytes) options (refusal.Script error) line r = r
+says_refused (Bytes bytes) options (refusal.Run error) line r = r
+says_refused TooLong options (refusal.Parse error) line r = r
+says_refused TooLong options (refusal.NotRun error) line r = r
+says_refused TooLong options (refusal.Build error) line r = r
+says_refused TooLong options (refusal.Script error) line r = r
+says_refused TooLong options (refusal.Run error) line r = r
 
-pub broke_off : (remaining old new : Option (List ℕ)) (limit : ℕ) (input : Input) (system : System) (report : Report) (why : TextFault) → IsRead remaining input → IsRunOfInput input limit system report → BreaksOff why (report_text system report) old new → Faulted why remaining limit old new
-broke_off remaining old new limit input system report fault.Read read run off = absurd off
-broke_off remaining old new limit input system report fault.Write read run off = record { how = outcome_by report.whole; text = report_text system report; answers = record { input = input; read = read; says = report_says input limit system report report.whole refl run }; length = off.0; out = off.1 }
-broke_off remaining old new limit input system report fault.Memory read run off = inr (record { how = outcome_by report.whole; text = report_text system report; answers = record { input = input; read = read; says = report_says input limit system report report.whole refl run }; length = off.0; out = off.1 })
+pub refusal_says : (asked : Command) (input : Input) (options : Options) (why : Refusal) (line : List ℕ) → options.command ≡ asked → Allows asked input why → IsRefusalLine why line → Says input options (outcome_of why) line
+refusal_says asked input options why line is allowed told =
+    says_refused input options why line (subst (λ c. Refuses c input (outcome_of why) line) (sym is) (refusal_says' asked input options why line allowed told))
 
-pub failed_to_tell : (remaining old new : Option (List ℕ)) (limit : ℕ) (input : Input) (refused_as : Refusal) (why : TextFault) → Allows input refused_as → IsRead remaining input → FailsToTell why refused_as old new → Faulted why remaining limit old new
-failed_to_tell remaining old new limit input refused_as fault.Read allowed read off = absurd off.2
-failed_to_tell remaining old new limit input refused_as fault.Write allowed read off = record { how = outcome_of refused_as; text = off.0; answers = record { input = input; read = read; says = refusal_says input limit refused_as off.0 allowed off.1 }; length = off.2.0; out = off.2.1 }
-failed_to_tell remaining old new limit input refused_as fault.Memory allowed read off = elim off [ inl kept ↦ inl kept | inr told ↦ inr (record { how = outcome_of refused_as; text = told.0; answers = record { input = input; read = read; says = refusal_says input limit refused_as told.0 allowed told.1 }; length = told.2.0; out = told.2.1 }) ]
+-- ---- what a call's result says
 
--- the same of a call's result
-pub reported_by : (remaining old new : Option (List ℕ)) (limit : ℕ) (input : Input) (system : System) (report : Report) (r : Result Outcome TextFault) → IsRead remaining input → IsRunOfInput input limit system report → IfOk r (λ how. how ≡ outcome_by report.whole) → OnOk r (Appends old new (report_text system report)) → IfOk r (λ how. Written remaining limit how old new)
-reported_by remaining old new limit input system report (Ok how) read run is out = reported input system report read run is out
-reported_by remaining old new limit input system report (Err why) read run is out = tt
+pub tells_by : (input : Input) (options : Options) (expected : Outcome) (text : List ℕ) (old new : Option (List ℕ)) (r : Result Outcome TextFault) → Says input options expected text → IfOk r (λ how. how ≡ expected) → OnOk r (Appends old new text) → IfOk r (λ how. Tells input options how old new)
+tells_by input options expected text old new (Ok how) says is out = record { text = text; says = subst (λ o. Says input options o text) (sym is) says; out = out }
+tells_by input options expected text old new (Err why) says is out = tt
 
-pub broke_off_by : (remaining old new : Option (List ℕ)) (limit : ℕ) (input : Input) (system : System) (report : Report) (r : Result Outcome TextFault) → IsRead remaining input → IsRunOfInput input limit system report → IfErr r (λ why. BreaksOff why (report_text system report) old new) → IfErr r (λ why. Faulted why remaining limit old new)
-broke_off_by remaining old new limit input system report (Ok how) read run off = tt
-broke_off_by remaining old new limit input system report (Err why) read run off = broke_off remaining old new limit input system report why read run off
+fails_by' : (input : Input) (options : Options) (expected : Outcome) (text : List ℕ) (old new : Option (List ℕ)) (why : TextFault) → Says input options expected text → BreaksOff why text old new → Fails why input options old new
+fails_by' input options expected text old new fault.Read says off = absurd off
+fails_by' input options expected text old new fault.Write says off = record { how = expected; text = text; says = says; length = off.0; out = off.1 }
+fails_by' input options expected text old new fault.Memory says off = inr (record { how = expected; text = text; says = says; length = off.0; out = off.1 })
 
-pub refused_by : (remaining old new : Option (List ℕ)) (limit : ℕ) (input : Input) (why : Refusal) (r : Result Outcome TextFault) → Allows input why → IsRead remaining input → IfOk r (λ how. how ≡ outcome_of why) → OnOk r ((line : List ℕ) × IsRefusalLine why line × Appends old new line) → IfOk r (λ how. Written remaining limit how old new)
-refused_by remaining old new limit input why (Ok how) allowed read is told = refused input why allowed read is told
-refused_by remaining old new limit input why (Err e) allowed read is told = tt
+pub fails_by : (input : Input) (options : Options) (expected : Outcome) (text : List ℕ) (old new : Option (List ℕ)) (r : Result Outcome TextFault) → Says input options expected text → IfErr r (λ why. BreaksOff why text old new) → IfErr r (λ why. Fails why input options old new)
+fails_by input options expected text old new (Ok how) says off = tt
+fails_by input options expected text old new (Err why) says off = fails_by' input options expected text old new why says off
 
-pub failed_by : (remaining old new : Option (List ℕ)) (limit : ℕ) (input : Input) (refused_as : Refusal) (r : Result Outcome TextFault) → Allows input refused_as → IsRead remaining input → IfErr r (λ why. FailsToTell why refused_as old new) → IfErr r (λ why. Faulted why remaining limit old new)
-failed_by remaining old new limit input refused_as (Ok how) allowed read off = tt
-failed_by remaining old new limit input refused_as (Err why) allowed read off = failed_to_tell remaining old new limit input refused_as why allowed read off
+prints_not' : (input : Input) (options : Options) (text : List ℕ) (old new : Option (List ℕ)) (why : TextFault) → Says input options outcome.Whole text → FailsToPrint why text old new → Fails why input options old new
+prints_not' input options text old new fault.Read says off = absurd off
+prints_not' input options text old new fault.Write says off = fails_by' input options outcome.Whole text old new fault.Write says off
+prints_not' input options text old new fault.Memory says off = elim off [ inl kept ↦ inl kept | inr broken ↦ fails_by' input options outcome.Whole text old new fault.Memory says broken ]
+
+pub prints_not : (input : Input) (options : Options) (text : List ℕ) (old new : Option (List ℕ)) (r : Result Outcome TextFault) → Says input options outcome.Whole text → IfErr r (λ why. FailsToPrint why text old new) → IfErr r (λ why. Fails why input options old new)
+prints_not input options text old new (Ok how) says off = tt
+prints_not input options text old new (Err why) says off = prints_not' input options text old new why says off
+
+pub refused_by : (asked : Command) (input : Input) (options : Options) (why : Refusal) (old new : Option (List ℕ)) (r : Result Outcome TextFault) → options.command ≡ asked → Allows asked input why → IfOk r (λ how. how ≡ outcome_of why) → OnOk r ((line : List ℕ) × IsRefusalLine why line × Appends old new line) → IfOk r (λ how. Tells input options how old new)
+refused_by asked input options why old new (Ok how) is allowed kind told =
+    record { text = told.0; says = subst (λ o. Says input options o told.0) (sym kind) (refusal_says asked input options why told.0 is allowed told.1); out = told.2 }
+refused_by asked input options why old new (Err e) is allowed kind told = tt
+
+failed_to_tell : (asked : Command) (input : Input) (options : Options) (refused_as : Refusal) (old new : Option (List ℕ)) (why : TextFault) → options.command ≡ asked → Allows asked input refused_as → FailsToTell why refused_as old new → Fails why input options old new
+failed_to_tell asked input options refused_as old new fault.Read is allowed off = absurd off.2
+failed_to_tell asked input options refused_as old new fault.Write is allowed off =
+    fails_by' input options (outcome_of refused_as) off.0 old new fault.Write (refusal_says asked input options refused_as off.0 is allowed off.1) off.2
+failed_to_tell asked input options refused_as old new fault.Memory is allowed off = elim off [
+  | inl kept ↦ inl kept
+  | inr told ↦ fails_by' input options (outcome_of refused_as) told.0 old new fault.Memory (refusal_says asked input options refused_as told.0 is allowed told.1) told.2
+]
+
+pub failed_by : (asked : Command) (input : Input) (options : Options) (refused_as : Refusal) (old new : Option (List ℕ)) (r : Result Outcome TextFault) → options.command ≡ asked → Allows asked input refused_as → IfErr r (λ why. FailsToTell why refused_as old new) → IfErr r (λ why. Fails why input options old new)
+failed_by asked input options refused_as old new (Ok how) is allowed off = tt
+failed_by asked input options refused_as old new (Err why) is allowed off = failed_to_tell asked input options refused_as old new why is allowed off
+
+-- ---- the whole program: the input was read first
+
+pub written_by : (remaining old new : Option (List ℕ)) (input : Input) (options : Options) (r : Result Outcome TextFault) → IsRead remaining input → IfOk r (λ how. Tells input options how old new) → IfOk r (λ how. Written remaining options how old new)
+written_by remaining old new input options (Ok how) read tells = record { input = input; read = read; tells = tells }
+written_by remaining old new input options (Err why) read tells = tt
+
+faulted : (remaining old new : Option (List ℕ)) (input : Input) (options : Options) (why : TextFault) → IsRead remaining input → Fails why input options old new → Faulted why remaining options old new
+faulted remaining old new input options fault.Read read off = absurd off
+faulted remaining old new input options fault.Write read off = record { input = input; read = read; breaks = off }
+faulted remaining old new input options fault.Memory read off = elim off [ inl kept ↦ inl kept | inr broken ↦ inr (record { input = input; read = read; breaks = broken }) ]
+
+pub faulted_by : (remaining old new : Option (List ℕ)) (input : Input) (options : Options) (r : Result Outcome TextFault) → IsRead remaining input → IfErr r (λ why. Fails why input options old new) → IfErr r (λ why. Faulted why remaining options old new)
+faulted_by remaining old new input options (Ok how) read off = tt
+faulted_by remaining old new input options (Err why) read off = faulted remaining old new input options why read off

@@ -5,16 +5,19 @@ use Rattle.std.specs.String.{string_bytes}
 use Rattle.sdl_lex.specs.Place.{place_text}
 use Rattle.sdl_lex.specs.declared.error.LexError.{LexError}
 use Rattle.sdl_lex.specs.declared.error.LexError.TheVariants as lex
+use Rattle.sdl_core.specs.declared.not_run.NotRun.{NotRun}
+use Rattle.sdl_core.specs.declared.not_run.NotRun.TheVariants as outside
 use Rattle.sdl_parse.specs.declared.error.ParseError.{ParseError}
 use Rattle.sdl_parse.specs.declared.error.ParseError.TheVariants as parse
-use Rattle.sdl_parse.specs.declared.tree.Name.{Name}
+use Rattle.sdl_tree.specs.Mark as mark
+use Rattle.sdl_tree.specs.declared.name.Name.{Name}
 use Rattle.sdl_report.specs.declared.script.ScriptError.{ScriptError}
 use Rattle.sdl_report.specs.declared.script.ScriptError.TheVariants as script
 use Rattle.sdl_system.specs.declared.error.BuildError.{BuildError}
 use Rattle.sdl_system.specs.declared.error.BuildError.TheVariants as build
 use Rattle.sdl_workers.specs.declared.error.RunError.{RunError}
 use Rattle.sdlrun.specs.declared.refusal.Refusal.{Refusal}
-use Rattle.sdlrun.specs.declared.refusal.Refusal.TheVariants.{Parse, Build, Script, Run}
+use Rattle.sdlrun.specs.declared.refusal.Refusal.TheVariants as refusal
 
 -- `lex L:C Name`
 abbrev pub lex_text : LexError → List ℕ
@@ -33,6 +36,12 @@ IsParseText (parse.Expected place wanted) text = (word : List ℕ) × (text ≡ 
 IsParseText (parse.LeftOut place word) text = text ≡ codes "parse " ++ place_text place ++ codes " LeftOut " ++ word.now
 IsParseText (parse.TooDeep place) text = text ≡ codes "parse " ++ place_text place ++ codes " TooDeep"
 IsParseText parse.Memory text = text ≡ codes "parse Memory"
+
+-- `parse L:C LeftOut word`, with the first word of what isn't run
+abbrev pub not_run_text : NotRun → List ℕ
+not_run_text (outside.LeftOut place word) = codes "parse " ++ place_text place ++ codes " LeftOut " ++ mark.text word
+not_run_text (outside.Label name) = codes "parse " ++ place_text name.place ++ codes " LeftOut " ++ string_bytes name.text
+not_run_text outside.Memory = codes "parse Memory"
 
 -- `build L:C Name name`, with the token at fault as the text has it
 abbrev pub told_of : List ℕ → Name → List ℕ
@@ -61,10 +70,11 @@ abbrev pub run_text : RunError → List ℕ
 run_text error = codes "run Memory"
 
 abbrev pub IsRefusalText : Refusal → List ℕ → Type 0
-IsRefusalText (Parse error) text = IsParseText error text
-IsRefusalText (Build error) text = text ≡ build_text error
-IsRefusalText (Script error) text = text ≡ script_text error
-IsRefusalText (Run error) text = text ≡ run_text error
+IsRefusalText (refusal.Parse error) text = IsParseText error text
+IsRefusalText (refusal.NotRun error) text = text ≡ not_run_text error
+IsRefusalText (refusal.Build error) text = text ≡ build_text error
+IsRefusalText (refusal.Script error) text = text ≡ script_text error
+IsRefusalText (refusal.Run error) text = text ≡ run_text error
 
 -- such a text as a line
 abbrev pub IsLineOf : (List ℕ → Type 0) → List ℕ → Type 0

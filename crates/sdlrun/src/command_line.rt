@@ -1,6 +1,7 @@
-use crate::options::{Options, TextFault};
+use crate::options::{Command, Options, TextFault};
+use clap::builder::ValueParser;
 use clap::error::ErrorKind;
-use clap::{Command, Error};
+use clap::{Arg, ArgAction, ArgMatches, Error};
 use std::alloc::Global;
 use std::env;
 use std::rt::Env;
@@ -8,7 +9,7 @@ use std::rt::Env;
 /// What the command line asks for.
 #[derive(Drop)]
 pub enum Request {
-    Run(Options),
+    Read(Options),
     /// It asked for help, which was printed.
     Answered,
     /// It has a mistake, which was told.
@@ -27,27 +28,52 @@ pub fn read_command_line<R: Env + AllocGlobal + Print + Eprint>(rt: &R) -> Reque
         Err(_) => return Request::Fault(TextFault::Memory),
     };
     match options(rt.alloc(), words.as_slice()) {
-        Ok(options) => Request::Run(options),
+        Ok(options) => Request::Read(options),
         Err(error) => told(rt, &error),
     }
 }
 
 /// What the words of the command line choose.
-fn options(alloc: Global, words: &[String]) -> Result<Options, Error> {
+pub fn options(alloc: Global, words: &[String]) -> Result<Options, Error> {
     let command = command(alloc)?;
-    command.try_get_matches_from(words)?;
-    Ok(Options::DEFAULT)
+    let matches = command.try_get_matches_from(words)?;
+    Ok(match matches.subcommand_matches("run") {
+        Some(run) => Options {
+            command: Command::Run,
+            limit: limit_of(run),
+        },
+        None => Options {
+            command: Command::Check,
+            limit: Options::DEFAULT_LIMIT,
+        },
+    })
+}
+
+/// The limit of a run.
+fn limit_of(run: &ArgMatches<'_>) -> u64 {
+    run.get_one::<u64>("limit")
+        .unwrap_or(Options::DEFAULT_LIMIT)
 }
 
 /// The commands and their help.
-fn command<'a>(alloc: Global) -> Result<Command<'a>, Error> {
-    let run = Command::new(alloc, "run").about(
-        "Runs the specification on standard input and writes the trace of each instance",
+fn command<'a>(alloc: Global) -> Result<clap::Command<'a>, Error> {
+    let check = clap::Command::new(alloc, "check").about(
+        "Reads the specification on standard input and writes its canonical text",
     );
-    let command = Command::new(alloc, "sdlrun")
-        .about("Runs SDL specifications and writes their exact traces")
+    let limit = Arg::new(alloc, "limit")
+        .long("limit")
+        .value_name("N")
+        .help("Cuts the run after N transitions, 1 to 1000000000; 1000000 if not given")
+        .action(ArgAction::Set)
+        .value_parser(ValueParser::unsigned(1, Options::MOST_LIMIT));
+    let run = clap::Command::new(alloc, "run")
+        .about("Runs the specification on standard input and writes the trace of each instance")
+        .arg(limit)?;
+    let command = clap::Command::new(alloc, "sdlrun")
+        .about("Reads SDL specifications, runs them and writes their exact traces")
         .subcommand_required(true)
         .after_help("Example:\n  sdlrun run < examples/counter.sdl")
+        .subcommand(check)?
         .subcommand(run)?;
     Ok(command)
 }

@@ -1,15 +1,18 @@
-//! `sdlrun` reads a specification in SDL/PR with a script of timed signals from standard input, runs its
-//! process instances, and writes the exact trace of each, or one line that names a refusal and its place.
+//! `sdlrun` reads a specification in SDL/PR with a script of timed signals from standard input. `run` runs its
+//! process instances and writes the exact trace of each; `check` writes its canonical text. Either writes one line
+//! instead that names a refusal and its place.
 //!
 //! `run_text` is the whole program over any reader and writer; `main` reads the command line, calls it, and
 //! maps its answer to an exit status.
 #![tactic(auto)]
 
+mod answer;
 mod command_line;
 mod input;
 mod options;
 mod refusal;
 mod refusal_text;
+mod specification;
 #[cfg(test)]
 mod tests;
 mod text;
@@ -21,7 +24,7 @@ use text::run_text;
 
 fn main(rt: HostRuntime) -> ExitCode {
     let options = match command_line::read_command_line(&rt) {
-        Request::Run(options) => options,
+        Request::Read(options) => options,
         Request::Answered => return ExitCode::SUCCESS,
         Request::Misused => return ExitCode::from(4),
         Request::Fault(fault) => return ended(&rt, fault),

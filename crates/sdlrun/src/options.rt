@@ -1,19 +1,32 @@
 use thiserror::Error;
 
-/// How a specification is run.
+/// What is asked for.
+#[derive(Clone, Copy, Debug, PartialEq, Eq)]
+pub enum Command {
+    /// The canonical text of the specification.
+    Check,
+    /// The report of a run of the specification on the script.
+    Run,
+}
+
+/// What is done with a text, and how.
 #[derive(Clone, Copy, Debug, PartialEq, Eq)]
 pub struct Options {
-    /// The number of transitions at which the run is cut, from 1 to 1,000,000,000.
+    pub command: Command,
+    /// The number of transitions at which a run is cut, from 1 to 1,000,000,000.
     pub limit: u64,
 }
 
 impl Options {
-    /// What is used where the command line says nothing else.
-    pub const DEFAULT: Options = Options { limit: 1_000_000 };
+    /// The limit where the command line names none.
+    pub const DEFAULT_LIMIT: u64 = 1_000_000;
+
+    /// The greatest limit.
+    pub const MOST_LIMIT: u64 = 1_000_000_000;
 }
 
 /// What was written: the report of a run that is whole, or of one that was cut at its limit; the line that
-/// refuses the text; or the line that refuses the run.
+/// refuses the text; or the line that refuses the run. A text that was checked is whole.
 #[derive(Clone, Copy, Debug, PartialEq, Eq)]
 pub enum Outcome {
     Whole,

@@ -1,4 +1,5 @@
 use crate::options::Outcome;
+use sdl_core::NotRun;
 use sdl_parse::ParseError;
 use sdl_report::ScriptError;
 use sdl_system::BuildError;
@@ -10,6 +11,8 @@ use thiserror::Error;
 pub enum Refusal {
     #[error(transparent)]
     Parse(ParseError),
+    #[error(transparent)]
+    NotRun(NotRun),
     #[error(transparent)]
     Build(BuildError),
     #[error(transparent)]

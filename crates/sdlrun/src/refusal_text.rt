@@ -3,14 +3,15 @@
 ghost use Rattle.std.specs.Prelude.{◌≡◌, ◌++◌, codes, IfOk, IfSome};
 ghost use Rattle.std.specs.String.{string_bytes};
 ghost use Rattle.sdl_lex.specs.Place.{place_text};
-ghost use Rattle.sdlrun.specs.RefusalText.{IsLineOf, IsParseText, IsRefusalLine, build_text, lex_text, script_text, told_of};
+ghost use Rattle.sdlrun.specs.RefusalText.{IsLineOf, IsParseText, IsRefusalLine, build_text, lex_text, not_run_text, script_text, told_of};
 
 use crate::refusal::Refusal;
+use sdl_core::NotRun;
 use sdl_lex::{LexError, Place};
 use sdl_parse::ParseError;
-use sdl_parse::tree::Name;
 use sdl_report::ScriptError;
 use sdl_system::BuildError;
+use sdl_tree::Name;
 use std::alloc::{AllocError, Global};
 
 /// The line of a refusal by want of memory, and of a text that is too long. It needs no memory.
@@ -19,6 +20,7 @@ pub fn fixed_line(refusal: &Refusal) -> Option<&'static str>
 {
     match refusal {
         Refusal::Parse(error) => fixed_parse_line(error),
+        Refusal::NotRun(error) => fixed_not_run_line(error),
         Refusal::Build(error) => fixed_build_line(error),
         Refusal::Script(error) => fixed_script_line(error),
         Refusal::Run(_) => Some("run Memory\n"),
@@ -41,6 +43,15 @@ fn fixed_lex_line(error: &LexError) -> Option<&'static str>
     match error {
         LexError::TooLong => Some("lex 1:1 TooLong\n"),
         LexError::Memory => Some("lex Memory\n"),
+        _ => None,
+    }
+}
+
+fn fixed_not_run_line(error: &NotRun) -> Option<&'static str>
+    ensures { IfSome result (λ line. IsLineOf (λ text. text ≡ not_run_text error.now) line.now) }
+{
+    match error {
+        NotRun::Memory => Some("parse Memory\n"),
         _ => None,
     }
 }
@@ -69,6 +80,7 @@ pub fn refusal_line(alloc: Global, refusal: &Refusal) -> Result<String, AllocErr
 {
     let mut line = match refusal {
         Refusal::Parse(error) => parse_text(alloc, error)?,
+        Refusal::NotRun(error) => not_run_text(alloc, error)?,
         Refusal::Build(error) => build_text(alloc, error)?,
         Refusal::Script(error) => script_text(alloc, error)?,
         Refusal::Run(_) => String::from_str(alloc, "run Memory")?,
@@ -110,6 +122,16 @@ fn left_out_text(alloc: Global, place: Place, word: &str) -> Result<String, Allo
     let mut text = format!(in alloc; "parse {place} LeftOut ")?;
     text.push_str(word)?;
     Ok(text)
+}
+
+fn not_run_text(alloc: Global, error: &NotRun) -> Result<String, AllocError>
+    ensures { IfOk result (λ text. string_bytes text ≡ not_run_text error.now) }
+{
+    match error {
+        NotRun::LeftOut(place, word) => left_out_text(alloc, *place, word.text()),
+        NotRun::Label(name) => left_out_text(alloc, name.place, name.text.as_str()),
+        NotRun::Memory => String::from_str(alloc, "parse Memory"),
+    }
 }
 
 fn lex_text(alloc: Global, error: &LexError) -> Result<String, AllocError>

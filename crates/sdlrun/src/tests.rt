@@ -1,10 +1,12 @@
-use crate::options::{Options, Outcome, TextFault};
+use crate::options::{Command, Options, Outcome, TextFault};
 use crate::text::run_text;
 use std::alloc::{AllocError, Global};
 use std::io::{self, ErrorKind, Read, Write};
 use std::process::Abort;
 use std::test::Fail;
 
+mod canonical;
+mod checks;
 mod examples;
 mod refusals;
 mod reports;
@@ -20,9 +22,14 @@ struct Answer {
 }
 
 fn answer_of(alloc: Global, text: &[u8], limit: u64) -> Result<Answer, TextFault> {
+    let command = Command::Run;
+    told(alloc, text, &Options { command, limit })
+}
+
+fn told(alloc: Global, text: &[u8], options: &Options) -> Result<Answer, TextFault> {
     let mut reader = text;
     let mut written = Vec::new(alloc);
-    let outcome = run_text(alloc, &mut reader, &mut written, &Options { limit })?;
+    let outcome = run_text(alloc, &mut reader, &mut written, options)?;
     Ok(Answer { outcome, written })
 }
 
@@ -110,7 +117,10 @@ impl Write for Full {
 fn reads_in_pieces_and_tells_faults(rt: HostRuntime) -> Result<(), Fail> {
     let text = framed(rt.alloc(), "start; stop;", "")?;
     let bytes = text.as_bytes();
-    let options = Options { limit: 10 };
+    let options = Options {
+        command: Command::Run,
+        limit: 10,
+    };
     let mut written = Vec::new(rt.alloc());
     let mut trickle = Trickle {
         rest: bytes,

@@ -253,6 +253,24 @@ fn room_once_made_holds_one_entry(rt: HostRuntime) -> Result<(), Fail> {
 }
 
 #[test]
+fn what_waits_comes_out_in_order(rt: HostRuntime) -> Result<(), Fail> {
+    let alloc = rt.alloc();
+    let mut port = PlainPort::new(alloc);
+    let timer = key(alloc, 7)?;
+    put(&mut port, alloc, 1, 2)?;
+    let arm = port.set(timer.copied()?, 10)?;
+    assert_eq!(rt; port.expire(&timer, arm, 10, 10), Ok(true));
+    put(&mut port, alloc, 1, 3)?;
+    assert_eq!(rt; port.waiting_len(), 3);
+    let waiting = port.into_waiting();
+    assert_eq!(rt; waiting.len(), 3);
+    assert_eq!(rt; name_and_value(&waiting[0]), (1, Some(Value::Int(2))));
+    assert_eq!(rt; waiting[1], Got::Timer(timer));
+    assert_eq!(rt; name_and_value(&waiting[2]), (1, Some(Value::Int(3))));
+    Ok(())
+}
+
+#[test]
 fn sets_are_counted_up_to_the_most(rt: HostRuntime) -> Result<(), Fail> {
     let alloc = rt.alloc();
     let mut port = PlainPort::new(alloc);

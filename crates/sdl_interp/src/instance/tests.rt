@@ -1,9 +1,11 @@
 ghost use Rattle.std.specs.Prelude.{Some};
 
+mod trees;
+
 use super::*;
 use Act::{Put, Step};
 use port_model::{SignalId, Values};
-use sdl_parse::parse;
+use sdl_core::{Action, Expression};
 use sdl_report::{Report, write_report};
 use sdl_system::{Agent, Target, build};
 use std::process::Abort;
@@ -73,33 +75,23 @@ enum Act<'a> {
     Step(u64),
 }
 
-/// A process, by its start transition and its states, and what happens to an instance of it. At the end one step more is
-/// made where the run is whole.
+/// What happens to an instance. At the end one step more is made where the run is whole.
 #[derive(Clone, Copy)]
 struct Case<'a> {
-    start: &'a str,
-    states: &'a str,
     room: usize,
     acts: &'a [Act<'a>],
     whole: bool,
 }
 
-// A process that counts in n and keeps in m what it was told last.
-const COUNTER: Case<'static> = Case {
-    start: "",
-    states: "input inc(m); task n := n + 1; nextstate -; input get; output val(n), val(m); nextstate -; input quit; stop;",
+const CASE: Case<'static> = Case {
     room: 10,
     acts: &[],
     whole: false,
 };
 
-// The system of a process whose variables are n, which begins at 0, and m. The signals are inc, get, quit and val, in this
-// order.
-fn system(alloc: Global, start: &str, states: &str) -> Result<System, Fail> {
-    let text = format!(in alloc;
-        "system S; signal inc(Integer), get, quit, val(Integer); process P; dcl n Integer := 0; dcl m Integer; start; {start} nextstate idle; state idle; {states} endstate idle; endprocess P; endsystem S;"
-    )?;
-    let tree = parse(alloc, text.as_bytes())?;
+// The system of the process that counts, once it has made these actions at its start.
+fn system(alloc: Global, start: Vec<Action>) -> Result<System, Fail> {
+    let tree = trees::system(alloc, start)?;
     Ok(build(alloc, &tree)?)
 }
 
@@ -211,8 +203,14 @@ fn told(rt: &impl Abort, alloc: Global, system: &System, case: Case<'_>) -> Resu
     Ok(format!(in alloc; "{steps}|{lines}{sent}")?)
 }
 
-fn expect(rt: &impl Abort, alloc: Global, case: Case<'_>, wanted: &str) -> Result<(), Fail> {
-    let system = system(alloc, case.start, case.states)?;
+fn expect(
+    rt: &impl Abort,
+    alloc: Global,
+    start: Vec<Action>,
+    case: Case<'_>,
+    wanted: &str,
+) -> Result<(), Fail> {
+    let system = system(alloc, start)?;
     let told = told(rt, alloc, &system, case)?;
     assert_eq!(rt; told.as_str(), wanted);
     Ok(())
@@ -233,11 +231,12 @@ fn counts_answers_and_stops(rt: HostRuntime) -> Result<(), Fail> {
             Put(0, &[]),
             Step(7),
         ],
-        ..COUNTER
+        ..CASE
     };
     expect(
         &rt,
         rt.alloc(),
+        Vec::new(rt.alloc()),
         case,
         "Moved Idle Moved Moved Ended Ended |instance #5 P parent null|0 start|  nextstate idle|3 input inc(8,9,10) from env|  task n := 1|  nextstate idle|3 input get from env|  output val(1) to env|  output val(8) to env|  nextstate idle|7 input quit from env|  stop|end 0 whole|3(1) from #5 to Env;3(8) from #5 to Env;",
     )
@@ -247,11 +246,11 @@ fn counts_answers_and_stops(rt: HostRuntime) -> Result<(), Fail> {
 fn discards_and_closes(rt: HostRuntime) -> Result<(), Fail> {
     let begun = Case {
         acts: &[Step(0)],
-        ..COUNTER
+        ..CASE
     };
     let discarded = Case {
         acts: &[Step(0), Put(3, &[1]), Step(2)],
-        ..COUNTER
+        ..CASE
     };
     let cases = [
         (
@@ -270,13 +269,14 @@ fn discards_and_closes(rt: HostRuntime) -> Result<(), Fail> {
             "Moved |instance #5 P parent null|0 start|  nextstate idle|cut idle|end 0 whole|",
         ),
         (
-            COUNTER,
+            CASE,
             false,
             "|instance #5 P parent null|cut start|end 0 whole|",
         ),
     ];
     for (case, whole, wanted) in cases {
-        expect(&rt, rt.alloc(), Case { whole, ..case }, wanted)?;
+        let start = Vec::new(rt.alloc());
+        expect(&rt, rt.alloc(), start, Case { whole, ..case }, wanted)?;
     }
     Ok(())
 }
@@ -284,8 +284,8 @@ fn discards_and_closes(rt: HostRuntime) -> Result<(), Fail> {
 #[test]
 fn knows_the_sender(rt: HostRuntime) -> Result<(), Fail> {
     let alloc = rt.alloc();
-    let system = system(alloc, COUNTER.start, COUNTER.states)?;
-    let mut outside = Outside::new(alloc, &system, COUNTER.room);
+    let system = system(alloc, Vec::new(alloc))?;
+    let mut outside = Outside::new(alloc, &system, CASE.room);
     let mut instance = instance(&rt, alloc, &system)?;
     assert_eq!(rt; instance.machine.sender, Pid::Null);
     perform(
@@ -298,45 +298,113 @@ fn knows_the_sender(rt: HostRuntime) -> Result<(), Fail> {
     Ok(())
 }
 
+// Starts with `task n := value`, and tells what the first step came to.
+fn expect_value(
+    rt: &impl Abort,
+    alloc: Global,
+    value: Expression,
+    wanted: &str,
+) -> Result<(), Fail> {
+    let start = vec![in alloc; trees::task(alloc, value)?]?;
+    let case = Case {
+        acts: &[Step(0)],
+        ..CASE
+    };
+    expect(rt, alloc, start, case, wanted)
+}
+
+// 5 - 3 - 1
 #[test]
-fn evaluates(rt: HostRuntime) -> Result<(), Fail> {
+fn groups_to_the_left(rt: HostRuntime) -> Result<(), Fail> {
     let alloc = rt.alloc();
-    let cases = [
-        (
-            "5 - 3 - 1",
-            "Moved |instance #5 P parent null|0 start|  task n := 1|  nextstate idle|cut idle|end 0 whole|",
-        ),
-        (
-            "5 - (3 - 1)",
-            "Moved |instance #5 P parent null|0 start|  task n := 3|  nextstate idle|cut idle|end 0 whole|",
-        ),
-        (
-            "-4 + n",
-            "Moved |instance #5 P parent null|0 start|  task n := -4|  nextstate idle|cut idle|end 0 whole|",
-        ),
-        (
-            "9223372036854775807 + 1 - 1",
-            "Ended |instance #5 P parent null|0 start|  failed Overflow|end 0 whole|",
-        ),
-        (
-            "-(-9223372036854775807 - 1)",
-            "Ended |instance #5 P parent null|0 start|  failed Overflow|end 0 whole|",
-        ),
-        (
-            "m + 1",
-            "Ended |instance #5 P parent null|0 start|  failed Undefined|end 0 whole|",
-        ),
-    ];
-    for (value, wanted) in cases {
-        let start = format!(in alloc; "task n := {value};")?;
-        let case = Case {
-            start: start.as_str(),
-            acts: &[Step(0)],
-            ..COUNTER
-        };
-        expect(&rt, alloc, case, wanted)?;
-    }
-    Ok(())
+    let rest = vec![in alloc;
+        trees::minus(trees::number(alloc, 3)?),
+        trees::minus(trees::number(alloc, 1)?),
+    ]?;
+    let value = trees::chain(alloc, trees::number(alloc, 5)?, rest)?;
+    expect_value(
+        &rt,
+        alloc,
+        value,
+        "Moved |instance #5 P parent null|0 start|  task n := 1|  nextstate idle|cut idle|end 0 whole|",
+    )
+}
+
+// 5 - (3 - 1)
+#[test]
+fn begins_with_parentheses(rt: HostRuntime) -> Result<(), Fail> {
+    let alloc = rt.alloc();
+    let inner = vec![in alloc; trees::minus(trees::number(alloc, 1)?)]?;
+    let inner = trees::chain(alloc, trees::number(alloc, 3)?, inner)?;
+    let rest = vec![in alloc; trees::minus(trees::in_parentheses(alloc, inner)?)]?;
+    let value = trees::chain(alloc, trees::number(alloc, 5)?, rest)?;
+    expect_value(
+        &rt,
+        alloc,
+        value,
+        "Moved |instance #5 P parent null|0 start|  task n := 3|  nextstate idle|cut idle|end 0 whole|",
+    )
+}
+
+// -4 + n
+#[test]
+fn negates(rt: HostRuntime) -> Result<(), Fail> {
+    let alloc = rt.alloc();
+    let first = trees::negated(alloc, trees::number(alloc, 4)?)?;
+    let rest = vec![in alloc; trees::plus(trees::variable(alloc, "n")?)]?;
+    let value = trees::chain(alloc, first, rest)?;
+    expect_value(
+        &rt,
+        alloc,
+        value,
+        "Moved |instance #5 P parent null|0 start|  task n := -4|  nextstate idle|cut idle|end 0 whole|",
+    )
+}
+
+// 9223372036854775807 + 1 - 1
+#[test]
+fn fails_past_the_largest_number(rt: HostRuntime) -> Result<(), Fail> {
+    let alloc = rt.alloc();
+    let rest = vec![in alloc;
+        trees::plus(trees::number(alloc, 1)?),
+        trees::minus(trees::number(alloc, 1)?),
+    ]?;
+    let value = trees::chain(alloc, trees::number(alloc, i64::MAX)?, rest)?;
+    expect_value(
+        &rt,
+        alloc,
+        value,
+        "Ended |instance #5 P parent null|0 start|  failed Overflow|end 0 whole|",
+    )
+}
+
+// -(-9223372036854775807 - 1)
+#[test]
+fn fails_at_the_negative_of_the_least_number(rt: HostRuntime) -> Result<(), Fail> {
+    let alloc = rt.alloc();
+    let first = trees::negated(alloc, trees::number(alloc, i64::MAX)?)?;
+    let rest = vec![in alloc; trees::minus(trees::number(alloc, 1)?)]?;
+    let inner = trees::in_parentheses(alloc, trees::chain(alloc, first, rest)?)?;
+    expect_value(
+        &rt,
+        alloc,
+        trees::negated(alloc, inner)?,
+        "Ended |instance #5 P parent null|0 start|  failed Overflow|end 0 whole|",
+    )
+}
+
+// m + 1
+#[test]
+fn fails_at_a_variable_without_a_value(rt: HostRuntime) -> Result<(), Fail> {
+    let alloc = rt.alloc();
+    let rest = vec![in alloc; trees::plus(trees::number(alloc, 1)?)]?;
+    let value = trees::chain(alloc, trees::variable(alloc, "m")?, rest)?;
+    expect_value(
+        &rt,
+        alloc,
+        value,
+        "Ended |instance #5 P parent null|0 start|  failed Undefined|end 0 whole|",
+    )
 }
 
 #[test]
@@ -352,8 +420,11 @@ fn fails_at_the_statement_past_the_limit(rt: HostRuntime) -> Result<(), Fail> {
             "Ended 10002 Some(Some(Int(10000))) Some(Failed { why: TooLong })",
         ),
     ] {
-        let tasks = "task n := n + 1; ".repeat(alloc, count)?;
-        let system = system(alloc, tasks.as_str(), COUNTER.states)?;
+        let mut tasks = Vec::new(alloc);
+        for _ in 0..count {
+            tasks.push(trees::count(alloc)?)?;
+        }
+        let system = system(alloc, tasks)?;
         assert_eq!(rt; started(&rt, alloc, &system)?.as_str(), wanted);
     }
     Ok(())
@@ -372,6 +443,7 @@ fn started(rt: &impl Abort, alloc: Global, system: &System) -> Result<String, Fa
 
 #[test]
 fn sends_in_order(rt: HostRuntime) -> Result<(), Fail> {
+    let alloc = rt.alloc();
     for (room, wanted) in [
         (
             2usize,
@@ -382,13 +454,15 @@ fn sends_in_order(rt: HostRuntime) -> Result<(), Fail> {
             "Ended |instance #5 P parent null|0 start|  output inc(1) to env|  failed Memory|end 0 whole|0(1) from #5 to Env;",
         ),
     ] {
+        let inc = ("inc", trees::number(alloc, 1)?);
+        let val = ("val", trees::number(alloc, 2)?);
+        let start = vec![in alloc; trees::output(alloc, inc, val)?]?;
         let case = Case {
-            start: "output inc(1), val(2);",
             acts: &[Step(0)],
             room,
-            ..COUNTER
+            ..CASE
         };
-        expect(&rt, rt.alloc(), case, wanted)?;
+        expect(&rt, alloc, start, case, wanted)?;
     }
     Ok(())
 }

@@ -8,7 +8,7 @@ ghost use Rattle.sdl_system.specs.Fault.{is_clean};
 use crate::fault::{Faults, Kind, Token};
 use crate::resolve::names::Names;
 use port_model::Value;
-use sdl_parse::tree::{Chain, Expression, Link, Operator};
+use sdl_core::{Chain, Expression, Link, Operator};
 
 /// The value of a constant expression, where it has one. What refuses it is noted.
 pub fn initial_value<'t>(
@@ -143,8 +143,8 @@ fn first_token(expression: &Expression) -> Token<'_> {
     match expression {
         Expression::Number(number) => Token::of_name(&number.digits),
         Expression::Name(name) => Token::of_name(name),
-        Expression::Parenthesized { open, .. } => Token::of_word(*open),
-        Expression::Negated { minus, .. } => Token::of_word(*minus),
+        Expression::Parenthesized { parenthesis, .. } => Token::of_spelling(*parenthesis),
+        Expression::Negated { minus, .. } => Token::of_spelling(*minus),
         Expression::Chain(chain) => first_token(&chain.first),
     }
 }

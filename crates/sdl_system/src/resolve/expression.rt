@@ -11,7 +11,6 @@ use crate::fault::Faults;
 use crate::process::{Chain, Expression, Link};
 use crate::resolve::found::{if_all, push_found};
 use crate::resolve::scope::Scope;
-use sdl_parse::tree;
 use std::alloc::{AllocError, Global};
 
 /// An expression with its names resolved, or None where a fault was noted in it.
@@ -19,28 +18,28 @@ use std::alloc::{AllocError, Global};
 pub fn resolve_expression<'t>(
     alloc: Global,
     scope: Scope<'_, 't>,
-    expression: &'t tree::Expression,
+    expression: &'t sdl_core::Expression,
     faults: &mut Faults<'t>,
 ) -> Result<Option<Expression>, AllocError>
     ensures term { IfOk result (λ found. option_map term_of found ≡ term_in (scope_of scope.entry) expression.now) }
     ensures noted { IfOk result (λ found. is_clean faults.new ≡ (is_clean faults.old && is_some found)) }
 {
     match expression {
-        tree::Expression::Number(number) => Ok(Some(Expression::Number(number.value))),
-        tree::Expression::Name(name) => match scope.variable(name, faults) {
+        sdl_core::Expression::Number(number) => Ok(Some(Expression::Number(number.value))),
+        sdl_core::Expression::Name(name) => match scope.variable(name, faults) {
             Some(variable) => Ok(Some(Expression::Variable(variable))),
             None => Ok(None),
         },
-        tree::Expression::Parenthesized { inner, .. } => {
+        sdl_core::Expression::Parenthesized { inner, .. } => {
             resolve_expression(alloc, scope, inner, faults)
         }
-        tree::Expression::Negated { operand, .. } => {
+        sdl_core::Expression::Negated { operand, .. } => {
             match resolve_expression(alloc, scope, operand, faults)? {
                 Some(operand) => Ok(Some(Expression::Negated(Box::new(alloc, operand)?))),
                 None => Ok(None),
             }
         }
-        tree::Expression::Chain(chain) => resolve_chain(alloc, scope, chain, faults),
+        sdl_core::Expression::Chain(chain) => resolve_chain(alloc, scope, chain, faults),
     }
 }
 
@@ -48,7 +47,7 @@ pub fn resolve_expression<'t>(
 fn resolve_chain<'t>(
     alloc: Global,
     scope: Scope<'_, 't>,
-    chain: &'t tree::Chain,
+    chain: &'t sdl_core::Chain,
     faults: &mut Faults<'t>,
 ) -> Result<Option<Expression>, AllocError>
     ensures term { IfOk result (λ found. option_map term_of found ≡ chain_in (scope_of scope.entry) chain.now) }
@@ -67,7 +66,7 @@ fn resolve_chain<'t>(
 fn resolve_link<'t>(
     alloc: Global,
     scope: Scope<'_, 't>,
-    link: &'t tree::Link,
+    link: &'t sdl_core::Link,
     faults: &mut Faults<'t>,
 ) -> Result<Option<Link>, AllocError>
     ensures operand { IfOk result (λ found. option_map operand_of found ≡ operand_in (scope_of scope.entry) link.now) }
@@ -103,7 +102,7 @@ fn join(
 pub fn resolve_expressions<'t>(
     alloc: Global,
     scope: Scope<'_, 't>,
-    expressions: &'t [tree::Expression],
+    expressions: &'t [sdl_core::Expression],
     faults: &mut Faults<'t>,
 ) -> Result<Option<Vec<Expression>>, AllocError>
     ensures terms { IfOk result (λ found. option_map (λ list. map term_of list.items) found ≡ all_some (map (term_in (scope_of scope.entry)) expressions.now)) }

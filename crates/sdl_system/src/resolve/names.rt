@@ -4,7 +4,7 @@ ghost use Rattle.indexmap.specs.IndexSet.{index_set_len};
 
 use crate::fault::{Faults, Kind, Token};
 use indexmap::IndexSet;
-use sdl_parse::tree::Name;
+use sdl_tree::Name;
 use std::alloc::{AllocError, Global};
 
 /// Different names, each with its number: its place in the order in which they were added.

@@ -19,7 +19,8 @@ use crate::resolve::signals::Signals;
 use crate::resolve::states::{Behaviour, state_names};
 use crate::resolve::transition::{or_stop, resolve_transition};
 use crate::resolve::variables::Variables;
-use sdl_parse::tree::{NextState, ProcessDefinition, Start, Terminator};
+use sdl_core::{ProcessDefinition, Start, Terminator};
+use sdl_tree::NextState;
 use std::alloc::{AllocError, Global};
 
 /// The process of this number, by its definition.
@@ -73,7 +74,7 @@ fn resolve_start<'t>(
     let resolved = resolve_transition(alloc, scope, start.word, &start.transition, faults)?;
     match &start.transition.terminator {
         Some(Terminator::NextState(NextState::Same(dash))) => {
-            faults.note(Kind::NoState, Token::of_word(*dash));
+            faults.note(Kind::NoState, Token::of_spelling(*dash));
             Ok(None)
         }
         _ => Ok(resolved),

@@ -11,7 +11,7 @@ use crate::resolve::names::Names;
 use crate::resolve::signals::Signals;
 use crate::resolve::variables::Variables;
 use port_model::SignalId;
-use sdl_parse::tree::Name;
+use sdl_tree::Name;
 
 /// The names that stand in a process for something: signals of its own or the system's, its variables
 /// and its states.

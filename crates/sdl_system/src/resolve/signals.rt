@@ -11,7 +11,8 @@ use crate::resolve::sort::resolve_sort;
 use crate::system::{Signal, Sort};
 use indexmap::{IndexMap, IndexSet};
 use port_model::SignalId;
-use sdl_parse::tree::{Definition, LocalDefinition, Name, SignalDefinition, Tree};
+use sdl_core::{Definition, LocalDefinition, Tree};
+use sdl_tree::{SignalDefinition, SortName};
 use std::alloc::{AllocError, Global};
 
 /// What a signal is defined for.
@@ -33,7 +34,7 @@ pub struct Signals<'t> {
 }
 
 impl<'t> Signals<'t> {
-    ghost use Rattle.sdl_system.specs.Signals.{defined_signals, is_same, named, names_from, names_in, parameter_counts, signal_at, signal_count, signal_names, visible_in};
+    ghost use Rattle.sdl_system.specs.Signals.{NamesOwn, defined_signals, is_same, named, names_from, names_in, parameter_counts, signal_at, signal_count, signal_names, visible_in};
 
     fn new(alloc: Global) -> Self
         ensures signals { defined_signals result ≡ [] }
@@ -175,9 +176,11 @@ impl<'t> Signals<'t> {
     }
 
     /// The signals of the system's own level by their names.
-    pub fn own(&self, alloc: Global) -> Result<IndexMap<String, SignalId>, AllocError> {
+    pub fn own(&self, alloc: Global) -> Result<IndexMap<String, SignalId>, AllocError>
+        ensures { IfOk result (NamesOwn (signal_names self.now)) }
+    {
         let mut own = IndexMap::new(alloc);
-        for (number, (level, text)) in self.names.iter().enumerate() {
+        for (number, (level, text)) in self.names.as_slice().iter().enumerate() {
             if *level == Level::System {
                 own.insert(String::from_str(alloc, text)?, SignalId(number as u32))?;
             }
@@ -215,7 +218,7 @@ pub fn local_signals(definition: &LocalDefinition) -> &[SignalDefinition]
 
 fn resolve_sorts<'t>(
     alloc: Global,
-    names: &'t [Name],
+    names: &'t [SortName],
     faults: &mut Faults<'t>,
 ) -> Result<Vec<Sort>, AllocError>
     ensures len { IfOk result (λ sorts. vec_len sorts ≡ length names.now) }

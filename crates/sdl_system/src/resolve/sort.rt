@@ -5,15 +5,15 @@ ghost use Rattle.sdl_system.specs.Declarations.{is_integer};
 
 use crate::fault::{Faults, Kind, Token};
 use crate::system::Sort;
-use sdl_parse::tree::Name;
+use sdl_tree::SortName;
 
 /// The sort of this name. A name that is no sort's is Unknown, and stands for Integer, so that it
 /// breaks no other check.
-pub fn resolve_sort<'t>(name: &'t Name, faults: &mut Faults<'t>) -> Sort
+pub fn resolve_sort<'t>(name: &'t SortName, faults: &mut Faults<'t>) -> Sort
     ensures { is_clean faults.new ≡ (is_clean faults.old && is_integer name.now) }
 {
-    if name.text.as_str() != "Integer" {
-        faults.note(Kind::Unknown, Token::of_name(name));
+    if name.spelled.text.as_str() != "Integer" {
+        faults.note(Kind::Unknown, Token::of_name(&name.spelled));
     }
     Sort::Integer
 }

@@ -21,7 +21,8 @@ use crate::resolve::names::Names;
 use crate::resolve::scope::Scope;
 use crate::resolve::transition::{or_stop, resolve_transition};
 use port_model::{Class, Selection, SignalId};
-use sdl_parse::tree::{self, InputPart, Name, StatePart, Stimulus};
+use sdl_core::{InputPart, StatePart, Stimulus};
+use sdl_tree::Name;
 use std::alloc::{AllocError, Global};
 
 /// The names of all states of a process, in the order in which its state lists first name them.
@@ -147,7 +148,7 @@ impl Behaviour {
         alloc: Global,
         scope: Scope<'_, 't>,
         states: &[StateId],
-        input: &'t tree::Input,
+        input: &'t sdl_tree::Input,
         transition: TransitionId,
         faults: &mut Faults<'t>,
     ) -> Result<(), AllocError>
@@ -247,7 +248,7 @@ fn state_named(known: &Names<'_>, text: &str) -> Option<StateId>
 /// Notes an input with more variables than its signal has parameters as a fault of Sort.
 fn check_parameters<'t>(
     scope: Scope<'_, 't>,
-    input: &'t tree::Input,
+    input: &'t sdl_tree::Input,
     signal: SignalId,
     faults: &mut Faults<'t>,
 )

@@ -14,7 +14,8 @@ use crate::process::{Assignment, End, Output, Statement, Transition};
 use crate::resolve::expression::{resolve_expression, resolve_expressions};
 use crate::resolve::found::{if_all, push_found};
 use crate::resolve::scope::Scope;
-use sdl_parse::tree::{self, Action, NextState, Terminator, Word};
+use sdl_core::{Action, Terminator};
+use sdl_tree::{NextState, Spelling};
 use std::alloc::{AllocError, Global};
 
 /// A transition with its names resolved, or None where a fault was noted in it. `word` begins what the
@@ -22,8 +23,8 @@ use std::alloc::{AllocError, Global};
 pub fn resolve_transition<'t>(
     alloc: Global,
     scope: Scope<'_, 't>,
-    word: Word,
-    transition: &'t tree::Transition,
+    word: Spelling,
+    transition: &'t sdl_core::Transition,
     faults: &mut Faults<'t>,
 ) -> Result<Option<Transition>, AllocError>
     ensures body { IfOk result (λ found. option_map body_of found ≡ body_in (scope_of scope.entry) transition.now) }
@@ -73,7 +74,7 @@ pub fn or_stop(alloc: Global, found: Option<Transition>) -> Transition
 
 fn resolve_end<'t>(
     scope: Scope<'_, 't>,
-    word: Word,
+    word: Spelling,
     terminator: &'t Option<Terminator>,
     faults: &mut Faults<'t>,
 ) -> Option<End>
@@ -89,7 +90,7 @@ fn resolve_end<'t>(
             None => None,
         },
         None => {
-            faults.note(Kind::NoEnd, Token::of_word(word));
+            faults.note(Kind::NoEnd, Token::of_spelling(word));
             None
         }
     }
@@ -121,7 +122,7 @@ fn resolve_action<'t>(
 fn resolve_assignments<'t>(
     alloc: Global,
     scope: Scope<'_, 't>,
-    assignments: &'t [tree::Assignment],
+    assignments: &'t [sdl_core::Assignment],
     faults: &mut Faults<'t>,
 ) -> Result<Option<Vec<Assignment>>, AllocError>
     ensures assigned { IfOk result (λ found. option_map (λ list. map assigned_of list.items) found ≡ all_some (map (assigned_in (scope_of scope.entry)) assignments.now)) }
@@ -140,7 +141,7 @@ fn resolve_assignments<'t>(
 fn resolve_assignment<'t>(
     alloc: Global,
     scope: Scope<'_, 't>,
-    assignment: &'t tree::Assignment,
+    assignment: &'t sdl_core::Assignment,
     faults: &mut Faults<'t>,
 ) -> Result<Option<Assignment>, AllocError>
     ensures assigned { IfOk result (λ found. option_map assigned_of found ≡ assigned_in (scope_of scope.entry) assignment.now) }
@@ -157,7 +158,7 @@ fn resolve_assignment<'t>(
 fn resolve_outputs<'t>(
     alloc: Global,
     scope: Scope<'_, 't>,
-    outputs: &'t [tree::Output],
+    outputs: &'t [sdl_core::Output],
     faults: &mut Faults<'t>,
 ) -> Result<Option<Vec<Output>>, AllocError>
     ensures sent { IfOk result (λ found. option_map (λ list. map sent_of list.items) found ≡ all_some (map (sent_in (scope_of scope.entry)) outputs.now)) }
@@ -174,7 +175,7 @@ fn resolve_outputs<'t>(
 fn resolve_output<'t>(
     alloc: Global,
     scope: Scope<'_, 't>,
-    output: &'t tree::Output,
+    output: &'t sdl_core::Output,
     faults: &mut Faults<'t>,
 ) -> Result<Option<Output>, AllocError>
     ensures sent { IfOk result (λ found. option_map sent_of found ≡ sent_in (scope_of scope.entry) output.now) }

@@ -13,7 +13,8 @@ use crate::resolve::constant::initial_value;
 use crate::resolve::names::Names;
 use crate::resolve::sort::resolve_sort;
 use port_model::Value;
-use sdl_parse::tree::{Expression, LocalDefinition, Name, VariableGroup};
+use sdl_core::{Expression, LocalDefinition, VariableGroup};
+use sdl_tree::Name;
 use std::alloc::{AllocError, Global};
 
 /// The variables in the order of the text, and the numbers of their names. A second declaration of

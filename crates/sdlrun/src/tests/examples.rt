@@ -58,7 +58,7 @@ end 4 whole
 
 #[test]
 fn counter(rt: HostRuntime) -> Result<(), Fail> {
-    let answer = answer_of(rt.alloc(), COUNTER.as_bytes(), Options::DEFAULT.limit)?;
+    let answer = answer_of(rt.alloc(), COUNTER.as_bytes(), Options::DEFAULT_LIMIT)?;
     assert_eq!(rt; answer.written.as_slice(), COUNTER_TRACE.as_bytes());
     assert_eq!(rt; answer.outcome, Outcome::Whole);
     Ok(())

@@ -1,5 +1,6 @@
 use super::{answer_of, expect, framed};
 use crate::options::Outcome;
+use sdl_core::NotRun;
 use sdl_lex::LexError;
 use sdl_parse::ParseError;
 use sdl_report::ScriptError;
@@ -9,7 +10,7 @@ use std::alloc::{AllocError, Global};
 use std::test::Fail;
 
 /// A text, and the line that refuses it.
-const TEXTS: [(&str, &str); 16] = [
+const TEXTS: [(&str, &str); 18] = [
     ("system S; # ", "lex 1:11 BadByte"),
     ("system S; /* x", "lex 1:11 OpenComment"),
     ("system S comment 'x;", "lex 1:18 OpenString"),
@@ -21,16 +22,24 @@ const TEXTS: [(&str, &str); 16] = [
     ("", "parse 1:1 Expected system"),
     ("system S signal a;", "parse 1:10 Expected ;"),
     (
-        "system S; signal a; endsystem S;",
-        "parse 1:21 Expected process",
-    ),
-    (
         "system S; process P; start; stop; endprocess P; process Q; start; stop; endprocess; endsystem;",
-        "parse 1:49 Expected endsystem",
+        "parse 1:49 LeftOut process",
     ),
     (
         "system S; process P; start; stop; endprocess Q; endsystem S;",
         "parse 1:46 Expected P",
+    ),
+    (
+        "system S; process P(1); start; stop; endprocess; endsystem;",
+        "parse 1:20 LeftOut (",
+    ),
+    (
+        "system S; block B; endblock; endsystem;",
+        "parse 1:11 LeftOut block",
+    ),
+    (
+        "system S; CHANNEL C from env to P with a; endchannel; endsystem;",
+        "parse 1:11 LeftOut channel",
     ),
     ("system S; signal ;", "parse 1:18 Expected name"),
     (
@@ -50,14 +59,10 @@ const TEXTS: [(&str, &str); 16] = [
 ];
 
 /// The body of a process, and the line that refuses the text round it.
-const BODIES: [(&str, &str); 17] = [
+const BODIES: [(&str, &str); 16] = [
     (
         "dcl n Integer := ; start; stop;",
         "parse 1:67 Expected expression",
-    ),
-    (
-        "start; stop; state s; save a;",
-        "parse 1:72 Expected endprocess",
     ),
     (
         "dcl n Integer := (((((((((((((((((((((((((((((((((((((((((((((((((((((((((((((((((1))))))))))))))))))))))))))))))))))))))))))))))))))))))))))))))))); start; stop;",
@@ -115,6 +120,55 @@ const BODIES: [(&str, &str); 17] = [
     ),
 ];
 
+/// The body of a process that a run doesn't know, and what the text round it is refused for.
+const NOT_RUN: [(&str, &str); 24] = [
+    ("timer t; start; stop;", "1:50 LeftOut timer"),
+    (
+        "synonym k Integer = 1; start; stop;",
+        "1:50 LeftOut synonym",
+    ),
+    ("signallist l = a; start; stop;", "1:50 LeftOut signallist"),
+    ("signalset a; start; stop;", "1:50 LeftOut signalset"),
+    ("FPAR k Integer; start; stop;", "1:50 LeftOut fpar"),
+    ("start; Here: stop;", "1:57 LeftOut Here"),
+    ("start; go: output a; stop;", "1:57 LeftOut go"),
+    ("start; join x;", "1:57 LeftOut join"),
+    (
+        "start; decision 1; (1): stop; enddecision;",
+        "1:57 LeftOut decision",
+    ),
+    ("start; create P; stop;", "1:57 LeftOut create"),
+    ("start; set(now, t); stop;", "1:57 LeftOut set"),
+    ("start; reset(t); stop;", "1:57 LeftOut reset"),
+    ("start; output a to self; stop;", "1:66 LeftOut to"),
+    ("start; output v(1 * 2); stop;", "1:68 LeftOut *"),
+    ("start; output v(1 + 2 = 3); stop;", "1:72 LeftOut ="),
+    ("start; output v(NOT 1); stop;", "1:66 LeftOut not"),
+    ("start; output v(True); stop;", "1:66 LeftOut true"),
+    ("start; output v(active(t)); stop;", "1:66 LeftOut active"),
+    (
+        "start; nextstate s; state *; input a; stop;",
+        "1:76 LeftOut *",
+    ),
+    (
+        "start; nextstate s; state s; input *; stop;",
+        "1:85 LeftOut *",
+    ),
+    ("start; nextstate s; state s; save a;", "1:79 LeftOut save"),
+    (
+        "start; nextstate s; state s; priority input a; stop;",
+        "1:79 LeftOut priority",
+    ),
+    (
+        "start; nextstate s; state s; input a; provided n = 1; stop;",
+        "1:88 LeftOut provided",
+    ),
+    (
+        "start; stop; connection x: stop;",
+        "1:63 LeftOut connection",
+    ),
+];
+
 /// A script for a process that inputs a and v(Integer), and the line that refuses it.
 const SCRIPTS: [(&str, &str); 16] = [
     ("x", "script 1 Syntax"),
@@ -143,6 +197,11 @@ fn refused_texts(rt: HostRuntime) -> Result<(), Fail> {
     for (body, line) in BODIES {
         let text = framed(rt.alloc(), body, "")?;
         expect(&rt, text.as_str(), 1, line, Outcome::TextRefused)?;
+    }
+    for (body, refusal) in NOT_RUN {
+        let text = framed(rt.alloc(), body, "")?;
+        let line = format!(in rt.alloc(); "parse {refusal}")?;
+        expect(&rt, text.as_str(), 1, line.as_str(), Outcome::TextRefused)?;
     }
     for (script, line) in SCRIPTS {
         let body = "start; nextstate s; state s; input a, v; nextstate -;";
@@ -251,12 +310,14 @@ fn refusals_for_want_of_memory(rt: HostRuntime) -> Result<(), Fail> {
     let lines = [
         format!(in rt.alloc(); "{}", ParseError::Lex(LexError::Memory))?,
         format!(in rt.alloc(); "{}", ParseError::Memory)?,
+        format!(in rt.alloc(); "{}", NotRun::Memory)?,
         format!(in rt.alloc(); "{}", BuildError::Memory)?,
         format!(in rt.alloc(); "{}", ScriptError::Memory)?,
         format!(in rt.alloc(); "{}", RunError::Memory)?,
     ];
     let wanted = [
         "lex Memory",
+        "parse Memory",
         "parse Memory",
         "build Memory",
         "script Memory",

@@ -3,7 +3,7 @@ use crate::options::{Options, Outcome};
 use std::process::Abort;
 use std::test::Fail;
 
-const LIMIT: u64 = Options::DEFAULT.limit;
+const LIMIT: u64 = Options::DEFAULT_LIMIT;
 
 const COUNTER: &str =
     "system S; signal inc, get, quit, val(Integer); process P; dcl n Integer := 0; start; nextstate idle; state idle; input inc; task n := n + 1; nextstate -; input get; output val(n); nextstate -; input quit; stop; endstate idle; endprocess P; endsystem S;";
@@ -18,7 +18,14 @@ fn counter(rt: HostRuntime) -> Result<(), Fail> {
         "instance #1 P parent null | 0 start |   nextstate idle | 0 input inc from env |   task n := 1 |   nextstate idle | cut idle | end 0 cut";
     expect(&rt, text.as_str(), 2, cut, Outcome::Cut)?;
     let idle = "instance #1 P parent null | 0 start |   nextstate idle | rest idle | end 0 whole";
-    expect(&rt, COUNTER, LIMIT, idle, Outcome::Whole)
+    expect(&rt, COUNTER, LIMIT, idle, Outcome::Whole)?;
+    expect(
+        &rt,
+        "system S; signal a; endsystem;",
+        LIMIT,
+        "end 0 whole",
+        Outcome::Whole,
+    )
 }
 
 /// The body of the process, the script, and the events with the end line.

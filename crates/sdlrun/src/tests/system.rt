@@ -1,5 +1,6 @@
 //! The system that the tests read scripts for and write reports of.
 
+use sdl_core::narrow;
 use sdl_parse::parse;
 use sdl_system::{System, build};
 use std::alloc::Global;
@@ -23,7 +24,12 @@ endprocess P;
 endsystem S;
 ";
 
-pub fn test_system(alloc: Global) -> Result<System, Fail> {
-    let tree = parse(alloc, SPECIFICATION.as_bytes())?;
+/// The system of a specification.
+pub fn system_of(alloc: Global, text: &str) -> Result<System, Fail> {
+    let tree = narrow(alloc, parse(alloc, text.as_bytes())?)?;
     Ok(build(alloc, &tree)?)
+}
+
+pub fn test_system(alloc: Global) -> Result<System, Fail> {
+    system_of(alloc, SPECIFICATION)
 }

@@ -1,7 +1,7 @@
 use Rattle.std.proofs.Common.{◌∙◌, ◌&&◌, ap, sym}
 use Rattle.std.specs.List.{list_all}
 use Rattle.std.proofs.lemmas.List.{take_all}
-use Rattle.sdl_parse.specs.declared.tree.Chain.{out-Chain}
+use Rattle.sdl_core.specs.declared.expressions.Chain.{out-Chain}
 use Rattle.sdl_system.specs.Constant.{link_names_nothing, names_nothing}
 use Rattle.sdl_system.proofs.Chains.{chain_names_nothing-out}
 use Rattle.sdl_system.proofs.resolve.constant.+is_constant.Goals as goal

@@ -1,6 +1,6 @@
 use Rattle.std.proofs.Common.{◌≡◌, ◌&&◌, take}
 use Rattle.std.specs.List.{list_all}
-use Rattle.sdl_parse.specs.declared.tree.Chain.{out-Chain}
+use Rattle.sdl_core.specs.declared.expressions.Chain.{out-Chain}
 use Rattle.sdl_system.specs.Constant.{link_names_nothing, names_nothing}
 use Rattle.sdl_system.specs.Fault.{is_clean}
 use Rattle.sdl_system.proofs.resolve.constant.+is_constant.Given as goal

@@ -1,5 +1,5 @@
 use Rattle.std.proofs.Common.{◌≡◌, fold, take}
-use Rattle.sdl_parse.specs.declared.tree.Chain.{out-Chain}
+use Rattle.sdl_core.specs.declared.expressions.Chain.{out-Chain}
 use Rattle.sdl_system.specs.Constant.{constant_of, operation_of}
 use Rattle.sdl_system.proofs.resolve.constant.+value_of.Given as goal
 

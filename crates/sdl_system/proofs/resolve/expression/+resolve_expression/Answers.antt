@@ -1,6 +1,6 @@
 use Rattle.std.proofs.Common.{◌∙◌, sym, ap, map, option_map}
 use Rattle.std.proofs.lemmas.Result.{IfOk-weaker}
-use Rattle.sdl_parse.specs.declared.tree.Chain.{out-Chain}
+use Rattle.sdl_core.specs.declared.expressions.Chain.{out-Chain}
 use Rattle.sdl_system.specs.Expression.{operand_in, term_in}
 use Rattle.sdl_system.specs.Partial.{all_some, both}
 use Rattle.sdl_system.specs.Scope.{scope_of}

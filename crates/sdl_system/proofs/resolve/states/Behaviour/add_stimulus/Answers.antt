@@ -1,10 +1,10 @@
 use Rattle.std.proofs.Common.{OnOk}
 use borrow.Enum.Known.{ValuesAt}
 use borrow.Enum.Total.{values_d}
-use Rattle.sdl_parse.specs.contracts.tree.Stimulus as contracts
-use Rattle.sdl_parse.specs.declared.tree.InputPart.{InputPart}
-use Rattle.sdl_parse.specs.declared.tree.Stimulus.{Stimulus}
-use Rattle.sdl_parse.specs.declared.tree.Stimulus.TheVariants.{Input}
+use Rattle.sdl_core.specs.contracts.behaviour.Stimulus as contracts
+use Rattle.sdl_core.specs.declared.behaviour.InputPart.{InputPart}
+use Rattle.sdl_core.specs.declared.behaviour.Stimulus.{Stimulus}
+use Rattle.sdl_core.specs.declared.behaviour.Stimulus.TheVariants.{Input}
 use Rattle.sdl_system.specs.Fault.{is_clean}
 use Rattle.sdl_system.specs.Receptions.{Enters, input_part_receptions, is_right_input_part, is_right_stimulus, states_of, stimulus_receptions}
 use Rattle.sdl_system.specs.Scope.{scope_of}

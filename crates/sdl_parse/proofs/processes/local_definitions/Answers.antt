@@ -1,0 +1,32 @@
+use Rattle.std.proofs.Common.{rules, arith, map}
+use Rattle.std.proofs.lemmas.Grind.{common_steps}
+use Rattle.sdl_tree.specs.Views.{plain_local}
+use Rattle.sdl_parse.specs.Processes as spec
+use Rattle.sdl_parse.specs.Reading.{repeated_from}
+use Rattle.sdl_parse.proofs.Turns.{one_more, no_more, map_push}
+use Rattle.sdl_parse.proofs.processes.local_definitions.Goals as goal
+
+pub returns-in_err-local_definition : goal.returns-in_err-local_definition
+unfolding repeated_from
+returns-in_err-local_definition c =
+    let e = one_more (λ n. repeated_from spec.begins_local spec.local_definition n (map plain_local c.loop-turn.found.items) c.loop-turn.cursor) _ c.loop-turn._turn c.loop-turn-test.true c.loop-turn.invariant in
+    first_of (search rules, grind (arith, common_steps))
+
+pub returns-then-not-begins_local : goal.returns-then-not-begins_local
+unfolding repeated_from
+returns-then-not-begins_local c =
+    let e = one_more (λ n. repeated_from spec.begins_local spec.local_definition n (map plain_local c.loop-turn.found.items) c.loop-turn.cursor) _ c.loop-turn._turn c.loop-turn-test.true c.loop-turn.invariant in
+    first_of (search rules, grind (arith, common_steps))
+
+pub loop-turn-preserved : goal.loop-turn-preserved
+unfolding repeated_from
+loop-turn-preserved c =
+    let e = one_more (λ n. repeated_from spec.begins_local spec.local_definition n (map plain_local c.loop-turn.found.items) c.loop-turn.cursor) _ c.loop-turn._turn c.loop-turn-test.true c.loop-turn.invariant in
+    let m = map_push plain_local c.loop-turn.found.items c.in_ok-local_definition.field-0 in
+    first_of (search rules, grind (arith, common_steps))
+
+pub returns : goal.returns
+unfolding repeated_from
+returns c =
+    let e = no_more (λ n. repeated_from spec.begins_local spec.local_definition n (map plain_local c.loop-turn.found.items) c.loop-turn.cursor) _ c.loop-turn._turn c.loop-turn-test.false c.loop-turn.invariant in
+    first_of (search rules, grind (arith, common_steps))

@@ -1,0 +1,94 @@
+//! Channels and their connections.
+
+ghost use Rattle.std.specs.Prelude.{◌≡◌, option_map};
+ghost use Rattle.sdl_tree.specs.Views.{plain_end, plain_path, plain_channel, plain_connection};
+ghost use Rattle.sdl_parse.specs.Channels as spec;
+ghost use Rattle.sdl_parse.specs.Choices.{optional};
+ghost use Rattle.sdl_parse.specs.Reading.{sees};
+ghost use Rattle.sdl_parse.specs.Reads.{Reads};
+ghost use Rattle.sdl_tree.specs.declared.mark.Mark.TheVariants as mark;
+
+use crate::cursor::Cursor;
+use crate::error::Wanted;
+use crate::fault::Fault;
+use crate::names::{end_name, names};
+use crate::parts::end;
+use crate::signals::sigs;
+use crate::word::Word;
+use sdl_tree::{ChannelConnection, ChannelDefinition, ChannelEnd, ChannelPath, Mark};
+use std::alloc::Global;
+
+/// `channel = "channel" NAME ["nodelay"] path [path] "endchannel" [NAME] end`
+#[tactic(auto, unfolding(crate::specs::Channels::channel))]
+pub fn channel(alloc: Global, cursor: &mut Cursor<'_>) -> Result<ChannelDefinition, Fault>
+    ensures { Reads plain_channel (spec.channel cursor.old) result cursor.new }
+{
+    let word = cursor.expect(Mark::Channel)?;
+    let name = cursor.name(alloc)?;
+    let is_nodelay = cursor.eat(Mark::NoDelay);
+    let first = path(alloc, cursor)?;
+    let second = second_path(alloc, cursor)?;
+    cursor.expect(Mark::EndChannel)?;
+    end_name(alloc, cursor, &name)?;
+    end(cursor)?;
+    Ok(ChannelDefinition {
+        word,
+        name,
+        is_nodelay,
+        first,
+        second,
+    })
+}
+
+/// `[path]`
+#[tactic(auto, unfolding(crate::specs::Choices::optional, crate::specs::Choices::mapped))]
+fn second_path(alloc: Global, cursor: &mut Cursor<'_>) -> Result<Option<ChannelPath>, Fault>
+    ensures { Reads (λ p. option_map plain_path p) (optional (sees mark.From) spec.path cursor.old) result cursor.new }
+{
+    if !cursor.sees(Mark::From) {
+        return Ok(None);
+    }
+    Ok(Some(path(alloc, cursor)?))
+}
+
+/// `path = "from" point "to" point "with" sigs end`
+#[tactic(auto, unfolding(crate::specs::Channels::path))]
+fn path(alloc: Global, cursor: &mut Cursor<'_>) -> Result<ChannelPath, Fault>
+    ensures { Reads plain_path (spec.path cursor.old) result cursor.new }
+{
+    cursor.expect(Mark::From)?;
+    let from = point(alloc, cursor)?;
+    cursor.expect(Mark::To)?;
+    let to = point(alloc, cursor)?;
+    cursor.expect(Mark::With)?;
+    let signals = sigs(alloc, cursor)?;
+    end(cursor)?;
+    Ok(ChannelPath { from, to, signals })
+}
+
+/// `point = "env" | NAME`
+#[tactic(auto, unfolding(crate::specs::Channels::point, crate::specs::Channels::env, crate::specs::Choices::either, crate::specs::Choices::mapped, crate::specs::Reading::name))]
+fn point(alloc: Global, cursor: &mut Cursor<'_>) -> Result<ChannelEnd, Fault>
+    ensures { Reads plain_end (spec.point cursor.old) result cursor.new }
+{
+    if cursor.sees(Mark::Env) {
+        return Ok(ChannelEnd::Env(cursor.expect(Mark::Env)?));
+    }
+    match cursor.front() {
+        Some(Word::Name(_)) => Ok(ChannelEnd::Agent(cursor.name(alloc)?)),
+        _ => Err(Fault::Expected(Wanted::Point)),
+    }
+}
+
+/// `connect = "connect" NAME {"," NAME} "and" NAME {"," NAME} end`
+#[tactic(auto, unfolding(crate::specs::Channels::connect))]
+pub fn connect(alloc: Global, cursor: &mut Cursor<'_>) -> Result<ChannelConnection, Fault>
+    ensures { Reads plain_connection (spec.connect cursor.old) result cursor.new }
+{
+    let word = cursor.expect(Mark::Connect)?;
+    let outer = names(alloc, cursor)?;
+    cursor.expect(Mark::And)?;
+    let inner = names(alloc, cursor)?;
+    end(cursor)?;
+    Ok(ChannelConnection { word, outer, inner })
+}

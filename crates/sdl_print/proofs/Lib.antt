@@ -1,0 +1,11 @@
+pub mod ChainLemmas
+pub mod Known
+pub mod ListLemmas
+pub mod MarkLemmas
+pub mod ReadLemmas
+pub mod RoundTripLemmas
+pub mod TokenLemmas
+pub mod TransitionLemmas
+pub mod WritableDefinitions
+pub mod WritableExpressions
+pub mod WritableTransitions

@@ -1,0 +1,3 @@
+pub mod Laws
+pub mod RoundTrip
+pub mod Wrote

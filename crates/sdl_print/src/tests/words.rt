@@ -1,0 +1,130 @@
+//! Reserved words, in lower and in upper case, are no names.
+
+use super::expect;
+use std::process::Abort;
+use std::test::Fail;
+
+/// Keywords and literals.
+static KEYWORDS: [&str; 57] = [
+    "active",
+    "and",
+    "block",
+    "channel",
+    "comment",
+    "connect",
+    "connection",
+    "create",
+    "dcl",
+    "decision",
+    "else",
+    "endblock",
+    "endchannel",
+    "endconnection",
+    "enddecision",
+    "endprocess",
+    "endstate",
+    "endsystem",
+    "env",
+    "fpar",
+    "from",
+    "input",
+    "join",
+    "mod",
+    "nextstate",
+    "nodelay",
+    "not",
+    "now",
+    "offspring",
+    "or",
+    "output",
+    "parent",
+    "priority",
+    "process",
+    "provided",
+    "rem",
+    "reset",
+    "save",
+    "self",
+    "sender",
+    "set",
+    "signal",
+    "signallist",
+    "signalset",
+    "start",
+    "state",
+    "stop",
+    "synonym",
+    "system",
+    "task",
+    "timer",
+    "to",
+    "with",
+    "xor",
+    "true",
+    "false",
+    "null",
+];
+
+/// Words of the standard that the language leaves out.
+static LEFT_OUT: [&str; 34] = [
+    "alternative",
+    "any",
+    "call",
+    "exception",
+    "exceptionhandler",
+    "export",
+    "exported",
+    "gate",
+    "if",
+    "import",
+    "imported",
+    "inherits",
+    "interface",
+    "macro",
+    "macrodefinition",
+    "newtype",
+    "none",
+    "package",
+    "procedure",
+    "referenced",
+    "remote",
+    "return",
+    "revealed",
+    "select",
+    "service",
+    "signalroute",
+    "substructure",
+    "syntype",
+    "this",
+    "type",
+    "via",
+    "view",
+    "viewed",
+    "virtual",
+];
+
+#[test]
+fn reserves_words(rt: HostRuntime) -> Result<(), Fail> {
+    for word in &KEYWORDS {
+        refused(&rt, "system ", word, "parse 1:8 Expected name")?;
+    }
+    for word in &LEFT_OUT {
+        let line = format!(in rt.alloc(); "parse 1:11 LeftOut {word}")?;
+        refused(&rt, "system S; ", word, line.as_str())?;
+    }
+    Ok(())
+}
+
+/// Compares the line that refuses a word behind this text, in lower and in upper case.
+fn refused<R: AllocGlobal + Abort>(
+    rt: &R,
+    before: &str,
+    word: &str,
+    line: &str,
+) -> Result<(), Fail> {
+    let text = format!(in rt.alloc(); "{before}{word};")?;
+    expect(rt, text.as_str(), line)?;
+    let upper = word.to_ascii_uppercase(rt.alloc())?;
+    let text = format!(in rt.alloc(); "{before}{upper};")?;
+    expect(rt, text.as_str(), line)
+}
