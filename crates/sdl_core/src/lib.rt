@@ -11,8 +11,6 @@ mod definitions;
 mod expressions;
 mod narrowing;
 mod not_run;
-#[cfg(test)]
-mod tests;
 
 pub use behaviour::{
     Action, Assignment, InputPart, Output, Start, StatePart, Stimulus, Terminator, Transition,
