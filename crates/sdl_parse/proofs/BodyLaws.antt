@@ -10,22 +10,22 @@ use Rattle.sdl_tree.specs.Spells.Parts.{Words, Separated, SpellsName, SpellsEnd}
 use Rattle.sdl_tree.specs.Tree.{Transition, Stimulus, InputPart, PriorityInput, SavePart, ContinuousSignal, States, StateList, StateAll, BodyPart, StatePart, FreeAction}
 use Rattle.sdl_tree.specs.Words.{Fixed}
 use Rattle.sdl_tree.specs.Words as word
-use Rattle.sdl_parse.specs.Choices.{mapped}
-use Rattle.sdl_parse.specs.Names.{names, end_name}
-use Rattle.sdl_parse.specs.Parts.{end}
-use Rattle.sdl_parse.specs.Reading.{Refused, and_then, pure, front, rest, same_mark, sees, expect, name, repeated, in_parentheses, sees_name}
-use Rattle.sdl_parse.specs.States.{stimulus, begins_stimulus, all_states, states, is_named, one_of, end_state_name, end_state, state_part, end_connection, connection, body_part, begins_body_part}
-use Rattle.sdl_parse.specs.Transitions.{begins_statement, begins_action, begins_terminator, trans}
-use Rattle.sdl_parse.proofs.ChoiceLaws.{either_here, either_other, mapped_is, other}
-use Rattle.sdl_parse.proofs.DecisionLaws.{trans_complete}
-use Rattle.sdl_parse.proofs.Laws.{read_as, Complete, bind_is, if_true, eaten, not_eaten, sees_ok, expect_again, name_again, shortens_name}
-use Rattle.sdl_parse.proofs.ListLaws.{repeated_complete}
-use Rattle.sdl_parse.proofs.NameLaws.{names_complete, end_name_complete, name_complete}
-use Rattle.sdl_parse.proofs.PartLaws.{end_complete, end_begins, end_no_open, end_no_comma, in_parentheses_complete}
-use Rattle.sdl_parse.proofs.StateComplete.{stimulus_complete, name_no_star}
-use Rattle.sdl_parse.proofs.StateCounts.{stimulus_weighs}
-use Rattle.sdl_parse.proofs.StateLaws.{one_named}
-use Rattle.sdl_parse.proofs.TransitionLaws.{NoStatement}
+use Rattle.sdl_read.specs.Choices.{mapped}
+use Rattle.sdl_read.specs.Names.{names, end_name}
+use Rattle.sdl_read.specs.Parts.{end}
+use Rattle.sdl_read.specs.Reading.{Refused, and_then, pure, front, rest, same_mark, sees, expect, name, repeated, in_parentheses, sees_name}
+use Rattle.sdl_behaviour.specs.States.{stimulus, begins_stimulus, all_states, states, is_named, one_of, end_state_name, end_state, state_part, end_connection, connection, body_part, begins_body_part}
+use Rattle.sdl_behaviour.specs.Transitions.{begins_statement, begins_action, begins_terminator, trans}
+use Rattle.sdl_read.proofs.ChoiceLaws.{either_here, either_other, mapped_is, other}
+use Rattle.sdl_behaviour.proofs.DecisionLaws.{trans_complete}
+use Rattle.sdl_read.proofs.Laws.{read_as, Complete, bind_is, if_true, eaten, not_eaten, sees_ok, expect_again, name_again, shortens_name}
+use Rattle.sdl_read.proofs.ListLaws.{repeated_complete}
+use Rattle.sdl_read.proofs.NameLaws.{names_complete, end_name_complete, name_complete}
+use Rattle.sdl_read.proofs.PartLaws.{end_complete, end_begins, end_no_open, end_no_comma, in_parentheses_complete}
+use Rattle.sdl_behaviour.proofs.StateComplete.{stimulus_complete, name_no_star}
+use Rattle.sdl_behaviour.proofs.StateCounts.{stimulus_weighs}
+use Rattle.sdl_behaviour.proofs.StateLaws.{one_named}
+use Rattle.sdl_behaviour.proofs.TransitionLaws.{NoStatement}
 
 -- ---- stimuli in a row
 

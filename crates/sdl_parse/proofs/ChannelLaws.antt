@@ -7,17 +7,17 @@ use Rattle.sdl_tree.specs.Tree.{ChannelEnd, Env, Agent, ChannelPath, ChannelDefi
 use Rattle.sdl_tree.specs.Words.{Fixed}
 use Rattle.sdl_tree.specs.Words as word
 use Rattle.sdl_parse.specs.Channels.{env, point, path, channel, connect}
-use Rattle.sdl_parse.specs.Choices.{mapped, optional}
-use Rattle.sdl_parse.specs.Names.{names, end_name}
-use Rattle.sdl_parse.specs.Parts.{end}
-use Rattle.sdl_parse.specs.Reading.{Parser, ◌>>=◌, ◌>>◌, pure, eat, sees, after, same_mark, front, expect, name}
-use Rattle.sdl_parse.specs.Signals.{sigs}
-use Rattle.sdl_parse.proofs.ChoiceLaws.{either_sound, either_here, either_other, mapped_sound, mapped_is, optional_sound, optional_complete}
-use Rattle.sdl_parse.proofs.CountLaws.{Counts, Weighs, light, weighs_bind, counts_bind, counts_pure, counts_expect, weighs_expect, counts_name, weighs_name, weighs_mapped, weighs_either, counts_eat, counts_end, counts_optional}
-use Rattle.sdl_parse.proofs.Laws.{read_as, Sound, as_read, bind_ok, bind_is, ate, after_seen, after_other, rest_again, sees_again, expect_ok, expect_again, name_ok, name_again}
-use Rattle.sdl_parse.proofs.NameLaws.{names_sound, names_complete, names_weigh, end_name_sound, end_name_complete, counts_end_name}
-use Rattle.sdl_parse.proofs.PartLaws.{end_sound, end_complete, end_no_comma}
-use Rattle.sdl_parse.proofs.SignalLaws.{sigs_sound, sigs_complete, sigs_weigh}
+use Rattle.sdl_read.specs.Choices.{mapped, optional}
+use Rattle.sdl_read.specs.Names.{names, end_name}
+use Rattle.sdl_read.specs.Parts.{end}
+use Rattle.sdl_read.specs.Reading.{Parser, ◌>>=◌, ◌>>◌, pure, eat, sees, after, same_mark, front, expect, name}
+use Rattle.sdl_read.specs.Signals.{sigs}
+use Rattle.sdl_read.proofs.ChoiceLaws.{either_sound, either_here, either_other, mapped_sound, mapped_is, optional_sound, optional_complete}
+use Rattle.sdl_read.proofs.CountLaws.{Counts, Weighs, light, weighs_bind, counts_bind, counts_pure, counts_expect, weighs_expect, counts_name, weighs_name, weighs_mapped, weighs_either, counts_eat, counts_end, counts_optional}
+use Rattle.sdl_read.proofs.Laws.{read_as, Sound, as_read, bind_ok, bind_is, ate, after_seen, after_other, rest_again, sees_again, expect_ok, expect_again, name_ok, name_again}
+use Rattle.sdl_read.proofs.NameLaws.{names_sound, names_complete, names_weigh, end_name_sound, end_name_complete, counts_end_name}
+use Rattle.sdl_read.proofs.PartLaws.{end_sound, end_complete, end_no_comma}
+use Rattle.sdl_read.proofs.SignalLaws.{sigs_sound, sigs_complete, sigs_weigh}
 
 -- ---- point
 

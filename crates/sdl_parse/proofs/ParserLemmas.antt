@@ -12,9 +12,9 @@ use Rattle.sdl_parse.specs.declared.error.ParseError.{ParseError}
 use Rattle.sdl_parse.specs.declared.error.ParseError.TheVariants.{Lex, Expected, LeftOut, TooDeep, Memory}
 use Rattle.sdl_parse.specs.Parser.{SpellsText, HasNoTree, BeginAt, IsTooDeepAt, Refuses, IsShallow}
 use Rattle.sdl_parse.specs.Processes.{Body}
-use Rattle.sdl_parse.specs.Reading.{Refusal, Deep}
+use Rattle.sdl_read.specs.Reading.{Refusal, Deep}
 use Rattle.sdl_parse.specs.Systems.{specification}
-use Rattle.sdl_parse.proofs.Laws.{read_as}
+use Rattle.sdl_read.proofs.Laws.{read_as}
 use Rattle.sdl_parse.proofs.ProcessLaws.{IsSoundBody, IsWholeBody}
 use Rattle.sdl_parse.proofs.SystemLaws.{specification_sound, too_deep, one_tree, no_tree}
 

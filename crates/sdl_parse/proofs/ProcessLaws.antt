@@ -10,26 +10,26 @@ use Rattle.sdl_tree.specs.Spells.Parts.{Words, Repeated, Optional}
 use Rattle.sdl_tree.specs.Tree.{Expr, Numeral, Named, Keyword, Active, Paren, Unary, Binary, Bound, Counts, LocalDefinition, LocalSignals, LocalSignalList, LocalSynonyms, SignalSet, Variables, Timers, Transition, BodyPart, ProcessDefinition}
 use Rattle.sdl_tree.specs.Words.{Fixed}
 use Rattle.sdl_tree.specs.Words as word
-use Rattle.sdl_parse.specs.Expressions.{expr}
-use Rattle.sdl_parse.specs.Names.{end_name}
-use Rattle.sdl_parse.specs.Parts.{end}
+use Rattle.sdl_read.specs.Expressions.{expr}
+use Rattle.sdl_read.specs.Names.{end_name}
+use Rattle.sdl_read.specs.Parts.{end}
 use Rattle.sdl_parse.specs.Processes.{Body, begins_expression, count, maximum, bound, counts, some_counts, begins_local, local_definition, process}
-use Rattle.sdl_parse.specs.Reading.{pure, sees, same_mark, front, expect, name, repeated}
-use Rattle.sdl_parse.specs.Signals.{signal_list, signal_set, signal}
+use Rattle.sdl_read.specs.Reading.{pure, sees, same_mark, front, expect, name, repeated}
+use Rattle.sdl_read.specs.Signals.{signal_list, signal_set, signal}
 use Rattle.sdl_parse.specs.Variables.{dcl, timer, fpar}
 use Rattle.sdl_parse.specs.Synonyms.{synonym}
-use Rattle.sdl_parse.proofs.ChoiceLaws.{either_sound, either_here, either_other, other, mapped_sound, mapped_is, optional_sound, optional_complete}
-use Rattle.sdl_parse.proofs.CountLaws as depth
-use Rattle.sdl_parse.proofs.CountLaws.{Weighs, light, weighs_bind, counts_bind, counts_pure, counts_expect, weighs_expect, counts_name, weighs_expr, counts_optional, weighs_either, weighs_mapped, counts_end, counts_repeated, deepens_opening, deepens_last}
-use Rattle.sdl_parse.proofs.DepthLaws.{Closes, Deepens, balanced_on, balanced_between, deepens_bind, deepens_expect, closed_at, opened, closed}
-use Rattle.sdl_parse.proofs.ExpressionComplete.{expr_complete, stops_at_close, stops_at_comma}
-use Rattle.sdl_parse.proofs.ExpressionSound.{expr_sound}
-use Rattle.sdl_parse.proofs.Laws.{read_as, Sound, Complete, as_read, bind_ok, bind_is, sees_again, expect_ok, expect_again, name_ok, name_again}
-use Rattle.sdl_parse.proofs.ListLaws.{repeated_sound, repeated_complete}
-use Rattle.sdl_parse.proofs.NameLaws.{end_name_sound, end_name_complete, counts_end_name}
-use Rattle.sdl_parse.proofs.OperatorLaws.{Stops}
-use Rattle.sdl_parse.proofs.PartLaws.{end_sound, end_complete, end_no_open, close_no_comma}
-use Rattle.sdl_parse.proofs.SignalLaws.{signal_list_sound, signal_list_complete, signal_list_weighs, signal_set_sound, signal_set_complete, signal_set_weighs, signal_sound, signal_complete, signal_weighs}
+use Rattle.sdl_read.proofs.ChoiceLaws.{either_sound, either_here, either_other, other, mapped_sound, mapped_is, optional_sound, optional_complete}
+use Rattle.sdl_read.proofs.CountLaws as depth
+use Rattle.sdl_read.proofs.CountLaws.{Weighs, light, weighs_bind, counts_bind, counts_pure, counts_expect, weighs_expect, counts_name, weighs_expr, counts_optional, weighs_either, weighs_mapped, counts_end, counts_repeated, deepens_opening, deepens_last}
+use Rattle.sdl_read.proofs.DepthLaws.{Closes, Deepens, balanced_on, balanced_between, deepens_bind, deepens_expect, closed_at, opened, closed}
+use Rattle.sdl_read.proofs.ExpressionComplete.{expr_complete, stops_at_close, stops_at_comma}
+use Rattle.sdl_read.proofs.ExpressionSound.{expr_sound}
+use Rattle.sdl_read.proofs.Laws.{read_as, Sound, Complete, as_read, bind_ok, bind_is, sees_again, expect_ok, expect_again, name_ok, name_again}
+use Rattle.sdl_read.proofs.ListLaws.{repeated_sound, repeated_complete}
+use Rattle.sdl_read.proofs.NameLaws.{end_name_sound, end_name_complete, counts_end_name}
+use Rattle.sdl_read.proofs.OperatorLaws.{Stops}
+use Rattle.sdl_read.proofs.PartLaws.{end_sound, end_complete, end_no_open, close_no_comma}
+use Rattle.sdl_read.proofs.SignalLaws.{signal_list_sound, signal_list_complete, signal_list_weighs, signal_set_sound, signal_set_complete, signal_set_weighs, signal_sound, signal_complete, signal_weighs}
 use Rattle.sdl_parse.proofs.VariableLaws.{fpar_sound, fpar_complete, counts_fpar, dcl_sound, dcl_complete, dcl_weighs, timer_sound, timer_complete, timer_weighs}
 use Rattle.sdl_parse.proofs.SynonymLaws.{synonym_sound, synonym_complete, synonym_weighs}
 

@@ -7,18 +7,18 @@ use Rattle.sdl_tree.specs.Tree.{SynonymDefinition}
 use Rattle.sdl_tree.specs.Words.{Fixed}
 use Rattle.sdl_tree.specs.declared.mark.Mark.TheVariants as mark
 use Rattle.sdl_tree.specs.Words as word
-use Rattle.sdl_parse.specs.Reading.{pure, expect, name, separated}
-use Rattle.sdl_parse.specs.Expressions.{expr}
-use Rattle.sdl_parse.specs.Parts.{end, sort}
+use Rattle.sdl_read.specs.Reading.{pure, expect, name, separated}
+use Rattle.sdl_read.specs.Expressions.{expr}
+use Rattle.sdl_read.specs.Parts.{end, sort}
 use Rattle.sdl_parse.specs.Synonyms.{synonym_name, synonym}
-use Rattle.sdl_parse.proofs.Laws.{read_as, Sound, Complete, Shortens, as_read, bind_ok, bind_is, same_rest, expect_ok, expect_again, name_ok, name_again, shortens_expect, shortens_name}
-use Rattle.sdl_parse.proofs.ListLaws.{separated_sound, separated_complete}
-use Rattle.sdl_parse.proofs.OperatorLaws.{Stops}
-use Rattle.sdl_parse.proofs.ExpressionSound.{expr_sound}
-use Rattle.sdl_parse.proofs.ExpressionLength.{expr_shortens}
-use Rattle.sdl_parse.proofs.ExpressionComplete.{expr_complete, stops_at_comma}
-use Rattle.sdl_parse.proofs.PartLaws.{end_sound, end_complete, end_no_comma, end_stops, sort_sound, sort_complete, sort_shortens}
-use Rattle.sdl_parse.proofs.CountLaws.{Weighs, light, weighs_bind, counts_bind, counts_pure, counts_expect, weighs_expect, weighs_name, weighs_sort, weighs_expr, counts_end, weighs_separated}
+use Rattle.sdl_read.proofs.Laws.{read_as, Sound, Complete, Shortens, as_read, bind_ok, bind_is, same_rest, expect_ok, expect_again, name_ok, name_again, shortens_expect, shortens_name}
+use Rattle.sdl_read.proofs.ListLaws.{separated_sound, separated_complete}
+use Rattle.sdl_read.proofs.OperatorLaws.{Stops}
+use Rattle.sdl_read.proofs.ExpressionSound.{expr_sound}
+use Rattle.sdl_read.proofs.ExpressionLength.{expr_shortens}
+use Rattle.sdl_read.proofs.ExpressionComplete.{expr_complete, stops_at_comma}
+use Rattle.sdl_read.proofs.PartLaws.{end_sound, end_complete, end_no_comma, end_stops, sort_sound, sort_complete, sort_shortens}
+use Rattle.sdl_read.proofs.CountLaws.{Weighs, light, weighs_bind, counts_bind, counts_pure, counts_expect, weighs_expect, weighs_name, weighs_sort, weighs_expr, counts_end, weighs_separated}
 
 -- ---- NAME NAME "=" expr
 

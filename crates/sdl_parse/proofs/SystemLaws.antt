@@ -9,24 +9,24 @@ use Rattle.sdl_tree.specs.Tree.{Definition, Signals, SignalList, Synonyms, Chann
 use Rattle.sdl_tree.specs.Words.{Fixed}
 use Rattle.sdl_tree.specs.Words as word
 use Rattle.sdl_parse.specs.Channels.{channel, connect}
-use Rattle.sdl_parse.specs.Choices.{mapped}
-use Rattle.sdl_parse.specs.Names.{end_name}
-use Rattle.sdl_parse.specs.Parts.{end}
+use Rattle.sdl_read.specs.Choices.{mapped}
+use Rattle.sdl_read.specs.Names.{end_name}
+use Rattle.sdl_read.specs.Parts.{end}
 use Rattle.sdl_parse.specs.Processes.{Body, process}
-use Rattle.sdl_parse.specs.Reading.{Refusal, Refused, Deep, pure, sees, same_mark, front, expect, name, repeated}
-use Rattle.sdl_parse.specs.Signals.{signal_list, signal}
+use Rattle.sdl_read.specs.Reading.{Refusal, Refused, Deep, pure, sees, same_mark, front, expect, name, repeated}
+use Rattle.sdl_read.specs.Signals.{signal_list, signal}
 use Rattle.sdl_parse.specs.Systems.{begins_definition, definition, begins_block_part, block_part, block, begins_system_definition, system_definition, at_end, specification}
 use Rattle.sdl_parse.specs.Synonyms.{synonym}
 use Rattle.sdl_parse.proofs.ChannelLaws.{channel_sound, channel_complete, channel_weighs, connect_sound, connect_complete, connect_weighs}
-use Rattle.sdl_parse.proofs.ChoiceLaws.{either_sound, either_here, either_other, other, mapped_sound, mapped_is}
-use Rattle.sdl_parse.proofs.CountLaws.{Counts, Weighs, light, weighs_bind, counts_bind, counts_pure, counts_expect, weighs_expect, counts_name, counts_end, counts_repeated, weighs_either, weighs_mapped}
-use Rattle.sdl_parse.proofs.DepthLaws.{Balanced, Deepens, not_deep, refused_not_deep, balanced_none}
-use Rattle.sdl_parse.proofs.Laws.{read_as, Sound, as_read, not_read, bind_ok, bind_is, same_value, same_rest, expect_ok, expect_again, name_ok, name_again}
-use Rattle.sdl_parse.proofs.ListLaws.{repeated_sound, repeated_complete}
-use Rattle.sdl_parse.proofs.NameLaws.{end_name_sound, end_name_complete, counts_end_name}
-use Rattle.sdl_parse.proofs.PartLaws.{end_sound, end_complete}
+use Rattle.sdl_read.proofs.ChoiceLaws.{either_sound, either_here, either_other, other, mapped_sound, mapped_is}
+use Rattle.sdl_read.proofs.CountLaws.{Counts, Weighs, light, weighs_bind, counts_bind, counts_pure, counts_expect, weighs_expect, counts_name, counts_end, counts_repeated, weighs_either, weighs_mapped}
+use Rattle.sdl_read.proofs.DepthLaws.{Balanced, Deepens, not_deep, refused_not_deep, balanced_none}
+use Rattle.sdl_read.proofs.Laws.{read_as, Sound, as_read, not_read, bind_ok, bind_is, same_value, same_rest, expect_ok, expect_again, name_ok, name_again}
+use Rattle.sdl_read.proofs.ListLaws.{repeated_sound, repeated_complete}
+use Rattle.sdl_read.proofs.NameLaws.{end_name_sound, end_name_complete, counts_end_name}
+use Rattle.sdl_read.proofs.PartLaws.{end_sound, end_complete}
 use Rattle.sdl_parse.proofs.ProcessLaws.{IsSoundBody, IsWholeBody, process_sound, process_complete, process_weighs}
-use Rattle.sdl_parse.proofs.SignalLaws.{signal_list_sound, signal_list_complete, signal_list_weighs, signal_sound, signal_complete, signal_weighs}
+use Rattle.sdl_read.proofs.SignalLaws.{signal_list_sound, signal_list_complete, signal_list_weighs, signal_sound, signal_complete, signal_weighs}
 use Rattle.sdl_parse.proofs.SynonymLaws.{synonym_sound, synonym_complete, synonym_weighs}
 
 -- ---- with what definitions begin

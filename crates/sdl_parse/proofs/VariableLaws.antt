@@ -7,22 +7,22 @@ use Rattle.sdl_tree.specs.Spells.Parts.{Words, Separated, Optional, SpellsEnd, S
 use Rattle.sdl_tree.specs.Tree.{Expr, ParameterGroup, VariableGroup, TimerDefinition}
 use Rattle.sdl_tree.specs.Words.{Fixed}
 use Rattle.sdl_tree.specs.Words as word
-use Rattle.sdl_parse.specs.Choices.{introduced}
-use Rattle.sdl_parse.specs.Expressions.{expr}
-use Rattle.sdl_parse.specs.Names.{names}
-use Rattle.sdl_parse.specs.Parts.{sort}
-use Rattle.sdl_parse.specs.Reading.{Deep, pure, sees, same_mark, front, expect, name, separated, in_parentheses}
+use Rattle.sdl_read.specs.Choices.{introduced}
+use Rattle.sdl_read.specs.Expressions.{expr}
+use Rattle.sdl_read.specs.Names.{names}
+use Rattle.sdl_read.specs.Parts.{sort}
+use Rattle.sdl_read.specs.Reading.{Deep, pure, sees, same_mark, front, expect, name, separated, in_parentheses}
 use Rattle.sdl_parse.specs.Variables.{parameters, fpar, assigned, initial, variables, dcl, one, timer}
-use Rattle.sdl_parse.proofs.ChoiceLaws.{Introduced, optional_sound, optional_complete, introduced_sound, introduced_complete, ended_complete}
-use Rattle.sdl_parse.proofs.CountLaws.{Counts, Weighs, light, weighs_bind, counts_bind, counts_pure, counts_expect, weighs_name, weighs_sort, weighs_expr, counts_optional, counts_in_parentheses, weighs_introduced, weighs_separated}
-use Rattle.sdl_parse.proofs.DepthLaws.{Balanced, IsInside, balanced_none, not_deep, closed_at}
-use Rattle.sdl_parse.proofs.ExpressionComplete.{expr_complete, stops_at_comma}
-use Rattle.sdl_parse.proofs.ExpressionSound.{expr_sound}
-use Rattle.sdl_parse.proofs.Laws.{read_as, Sound, Complete, as_read, bind_ok, bind_is, chosen, if_true, if_false, sees_again, expect_ok, expect_again, name_ok, name_again}
-use Rattle.sdl_parse.proofs.ListLaws.{separated_sound}
-use Rattle.sdl_parse.proofs.NameLaws.{names_sound, names_complete, names_weigh}
-use Rattle.sdl_parse.proofs.OperatorLaws.{Stops}
-use Rattle.sdl_parse.proofs.PartLaws.{end_begins, end_stops, end_no_open, comma_no_open, sort_sound, sort_complete, sort_shortens, in_parentheses_sound, in_parentheses_complete}
+use Rattle.sdl_read.proofs.ChoiceLaws.{Introduced, optional_sound, optional_complete, introduced_sound, introduced_complete, ended_complete}
+use Rattle.sdl_read.proofs.CountLaws.{Counts, Weighs, light, weighs_bind, counts_bind, counts_pure, counts_expect, weighs_name, weighs_sort, weighs_expr, counts_optional, counts_in_parentheses, weighs_introduced, weighs_separated}
+use Rattle.sdl_read.proofs.DepthLaws.{Balanced, IsInside, balanced_none, not_deep, closed_at}
+use Rattle.sdl_read.proofs.ExpressionComplete.{expr_complete, stops_at_comma}
+use Rattle.sdl_read.proofs.ExpressionSound.{expr_sound}
+use Rattle.sdl_read.proofs.Laws.{read_as, Sound, Complete, as_read, bind_ok, bind_is, chosen, if_true, if_false, sees_again, expect_ok, expect_again, name_ok, name_again}
+use Rattle.sdl_read.proofs.ListLaws.{separated_sound}
+use Rattle.sdl_read.proofs.NameLaws.{names_sound, names_complete, names_weigh}
+use Rattle.sdl_read.proofs.OperatorLaws.{Stops}
+use Rattle.sdl_read.proofs.PartLaws.{end_begins, end_stops, end_no_open, comma_no_open, sort_sound, sort_complete, sort_shortens, in_parentheses_sound, in_parentheses_complete}
 
 -- ---- NAME {"," NAME} NAME
 

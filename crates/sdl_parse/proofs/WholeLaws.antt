@@ -2,8 +2,8 @@
 use Rattle.sdl_parse.specs.Bodies.{behaviour}
 use Rattle.sdl_parse.proofs.BodyLaws.{EndsPart, body_part_complete, part_begins, at_part, at_end, no_part_at_end}
 use Rattle.sdl_parse.proofs.ProcessLaws.{IsWholeBody}
-use Rattle.sdl_parse.proofs.StateCounts.{start_counts, body_part_weighs}
-use Rattle.sdl_parse.proofs.StateLaws.{start_sound, start_complete, body_part_sound}
+use Rattle.sdl_behaviour.proofs.StateCounts.{start_counts, body_part_weighs}
+use Rattle.sdl_behaviour.proofs.StateLaws.{start_sound, start_complete, body_part_sound}
 
 pub whole : IsWholeBody behaviour EndsPart
 whole = record {

@@ -1,11 +1,11 @@
 -- Reading of channels and their connections.
 use Rattle.sdl_tree.specs.declared.mark.Mark.TheVariants as mark
 use Rattle.sdl_tree.specs.Tree.{ChannelEnd, Env, Agent, ChannelPath, ChannelDefinition, BlockPart, Connect}
-use Rattle.sdl_parse.specs.Choices.{either, mapped, optional}
-use Rattle.sdl_parse.specs.Names.{names, end_name}
-use Rattle.sdl_parse.specs.Parts.{end}
-use Rattle.sdl_parse.specs.Reading.{Parser, ◌>>=◌, ◌>>◌, pure, sees, eat, expect, name}
-use Rattle.sdl_parse.specs.Signals.{sigs}
+use Rattle.sdl_read.specs.Choices.{either, mapped, optional}
+use Rattle.sdl_read.specs.Names.{names, end_name}
+use Rattle.sdl_read.specs.Parts.{end}
+use Rattle.sdl_read.specs.Reading.{Parser, ◌>>=◌, ◌>>◌, pure, sees, eat, expect, name}
+use Rattle.sdl_read.specs.Signals.{sigs}
 
 -- "env"
 unfoldable pub env : Parser ChannelEnd

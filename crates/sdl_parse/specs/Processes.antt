@@ -7,12 +7,12 @@ use Rattle.sdl_tree.specs.Spells.Parts.{Words}
 use Rattle.sdl_tree.specs.Tree.{Expr, Bound, Counts, LocalDefinition, LocalSignals, LocalSignalList, LocalSynonyms, SignalSet, Variables, Timers, Transition, BodyPart, ProcessDefinition}
 use Rattle.sdl_tree.specs.Words.{Word, Fixed}
 use Rattle.sdl_tree.specs.Words as word
-use Rattle.sdl_parse.specs.Choices.{either, mapped, optional}
-use Rattle.sdl_parse.specs.Expressions.{expr}
-use Rattle.sdl_parse.specs.Names.{end_name}
-use Rattle.sdl_parse.specs.Parts.{end}
-use Rattle.sdl_parse.specs.Reading.{Parser, ◌>>=◌, ◌>>◌, pure, front, sees, expect, name, repeated}
-use Rattle.sdl_parse.specs.Signals.{signal_list, signal_set, signal}
+use Rattle.sdl_read.specs.Choices.{either, mapped, optional}
+use Rattle.sdl_read.specs.Expressions.{expr}
+use Rattle.sdl_read.specs.Names.{end_name}
+use Rattle.sdl_read.specs.Parts.{end}
+use Rattle.sdl_read.specs.Reading.{Parser, ◌>>=◌, ◌>>◌, pure, front, sees, expect, name, repeated}
+use Rattle.sdl_read.specs.Signals.{signal_list, signal_set, signal}
 use Rattle.sdl_parse.specs.Variables.{dcl, timer, fpar}
 use Rattle.sdl_parse.specs.Synonyms.{synonym}
 

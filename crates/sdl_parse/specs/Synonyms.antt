@@ -3,9 +3,9 @@ use Rattle.std.specs.Prelude.{List}
 use Rattle.sdl_tree.specs.declared.mark.Mark.TheVariants as mark
 use Rattle.sdl_tree.specs.Spells.Expressions.{limit}
 use Rattle.sdl_tree.specs.Tree.{SynonymDefinition}
-use Rattle.sdl_parse.specs.Expressions.{expr}
-use Rattle.sdl_parse.specs.Parts.{end, sort}
-use Rattle.sdl_parse.specs.Reading.{Parser, ◌>>=◌, ◌>>◌, pure, expect, name, separated}
+use Rattle.sdl_read.specs.Expressions.{expr}
+use Rattle.sdl_read.specs.Parts.{end, sort}
+use Rattle.sdl_read.specs.Reading.{Parser, ◌>>=◌, ◌>>◌, pure, expect, name, separated}
 
 -- NAME NAME "=" expr
 unfoldable pub synonym_name : Parser SynonymDefinition

@@ -4,12 +4,12 @@ use Rattle.sdl_tree.specs.declared.mark.Mark.TheVariants as mark
 use Rattle.sdl_tree.specs.Spells.Parts.{Words}
 use Rattle.sdl_tree.specs.Tree.{Definition, Signals, SignalList, Synonyms, Channel, Process, BlockPart, InBlock, BlockDefinition, SystemDefinition, InSystem, Block, Tree}
 use Rattle.sdl_parse.specs.Channels.{channel, connect}
-use Rattle.sdl_parse.specs.Choices.{either, mapped}
-use Rattle.sdl_parse.specs.Names.{end_name}
-use Rattle.sdl_parse.specs.Parts.{end}
+use Rattle.sdl_read.specs.Choices.{either, mapped}
+use Rattle.sdl_read.specs.Names.{end_name}
+use Rattle.sdl_read.specs.Parts.{end}
 use Rattle.sdl_parse.specs.Processes.{Body, process}
-use Rattle.sdl_parse.specs.Reading.{Parser, Refused, ◌>>=◌, ◌>>◌, pure, sees, expect, name, repeated}
-use Rattle.sdl_parse.specs.Signals.{signal_list, signal}
+use Rattle.sdl_read.specs.Reading.{Parser, Refused, ◌>>=◌, ◌>>◌, pure, sees, expect, name, repeated}
+use Rattle.sdl_read.specs.Signals.{signal_list, signal}
 use Rattle.sdl_parse.specs.Synonyms.{synonym}
 
 unfoldable pub begins_definition : Words → Bool

@@ -3,12 +3,12 @@ use Rattle.std.specs.Prelude.{if◌then◌else◌, List, [], Option, Ok}
 use Rattle.sdl_tree.specs.declared.mark.Mark.TheVariants as mark
 use Rattle.sdl_tree.specs.Spells.Expressions.{limit}
 use Rattle.sdl_tree.specs.Tree.{Expr, ParameterGroup, VariableGroup, TimerDefinition}
-use Rattle.sdl_parse.specs.Choices.{optional, introduced}
-use Rattle.sdl_parse.specs.Expressions.{expr}
-use Rattle.sdl_parse.specs.Names as all
-use Rattle.sdl_parse.specs.Parts as parts
-use Rattle.sdl_parse.specs.Reading.{Parser, ◌>>=◌, ◌>>◌, pure, sees, expect, separated, in_parentheses}
-use Rattle.sdl_parse.specs.Reading as reading
+use Rattle.sdl_read.specs.Choices.{optional, introduced}
+use Rattle.sdl_read.specs.Expressions.{expr}
+use Rattle.sdl_read.specs.Names as all
+use Rattle.sdl_read.specs.Parts as parts
+use Rattle.sdl_read.specs.Reading.{Parser, ◌>>=◌, ◌>>◌, pure, sees, expect, separated, in_parentheses}
+use Rattle.sdl_read.specs.Reading as reading
 
 -- NAME {"," NAME} NAME
 unfoldable pub parameters : Parser ParameterGroup

@@ -3,18 +3,17 @@
 ghost use Rattle.std.specs.Prelude.{◌≡◌, option_map};
 ghost use Rattle.sdl_tree.specs.Views.{plain_end, plain_path, plain_channel, plain_connection};
 ghost use Rattle.sdl_parse.specs.Channels as spec;
-ghost use Rattle.sdl_parse.specs.Choices.{optional};
-ghost use Rattle.sdl_parse.specs.Reading.{sees};
-ghost use Rattle.sdl_parse.specs.Reads.{Reads};
+ghost use Rattle.sdl_read.specs.Choices.{optional};
+ghost use Rattle.sdl_read.specs.Reading.{sees};
+ghost use Rattle.sdl_read.specs.Reads.{Reads};
 ghost use Rattle.sdl_tree.specs.declared.mark.Mark.TheVariants as mark;
 
-use crate::cursor::Cursor;
-use crate::error::Wanted;
-use crate::fault::Fault;
-use crate::names::{end_name, names};
-use crate::parts::end;
-use crate::signals::sigs;
-use crate::word::Word;
+use sdl_read::cursor::Cursor;
+use sdl_read::fault::{Fault, Wanted};
+use sdl_read::names::{end_name, names};
+use sdl_read::parts::end;
+use sdl_read::signals::sigs;
+use sdl_read::word::Word;
 use sdl_tree::{ChannelConnection, ChannelDefinition, ChannelEnd, ChannelPath, Mark};
 use std::alloc::Global;
 
@@ -41,7 +40,7 @@ pub fn channel(alloc: Global, cursor: &mut Cursor<'_>) -> Result<ChannelDefiniti
 }
 
 /// `[path]`
-#[tactic(auto, unfolding(crate::specs::Choices::optional, crate::specs::Choices::mapped))]
+#[tactic(auto, unfolding(sdl_read::specs::Choices::optional, sdl_read::specs::Choices::mapped))]
 fn second_path(alloc: Global, cursor: &mut Cursor<'_>) -> Result<Option<ChannelPath>, Fault>
     ensures { Reads (λ p. option_map plain_path p) (optional (sees mark.From) spec.path cursor.old) result cursor.new }
 {
@@ -67,7 +66,7 @@ fn path(alloc: Global, cursor: &mut Cursor<'_>) -> Result<ChannelPath, Fault>
 }
 
 /// `point = "env" | NAME`
-#[tactic(auto, unfolding(crate::specs::Channels::point, crate::specs::Channels::env, crate::specs::Choices::either, crate::specs::Choices::mapped, crate::specs::Reading::name))]
+#[tactic(auto, unfolding(crate::specs::Channels::point, crate::specs::Channels::env, sdl_read::specs::Choices::either, sdl_read::specs::Choices::mapped, sdl_read::specs::Reading::name))]
 fn point(alloc: Global, cursor: &mut Cursor<'_>) -> Result<ChannelEnd, Fault>
     ensures { Reads plain_end (spec.point cursor.old) result cursor.new }
 {

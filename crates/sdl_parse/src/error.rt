@@ -1,8 +1,7 @@
 //! Refusals of a text that is no specification.
 
 use sdl_lex::{LexError, Place};
-use sdl_tree::Mark;
-use std::fmt;
+use sdl_read::fault::Wanted;
 use thiserror::Error;
 
 /// Why a text has no tree. Of several faults the lexer's comes first, and then that of the first token where no
@@ -25,43 +24,4 @@ pub enum ParseError {
     /// Memory is out.
     #[error("parse Memory")]
     Memory,
-}
-
-/// What must stand at a place, once all that may be left out there is passed over.
-#[derive(Debug, Drop)]
-pub enum Wanted {
-    /// A keyword or a sign, told as it is spelled in lower case.
-    Mark(Mark),
-    /// A name.
-    Name,
-    /// A natural number.
-    Number,
-    /// A character string, behind `comment`.
-    Text,
-    /// An expression.
-    Expression,
-    /// An action behind its label, or a terminator.
-    Action,
-    /// An end of a channel path: `env` or the name of an agent.
-    Point,
-    /// The end of the text.
-    End,
-    /// The name of what a word such as `endprocess` ends.
-    ThisName(String),
-}
-
-impl fmt::Display for Wanted {
-    fn fmt<W: fmt::Write>(&self, f: &mut fmt::Formatter<W>) -> fmt::Result {
-        match self {
-            Wanted::Mark(mark) => f.write_str(mark.text()),
-            Wanted::Name => f.write_str("name"),
-            Wanted::Number => f.write_str("number"),
-            Wanted::Text => f.write_str("text"),
-            Wanted::Expression => f.write_str("expression"),
-            Wanted::Action => f.write_str("action"),
-            Wanted::Point => f.write_str("point"),
-            Wanted::End => f.write_str("end"),
-            Wanted::ThisName(name) => f.write_str(name.as_str()),
-        }
-    }
 }

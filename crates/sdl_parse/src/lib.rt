@@ -4,27 +4,17 @@
 //! or tells the place where no reading goes on and what must stand there. A tree that is read spells the tokens, and
 //! no other does; a refusal says that no tree spells them.
 //!
-//! A cursor stands before the words of a text, and each production is a function that reads it or leaves the cursor
-//! where no reading goes on. Each gives just what its definition in `specs/` reads, unless memory fails.
+//! Here stand the definitions of a specification, from the timer to the system. Words and expressions are read by
+//! `sdl_read`, and the states of a process by `sdl_behaviour`.
 #![tactic(auto)]
 
-mod actions;
 mod channels;
-mod cursor;
 mod error;
-mod expressions;
-mod fault;
-mod names;
 mod parser;
-mod parts;
 mod processes;
-mod signals;
-mod states;
 mod synonyms;
 mod system;
-mod transitions;
 mod variables;
-mod word;
 
-pub use error::{ParseError, Wanted};
+pub use error::ParseError;
 pub use parser::{one_tree, parse};

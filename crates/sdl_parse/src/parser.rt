@@ -6,12 +6,12 @@ ghost use Rattle.sdl_tree.specs.Tree as plain;
 ghost use Rattle.sdl_tree.specs.Views.{plain_tree};
 ghost use Rattle.sdl_parse.specs.Parser.{BeginAt, IsShallow, Refuses, SpellsText};
 
-use crate::cursor::Cursor;
-use crate::error::{ParseError, Wanted};
-use crate::fault::Fault;
+use crate::error::ParseError;
 use crate::system::specification;
-use crate::word::{Word, items_of};
 use sdl_lex::{Place, Token, lex, one_list, place_of};
+use sdl_read::cursor::Cursor;
+use sdl_read::fault::{Fault, Wanted};
+use sdl_read::word::{Word, items_of};
 use sdl_tree::Tree;
 use std::alloc::Global;
 

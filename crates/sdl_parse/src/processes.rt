@@ -4,19 +4,19 @@ ghost use Rattle.std.specs.Prelude.{◌≡◌, map, option_map};
 ghost use Rattle.sdl_tree.specs.Views.{plain_expr, plain_bound, plain_counts, plain_local, plain_body_part, plain_process};
 ghost use Rattle.sdl_parse.specs.Bodies.{behaviour};
 ghost use Rattle.sdl_parse.specs.Processes as spec;
-ghost use Rattle.sdl_parse.specs.Reading.{repeated};
-ghost use Rattle.sdl_parse.specs.Reads.{Reads};
+ghost use Rattle.sdl_read.specs.Reading.{repeated};
+ghost use Rattle.sdl_read.specs.Reads.{Reads};
 
-use crate::cursor::Cursor;
-use crate::expressions::{LIMIT, expression};
-use crate::fault::Fault;
-use crate::names::end_name;
-use crate::parts::end;
-use crate::signals::{signal, signal_list, signal_set};
-use crate::states::{begins_body_part, body_part, start};
 use crate::synonyms::synonym;
 use crate::variables::{dcl, fpar, timer};
-use crate::word::Word;
+use sdl_behaviour::states::{begins_body_part, body_part, start};
+use sdl_read::cursor::Cursor;
+use sdl_read::expressions::{LIMIT, expression};
+use sdl_read::fault::Fault;
+use sdl_read::names::end_name;
+use sdl_read::parts::end;
+use sdl_read::signals::{signal, signal_list, signal_set};
+use sdl_read::word::Word;
 use sdl_tree::{BodyPart, Bound, Counts, Expression, LocalDefinition, Mark, ProcessDefinition};
 use std::alloc::Global;
 
@@ -48,7 +48,7 @@ pub fn process(alloc: Global, cursor: &mut Cursor<'_>) -> Result<ProcessDefiniti
 }
 
 /// `[counts]`, where `counts = "(" [expr] ["," [expr]] ")"`
-#[tactic(auto, unfolding(crate::specs::Processes::some_counts, crate::specs::Processes::counts, crate::specs::Choices::optional, crate::specs::Choices::mapped))]
+#[tactic(auto, unfolding(crate::specs::Processes::some_counts, crate::specs::Processes::counts, sdl_read::specs::Choices::optional, sdl_read::specs::Choices::mapped))]
 fn counts(alloc: Global, cursor: &mut Cursor<'_>) -> Result<Option<Counts>, Fault>
     ensures { Reads (λ c. option_map plain_counts c) (spec.some_counts cursor.old) result cursor.new }
 {
@@ -67,7 +67,7 @@ fn counts(alloc: Global, cursor: &mut Cursor<'_>) -> Result<Option<Counts>, Faul
 }
 
 /// `["," [expr]]`
-#[tactic(auto, unfolding(crate::specs::Processes::bound, crate::specs::Processes::maximum, crate::specs::Choices::optional, crate::specs::Choices::mapped))]
+#[tactic(auto, unfolding(crate::specs::Processes::bound, crate::specs::Processes::maximum, sdl_read::specs::Choices::optional, sdl_read::specs::Choices::mapped))]
 fn bound(alloc: Global, cursor: &mut Cursor<'_>) -> Result<Option<Bound>, Fault>
     ensures { Reads (λ b. option_map plain_bound b) (spec.bound cursor.old) result cursor.new }
 {
@@ -80,7 +80,7 @@ fn bound(alloc: Global, cursor: &mut Cursor<'_>) -> Result<Option<Bound>, Fault>
 }
 
 /// `[expr]`
-#[tactic(auto, unfolding(crate::specs::Processes::count, crate::specs::Choices::optional, crate::specs::Choices::mapped))]
+#[tactic(auto, unfolding(crate::specs::Processes::count, sdl_read::specs::Choices::optional, sdl_read::specs::Choices::mapped))]
 fn count(alloc: Global, cursor: &mut Cursor<'_>) -> Result<Option<Expression>, Fault>
     ensures { Reads (λ e. option_map plain_expr e) (spec.count cursor.old) result cursor.new }
 {
@@ -151,7 +151,7 @@ fn begins_local(cursor: &Cursor<'_>) -> bool
 }
 
 /// `pdef = signal | signallist | synonym | "signalset" sigs end | "dcl" vars end | timer`
-#[tactic(auto, unfolding(crate::specs::Processes::local_definition, crate::specs::Choices::either, crate::specs::Choices::mapped))]
+#[tactic(auto, unfolding(crate::specs::Processes::local_definition, sdl_read::specs::Choices::either, sdl_read::specs::Choices::mapped))]
 fn local_definition(alloc: Global, cursor: &mut Cursor<'_>) -> Result<LocalDefinition, Fault>
     ensures { Reads plain_local (spec.local_definition cursor.old) result cursor.new }
 {

@@ -3,14 +3,13 @@
 ghost use Rattle.std.specs.Prelude.{◌≡◌, map};
 ghost use Rattle.sdl_tree.specs.Views.{plain_synonym, plain_synonyms};
 ghost use Rattle.sdl_parse.specs.Synonyms as spec;
-ghost use Rattle.sdl_parse.specs.Reading.{separated};
-ghost use Rattle.sdl_parse.specs.Reads.{Reads};
+ghost use Rattle.sdl_read.specs.Reading.{separated};
+ghost use Rattle.sdl_read.specs.Reads.{Reads};
 
-use crate::cursor::Cursor;
-use crate::error::Wanted;
-use crate::expressions::{LIMIT, expression};
-use crate::fault::Fault;
-use crate::parts::{end, sort};
+use sdl_read::cursor::Cursor;
+use sdl_read::expressions::{LIMIT, expression};
+use sdl_read::fault::{Fault, Wanted};
+use sdl_read::parts::{end, sort};
 use sdl_tree::{Mark, SynonymDefinition, SynonymDefinitions};
 use std::alloc::Global;
 

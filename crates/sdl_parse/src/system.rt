@@ -4,18 +4,17 @@ ghost use Rattle.std.specs.Prelude.{◌≡◌, map};
 ghost use Rattle.sdl_tree.specs.Views.{plain_definition, plain_block_part, plain_block, plain_system_definition, plain_tree};
 ghost use Rattle.sdl_parse.specs.Bodies.{behaviour};
 ghost use Rattle.sdl_parse.specs.Systems as spec;
-ghost use Rattle.sdl_parse.specs.Reading.{repeated};
-ghost use Rattle.sdl_parse.specs.Reads.{Reads};
+ghost use Rattle.sdl_read.specs.Reading.{repeated};
+ghost use Rattle.sdl_read.specs.Reads.{Reads};
 
 use crate::channels::{channel, connect};
-use crate::cursor::Cursor;
-use crate::error::Wanted;
-use crate::fault::Fault;
-use crate::names::end_name;
-use crate::parts::end;
 use crate::processes::process;
-use crate::signals::{signal, signal_list};
 use crate::synonyms::synonym;
+use sdl_read::cursor::Cursor;
+use sdl_read::fault::{Fault, Wanted};
+use sdl_read::names::end_name;
+use sdl_read::parts::end;
+use sdl_read::signals::{signal, signal_list};
 use sdl_tree::{BlockDefinition, BlockPart, Definition, Mark, SystemDefinition, Tree};
 use std::alloc::Global;
 
@@ -36,7 +35,7 @@ pub fn specification(alloc: Global, cursor: &mut Cursor<'_>) -> Result<Tree, Fau
 }
 
 /// The end of the text.
-#[tactic(auto, unfolding(crate::specs::Systems::at_end, crate::specs::Reading::front))]
+#[tactic(auto, unfolding(crate::specs::Systems::at_end, sdl_read::specs::Reading::front))]
 fn at_end(cursor: &mut Cursor<'_>) -> Result<(), Fault>
     ensures { Reads (λ _. tt) (spec.at_end cursor.old) result cursor.new }
 {
@@ -72,7 +71,7 @@ fn begins_system_definition(cursor: &Cursor<'_>) -> bool
 }
 
 /// `def`, where a block stands in a system alone
-#[tactic(auto, unfolding(crate::specs::Systems::system_definition, crate::specs::Choices::either, crate::specs::Choices::mapped))]
+#[tactic(auto, unfolding(crate::specs::Systems::system_definition, sdl_read::specs::Choices::either, sdl_read::specs::Choices::mapped))]
 fn system_definition(alloc: Global, cursor: &mut Cursor<'_>) -> Result<SystemDefinition, Fault>
     ensures { Reads plain_system_definition (spec.system_definition behaviour cursor.old) result cursor.new }
 {
@@ -124,7 +123,7 @@ fn begins_block_part(cursor: &Cursor<'_>) -> bool
 }
 
 /// `def`, where a connect stands in a block alone
-#[tactic(auto, unfolding(crate::specs::Systems::block_part, crate::specs::Choices::either, crate::specs::Choices::mapped))]
+#[tactic(auto, unfolding(crate::specs::Systems::block_part, sdl_read::specs::Choices::either, sdl_read::specs::Choices::mapped))]
 fn block_part(alloc: Global, cursor: &mut Cursor<'_>) -> Result<BlockPart, Fault>
     ensures { Reads plain_block_part (spec.block_part behaviour cursor.old) result cursor.new }
 {
@@ -147,7 +146,7 @@ fn begins_definition(cursor: &Cursor<'_>) -> bool
 }
 
 /// `def = signal | signallist | synonym | channel | process`, which both a system and a block can have
-#[tactic(auto, unfolding(crate::specs::Systems::definition, crate::specs::Choices::either, crate::specs::Choices::mapped))]
+#[tactic(auto, unfolding(crate::specs::Systems::definition, sdl_read::specs::Choices::either, sdl_read::specs::Choices::mapped))]
 fn definition(alloc: Global, cursor: &mut Cursor<'_>) -> Result<Definition, Fault>
     ensures { Reads plain_definition (spec.definition behaviour cursor.old) result cursor.new }
 {

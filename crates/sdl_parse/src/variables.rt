@@ -3,15 +3,14 @@
 ghost use Rattle.std.specs.Prelude.{◌≡◌, map, option_map};
 ghost use Rattle.sdl_tree.specs.Views.{plain_expr, plain_fpar, plain_parameters, plain_variables, plain_timer, plain_timers};
 ghost use Rattle.sdl_parse.specs.Variables as spec;
-ghost use Rattle.sdl_parse.specs.Reading.{separated};
-ghost use Rattle.sdl_parse.specs.Reads.{Reads};
+ghost use Rattle.sdl_read.specs.Reading.{separated};
+ghost use Rattle.sdl_read.specs.Reads.{Reads};
 
-use crate::cursor::Cursor;
-use crate::error::Wanted;
-use crate::expressions::{LIMIT, expression};
-use crate::fault::Fault;
-use crate::names::names;
-use crate::parts::{end, sort, sorts};
+use sdl_read::cursor::Cursor;
+use sdl_read::expressions::{LIMIT, expression};
+use sdl_read::fault::{Fault, Wanted};
+use sdl_read::names::names;
+use sdl_read::parts::{end, sort, sorts};
 use sdl_tree::{
     Expression, FormalParameters, Mark, ParameterGroup, TimerDefinition, TimerDefinitions,
     VariableGroup,
@@ -19,7 +18,7 @@ use sdl_tree::{
 use std::alloc::Global;
 
 /// `["fpar" vars end]`, where no variable has an initial value.
-#[tactic(auto, unfolding(crate::specs::Variables::fpar, crate::specs::Choices::introduced))]
+#[tactic(auto, unfolding(crate::specs::Variables::fpar, sdl_read::specs::Choices::introduced))]
 pub fn fpar(alloc: Global, cursor: &mut Cursor<'_>) -> Result<Option<FormalParameters>, Fault>
     ensures { Reads plain_fpar (spec.fpar cursor.old) result cursor.new }
 {
@@ -57,7 +56,7 @@ fn parameters(alloc: Global, cursor: &mut Cursor<'_>) -> Result<ParameterGroup, 
 }
 
 /// `"dcl" vars end`, where `vars = NAME {"," NAME} NAME [":=" expr] ["," vars]`
-#[tactic(auto, unfolding(crate::specs::Variables::dcl, crate::specs::Choices::introduced))]
+#[tactic(auto, unfolding(crate::specs::Variables::dcl, sdl_read::specs::Choices::introduced))]
 pub fn dcl(alloc: Global, cursor: &mut Cursor<'_>) -> Result<Vec<VariableGroup>, Fault>
     ensures { Reads (λ gs. map plain_variables gs.items) (spec.dcl cursor.old) result cursor.new }
 {
@@ -97,7 +96,7 @@ fn variables(alloc: Global, cursor: &mut Cursor<'_>) -> Result<VariableGroup, Fa
 }
 
 /// `[":=" expr]`
-#[tactic(auto, unfolding(crate::specs::Variables::initial, crate::specs::Variables::assigned, crate::specs::Choices::optional, crate::specs::Choices::mapped))]
+#[tactic(auto, unfolding(crate::specs::Variables::initial, crate::specs::Variables::assigned, sdl_read::specs::Choices::optional, sdl_read::specs::Choices::mapped))]
 fn initial(alloc: Global, cursor: &mut Cursor<'_>) -> Result<Option<Expression>, Fault>
     ensures { Reads (λ e. option_map plain_expr e) (spec.initial cursor.old) result cursor.new }
 {
@@ -109,7 +108,7 @@ fn initial(alloc: Global, cursor: &mut Cursor<'_>) -> Result<Option<Expression>,
 }
 
 /// `timer = "timer" one {"," one} end`
-#[tactic(auto, unfolding(crate::specs::Variables::timer, crate::specs::Choices::introduced))]
+#[tactic(auto, unfolding(crate::specs::Variables::timer, sdl_read::specs::Choices::introduced))]
 pub fn timer(alloc: Global, cursor: &mut Cursor<'_>) -> Result<TimerDefinitions, Fault>
     ensures { Reads plain_timers (spec.timer cursor.old) result cursor.new }
 {

@@ -15,6 +15,7 @@ pub struct Token<'t> {
 }
 
 impl<'t> Token<'t> {
+    /// The token that is this name.
     pub fn of_name(name: &'t Name) -> Token<'t> {
         Token {
             text: name.text.as_str(),
@@ -22,6 +23,7 @@ impl<'t> Token<'t> {
         }
     }
 
+    /// The token of a keyword or a mark.
     pub fn of_spelling(word: Spelling) -> Token<'t> {
         Token {
             text: word.text,
@@ -87,6 +89,7 @@ pub struct Faults<'t> {
 impl<'t> Faults<'t> {
     ghost use Rattle.sdl_system.specs.Fault.{is_clean};
 
+    /// No fault noted yet.
     pub fn new() -> Self
         ensures { is_clean result ≡ true }
     {
@@ -107,6 +110,7 @@ impl<'t> Faults<'t> {
         }
     }
 
+    /// The fault that is told, if one was noted.
     pub fn least(&self) -> Option<Fault<'t>>
         ensures { result ≡ self.now.least }
     {

@@ -12,8 +12,6 @@ mod keyword;
 pub mod laws;
 mod mark;
 mod name;
-#[cfg(test)]
-mod tests;
 
 pub use behaviour::{
     Action, ActionStatement, Answer, AnswerPart, Assignment, BodyPart, ContinuousSignal,

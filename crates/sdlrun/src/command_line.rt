@@ -33,7 +33,8 @@ pub fn read_command_line<R: Env + AllocGlobal + Print + Eprint>(rt: &R) -> Reque
     }
 }
 
-/// What the words of the command line choose.
+/// What the words of the command line choose, the program's name first. Help that was asked for and a mistake are both an
+/// `Err`, as the command line's crate tells them; so is want of memory.
 pub fn options(alloc: Global, words: &[String]) -> Result<Options, Error> {
     let command = command(alloc)?;
     let matches = command.try_get_matches_from(words)?;

@@ -59,9 +59,28 @@ const TIMERS: [Long; 2] = [
     },
 ];
 
+/// An expression of as many operands as a text can have: nothing that walks its tree, or lets it go, takes a deep stack.
+const SUM: [Long; 2] = [
+    Long {
+        first: "system S; process P; start; task n:=1",
+        part: "+1",
+        last: "; endprocess; endsystem;",
+    },
+    Long {
+        first: "system S ;\nprocess P ;\nstart ;\ntask n := 1",
+        part: " + 1",
+        last: " ;\nendprocess P ;\nendsystem S ;\n",
+    },
+];
+
 #[test]
 fn reads_a_mebibyte(rt: HostRuntime) -> Result<(), Fail> {
-    for ([text, canonical], times) in [(SIGNALS, 104_855), (TASKS, 74_894), (TIMERS, 131_064)] {
+    for ([text, canonical], times) in [
+        (SIGNALS, 104_855),
+        (TASKS, 74_894),
+        (TIMERS, 131_064),
+        (SUM, 524_257),
+    ] {
         let long = text.text(rt.alloc(), times)?;
         let want = canonical.text(rt.alloc(), times)?;
         let answer = answer_of(rt.alloc(), long.as_bytes())?;

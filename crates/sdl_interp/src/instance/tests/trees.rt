@@ -28,16 +28,19 @@ fn integer(alloc: Global) -> Result<SortName, AllocError> {
     Ok(SortName { spelled })
 }
 
+/// A number, in its decimal digits.
 pub fn number(alloc: Global, value: i64) -> Result<Expression, AllocError> {
     let text = format!(in alloc; "{value}")?;
     let digits = name(alloc, text.as_str())?;
     Ok(Expression::Number(Number { value, digits }))
 }
 
+/// The variable of this name.
 pub fn variable(alloc: Global, text: &str) -> Result<Expression, AllocError> {
     Ok(Expression::Name(name(alloc, text)?))
 }
 
+/// `(inner)`
 pub fn in_parentheses(alloc: Global, inner: Expression) -> Result<Expression, AllocError> {
     Ok(Expression::Parenthesized {
         parenthesis: word("("),
@@ -45,6 +48,7 @@ pub fn in_parentheses(alloc: Global, inner: Expression) -> Result<Expression, Al
     })
 }
 
+/// `- operand`
 pub fn negated(alloc: Global, operand: Expression) -> Result<Expression, AllocError> {
     Ok(Expression::Negated {
         minus: word("-"),
@@ -52,6 +56,7 @@ pub fn negated(alloc: Global, operand: Expression) -> Result<Expression, AllocEr
     })
 }
 
+/// `+ operand`, behind another operand.
 pub fn plus(operand: Expression) -> Link {
     Link {
         operator: Operator::Plus,
@@ -60,6 +65,7 @@ pub fn plus(operand: Expression) -> Link {
     }
 }
 
+/// `- operand`, behind another operand.
 pub fn minus(operand: Expression) -> Link {
     Link {
         operator: Operator::Minus,
@@ -68,6 +74,7 @@ pub fn minus(operand: Expression) -> Link {
     }
 }
 
+/// An operand with what follows it.
 pub fn chain(alloc: Global, first: Expression, rest: Vec<Link>) -> Result<Expression, AllocError> {
     Ok(Expression::Chain(Box::new(alloc, Chain { first, rest })?))
 }

@@ -3,11 +3,11 @@ use Rattle.std.proofs.lemmas.Grind.{common_steps}
 use Rattle.sdl_lex.specs.declared.token.Token.{Token}
 use Rattle.sdl_tree.specs.Views.{plain_tree}
 use Rattle.sdl_tree.specs.Words.{words_of}
-use Rattle.sdl_parse.specs.declared.fault.Fault.{Fault}
+use Rattle.sdl_read.specs.declared.fault.Fault.{Fault}
 use Rattle.sdl_parse.specs.Bodies.{behaviour}
 use Rattle.sdl_parse.specs.Parser.{BeginAt}
-use Rattle.sdl_parse.specs.Reading.{Refused, Deep}
-use Rattle.sdl_parse.specs.Reads.{Fails}
+use Rattle.sdl_read.specs.Reading.{Refused, Deep}
+use Rattle.sdl_read.specs.Reads.{Fails}
 use Rattle.sdl_parse.specs.Systems.{specification}
 use Rattle.sdl_parse.proofs.ParserLemmas.{found_of, some_left, within, deep_at, none_of, shallow}
 use Rattle.sdl_parse.proofs.BodyLaws.{EndsPart}

@@ -2,8 +2,8 @@ use Rattle.std.proofs.Common.{rules, arith, map}
 use Rattle.std.proofs.lemmas.Grind.{common_steps}
 use Rattle.sdl_tree.specs.Views.{plain_body_part}
 use Rattle.sdl_parse.specs.Bodies.{behaviour}
-use Rattle.sdl_parse.specs.Reading.{repeated_from}
-use Rattle.sdl_parse.proofs.Turns.{one_more, no_more, map_push}
+use Rattle.sdl_read.specs.Reading.{repeated_from}
+use Rattle.sdl_read.proofs.Turns.{one_more, no_more, map_push}
 use Rattle.sdl_parse.proofs.processes.body.Goals as goal
 
 pub returns-in_err-body_part : goal.returns-in_err-body_part

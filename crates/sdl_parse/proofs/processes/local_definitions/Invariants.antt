@@ -1,7 +1,7 @@
 use Rattle.std.proofs.Common.{◌≡◌, ◌-◌, map}
 use Rattle.sdl_tree.specs.Views.{plain_local}
 use Rattle.sdl_parse.specs.Processes as spec
-use Rattle.sdl_parse.specs.Reading.{repeated, repeated_from}
+use Rattle.sdl_read.specs.Reading.{repeated, repeated_from}
 use Rattle.sdl_parse.proofs.processes.local_definitions.Given as goal
 
 abbrev pub invariant-loop-turn : goal.invariant-loop-turn

@@ -3,8 +3,8 @@ use Rattle.std.proofs.lemmas.Grind.{common_steps}
 use Rattle.sdl_tree.specs.Views.{plain_block_part}
 use Rattle.sdl_parse.specs.Bodies.{behaviour}
 use Rattle.sdl_parse.specs.Systems as spec
-use Rattle.sdl_parse.specs.Reading.{repeated_from}
-use Rattle.sdl_parse.proofs.Turns.{one_more, no_more, map_push}
+use Rattle.sdl_read.specs.Reading.{repeated_from}
+use Rattle.sdl_read.proofs.Turns.{one_more, no_more, map_push}
 use Rattle.sdl_parse.proofs.system.block_parts.Goals as goal
 
 pub returns-in_err-block_part : goal.returns-in_err-block_part

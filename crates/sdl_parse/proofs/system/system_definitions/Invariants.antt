@@ -2,7 +2,7 @@ use Rattle.std.proofs.Common.{◌≡◌, ◌-◌, map}
 use Rattle.sdl_tree.specs.Views.{plain_system_definition}
 use Rattle.sdl_parse.specs.Bodies.{behaviour}
 use Rattle.sdl_parse.specs.Systems as spec
-use Rattle.sdl_parse.specs.Reading.{repeated, repeated_from}
+use Rattle.sdl_read.specs.Reading.{repeated, repeated_from}
 use Rattle.sdl_parse.proofs.system.system_definitions.Given as goal
 
 abbrev pub invariant-loop-turn : goal.invariant-loop-turn

@@ -2,8 +2,8 @@ use Rattle.std.proofs.Common.{rules, arith, map}
 use Rattle.std.proofs.lemmas.Grind.{common_steps}
 use Rattle.sdl_tree.specs.Views.{plain_variables}
 use Rattle.sdl_parse.specs.Variables as spec
-use Rattle.sdl_parse.specs.Reading.{separated_from}
-use Rattle.sdl_parse.proofs.Turns.{one_more, no_more, map_push}
+use Rattle.sdl_read.specs.Reading.{separated_from}
+use Rattle.sdl_read.proofs.Turns.{one_more, no_more, map_push}
 use Rattle.sdl_parse.proofs.variables.variable_groups.Goals as goal
 
 pub returns-in_err-variables : goal.returns-in_err-variables

@@ -1,0 +1,13 @@
+pub mod ActionCounts
+pub mod ActionLaws
+pub mod DecisionLaws
+pub mod LookLemmas
+pub mod SetLaws
+pub mod StateComplete
+pub mod StateCounts
+pub mod StateLaws
+pub mod StateLemmas
+pub mod TransitionCounts
+pub mod TransitionLaws
+pub mod TransitionSteps
+pub mod TransitionViews

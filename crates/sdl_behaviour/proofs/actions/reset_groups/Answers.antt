@@ -1,0 +1,33 @@
+use Rattle.std.proofs.Common.{rules, arith, map}
+use Rattle.std.proofs.lemmas.Grind.{common_steps}
+use Rattle.sdl_tree.specs.Views.{plain_group}
+use Rattle.sdl_behaviour.specs.Actions as spec
+use Rattle.sdl_read.specs.Reading.{separated_from}
+use Rattle.sdl_read.proofs.Turns.{one_more, no_more, map_push}
+use Rattle.sdl_behaviour.proofs.actions.reset_groups.Goals as goal
+
+pub returns-in_err-keys : goal.returns-in_err-keys
+unfolding separated_from
+returns-in_err-keys c =
+    let e = one_more (λ n. separated_from (spec.keys c.args.depth) n (map plain_group c.loop-turn.found.items) c.loop-turn.cursor) _ c.loop-turn._turn c.loop-turn-test.true c.loop-turn.invariant in
+    first_of (search rules, grind (arith, common_steps))
+
+pub returns-then-not-eat : goal.returns-then-not-eat
+unfolding separated_from
+returns-then-not-eat c =
+    let e = one_more (λ n. separated_from (spec.keys c.args.depth) n (map plain_group c.loop-turn.found.items) c.loop-turn.cursor) _ c.loop-turn._turn c.loop-turn-test.true c.loop-turn.invariant in
+    let m = map_push plain_group c.loop-turn.found.items c.in_ok-keys.field-0 in
+    first_of (search rules, grind (arith, common_steps))
+
+pub loop-turn-preserved : goal.loop-turn-preserved
+unfolding separated_from
+loop-turn-preserved c =
+    let e = one_more (λ n. separated_from (spec.keys c.args.depth) n (map plain_group c.loop-turn.found.items) c.loop-turn.cursor) _ c.loop-turn._turn c.loop-turn-test.true c.loop-turn.invariant in
+    let m = map_push plain_group c.loop-turn.found.items c.in_ok-keys.field-0 in
+    first_of (search rules, grind (arith, common_steps))
+
+pub returns : goal.returns
+unfolding separated_from
+returns c =
+    let e = no_more (λ n. separated_from (spec.keys c.args.depth) n (map plain_group c.loop-turn.found.items) c.loop-turn.cursor) _ c.loop-turn._turn c.loop-turn-test.false c.loop-turn.invariant in
+    first_of (search rules, grind (arith, common_steps))

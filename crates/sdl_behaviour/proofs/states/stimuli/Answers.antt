@@ -1,0 +1,32 @@
+use Rattle.std.proofs.Common.{rules, arith, map}
+use Rattle.std.proofs.lemmas.Grind.{common_steps}
+use Rattle.sdl_tree.specs.Views.{plain_stimulus}
+use Rattle.sdl_behaviour.specs.States.{begins_stimulus, stimulus}
+use Rattle.sdl_read.specs.Reading.{repeated_from}
+use Rattle.sdl_read.proofs.Turns.{one_more, no_more, map_push}
+use Rattle.sdl_behaviour.proofs.states.stimuli.Goals as goal
+
+pub returns-in_err-stimulus : goal.returns-in_err-stimulus
+unfolding repeated_from
+returns-in_err-stimulus c =
+    let e = one_more (λ n. repeated_from begins_stimulus stimulus n (map plain_stimulus c.loop-turn.found.items) c.loop-turn.cursor) _ c.loop-turn._turn c.loop-turn-test.true c.loop-turn.invariant in
+    first_of (search rules, grind (arith, common_steps))
+
+pub returns-then-not-begins_stimulus : goal.returns-then-not-begins_stimulus
+unfolding repeated_from
+returns-then-not-begins_stimulus c =
+    let e = one_more (λ n. repeated_from begins_stimulus stimulus n (map plain_stimulus c.loop-turn.found.items) c.loop-turn.cursor) _ c.loop-turn._turn c.loop-turn-test.true c.loop-turn.invariant in
+    first_of (search rules, grind (arith, common_steps))
+
+pub loop-turn-preserved : goal.loop-turn-preserved
+unfolding repeated_from
+loop-turn-preserved c =
+    let e = one_more (λ n. repeated_from begins_stimulus stimulus n (map plain_stimulus c.loop-turn.found.items) c.loop-turn.cursor) _ c.loop-turn._turn c.loop-turn-test.true c.loop-turn.invariant in
+    let m = map_push plain_stimulus c.loop-turn.found.items c.in_ok-stimulus.field-0 in
+    first_of (search rules, grind (arith, common_steps))
+
+pub returns : goal.returns
+unfolding repeated_from
+returns c =
+    let e = no_more (λ n. repeated_from begins_stimulus stimulus n (map plain_stimulus c.loop-turn.found.items) c.loop-turn.cursor) _ c.loop-turn._turn c.loop-turn-test.false c.loop-turn.invariant in
+    first_of (search rules, grind (arith, common_steps))

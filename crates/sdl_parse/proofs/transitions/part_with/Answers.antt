@@ -1,5 +1,0 @@
-use Rattle.sdl_parse.proofs.TransitionViews.{part_is}
-use Rattle.sdl_parse.proofs.transitions.part_with.Goals as goal
-
-pub returns : goal.returns
-returns c = part_is c.args.answers c.args.transition

@@ -1,5 +1,0 @@
-use Rattle.sdl_parse.proofs.TransitionViews.{transition_is}
-use Rattle.sdl_parse.proofs.transitions.transition_with.Goals as goal
-
-pub returns : goal.returns
-returns c = transition_is c.args.actions c.args.terminator

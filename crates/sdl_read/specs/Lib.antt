@@ -1,0 +1,9 @@
+pub mod Choices
+pub mod Expressions
+pub mod Item
+pub mod Names
+pub mod Parts
+pub mod Reading
+pub mod Reads
+pub mod Signals
+pub mod Wanted

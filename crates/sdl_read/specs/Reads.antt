@@ -1,0 +1,16 @@
+-- What a function that reads ensures: what its parser gives, unless memory fails.
+use Rattle.std.specs.Prelude.{◌≡◌, Result, Ok, Err}
+use Rattle.sdl_tree.specs.Spells.Parts.{Words}
+use Rattle.sdl_read.specs.declared.fault.Fault.{Fault}
+use Rattle.sdl_read.specs.declared.fault.Fault.TheVariants.{Expected, LeftOut, TooDeep, Memory}
+use Rattle.sdl_read.specs.Reading.{Outcome, Refused, Deep}
+
+abbrev pub Fails : {A : Type 0} → Outcome A → Fault → Words → Type 0
+Fails outcome (Expected wanted) new = outcome ≡ Err Refused
+Fails outcome (LeftOut word) new = outcome ≡ Err Refused
+Fails outcome TooDeep new = outcome ≡ Err (Deep new)
+Fails outcome Memory new = Unit {0}
+
+abbrev pub Reads : {A B : Type 0} → (A → B) → Outcome B → Result A Fault → Words → Type 0
+Reads view outcome (Ok x) new = outcome ≡ Ok (view x, new)
+Reads view outcome (Err e) new = Fails outcome e new
