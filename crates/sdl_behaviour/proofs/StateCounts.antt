@@ -4,7 +4,7 @@ use Rattle.sdl_tree.specs.declared.mark.Mark.TheVariants as mark
 use Rattle.sdl_tree.specs.Spells.Expressions.{limit}
 use Rattle.sdl_tree.specs.Spells.Parts.{Words}
 use Rattle.sdl_tree.specs.Tree.{InputList, InputAll, SaveList, SaveAll, InputPart, PriorityInput, SavePart, ContinuousSignal, States, StateList, StateAll, StatePart, FreeAction}
-use Rattle.sdl_tree.specs.Words.{Word, Fixed}
+use Rattle.sdl_tree.specs.Words.{Fixed}
 use Rattle.sdl_tree.specs.Words as word
 use Rattle.sdl_read.specs.Choices.{mapped}
 use Rattle.sdl_read.specs.Expressions.{expr}

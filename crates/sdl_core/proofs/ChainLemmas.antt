@@ -1,5 +1,5 @@
 -- Chains of which the first links are narrowed and the others are left.
-use Rattle.std.proofs.Common.{◌≡◌, refl, sym, ap, ◌∙◌, Bool, false, ◌&&◌, List, [], ◌∷◌, ◌++◌, fold, Vec, Global}
+use Rattle.std.proofs.Common.{◌≡◌, refl, sym, ap, ◌∙◌, false, ◌&&◌, List, [], ◌∷◌, ◌++◌, fold, Vec, Global}
 use Rattle.sdl_core.specs.declared.expressions.Chain.{roll-Chain}
 use Rattle.sdl_core.specs.declared.expressions.Expression.{Expression}
 use Rattle.sdl_core.specs.declared.expressions.Link.{Link}

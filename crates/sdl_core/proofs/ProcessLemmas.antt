@@ -5,7 +5,7 @@ use Rattle.std.proofs.lemmas.List.{map_push}
 use Rattle.std.proofs.lemmas.Bool.{lt-leb}
 use Rattle.std.proofs.lemmas.List.Sums.{sum_by-append, sum_by-cons}
 use Rattle.sdl_core.specs.declared.definitions.Definition.{Definition}
-use Rattle.sdl_core.specs.Core.{AtMostOneProcess, IsNotRun}
+use Rattle.sdl_core.specs.Core.{IsNotRun}
 use Rattle.sdl_core.specs.Core as core
 use Rattle.sdl_core.specs.Run.{one_if, is_process, is_run_definition, are_run_definitions, is_run}
 use Rattle.sdl_core.specs.Views.{plain_definition}

@@ -1,5 +1,5 @@
 -- What a tree of what is run stands for is run.
-use Rattle.std.proofs.Common.{◌≡◌, refl, sym, ap, ◌∙◌, ℕ, ◌+◌, cond, Bool, true, false, ◌&&◌, Option, Some, None, List, [], ◌∷◌, map, option_map, count_by, nat_le}
+use Rattle.std.proofs.Common.{◌≡◌, refl, sym, ap, ◌∙◌, ◌+◌, cond, Bool, true, ◌&&◌, Option, Some, None, List, [], ◌∷◌, map, option_map, count_by, nat_le}
 use Rattle.std.specs.List.{list_all}
 use Rattle.std.proofs.lemmas.Bool.{le-leb}
 use Rattle.std.proofs.lemmas.List.Sums.{sum_by-cons}
@@ -28,7 +28,7 @@ use Rattle.sdl_core.specs.declared.expressions.Operator.{Operator}
 use Rattle.sdl_core.specs.declared.expressions.Operator.TheVariants.{Plus, Minus}
 use Rattle.sdl_core.specs.Core.{AtMostOneProcess}
 use Rattle.sdl_core.specs.Core as core
-use Rattle.sdl_core.specs.Run.{is_run_operator, is_run_expr, are_run_exprs, if_there, is_run_assignment, is_run_applied, is_run_action, are_run_actions, is_run_terminator, is_run_ending, is_run_transition, is_run_stimulus, is_run_part, is_run_group, is_run_local, is_run_process, is_run_definition, is_process, are_run_definitions, is_run}
+use Rattle.sdl_core.specs.Run.{is_run_operator, is_run_expr, if_there, is_run_assignment, is_run_applied, is_run_action, are_run_actions, is_run_ending, is_run_transition, is_run_stimulus, is_run_part, is_run_group, is_run_local, is_run_process, is_run_definition, is_process, is_run}
 use Rattle.sdl_core.specs.Views.{plain_operator, plain_expr, plain_chain, plain_links, plain_assignment, plain_output, plain_action, plain_actions, plain_ending, plain_transition, plain_stimulus, plain_state, plain_variables, plain_local, plain_process, plain_definition, plain_of}
 use Rattle.sdl_core.proofs.ListLemmas.{both, all_true}
 use Rattle.sdl_core.proofs.ViewLemmas.{run_exprs_of}

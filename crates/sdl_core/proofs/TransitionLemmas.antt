@@ -1,5 +1,5 @@
 -- Transitions whose parts are narrowed.
-use Rattle.std.proofs.Common.{◌≡◌, sym, ap, ◌∙◌, Bool, false, ◌&&◌, List, map, Option, option_map}
+use Rattle.std.proofs.Common.{◌≡◌, sym, ap, ◌∙◌, false, ◌&&◌, List, map, Option, option_map}
 use Rattle.std.specs.List.{list_all}
 use Rattle.sdl_core.specs.declared.behaviour.Action as core
 use Rattle.sdl_core.specs.declared.behaviour.Terminator.{Terminator}

@@ -1,5 +1,5 @@
 -- What the views make of chains and of lists of actions.
-use Rattle.std.proofs.Common.{◌≡◌, refl, sym, ap, ◌∙◌, Bool, true, false, ◌&&◌, List, [], ◌∷◌, ◌++◌, Vec, Global, Option, Some, None, map, fold, option_map, is_none}
+use Rattle.std.proofs.Common.{◌≡◌, refl, ap, ◌∙◌, ◌&&◌, List, [], ◌∷◌, Vec, Global, None, map, fold, is_none}
 use Rattle.std.specs.List.{list_all}
 use Rattle.sdl_core.specs.declared.behaviour.Action as core
 use Rattle.sdl_core.specs.declared.expressions.Chain.{roll-Chain, rolls-Chain', Row_of-Link, end_of-Link, more_of-Link, items-the_row-Link, items_hidden-the_row-Link-0}

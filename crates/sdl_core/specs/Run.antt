@@ -5,7 +5,7 @@ use Rattle.sdl_tree.specs.declared.expressions.Operator.{Operator}
 use Rattle.sdl_tree.specs.declared.expressions.Operator.TheVariants.{Plus, Minus}
 use Rattle.sdl_tree.specs.declared.expressions.UnaryOperator.{UnaryOperator}
 use Rattle.sdl_tree.specs.declared.expressions.UnaryOperator.TheVariants as unary
-use Rattle.sdl_tree.specs.Tree.{Expr, Numeral, Named, Keyword, Active, Paren, Unary, Binary, Exprs, NoExpr, AndExpr, Applied, Assignment, NextState, Terminator, Next, Stop, Join, Ending, Transition, Steps, Actions, NoAction, AndAction, Action, Task, Output, Inputs, InputList, InputAll, Stimulus, InputPart, States, StateList, StateAll, BodyPart, StatePart, FreeAction, VariableGroup, LocalDefinition, LocalSignals, Variables, ProcessDefinition, Definition, Signals, Process, SystemDefinition, InSystem, Block, Tree}
+use Rattle.sdl_tree.specs.Tree.{Expr, Numeral, Named, Keyword, Active, Paren, Unary, Binary, Exprs, NoExpr, AndExpr, Applied, Assignment, Terminator, Next, Stop, Join, Ending, Transition, Steps, Actions, NoAction, AndAction, Action, Task, Output, Inputs, InputList, InputAll, Stimulus, InputPart, States, StateList, StateAll, BodyPart, StatePart, FreeAction, VariableGroup, LocalDefinition, LocalSignals, Variables, ProcessDefinition, Definition, Signals, Process, SystemDefinition, InSystem, Block, Tree}
 
 -- ---- expressions: numbers, names, parentheses, negation, sums and differences
 

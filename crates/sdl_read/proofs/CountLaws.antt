@@ -4,7 +4,7 @@ use Rattle.std.proofs.Common.{◌≡◌, ℕ, zero, suc, ◌<◌, inl, inr, Bool
 use Rattle.sdl_tree.specs.declared.mark.Mark.{Mark}
 use Rattle.sdl_tree.specs.declared.mark.Mark.TheVariants as mark
 use Rattle.sdl_tree.specs.Spells.Parts.{Words, sort_of}
-use Rattle.sdl_tree.specs.Words.{Word, Fixed}
+use Rattle.sdl_tree.specs.Words.{Fixed}
 use Rattle.sdl_tree.specs.Words as word
 use Rattle.sdl_read.specs.Choices.{either, mapped, optional, introduced}
 use Rattle.sdl_read.specs.Expressions.{expr}

@@ -9,7 +9,7 @@ use Rattle.sdl_tree.specs.Spells.Expressions.{SpellsAt, SpellsExpr, SpellsInnerA
 use Rattle.sdl_tree.specs.Spells.Parts.{Words, Separated}
 use Rattle.sdl_tree.specs.Tree.{Expr, Numeral, Named, Keyword, Active, Paren, Unary, Binary, Exprs, NoExpr, AndExpr}
 use Rattle.sdl_tree.specs.Views.{exprs_of}
-use Rattle.sdl_tree.specs.Words.{Word, Fixed}
+use Rattle.sdl_tree.specs.Words.{Fixed}
 use Rattle.sdl_tree.specs.Words as word
 use Rattle.sdl_read.specs.Reading.{Parser, Deep, and_then, pure, on, rest, front, mark_at, sees, same_mark, expect, name, separated}
 use Rattle.sdl_read.specs.Expressions.{Readers, readers, fixed, primary, signed, climb, climb_all, level, expr, args_of, paren_of, active_of, operator_at, no_args}

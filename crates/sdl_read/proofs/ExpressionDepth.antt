@@ -11,7 +11,7 @@ use Rattle.sdl_tree.specs.Spells.Expressions.{operator_mark, value_mark, loosest
 use Rattle.sdl_tree.specs.Spells.Parts.{Words}
 use Rattle.sdl_tree.specs.Tree.{Expr, Numeral, Named, Keyword, Active, Paren, Unary, Binary}
 use Rattle.sdl_tree.specs.Views.{exprs_of}
-use Rattle.sdl_tree.specs.Words.{Word, Fixed}
+use Rattle.sdl_tree.specs.Words.{Fixed}
 use Rattle.sdl_tree.specs.Words as word
 use Rattle.sdl_read.specs.Reading.{Parser, Outcome, Refused, Deep, and_then, pure, on, rest, front, sees, same_mark, expect, name, separated}
 use Rattle.sdl_read.specs.Expressions.{Readers, readers, fixed, primary, signed, climb, climb_all, level, expr, args_of, paren_of, active_of, deep_active, operator_at, value_of}

@@ -4,7 +4,7 @@ use Rattle.std.specs.Str.{bytes_eq}
 use Rattle.std.proofs.lemmas.Slice.Eq.{bytes_eq-Decides}
 use Rattle.sdl_tree.specs.declared.mark.Mark.TheVariants as mark
 use Rattle.sdl_tree.specs.Spells.Parts.{Words, Separated, SpellsName, SpellsEnd, SpellsEndName}
-use Rattle.sdl_tree.specs.Words.{Word, Fixed}
+use Rattle.sdl_tree.specs.Words.{Fixed}
 use Rattle.sdl_tree.specs.Words as word
 use Rattle.sdl_read.specs.Names.{names, end_name}
 use Rattle.sdl_read.specs.Reading.{Refused, Deep, rest, front, sees, name}

@@ -59,21 +59,30 @@ pub enum Wanted {
     ThisName(String),
 }
 
+impl Wanted {
+    /// The word by which it is told.
+    pub fn text(&self) -> &str
+        ensures { result.now ≡ wanted_text self.now }
+    {
+        match self {
+            Wanted::Mark(mark) => mark.text(),
+            Wanted::Name => "name",
+            Wanted::Number => "number",
+            Wanted::Text => "text",
+            Wanted::Expression => "expression",
+            Wanted::Action => "action",
+            Wanted::Point => "point",
+            Wanted::End => "end",
+            Wanted::ThisName(name) => name.as_str(),
+        }
+    }
+}
+
 /// Writes the word by which it is told.
 impl fmt::Display for Wanted {
     ghost output = { λ wanted. Some (wanted_text wanted) };
 
     fn fmt<W: fmt::Write>(&self, f: &mut fmt::Formatter<W>) -> fmt::Result {
-        match self {
-            Wanted::Mark(mark) => f.write_str(mark.text()),
-            Wanted::Name => f.write_str("name"),
-            Wanted::Number => f.write_str("number"),
-            Wanted::Text => f.write_str("text"),
-            Wanted::Expression => f.write_str("expression"),
-            Wanted::Action => f.write_str("action"),
-            Wanted::Point => f.write_str("point"),
-            Wanted::End => f.write_str("end"),
-            Wanted::ThisName(name) => f.write_str(name.as_str()),
-        }
+        f.write_str(self.text())
     }
 }

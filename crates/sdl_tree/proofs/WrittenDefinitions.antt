@@ -7,7 +7,7 @@ use Rattle.sdl_tree.specs.Spells.Behaviour.{SpellsStart, SpellsBodyPart}
 use Rattle.sdl_tree.specs.Spells.Expressions.{limit, SpellsExpr}
 use Rattle.sdl_tree.specs.Spells.Parts.{Words, SpellsSort}
 use Rattle.sdl_tree.specs.Tree.{Name, Expr, Transition, SignalDefinition, SignalListDefinition, SynonymDefinition, ParameterGroup, VariableGroup, TimerDefinition, LocalDefinition, LocalSignals, LocalSignalList, LocalSynonyms, SignalSet, Variables, Timers, Bound, Counts, ProcessDefinition, ChannelEnd, Env, Agent, ChannelPath, ChannelDefinition, Definition, Signals, SignalList, Synonyms, Channel, Process, BlockPart, InBlock, Connect, BlockDefinition, SystemDefinition, InSystem, Block, Tree}
-use Rattle.sdl_tree.specs.Words.{Word, Fixed}
+use Rattle.sdl_tree.specs.Words.{Fixed}
 use Rattle.sdl_tree.specs.Words as word
 use Rattle.sdl_tree.proofs.WrittenStates.{body_part_written}
 use Rattle.sdl_tree.proofs.WrittenTransitions.{IsWritten, separated_written, repeated_written, optional_written, in_parentheses_written, names_written, end_written, sort_written, sigs_written, expr_written, transition_written}

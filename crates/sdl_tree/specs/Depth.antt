@@ -6,7 +6,7 @@ use Rattle.sdl_tree.specs.declared.mark.Mark.{Mark}
 use Rattle.sdl_tree.specs.declared.mark.Mark.TheVariants as mark
 use Rattle.sdl_tree.specs.Spells.Expressions.{limit}
 use Rattle.sdl_tree.specs.Spells.Parts.{Words}
-use Rattle.sdl_tree.specs.Words.{Word, Fixed}
+use Rattle.sdl_tree.specs.Words.{Fixed}
 use Rattle.sdl_tree.specs.Words as word
 
 abbrev pub opens : Mark → Bool

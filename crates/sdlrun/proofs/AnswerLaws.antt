@@ -1,14 +1,14 @@
 -- What the calls of a command give, put together into what is said of the input.
-use Rattle.std.proofs.Common.{◌≡◌, ◌⊎◌, sym, subst, refl, inl, inr, ℕ, List, Option, Bool, true, false, Result, Ok, Err, IfOk, IfErr, OnOk, take}
-use Rattle.std.specs.Io.KnownBytes.{Appends, Keeps}
+use Rattle.std.proofs.Common.{◌≡◌, sym, subst, refl, inl, inr, ℕ, List, Option, Bool, true, false, Result, Ok, Err, IfOk, IfErr, OnOk}
+use Rattle.std.specs.Io.KnownBytes.{Appends}
 use Rattle.sdl_report.specs.ReportText.{report_text}
 use Rattle.sdl_report.specs.declared.record.Report.{Report}
 use Rattle.sdl_system.specs.declared.system.System.{System}
 use Rattle.sdl_tree.specs.Canonical.{canonical_text}
 use Rattle.sdl_tree.specs.Tree as plain
-use Rattle.sdlrun.specs.Answer.{Allows, BreaksOff, BreaksOffTelling, FailsToPrint, FailsToTell, Faulted, Fails, IsRunOfInput, IsTextOfInput, Refuses, Says, SaysCut, SaysWhole, Tells, Written, outcome_by, outcome_of}
+use Rattle.sdlrun.specs.Answer.{Allows, BreaksOff, FailsToPrint, Faulted, Fails, IsRunOfInput, IsTextOfInput, Refuses, Says, SaysCut, SaysWhole, Tells, Written, outcome_by, outcome_of}
 use Rattle.sdlrun.specs.Input.{IsRead}
-use Rattle.sdlrun.specs.RefusalText.{IsRefusalLine}
+use Rattle.sdlrun.specs.RefusalText.{refusal_line}
 use Rattle.sdlrun.specs.declared.input.Input.{Input}
 use Rattle.sdlrun.specs.declared.input.Input.TheVariants.{Bytes, TooLong}
 use Rattle.sdlrun.specs.declared.options.Command.{Command}
@@ -36,8 +36,8 @@ canonical_says (Bytes bytes) options tree asked source =
 canonical_says TooLong options tree asked source = absurd source
 
 -- and the line of a refusal
-refusal_says' : (asked : Command) (input : Input) (options : Options) (refused : Refusal) (line : List ℕ) → Allows asked input refused → IsRefusalLine refused line → Refuses asked input (outcome_of refused) line
-refusal_says' asked input options why line allowed is = record { refused = why; allowed = allowed; kind = refl; line = is }
+refuses : (asked : Command) (input : Input) (refused : Refusal) → Allows asked input refused → Refuses asked input (outcome_of refused) (refusal_line refused)
+refuses asked input why allowed = record { refused = why; allowed = allowed; kind = refl; line = refl }
 
 says_refused : (input : Input) (options : Options) (why : Refusal) (line : List ℕ) → Refuses options.command input (outcome_of why) line → Says input options (outcome_of why) line
 says_refused (Bytes bytes) options (refusal.Parse error) line r = r
@@ -51,9 +51,9 @@ says_refused TooLong options (refusal.Build error) line r = r
 says_refused TooLong options (refusal.Script error) line r = r
 says_refused TooLong options (refusal.Run error) line r = r
 
-pub refusal_says : (asked : Command) (input : Input) (options : Options) (why : Refusal) (line : List ℕ) → options.command ≡ asked → Allows asked input why → IsRefusalLine why line → Says input options (outcome_of why) line
-refusal_says asked input options why line is allowed told =
-    says_refused input options why line (subst (λ c. Refuses c input (outcome_of why) line) (sym is) (refusal_says' asked input options why line allowed told))
+pub refusal_says : (asked : Command) (input : Input) (options : Options) (why : Refusal) → options.command ≡ asked → Allows asked input why → Says input options (outcome_of why) (refusal_line why)
+refusal_says asked input options why is allowed =
+    says_refused input options why (refusal_line why) (subst (λ c. Refuses c input (outcome_of why) (refusal_line why)) (sym is) (refuses asked input why allowed))
 
 -- ---- what a call's result says
 
@@ -70,32 +70,22 @@ pub fails_by : (input : Input) (options : Options) (expected : Outcome) (text : 
 fails_by input options expected text old new (Ok how) says off = tt
 fails_by input options expected text old new (Err why) says off = fails_by' input options expected text old new why says off
 
-prints_not' : (input : Input) (options : Options) (text : List ℕ) (old new : Option (List ℕ)) (why : TextFault) → Says input options outcome.Whole text → FailsToPrint why text old new → Fails why input options old new
-prints_not' input options text old new fault.Read says off = absurd off
-prints_not' input options text old new fault.Write says off = fails_by' input options outcome.Whole text old new fault.Write says off
-prints_not' input options text old new fault.Memory says off = elim off [ inl kept ↦ inl kept | inr broken ↦ fails_by' input options outcome.Whole text old new fault.Memory says broken ]
+prints_not' : (input : Input) (options : Options) (expected : Outcome) (text : List ℕ) (old new : Option (List ℕ)) (why : TextFault) → Says input options expected text → FailsToPrint why text old new → Fails why input options old new
+prints_not' input options expected text old new fault.Read says off = absurd off
+prints_not' input options expected text old new fault.Write says off = fails_by' input options expected text old new fault.Write says off
+prints_not' input options expected text old new fault.Memory says off = elim off [ inl kept ↦ inl kept | inr broken ↦ fails_by' input options expected text old new fault.Memory says broken ]
 
-pub prints_not : (input : Input) (options : Options) (text : List ℕ) (old new : Option (List ℕ)) (r : Result Outcome TextFault) → Says input options outcome.Whole text → IfErr r (λ why. FailsToPrint why text old new) → IfErr r (λ why. Fails why input options old new)
-prints_not input options text old new (Ok how) says off = tt
-prints_not input options text old new (Err why) says off = prints_not' input options text old new why says off
+pub prints_not : (input : Input) (options : Options) (expected : Outcome) (text : List ℕ) (old new : Option (List ℕ)) (r : Result Outcome TextFault) → Says input options expected text → IfErr r (λ why. FailsToPrint why text old new) → IfErr r (λ why. Fails why input options old new)
+prints_not input options expected text old new (Ok how) says off = tt
+prints_not input options expected text old new (Err why) says off = prints_not' input options expected text old new why says off
 
-pub refused_by : (asked : Command) (input : Input) (options : Options) (why : Refusal) (old new : Option (List ℕ)) (r : Result Outcome TextFault) → options.command ≡ asked → Allows asked input why → IfOk r (λ how. how ≡ outcome_of why) → OnOk r ((line : List ℕ) × IsRefusalLine why line × Appends old new line) → IfOk r (λ how. Tells input options how old new)
-refused_by asked input options why old new (Ok how) is allowed kind told =
-    record { text = told.0; says = subst (λ o. Says input options o told.0) (sym kind) (refusal_says asked input options why told.0 is allowed told.1); out = told.2 }
-refused_by asked input options why old new (Err e) is allowed kind told = tt
+pub refused_by : (asked : Command) (input : Input) (options : Options) (why : Refusal) (old new : Option (List ℕ)) (r : Result Outcome TextFault) → options.command ≡ asked → Allows asked input why → IfOk r (λ how. how ≡ outcome_of why) → OnOk r (Appends old new (refusal_line why)) → IfOk r (λ how. Tells input options how old new)
+refused_by asked input options why old new r is allowed kind out =
+    tells_by input options (outcome_of why) (refusal_line why) old new r (refusal_says asked input options why is allowed) kind out
 
-failed_to_tell : (asked : Command) (input : Input) (options : Options) (refused_as : Refusal) (old new : Option (List ℕ)) (why : TextFault) → options.command ≡ asked → Allows asked input refused_as → FailsToTell why refused_as old new → Fails why input options old new
-failed_to_tell asked input options refused_as old new fault.Read is allowed off = absurd off.2
-failed_to_tell asked input options refused_as old new fault.Write is allowed off =
-    fails_by' input options (outcome_of refused_as) off.0 old new fault.Write (refusal_says asked input options refused_as off.0 is allowed off.1) off.2
-failed_to_tell asked input options refused_as old new fault.Memory is allowed off = elim off [
-  | inl kept ↦ inl kept
-  | inr told ↦ fails_by' input options (outcome_of refused_as) told.0 old new fault.Memory (refusal_says asked input options refused_as told.0 is allowed told.1) told.2
-]
-
-pub failed_by : (asked : Command) (input : Input) (options : Options) (refused_as : Refusal) (old new : Option (List ℕ)) (r : Result Outcome TextFault) → options.command ≡ asked → Allows asked input refused_as → IfErr r (λ why. FailsToTell why refused_as old new) → IfErr r (λ why. Fails why input options old new)
-failed_by asked input options refused_as old new (Ok how) is allowed off = tt
-failed_by asked input options refused_as old new (Err why) is allowed off = failed_to_tell asked input options refused_as old new why is allowed off
+pub failed_by : (asked : Command) (input : Input) (options : Options) (why : Refusal) (old new : Option (List ℕ)) (r : Result Outcome TextFault) → options.command ≡ asked → Allows asked input why → IfErr r (λ fault. FailsToPrint fault (refusal_line why) old new) → IfErr r (λ fault. Fails fault input options old new)
+failed_by asked input options why old new r is allowed off =
+    prints_not input options (outcome_of why) (refusal_line why) old new r (refusal_says asked input options why is allowed) off
 
 -- ---- the whole program: the input was read first
 

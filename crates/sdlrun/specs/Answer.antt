@@ -33,7 +33,7 @@ use Rattle.sdl_tree.specs.Tree as plain
 use Rattle.sdl_workers.specs.Global.{AreBehaviours}
 use Rattle.sdl_workers.specs.Report.{IsSerialReport}
 use Rattle.sdlrun.specs.Input.{IsParted, IsRead}
-use Rattle.sdlrun.specs.RefusalText.{IsRefusalLine}
+use Rattle.sdlrun.specs.RefusalText.{refusal_line}
 use Rattle.sdlrun.specs.declared.input.Input.{Input}
 use Rattle.sdlrun.specs.declared.input.Input.TheVariants.{Bytes, TooLong}
 use Rattle.sdlrun.specs.declared.options.Command.{Command}
@@ -142,7 +142,7 @@ pub record Refuses (asked : Command) (input : Input) (refused_as : Outcome) (tex
   pub refused : Refusal
   pub allowed : Allows asked input refused
   pub kind : outcome_of refused ≡ refused_as
-  pub line : IsRefusalLine refused text
+  pub line : text ≡ refusal_line refused
 
 -- the canonical text of the tree that the specification spells
 pub record Prints (input : List ℕ) (text : List ℕ) : Type 0 where
@@ -228,11 +228,6 @@ abbrev pub BreaksOff : TextFault → List ℕ → Option (List ℕ) → Option (
 BreaksOff fault.Read text old new = ⊥
 BreaksOff fault.Write text old new = (k : ℕ) × Appends old new (take k text)
 BreaksOff fault.Memory text old new = (k : ℕ) × Appends old new (take k text)
-
--- what went out of the line of a refusal: nothing, where there was no memory to make it
-abbrev pub FailsToTell : TextFault → Refusal → Option (List ℕ) → Option (List ℕ) → Type 0
-FailsToTell fault.Memory refused old new = Keeps old new ⊎ ((line : List ℕ) × IsRefusalLine refused line × BreaksOff fault.Memory line old new)
-FailsToTell how refused old new = (line : List ℕ) × IsRefusalLine refused line × BreaksOff how line old new
 
 -- what went out of a text that is made first: nothing, where there was no memory to make it
 abbrev pub FailsToPrint : TextFault → List ℕ → Option (List ℕ) → Option (List ℕ) → Type 0

@@ -1,5 +1,5 @@
 -- The line that tells a refusal.
-use Rattle.std.specs.Prelude.{◌≡◌, ℕ, List, [], ◌∷◌, ◌++◌, codes}
+use Rattle.std.specs.Prelude.{ℕ, List, [], ◌∷◌, ◌++◌, codes}
 use Rattle.std.specs.Fmt.{decimal}
 use Rattle.std.specs.String.{string_bytes}
 use Rattle.sdl_lex.specs.Place.{place_text}
@@ -9,6 +9,7 @@ use Rattle.sdl_core.specs.declared.not_run.NotRun.{NotRun}
 use Rattle.sdl_core.specs.declared.not_run.NotRun.TheVariants as outside
 use Rattle.sdl_parse.specs.declared.error.ParseError.{ParseError}
 use Rattle.sdl_parse.specs.declared.error.ParseError.TheVariants as parse
+use Rattle.sdl_read.specs.Wanted.{wanted_text}
 use Rattle.sdl_tree.specs.Mark as mark
 use Rattle.sdl_tree.specs.declared.name.Name.{Name}
 use Rattle.sdl_report.specs.declared.script.ScriptError.{ScriptError}
@@ -29,13 +30,13 @@ lex_text (lex.NumberTooBig place) = codes "lex " ++ place_text place ++ codes " 
 lex_text (lex.NameTooLong place) = codes "lex " ++ place_text place ++ codes " NameTooLong"
 lex_text lex.Memory = codes "lex Memory"
 
--- `parse L:C Name word`; what the word is that was expected or is left out is not said here
-abbrev pub IsParseText : ParseError → List ℕ → Type 0
-IsParseText (parse.Lex error) text = text ≡ lex_text error
-IsParseText (parse.Expected place wanted) text = (word : List ℕ) × (text ≡ codes "parse " ++ place_text place ++ codes " Expected " ++ word)
-IsParseText (parse.LeftOut place word) text = text ≡ codes "parse " ++ place_text place ++ codes " LeftOut " ++ word.now
-IsParseText (parse.TooDeep place) text = text ≡ codes "parse " ++ place_text place ++ codes " TooDeep"
-IsParseText parse.Memory text = text ≡ codes "parse Memory"
+-- `parse L:C Name word`, with what was expected or is left out
+abbrev pub parse_text : ParseError → List ℕ
+parse_text (parse.Lex error) = lex_text error
+parse_text (parse.Expected place wanted) = codes "parse " ++ place_text place ++ codes " Expected " ++ wanted_text wanted
+parse_text (parse.LeftOut place word) = codes "parse " ++ place_text place ++ codes " LeftOut " ++ word.now
+parse_text (parse.TooDeep place) = codes "parse " ++ place_text place ++ codes " TooDeep"
+parse_text parse.Memory = codes "parse Memory"
 
 -- `parse L:C LeftOut word`, with the first word of what isn't run
 abbrev pub not_run_text : NotRun → List ℕ
@@ -69,16 +70,16 @@ script_text script.Memory = codes "script Memory"
 abbrev pub run_text : RunError → List ℕ
 run_text error = codes "run Memory"
 
-abbrev pub IsRefusalText : Refusal → List ℕ → Type 0
-IsRefusalText (refusal.Parse error) text = IsParseText error text
-IsRefusalText (refusal.NotRun error) text = text ≡ not_run_text error
-IsRefusalText (refusal.Build error) text = text ≡ build_text error
-IsRefusalText (refusal.Script error) text = text ≡ script_text error
-IsRefusalText (refusal.Run error) text = text ≡ run_text error
+abbrev pub refusal_text : Refusal → List ℕ
+refusal_text (refusal.Parse error) = parse_text error
+refusal_text (refusal.NotRun error) = not_run_text error
+refusal_text (refusal.Build error) = build_text error
+refusal_text (refusal.Script error) = script_text error
+refusal_text (refusal.Run error) = run_text error
 
--- such a text as a line
-abbrev pub IsLineOf : (List ℕ → Type 0) → List ℕ → Type 0
-IsLineOf Is line = (text : List ℕ) × Is text × (line ≡ text ++ 10 ∷ [])
+abbrev pub line_of : List ℕ → List ℕ
+line_of text = text ++ 10 ∷ []
 
-abbrev pub IsRefusalLine : Refusal → List ℕ → Type 0
-IsRefusalLine refusal line = IsLineOf (IsRefusalText refusal) line
+-- the line that tells a refusal
+abbrev pub refusal_line : Refusal → List ℕ
+refusal_line refusal = line_of (refusal_text refusal)

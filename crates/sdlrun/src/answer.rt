@@ -5,8 +5,8 @@ ghost use Rattle.std.specs.Io.KnownBytes.{Appends};
 ghost use Rattle.sdl_report.specs.ReportText.{report_text};
 ghost use Rattle.sdl_tree.specs.Canonical.{canonical_text};
 ghost use Rattle.sdl_tree.specs.Views.{plain_tree};
-ghost use Rattle.sdlrun.specs.Answer.{BreaksOff, FailsToTell, FailsToPrint, outcome_by, outcome_of};
-ghost use Rattle.sdlrun.specs.RefusalText.{IsRefusalLine};
+ghost use Rattle.sdlrun.specs.Answer.{BreaksOff, FailsToPrint, outcome_by, outcome_of};
+ghost use Rattle.sdlrun.specs.RefusalText.{refusal_line};
 
 use crate::options::{Outcome, TextFault};
 use crate::refusal::Refusal;
@@ -55,8 +55,8 @@ pub fn refuse<W: Write>(
     writer: &mut W,
 ) -> Result<Outcome, TextFault>
     ensures how { IfOk result (λ how. how ≡ outcome_of refusal.now) }
-    ensures ok { OnOk result ((line : List ℕ) × IsRefusalLine refusal.now line × Appends (W.contents writer.old) (W.contents writer.new) line) }
-    ensures err { IfErr result (λ fault. FailsToTell fault refusal.now (W.contents writer.old) (W.contents writer.new)) }
+    ensures ok { OnOk result (Appends (W.contents writer.old) (W.contents writer.new) (refusal_line refusal.now)) }
+    ensures err { IfErr result (λ fault. FailsToPrint fault (refusal_line refusal.now) (W.contents writer.old) (W.contents writer.new)) }
 {
     if let Some(line) = fixed_line(refusal) {
         return tell(refusal, line, writer);

@@ -3,7 +3,7 @@
 ghost use Rattle.std.specs.Prelude.{◌≡◌, ◌++◌, codes, IfOk, IfSome};
 ghost use Rattle.std.specs.String.{string_bytes};
 ghost use Rattle.sdl_lex.specs.Place.{place_text};
-ghost use Rattle.sdlrun.specs.RefusalText.{IsLineOf, IsParseText, IsRefusalLine, build_text, lex_text, not_run_text, script_text, told_of};
+ghost use Rattle.sdlrun.specs.RefusalText.{build_text, lex_text, line_of, not_run_text, parse_text, refusal_line, script_text, told_of};
 
 use crate::refusal::Refusal;
 use sdl_core::NotRun;
@@ -16,7 +16,7 @@ use std::alloc::{AllocError, Global};
 
 /// The line of a refusal by want of memory, and of a text that is too long. It needs no memory.
 pub fn fixed_line(refusal: &Refusal) -> Option<&'static str>
-    ensures { IfSome result (λ line. IsRefusalLine refusal.now line.now) }
+    ensures { IfSome result (λ line. line.now ≡ refusal_line refusal.now) }
 {
     match refusal {
         Refusal::Parse(error) => fixed_parse_line(error),
@@ -28,7 +28,7 @@ pub fn fixed_line(refusal: &Refusal) -> Option<&'static str>
 }
 
 fn fixed_parse_line(error: &ParseError) -> Option<&'static str>
-    ensures { IfSome result (λ line. IsLineOf (IsParseText error.now) line.now) }
+    ensures { IfSome result (λ line. line.now ≡ line_of (parse_text error.now)) }
 {
     match error {
         ParseError::Lex(error) => fixed_lex_line(error),
@@ -38,7 +38,7 @@ fn fixed_parse_line(error: &ParseError) -> Option<&'static str>
 }
 
 fn fixed_lex_line(error: &LexError) -> Option<&'static str>
-    ensures { IfSome result (λ line. IsLineOf (λ text. text ≡ lex_text error.now) line.now) }
+    ensures { IfSome result (λ line. line.now ≡ line_of (lex_text error.now)) }
 {
     match error {
         LexError::TooLong => Some("lex 1:1 TooLong\n"),
@@ -48,7 +48,7 @@ fn fixed_lex_line(error: &LexError) -> Option<&'static str>
 }
 
 fn fixed_not_run_line(error: &NotRun) -> Option<&'static str>
-    ensures { IfSome result (λ line. IsLineOf (λ text. text ≡ not_run_text error.now) line.now) }
+    ensures { IfSome result (λ line. line.now ≡ line_of (not_run_text error.now)) }
 {
     match error {
         NotRun::Memory => Some("parse Memory\n"),
@@ -57,7 +57,7 @@ fn fixed_not_run_line(error: &NotRun) -> Option<&'static str>
 }
 
 fn fixed_build_line(error: &BuildError) -> Option<&'static str>
-    ensures { IfSome result (λ line. IsLineOf (λ text. text ≡ build_text error.now) line.now) }
+    ensures { IfSome result (λ line. line.now ≡ line_of (build_text error.now)) }
 {
     match error {
         BuildError::Memory => Some("build Memory\n"),
@@ -66,7 +66,7 @@ fn fixed_build_line(error: &BuildError) -> Option<&'static str>
 }
 
 fn fixed_script_line(error: &ScriptError) -> Option<&'static str>
-    ensures { IfSome result (λ line. IsLineOf (λ text. text ≡ script_text error.now) line.now) }
+    ensures { IfSome result (λ line. line.now ≡ line_of (script_text error.now)) }
 {
     match error {
         ScriptError::Memory => Some("script Memory\n"),
@@ -76,7 +76,7 @@ fn fixed_script_line(error: &ScriptError) -> Option<&'static str>
 
 /// The line of a refusal.
 pub fn refusal_line(alloc: Global, refusal: &Refusal) -> Result<String, AllocError>
-    ensures { IfOk result (λ line. IsRefusalLine refusal.now (string_bytes line)) }
+    ensures { IfOk result (λ line. string_bytes line ≡ refusal_line refusal.now) }
 {
     let mut line = match refusal {
         Refusal::Parse(error) => parse_text(alloc, error)?,
@@ -90,15 +90,11 @@ pub fn refusal_line(alloc: Global, refusal: &Refusal) -> Result<String, AllocErr
 }
 
 fn parse_text(alloc: Global, error: &ParseError) -> Result<String, AllocError>
-    ensures { IfOk result (λ text. IsParseText error.now (string_bytes text)) }
+    ensures { IfOk result (λ text. string_bytes text ≡ parse_text error.now) }
 {
     match error {
         ParseError::Lex(error) => lex_text(alloc, error),
-        ParseError::Expected(place, wanted) => {
-            let place = *place;
-            let word = format!(in alloc; "{wanted}")?;
-            expected_text(alloc, place, word.as_str())
-        }
+        ParseError::Expected(place, wanted) => expected_text(alloc, *place, wanted.text()),
         ParseError::LeftOut(place, word) => left_out_text(alloc, *place, word),
         ParseError::TooDeep(place) => {
             let place = *place;

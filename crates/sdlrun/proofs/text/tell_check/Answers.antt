@@ -14,7 +14,7 @@ returns-in-Ok-clause-ok g c =
 pub returns-in-Ok-clause-err : goal.returns-in-Ok-clause-err
 returns-in-Ok-clause-err g c =
     let tree = plain_tree c.in-Ok.tree in
-    prints_not c.args.input.now c.args.options.now (canonical_text tree) _ _ c.canonical.result
+    prints_not c.args.input.now c.args.options.now outcome.Whole (canonical_text tree) _ _ c.canonical.result
     (canonical_says c.args.input.now c.args.options.now tree c.requires c.in-Ok.ensures.ok) c.canonical.ensures.err
 
 pub returns-in-Err-clause-ok : goal.returns-in-Err-clause-ok
