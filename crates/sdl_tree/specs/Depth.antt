@@ -1,4 +1,5 @@
--- How deep parentheses and decisions stand inside each other.
+-- How deep parentheses and decisions stand inside each other. Each parenthesis counts here, also one that the grammar doesn't
+-- count.
 use denote.Enum.Bare.{sameb}
 use Rattle.std.specs.Prelude.{◌≡◌, ℕ, ◌+◌, ◌-◌, ◌≤◌, Bool, true, ◌||◌, if◌then◌else◌, [], ◌∷◌, ◌++◌, length}
 use Rattle.sdl_tree.specs.contracts.mark.Mark.{the_type}

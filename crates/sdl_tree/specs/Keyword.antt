@@ -1,5 +1,5 @@
 -- The spellings of words, and the words that no name is spelled like.
-use Rattle.std.specs.Prelude.{ℕ, Bool, ◌||◌, Option, List, [], ◌∷◌, ◌++◌, map, is_some, option_map, codes}
+use Rattle.std.specs.Prelude.{◌≡◌, ℕ, Bool, ◌||◌, Option, List, [], ◌∷◌, ◌++◌, map, is_some, option_map, codes}
 use Rattle.std.specs.Borrow.{Bor}
 use Rattle.std.specs.Char.{to_ascii_uppercase}
 use Rattle.std.specs.List.{find}
@@ -67,3 +67,11 @@ left_out_found bytes = lower_case_in (map (λ lower. (lower, in_upper_case lower
 -- whether a word is reserved: a keyword or a literal, or a word for what is left out
 unfoldable pub is_reserved : List ℕ → Bool
 is_reserved word = is_some (keyword_found word) || is_some (left_out_found word)
+
+-- These entries are enough to look up a keyword or a literal that begins with this byte.
+abbrev pub AreKeywordsFrom : ℕ → List (Mark × List ℕ) → Type 0
+AreKeywordsFrom first entries = (rest : List ℕ) → entry_in entries (first ∷ rest) ≡ keyword_found (first ∷ rest)
+
+-- These entries are enough to look up a word that is left out and begins with this byte.
+abbrev pub AreLeftOutFrom : ℕ → List (List ℕ × List ℕ) → Type 0
+AreLeftOutFrom first entries = (rest : List ℕ) → lower_case_in entries (first ∷ rest) ≡ left_out_found (first ∷ rest)

@@ -1,6 +1,6 @@
 -- Which words spell which tree: the grammar of the language (Z.106). Each relation says that the words `i`, up to the
--- rest `j`, spell a tree, and is headed by its production. Where a part may be left out and the next word could begin
--- it, it stands: the rest then doesn't begin with that word.
+-- rest `j`, spell a tree, and is headed by its production. Where a text could be read with a part and without it (a condition,
+-- a priority, a priority input), the relation says that it stands: the rest doesn't begin with its first word.
 pub mod Behaviour
 pub mod Expressions
 pub mod Parts

@@ -1,7 +1,7 @@
 //! Expressions.
 
 ghost use Rattle.std.specs.Prelude.{◌≡◌};
-ghost use Rattle.sdl_tree.specs.Spells.Expressions.{looseness, operator_mark, unary_mark, value_mark};
+ghost use Rattle.sdl_tree.specs.Spells.Expressions.{operator_mark, unary_mark, value_mark};
 
 use crate::mark::Mark;
 use crate::name::{Name, Number, Spelling};
@@ -151,26 +151,6 @@ impl Operator {
             Operator::Divide => Mark::Slash,
             Operator::Mod => Mark::Mod,
             Operator::Rem => Mark::Rem,
-        }
-    }
-
-    /// How loosely it binds, from 2 of the strongest level to 7 of `=>`. A primary binds with 0 and a unary operator
-    /// with 1.
-    pub fn looseness(self) -> usize
-        ensures { result ≡ looseness self }
-    {
-        match self {
-            Operator::Implies => 7,
-            Operator::Or | Operator::Xor => 6,
-            Operator::And => 5,
-            Operator::Equal
-            | Operator::NotEqual
-            | Operator::Less
-            | Operator::LessOrEqual
-            | Operator::Greater
-            | Operator::GreaterOrEqual => 4,
-            Operator::Plus | Operator::Minus => 3,
-            Operator::Times | Operator::Divide | Operator::Mod | Operator::Rem => 2,
         }
     }
 }
