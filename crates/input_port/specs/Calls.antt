@@ -120,7 +120,7 @@ pub record Meets (old new : Owning) (sender back : Sending) : Type 0 where
   pub own : of back.number back.seen ≡ of sender.number sender.seen
   pub seen : back.seen ≡ new.known
 
--- All that was put is drawn, and what the owner knew among it. The answer is what waits in the port of the standard after that:
+-- Entries are drawn until nothing is left of what the owner knew. The answer is what waits in the port of the standard after that:
 -- what was put and neither taken nor reset, in its order, each timer's signal with the fuse that its set gave.
 pub record Finishes (old : Owning) (answer : List Entry) : Type 0 where
   pub news : List Placed
@@ -147,7 +147,7 @@ pub record GathersSince (old new : Retiring) (sender : Sending) : Type 0 where
   pub state : new.owner.state ≡ old.owner.state
   pub since : new.since ≡ old.since ++ map entry_of news
 
--- All that was put is drawn after the stop: these are the entries drawn since. What the owner knew is drawn too.
+-- After the stop entries are drawn until nothing is left of what the owner knew: these are the entries drawn since.
 pub record FinishesSince (old : Retiring) (answer : List Entry) : Type 0 where
   pub news : List Placed
   pub next : AreNext old.owner.drawn news

@@ -1,4 +1,4 @@
-ghost use Rattle.std.specs.Prelude.{◌≡◌, ◌≤◌, [], MatchResult};
+ghost use Rattle.std.specs.Prelude.{◌≡◌, [], MatchResult};
 ghost use Rattle.port_model.specs.Port.{empty_port, expires, expire_in, put_into};
 ghost use Rattle.input_port.specs.Ends.{single};
 
@@ -44,10 +44,9 @@ impl Alone {
         }
     }
 
-    /// Expires a timer, and says whether its signal was put. That its time has come is the caller's condition. For want of
-    /// memory the fuse comes back.
+    /// Expires a timer, and says whether its signal was put: before its time, and after another set or a reset, nothing changes.
+    /// For want of memory the fuse comes back.
     pub fn expire(&mut self, fuse: Fuse, at: u64) -> Result<bool, Unput<Fuse>>
-        requires { fuse.due ≤ at }
         ensures { MatchResult result (λ expired. (expired ≡ expires self.old.state fuse.key fuse.arm fuse.due at) × (self.new ≡ record self.old { state = expire_in self.old.state fuse.key fuse.arm fuse.due at })) (λ back. (back.value ≡ fuse) × (self.new ≡ self.old)) }
     {
         match self.fused.expire(&fuse, at) {

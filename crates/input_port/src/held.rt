@@ -44,7 +44,7 @@ impl<'a, R: Wait> Held<'a, R> {
         }
     }
 
-    /// Draws all that was put, and gives what is left: as `Owner::finish`, or after a stop as `Retired::finish`. For want of
+    /// Draws what stands in the port, and gives what is left: as `Owner::finish`, or after a stop as `Retired::finish`. For want of
     /// memory the inbox comes back, and keeps what it has drawn.
     pub fn finish(self) -> Result<Vec<Entry>, (PortError, Self)>
         ensures { MatchResult result (λ list. Leaves self.entry list.items) (λ back. (back.0 ≡ PortError.Memory) × HasDrawnHere self.entry back.1) }

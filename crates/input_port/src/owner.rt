@@ -280,9 +280,9 @@ impl Owner {
         popped
     }
 
-    /// Draws all that was put, and gives what is left in the port: what was put and neither taken nor reset, in order. For want
-    /// of memory the owner comes back, with what it has drawn in its port. That the port is the owner's is the caller's
-    /// condition.
+    /// Draws what stands in the port, all that the owner knows among it, and gives what is left: what was put and neither
+    /// taken nor reset, in order. For want of memory the owner comes back, with what it has drawn in its port. That the
+    /// port is the owner's is the caller's condition.
     pub fn finish<R: Wait>(mut self, rt: &R, port: &Port) -> Result<Vec<Entry>, (PortError, Owner)>
         requires { self.port ≡ port.now.queue }
         ensures { MatchResult result (λ list. Finishes self list.items) (λ back. (back.0 ≡ PortError.Memory) × HasDrawn self back.1) }

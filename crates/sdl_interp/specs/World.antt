@@ -1,5 +1,5 @@
 -- What lies outside of an instance, as it makes its steps: the clock, who lives, and what it has sent.
-use Rattle.std.specs.Prelude.{◌≡◌, ◌≤◌, ℕ, List, [], ◌∷◌, ◌++◌, Option, None, Some, IfSome}
+use Rattle.std.specs.Prelude.{◌≡◌, max, ℕ, List, [], ◌∷◌, ◌++◌, Option, None, Some, IfSome}
 use Rattle.port_model.specs.declared.item.Item.{Item}
 use Rattle.port_model.specs.declared.item.SignalId.{SignalId}
 use Rattle.port_model.specs.declared.pid.Pid.TheVariants.{Of}
@@ -29,9 +29,9 @@ pub record WorldValue : Type 0 where
 abbrev pub IsClock : WorldValue → ℕ → Type 0
 IsClock w time = IfSome w.clock (λ clock. time ≡ clock)
 
--- a step of an instance whose latest step had the time `earlier` may have this time: the clock's, unless that lies before
+-- the time of a step of an instance whose latest step had the time `earlier`: the later of the clock's and that
 abbrev pub IsReading : WorldValue → ℕ → ℕ → Type 0
-IsReading w earlier at = IfSome w.clock (λ clock. (clock ≤ at) × (earlier ≤ clock → at ≡ clock))
+IsReading w earlier at = IfSome w.clock (λ clock. at ≡ max clock earlier)
 
 -- the signal of an instance of this process reaches this target, by the instances that live now, or by some
 abbrev pub IsRouteBy : System → Option (List (Option ℕ)) → SignalId → ProcessId → Target → Type 0

@@ -6,11 +6,10 @@ use Rattle.port_model.specs.declared.value.Value.{Value}
 use Rattle.sdl_system.specs.Reserved.{is_reserved}
 use Rattle.sdl_report.specs.declared.fault.Fault.{Fault}
 use Rattle.sdl_report.specs.declared.fault.Fault.TheVariants.{Syntax, BackInTime, UnknownSignal, Arguments, Memory}
-use Rattle.sdl_report.specs.declared.spelling.TheConstants.{LATEST_TIME}
 use Rattle.sdl_report.specs.Part.{past_blanks, SpellsNumber}
 use Rattle.sdl_report.specs.Reading.{number, word, HasNoTime}
 use Rattle.sdl_report.specs.Spelled.{IsSyntaxFault}
-use Rattle.sdl_report.specs.Spelling.{Spelled, SpellsSignal, SpellsValues, SpellsLine, IsNoSpelling}
+use Rattle.sdl_report.specs.Spelling.{Spelled, SpellsSignal, SpellsValues, SpellsLine, IsNoSpelling, latest_time}
 use Rattle.sdl_report.proofs.ReadingLemmas.{number_sound, number_complete, word_sound, word_complete}
 use Rattle.sdl_report.proofs.ValueLemmas.{NoValues}
 
@@ -21,7 +20,7 @@ syntax_weaker BackInTime f h = h
 syntax_weaker UnknownSignal f h = h
 syntax_weaker Arguments f h = h
 
-time_sound : (at : ℕ) (bytes rest : List ℕ) → number bytes ≡ Some (at, rest) → at ≤ LATEST_TIME → SpellsNumber at bytes rest
+time_sound : (at : ℕ) (bytes rest : List ℕ) → number bytes ≡ Some (at, rest) → at ≤ latest_time → SpellsNumber at bytes rest
 time_sound at bytes rest e within =
     let s = number_sound at bytes rest e in
     let cut = s.2 in
@@ -43,10 +42,10 @@ module _ (line : List ℕ) where
       omega (arith, late, within)
 
 module _ (line : List ℕ) (at : ℕ) (rest : List ℕ) (read : number (past_blanks line) ≡ Some (at, rest)) where
-  pub line_alone : at ≤ LATEST_TIME → rest ≡ [] → SpellsLine at None line
+  pub line_alone : at ≤ latest_time → rest ≡ [] → SpellsLine at None line
   line_alone within nil = (rest, time_sound at (past_blanks line) rest read within, within, nil)
 
-  pub line_whole : at ≤ LATEST_TIME → (name m : List ℕ) (values : List (Option Value)) → word rest ≡ Some (name, m) → is_reserved name ≡ false → SpellsValues values m
+  pub line_whole : at ≤ latest_time → (name m : List ℕ) (values : List (Option Value)) → word rest ≡ Some (name, m) → is_reserved name ≡ false → SpellsValues values m
       → SpellsLine at (Some (record { name = name; values = values })) line
   line_whole within name m values named free all =
       (rest, time_sound at (past_blanks line) rest read within, within, (m, word_sound name rest m named, free, all))

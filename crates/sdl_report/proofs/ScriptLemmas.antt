@@ -9,11 +9,10 @@ use Rattle.sdl_system.specs.declared.system.System.{System}
 use Rattle.sdl_report.specs.declared.fault.Fault.{Fault}
 use Rattle.sdl_report.specs.declared.fault.Fault.TheVariants as fault
 use Rattle.sdl_report.specs.declared.script.ScriptLine.{ScriptLine}
-use Rattle.sdl_report.specs.declared.spelling.TheConstants.{LATEST_TIME}
 use Rattle.sdl_report.specs.Script.{IsScript, IsNext, SendsFromEnv, end_of}
 use Rattle.sdl_report.specs.ScriptText.{Reading, IsRead, AreLines, BeginsWith, SaysNothing, SaysUpTo, Adds, HasFault, HasSignalFault, FaultAt, Refuses, all_said, refusal}
 use Rattle.sdl_report.specs.Spelled.{IsSyntaxFault}
-use Rattle.sdl_report.specs.Spelling.{Spelled, SpellsLine, IsNoSpelling}
+use Rattle.sdl_report.specs.Spelling.{Spelled, SpellsLine, IsNoSpelling, latest_time}
 
 -- where there is a line, the end is the time of the last one
 end_of_last : (lines : List ScriptLine) (default : ScriptLine) → 0 < length lines
@@ -28,7 +27,7 @@ pub script_grows : (system : System) (lines : List ScriptLine) (line : ScriptLin
 script_grows system lines line script next = record {
   in_order = IsNonDecreasingBy-push (λ l. l.at) lines line script.in_order
       (λ d some. let last = end_of_last lines d some in let P : ℕ → Type 0 = λ t. t ≤ line.at in subst P last next.not_before);
-  within = All-push (λ l. l.at ≤ LATEST_TIME) lines line script.within next.within;
+  within = All-push (λ l. l.at ≤ latest_time) lines line script.within next.within;
   from_env = All-push (SendsFromEnv system) lines line script.from_env next.from_env;
 }
 

@@ -4,9 +4,8 @@ use Rattle.std.specs.Prelude.{◌≡◌, ℕ, ◌<◌, ◌-◌, ◌^◌, ◌==�
 use Rattle.std.specs.Char.{is_ascii_alphabetic, is_ascii_digit}
 use Rattle.std.specs.List.{prefix_len}
 use Rattle.port_model.specs.declared.value.Value.{Value}
-use Rattle.sdl_report.specs.declared.spelling.TheConstants.{LATEST_TIME}
 use Rattle.sdl_report.specs.Part.{decimal, is_word_byte, past_blanks}
-use Rattle.sdl_report.specs.Spelling.{positive, negative, numbered, literal}
+use Rattle.sdl_report.specs.Spelling.{positive, negative, numbered, literal, latest_time}
 
 -- what comes of a reading, and what where there is none
 abbrev pub on : {A B : Type 0} → Option A → B → (A → B) → B
@@ -46,4 +45,4 @@ value bytes =
 
 -- no number stands there, or a time that is too late
 abbrev pub HasNoTime : List ℕ → Type 0
-HasNoTime bytes = (n : ℕ) (rest : List ℕ) → number bytes ≡ Some (n, rest) → LATEST_TIME < n
+HasNoTime bytes = (n : ℕ) (rest : List ℕ) → number bytes ≡ Some (n, rest) → latest_time < n

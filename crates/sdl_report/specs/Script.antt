@@ -6,7 +6,7 @@ use Rattle.port_model.specs.declared.item.Item.{Item}
 use Rattle.sdl_system.specs.Route.{is_input_somewhere}
 use Rattle.sdl_system.specs.declared.system.System.{System}
 use Rattle.sdl_report.specs.declared.script.ScriptLine.{ScriptLine}
-use Rattle.sdl_report.specs.declared.spelling.TheConstants.{LATEST_TIME}
+use Rattle.sdl_report.specs.Spelling.{latest_time}
 
 -- the time of the last line, 0 for none
 abbrev pub end_of : List ScriptLine → ℕ
@@ -26,11 +26,11 @@ SendsFromEnv system line = IfSome line.signal (IsFromEnv system)
 -- the line may stand behind one of that time
 pub record IsNext (system : System) (earliest : ℕ) (line : ScriptLine) : Type 0 where
   pub not_before : earliest ≤ line.at
-  pub within : line.at ≤ LATEST_TIME
+  pub within : line.at ≤ latest_time
   pub from_env : SendsFromEnv system line
 
 -- the lines are a script for the system: times never fall and keep the limit, and the environment may send each signal
 pub record IsScript (system : System) (lines : List ScriptLine) : Type 0 where
   pub in_order : IsNonDecreasingBy (λ line. line.at) lines
-  pub within : All (λ line. line.at ≤ LATEST_TIME) lines
+  pub within : All (λ line. line.at ≤ latest_time) lines
   pub from_env : All (SendsFromEnv system) lines

@@ -6,7 +6,6 @@ use Rattle.port_model.specs.declared.pid.Pid.TheVariants.{Null, Env, Of}
 use Rattle.port_model.specs.declared.value.Value.{Value}
 use Rattle.port_model.specs.declared.value.Value.TheVariants as value
 use Rattle.sdl_system.specs.Reserved.{is_reserved}
-use Rattle.sdl_report.specs.declared.spelling.TheConstants.{LATEST_TIME}
 use Rattle.sdl_report.specs.Part.{past_blanks, SpellsMark, SpellsNumber, SpellsWord}
 
 -- the value of a number, a negative number and the number of an instance; none where no sort holds it: an Integer has 64
@@ -74,9 +73,13 @@ SpellsSignal None bytes = bytes ≡ []
 SpellsSignal (Some signal) bytes =
     (m : List ℕ) × SpellsWord signal.name bytes m × IsFalse (is_reserved signal.name) × SpellsValues signal.values m
 
+-- the latest time of a script, in ticks
+abbrev pub latest_time : ℕ
+latest_time = 1000000000000000
+
 -- the line is a time and a signal, or a time alone
 abbrev pub SpellsLine : ℕ → Option Spelled → List ℕ → Type 0
-SpellsLine at signal line = (m : List ℕ) × SpellsNumber at (past_blanks line) m × (at ≤ LATEST_TIME) × SpellsSignal signal m
+SpellsLine at signal line = (m : List ℕ) × SpellsNumber at (past_blanks line) m × (at ≤ latest_time) × SpellsSignal signal m
 
 -- no time and signal are spelled by the line
 abbrev pub IsNoSpelling : List ℕ → Type 0

@@ -46,21 +46,32 @@ pub fn push_event(
             writeln!(text, "  output {name}{values} to {receiver}")
         }
         Event::NextState { state } => {
-            let name = state_name(system, record.process, *state);
-            writeln!(text, "  nextstate {name}")
+            push_state_line(
+                text,
+                "  nextstate ",
+                state_name(system, record.process, *state),
+            )
         }
         Event::Stop => writeln!(text, "  stop"),
         Event::Failed { why } => writeln!(text, "  failed {why}"),
         Event::Rest { state } => {
-            let name = state_name(system, record.process, *state);
-            writeln!(text, "rest {name}")
+            push_state_line(text, "rest ", state_name(system, record.process, *state))
         }
         Event::Cut { state: Some(state) } => {
-            let name = state_name(system, record.process, *state);
-            writeln!(text, "cut {name}")
+            push_state_line(text, "cut ", state_name(system, record.process, *state))
         }
         Event::Cut { state: None } => writeln!(text, "cut start"),
     }
+}
+
+// Appends the line of a state.
+fn push_state_line(text: &mut String, beginning: &str, state: &str) -> Result<(), AllocError>
+    ensures { OnOk result (string_bytes text.new ≡ string_bytes text.old
+        ++ line (beginning.now ++ state.now)) }
+{
+    text.push_str(beginning)?;
+    text.push_str(state)?;
+    text.push('\n')
 }
 
 // Appends `S from X` and ends the line. A timer's signal comes from the instance itself.

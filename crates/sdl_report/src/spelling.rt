@@ -4,7 +4,7 @@ ghost use Rattle.std.specs.Prelude.{◌≡◌, ◌≤◌, Option, Some, None, Li
 ghost use Rattle.port_model.specs.declared.value.Value as the_value;
 ghost use Rattle.sdl_report.specs.Reading as reading;
 ghost use Rattle.sdl_report.specs.Spelled.{IsSyntaxFault, plain_signal};
-ghost use Rattle.sdl_report.specs.Spelling.{IsNoSpelling, SpellsLine, SpellsValues, literal, negative, numbered, positive};
+ghost use Rattle.sdl_report.specs.Spelling.{IsNoSpelling, SpellsLine, SpellsValues, latest_time, literal, negative, numbered, positive};
 
 use crate::cursor::Cursor;
 use crate::fault::Fault;
@@ -56,7 +56,7 @@ impl<'a> Spelling<'a> {
 
 fn read_time(cursor: &mut Cursor<'_>) -> Result<u64, Fault>
     ensures { MatchResult result
-        (λ at. (reading.number cursor.old ≡ Some (at, cursor.new)) × (at ≤ LATEST_TIME))
+        (λ at. (reading.number cursor.old ≡ Some (at, cursor.new)) × (at ≤ latest_time))
         (λ fault. (fault ≡ Fault.Syntax) × reading.HasNoTime cursor.old) }
 {
     match cursor.number() {

@@ -10,7 +10,7 @@ use Rattle.sdl_report.specs.declared.script.ScriptLine.{ScriptLine}
 use Rattle.sdl_system.specs.Behaviour.{Behaviour, IsBehaviour}
 use Rattle.sdl_system.specs.declared.process.Process.{Process}
 use Rattle.sdl_system.specs.declared.system.System.{System}
-use Rattle.sdl_workers.specs.Course.{Happening, Course, transitions_of}
+use Rattle.sdl_workers.specs.Course.{Happening, Course, transitions_of, EndsInTransition}
 use Rattle.sdl_workers.specs.Global.{AreBehaviours, beginning, first_instances}
 use Rattle.sdl_workers.specs.Report.{Closes, AreClosed, Ends, IsSerialReport}
 use Rattle.sdl_workers.specs.Serial.{instances_of, state_of, IsSerial, IsResting, Reaches}
@@ -60,8 +60,8 @@ closes_at ps s place member whole trace behaviours serial there recorded run =
     let known = behaves_at ps s.system.now place member.instance behaviours (member_at 0 s.system.now.processes.items (instances_of s.members.items) place member.instance serial.members at_place) in
     record { p = known.p; behaves = known.is_there; recorded = recorded; run = run known.p known.behaves }
 
-ends_by : (ps : List Behaviour) (lines : List ScriptLine) (limit : ℕ) (t : Serial) (happenings : List Happening) (end : ℕ) (whole : Bool) → AreBehaviours t.system.now ps → IsSerial t → t.left + transitions_of happenings ≡ limit → (IsTrue whole → All IsResting t.members.items × (t.script.now ≡ []) × (0 < t.left)) → IsTrue whole ⊎ (t.left ≡ 0) → ((whole ≡ true) × (end ≡ end_of lines)) ⊎ ((whole ≡ false) × (end ≡ t.clock)) → Ends whole ps lines limit happenings (state_of t) end
-ends_by ps lines limit t happenings end true behaviours serial counted rests cut is_end =
+ends_by : (ps : List Behaviour) (lines : List ScriptLine) (limit : ℕ) (t : Serial) (happenings : List Happening) (end : ℕ) (whole : Bool) → AreBehaviours t.system.now ps → IsSerial t → t.left + transitions_of happenings ≡ limit → (t.left ≡ 0 → EndsInTransition happenings) → (IsTrue whole → All IsResting t.members.items × (t.script.now ≡ []) × (0 < t.left)) → IsTrue whole ⊎ (t.left ≡ 0) → ((whole ≡ true) × (end ≡ end_of lines)) ⊎ ((whole ≡ false) × (end ≡ t.clock)) → Ends whole ps lines limit happenings (state_of t) end
+ends_by ps lines limit t happenings end true behaviours serial counted reached rests cut is_end =
     let h = rests refl in
     record {
       rest = all_rest ps t behaviours serial h.0;
@@ -69,10 +69,11 @@ ends_by ps lines limit t happenings end true behaviours serial counted rests cut
       few = omega (arith, counted, h.2);
       is_end = elim is_end [ inl w ↦ w.1 | inr w ↦ let wrong : ⊥ = cc (w.0) in elim wrong [ ] ];
     }
-ends_by ps lines limit t happenings end false behaviours serial counted rests cut is_end =
+ends_by ps lines limit t happenings end false behaviours serial counted reached rests cut is_end =
     let spent : t.left ≡ 0 = elim cut [ inl w ↦ let wrong : ⊥ = cc in elim wrong [ ] | inr w ↦ w ] in
     record {
       all = omega (arith, counted, spent);
+      reached = reached spent;
       is_end = elim is_end [ inl w ↦ let wrong : ⊥ = cc (w.0) in elim wrong [ ] | inr w ↦ w.1 ];
     }
 
@@ -91,5 +92,5 @@ report ps system lines limit s t told behaviours state left reaches serial rests
       heard = are_heard course;
       matched = λ env. are_matched env course;
       records = records ps last;
-      ends = ends_by ps lines limit t run.happenings told.end told.whole last serial (run.counted ∙ left) rests cut is_end;
+      ends = ends_by ps lines limit t run.happenings told.end told.whole last serial (run.counted ∙ left) run.reached rests cut is_end;
     }

@@ -1,7 +1,7 @@
 -- Courses join, and so does how far a run goes.
-use Rattle.std.proofs.Common.{◌≡◌, ◌+◌, List, [], ◌∷◌, ◌++◌, ap, ◌∙◌, sym, subst, append_assoc, append-nil, arith}
+use Rattle.std.proofs.Common.{◌≡◌, ◌+◌, List, [], ◌∷◌, ◌++◌, refl, inl, inr, ap, ◌∙◌, sym, subst, append_assoc, append-nil, arith}
 use Rattle.sdl_system.specs.Behaviour.{Behaviour}
-use Rattle.sdl_workers.specs.Course.{Happening, Course, begins, goes, Follows, transitions_of, transitions_of_one}
+use Rattle.sdl_workers.specs.Course.{Happening, Course, begins, goes, Follows, transitions_of, transitions_of_one, IsTransition, EndsInTransition}
 use Rattle.sdl_workers.specs.Global.{Global, AreBehaviours, IsNoneDue}
 use Rattle.sdl_workers.specs.Serial.{Advances, Reaches, state_of}
 use Rattle.sdl_workers.specs.declared.serial.Serial.{Serial}
@@ -15,12 +15,21 @@ pub transitions_of-append : (before after : List Happening) → transitions_of (
 transitions_of-append [] after = omega arith
 transitions_of-append (first ∷ rest) after = omega (arith, transitions_of-append rest after)
 
+-- of two courses the later one ends the whole, unless nothing happened in it
+ends_on : (before after : List Happening) → EndsInTransition after → (after ≡ [] → EndsInTransition before) → EndsInTransition (before ++ after)
+ends_on before after ends first =
+    elim ends [
+      | inl w ↦ subst EndsInTransition (sym (ap (λ all. before ++ all) w ∙ append-nil before)) (first w)
+      | inr w ↦ inr (before ++ w.0, w.1, ap (λ all. before ++ all) w.2 ∙ sym (append_assoc before w.0 (w.1 ∷ [])), w.3)
+    ]
+
 -- nothing happened
 pub reaches_same : (s t : Serial) → state_of t ≡ state_of s → t.left ≡ s.left → Reaches s t
 reaches_same s t same left = λ ps behaviours. record {
   happenings = [];
   course = subst (λ g. Course ps (state_of s) [] g) (sym same) begins;
   counted = omega arith;
+  reached = λ spent. inl refl;
   same_system = ap (λ g. g.system) same;
 }
 
@@ -34,15 +43,17 @@ reaches_on s m t first second = λ ps behaviours.
       happenings = a.happenings ++ b.happenings;
       course = course_append a.course b.course;
       counted = omega arith;
+      reached = λ spent. ends_on a.happenings b.happenings (b.reached spent) (λ none. let made = ap transitions_of none in a.reached (omega (arith, b.counted, spent, made)));
       same_system = b.same_system ∙ a.same_system;
     }
 
 -- one thing happened, for these behaviours
-pub advances_one : (ps : List Behaviour) (s t : Serial) (happened : Happening) → Follows ps (state_of s) happened (state_of t) → t.left + transitions_of_one happened ≡ s.left → t.system.now ≡ s.system.now → Advances ps s t
-advances_one ps s t happened follows counted same = record {
+pub advances_one : (ps : List Behaviour) (s t : Serial) (happened : Happening) → Follows ps (state_of s) happened (state_of t) → t.left + transitions_of_one happened ≡ s.left → (t.left ≡ 0 → IsTransition happened) → t.system.now ≡ s.system.now → Advances ps s t
+advances_one ps s t happened follows counted reached same = record {
   happenings = [] ++ happened ∷ [];
   course = goes begins happened (state_of t) follows;
   counted = omega (arith, counted);
+  reached = λ spent. inr ([], happened, refl, reached spent);
   same_system = same;
 }
 

@@ -58,8 +58,8 @@ swept members left before place count most some is rests ends =
     ]
 
 -- the clock moves to the time of the next line
-pub tick_reaches : (s t : Serial) (line : ScriptLine) (later : List ScriptLine) → IsSerial s → IsNoneDue (state_of s) → All IsResting s.members.items → s.script.now ≡ line ∷ later → state_of t ≡ record (state_of s) { clock = line.at; until = line.at + 1 } → t.left ≡ s.left → Reaches s t
-tick_reaches s t line later serial due all next now left = λ ps behaviours.
+pub tick_reaches : (s t : Serial) (line : ScriptLine) (later : List ScriptLine) → IsSerial s → IsNoneDue (state_of s) → All IsResting s.members.items → s.script.now ≡ line ∷ later → state_of t ≡ record (state_of s) { clock = line.at; until = line.at + 1 } → t.left ≡ s.left → 0 < s.left → Reaches s t
+tick_reaches s t line later serial due all next now left some = λ ps behaviours.
     let tick : Ticks ps (state_of s) line.at (state_of t) = record {
       line = line;
       later = later;
@@ -69,11 +69,11 @@ tick_reaches s t line later serial due all next now left = λ ps behaviours.
       is_time = refl;
       now = now;
     } in
-    advances_one ps s t (Ticked line.at) tick (omega (arith, left)) (ap (λ g. g.system) now)
+    advances_one ps s t (Ticked line.at) tick (omega (arith, left)) (λ spent. absurd (omega (arith, left, some, spent))) (ap (λ g. g.system) now)
 
 -- the next line is heard
-pub hear_reaches : (s t : Serial) (line : ScriptLine) (later : List ScriptLine) (sent : List Sent) → s.script.now ≡ line ∷ later → s.begun ≡ true → line.at ≤ s.clock → IsSentBy (state_of s) line.signal sent → state_of t ≡ record (state_of s) { instances = delivered_all (instances_of s.members.items) sent; script = later } → t.left ≡ s.left → Reaches s t
-hear_reaches s t line later sent next begun in_time sends now left = λ ps behaviours.
+pub hear_reaches : (s t : Serial) (line : ScriptLine) (later : List ScriptLine) (sent : List Sent) → s.script.now ≡ line ∷ later → s.begun ≡ true → line.at ≤ s.clock → IsSentBy (state_of s) line.signal sent → state_of t ≡ record (state_of s) { instances = delivered_all (instances_of s.members.items) sent; script = later } → t.left ≡ s.left → 0 < s.left → Reaches s t
+hear_reaches s t line later sent next begun in_time sends now left some = λ ps behaviours.
     let until : until_of s.begun s.clock ≡ s.clock + 1 = ap (λ b. until_of b s.clock) begun in
     let hear : Hears (state_of s) line sent (state_of t) = record {
       later = later;
@@ -82,4 +82,4 @@ hear_reaches s t line later sent next begun in_time sends now left = λ ps behav
       sends = sends;
       now = now;
     } in
-    advances_one ps s t (Heard line sent) hear (omega (arith, left)) (ap (λ g. g.system) now)
+    advances_one ps s t (Heard line sent) hear (omega (arith, left)) (λ spent. absurd (omega (arith, left, some, spent))) (ap (λ g. g.system) now)

@@ -73,8 +73,13 @@ reacts_quiet old w new v began reaction none =
 abbrev pub state_after : Serial → ℕ → Member → WorldValue → Global
 state_after s place new v = record (state_of s) { instances = delivered_all (set (instances_of s.members.items) place new.instance) v.sent }
 
-step_moves : (s t : Serial) (place : ℕ) (old new : Member) (v : WorldValue) (began : Bool) → IsSerial s → IsNoneDue (state_of s) → slice_get s.members.items place ≡ Some old → HasMoved old (around (state_of s)) new v began → state_of t ≡ state_after s place new v → t.left + cond began 1 0 ≡ s.left → Reaches s t
-step_moves s t place old new v began serial due there moved now counted = λ ps behaviours.
+-- a step that leaves none was a transition
+was_transition : (began : Bool) (left before : ℕ) → left + cond began 1 0 ≡ before → 0 < before → left ≡ 0 → began ≡ true
+was_transition true left before counted some spent = refl
+was_transition false left before counted some spent = absurd (omega (arith, counted, some, spent))
+
+step_moves : (s t : Serial) (place : ℕ) (old new : Member) (v : WorldValue) (began : Bool) → IsSerial s → IsNoneDue (state_of s) → slice_get s.members.items place ≡ Some old → HasMoved old (around (state_of s)) new v began → state_of t ≡ state_after s place new v → t.left + cond began 1 0 ≡ s.left → 0 < s.left → Reaches s t
+step_moves s t place old new v began serial due there moved now counted some = λ ps behaviours.
     let before = instances_of s.members.items in
     let at_place = instance_there s.members.items place old there in
     let member = member_at 0 s.system.now.processes.items before place old.instance serial.members at_place in
@@ -100,7 +105,7 @@ step_moves s t place old new v began serial due there moved now counted = λ ps 
       now = now ∙ ap (λ all. record (state_of s) { instances = delivered_all all v.sent }) changed ∙ ap (λ sends. record (state_of s) { instances = delivered_all (with_instance before old.instance.who.pid new.instance) sends }) sent;
     } in
     let transitions : t.left + cond (is_transition events) 1 0 ≡ s.left = subst (λ b. t.left + cond b 1 0 ≡ s.left) made.counts counted in
-    advances_one ps s t (Moved old.instance.who events made.moves.goes.calls) step transitions (ap (λ g. g.system) now)
+    advances_one ps s t (Moved old.instance.who events made.moves.goes.calls) step transitions (was_transition (is_transition events) t.left s.left transitions some) (ap (λ g. g.system) now)
 
 step_still : (s t : Serial) (place : ℕ) (old new : Member) (v : WorldValue) (began : Bool) → slice_get s.members.items place ≡ Some old → IsStill old (around (state_of s)) new v began → state_of t ≡ state_after s place new v → t.left + cond began 1 0 ≡ s.left → Reaches s t
 step_still s t place old new v began there still now counted =
@@ -112,11 +117,11 @@ step_still s t place old new v began there still now counted =
     reaches_same s t state (omega (arith, transitions))
 
 -- A step of a member, and the delivery of what it sent, brings the whole on.
-pub step_reaches : (s t : Serial) (place : ℕ) (old new : Member) (v : WorldValue) (began : Bool) → IsSerial s → IsNoneDue (state_of s) → slice_get s.members.items place ≡ Some old → Reacts old (around (state_of s)) new v began → state_of t ≡ state_after s place new v → t.left + cond began 1 0 ≡ s.left → Reaches s t
-step_reaches s t place old new v began serial due there reaction now counted =
+pub step_reaches : (s t : Serial) (place : ℕ) (old new : Member) (v : WorldValue) (began : Bool) → IsSerial s → IsNoneDue (state_of s) → slice_get s.members.items place ≡ Some old → Reacts old (around (state_of s)) new v began → state_of t ≡ state_after s place new v → t.left + cond began 1 0 ≡ s.left → 0 < s.left → Reaches s t
+step_reaches s t place old new v began serial due there reaction now counted some =
     elim reaction [
       | inl still ↦ step_still s t place old new v began there still now counted
-      | inr moved ↦ step_moves s t place old new v began serial due there moved now counted
+      | inr moved ↦ step_moves s t place old new v began serial due there moved now counted some
     ]
 
 -- what is left, where one is taken off for a transition

@@ -1,5 +1,5 @@
 -- The serial order of a run: one list of all that happens (Z.101: agents; Z.102: start, input, output).
-use Rattle.std.specs.Prelude.{◌≡◌, ◌≢◌, ℕ, ◌+◌, ◌<◌, if◌then◌else◌, Bool, false, List, [], ◌∷◌, ◌++◌, All, Option, None, Some, slice_get}
+use Rattle.std.specs.Prelude.{◌≡◌, ◌≢◌, ◌⊎◌, ℕ, ◌+◌, ◌<◌, if◌then◌else◌, Bool, true, false, List, [], ◌∷◌, ◌++◌, All, Option, None, Some, slice_get}
 use Rattle.port_model.specs.History.{PortEvent}
 use Rattle.port_model.specs.declared.item.Item.{Item}
 use Rattle.sdl_interp.specs.Instance.{InstanceValue, Moves}
@@ -23,7 +23,8 @@ pub data Happening : Type 0 where
   Ticked : ℕ → Happening
 
 -- One step of a living instance: one whole transition, a discard, or a take for which memory was refused. It sees the clock and
--- the living as they are now, and what it sends is put into the ports of its targets when it is done. No line is to be put now.
+-- the living as they are now: its time is the later of the clock's and that of the instance's step before. What it sends is put
+-- into the ports of its targets when it is done. No line is to be put now.
 pub record Steps (ps : List Behaviour) (g : Global) (who : Identity) (events : List Event) (calls : List PortEvent) (g' : Global) : Type 0 where
   pub old : InstanceValue
   pub new : InstanceValue
@@ -86,3 +87,13 @@ transitions_of_one happened = 0
 abbrev pub transitions_of : List Happening → ℕ
 transitions_of [] = 0
 transitions_of (first ∷ rest) = transitions_of_one first + transitions_of rest
+
+-- an instance made a transition
+abbrev pub IsTransition : Happening → Type 0
+IsTransition (Moved who events calls) = is_transition events ≡ true
+IsTransition happened = ⊥
+
+-- nothing happened, or a transition was made and nothing happened behind it
+abbrev pub EndsInTransition : List Happening → Type 0
+EndsInTransition happenings =
+    (happenings ≡ []) ⊎ ((before : List Happening) × (last : Happening) × (happenings ≡ before ++ last ∷ []) × IsTransition last)

@@ -8,7 +8,7 @@ use Rattle.sdl_report.specs.declared.script.ScriptLine.{ScriptLine}
 use Rattle.sdl_system.specs.Behaviour.{Behaviour}
 use Rattle.sdl_system.specs.declared.system.System.{System}
 use Rattle.sdl_workers.specs.Global.{Global, Rests, beginning}
-use Rattle.sdl_workers.specs.Course.{Happening, Course, transitions_of}
+use Rattle.sdl_workers.specs.Course.{Happening, Course, transitions_of, EndsInTransition}
 use Rattle.sdl_workers.specs.Records.{AreTold, AreMatched, AreFromEnv, lines_of}
 
 -- The record of an instance at the end of a run: all that it did, closed with Rest where the run is whole, with Cut where it
@@ -33,9 +33,11 @@ pub record EndsWhole (ps : List Behaviour) (lines : List ScriptLine) (limit : �
   pub few : transitions_of happenings < limit
   pub is_end : end ≡ end_of lines
 
--- a run was cut: just as many transitions were made as the limit allows, and it ends at the clock's time
+-- A run was cut: just as many transitions were made as the limit allows, nothing happened behind the last of them, and it ends
+-- at the clock's time. With a limit of 0 nothing happened at all.
 pub record EndsCut (limit : ℕ) (happenings : List Happening) (last : Global) (end : ℕ) : Type 0 where
   pub all : transitions_of happenings ≡ limit
+  pub reached : EndsInTransition happenings
   pub is_end : end ≡ last.clock
 
 abbrev pub Ends : Bool → List Behaviour → List ScriptLine → ℕ → List Happening → Global → ℕ → Type 0

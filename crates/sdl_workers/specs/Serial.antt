@@ -5,7 +5,7 @@ use Rattle.sdl_interp.specs.World.{WorldValue}
 use Rattle.sdl_interp.specs.declared.machine.Position.TheVariants.{Ended}
 use Rattle.sdl_system.specs.Behaviour.{Behaviour, IsBehaviour}
 use Rattle.sdl_system.specs.declared.process.Process.{Process}
-use Rattle.sdl_workers.specs.Course.{Happening, Course, transitions_of, is_transition}
+use Rattle.sdl_workers.specs.Course.{Happening, Course, transitions_of, is_transition, EndsInTransition}
 use Rattle.sdl_workers.specs.Global.{Global, AreBehaviours, is_ended}
 use Rattle.sdl_workers.specs.declared.member.Member.{Member}
 use Rattle.sdl_workers.specs.declared.serial.Serial.{Serial}
@@ -55,11 +55,13 @@ pub record IsSerial (s : Serial) : Type 0 where
   pub living : s.living.items ≡ map living_number (instances_of s.members.items)
   pub marks : All IsMarked s.members.items
 
--- a course leads from the one state to the other, and its transitions are taken off the limit
+-- A course leads from the one state to the other, and its transitions are taken off the limit. Where none is left, nothing
+-- happened behind the last of them.
 pub record Advances (ps : List Behaviour) (s t : Serial) : Type 0 where
   pub happenings : List Happening
   pub course : Course ps (state_of s) happenings (state_of t)
   pub counted : t.left + transitions_of happenings ≡ s.left
+  pub reached : t.left ≡ 0 → EndsInTransition happenings
   pub same_system : t.system.now ≡ s.system.now
 
 -- so it is for the behaviours of the system's processes

@@ -193,6 +193,7 @@ impl<'a> Serial<'a> {
         requires serial { IsSerial self.old }
         requires due { IsNoneDue (state_of self.old) }
         requires rest { All IsResting self.old.members.items }
+        requires left { 0 < self.old.left }
         requires next { self.old.script.now ≡ line.now ∷ later.now }
         ensures kept { OnOk result (IsSerial self.new) }
         ensures due { OnOk result (IsNoneDue (state_of self.new)) }
@@ -216,6 +217,7 @@ impl<'a> Serial<'a> {
         requires serial { IsSerial self.old }
         requires next { self.old.script.now ≡ line.now ∷ later.now }
         requires due { IsTrue self.old.begun × (line.now.at ≤ self.old.clock) }
+        requires left { 0 < self.old.left }
         ensures kept { OnOk result (IsSerial self.new) }
         ensures same { self.new ≡ record self.old { members = self.new.members; script = self.new.script } }
         ensures script { self.new.script.now ≡ later.now }

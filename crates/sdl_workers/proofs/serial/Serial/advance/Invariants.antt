@@ -8,6 +8,7 @@ invariant-loop-line l = record {
   runs : Reaches l.fn.self l.self;
   begun : IsTrue l.self.begun;
   fewer : length l.self.script.now < length l.fn.self.script.now;
+  left : 0 < l.self.left;
 }
 
 abbrev pub decreases-loop-line : goal.decreases-loop-line

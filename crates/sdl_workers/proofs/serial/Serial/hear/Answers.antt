@@ -20,7 +20,7 @@ pub returns-in_default-clause-runs : goal.returns-in_default-clause-runs
 returns-in_default-clause-runs c =
     let s = c.args.self.now in
     let sends : IsSentBy (state_of s) c.args.line.now.signal [] = rw c.in_default.is refl in
-    hear_reaches s _ c.args.line.now c.args.later.now [] c.requires.next c.requires.due.0 c.requires.due.1 sends refl refl
+    hear_reaches s _ c.args.line.now c.args.later.now [] c.requires.next c.requires.due.0 c.requires.due.1 sends refl refl c.requires.left
 
 pub returns-clause-runs : goal.returns-clause-runs
 returns-clause-runs c =
@@ -36,3 +36,4 @@ returns-clause-runs c =
     hear_reaches s t c.args.line.now c.args.later.now sent c.requires.next c.requires.due.0 c.requires.due.1 sends
     (ap state_of c.put.ensures.same ∙ ap (λ all. record (state_of s) { instances = all; script = c.args.later.now }) instances)
     (ap (λ u. u.left) c.put.ensures.same)
+    c.requires.left

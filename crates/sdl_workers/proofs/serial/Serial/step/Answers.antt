@@ -30,7 +30,7 @@ returns-clause-runs c =
     let instances : instances_of t.members.items ≡ delivered_all (set (instances_of s.members.items) c.args.place new.instance) v.sent = c.in_ok-deliver.ensures.instances ∙ ap (λ all. delivered_all all v.sent) (instances_set s.members.items c.args.place new) in
     let now : state_of t ≡ state_after s c.args.place new v = ap state_of c.deliver.ensures.same ∙ ap (λ all. record (state_of s) { instances = all }) instances in
     let left : t.left + cond began 1 0 ≡ s.left = left_after began t.left s.left c.from.result c.requires.left c.from.ensures (ap (λ u. u.left) c.deliver.ensures.same) in
-    step_reaches s t c.args.place old new v began c.requires.serial c.requires.due there reaction now left
+    step_reaches s t c.args.place old new v began c.requires.serial c.requires.due there reaction now left c.requires.left
 
 pub returns-clause-rests : goal.returns-clause-rests
 returns-clause-rests c =
