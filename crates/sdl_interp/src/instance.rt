@@ -163,6 +163,3 @@ fn initial_values(alloc: Global, variables: &[Variable]) -> Result<Vec<Option<Va
         .map(|variable| variable.initial)
         .collect(alloc)
 }
-
-#[cfg(test)]
-mod tests;

@@ -15,8 +15,6 @@ mod name;
 mod process;
 mod states;
 mod system;
-#[cfg(test)]
-mod tests;
 mod text;
 
 pub use laws::{canonical_lexes, canonical_spells_again, reads_again};

@@ -1,16 +1,60 @@
-use crate::options::{Command, Options, TextFault};
+//! The command line: its options, its help, and what it asks for.
+
 use clap::builder::ValueParser;
 use clap::error::ErrorKind;
 use clap::{Arg, ArgAction, ArgMatches, Error};
+use sdl_engine::{Command, Options, TextFault};
 use std::alloc::Global;
 use std::env;
 use std::rt::Env;
+
+/// The program's version, and the toolchain that it is proved with. The gate compares the latter with the toolchain's own.
+const VERSION: &str = "0.1.0 (rattle-kit-13b logic dac8208d650f15bf)";
+
+/// What follows the help of the program.
+const HELP: &str =
+    "Both commands read standard input: a specification in SDL/PR, and behind a line `%script` a script.
+
+Example:
+  sdlrun run < examples/counter.sdl
+
+Exit status:
+  0  whole: the text was checked, or the run came to its end
+  1  the run was cut at its limit
+  2  the text is refused, by one line on standard output
+  3  the run is refused, or reading, writing or memory failed
+  4  the command line has a mistake
+
+docs/LANGUAGE.md has the language, the script, the trace and all refusals.";
+
+/// What follows the help of `check`.
+const CHECK_HELP: &str =
+    "It reads the grammar of the whole language. No name is looked up, no sort is checked, and no script is read yet.
+
+Example:
+  echo 'SYSTEM s; SIGNAL a; endsystem;' | sdlrun check";
+
+/// What follows the help of `run`.
+const RUN_HELP: &str =
+    "The specification ends at the first line that is `%script`; what follows is the script, a line for each
+signal that the environment sends: its time in ticks, its name and its values. A time alone moves time.
+
+  %script
+  # at time 0, a signal, and another with a value at time 3
+  0 inc
+  3 add(7)
+  10
+
+What isn't run yet (see docs/LANGUAGE.md) is refused at its first word, as `parse 4:3 LeftOut timer`.
+
+Example:
+  sdlrun run --limit 100 < examples/counter.sdl";
 
 /// What the command line asks for.
 #[derive(Drop)]
 pub enum Request {
     Read(Options),
-    /// It asked for help, which was printed.
+    /// It asked for help or the version, which was printed.
     Answered,
     /// It has a mistake, which was told.
     Misused,
@@ -58,9 +102,9 @@ fn limit_of(run: &ArgMatches<'_>) -> u64 {
 
 /// The commands and their help.
 fn command<'a>(alloc: Global) -> Result<clap::Command<'a>, Error> {
-    let check = clap::Command::new(alloc, "check").about(
-        "Reads the specification on standard input and writes its canonical text",
-    );
+    let check = clap::Command::new(alloc, "check")
+        .about("Checks the grammar of a specification and writes its canonical text")
+        .after_help(CHECK_HELP);
     let limit = Arg::new(alloc, "limit")
         .long("limit")
         .value_name("N")
@@ -68,12 +112,14 @@ fn command<'a>(alloc: Global) -> Result<clap::Command<'a>, Error> {
         .action(ArgAction::Set)
         .value_parser(ValueParser::unsigned(1, Options::MOST_LIMIT));
     let run = clap::Command::new(alloc, "run")
-        .about("Runs the specification on standard input and writes the trace of each instance")
+        .about("Runs a specification on its script and writes the trace of each instance")
+        .after_help(RUN_HELP)
         .arg(limit)?;
     let command = clap::Command::new(alloc, "sdlrun")
         .about("Reads SDL specifications, runs them and writes their exact traces")
+        .version(VERSION)
         .subcommand_required(true)
-        .after_help("Example:\n  sdlrun run < examples/counter.sdl")
+        .after_help(HELP)
         .subcommand(check)?
         .subcommand(run)?;
     Ok(command)
@@ -93,3 +139,6 @@ fn told<R: Print + Eprint>(rt: &R, error: &Error) -> Request {
         Request::Answered
     }
 }
+
+#[cfg(test)]
+mod tests;

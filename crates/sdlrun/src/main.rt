@@ -2,25 +2,15 @@
 //! process instances and writes the exact trace of each; `check` writes its canonical text. Either writes one line
 //! instead that names a refusal and its place.
 //!
-//! `run_text` is the whole program over any reader and writer; `main` reads the command line, calls it, and
-//! maps its answer to an exit status.
+//! `sdl_engine`'s `run_text` is the whole tool over any reader and writer; `main` reads the command line, calls it,
+//! and maps its answer to an exit status.
 #![tactic(auto)]
 
-mod answer;
 mod command_line;
-mod input;
-mod options;
-mod refusal;
-mod refusal_text;
-mod specification;
-#[cfg(test)]
-mod tests;
-mod text;
 
 use command_line::Request;
-use options::{Outcome, TextFault};
+use sdl_engine::{Outcome, TextFault, run_text};
 use std::process::ExitCode;
-use text::run_text;
 
 fn main(rt: HostRuntime) -> ExitCode {
     let options = match command_line::read_command_line(&rt) {

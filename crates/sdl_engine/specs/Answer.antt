@@ -1,0 +1,204 @@
+-- What the program answers to its input.
+use Rattle.std.specs.Prelude.{◌≡◌, ◌⊎◌, ℕ, Bool, true, false, List, Option, take}
+use Rattle.std.specs.Io.KnownBytes.{Appends, Keeps}
+use Rattle.sdl_lex.specs.declared.error.LexError.TheVariants as lex
+use Rattle.sdl_parse.specs.declared.error.ParseError.TheVariants as parse
+use Rattle.sdl_print.specs.RoundTrip.{IsCanonicalOf}
+use Rattle.sdl_report.specs.ReportText.{report_text}
+use Rattle.sdl_report.specs.Script.{IsScript}
+use Rattle.sdl_report.specs.ScriptText.{SaysScript}
+use Rattle.sdl_report.specs.ScriptText as faults
+use Rattle.sdl_report.specs.declared.record.Report.{Report}
+use Rattle.sdl_report.specs.declared.script.Script.{Script}
+use Rattle.sdl_report.specs.declared.script.ScriptError.{ScriptError}
+use Rattle.sdl_source.specs.Source.{IsSystemOf}
+use Rattle.sdl_source.specs.Source as sources
+use Rattle.sdl_source.specs.declared.error.SourceError.{SourceError}
+use Rattle.sdl_source.specs.declared.error.SourceError.TheVariants as source
+use Rattle.sdl_system.specs.Behaviour.{Behaviour}
+use Rattle.sdl_system.specs.declared.system.System.{System}
+use Rattle.sdl_workers.specs.Global.{AreBehaviours}
+use Rattle.sdl_workers.specs.Report.{IsSerialReport}
+use Rattle.sdl_engine.specs.Input.{IsParted, IsRead}
+use Rattle.sdl_engine.specs.RefusalText.{refusal_line}
+use Rattle.sdl_engine.specs.declared.input.Input.{Input}
+use Rattle.sdl_engine.specs.declared.input.Input.TheVariants.{Bytes, TooLong}
+use Rattle.sdl_engine.specs.declared.options.Command.{Command}
+use Rattle.sdl_engine.specs.declared.options.Command.TheVariants as command
+use Rattle.sdl_engine.specs.declared.options.Options.{Options}
+use Rattle.sdl_engine.specs.declared.options.Outcome.{Outcome}
+use Rattle.sdl_engine.specs.declared.options.Outcome.TheVariants as outcome
+use Rattle.sdl_engine.specs.declared.options.TextFault.{TextFault}
+use Rattle.sdl_engine.specs.declared.options.TextFault.TheVariants as fault
+use Rattle.sdl_engine.specs.declared.refusal.Refusal.{Refusal}
+use Rattle.sdl_engine.specs.declared.refusal.Refusal.TheVariants as refusal
+
+-- the input is a specification, of whose tree this system is, and the text of a script
+pub record IsBuiltFrom (input : List ℕ) (script : List ℕ) (system : System) : Type 0 where
+  pub specification : List ℕ
+  pub parted : IsParted input specification script
+  pub source : IsSystemOf specification system
+
+-- the report is that of a serial run of the system on what the script says, cut at the limit if it comes to that
+pub record IsRunOf (input : List ℕ) (limit : ℕ) (system : System) (report : Report) : Type 0 where
+  pub script : List ℕ
+  pub source : IsBuiltFrom input script system
+  pub read : Script
+  pub is_script : IsScript system read.lines.items
+  pub says : SaysScript system script read.lines.items
+  pub ran : (ps : List Behaviour) → AreBehaviours system ps → IsSerialReport ps system read.lines.items limit report
+
+-- the text of the report of such a run, of one that is whole or of one that was cut
+pub record Reports (input : List ℕ) (limit : ℕ) (whole : Bool) (text : List ℕ) : Type 0 where
+  pub system : System
+  pub report : Report
+  pub run : IsRunOf input limit system report
+  pub is_whole : report.whole ≡ whole
+  pub says : text ≡ report_text system report
+
+-- whether the refusal is one of the run, and not of the text
+abbrev pub outcome_of : Refusal → Outcome
+outcome_of (refusal.Run error) = outcome.RunRefused
+outcome_of refused = outcome.TextRefused
+
+-- a specification is refused as its layers tell: it has no tokens, they spell no tree, the tree holds more than is run, or a
+-- check of it is broken
+pub record IsSourceRefused (input : List ℕ) (error : SourceError) : Type 0 where
+  pub specification : List ℕ
+  pub script : List ℕ
+  pub parted : IsParted input specification script
+  pub refused : sources.Refuses error specification
+
+-- whether the refusal is one of the tokens or the tree
+abbrev pub IsOfText : SourceError → Type 0
+IsOfText (source.Parse error) = Unit {0}
+IsOfText (source.NotRun error) = ⊥
+IsOfText (source.Build error) = ⊥
+
+-- a script is refused at the line, and for the fault, that is told
+pub record IsScriptRefused (input : List ℕ) (error : ScriptError) : Type 0 where
+  pub script : List ℕ
+  pub system : System
+  pub source : IsBuiltFrom input script system
+  pub at_fault : faults.Refuses error system script
+
+-- a run is refused only of a system that was built and a script that was read
+pub record IsRunRefused (input : List ℕ) : Type 0 where
+  pub script : List ℕ
+  pub system : System
+  pub source : IsBuiltFrom input script system
+  pub read : Script
+  pub is_script : IsScript system read.lines.items
+  pub says : SaysScript system script read.lines.items
+
+-- what a command may tell of these bytes: a check only of tokens and tree
+abbrev pub AllowsOf : Command → List ℕ → Refusal → Type 0
+AllowsOf command.Check bytes (refusal.Source error) = IsOfText error × IsSourceRefused bytes error
+AllowsOf command.Check bytes (refusal.Script error) = ⊥
+AllowsOf command.Check bytes (refusal.Run error) = ⊥
+AllowsOf command.Run bytes (refusal.Source error) = IsSourceRefused bytes error
+AllowsOf command.Run bytes (refusal.Script error) = IsScriptRefused bytes error
+AllowsOf command.Run bytes (refusal.Run error) = IsRunRefused bytes
+
+-- the same of an input: one that is too long is a text that is too long
+abbrev pub Allows : Command → Input → Refusal → Type 0
+Allows how (Bytes bytes) refused = AllowsOf how bytes.items refused
+Allows how TooLong refused = refused ≡ refusal.Source (source.Parse (parse.Lex lex.TooLong))
+
+-- one line that tells a refusal of this input
+pub record Refuses (asked : Command) (input : Input) (refused_as : Outcome) (text : List ℕ) : Type 0 where
+  pub refused : Refusal
+  pub allowed : Allows asked input refused
+  pub kind : outcome_of refused ≡ refused_as
+  pub line : text ≡ refusal_line refused
+
+-- the canonical text of the tree that the specification spells
+pub record Prints (input : List ℕ) (text : List ℕ) : Type 0 where
+  pub specification : List ℕ
+  pub script : List ℕ
+  pub parted : IsParted input specification script
+  pub canonical : IsCanonicalOf text specification
+
+-- what is written of these bytes where they are accepted: of a check the canonical text, of a run its report
+abbrev pub SaysWhole : Command → List ℕ → ℕ → List ℕ → Type 0
+SaysWhole command.Check bytes limit text = Prints bytes text
+SaysWhole command.Run bytes limit text = Reports bytes limit true text
+
+-- the report of a run that was cut; a check is never cut
+abbrev pub SaysCut : Command → List ℕ → ℕ → List ℕ → Type 0
+SaysCut command.Check bytes limit text = ⊥
+SaysCut command.Run bytes limit text = Reports bytes limit false text
+
+-- what is written of this input, by the outcome
+abbrev pub Says : Input → Options → Outcome → List ℕ → Type 0
+Says (Bytes bytes) options outcome.Whole text = SaysWhole options.command bytes.items options.limit text
+Says (Bytes bytes) options outcome.Cut text = SaysCut options.command bytes.items options.limit text
+Says TooLong options outcome.Whole text = ⊥
+Says TooLong options outcome.Cut text = ⊥
+Says input options outcome.TextRefused text = Refuses options.command input outcome.TextRefused text
+Says input options outcome.RunRefused text = Refuses options.command input outcome.RunRefused text
+
+-- this is what is written of the input, and all of it went out
+pub record Tells (input : Input) (options : Options) (how : Outcome) (old new : Option (List ℕ)) : Type 0 where
+  pub text : List ℕ
+  pub says : Says input options how text
+  pub out : Appends old new text
+
+-- nothing but a prefix of what is to be written of the input went out
+pub record BreaksOffTelling (input : Input) (options : Options) (old new : Option (List ℕ)) : Type 0 where
+  pub how : Outcome
+  pub text : List ℕ
+  pub says : Says input options how text
+  pub length : ℕ
+  pub out : Appends old new (take length text)
+
+-- After a fault of writing a prefix of the answer may have gone out. For want of memory that may be so, or nothing was written.
+abbrev pub Fails : TextFault → Input → Options → Option (List ℕ) → Option (List ℕ) → Type 0
+Fails fault.Read input options old new = ⊥
+Fails fault.Write input options old new = BreaksOffTelling input options old new
+Fails fault.Memory input options old new = Keeps old new ⊎ BreaksOffTelling input options old new
+
+-- The whole input was read, and what is written of it went out.
+pub record Written (remaining : Option (List ℕ)) (options : Options) (how : Outcome) (old new : Option (List ℕ)) : Type 0 where
+  pub input : Input
+  pub read : IsRead remaining input
+  pub tells : Tells input options how old new
+
+-- The whole input was read, and nothing but a prefix of what is to be written of it went out.
+pub record BrokenOff (remaining : Option (List ℕ)) (options : Options) (old new : Option (List ℕ)) : Type 0 where
+  pub input : Input
+  pub read : IsRead remaining input
+  pub breaks : BreaksOffTelling input options old new
+
+-- After a fault of reading nothing was written; after a fault of writing a prefix of the answer may have gone out. For want of
+-- memory either may be so.
+abbrev pub Faulted : TextFault → Option (List ℕ) → Options → Option (List ℕ) → Option (List ℕ) → Type 0
+Faulted fault.Read remaining options old new = Keeps old new
+Faulted fault.Write remaining options old new = BrokenOff remaining options old new
+Faulted fault.Memory remaining options old new = Keeps old new ⊎ BrokenOff remaining options old new
+
+-- the canonical text of an input's specification
+abbrev pub PrintsInput : Input → List ℕ → Type 0
+PrintsInput (Bytes bytes) text = Prints bytes.items text
+PrintsInput TooLong text = ⊥
+
+-- the run of an input
+abbrev pub IsRunOfInput : Input → ℕ → System → Report → Type 0
+IsRunOfInput (Bytes bytes) limit system report = IsRunOf bytes.items limit system report
+IsRunOfInput TooLong limit system report = ⊥
+
+-- whether a report is whole, as an outcome
+abbrev pub outcome_by : Bool → Outcome
+outcome_by true = outcome.Whole
+outcome_by false = outcome.Cut
+
+-- what went out of a text before this fault of writing it, or before memory was refused
+abbrev pub BreaksOff : TextFault → List ℕ → Option (List ℕ) → Option (List ℕ) → Type 0
+BreaksOff fault.Read text old new = ⊥
+BreaksOff fault.Write text old new = (k : ℕ) × Appends old new (take k text)
+BreaksOff fault.Memory text old new = (k : ℕ) × Appends old new (take k text)
+
+-- what went out of the line of a refusal, which is made first: nothing, where there was no memory to make it
+abbrev pub FailsToTell : TextFault → List ℕ → Option (List ℕ) → Option (List ℕ) → Type 0
+FailsToTell fault.Memory line old new = Keeps old new ⊎ BreaksOff fault.Memory line old new
+FailsToTell how line old new = BreaksOff how line old new

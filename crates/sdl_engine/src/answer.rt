@@ -1,0 +1,70 @@
+//! What is written of a text: a report, a canonical text, or the line of a refusal.
+
+ghost use Rattle.std.specs.Prelude.{◌≡◌, IfOk, IfErr, OnOk};
+ghost use Rattle.std.specs.Io.KnownBytes.{Appends};
+ghost use Rattle.sdl_report.specs.ReportText.{report_text};
+ghost use Rattle.sdl_engine.specs.Answer.{BreaksOff, FailsToTell, outcome_by, outcome_of};
+ghost use Rattle.sdl_engine.specs.RefusalText.{refusal_line};
+
+use crate::options::{Outcome, TextFault};
+use crate::pipeline::Run;
+use crate::refusal::Refusal;
+use crate::refusal_text::{fixed_line, refusal_line};
+use sdl_report::{WriteFault, write_report, write_text};
+use std::alloc::Global;
+use std::io::Write;
+
+/// Writes the report of a run.
+pub fn report<W: Write>(alloc: Global, run: &Run, writer: &mut W) -> Result<Outcome, TextFault>
+    ensures how { IfOk result (λ how. how ≡ outcome_by run.now.report.whole) }
+    ensures ok { OnOk result (Appends (W.contents writer.old) (W.contents writer.new) (report_text run.now.system run.now.report)) }
+    ensures err { IfErr result (λ fault. BreaksOff fault (report_text run.now.system run.now.report) (W.contents writer.old) (W.contents writer.new)) }
+{
+    match write_report(alloc, &run.report, &run.system, writer) {
+        Ok(()) if run.report.whole => Ok(Outcome::Whole),
+        Ok(()) => Ok(Outcome::Cut),
+        Err(WriteFault::Write) => Err(TextFault::Write),
+        Err(WriteFault::Memory) => Err(TextFault::Memory),
+    }
+}
+
+/// Writes a canonical text.
+pub fn canonical<W: Write>(text: &str, writer: &mut W) -> Result<Outcome, TextFault>
+    ensures how { IfOk result (λ how. how ≡ Outcome.Whole) }
+    ensures ok { OnOk result (Appends (W.contents writer.old) (W.contents writer.new) text.now) }
+    ensures err { IfErr result (λ fault. BreaksOff fault text.now (W.contents writer.old) (W.contents writer.new)) }
+{
+    write_as(Outcome::Whole, text, writer)
+}
+
+/// Writes the line of a refusal.
+pub fn refuse<W: Write>(
+    alloc: Global,
+    refusal: &Refusal,
+    writer: &mut W,
+) -> Result<Outcome, TextFault>
+    ensures how { IfOk result (λ how. how ≡ outcome_of refusal.now) }
+    ensures ok { OnOk result (Appends (W.contents writer.old) (W.contents writer.new) (refusal_line refusal.now)) }
+    ensures err { IfErr result (λ fault. FailsToTell fault (refusal_line refusal.now) (W.contents writer.old) (W.contents writer.new)) }
+{
+    if let Some(line) = fixed_line(refusal) {
+        return write_as(refusal.outcome(), line, writer);
+    }
+    match refusal_line(alloc, refusal) {
+        Ok(line) => write_as(refusal.outcome(), line.as_str(), writer),
+        Err(_) => Err(TextFault::Memory),
+    }
+}
+
+/// Writes a text that has this outcome.
+fn write_as<W: Write>(outcome: Outcome, text: &str, writer: &mut W) -> Result<Outcome, TextFault>
+    ensures how { IfOk result (λ how. how ≡ outcome) }
+    ensures ok { OnOk result (Appends (W.contents writer.old) (W.contents writer.new) text.now) }
+    ensures err { IfErr result (λ fault. BreaksOff fault text.now (W.contents writer.old) (W.contents writer.new)) }
+{
+    match write_text(writer, text.as_bytes()) {
+        Ok(()) => Ok(outcome),
+        Err(WriteFault::Write) => Err(TextFault::Write),
+        Err(WriteFault::Memory) => Err(TextFault::Memory),
+    }
+}

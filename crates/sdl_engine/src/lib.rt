@@ -1,0 +1,19 @@
+//! The whole tool over any reader and writer: `run_text` reads a specification with its script, and writes the
+//! canonical text, the report of a serial run, or the one line that refuses the text.
+//!
+//! The theorem of the tool is the contract of `run_text`. What stands below it: the input and its two parts
+//! (`input`), the way from there to a text or a report (`pipeline`), and what is written of either (`answer`).
+#![tactic(auto)]
+
+mod answer;
+mod input;
+mod options;
+mod pipeline;
+mod refusal;
+mod refusal_text;
+mod text;
+
+pub use options::{Command, Options, Outcome, TextFault};
+pub use refusal::Refusal;
+pub use refusal_text::{fixed_line, refusal_line};
+pub use text::run_text;

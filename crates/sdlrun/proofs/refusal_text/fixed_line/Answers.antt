@@ -1,6 +1,0 @@
-use Rattle.std.proofs.Common.{◌≡◌, codes, refl, subst, sym}
-use Rattle.sdlrun.specs.RefusalText.{line_of, refusal_line}
-use Rattle.sdlrun.proofs.refusal_text.fixed_line.Goals as goal
-
-pub returns-in-Run : goal.returns-in-Run
-returns-in-Run c = subst (λ r. line_of (codes "run Memory") ≡ refusal_line r) (sym c.in-Run.is) refl

@@ -1,6 +1,0 @@
-use Rattle.std.proofs.Common.{◌≡◌, codes, refl, subst, sym}
-use Rattle.sdlrun.specs.RefusalText.{line_of, parse_text}
-use Rattle.sdlrun.proofs.refusal_text.fixed_parse_line.Goals as goal
-
-pub returns-in-Memory : goal.returns-in-Memory
-returns-in-Memory c = subst (λ r. line_of (codes "parse Memory") ≡ line_of (parse_text r)) (sym c.in-Memory.is) refl
