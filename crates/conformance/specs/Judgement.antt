@@ -1,0 +1,105 @@
+-- What is found of a case, said of what the program may answer.
+use Rattle.std.specs.Prelude.{◌≡◌, ◌≢◌, ◌≤◌, ℕ, List, [], Some, None, IsSome, IsSomeAnd, Result, Ok, Err, MatchResult, length}
+use Rattle.sdl_engine.specs.Answer.{Faulted, Written}
+use Rattle.sdl_engine.specs.declared.options.Command.TheVariants as command
+use Rattle.sdl_engine.specs.declared.options.Options.{Options}
+use Rattle.sdl_engine.specs.declared.options.Outcome.{Outcome}
+use Rattle.sdl_engine.specs.declared.options.Outcome.TheVariants as outcome
+use Rattle.sdl_engine.specs.declared.options.TextFault.{TextFault}
+use Rattle.conformance.specs.Line.{first_line}
+use Rattle.conformance.specs.declared.case.Answer.{Answer}
+use Rattle.conformance.specs.declared.case.Asked.TheVariants as asked
+use Rattle.conformance.specs.declared.case.Case.{Case}
+use Rattle.conformance.specs.declared.judge.Difference.{Difference}
+use Rattle.conformance.specs.declared.judge.Difference.TheVariants as difference
+use Rattle.conformance.specs.declared.judge.Verdict.{Verdict}
+use Rattle.conformance.specs.declared.judge.Verdict.TheVariants as verdict
+
+-- the exit status that goes with what came of a text
+abbrev pub status_of : Result Outcome TextFault → ℕ
+status_of (Ok outcome.Whole) = 0
+status_of (Ok outcome.Cut) = 1
+status_of (Ok outcome.TextRefused) = 2
+status_of (Ok outcome.RunRefused) = 3
+status_of (Err fault) = 3
+
+-- The engine may answer this to the input: the output is all that its theorem says was written, and the status goes with
+-- what came of it.
+pub record IsAnswer (input : List ℕ) (options : Options) (output : List ℕ) (status : ℕ) : Type 0 where
+  pub came : Result Outcome TextFault
+  pub ends : status ≡ status_of came
+  pub writes : MatchResult came (λ how. Written (Some input) options how (Some []) (Some output)) (λ fault. Faulted fault (Some input) options (Some []) (Some output))
+
+-- the same output and the same status
+pub record IsSame (want told : Answer) : Type 0 where
+  pub output : want.output.items ≡ told.output.items
+  pub status : want.status ≡ told.status
+
+-- the answer of a check that accepts its text, and is no longer than a specification may be
+pub record IsSpecification (options : Options) (answer : Answer) : Type 0 where
+  pub checked : options.command ≡ command.Check
+  pub accepted : answer.status ≡ 0
+  pub short : length answer.output.items ≤ 1048576
+
+-- the output is what a check of itself answers
+abbrev pub IsCanonical : Options → Answer → Type 0
+IsCanonical options answer = IsSpecification options answer → (status : ℕ) × IsAnswer answer.output.items options answer.output.items status
+
+-- a check of the output answers something else
+abbrev pub IsUnstable : Options → Answer → Type 0
+IsUnstable options answer = (again : Answer) × IsAnswer answer.output.items options again.output.items again.status × (answer.output.items ≢ again.output.items)
+
+-- this was answered to the command of a case
+pub record Answers (case : Case) (answer : Answer) : Type 0 where
+  pub options : Options
+  pub command : case.asked ≡ asked.Command options
+  pub told : IsAnswer case.input.items options answer.output.items answer.status
+  pub again : IsCanonical options answer
+
+-- what was answered to the command of a case is not the wanted answer
+pub record AnswersOtherwise (case : Case) (answer : Answer) : Type 0 where
+  pub answers : Answers case answer
+  pub other : IsSame case.wanted answer → ⊥
+
+-- what was answered has another canonical text than itself
+pub record AnswersUnstably (case : Case) (answer : Answer) : Type 0 where
+  pub options : Options
+  pub command : case.asked ≡ asked.Command options
+  pub told : IsAnswer case.input.items options answer.output.items answer.status
+  pub again : IsUnstable options answer
+
+-- of a case that is not later, the wanted answer is what was answered
+pub record IsAsWanted (case : Case) : Type 0 where
+  pub answers : Answers case case.wanted
+  pub not_later : case.later ≡ None
+
+-- the line that is told of a later case, and whether the answer begins with it
+abbrev pub BeginsAsTold : Case → Answer → Type 0
+BeginsAsTold case answer = IsSomeAnd case.later (λ line. line.items ≡ first_line answer.output.items)
+
+abbrev pub BeginsOtherwise : Case → Answer → Type 0
+BeginsOtherwise case answer = IsSomeAnd case.later (λ line. line.items ≢ first_line answer.output.items)
+
+-- whether it is a difference between an answer and the wanted one
+abbrev pub IsOfAnswer : Difference → Type 0
+IsOfAnswer difference.Arguments = ⊥
+IsOfAnswer difference.NoCase = ⊥
+IsOfAnswer difference.NotLater = ⊥
+IsOfAnswer (difference.Again pair) = ⊥
+IsOfAnswer (difference.LaterLine want told) = ⊥
+IsOfAnswer other = Unit {0}
+
+-- in what a case differs
+abbrev pub DiffersBy : Case → Difference → Type 0
+DiffersBy case difference.Arguments = case.asked ≡ asked.Unknown
+DiffersBy case difference.NoCase = case.asked ≡ asked.Nothing
+DiffersBy case difference.NotLater = Answers case case.wanted × IsSome case.later
+DiffersBy case (difference.Again pair) = (answer : Answer) × AnswersUnstably case answer
+DiffersBy case (difference.LaterLine want told) = (answer : Answer) × AnswersOtherwise case answer × BeginsOtherwise case answer
+DiffersBy case other = (answer : Answer) × AnswersOtherwise case answer × (case.later ≡ None)
+
+-- what a verdict says of its case
+abbrev pub Upholds : Case → Verdict → Type 0
+Upholds case verdict.AsWanted = IsAsWanted case
+Upholds case verdict.Later = (answer : Answer) × AnswersOtherwise case answer × BeginsAsTold case answer
+Upholds case (verdict.Differs how) = DiffersBy case how

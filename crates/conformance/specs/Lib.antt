@@ -1,0 +1,4 @@
+pub mod Escape
+pub mod Judgement
+pub mod Line
+pub mod Tally

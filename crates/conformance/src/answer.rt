@@ -1,0 +1,31 @@
+//! What the program answers.
+
+ghost use Rattle.conformance.specs.Judgement.{IsAnswer, status_of};
+ghost use Rattle.std.specs.Prelude.{◌≡◌};
+
+use crate::case::Answer;
+use sdl_engine::{Options, Outcome, TextFault, run_text};
+use std::alloc::Global;
+
+/// Runs the engine on an input.
+pub fn answer_of(alloc: Global, input: &[u8], options: &Options) -> Answer
+    ensures { IsAnswer input.now options.now result.output.items result.status }
+{
+    let mut reader = input;
+    let mut output = Vec::new(alloc);
+    let outcome = run_text(alloc, &mut reader, &mut output, options);
+    let status = status_of(&outcome);
+    Answer { status, output }
+}
+
+/// The exit status that the program gives.
+fn status_of(outcome: &Result<Outcome, TextFault>) -> u8
+    ensures { result ≡ status_of outcome.now }
+{
+    match outcome {
+        Ok(Outcome::Whole) => 0,
+        Ok(Outcome::Cut) => 1,
+        Ok(Outcome::TextRefused) => 2,
+        Ok(Outcome::RunRefused) | Err(_) => 3,
+    }
+}

@@ -1,0 +1,33 @@
+//! What a case is.
+
+use sdl_engine::Options;
+
+/// What the program is asked on its command line.
+#[derive(Clone, Copy, Debug, PartialEq, Eq)]
+pub enum Asked {
+    /// A command of the engine.
+    Command(Options),
+    /// Words that the driver doesn't know.
+    Unknown,
+    /// Nothing: the list of later cases names one that stands in no file.
+    Nothing,
+}
+
+/// An exit status and what is written on standard output.
+#[derive(Drop)]
+pub struct Answer {
+    pub status: u8,
+    pub output: Vec<u8>,
+}
+
+/// A question to the program and the answer that is wanted.
+#[derive(Drop)]
+pub struct Case {
+    /// Of a table's row the table's name, a slash and the row's number.
+    pub name: String,
+    pub asked: Asked,
+    pub input: Vec<u8>,
+    pub wanted: Answer,
+    /// Of a case that the program can't answer yet, the first line of its answer today.
+    pub later: Option<Vec<u8>>,
+}

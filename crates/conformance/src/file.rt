@@ -1,0 +1,148 @@
+//! The cases of a file.
+
+use crate::case::{Answer, Case};
+use crate::escape::expand;
+use crate::fault::{FormatError, FormatFault};
+use crate::lines::{Line, Lines, lines_of};
+use crate::section::{CASE, Section, read_section};
+use crate::table::{is_row, read_row};
+use crate::words::read_words;
+use std::alloc::Global;
+use std::collections::BTreeSet;
+
+/// The cases that were read so far.
+#[derive(Drop)]
+pub struct Cases {
+    pub all: Vec<Case>,
+    /// The names of cases and tables.
+    pub names: BTreeSet<String>,
+}
+
+/// Appends the cases of a file.
+pub fn read_file(alloc: Global, bytes: &[u8], cases: &mut Cases) -> Result<(), FormatFault> {
+    let (_, mut rest) = lines_of(bytes)?.split_at_mark(CASE);
+    while let Some((title, below)) = rest.split_first() {
+        let (body, after) = below.split_at_mark(CASE);
+        let section = read_section(title, body)?;
+        add_name(alloc, &section, cases)?;
+        add_cases(alloc, &section, &mut cases.all)?;
+        rest = after;
+    }
+    Ok(())
+}
+
+fn add_name(alloc: Global, section: &Section<'_>, cases: &mut Cases) -> Result<(), FormatFault> {
+    let name = String::from_str(alloc, section.name)?;
+    if cases.names.insert(name)? {
+        return Ok(());
+    }
+    Err(section.fault(FormatError::NameTwice))
+}
+
+fn add_cases(
+    alloc: Global,
+    section: &Section<'_>,
+    cases: &mut Vec<Case>,
+) -> Result<(), FormatFault> {
+    match section.blocks.table {
+        Some(table) => add_rows(alloc, section, table, cases),
+        None => {
+            let case = single_case(alloc, section)?;
+            cases.push(case)?;
+            Ok(())
+        }
+    }
+}
+
+/// The case of a section without a table.
+fn single_case(alloc: Global, section: &Section<'_>) -> Result<Case, FormatFault> {
+    let Some(input) = section.blocks.input else {
+        return Err(section.fault(FormatError::NoInput));
+    };
+    let Some(output) = section.blocks.output else {
+        return Err(section.fault(FormatError::NoOutput));
+    };
+    let name = String::from_str(alloc, section.name)?;
+    let input = text_of(alloc, input, None)?;
+    let output = text_of(alloc, output, None)?;
+    Ok(case_of(section, name, input, output))
+}
+
+/// Appends the case of each row.
+fn add_rows(
+    alloc: Global,
+    section: &Section<'_>,
+    table: Lines<'_>,
+    cases: &mut Vec<Case>,
+) -> Result<(), FormatFault> {
+    let mut number = 0usize;
+    let mut rest = table;
+    while let Some((line, below)) = rest.split_first() {
+        if is_row(line.text) {
+            number = number.saturating_add(1);
+            let case = row_case(alloc, section, line, number)?;
+            cases.push(case)?;
+        }
+        rest = below;
+    }
+    if number == 0 {
+        return Err(section.fault(FormatError::NoRow));
+    }
+    Ok(())
+}
+
+/// The case of a row.
+fn row_case(
+    alloc: Global,
+    section: &Section<'_>,
+    line: Line<'_>,
+    number: usize,
+) -> Result<Case, FormatFault> {
+    let Some(row) = read_row(line.text) else {
+        return Err(line.fault(FormatError::Row));
+    };
+    let name = section.name;
+    let name = format!(in alloc; "{name}/{number}")?;
+    let left = side_of(alloc, line, row.left)?;
+    let mut right = side_of(alloc, line, row.right)?;
+    let input = match section.blocks.input {
+        Some(input) => text_of(alloc, input, Some(left.as_slice()))?,
+        None => left,
+    };
+    let output = match section.blocks.output {
+        Some(output) => text_of(alloc, output, Some(right.as_slice()))?,
+        None => {
+            right.push(b'\n')?;
+            right
+        }
+    };
+    Ok(case_of(section, name, input, output))
+}
+
+/// What a side of a row stands for.
+fn side_of(alloc: Global, line: Line<'_>, text: &[u8]) -> Result<Vec<u8>, FormatFault> {
+    let number = line.number;
+    text_of(alloc, Lines { text, number }, None)
+}
+
+/// What some lines stand for.
+fn text_of(alloc: Global, lines: Lines<'_>, side: Option<&[u8]>) -> Result<Vec<u8>, FormatFault> {
+    let mut text = Vec::new(alloc);
+    match expand(lines.text, side, &mut text) {
+        Ok(()) => Ok(text),
+        Err(misread) => Err(lines.fault(misread)),
+    }
+}
+
+fn case_of(section: &Section<'_>, name: String, input: Vec<u8>, output: Vec<u8>) -> Case {
+    Case {
+        name,
+        asked: read_words(section.args),
+        input,
+        wanted: Answer {
+            status: section.status,
+            output,
+        },
+        later: None,
+    }
+}

@@ -1,0 +1,164 @@
+//! Whether a case is answered as wanted.
+
+ghost use Rattle.std.specs.Prelude.{◌≡◌, ◌↔◌, IfOk, IfSome, IsNone, MatchOption};
+ghost use Rattle.conformance.specs.Judgement.{Answers, AnswersOtherwise, IsCanonical, IsOfAnswer, IsSame, IsUnstable, Upholds};
+
+use crate::answer::answer_of;
+use crate::case::{Answer, Asked, Case};
+use crate::compare::{LinePair, first_difference};
+use crate::lines::first_line;
+use crate::quoted::Escaped;
+use sdl_engine::{Command, Options};
+use std::alloc::{AllocError, Global};
+use std::fmt;
+
+/// How long a specification may be. A longer canonical text is none, so it has no canonical text.
+const LONGEST_SPECIFICATION: usize = 1_048_576;
+
+/// What is found of a case.
+#[derive(Drop)]
+pub enum Verdict {
+    AsWanted,
+    /// The case is on the list of those that the program can't answer yet, and its answer is the one told there.
+    Later,
+    Differs(Difference),
+}
+
+/// In what a case differs from what is wanted of it.
+#[derive(Drop)]
+pub enum Difference {
+    /// Its command line is none that the driver knows.
+    Arguments,
+    Output(LinePair),
+    Status { want: u8, told: u8 },
+    /// Its canonical text has another canonical text.
+    Again(LinePair),
+    /// It is on the list of later cases, and its answer begins with another line.
+    LaterLine { want: Vec<u8>, told: Vec<u8> },
+    /// It is on the list of later cases, and is answered as wanted.
+    NotLater,
+    /// It is on the list of later cases, and stands in no file.
+    NoCase,
+}
+
+impl fmt::Display for Difference {
+    fn fmt<W: fmt::Write>(&self, f: &mut fmt::Formatter<W>) -> fmt::Result {
+        match self {
+            Difference::Arguments => write!(f, "arguments"),
+            Difference::Output(pair) => write!(f, "{pair}"),
+            Difference::Status { want, told } => {
+                write!(f, "status\n  want: {want}\n  told: {told}")
+            }
+            Difference::Again(pair) => write!(f, "canonical text again, {pair}"),
+            Difference::LaterLine { want, told } => {
+                let want = Escaped(want.as_slice());
+                let told = Escaped(told.as_slice());
+                write!(f, "later\n  want: {want}\n  told: {told}")
+            }
+            Difference::NotLater => write!(f, "later, but answered as wanted"),
+            Difference::NoCase => write!(f, "later, but no such case"),
+        }
+    }
+}
+
+/// Asks the engine a case, and compares what it answers.
+pub fn judge(alloc: Global, case: &Case) -> Result<Verdict, AllocError>
+    ensures { IfOk result (Upholds case.now) }
+{
+    match case.asked {
+        Asked::Command(options) => judge_command(alloc, case, &options),
+        Asked::Unknown => Ok(Verdict::Differs(Difference::Arguments)),
+        Asked::Nothing => Ok(Verdict::Differs(Difference::NoCase)),
+    }
+}
+
+fn judge_command(alloc: Global, case: &Case, options: &Options) -> Result<Verdict, AllocError>
+    requires { case.now.asked ≡ Asked.Command options.now }
+    ensures { IfOk result (Upholds case.now) }
+{
+    let answer = answer_of(alloc, case.input.as_slice(), options);
+    match difference_again(alloc, &answer, options)? {
+        Some(pair) => Ok(Verdict::Differs(Difference::Again(pair))),
+        None => judge_answer(alloc, case, &answer),
+    }
+}
+
+fn judge_answer(alloc: Global, case: &Case, answer: &Answer) -> Result<Verdict, AllocError>
+    requires { Answers case.now answer.now }
+    ensures { IfOk result (Upholds case.now) }
+{
+    match compare(alloc, &case.wanted, answer)? {
+        Some(difference) => judge_other(alloc, case, answer, difference),
+        None => Ok(judge_same(case)),
+    }
+}
+
+/// Judges a case that is answered as wanted.
+fn judge_same(case: &Case) -> Verdict
+    requires { Answers case.now case.now.wanted }
+    ensures { Upholds case.now result }
+{
+    match case.later {
+        Some(_) => Verdict::Differs(Difference::NotLater),
+        None => Verdict::AsWanted,
+    }
+}
+
+/// Judges a case whose answer differs from the wanted one.
+fn judge_other(
+    alloc: Global,
+    case: &Case,
+    answer: &Answer,
+    difference: Difference,
+) -> Result<Verdict, AllocError>
+    requires answers { AnswersOtherwise case.now answer.now }
+    requires kind { IsOfAnswer difference }
+    ensures { IfOk result (Upholds case.now) }
+{
+    let Some(line) = &case.later else {
+        return Ok(Verdict::Differs(difference));
+    };
+    let told = first_line(answer.output.as_slice());
+    if line.as_slice() == told {
+        return Ok(Verdict::Later);
+    }
+    Ok(Verdict::Differs(Difference::LaterLine {
+        want: Vec::from_slice(alloc, line.as_slice())?,
+        told: Vec::from_slice(alloc, told)?,
+    }))
+}
+
+/// In what an answer differs from the wanted one.
+fn compare(alloc: Global, want: &Answer, told: &Answer) -> Result<Option<Difference>, AllocError>
+    ensures same { IfOk result (λ found. IsNone found ↔ IsSame want.now told.now) }
+    ensures kind { IfOk result (λ found. IfSome found IsOfAnswer) }
+{
+    if let Some(pair) = first_difference(alloc, want.output.as_slice(), told.output.as_slice())? {
+        return Ok(Some(Difference::Output(pair)));
+    }
+    if want.status == told.status {
+        return Ok(None);
+    }
+    Ok(Some(Difference::Status {
+        want: want.status,
+        told: told.status,
+    }))
+}
+
+/// In what the canonical text of an accepted specification differs from its own canonical text.
+fn difference_again(
+    alloc: Global,
+    answer: &Answer,
+    options: &Options,
+) -> Result<Option<LinePair>, AllocError>
+    ensures { IfOk result (λ found. MatchOption found (IsCanonical options.now answer.now) (λ _. IsUnstable options.now answer.now)) }
+{
+    if options.command != Command::Check || answer.status != 0 {
+        return Ok(None);
+    }
+    if answer.output.len() > LONGEST_SPECIFICATION {
+        return Ok(None);
+    }
+    let again = answer_of(alloc, answer.output.as_slice(), options);
+    first_difference(alloc, answer.output.as_slice(), again.output.as_slice())
+}

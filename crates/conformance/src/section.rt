@@ -1,0 +1,167 @@
+//! A case or a table of cases as it stands in a file.
+
+use crate::fault::{FormatError, FormatFault};
+use crate::lines::{Line, Lines};
+use std::str;
+
+/// How the first line of a case begins.
+pub const CASE: &[u8] = b"==== ";
+
+/// How the title of a block begins.
+const BLOCK: &[u8] = b"---- ";
+
+/// What stands from the name of a case to the next one.
+#[derive(Clone, Copy)]
+pub struct Section<'a> {
+    pub name: &'a str,
+    /// The line of the name.
+    pub number: usize,
+    pub args: &'a str,
+    pub status: u8,
+    pub blocks: Blocks<'a>,
+}
+
+impl Section<'_> {
+    /// The fault of the section as a whole.
+    pub fn fault(&self, error: FormatError) -> FormatFault {
+        FormatFault::At {
+            line: self.number,
+            error,
+        }
+    }
+}
+
+/// The blocks of a case, without the empty lines at their ends.
+#[derive(Clone, Copy)]
+pub struct Blocks<'a> {
+    pub input: Option<Lines<'a>>,
+    pub output: Option<Lines<'a>>,
+    pub table: Option<Lines<'a>>,
+}
+
+/// What stands between a name and the first block.
+#[derive(Clone, Copy)]
+struct Head<'a> {
+    args: Option<&'a str>,
+    status: Option<u8>,
+}
+
+/// Reads a case from the line of its name and what follows it.
+pub fn read_section<'a>(title: Line<'a>, body: Lines<'a>) -> Result<Section<'a>, FormatFault> {
+    let name = read_name(title)?;
+    let (head, blocks) = body.split_at_mark(BLOCK);
+    let head = read_head(head)?;
+    let blocks = read_blocks(blocks)?;
+    let Some(args) = head.args else {
+        return Err(title.fault(FormatError::NoArguments));
+    };
+    Ok(Section {
+        name,
+        number: title.number,
+        args,
+        status: head.status.unwrap_or(0),
+        blocks,
+    })
+}
+
+fn read_name(title: Line<'_>) -> Result<&str, FormatFault> {
+    let name = title.text.strip_prefix(CASE).unwrap_or(b"");
+    if name.is_empty() || !name.iter().all(|byte| is_of_name(*byte)) {
+        return Err(title.fault(FormatError::Name));
+    }
+    str::from_utf8(name).map_err(|_| title.fault(FormatError::Name))
+}
+
+fn is_of_name(byte: u8) -> bool {
+    byte.is_ascii_alphanumeric() || matches!(byte, b'-' | b'_' | b'.')
+}
+
+fn read_head(lines: Lines<'_>) -> Result<Head<'_>, FormatFault> {
+    let mut head = Head {
+        args: None,
+        status: None,
+    };
+    let mut rest = lines;
+    while let Some((line, below)) = rest.split_first() {
+        head = with_line(head, line)?;
+        rest = below;
+    }
+    Ok(head)
+}
+
+/// A head with one more of its lines.
+fn with_line<'a>(head: Head<'a>, line: Line<'a>) -> Result<Head<'a>, FormatFault> {
+    if line.is_comment() {
+        return Ok(head);
+    }
+    let Ok(text) = str::from_utf8(line.text) else {
+        return Err(line.fault(FormatError::Head));
+    };
+    if let Some(args) = text.strip_prefix("args:") {
+        if head.args.is_some() {
+            return Err(line.fault(FormatError::Twice));
+        }
+        return Ok(Head {
+            args: Some(args),
+            ..head
+        });
+    }
+    if let Some(status) = text.strip_prefix("status:") {
+        if head.status.is_some() {
+            return Err(line.fault(FormatError::Twice));
+        }
+        let status: u8 = match status.trim().parse() {
+            Ok(status) => status,
+            Err(_) => return Err(line.fault(FormatError::Status)),
+        };
+        return Ok(Head {
+            status: Some(status),
+            ..head
+        });
+    }
+    Err(line.fault(FormatError::Head))
+}
+
+fn read_blocks(lines: Lines<'_>) -> Result<Blocks<'_>, FormatFault> {
+    let mut blocks = Blocks {
+        input: None,
+        output: None,
+        table: None,
+    };
+    let mut rest = lines;
+    while let Some((title, below)) = rest.split_first() {
+        let (text, after) = below.split_at_mark(BLOCK);
+        blocks = with_block(blocks, title, text.without_empty_end())?;
+        rest = after;
+    }
+    Ok(blocks)
+}
+
+/// The blocks with one more.
+fn with_block<'a>(
+    blocks: Blocks<'a>,
+    title: Line<'a>,
+    text: Lines<'a>,
+) -> Result<Blocks<'a>, FormatFault> {
+    let Blocks {
+        input,
+        output,
+        table,
+    } = blocks;
+    match title.text {
+        b"---- input" if input.is_none() => Ok(Blocks {
+            input: Some(text),
+            ..blocks
+        }),
+        b"---- output" if output.is_none() => Ok(Blocks {
+            output: Some(text),
+            ..blocks
+        }),
+        b"---- table" if table.is_none() => Ok(Blocks {
+            table: Some(text),
+            ..blocks
+        }),
+        b"---- input" | b"---- output" | b"---- table" => Err(title.fault(FormatError::Twice)),
+        _ => Err(title.fault(FormatError::Block)),
+    }
+}
