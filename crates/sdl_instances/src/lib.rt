@@ -1,5 +1,4 @@
-//! The instances of a run (Z.101, agents): their numbers, which are their identities. The entries of instances and the roster
-//! of the living ones belong here too and aren't written yet, so `birth::table` needs no system.
+//! The numbers of a run's instances (Z.101, agents), which are their identities.
 //!
 //! Threads draw the numbers 1 to 1,000 from one table without a lock, each thread with a seat of its own. Over any split and
 //! gathering of seats no number is drawn twice and none is left out, and `Full` comes only once all 1,000 are drawn.

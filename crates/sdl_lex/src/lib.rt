@@ -1,7 +1,7 @@
 //! The tokens of a specification in SDL/PR: words, numbers, character strings and marks.
 //!
 //! `lex` cuts a text into its tokens, slices of the text in order with only blanks and comments between them, or
-//! tells the first fault of the text and its place. Keywords are words here: what a word means, the parser says.
+//! tells the first fault of the text and its place. Keywords are words here: what a word means, `sdl_tree` says.
 #![tactic(auto)]
 
 mod byte;

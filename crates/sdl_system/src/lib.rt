@@ -1,7 +1,8 @@
 //! From the tree of a specification to its system: names become numbers, and every check is made.
 //!
 //! `build` answers a system where every check holds, and else, memory aside, the check that is broken first with
-//! the token that breaks it. What the processes of a system do is what the tree says. A system tells by
+//! the token that breaks it; that some check is broken then is proved, which one and where is tested.
+//! What the processes of a system do is what the tree says. A system tells by
 //! number what a process is made of, the class of a signal in a state, and where a signal goes that is
 //! sent without a destination.
 #![tactic(auto)]
