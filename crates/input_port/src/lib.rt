@@ -33,6 +33,3 @@ pub use retired::Retired;
 pub use sender::Sender;
 pub use shared::Port;
 pub use unput::Unput;
-
-#[cfg(test)]
-mod tests;

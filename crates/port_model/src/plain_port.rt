@@ -244,6 +244,3 @@ impl PlainPort {
         waiting
     }
 }
-
-#[cfg(test)]
-mod tests;

@@ -15,6 +15,3 @@ mod table;
 pub use full::Full;
 pub use seat::Seat;
 pub use table::Table;
-
-#[cfg(test)]
-mod tests;

@@ -9,8 +9,6 @@ mod error;
 mod lexer;
 mod piece;
 mod place;
-#[cfg(test)]
-mod tests;
 mod token;
 
 pub use error::LexError;

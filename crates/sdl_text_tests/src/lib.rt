@@ -12,4 +12,6 @@ mod prefixes;
 #[cfg(test)]
 mod specifications;
 #[cfg(test)]
+mod tokens;
+#[cfg(test)]
 mod words;

@@ -17,6 +17,3 @@ mod wheel;
 pub use reader::Reader;
 pub use ticker::{Ticker, clock};
 pub use wheel::Wheel;
-
-#[cfg(test)]
-mod tests;

@@ -1,4 +1,6 @@
-use crate::{Kind, LexError, Place, Token, lex, place_of};
+//! Tokens and their places.
+
+use sdl_lex::{Kind, LexError, Place, Token, lex, place_of};
 use std::test::Fail;
 
 const fn token(kind: Kind, start: usize, end: usize) -> Token {

@@ -1,5 +1,5 @@
 use Rattle.std.proofs.Common.{◌≡◌}
-use Rattle.input_port.proofs.tests.takes_ten.Given as goal
+use Rattle.port_tests.proofs.shared_port.takes_ten.Given as goal
 
 abbrev pub invariant-loop : goal.invariant-loop
 invariant-loop g l = l.owner.port ≡ l.port.queue

@@ -1,14 +1,16 @@
+//! Numbers of instances, drawn in one thread and in several.
+
 ghost use Rattle.std.specs.Prelude.{◌≡◌, IfOk};
 ghost use Rattle.std.specs.Thread.{IsSync};
 
-use crate::birth::table;
-use crate::{Full, Seat, Table};
+use sdl_instances::birth::table;
+use sdl_instances::{Full, Seat, Table};
 use std::alloc::{AllocError, Global};
 use std::test::Fail;
 use std::thread;
 use std::thread::Threads;
 
-// A seat that was in a thread, and the numbers that it drew there, in their order.
+/// A seat that was in a thread, and the numbers that it drew there, in their order.
 #[derive(Drop)]
 struct Hand {
     seat: Seat,
@@ -27,7 +29,7 @@ fn another(alloc: Global, table: &Table, seat: &mut Seat) -> Result<Hand, AllocE
     }
 }
 
-// Draws so many times.
+/// Draws so many times.
 fn draw_times(table: &Table, mut hand: Hand, times: u32) -> Hand
     requires { hand.seat.table ≡ table.now.id }
     ensures { result.seat.table ≡ table.now.id }
@@ -41,7 +43,7 @@ fn draw_times(table: &Table, mut hand: Hand, times: u32) -> Hand
     hand
 }
 
-// The same by two threads.
+/// The same by two threads.
 fn draw_by_two<R: Threads + Sync>(
     rt: &R,
     table: &Table,
@@ -65,7 +67,7 @@ fn draw_by_two<R: Threads + Sync>(
     )
 }
 
-// The same by four threads.
+/// The same by four threads.
 fn draw_by_four<R: Threads + Sync>(
     rt: &R,
     table: &Table,
@@ -89,7 +91,7 @@ fn draw_by_four<R: Threads + Sync>(
     )
 }
 
-// Draws once more, and takes the seat and its numbers in.
+/// Draws once more, and takes the seat and its numbers in.
 fn take_in(
     table: &Table,
     seat: &mut Seat,
@@ -109,7 +111,7 @@ fn take_in(
     Ok(drawn)
 }
 
-// How many seats the seat splits off when it is asked so many times. Each of them is gathered at once.
+/// How many seats the seat splits off when it is asked so many times. Each of them is gathered at once.
 fn count_splits(table: &Table, seat: &mut Seat, times: u32) -> u32
     requires { seat.old.table ≡ table.now.id }
     ensures { seat.new.table ≡ seat.old.table }

@@ -1,14 +1,16 @@
+//! The clock and the wheel of timers.
+
 ghost use Rattle.std.specs.Prelude.{◌≡◌, ◌≤◌, true, IfOk};
 
-use crate::{Reader, Ticker, Wheel, clock};
 use input_port::{Alone, Fuse, Inbox};
 use port_model::{PortError, SignalId, TimerKey, Values};
+use sdl_timers::{Reader, Ticker, Wheel, clock};
 use std::alloc::{AllocError, Global};
 use std::test::Fail;
 use std::thread;
 use std::thread::Threads;
 
-// What a reader made after `advance(5)`, and one made of that reader, read: never a time before 5, by the contracts alone.
+/// What a reader made after `advance(5)`, and one made of that reader, read: never a time before 5, by the contracts alone.
 fn read_after_five(ticker: &mut Ticker) -> Result<(u64, u64), AllocError>
     requires { ticker.old ≤ 5 }
     ensures { IfOk result (λ read. (5 ≤ read.0) × (5 ≤ read.1)) }
@@ -29,7 +31,7 @@ fn reads_what_the_ticker_set(rt: HostRuntime) -> Result<(), Fail> {
     Ok(())
 }
 
-// Reads the clock many times. No reading is before an earlier one.
+/// Reads the clock many times. No reading is before an earlier one.
 fn never_back(reader: &mut Reader) -> bool {
     let mut before = 0;
     let mut rises = true;
@@ -55,7 +57,7 @@ fn reads_while_it_ticks(rt: HostRuntime) -> Result<(), Fail> {
     Ok(())
 }
 
-// The fuse of a timer that this port sets. Timer A is 0, timer B is 1.
+/// The fuse of a timer that this port sets. Timer A is 0, timer B is 1.
 fn fuse(alloc: Global, port: &mut Alone, timer: u32, due: u64) -> Result<Fuse, PortError>
     requires { port.old.state.alive ≡ true }
     ensures { port.new.state.alive ≡ true }
@@ -67,7 +69,7 @@ fn fuse(alloc: Global, port: &mut Alone, timer: u32, due: u64) -> Result<Fuse, P
     port.set(key, due)
 }
 
-// The next fuse that is due, as its time, its port and its set.
+/// The next fuse that is due, as its time, its port and its set.
 fn fired(wheel: &mut Wheel, to: u64) -> Option<(u64, u32, u64)> {
     let fuse = wheel.fire(to)?;
     Some((fuse.due(), fuse.pid(), fuse.arm()))

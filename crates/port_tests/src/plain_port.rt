@@ -1,12 +1,14 @@
-use super::{MOST_SETS, PlainPort};
-use crate::{
-    Class, Got, Item, Pid, PortError, Selection, SignalId, Taken, TimerKey, Value, Values,
+//! The port of one thread: puts, takes, timers, and what waits at the end.
+
+use port_model::{
+    Class, Got, Item, Pid, PlainPort, PortError, Selection, SignalId, Taken, TimerKey, Value,
+    Values,
 };
 use std::alloc::{AllocError, Global};
 use std::process::Abort;
 use std::test::Fail;
 
-// What a take gave, by the name and the one value of the signal or timer.
+/// What a take gave, by the name and the one value of the signal or timer.
 #[derive(Clone, Copy, Debug, PartialEq)]
 enum Told {
     Consumed(u32, Option<Value>),
@@ -55,7 +57,7 @@ fn put(port: &mut PlainPort, alloc: Global, name: u32, number: i64) -> Result<()
     }
 }
 
-// A port that holds signals 0, 1, 0, 1 with the values 1, 2, 3, 4.
+/// A port that holds signals 0, 1, 0, 1 with the values 1, 2, 3, 4.
 fn four(alloc: Global) -> Result<PlainPort, AllocError> {
     let mut port = PlainPort::new(alloc);
     put(&mut port, alloc, 0, 1)?;
@@ -65,7 +67,7 @@ fn four(alloc: Global) -> Result<PlainPort, AllocError> {
     Ok(port)
 }
 
-// Takes as often as something is expected, and compares.
+/// Takes as often as something is expected, and compares.
 fn expect_takes(
     rt: &impl Abort,
     alloc: Global,
@@ -267,16 +269,5 @@ fn what_waits_comes_out_in_order(rt: HostRuntime) -> Result<(), Fail> {
     assert_eq!(rt; name_and_value(&waiting[0]), (1, Some(Value::Int(2))));
     assert_eq!(rt; waiting[1], Got::Timer(timer));
     assert_eq!(rt; name_and_value(&waiting[2]), (1, Some(Value::Int(3))));
-    Ok(())
-}
-
-#[test]
-fn sets_are_counted_up_to_the_most(rt: HostRuntime) -> Result<(), Fail> {
-    let alloc = rt.alloc();
-    let mut port = PlainPort::new(alloc);
-    port.sets = MOST_SETS - 1;
-    assert_eq!(rt; port.set(key(alloc, 1)?, 10), Ok(4611686018427387904));
-    assert_eq!(rt; port.set(key(alloc, 2)?, 5), Err(PortError::SetsSpent));
-    assert_eq!(rt; port.next_due(), Some(10));
     Ok(())
 }

@@ -1,7 +1,9 @@
+//! The port of many senders and one owner, in one thread and in several.
+
 ghost use Rattle.std.specs.Prelude.{◌≡◌, true};
 
-use crate::birth::port;
-use crate::{Alone, Entry, Held, Inbox, Owner, Port, Sender};
+use input_port::birth::port;
+use input_port::{Alone, Entry, Held, Inbox, Owner, Port, Sender};
 use port_model::{
     Class, Got, Item, Pid, PortError, Selection, SignalId, Taken, TimerKey, Value, Values,
 };
@@ -32,7 +34,7 @@ fn selection(alloc: Global, classes: &[Class]) -> Result<Selection, AllocError> 
     })
 }
 
-// The name and the first value of a signal.
+/// The name and the first value of a signal.
 fn shown(item: &Item) -> (u32, i64) {
     match item.values.get(0) {
         Some(Value::Int(value)) => (item.name.0, value),
@@ -40,7 +42,7 @@ fn shown(item: &Item) -> (u32, i64) {
     }
 }
 
-// The same of a signal that was consumed; of a timer its name, and 0.
+/// The same of a signal that was consumed; of a timer its name, and 0.
 fn consumed(taken: Result<Taken, PortError>) -> Option<(u32, i64)> {
     match taken {
         Ok(Taken::Consumed(Got::Signal(item))) => Some(shown(&item)),
@@ -49,7 +51,7 @@ fn consumed(taken: Result<Taken, PortError>) -> Option<(u32, i64)> {
     }
 }
 
-// The same of an entry that is left.
+/// The same of an entry that is left.
 fn left(list: &[Entry], index: usize) -> Option<(u32, i64)> {
     match list.get(index)? {
         Entry::Signal(item) => Some(shown(item)),
@@ -57,7 +59,7 @@ fn left(list: &[Entry], index: usize) -> Option<(u32, i64)> {
     }
 }
 
-// Of a timer's signal that is left: the port, the number of the set, and the due time.
+/// Of a timer's signal that is left: the port, the number of the set, and the due time.
 fn fuse(list: &[Entry], index: usize) -> Option<(u32, u64, u64)> {
     match list.get(index)? {
         Entry::Signal(_) => None,
@@ -65,7 +67,7 @@ fn fuse(list: &[Entry], index: usize) -> Option<(u32, u64, u64)> {
     }
 }
 
-// Puts signals of these names and values, and says whether all were put.
+/// Puts signals of these names and values, and says whether all were put.
 fn puts<R: Wait>(
     rt: &R,
     alloc: Global,
@@ -87,7 +89,7 @@ fn puts<R: Wait>(
     true
 }
 
-// Whether the next takes consume just these.
+/// Whether the next takes consume just these.
 fn takes<R: Wait>(
     rt: &R,
     port: &Port,
@@ -106,7 +108,7 @@ fn takes<R: Wait>(
     true
 }
 
-// Whether a take finds nothing.
+/// Whether a take finds nothing.
 fn takes_nothing<R: Wait>(rt: &R, port: &Port, owner: &mut Owner, selection: &Selection) -> bool
     requires { owner.old.port ≡ port.now.queue }
     ensures { owner.new.port ≡ owner.old.port }
@@ -114,7 +116,7 @@ fn takes_nothing<R: Wait>(rt: &R, port: &Port, owner: &mut Owner, selection: &Se
     owner.take(rt, port, selection) == Ok(Taken::Nothing)
 }
 
-// Ten takes of two senders' signals: each is the next of its sender.
+/// Ten takes of two senders' signals: each is the next of its sender.
 fn takes_ten<R: Wait>(rt: &R, port: &Port, owner: &mut Owner, selection: &Selection) -> bool
     requires { owner.old.port ≡ port.now.queue }
     ensures { owner.new.port ≡ owner.old.port }
@@ -132,7 +134,7 @@ fn takes_ten<R: Wait>(rt: &R, port: &Port, owner: &mut Owner, selection: &Select
     last == [5, 5]
 }
 
-// Puts signals of one name with the values 1 to `times`.
+/// Puts signals of one name with the values 1 to `times`.
 fn put_values<R: Wait>(
     rt: &R,
     alloc: Global,
@@ -261,7 +263,7 @@ fn priority_port(rt: HostRuntime) -> Result<(), Fail> {
     Ok(())
 }
 
-// A sender is gathered after the stop, and one puts after it.
+/// A sender is gathered after the stop, and one puts after it.
 #[test]
 fn stop_and_workers(rt: HostRuntime) -> Result<(), Fail> {
     let alloc = rt.alloc();
@@ -317,7 +319,7 @@ fn expires_its_own_sets_alone(rt: HostRuntime) -> Result<(), Fail> {
     Ok(())
 }
 
-// What an inbox answers where a signal waits, two timers are set, and one of them is reset.
+/// What an inbox answers where a signal waits, two timers are set, and one of them is reset.
 fn uses_inbox<P: Inbox>(alloc: Global, inbox: &mut P) -> Result<(bool, Option<u64>, bool), Fail>
     requires { (P.owning inbox.old).state.alive ≡ true }
 {
@@ -358,7 +360,7 @@ fn uses_held(rt: HostRuntime) -> Result<(), Fail> {
     Ok(())
 }
 
-// Puts the signal (0, 1), the expiry of a timer 2 that was set for the time 5, and the signal (1, 2).
+/// Puts the signal (0, 1), the expiry of a timer 2 that was set for the time 5, and the signal (1, 2).
 fn puts_three<R: Wait>(
     rt: &R,
     alloc: Global,
@@ -382,7 +384,7 @@ fn puts_three<R: Wait>(
     Err(Fail::new("no memory to put"))
 }
 
-// What was drawn and what was not comes back in one order. A timer that is set and has not expired isn't among it.
+/// What was drawn and what was not comes back in one order. A timer that is set and has not expired isn't among it.
 #[test]
 fn finish_gives_what_waits(rt: HostRuntime) -> Result<(), Fail> {
     let alloc = rt.alloc();
@@ -409,7 +411,7 @@ fn finish_gives_what_waits(rt: HostRuntime) -> Result<(), Fail> {
     Ok(())
 }
 
-// What was taken, and a timer's signal that was drawn and then reset, are not left.
+/// What was taken, and a timer's signal that was drawn and then reset, are not left.
 #[test]
 fn finish_leaves_out_what_is_gone(rt: HostRuntime) -> Result<(), Fail> {
     let alloc = rt.alloc();
@@ -446,7 +448,7 @@ fn held_finishes_what_was_not_stopped(rt: HostRuntime) -> Result<(), Fail> {
 
 const PUTS: i64 = 10_000;
 
-// Puts the signals of two senders, each in a thread of its own, and answers how many each has sent.
+/// Puts the signals of two senders, each in a thread of its own, and answers how many each has sent.
 fn put_twice<R: Threads + Wait + Sync>(
     rt: &R,
     alloc: Global,
@@ -469,7 +471,7 @@ fn put_twice<R: Threads + Wait + Sync>(
     )
 }
 
-// Takes until the last value of each of four senders was consumed, and counts those that were not the next of their sender.
+/// Takes until the last value of each of four senders was consumed, and counts those that were not the next of their sender.
 fn take_all<R: Wait>(rt: &R, port: &Port, mut owner: Owner, inputs: &Selection) -> u32
     requires { owner.port ≡ port.now.queue }
 {
