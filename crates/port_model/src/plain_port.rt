@@ -244,3 +244,6 @@ impl PlainPort {
         waiting
     }
 }
+
+#[cfg(test)]
+mod tests;

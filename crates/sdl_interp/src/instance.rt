@@ -163,3 +163,6 @@ fn initial_values(alloc: Global, variables: &[Variable]) -> Result<Vec<Option<Va
         .map(|variable| variable.initial)
         .collect(alloc)
 }
+
+#[cfg(test)]
+mod tests;
