@@ -1,330 +1,281 @@
--- The laws of the start, of states and of connections.
-use Rattle.std.proofs.Common.{◌≡◌, ℕ, ℤ, inl, inr, true, false, if◌then◌else◌, List, [], ◌∷◌, Some, None, Ok, Err, refl, sym, ap, ◌∙◌, subst, true≢false}
+-- The laws of a state, and of what stands in the body of a process.
+use Rattle.std.proofs.Common.{◌≡◌, ℕ, suc, ◌⊎◌, inl, inr, Bool, true, false, true≢false, ◌||◌, List, [], ◌∷◌, map, refl, sym, ap, ◌∙◌, subst, arith}
 use Rattle.std.specs.List.{Contains}
-use Rattle.std.specs.Prelude.{◌||◌}
 use Rattle.std.specs.Str.{bytes_eq}
-use Rattle.std.proofs.lemmas.List.Elements.{Contains-push, Contains-append_left, Contains-append_right}
+use Rattle.std.proofs.lemmas.List.Elements.{Contains-push, Contains-push_cases, Contains-append_left, Contains-append_right, Contains-append_cases}
 use Rattle.std.proofs.lemmas.Slice.Eq.{bytes_eq-Decides}
-use Rattle.sdl_tree.specs.declared.mark.Mark.{Mark}
 use Rattle.sdl_tree.specs.declared.mark.Mark.TheVariants as mark
-use Rattle.sdl_tree.specs.Spells.Behaviour.{SpellsStart, SpellsIn1, SpellsIns, SpellsSaved, SpellsCondition, SpellsPriority, SpellsStimulus, SpellsStates, SpellsEndStateName, SpellsEndState, SpellsEndConnection, SpellsBodyPart, SpellsTrans}
-use Rattle.sdl_tree.specs.Spells.Expressions.{limit}
-use Rattle.sdl_tree.specs.Spells.Parts.{Words, Begins, Optional, Separated, SpellsName, SpellsSigs}
-use Rattle.sdl_tree.specs.Tree.{Input, InputList, InputAll, SaveList, SaveAll, InputPart, PriorityInput, SavePart, ContinuousSignal, States, StateList, StateAll, StatePart, FreeAction}
-use Rattle.sdl_tree.specs.Words.{Fixed}
+use Rattle.sdl_tree.specs.declared.name.Spelling.{Spelling}
+use Rattle.sdl_tree.specs.Erased.{erased_word, erased_name, erased_states, erased_stimulus, erased_body_part}
+use Rattle.sdl_tree.specs.Spells.Behaviour.{SpellsStimulus, SpellsStates, SpellsEndStateName, SpellsEndState, SpellsBodyPart}
+use Rattle.sdl_tree.specs.Spells.Parts.{IsMark, Both, Behind, Separated, Repeated, InParentheses, SpellsName, SpellsEnd, Ended}
+use Rattle.sdl_tree.specs.Tree.{States, StateList, StateAll, Stimulus, BodyPart, StatePart, FreeAction}
+use Rattle.sdl_tree.specs.Words.{Words, Spot, Fixed}
 use Rattle.sdl_tree.specs.Words as word
-use Rattle.sdl_read.specs.Choices.{mapped}
-use Rattle.sdl_read.specs.Expressions.{expr}
-use Rattle.sdl_read.specs.Names.{names, end_name}
-use Rattle.sdl_read.specs.Parts.{end}
-use Rattle.sdl_read.specs.Reading.{Refused, and_then, pure, front, rest, sees, after, expect, name, number, separated, repeated, in_parentheses, sees_name}
-use Rattle.sdl_read.specs.Signals.{sigs}
-use Rattle.sdl_behaviour.specs.States.{start, variable, in1, each_input, ins, condition, input_part, no_condition, priority_input, save_all, saved, save_part, priority, continuous_signal, stimulus, begins_stimulus, all_states, states, is_named, one_of, end_state_name, end_state, state_part, end_connection, connection, body_part}
-use Rattle.sdl_behaviour.specs.Transitions.{trans}
-use Rattle.sdl_read.proofs.ChoiceLaws.{either_sound, mapped_sound}
-use Rattle.sdl_behaviour.proofs.DecisionLaws.{trans_sound, trans_complete}
-use Rattle.sdl_read.proofs.ExpressionSound.{expr_sound}
-use Rattle.sdl_read.proofs.Laws.{read_as, Sound, Complete, as_read, not_read, bind_ok, bind_is, chosen, chosen_by, ate, after_other, same_rest, sees_again, expect_ok, expect_again, name_ok, true_or_false}
-use Rattle.sdl_read.proofs.ListLaws.{separated_sound, repeated_sound}
-use Rattle.sdl_read.proofs.NameLaws.{names_sound, end_name_sound}
-use Rattle.sdl_read.proofs.PartLaws.{end_sound, end_complete, in_parentheses_sound}
-use Rattle.sdl_read.proofs.SignalLaws.{sigs_sound}
-use Rattle.sdl_behaviour.proofs.TransitionLaws.{NoStatement}
+use Rattle.sdl_behaviour.specs.States.{all_with, states, is_named, one_of, end_state_name, end_state, state_with, state_part, free_with, connection, begins_body_part, body_part}
+use Rattle.sdl_behaviour.specs.Stimuli.{begins_stimulus}
+use Rattle.sdl_behaviour.specs.Transitions.{begins_terminator, begins_action, begins_statement}
+use Rattle.sdl_read.specs.Reading.{either, is_fixed, front, rest, sees, same_mark, sees_name}
+use Rattle.sdl_read.proofs.ClosingLaws.{tried, Named, named_law, nowhere_law, Drops, drops_law, ended_law, closed_law}
+use Rattle.sdl_read.proofs.Depth.{SameFront}
+use Rattle.sdl_read.proofs.Laws.{Law, MaybeLaw, Made, as_law, stops_law, both_law, behind_law, made_law, either_law, maybe_law}
+use Rattle.sdl_read.proofs.ListLaws.{separated_law}
+use Rattle.sdl_read.proofs.PartLaws.{whole, mark_law, name_law, name_takes, in_parentheses_law}
+use Rattle.sdl_read.proofs.Steps.{read_as, true_or_false, sees_front, sees_at, sees_ok}
+use Rattle.sdl_behaviour.proofs.ConnectionLaws.{Connected, Connects, connection_law, connected_last}
+use Rattle.sdl_behaviour.proofs.EndingLaws.{name_no_mark}
+use Rattle.sdl_behaviour.proofs.ReceptionLaws.{Alone, alone_last}
+use Rattle.sdl_behaviour.proofs.StepLaws.{NoStatement}
+use Rattle.sdl_behaviour.proofs.StimuliLaws.{stimuli_law}
+use Rattle.sdl_behaviour.proofs.WayLaws.{end_other, takes_by}
 
--- ---- the start
+-- ---- states = "*" ["(" NAME {"," NAME} ")"] | NAME {"," NAME}
 
-pub start_sound : Sound start SpellsStart
-unfolding start
-start_sound i x j e =
-    let a = bind_ok (expect mark.Start i) _ x j e in
-    let b = bind_ok (end a.1) (λ _. trans limit) x j a.3 in
-    (a.1, b.1, expect_ok mark.Start i a.0 a.1 a.2, end_sound a.1 b.0 b.1 b.2, trans_sound limit b.1 x j b.3)
+abbrev Unlisted : Words → Type 0
+Unlisted j = (sees mark.Open j ≡ false) × (sees mark.Comma j ≡ false)
 
-pub start_complete : Complete start SpellsStart NoStatement
-unfolding start
-start_complete x i j s none =
-    ap start s.2
-    ∙ bind_is (expect mark.Start (Fixed mark.Start ∷ s.0)) _ tt s.0 (expect_again mark.Start s.0)
-    ∙ bind_is (end s.0) (λ _. trans limit) tt s.1 (end_complete s.0 s.1 s.3)
-    ∙ trans_complete limit x s.1 j s.4 none
+abbrev IsAll : States → Words → Words → Type 0
+IsAll = Made all_with (Both (IsMark mark.Asterisk) (InParentheses SpellsName))
 
--- ---- inputs
+abbrev IsList : States → Words → Words → Type 0
+IsList = Made StateList (Separated SpellsName)
 
-variable_sound : Sound variable (Optional SpellsName)
-unfolding variable
-variable_sound i x j e =
-    elim (chosen (sees_name i) (and_then (name i) (λ y. pure (Some y))) (Ok (None, i)) (read_as x j) e) as (λ _. Optional SpellsName x i j) [
-      | inl s ↦
-          let a = bind_ok (name i) (λ y. pure (Some y)) x j s.1 in
-          as_read (λ y k. Optional SpellsName y i k) (Some a.0) x a.1 j a.3 (name_ok i a.0 a.1 a.2)
-      | inr s ↦ as_read (λ y k. Optional SpellsName y i k) None x i j s.1 refl
+states_to : (x : States) (i j : Words) → IsAll x i j ⊎ IsList x i j → SpellsStates x i j
+states_to x i j (inl s) = let Q : States → Type 0 = λ y. SpellsStates y i j in subst Q (sym s.1) s.2
+states_to x i j (inr s) = let Q : States → Type 0 = λ y. SpellsStates y i j in subst Q (sym s.1) s.2
+
+states_from : (x : States) (i j : Words) → SpellsStates x i j → IsAll x i j ⊎ IsList x i j
+states_from (StateList names) i j s = inr (names, refl, s)
+states_from (StateAll asterisk except) i j s = inl ((asterisk, except), refl, s)
+
+names_no_asterisk : (xs : List Spot) (i j : Words) → Separated SpellsName xs i j → sees mark.Asterisk i ≡ false
+names_no_asterisk [] i j s = absurd s
+names_no_asterisk (x ∷ []) i j s = name_no_mark mark.Asterisk x i j s
+names_no_asterisk (x ∷ y ∷ xs) i j s = name_no_mark mark.Asterisk x i (Fixed mark.Comma s.0 ∷ s.1) s.2
+
+like_all : (x y : Spelling × List Spot) → ◌≡◌ {A = Spelling × List Spot} (erased_word x.0, map erased_name x.1) (erased_word y.0, map erased_name y.1)
+    → erased_states (all_with x) ≡ erased_states (all_with y)
+like_all x y e = ap all_with e
+
+states_law : Law states SpellsStates SpellsStates Unlisted erased_states
+unfolding states
+states_law =
+    as_law states_to states_from states_to
+    (either_law (sees mark.Asterisk) (sees_front mark.Asterisk)
+    (stops_law (λ j t. t.0)
+    (made_law all_with like_all (both_law (mark_law mark.Asterisk) (in_parentheses_law name_law name_takes (λ s m. tt) (λ s m. tt)) (λ y m j s t. tt))))
+    (stops_law (λ j t. (tt, t.1)) (made_law StateList (λ x y e. ap StateList e) (separated_law name_law name_takes (λ s m. tt))))
+    (λ x i j s. sees_at mark.Asterisk s.0.0 i s.2.0 s.2.1) (λ x i j s t. names_no_asterisk s.0 i j s.2))
+
+-- ---- [NAME] behind `endstate`
+
+named_among : (xs : List Spot) (t : List ℕ) → is_named xs t ≡ true → (x : Spot) × Contains xs x × (t ≡ x.text)
+unfolding is_named
+named_among [] t e = absurd (true≢false (sym e))
+named_among (y ∷ ys) t e =
+    elim (true_or_false (bytes_eq y.text t)) as (λ _. (x : Spot) × Contains (y ∷ ys) x × (t ≡ x.text)) [
+      | inl s ↦ (y, Contains-append_left (y ∷ []) ys y (Contains-push [] y), sym ((bytes_eq-Decides y.text t).0 s))
+      | inr s ↦ let found = named_among ys t (sym (ap (λ b. b || is_named ys t) s) ∙ e) in (found.0, Contains-append_right (y ∷ []) ys found.0 found.1, found.2)
     ]
 
-in1_sound : Sound in1 SpellsIn1
-unfolding in1
-in1_sound i x j e =
-    let a = bind_ok (name i) _ x j e in
-    let b = bind_ok (in_parentheses variable a.1) (λ given. pure (record { signal = a.0; variables = given })) x j a.3 in
-    let made : Input = record { signal = a.0; variables = b.0 } in
-    as_read (λ y k. SpellsIn1 y i k) made x b.1 j b.3
-    (a.1, name_ok i a.0 a.1 a.2, in_parentheses_sound variable (Optional SpellsName) variable_sound a.1 b.0 b.1 b.2)
+or_first : (b c : Bool) → b ≡ true → (b || c) ≡ true
+or_first b c e = ap (λ a. a || c) e
 
-each_input_sound : Sound each_input SpellsIns
-unfolding each_input
-each_input_sound i x j e =
-    let a = bind_ok (expect mark.Asterisk i) (λ _. pure InputAll) x j e in
-    as_read (λ y k. SpellsIns y i k) InputAll x a.1 j a.3 (expect_ok mark.Asterisk i a.0 a.1 a.2)
+or_second : (b c : Bool) → c ≡ true → (b || c) ≡ true
+or_second true c e = refl
+or_second false c e = e
 
-ins_sound : Sound ins SpellsIns
-unfolding ins
-ins_sound =
-    either_sound mark.Asterisk each_input (mapped InputList (separated in1)) SpellsIns each_input_sound
-    (mapped_sound InputList (separated in1) (Separated SpellsIn1) SpellsIns (λ x i j s. s) (separated_sound in1 SpellsIn1 in1_sound))
-
-pub number_ok : (i : Words) (x : ℤ) (j : Words) → number i ≡ read_as x j → i ≡ word.Number x ∷ j
-unfolding number front rest
-number_ok [] x j e = not_read Refused x j e
-number_ok (Fixed m ∷ i) x j e = not_read Refused x j e
-number_ok (word.Name y ∷ i) x j e = not_read Refused x j e
-number_ok (word.Number n ∷ i) x j e = as_read (λ z k. word.Number n ∷ i ≡ word.Number z ∷ k) n x i j e refl
-number_ok (word.Text ∷ i) x j e = not_read Refused x j e
-number_ok (word.LeftOut lower ∷ i) x j e = not_read Refused x j e
-
--- what doesn't stand next begins nothing
-not_begun : (m : Mark) (i : Words) → sees m i ≡ false → ¬ Begins m i
-not_begun m i none begun = true≢false (sym (sees_again m begun.0) ∙ ap (sees m) (sym begun.1) ∙ none)
-
-condition_sound : Sound condition SpellsCondition
-unfolding condition
-condition_sound i x j e =
-    elim (chosen_by (sees mark.Provided i) (λ m. and_then (expr limit m) (λ y. λ k. and_then (end k) (λ _. pure (Some y)))) (pure None) (after mark.Provided i) (read_as x j) e)
-    as (λ _. SpellsCondition x i j) [
-      | inl s ↦
-          let a = bind_ok (expr limit (after mark.Provided i)) (λ y. λ k. and_then (end k) (λ _. pure (Some y))) x j s.1 in
-          let b = bind_ok (end a.1) (λ _. pure (Some a.0)) x j a.3 in
-          as_read (λ y k. SpellsCondition y i k) (Some a.0) x b.1 j b.3
-          (after mark.Provided i, a.1, ate mark.Provided i s.0, expr_sound limit (after mark.Provided i) a.0 a.1 a.2, end_sound a.1 b.0 b.1 b.2)
-      | inr s ↦ as_read (λ y k. SpellsCondition y i k) None x (after mark.Provided i) j s.1 (sym (after_other mark.Provided i s.0), not_begun mark.Provided i s.0)
-    ]
-
-input_part_sound : Sound input_part SpellsStimulus
-unfolding input_part
-input_part_sound i x j e =
-    let a = bind_ok (expect mark.Input i) _ x j e in
-    let b = bind_ok (ins a.1) _ x j a.3 in
-    let c = bind_ok (end b.1) _ x j b.3 in
-    let f = bind_ok (condition c.1) _ x j c.3 in
-    let g = bind_ok (trans limit f.1) (λ leads. pure (InputPart b.0 f.0 leads)) x j f.3 in
-    as_read (λ y k. SpellsStimulus y i k) (InputPart b.0 f.0 g.0) x g.1 j g.3 (
-      a.1,
-      b.1,
-      c.1,
-      f.1,
-      expect_ok mark.Input i a.0 a.1 a.2,
-      ins_sound a.1 b.0 b.1 b.2,
-      end_sound b.1 c.0 c.1 c.2,
-      condition_sound c.1 f.0 f.1 f.2,
-      trans_sound limit f.1 g.0 g.1 g.2,
-    )
-
-no_condition_sound : (i : Words) (u : Unit {0}) (j : Words) → no_condition i ≡ read_as u j → (i ≡ j) × ¬ Begins mark.Provided i
-unfolding no_condition
-no_condition_sound i u j e = elim (chosen (sees mark.Provided i) (Err Refused) (Ok (tt, i)) (read_as u j) e) as (λ _. (i ≡ j) × ¬ Begins mark.Provided i) [
-  | inl s ↦ not_read Refused u j s.1
-  | inr s ↦ (same_rest tt u i j s.1, not_begun mark.Provided i s.0)
+among_named : (xs : List Spot) (t : List ℕ) (x : Spot) → Contains xs x → t ≡ x.text → is_named xs t ≡ true
+unfolding is_named
+among_named [] t x c e = absurd (let less = c.1 in omega (arith, less))
+among_named (y ∷ ys) t x c e = elim (Contains-append_cases (y ∷ []) ys x c) as (λ _. (bytes_eq y.text t || is_named ys t) ≡ true) [
+  | inl s ↦
+      elim (Contains-push_cases [] y x s) as (λ _. (bytes_eq y.text t || is_named ys t) ≡ true) [
+        | inl none ↦ absurd (let less = none.1 in omega (arith, less))
+        | inr same ↦
+            or_first (bytes_eq y.text t) (is_named ys t) ((bytes_eq-Decides y.text t).1 (ap (λ (z : Spot). z.text) same ∙ sym e))
+      ]
+  | inr s ↦ or_second (bytes_eq y.text t) (is_named ys t) (among_named ys t x s e)
 ]
 
-priority_input_sound : Sound priority_input SpellsStimulus
-unfolding priority_input
-priority_input_sound i x j e =
-    let a = bind_ok (expect mark.Priority i) _ x j e in
-    let b = bind_ok (expect mark.Input a.1) _ x j a.3 in
-    let c = bind_ok (separated in1 b.1) _ x j b.3 in
-    let f = bind_ok (end c.1) _ x j c.3 in
-    let g = bind_ok (no_condition f.1) _ x j f.3 in
-    let h = bind_ok (trans limit g.1) (λ leads. pure (PriorityInput c.0 leads)) x j g.3 in
-    let none = no_condition_sound f.1 g.0 g.1 g.2 in
-    let P : Words → Type 0 = λ m. SpellsTrans h.0 limit m h.1 in
-    as_read (λ y k. SpellsStimulus y i k) (PriorityInput c.0 h.0) x h.1 j h.3 (
-      b.1,
-      c.1,
-      f.1,
-      expect_ok mark.Priority i a.0 a.1 a.2 ∙ ap (λ m. Fixed mark.Priority ∷ m) (expect_ok mark.Input a.1 b.0 b.1 b.2),
-      separated_sound in1 SpellsIn1 in1_sound b.1 c.0 c.1 c.2,
-      end_sound c.1 f.0 f.1 f.2,
-      none.1,
-      subst P (sym none.0) (trans_sound limit g.1 h.0 h.1 h.2),
-    )
-
--- ---- saves and continuous signals
-
-save_all_sound : Sound save_all SpellsSaved
-unfolding save_all
-save_all_sound i x j e =
-    let a = bind_ok (expect mark.Asterisk i) (λ _. pure SaveAll) x j e in
-    as_read (λ y k. SpellsSaved y i k) SaveAll x a.1 j a.3 (expect_ok mark.Asterisk i a.0 a.1 a.2)
-
-saved_sound : Sound saved SpellsSaved
-unfolding saved
-saved_sound = either_sound mark.Asterisk save_all (mapped SaveList sigs) SpellsSaved save_all_sound (mapped_sound SaveList sigs SpellsSigs SpellsSaved (λ x i j s. s) sigs_sound)
-
-save_part_sound : Sound save_part SpellsStimulus
-unfolding save_part
-save_part_sound i x j e =
-    let a = bind_ok (expect mark.Save i) _ x j e in
-    let b = bind_ok (saved a.1) _ x j a.3 in
-    let c = bind_ok (end b.1) (λ _. pure (SavePart b.0)) x j b.3 in
-    as_read (λ y k. SpellsStimulus y i k) (SavePart b.0) x c.1 j c.3
-    (a.1, b.1, expect_ok mark.Save i a.0 a.1 a.2, saved_sound a.1 b.0 b.1 b.2, end_sound b.1 c.0 c.1 c.2)
-
-priority_sound : Sound priority SpellsPriority
-unfolding priority
-priority_sound i x j e =
-    elim (chosen_by (sees mark.Priority i) (λ m. and_then (number m) (λ n. λ k. and_then (end k) (λ _. pure (Some n)))) (pure None) (after mark.Priority i) (read_as x j) e)
-    as (λ _. SpellsPriority x i j) [
-      | inl s ↦
-          let a = bind_ok (number (after mark.Priority i)) (λ n. λ k. and_then (end k) (λ _. pure (Some n))) x j s.1 in
-          let b = bind_ok (end a.1) (λ _. pure (Some a.0)) x j a.3 in
-          as_read (λ y k. SpellsPriority y i k) (Some a.0) x b.1 j b.3
-          (a.1, ate mark.Priority i s.0 ∙ ap (λ m. Fixed mark.Priority ∷ m) (number_ok (after mark.Priority i) a.0 a.1 a.2), end_sound a.1 b.0 b.1 b.2)
-      | inr s ↦ as_read (λ y k. SpellsPriority y i k) None x (after mark.Priority i) j s.1 (sym (after_other mark.Priority i s.0), not_begun mark.Priority i s.0)
-    ]
-
-continuous_signal_sound : Sound continuous_signal SpellsStimulus
-unfolding continuous_signal
-continuous_signal_sound i x j e =
-    let a = bind_ok (expect mark.Provided i) _ x j e in
-    let b = bind_ok (expr limit a.1) _ x j a.3 in
-    let c = bind_ok (end b.1) _ x j b.3 in
-    let f = bind_ok (priority c.1) _ x j c.3 in
-    let g = bind_ok (trans limit f.1) (λ leads. pure (ContinuousSignal b.0 f.0 leads)) x j f.3 in
-    as_read (λ y k. SpellsStimulus y i k) (ContinuousSignal b.0 f.0 g.0) x g.1 j g.3 (
-      a.1,
-      b.1,
-      c.1,
-      f.1,
-      expect_ok mark.Provided i a.0 a.1 a.2,
-      expr_sound limit a.1 b.0 b.1 b.2,
-      end_sound b.1 c.0 c.1 c.2,
-      priority_sound c.1 f.0 f.1 f.2,
-      trans_sound limit f.1 g.0 g.1 g.2,
-    )
-
-stimulus_sound : Sound stimulus SpellsStimulus
-unfolding stimulus
-stimulus_sound =
-    either_sound mark.Input input_part _ SpellsStimulus input_part_sound
-    (either_sound mark.Priority priority_input _ SpellsStimulus priority_input_sound
-    (either_sound mark.Save save_part continuous_signal SpellsStimulus save_part_sound continuous_signal_sound))
-
--- ---- states
-
-all_states_sound : Sound all_states SpellsStates
-unfolding all_states
-all_states_sound i x j e =
-    let a = bind_ok (expect mark.Asterisk i) _ x j e in
-    let b = bind_ok (in_parentheses name a.1) (λ found. pure (StateAll found)) x j a.3 in
-    as_read (λ y k. SpellsStates y i k) (StateAll b.0) x b.1 j b.3
-    (a.1, expect_ok mark.Asterisk i a.0 a.1 a.2, in_parentheses_sound name SpellsName name_ok a.1 b.0 b.1 b.2)
-
-states_sound : Sound states SpellsStates
-unfolding states
-states_sound =
-    either_sound mark.Asterisk all_states (mapped StateList names) SpellsStates all_states_sound
-    (mapped_sound StateList names (Separated SpellsName) SpellsStates (λ x i j s. s) names_sound)
-
-named_ok : (xs : List (List ℕ)) (x : List ℕ) → is_named xs x ≡ true → Contains xs x
-unfolding is_named
-named_ok [] x e = absurd (true≢false (sym e))
-named_ok (y ∷ ys) x e =
-    elim (true_or_false (bytes_eq y x)) as (λ _. Contains (y ∷ ys) x) [
-      | inl s ↦
-          let P : List ℕ → Type 0 = λ z. Contains (z ∷ ys) x in
-          subst P (sym ((bytes_eq-Decides y x).0 s)) (Contains-append_left (x ∷ []) ys x (Contains-push [] x))
-      | inr s ↦ Contains-append_right (y ∷ []) ys x (named_ok ys x (sym (ap (λ b. b || is_named ys x) s) ∙ e))
-    ]
-
-pub one_named : (xs : List (List ℕ)) (y : List ℕ) (i : Words) → one_of xs (word.Name y ∷ i) ≡ (if is_named xs y then Ok (tt, i) else Err Refused)
+one_there : (xs : List Spot) (y : Spot) (i : Words) → one_of xs (word.Name y ∷ i) ≡ tried (is_named xs y.text) y i
 unfolding one_of front rest
-one_named xs y i = refl
+one_there xs y i = refl
 
-one_of_sound : (xs : List (List ℕ)) → Sound (one_of xs) (λ u. SpellsEndStateName (StateList xs))
-unfolding one_of front
-one_of_sound xs [] u j e = inl (same_rest tt u [] j e)
-one_of_sound xs (Fixed m ∷ i) u j e = inl (same_rest tt u (Fixed m ∷ i) j e)
-one_of_sound xs (word.Name y ∷ i) u j e =
-    elim (chosen (is_named xs y) (Ok (tt, i)) (Err Refused) (read_as u j) (sym (one_named xs y i) ∙ e)) as (λ _. SpellsEndStateName (StateList xs) (word.Name y ∷ i) j) [
-      | inl s ↦ inr (y, named_ok xs y s.0, ap (λ k. word.Name y ∷ k) (same_rest tt u i j s.1))
-      | inr s ↦ not_read Refused u j s.1
-    ]
-one_of_sound xs (word.Number n ∷ i) u j e = inl (same_rest tt u (word.Number n ∷ i) j e)
-one_of_sound xs (word.Text ∷ i) u j e = inl (same_rest tt u (word.Text ∷ i) j e)
-one_of_sound xs (word.LeftOut lower ∷ i) u j e = inl (same_rest tt u (word.LeftOut lower ∷ i) j e)
+one_elsewhere : (xs : List Spot) (i : Words) → sees_name i ≡ false → one_of xs i ≡ read_as tt i
+unfolding one_of sees_name front
+one_elsewhere xs [] e = refl
+one_elsewhere xs (Fixed m s ∷ i) e = refl
+one_elsewhere xs (word.Name y ∷ i) e = absurd (true≢false e)
+one_elsewhere xs (word.Number n y ∷ i) e = refl
+one_elsewhere xs (word.Text y ∷ i) e = refl
+one_elsewhere xs (word.LeftOut lower y ∷ i) e = refl
 
-end_state_name_sound : (x : States) → Sound (end_state_name x) (λ u. SpellsEndStateName x)
-end_state_name_sound (StateList xs) i u j e = one_of_sound xs i u j e
-end_state_name_sound (StateAll xs) i u j e = same_rest tt u i j e
+one_to : (xs : List Spot) (i j : Words) → Named (is_named xs) i j → SpellsEndStateName (StateList xs) i j
+one_to xs i j (inl e) = inl e
+one_to xs i j (inr c) = let found = named_among xs c.0.text c.1 in inr (found.0, c.0, found.1, found.2, c.2)
 
-end_state_sound : (x : States) → Sound (end_state x) (λ u. SpellsEndState x)
+one_from : (xs : List Spot) (i j : Words) → SpellsEndStateName (StateList xs) i j → Named (is_named xs) i j
+one_from xs i j (inl e) = inl e
+one_from xs i j (inr c) = inr (c.1, among_named xs c.1.text c.0 c.2 c.3, c.4)
+
+end_state_name_law : (x : States) → Law (end_state_name x) (λ _. SpellsEndStateName x) (λ _. SpellsEndStateName x) (λ j. sees_name j ≡ false) whole
+end_state_name_law (StateList xs) = as_law (λ u. one_to xs) (λ u. one_from xs) (λ u. one_to xs) (named_law (is_named xs) (one_there xs) (one_elsewhere xs))
+end_state_name_law (StateAll asterisk except) = nowhere_law (λ j. sees_name j ≡ false)
+
+-- names are found by their texts
+same_named : (xs : List Spot) (t : List ℕ) → is_named xs t ≡ is_named (map erased_name xs) t
+unfolding is_named
+same_named [] t = refl
+same_named (x ∷ xs) t = ap (λ b. bytes_eq x.text t || b) (same_named xs t)
+
+abbrev listed : States → List Spot
+listed (StateList xs) = xs
+listed (StateAll asterisk except) = []
+
+abbrev is_list : States → Bool
+is_list (StateList xs) = true
+is_list (StateAll asterisk except) = false
+
+same_name_ended : (x y : States) → erased_states x ≡ erased_states y → (i j : Words) → SpellsEndStateName x i j → SpellsEndStateName y i j
+same_name_ended (StateList xs) (StateList ys) e i j s =
+    let texts : map erased_name xs ≡ map erased_name ys = ap listed e in
+    let named : (t : List ℕ) → is_named xs t ≡ true → is_named ys t ≡ true =
+    λ t n. same_named ys t ∙ ap (λ zs. is_named zs t) (sym texts) ∙ sym (same_named xs t) ∙ n
+    in
+    one_to ys i j (still (one_from xs i j s) named)
+  where
+    still : Named (is_named xs) i j → ((t : List ℕ) → is_named xs t ≡ true → is_named ys t ≡ true) → Named (is_named ys) i j
+    still (inl n) named = inl n
+    still (inr n) named = inr (n.0, named n.0.text n.1, n.2)
+same_name_ended (StateList xs) (StateAll a ys) e i j s = absurd (true≢false (ap is_list e))
+same_name_ended (StateAll a xs) (StateList ys) e i j s = absurd (true≢false (sym (ap is_list e)))
+same_name_ended (StateAll a xs) (StateAll b ys) e i j s = s
+
+-- ---- ["endstate" [NAME] end]
+
+-- where a state stops
+abbrev pub Stated : Words → Type 0
+Stated j = (Alone j × (begins_stimulus j ≡ false)) × (sees mark.EndState j ≡ false)
+
+end_state_law : (x : States) → Law (end_state x) (λ _. SpellsEndState x) (λ _. SpellsEndState x) Stated whole
 unfolding end_state
-end_state_sound x i u j e =
-    elim (chosen_by (sees mark.EndState i) (λ m. and_then (end_state_name x m) (λ _. end)) (pure tt) (after mark.EndState i) (read_as u j) e)
-    as (λ _. SpellsEndState x i j) [
-      | inl s ↦
-          let a = bind_ok (end_state_name x (after mark.EndState i)) (λ _. end) u j s.1 in
-          inr (after mark.EndState i, a.1, ate mark.EndState i s.0, end_state_name_sound x (after mark.EndState i) a.0 a.1 a.2, end_sound a.1 u j a.3)
-      | inr s ↦ inl (sym (after_other mark.EndState i s.0) ∙ same_rest tt u (after mark.EndState i) j s.1)
-    ]
+end_state_law x = stops_law (λ j t. t.1) (closed_law mark.EndState (end_state_name_law x))
 
-state_part_sound : Sound state_part SpellsBodyPart
+no_stimulus_before : (x : States × List Stimulus) (m j : Words) → SpellsEndState x.0 m j → Stated j → Alone m × (begins_stimulus m ≡ false)
+unfolding begins_stimulus begins_statement begins_action begins_terminator sees_name sees front same_mark
+no_stimulus_before x m j (inl e) t = let F : Words → Type 0 = λ k. Alone k × (begins_stimulus k ≡ false) in subst F (sym e) t.0
+no_stimulus_before x m j (inr c) t = let F : Words → Type 0 = λ k. Alone k × (begins_stimulus k ≡ false) in subst F (sym c.3) ((refl, refl, refl), refl)
+
+abbrev erased_stated : States × List Stimulus → States × List Stimulus
+erased_stated x = (erased_states x.0, map erased_stimulus x.1)
+
+same_state_ended : (x y : States × List Stimulus) → erased_stated x ≡ erased_stated y → (i j : Words) → SpellsEndState x.0 i j → SpellsEndState y.0 i j
+same_state_ended x y e i j (inl s) = inl s
+same_state_ended x y e i j (inr s) =
+    let same : erased_states x.0 ≡ erased_states y.0 = ap (λ (p : States × List Stimulus). p.0) e in
+    inr (s.0, s.1, s.2, s.3, same_name_ended x.0 y.0 same s.1 s.2 s.4, s.5)
+
+-- ---- state = "state" states end {stimulus} ["endstate" [NAME] end]
+
+abbrev IsState : ℕ → States × List Stimulus → Words → Words → Type 0
+IsState d = Behind mark.State (Drops (Both (Ended SpellsStates) (Repeated (SpellsStimulus d))) (λ x. SpellsEndState x.0))
+
+unlisted_end : (i j : Words) → SpellsEnd i j → Unlisted i
+unfolding same_mark
+unlisted_end i j s = (end_other mark.Open refl refl i j s, end_other mark.Comma refl refl i j s)
+
+like_state : (x y : States × List Stimulus) → erased_stated x ≡ erased_stated y → erased_body_part (state_with x) ≡ erased_body_part (state_with y)
+like_state x y e = ap state_with e
+
+state_law : (d : ℕ) → Law (state_part d) (Made state_with (IsState d)) (Made state_with (IsState (suc d))) Stated erased_body_part
 unfolding state_part
-state_part_sound i x j e =
-    let a = bind_ok (expect mark.State i) _ x j e in
-    let b = bind_ok (states a.1) _ x j a.3 in
-    let c = bind_ok (end b.1) _ x j b.3 in
-    let f = bind_ok (repeated begins_stimulus stimulus c.1) _ x j c.3 in
-    let g = bind_ok (end_state b.0 f.1) (λ _. pure (StatePart b.0 f.0)) x j f.3 in
-    as_read (λ y k. SpellsBodyPart y i k) (StatePart b.0 f.0) x g.1 j g.3 (
-      a.1,
-      b.1,
-      c.1,
-      f.1,
-      expect_ok mark.State i a.0 a.1 a.2,
-      states_sound a.1 b.0 b.1 b.2,
-      end_sound b.1 c.0 c.1 c.2,
-      repeated_sound begins_stimulus stimulus SpellsStimulus stimulus_sound c.1 f.0 f.1 f.2,
-      end_state_sound b.0 f.1 g.0 g.1 g.2,
-    )
+state_law d =
+    made_law state_with like_state
+    (behind_law mark.State
+    (drops_law (both_law (ended_law states_law unlisted_end) (stimuli_law d) (λ y m j s t. tt)) (λ x. end_state_law x.0) no_stimulus_before same_state_ended))
 
--- ---- connections
+-- ---- state | connection
 
-end_connection_sound : (x : List ℕ) → Sound (end_connection x) (λ u. SpellsEndConnection x)
-unfolding end_connection
-end_connection_sound x i u j e =
-    elim (chosen_by (sees mark.EndConnection i) (λ m. and_then (end_name x m) (λ _. end)) (pure tt) (after mark.EndConnection i) (read_as u j) e)
-    as (λ _. SpellsEndConnection x i j) [
-      | inl s ↦
-          let a = bind_ok (end_name x (after mark.EndConnection i)) (λ _. end) u j s.1 in
-          inr (after mark.EndConnection i, a.1, ate mark.EndConnection i s.0, end_name_sound x (after mark.EndConnection i) a.0 a.1 a.2, end_sound a.1 u j a.3)
-      | inr s ↦ inl (sym (after_other mark.EndConnection i s.0) ∙ same_rest tt u (after mark.EndConnection i) j s.1)
-    ]
+-- where a part stops
+abbrev pub PartStops : Words → Type 0
+PartStops j = Stated j × Connected j
 
-connection_sound : Sound connection SpellsBodyPart
-unfolding connection
-connection_sound i x j e =
-    let a = bind_ok (expect mark.Connection i) _ x j e in
-    let b = bind_ok (name a.1) _ x j a.3 in
-    let c = bind_ok (expect mark.Colon b.1) _ x j b.3 in
-    let f = bind_ok (trans limit c.1) _ x j c.3 in
-    let g = bind_ok (end_connection b.0 f.1) (λ _. pure (FreeAction b.0 f.0)) x j f.3 in
-    as_read (λ y k. SpellsBodyPart y i k) (FreeAction b.0 f.0) x g.1 j g.3 (
-      c.1,
-      f.1,
-      expect_ok mark.Connection i a.0 a.1 a.2 ∙ ap (λ m. Fixed mark.Connection ∷ m) (name_ok a.1 b.0 b.1 b.2 ∙ ap (λ m. word.Name b.0 ∷ m) (expect_ok mark.Colon b.1 c.0 c.1 c.2)),
-      trans_sound limit c.1 f.0 f.1 f.2,
-      end_connection_sound b.0 f.1 g.0 g.1 g.2,
-    )
+part_to : (d : ℕ) (x : BodyPart) (i j : Words) → Made state_with (IsState d) x i j ⊎ Made free_with (Connects d) x i j → SpellsBodyPart d x i j
+part_to d x i j (inl s) = let Q : BodyPart → Type 0 = λ y. SpellsBodyPart d y i j in subst Q (sym s.1) s.2
+part_to d x i j (inr s) = let Q : BodyPart → Type 0 = λ y. SpellsBodyPart d y i j in subst Q (sym s.1) s.2
 
-pub body_part_sound : Sound body_part SpellsBodyPart
+part_from : (d : ℕ) (x : BodyPart) (i j : Words) → SpellsBodyPart d x i j → Made state_with (IsState d) x i j ⊎ Made free_with (Connects d) x i j
+part_from d (StatePart names stimuli) i j s = inl ((names, stimuli), refl, s)
+part_from d (FreeAction w label transition) i j s = inr ((w, (label, transition)), refl, s)
+
+connects_no_state : (i : Words) (s : Spelling) (k : Words) → i ≡ Fixed mark.Connection s ∷ k → sees mark.State i ≡ false
+unfolding sees front same_mark
+connects_no_state i s k e = ap (sees mark.State) e
+
+one_part_law : (d : ℕ) → Law (either (sees mark.State) (state_part d) (connection d)) (SpellsBodyPart d) (SpellsBodyPart (suc d)) PartStops erased_body_part
+one_part_law d =
+    as_law (part_to d) (part_from d) (part_to (suc d))
+    (either_law (sees mark.State) (sees_front mark.State) (stops_law (λ j t. t.0) (state_law d)) (stops_law (λ j t. t.1) (connection_law d))
+    (λ x i j s. sees_at mark.State s.2.0 i s.2.1 s.2.2) (λ x i j s t. connects_no_state i s.0.0 s.2.0 s.2.1))
+
+part_front : (i k : Words) → SameFront i k → begins_body_part i ≡ begins_body_part k
+unfolding begins_body_part sees
+part_front i k e = ap (λ o. is_fixed mark.State o || is_fixed mark.Connection o) e
+
+none_last : begins_body_part [] ≡ false
+unfolding begins_body_part sees front
+none_last = refl
+
+part_begins : (d : ℕ) (x : BodyPart) (i j : Words) → SpellsBodyPart d x i j → begins_body_part i ≡ true
+unfolding begins_body_part
+part_begins d (StatePart names stimuli) i j s = or_first (sees mark.State i) (sees mark.Connection i) (sees_at mark.State s.0 i s.1 s.2)
+part_begins d (FreeAction w label transition) i j s = or_second (sees mark.State i) (sees mark.Connection i) (sees_at mark.Connection w i s.0 s.1)
+
+pub part_last : PartStops []
+unfolding begins_stimulus sees front
+part_last = (((alone_last, refl), refl), connected_last)
+
+pub body_part_law : (d : ℕ) → MaybeLaw (body_part d) (SpellsBodyPart d) (SpellsBodyPart (suc d)) PartStops begins_body_part erased_body_part
 unfolding body_part
-body_part_sound = either_sound mark.State state_part connection SpellsBodyPart state_part_sound connection_sound
+body_part_law d =
+    maybe_law begins_body_part part_front (one_part_law d).rules none_last (part_begins d)
+    (takes_by (one_part_law d).rules begins_body_part none_last (part_begins d) part_last)
+
+-- ---- where a start and a part stop
+
+state_stops : (s : Spelling) (k : Words) → NoStatement (Fixed mark.State s ∷ k) × PartStops (Fixed mark.State s ∷ k)
+unfolding begins_stimulus begins_statement begins_action begins_terminator sees_name sees front same_mark
+state_stops s k = (refl, ((((refl, refl, refl), refl), refl), (refl, refl)))
+
+connection_stops : (s : Spelling) (k : Words) → NoStatement (Fixed mark.Connection s ∷ k) × PartStops (Fixed mark.Connection s ∷ k)
+unfolding begins_stimulus begins_statement begins_action begins_terminator sees_name sees front same_mark
+connection_stops s k = (refl, ((((refl, refl, refl), refl), refl), (refl, refl)))
+
+none_at : (i : Words) → begins_body_part i ≡ true → NoStatement i × PartStops i
+unfolding begins_body_part
+none_at i e = elim (true_or_false (sees mark.State i)) as (λ _. NoStatement i × PartStops i) [
+  | inl t ↦ let at = sees_ok mark.State i t in let F : Words → Type 0 = λ k. NoStatement k × PartStops k in subst F (sym at.1) (state_stops at.0 (rest i))
+  | inr t ↦
+      let u : sees mark.Connection i ≡ true = sym (ap (λ b. b || sees mark.Connection i) t) ∙ e in
+      let at = sees_ok mark.Connection i u in let F : Words → Type 0 = λ k. NoStatement k × PartStops k in subst F (sym at.1) (connection_stops at.0 (rest i))
+]
+
+pub start_stops : (i : Words) → begins_body_part i ≡ true → NoStatement i
+start_stops i e = (none_at i e).0
+
+pub part_stops : (i : Words) → begins_body_part i ≡ true → PartStops i
+part_stops i e = (none_at i e).1
+
+-- `endprocess` goes on with neither, and begins no part
+pub start_ends : (s : Spelling) (j : Words) → NoStatement (Fixed mark.EndProcess s ∷ j)
+unfolding begins_statement begins_action begins_terminator sees_name sees front same_mark
+start_ends s j = refl
+
+pub part_ends : (s : Spelling) (j : Words) → PartStops (Fixed mark.EndProcess s ∷ j)
+unfolding begins_stimulus begins_statement begins_action begins_terminator sees_name sees front same_mark
+part_ends s j = ((((refl, refl, refl), refl), refl), (refl, refl))
+
+pub no_part : (s : Spelling) (j : Words) → begins_body_part (Fixed mark.EndProcess s ∷ j) ≡ false
+unfolding begins_body_part sees front same_mark
+no_part s j = refl

@@ -3,10 +3,10 @@ use Rattle.std.proofs.Common.{◌≡◌, ℕ, Bool, List, ◌∷◌, map, ap, �
 use Rattle.std.specs.Prelude.{◌||◌}
 use Rattle.std.specs.Str.{bytes_eq}
 use Rattle.sdl_tree.specs.declared.name.Name.{Name}
-use Rattle.sdl_tree.specs.Views.{plain_name}
+use Rattle.sdl_tree.specs.Views.{name_value}
 use Rattle.sdl_behaviour.specs.States.{is_named}
 
-pub named_turn : (r : Bool) (among behind : List Name) (y : Name) (x : List ℕ) → among ≡ y ∷ behind → r ≡ is_named (map plain_name among) x
-    → r ≡ (bytes_eq (plain_name y) x || is_named (map plain_name behind) x)
+pub named_turn : (r : Bool) (among behind : List Name) (y : Name) (x : List ℕ) → among ≡ y ∷ behind → r ≡ is_named (map name_value among) x
+    → r ≡ (bytes_eq (name_value y).text x || is_named (map name_value behind) x)
 unfolding is_named
-named_turn r among behind y x e f = f ∙ ap (λ ys. is_named (map plain_name ys) x) e
+named_turn r among behind y x e f = f ∙ ap (λ ys. is_named (map name_value ys) x) e

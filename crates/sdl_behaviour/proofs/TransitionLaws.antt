@@ -1,394 +1,377 @@
--- The laws of labels, terminators and transitions.
-use Rattle.std.proofs.Common.{◌≡◌, ℕ, zero, suc, ◌+◌, ◌<◌, ◌≤◌, inl, inr, Bool, true, false, if◌then◌else◌, List, [], ◌∷◌, ◌++◌, length, Option, Some, None, Ok, Err, refl, sym, ap, ◌∙◌, subst, arith, true≢false}
+-- The laws of actions, decisions and transitions.
+use Rattle.std.proofs.Common.{◌≡◌, ℕ, zero, suc, ◌⊎◌, inl, inr, true, false, ◌||◌, List, [], ◌∷◌, map, Option, Some, None, option_map, refl, sym, ap, ◌∙◌, subst}
+use Rattle.sdl_tree.specs.declared.mark.Mark.{Mark}
 use Rattle.sdl_tree.specs.declared.mark.Mark.TheVariants as mark
-use Rattle.sdl_tree.specs.Spells.Behaviour.{SpellsLabel, SpellsNextState, SpellsTerminator, SpellsEnding, SpellsTrans, SpellsActions, SpellsAction}
-use Rattle.sdl_tree.specs.Spells.Parts.{Words, Optional}
-use Rattle.sdl_tree.specs.Tree.{Expr, Parts, Otherwise, NextState, Same, To, Terminator, Next, Stop, Join, Ending, Transition, Steps, Actions, NoAction, AndAction, Action, Task, Output, Set, Reset, Create, Decision}
-use Rattle.sdl_tree.specs.Words.{Fixed}
+use Rattle.sdl_tree.specs.declared.name.Spelling.{Spelling}
+use Rattle.sdl_tree.specs.Erased.{plain, erased_word, erased_expr, erased_answer, erased_action, erased_transition, erased_parts, erased_otherwise}
+use Rattle.sdl_tree.specs.Spells.Behaviour.{SpellsAnswer, SpellsAction, SpellsTrans, SpellsPart, SpellsElse, SpellsDecision}
+use Rattle.sdl_tree.specs.Spells.Expressions.{loosest, SpellsAt, SpellsInner, SpellsTimer}
+use Rattle.sdl_tree.specs.Spells.Parts.{IsMark, Both, Behind, Before, Optional, Enclosed, Ended}
+use Rattle.sdl_tree.specs.Tree.{Expr, Named, Answer, Transition, Action, Task, Output, Set, Reset, Create, Decision, Part, Parts, NoPart, AndPart, parts_in, parts_of, Otherwise, NoElse, Else, else_in, else_of}
+use Rattle.sdl_tree.specs.Words.{Words, Spot, Fixed}
 use Rattle.sdl_tree.specs.Words as word
-use Rattle.sdl_behaviour.specs.Actions.{task, output, set, reset, create}
-use Rattle.sdl_read.specs.Parts.{end}
-use Rattle.sdl_read.specs.Reading.{Parser, Refused, and_then, pure, front, same_mark, sees, expect, name, sees_name}
-use Rattle.sdl_behaviour.specs.Transitions.{label, next_state, next, stop, join, terminator, begins_terminator, begins_action, action, Step, added, actions_of, begins_statement, steps_from, trans_of}
-use Rattle.sdl_behaviour.proofs.ActionLaws.{task_sound, task_complete, output_sound, output_complete, create_sound, create_complete, reset_sound, reset_complete}
-use Rattle.sdl_read.proofs.Laws.{read_as, Sound, Complete, Shortens, as_read, not_read, bind_ok, bind_is, chosen, if_true, if_false, same_value, same_rest, expect_ok, expect_again, name_ok, name_again}
-use Rattle.sdl_read.proofs.PartLaws.{end_sound, end_complete}
-use Rattle.sdl_behaviour.proofs.SetLaws.{set_sound, set_complete}
-use Rattle.sdl_behaviour.proofs.TransitionSteps.{ending_of, step_of, on_statement, steps_turn, steps_none}
+use Rattle.sdl_behaviour.specs.Actions.{task_with, output_with, reset_with, create_with}
+use Rattle.sdl_behaviour.specs.Answers.{answer}
+use Rattle.sdl_behaviour.specs.Clauses.{set_with}
+use Rattle.sdl_behaviour.specs.Transitions.{begins_terminator, begins_action, begins_statement, part_with, part, otherwise, decision_with, decision_of, action_of, decision, action, trans}
+use Rattle.sdl_tree.specs.Depth.{IsOpening}
+use Rattle.sdl_read.specs.Reading.{Parser, too_deep, refuse, ◌⊗◌, behind, made, either, front, sees, same_mark, sees_name, enclosed}
+use Rattle.sdl_read.proofs.ExpressionLaws.{expr_law}
+use Rattle.sdl_read.proofs.Laws.{Rules, Law, MaybeLaw, Anywhere, Made, refused_rules, same_rules, shut_first, shut_rules, as_law, both_law, behind_law, before_law, made_law, node_law, either_rules, first_law, maybe_law, optional_law}
+use Rattle.sdl_read.proofs.ListLaws.{repeated_law}
+use Rattle.sdl_read.proofs.PartLaws.{nameless, mark_law, enclosed_law, opens_list}
+use Rattle.sdl_read.proofs.Steps.{sees_front, sees_ok, sees_at}
+use Rattle.sdl_behaviour.proofs.ActionLaws.{Tasks, task_law, Outputs, output_law, Creates, create_law, Resets, reset_law}
+use Rattle.sdl_behaviour.proofs.AnswerLaws.{answer_law, answer_takes}
+use Rattle.sdl_behaviour.proofs.ClauseLaws.{Sets, set_law}
+use Rattle.sdl_behaviour.proofs.StepLaws.{NoStatement, trans_of_law}
+use Rattle.sdl_read.proofs.ClosingLaws.{ended_law}
+use Rattle.sdl_behaviour.proofs.WayLaws.{stops_at, stops_end, sees_other, sees_last, no_name, takes_by}
 
--- ---- a test between two readings
+-- ---- lists in the tree
 
-pub choice_sound : {A : Type 0} (test : Words → Bool) (p q : Parser A) (R : A → Words → Words → Type 0) → Sound p R → Sound q R → Sound (λ i. if test i then p i else q i) R
-choice_sound test p q R first second i x j e =
-    elim (chosen (test i) (p i) (q i) (read_as x j) e) as (λ _. R x i j) [
-      | inl s ↦ first i x j s.1
-      | inr s ↦ second i x j s.1
-    ]
+pub parts_again : (parts : Parts) → parts_of (parts_in parts) ≡ parts
+parts_again NoPart = refl
+parts_again (AndPart answers t parts) = ap (AndPart answers t) (parts_again parts)
 
--- ---- [NAME ":"]
+pub parts_are : (parts : List Part) → parts_in (parts_of parts) ≡ parts
+parts_are [] = refl
+parts_are (p ∷ parts) = ap (λ ps. p ∷ ps) (parts_are parts)
 
-pub label_sound : Sound label SpellsLabel
-unfolding label
-label_sound i x j e =
-    elim (chosen (sees_name i) (and_then (name i) (λ y. λ k. and_then (expect mark.Colon k) (λ _. pure (Some y)))) (Ok (None, i)) (read_as x j) e)
-    as (λ _. SpellsLabel x i j) [
-      | inl s ↦
-          let a = bind_ok (name i) (λ y. λ k. and_then (expect mark.Colon k) (λ _. pure (Some y))) x j s.1 in
-          let b = bind_ok (expect mark.Colon a.1) (λ _. pure (Some a.0)) x j a.3 in
-          as_read (λ y k. SpellsLabel y i k) (Some a.0) x b.1 j b.3 (name_ok i a.0 a.1 a.2 ∙ ap (λ m. word.Name a.0 ∷ m) (expect_ok mark.Colon a.1 b.0 b.1 b.2))
-      | inr s ↦ as_read (λ y k. SpellsLabel y i k) None x i j s.1 refl
-    ]
+pub else_again : (o : Otherwise) → else_of (else_in o) ≡ o
+else_again NoElse = refl
+else_again (Else t) = refl
 
-label_none : (j : Words) → sees_name j ≡ false → label j ≡ read_as None j
-unfolding label
-label_none j none = if_false (sees_name j) (and_then (name j) (λ y. λ k. and_then (expect mark.Colon k) (λ _. pure (Some y)))) (Ok (None, j)) none
+pub else_are : (o : Option Transition) → else_in (else_of o) ≡ o
+else_are None = refl
+else_are (Some t) = refl
 
-pub name_seen : (x : List ℕ) (j : Words) → sees_name (word.Name x ∷ j) ≡ true
-unfolding sees_name front
-name_seen x j = refl
+abbrev erased_part : Part → Part
+erased_part p = record { answers = map erased_answer p.answers; transition = erased_transition p.transition }
 
-label_some : (x : List ℕ) (j : Words) → label (word.Name x ∷ Fixed mark.Colon ∷ j) ≡ read_as (Some x) j
-unfolding label
-label_some x j =
-    if_true (sees_name (word.Name x ∷ Fixed mark.Colon ∷ j)) (and_then (name (word.Name x ∷ Fixed mark.Colon ∷ j)) (λ y. λ k. and_then (expect mark.Colon k) (λ _. pure (Some y))))
-    (Ok (None, word.Name x ∷ Fixed mark.Colon ∷ j)) (name_seen x (Fixed mark.Colon ∷ j))
-    ∙ bind_is (name (word.Name x ∷ Fixed mark.Colon ∷ j)) (λ y. λ k. and_then (expect mark.Colon k) (λ _. pure (Some y))) x (Fixed mark.Colon ∷ j) (name_again x (Fixed mark.Colon ∷ j))
-    ∙ bind_is (expect mark.Colon (Fixed mark.Colon ∷ j)) (λ _. pure (Some x)) tt j (expect_again mark.Colon j)
+parts_erased : (parts : List Part) → erased_parts (parts_of parts) ≡ parts_of (map erased_part parts)
+parts_erased [] = refl
+parts_erased (p ∷ parts) = ap (AndPart (map erased_answer p.answers) (erased_transition p.transition)) (parts_erased parts)
 
-label_complete : (x : Option (List ℕ)) (i j : Words) → SpellsLabel x i j → sees_name j ≡ false → label i ≡ read_as x j
-label_complete None i j s none = ap label s ∙ label_none j none
-label_complete (Some x) i j s none = ap label s ∙ label_some x j
+else_erased : (o : Option Transition) → erased_otherwise (else_of o) ≡ else_of (option_map erased_transition o)
+else_erased None = refl
+else_erased (Some t) = refl
 
-label_length : (x : Option (List ℕ)) (i j : Words) → SpellsLabel x i j → length j ≤ length i
-label_length None i j s = let same = ap length s in omega (arith, same)
-label_length (Some x) i j s = let same = ap length s in omega (arith, same)
+-- ---- a decision, over the law of transitions
 
--- ---- "-" | NAME
+abbrev Question : Type 0
+Question = Spelling × (Expr × (List Part × Option Transition))
 
-next_state_sound : Sound next_state SpellsNextState
-unfolding next_state
-next_state_sound i x j e =
-    elim (chosen (sees mark.Minus i) (and_then (expect mark.Minus i) (λ _. pure Same)) (and_then (name i) (λ y. pure (To y))) (read_as x j) e)
-    as (λ _. SpellsNextState x i j) [
-      | inl s ↦
-          let a = bind_ok (expect mark.Minus i) (λ _. pure Same) x j s.1 in
-          as_read (λ y k. SpellsNextState y i k) Same x a.1 j a.3 (expect_ok mark.Minus i a.0 a.1 a.2)
-      | inr s ↦
-          let a = bind_ok (name i) (λ y. pure (To y)) x j s.1 in
-          as_read (λ y k. SpellsNextState y i k) (To a.0) x a.1 j a.3 (name_ok i a.0 a.1 a.2)
-    ]
+abbrev Decisions : ℕ → Question → Words → Words → Type 0
+Decisions d = Both (IsMark mark.Decision) (SpellsDecision d (SpellsTrans d))
 
-minus_seen : (j : Words) → sees mark.Minus (Fixed mark.Minus ∷ j) ≡ true
-unfolding sees front same_mark
-minus_seen j = refl
+-- a decision where so many may stand inside each other
+abbrev Decides : ℕ → Action → Words → Words → Type 0
+Decides zero x i j = ⊥
+Decides (suc d) x i j = Made decision_with (Decisions d) x i j
 
-name_no_minus : (x : List ℕ) (j : Words) → sees mark.Minus (word.Name x ∷ j) ≡ false
-unfolding sees front
-name_no_minus x j = refl
+abbrev erased_question : Question → Question
+erased_question x = (erased_word x.0, (erased_expr x.1.0, (map erased_part x.1.1.0, option_map erased_transition x.1.1.1)))
 
-next_state_complete : (x : NextState) (i j : Words) → SpellsNextState x i j → next_state i ≡ read_as x j
-unfolding next_state
-next_state_complete Same i j s =
-    ap next_state s
-    ∙ if_true (sees mark.Minus (Fixed mark.Minus ∷ j)) (and_then (expect mark.Minus (Fixed mark.Minus ∷ j)) (λ _. pure Same)) (and_then (name (Fixed mark.Minus ∷ j)) (λ y. pure (To y))) (minus_seen j)
-    ∙ bind_is (expect mark.Minus (Fixed mark.Minus ∷ j)) (λ _. pure Same) tt j (expect_again mark.Minus j)
-next_state_complete (To x) i j s =
-    ap next_state s
-    ∙ if_false (sees mark.Minus (word.Name x ∷ j)) (and_then (expect mark.Minus (word.Name x ∷ j)) (λ _. pure Same)) (and_then (name (word.Name x ∷ j)) (λ y. pure (To y))) (name_no_minus x j)
-    ∙ bind_is (name (word.Name x ∷ j)) (λ y. pure (To y)) x j (name_again x j)
+decision_erased : (x : Question) → erased_action (decision_with x) ≡ decision_with (erased_question x)
+decision_erased x = λ n. Decision (erased_word x.0) (erased_expr x.1.0) (parts_erased x.1.1.0 n) (else_erased x.1.1.1 n)
 
--- ---- terminators
+like_decision : (x y : Question) → erased_question x ≡ erased_question y → erased_action (decision_with x) ≡ erased_action (decision_with y)
+like_decision x y e = decision_erased x ∙ ap decision_with e ∙ sym (decision_erased y)
 
-next_sound : Sound next SpellsTerminator
-unfolding next
-next_sound i x j e =
-    let a = bind_ok (expect mark.NextState i) _ x j e in
-    let b = bind_ok (next_state a.1) _ x j a.3 in
-    let c = bind_ok (end b.1) (λ _. pure (Next b.0)) x j b.3 in
-    as_read (λ y k. SpellsTerminator y i k) (Next b.0) x c.1 j c.3
-    (a.1, b.1, expect_ok mark.NextState i a.0 a.1 a.2, next_state_sound a.1 b.0 b.1 b.2, end_sound b.1 c.0 c.1 c.2)
-
-stop_sound : Sound stop SpellsTerminator
-unfolding stop
-stop_sound i x j e =
-    let a = bind_ok (expect mark.Stop i) _ x j e in
-    let b = bind_ok (end a.1) (λ _. pure Stop) x j a.3 in
-    as_read (λ y k. SpellsTerminator y i k) Stop x b.1 j b.3 (a.1, expect_ok mark.Stop i a.0 a.1 a.2, end_sound a.1 b.0 b.1 b.2)
-
-join_sound : Sound join SpellsTerminator
-unfolding join
-join_sound i x j e =
-    let a = bind_ok (expect mark.Join i) _ x j e in
-    let b = bind_ok (name a.1) _ x j a.3 in
-    let c = bind_ok (end b.1) (λ _. pure (Join b.0)) x j b.3 in
-    as_read (λ y k. SpellsTerminator y i k) (Join b.0) x c.1 j c.3
-    (b.1, expect_ok mark.Join i a.0 a.1 a.2 ∙ ap (λ m. Fixed mark.Join ∷ m) (name_ok a.1 b.0 b.1 b.2), end_sound b.1 c.0 c.1 c.2)
-
-pub terminator_sound : Sound terminator SpellsTerminator
-unfolding terminator
-terminator_sound =
-    choice_sound (sees mark.NextState) next (λ i. if sees mark.Stop i then stop i else join i) SpellsTerminator next_sound
-    (choice_sound (sees mark.Stop) stop join SpellsTerminator stop_sound join_sound)
-
-at_next : (m : Words) → terminator (Fixed mark.NextState ∷ m) ≡ next (Fixed mark.NextState ∷ m)
-unfolding terminator sees front same_mark
-at_next m = refl
-
-at_stop : (m : Words) → terminator (Fixed mark.Stop ∷ m) ≡ stop (Fixed mark.Stop ∷ m)
-unfolding terminator sees front same_mark
-at_stop m = refl
-
-at_join : (m : Words) → terminator (Fixed mark.Join ∷ m) ≡ join (Fixed mark.Join ∷ m)
-unfolding terminator sees front same_mark
-at_join m = refl
-
-next_complete : (x : NextState) (m k : Words) → SpellsNextState x m k → next (Fixed mark.NextState ∷ m) ≡ and_then (end k) (λ _. pure (Next x))
-unfolding next
-next_complete x m k s =
-    bind_is (expect mark.NextState (Fixed mark.NextState ∷ m)) _ tt m (expect_again mark.NextState m)
-    ∙ bind_is (next_state m) (λ leads. λ l. and_then (end l) (λ _. pure (Next leads))) x k (next_state_complete x m k s)
-
-stop_complete : (m : Words) → stop (Fixed mark.Stop ∷ m) ≡ and_then (end m) (λ _. pure Stop)
-unfolding stop
-stop_complete m = bind_is (expect mark.Stop (Fixed mark.Stop ∷ m)) (λ _. λ l. and_then (end l) (λ _. pure Stop)) tt m (expect_again mark.Stop m)
-
-join_complete : (x : List ℕ) (m : Words) → join (Fixed mark.Join ∷ word.Name x ∷ m) ≡ and_then (end m) (λ _. pure (Join x))
-unfolding join
-join_complete x m =
-    bind_is (expect mark.Join (Fixed mark.Join ∷ word.Name x ∷ m)) _ tt (word.Name x ∷ m) (expect_again mark.Join (word.Name x ∷ m))
-    ∙ bind_is (name (word.Name x ∷ m)) (λ y. λ l. and_then (end l) (λ _. pure (Join y))) x m (name_again x m)
-
-terminator_complete : (x : Terminator) (i j : Words) → SpellsTerminator x i j → terminator i ≡ read_as x j
-terminator_complete (Next x) i j s =
-    ap terminator s.2 ∙ at_next s.0 ∙ next_complete x s.0 s.1 s.3 ∙ bind_is (end s.1) (λ _. pure (Next x)) tt j (end_complete s.1 j s.4)
-terminator_complete Stop i j s =
-    ap terminator s.1 ∙ at_stop s.0 ∙ stop_complete s.0 ∙ bind_is (end s.0) (λ _. pure Stop) tt j (end_complete s.0 j s.2)
-terminator_complete (Join x) i j s =
-    ap terminator s.1 ∙ at_join (word.Name x ∷ s.0) ∙ join_complete x s.0 ∙ bind_is (end s.0) (λ _. pure (Join x)) tt j (end_complete s.0 j s.2)
-
-terminator_begins : (x : Terminator) (i j : Words) → SpellsTerminator x i j → begins_terminator i ≡ true
-unfolding begins_terminator sees front same_mark
-terminator_begins (Next x) i j s = ap begins_terminator s.2
-terminator_begins Stop i j s = ap begins_terminator s.1
-terminator_begins (Join x) i j s = ap begins_terminator s.1
-
-terminator_no_name : (x : Terminator) (i j : Words) → SpellsTerminator x i j → sees_name i ≡ false
-unfolding sees_name front
-terminator_no_name (Next x) i j s = ap sees_name s.2
-terminator_no_name Stop i j s = ap sees_name s.1
-terminator_no_name (Join x) i j s = ap sees_name s.1
-
-terminator_statement : (x : Terminator) (i j : Words) → SpellsTerminator x i j → begins_statement i ≡ true
-unfolding begins_statement begins_action begins_terminator sees_name sees front same_mark
-terminator_statement (Next x) i j s = ap begins_statement s.2
-terminator_statement Stop i j s = ap begins_statement s.1
-terminator_statement (Join x) i j s = ap begins_statement s.1
-
--- something stands there
-some_words : (i : Words) → begins_statement i ≡ true → 0 < length i
+no_statement_at : (m : Mark) → same_mark m mark.Task ≡ false → same_mark m mark.Output ≡ false → same_mark m mark.Set ≡ false → same_mark m mark.Reset ≡ false
+    → same_mark m mark.Create ≡ false → same_mark m mark.Decision ≡ false → same_mark m mark.NextState ≡ false → same_mark m mark.Stop ≡ false → same_mark m mark.Join ≡ false
+    → (s : Spelling) (k : Words) → NoStatement (Fixed m s ∷ k)
 unfolding begins_statement begins_action begins_terminator sees_name sees front
-some_words [] e = absurd (true≢false (sym e))
-some_words (w ∷ i) e = omega arith
+no_statement_at m a b c d e f g h o s k = λ n. a n || (b n || (c n || (d n || (e n || f n)))) || (g n || (h n || o n))
 
--- ---- what an action begins with
+module _ (d : ℕ) (t : Law (trans d) (SpellsTrans d) (SpellsTrans (suc d)) NoStatement erased_transition) where
+  abbrev PartOf : ℕ → List Answer × Transition → Words → Words → Type 0
+  PartOf c = Both (Enclosed (SpellsAnswer c)) (Behind mark.Colon (SpellsTrans c))
 
-abbrev Starts : Words → Type 0
-Starts i = (begins_statement i ≡ true) × (sees_name i ≡ false) × (begins_terminator i ≡ false)
+  part_to : (c : ℕ) (x : Part) (i j : Words) → Made part_with (PartOf c) x i j → SpellsPart c (SpellsTrans c) x i j
+  part_to c x i j s = let Q : Part → Type 0 = λ y. SpellsPart c (SpellsTrans c) y i j in subst Q (sym s.1) s.2
 
-starts_task : (m : Words) → Starts (Fixed mark.Task ∷ m)
-unfolding begins_statement begins_action begins_terminator sees_name sees front same_mark
-starts_task m = (refl, refl, refl)
+  part_from : (x : Part) (i j : Words) → SpellsPart d (SpellsTrans d) x i j → Made part_with (PartOf d) x i j
+  part_from x i j s = ((x.answers, x.transition), refl, s)
 
-starts_output : (m : Words) → Starts (Fixed mark.Output ∷ m)
-unfolding begins_statement begins_action begins_terminator sees_name sees front same_mark
-starts_output m = (refl, refl, refl)
+  part_begins : (x : Part) (i j : Words) → SpellsPart d (SpellsTrans d) x i j → sees mark.Open i ≡ true
+  part_begins x i j s = opens_list (SpellsAnswer d) x.answers i s.0 s.1
 
-starts_set : (m : Words) → Starts (Fixed mark.Set ∷ m)
-unfolding begins_statement begins_action begins_terminator sees_name sees front same_mark
-starts_set m = (refl, refl, refl)
+  like_part : (x y : List Answer × Transition) → ◌≡◌ {A = List Answer × Transition} (map erased_answer x.0, erased_transition x.1) (map erased_answer y.0, erased_transition y.1)
+      → erased_part (part_with x) ≡ erased_part (part_with y)
+  like_part x y e = ap part_with e
 
-starts_reset : (m : Words) → Starts (Fixed mark.Reset ∷ m)
-unfolding begins_statement begins_action begins_terminator sees_name sees front same_mark
-starts_reset m = (refl, refl, refl)
+  answers_law : Law (enclosed (answer d)) (Enclosed (SpellsAnswer d)) (Enclosed (SpellsAnswer (suc d))) Anywhere (map erased_answer)
+  unfolding same_mark
+  answers_law =
+      enclosed_law (answer_law d) (answer_takes d) (λ s m. (stops_at mark.Comma refl loosest s m, sees_other mark.Colon mark.Comma refl s m))
+      (λ s m. (stops_at mark.Close refl loosest s m, sees_other mark.Colon mark.Close refl s m))
 
-starts_create : (m : Words) → Starts (Fixed mark.Create ∷ m)
-unfolding begins_statement begins_action begins_terminator sees_name sees front same_mark
-starts_create m = (refl, refl, refl)
+  one_part_law : Law (made part_with (enclosed (answer d) ⊗ behind mark.Colon (trans d))) (SpellsPart d (SpellsTrans d)) (SpellsPart (suc d) (SpellsTrans (suc d))) NoStatement erased_part
+  one_part_law =
+      node_law part_with (SpellsPart d (SpellsTrans d)) (SpellsPart (suc d) (SpellsTrans (suc d))) like_part (part_to d) part_from (part_to (suc d))
+      (both_law answers_law (behind_law mark.Colon t) (λ y m j s u. tt))
 
-starts_decision : (m : Words) → Starts (Fixed mark.Decision ∷ m)
-unfolding begins_statement begins_action begins_terminator sees_name sees front same_mark
-starts_decision m = (refl, refl, refl)
+  no_statement_last : NoStatement []
+  unfolding begins_statement begins_action begins_terminator sees_name sees front
+  no_statement_last = refl
 
-action_starts : (a : Action) (d : ℕ) (i j : Words) → SpellsAction a d i j → Starts i
-action_starts (Task xs) d i j s = subst Starts (sym s.2) (starts_task s.0)
-action_starts (Output xs to) d i j s = subst Starts (sym s.3) (starts_output s.0)
-action_starts (Set xs) d i j s = subst Starts (sym s.2) (starts_set s.0)
-action_starts (Reset xs) d i j s = subst Starts (sym s.2) (starts_reset s.0)
-action_starts (Create x) d i j s = subst Starts (sym s.2) (starts_create s.0)
-action_starts (Decision q parts other) zero i j s = absurd s
-action_starts (Decision q parts other) (suc d) i j s = subst Starts (sym s.5) (starts_decision s.0)
+  part_law : MaybeLaw (part d (trans d)) (SpellsPart d (SpellsTrans d)) (SpellsPart (suc d) (SpellsTrans (suc d))) NoStatement (sees mark.Open) erased_part
+  unfolding part
+  part_law =
+      maybe_law (sees mark.Open) (sees_front mark.Open) one_part_law.rules (sees_last mark.Open) part_begins
+      (takes_by one_part_law.rules (sees mark.Open) (sees_last mark.Open) part_begins no_statement_last)
 
-name_statement : (x : List ℕ) (j : Words) → begins_statement (word.Name x ∷ j) ≡ true
-unfolding begins_statement sees_name front
-name_statement x j = refl
+  open_begins_none : (i : Words) → sees mark.Open i ≡ true → NoStatement i
+  unfolding same_mark
+  open_begins_none i e =
+      let at = sees_ok mark.Open i e in subst NoStatement (sym at.1) (no_statement_at mark.Open refl refl refl refl refl refl refl refl refl at.0 _)
 
-labelled : (x : Option (List ℕ)) (i j : Words) → SpellsLabel x i j → begins_statement j ≡ true → begins_statement i ≡ true
-labelled None i j s begun = ap begins_statement s ∙ begun
-labelled (Some x) i j s begun = ap begins_statement s ∙ name_statement x (Fixed mark.Colon ∷ j)
+  one_else_law : Law (behind mark.Else (behind mark.Colon (trans d))) (SpellsElse (SpellsTrans d)) (SpellsElse (SpellsTrans (suc d))) NoStatement erased_transition
+  one_else_law = behind_law mark.Else (behind_law mark.Colon t)
 
--- ---- actions, over a reading of decisions
+  else_begins : (x : Transition) (i j : Words) → SpellsElse (SpellsTrans d) x i j → sees mark.Else i ≡ true
+  else_begins x i j s = sees_at mark.Else s.0 i s.1 s.2
 
-module _ (d : ℕ) (decide : Parser Action) where
-  pub action_sound : Sound decide (λ a. SpellsAction a d) → Sound (action d decide) (λ a. SpellsAction a d)
-  unfolding action
-  action_sound sound =
-      choice_sound (sees mark.Task) (task d) _ (λ a. SpellsAction a d) (task_sound d)
-      (choice_sound (sees mark.Output) (output d) _ (λ a. SpellsAction a d) (output_sound d)
-      (choice_sound (sees mark.Set) (set d) _ (λ a. SpellsAction a d) (set_sound d)
-      (choice_sound (sees mark.Reset) (reset d) _ (λ a. SpellsAction a d) (reset_sound d)
-      (choice_sound (sees mark.Create) (create d) _ (λ a. SpellsAction a d) (create_sound d)
-      (choice_sound (sees mark.Decision) decide (λ i. Err Refused) (λ a. SpellsAction a d) sound (λ i x j e. not_read Refused x j e))))))
+  else_law : Law (otherwise (trans d)) (Optional (SpellsElse (SpellsTrans d))) (Optional (SpellsElse (SpellsTrans (suc d)))) (λ j. NoStatement j × (sees mark.Else j ≡ false)) (option_map erased_transition)
+  unfolding otherwise
+  else_law =
+      optional_law
+      (maybe_law (sees mark.Else) (sees_front mark.Else) one_else_law.rules (sees_last mark.Else) else_begins
+      (takes_by one_else_law.rules (sees mark.Else) (sees_last mark.Else) else_begins no_statement_last))
 
-  at_task : (m : Words) → action d decide (Fixed mark.Task ∷ m) ≡ task d (Fixed mark.Task ∷ m)
-  unfolding action sees front same_mark
-  at_task m = refl
+  abbrev EndsDecision : Option Transition → Words → Words → Type 0
+  EndsDecision = Ended (Before (Optional (SpellsElse (SpellsTrans d))) mark.EndDecision)
 
-  at_output : (m : Words) → action d decide (Fixed mark.Output ∷ m) ≡ output d (Fixed mark.Output ∷ m)
-  unfolding action sees front same_mark
-  at_output m = refl
+  -- where the parts of a decision end
+  abbrev PartsEnd : Words → Type 0
+  PartsEnd j = NoStatement j × (sees mark.Open j ≡ false)
 
-  at_set : (m : Words) → action d decide (Fixed mark.Set ∷ m) ≡ set d (Fixed mark.Set ∷ m)
-  unfolding action sees front same_mark
-  at_set m = refl
+  ends_parts : (o : Option Transition) (m j : Words) → EndsDecision o m j → PartsEnd m
+  unfolding same_mark
+  ends_parts None m j s =
+      let b = s.1 in
+      subst PartsEnd (sym b.1) (no_statement_at mark.EndDecision refl refl refl refl refl refl refl refl refl b.0 s.0, sees_other mark.Open mark.EndDecision refl b.0 s.0)
+  ends_parts (Some x) m j s =
+      let c = s.1.1 in
+      subst PartsEnd (sym c.2) (no_statement_at mark.Else refl refl refl refl refl refl refl refl refl c.0 c.1, sees_other mark.Open mark.Else refl c.0 c.1)
 
-  at_reset : (m : Words) → action d decide (Fixed mark.Reset ∷ m) ≡ reset d (Fixed mark.Reset ∷ m)
-  unfolding action sees front same_mark
-  at_reset m = refl
+  decision_of_law : Law (decision_of d (trans d)) (Decides (suc d)) (Decides (suc (suc d))) Anywhere erased_action
+  unfolding decision_of same_mark
+  decision_of_law =
+      made_law decision_with like_decision
+      (both_law (mark_law mark.Decision)
+      (both_law (ended_law (expr_law d) (stops_end loosest))
+      (both_law (repeated_law part_law open_begins_none no_statement_last)
+      (ended_law
+      (before_law mark.EndDecision else_law
+      (λ s k. (no_statement_at mark.EndDecision refl refl refl refl refl refl refl refl refl s k, sees_other mark.Else mark.EndDecision refl s k)))
+      (λ i j s. tt))
+      (λ o m j s u. ends_parts o m j s))
+      (λ y m j s u. tt))
+      (λ y m j s u. tt))
 
-  at_create : (m : Words) → action d decide (Fixed mark.Create ∷ m) ≡ create d (Fixed mark.Create ∷ m)
-  unfolding action sees front same_mark
-  at_create m = refl
+-- ---- where no decision may stand
 
-  at_decision : (m : Words) → action d decide (Fixed mark.Decision ∷ m) ≡ decide (Fixed mark.Decision ∷ m)
-  unfolding action sees front same_mark
-  at_decision m = refl
+plain_name : (Inner : Expr → Words → Words → Type 0) (Timer : Spot × List Expr → Words → Words → Type 0) (k : ℕ) (j : Words) → SpellsAt Inner Timer k (Named nameless) (word.Name nameless ∷ j) j
+plain_name Inner Timer zero j = refl
+plain_name Inner Timer (suc zero) j = inl refl
+plain_name Inner Timer (suc (suc k)) j = inl (plain_name Inner Timer (suc k) j)
 
-  pub action_complete : ((q : Expr) (parts : Parts) (other : Otherwise) (i j : Words) → SpellsAction (Decision q parts other) d i j → decide i ≡ read_as (Decision q parts other) j)
-      → ((q : Expr) (parts : Parts) (other : Otherwise) (i j : Words) → SpellsAction (Decision q parts other) d i j → (m : Words) × (i ≡ Fixed mark.Decision ∷ m))
-      → (a : Action) (i j : Words) → SpellsAction a d i j → action d decide i ≡ read_as a j
-  action_complete complete begins (Task xs) i j s = ap (action d decide) s.2 ∙ at_task s.0 ∙ ap (task d) (sym s.2) ∙ task_complete d xs i j s
-  action_complete complete begins (Output xs to) i j s = ap (action d decide) s.3 ∙ at_output s.0 ∙ ap (output d) (sym s.3) ∙ output_complete d xs to i j s
-  action_complete complete begins (Set xs) i j s = ap (action d decide) s.2 ∙ at_set s.0 ∙ ap (set d) (sym s.2) ∙ set_complete d xs i j s
-  action_complete complete begins (Reset xs) i j s = ap (action d decide) s.2 ∙ at_reset s.0 ∙ ap (reset d) (sym s.2) ∙ reset_complete d xs i j s
-  action_complete complete begins (Create x) i j s = ap (action d decide) s.2 ∙ at_create s.0 ∙ ap (create d) (sym s.2) ∙ create_complete d x i j s
-  action_complete complete begins (Decision q parts other) i j s =
-      let at = begins q parts other i j s in
-      ap (action d decide) at.1 ∙ at_decision at.0 ∙ ap decide (sym at.1) ∙ complete q parts other i j s
+abbrev semicolon : word.Word
+semicolon = Fixed mark.Semicolon plain
 
--- ---- transitions, over a reading of actions
+abbrev closing : word.Word
+closing = Fixed mark.EndDecision plain
 
-added_push : (found : List Step) (s : Step) (behind : Actions) → added (found ++ s ∷ []) behind ≡ added found (AndAction s.label s.action behind)
-added_push [] s behind = refl
-added_push (t ∷ found) s behind = ap (AndAction t.label t.action) (added_push found s behind)
+-- the shortest decision
+shortest : (s : Spelling) (j : Words) → Decides (suc zero) (decision_with (s, (Named nameless, ([], None)))) (Fixed mark.Decision s ∷ word.Name nameless ∷ semicolon ∷ closing ∷ semicolon ∷ j) j
+shortest s j = (
+  (s, (Named nameless, ([], None))),
+  refl,
+  (
+    word.Name nameless ∷ semicolon ∷ closing ∷ semicolon ∷ j,
+    refl,
+    (
+      closing ∷ semicolon ∷ j,
+      (semicolon ∷ closing ∷ semicolon ∷ j, plain_name (SpellsInner zero) (SpellsTimer zero) loosest (semicolon ∷ closing ∷ semicolon ∷ j), inl (plain, refl)),
+      (closing ∷ semicolon ∷ j, refl, (semicolon ∷ j, (plain, refl), inl (plain, refl))),
+    ),
+  ),
+)
 
--- the rest of a transition, behind the actions that are read
-record Rest (d : ℕ) (found : List Step) (t : Transition) (i j : Words) : Type 0 where
-  steps : Actions
-  last : Option Ending
-  same : t ≡ Steps (added found steps) last
-  spelled : SpellsTrans (Steps steps last) d i j
+opens_decision : (s : Spelling) → IsOpening (Fixed mark.Decision s)
+opens_decision s = (s, inr refl)
 
-module _ (act : Parser Action) (d : ℕ) (sound : Sound act (λ a. SpellsAction a d)) where
-  steps_end : (found : List Step) (t : Transition) (i j : Words) → read_as (Steps (actions_of found) None) i ≡ read_as t j → Rest d found t i j
-  steps_end found t i j e = record {
-    steps = NoAction;
-    last = None;
-    same = sym (same_value (Steps (actions_of found) None) t i j e);
-    spelled = (i, refl, same_rest (Steps (actions_of found) None) t i j e);
-  }
+decision_zero : decision zero ≡ too_deep
+unfolding decision
+decision_zero = refl
 
-  steps_sound : (n : ℕ) (found : List Step) (i : Words) (t : Transition) (j : Words) → steps_from act n found i ≡ read_as t j → Rest d found t i j
-  steps_sound zero found i t j e = steps_end found t i j (sym (steps_none act found i) ∙ e)
-  steps_sound (suc n) found i t j e =
-      elim (chosen (begins_statement i) (and_then (label i) (on_statement act n found)) (Ok (Steps (actions_of found) None, i)) (read_as t j) (sym (steps_turn act n found i) ∙ e))
-      as (λ _. Rest d found t i j) [
-        | inl s ↦
-            let a = bind_ok (label i) (on_statement act n found) t j s.1 in
-            elim (chosen (begins_terminator a.1) (and_then (terminator a.1) (λ last. pure (Steps (actions_of found) (Some (ending_of a.0 last)))))
-            (and_then (act a.1) (λ done. steps_from act n (found ++ step_of a.0 done ∷ []))) (read_as t j) a.3)
-            as (λ _. Rest d found t i j) [
-              | inl u ↦
-                  let b = bind_ok (terminator a.1) (λ last. pure (Steps (actions_of found) (Some (ending_of a.0 last)))) t j u.1 in
-                  let made : Transition = Steps (actions_of found) (Some (ending_of a.0 b.0)) in
-                  let P : Words → Type 0 = λ m. SpellsTerminator b.0 a.1 m in
-                  record {
-                    steps = NoAction;
-                    last = Some (ending_of a.0 b.0);
-                    same = sym (same_value made t b.1 j b.3);
-                    spelled = (i, refl, (a.1, label_sound i a.0 a.1 a.2, subst P (same_rest made t b.1 j b.3) (terminator_sound a.1 b.0 b.1 b.2)));
-                  }
-              | inr u ↦
-                  let b = bind_ok (act a.1) (λ done. steps_from act n (found ++ step_of a.0 done ∷ [])) t j u.1 in
-                  let more = steps_sound n (found ++ step_of a.0 b.0 ∷ []) b.1 t j b.3 in
-                  record {
-                    steps = AndAction a.0 b.0 more.steps;
-                    last = more.last;
-                    same = more.same ∙ ap (λ bs. Steps bs more.last) (added_push found (step_of a.0 b.0) more.steps);
-                    spelled = (more.spelled.0, (a.1, b.1, label_sound i a.0 a.1 a.2, sound a.1 b.0 b.1 b.2, more.spelled.1), more.spelled.2);
-                  }
-            ]
-        | inr s ↦ steps_end found t i j s.1
-      ]
+decision_more : (d : ℕ) → decision (suc d) ≡ decision_of d (trans d)
+unfolding decision
+decision_more d = refl
 
-  pub trans_of_sound : Sound (trans_of act) (λ t. SpellsTrans t d)
-  trans_of_sound i t j e =
-      let r = steps_sound (length i) [] i t j e in
-      let P : Transition → Type 0 = λ u. SpellsTrans u d i j in subst P (sym r.same) r.spelled
+refuse_rules : Rules refuse (λ x i j. ⊥) (λ x i j. ⊥) Anywhere erased_action
+refuse_rules = refused_rules (λ i. refl) (λ x i j s. s)
 
--- where a transition stops
-abbrev pub NoStatement : Words → Type 0
-NoStatement j = begins_statement j ≡ false
+abbrev IsDecision : ℕ → Action → Words → Words → Type 0
+IsDecision d x i j = Decides d x i j ⊎ ⊥
 
-abbrev count : Actions → ℕ
-count NoAction = 0
-count (AndAction named done behind) = suc (count behind)
+abbrev perhaps : Parser Action → Parser Action
+perhaps inner = either (sees mark.Decision) inner refuse
 
-module _ (act : Parser Action) (d : ℕ) (complete : (a : Action) (i j : Words) → SpellsAction a d i j → act i ≡ read_as a j) (shortens : Shortens act) where
-  actions_length : (steps : Actions) (i j : Words) → SpellsActions steps d i j → count steps + length j ≤ length i
-  actions_length NoAction i j s = let same = ap length s in omega (arith, same)
-  actions_length (AndAction named done behind) i j s =
-      let first = label_length named i s.0 s.2 in
-      let second = shortens s.0 done s.1 (complete done s.0 s.1 s.3) in
-      let third = actions_length behind s.1 j s.4 in omega arith
+none_rules : Rules (perhaps (decision zero)) (IsDecision zero) (IsDecision (suc zero)) Anywhere erased_action
+none_rules =
+    same_rules (λ i. shut_first mark.Decision refuse i ∙ ap (λ p. perhaps p i) (sym decision_zero))
+    (either_rules (sees mark.Decision) (sees_front mark.Decision)
+    (shut_rules mark.Decision opens_decision
+    (λ s. (decision_with (s, (Named nameless, ([], None))), word.Name nameless ∷ semicolon ∷ closing ∷ semicolon ∷ [], λ j u. shortest s j))
+    (λ x i j s. s))
+    refuse_rules (λ x i j s. absurd s) (λ x i j s t. absurd s))
 
-  steps_complete : (steps : Actions) (last : Option Ending) (n : ℕ) (found : List Step) (i m j : Words) → SpellsActions steps d i m → Optional SpellsEnding last m j
-      → NoStatement j → count steps + length m ≤ n → steps_from act n found i ≡ read_as (Steps (added found steps) last) j
-  steps_complete NoAction None zero found i m j s t none le = steps_none act found i ∙ ap (λ k. read_as (Steps (actions_of found) None) k) (s ∙ t)
-  steps_complete NoAction None (suc n) found i m j s t none le =
-      steps_turn act n found i
-      ∙ if_false (begins_statement i) (and_then (label i) (on_statement act n found)) (Ok (Steps (actions_of found) None, i)) (ap begins_statement (s ∙ t) ∙ none)
-      ∙ ap (λ k. read_as (Steps (actions_of found) None) k) (s ∙ t)
-  steps_complete NoAction (Some last) zero found i m j s t none le =
-      let some = some_words m (labelled last.label m t.0 t.1 (terminator_statement last.terminator t.0 j t.2)) in absurd (omega arith)
-  steps_complete NoAction (Some last) (suc n) found i m j s t none le =
-      steps_turn act n found i
-      ∙ if_true (begins_statement i) (and_then (label i) (on_statement act n found)) (Ok (Steps (actions_of found) None, i))
-      (ap begins_statement s ∙ labelled last.label m t.0 t.1 (terminator_statement last.terminator t.0 j t.2))
-      ∙ bind_is (label i) (on_statement act n found) last.label t.0 (ap label s ∙ label_complete last.label m t.0 t.1 (terminator_no_name last.terminator t.0 j t.2))
-      ∙ if_true (begins_terminator t.0) (and_then (terminator t.0) (λ end_of. pure (Steps (actions_of found) (Some (ending_of last.label end_of)))))
-      (and_then (act t.0) (λ done. steps_from act n (found ++ step_of last.label done ∷ []))) (terminator_begins last.terminator t.0 j t.2)
-      ∙ bind_is (terminator t.0) (λ end_of. pure (Steps (actions_of found) (Some (ending_of last.label end_of)))) last.terminator j (terminator_complete last.terminator t.0 j t.2)
-  steps_complete (AndAction named done behind) last zero found i m j s t none le = absurd (omega arith)
-  steps_complete (AndAction named done behind) last (suc n) found i m j s t none le =
-      let starts = action_starts done d s.0 s.1 s.3 in
-      steps_turn act n found i
-      ∙ if_true (begins_statement i) (and_then (label i) (on_statement act n found)) (Ok (Steps (actions_of found) None, i)) (labelled named i s.0 s.2 starts.0)
-      ∙ bind_is (label i) (on_statement act n found) named s.0 (label_complete named i s.0 s.2 starts.1)
-      ∙ if_false (begins_terminator s.0) (and_then (terminator s.0) (λ end_of. pure (Steps (actions_of found) (Some (ending_of named end_of)))))
-      (and_then (act s.0) (λ made. steps_from act n (found ++ step_of named made ∷ []))) starts.2
-      ∙ bind_is (act s.0) (λ made. steps_from act n (found ++ step_of named made ∷ [])) done s.1 (complete done s.0 s.1 s.3)
-      ∙ steps_complete behind last n (found ++ step_of named done ∷ []) s.1 m j s.4 t none (omega arith)
-      ∙ ap (λ bs. read_as (Steps bs last) j) (added_push found (step_of named done) behind)
+decision_begins : (d : ℕ) (x : Action) (i j : Words) → Decides (suc d) x i j → sees mark.Decision i ≡ true
+decision_begins d x i j s = let b = s.2 in sees_at mark.Decision s.0.0 i b.0 b.1
 
-  pub trans_of_complete : Complete (trans_of act) (λ t. SpellsTrans t d) NoStatement
-  trans_of_complete (Steps steps last) i j s none = steps_complete steps last (length i) [] i s.0 j s.1 s.2 none (actions_length steps i s.0 s.1)
+more_rules : (d : ℕ) → Law (trans d) (SpellsTrans d) (SpellsTrans (suc d)) NoStatement erased_transition
+    → Rules (perhaps (decision (suc d))) (IsDecision (suc d)) (IsDecision (suc (suc d))) Anywhere erased_action
+more_rules d t =
+    same_rules (λ i. ap (λ p. perhaps p i) (sym (decision_more d)))
+    (either_rules (sees mark.Decision) (sees_front mark.Decision) (decision_of_law d t).rules refuse_rules (decision_begins d) (λ x i j s t. absurd s))
+
+-- ---- actions
+
+abbrev IsCreate : ℕ → Action → Words → Words → Type 0
+IsCreate d x i j = Made create_with (Creates d) x i j ⊎ IsDecision d x i j
+
+abbrev IsReset : ℕ → Action → Words → Words → Type 0
+IsReset d x i j = Made reset_with (Resets d) x i j ⊎ IsCreate d x i j
+
+abbrev IsSet : ℕ → Action → Words → Words → Type 0
+IsSet d x i j = Made set_with (Sets d) x i j ⊎ IsReset d x i j
+
+abbrev IsOutput : ℕ → Action → Words → Words → Type 0
+IsOutput d x i j = Made output_with (Outputs d) x i j ⊎ IsSet d x i j
+
+abbrev IsAction : ℕ → Action → Words → Words → Type 0
+IsAction d x i j = Made task_with (Tasks d) x i j ⊎ IsOutput d x i j
+
+decides_to : (d : ℕ) (x : Action) (i j : Words) → Decides d x i j → SpellsAction d x i j
+decides_to zero x i j s = absurd s
+decides_to (suc d) x i j s =
+    let Q : Action → Type 0 = λ y. SpellsAction (suc d) y i j in
+    let z = s.0 in
+    let F : List Part → Type 0 = λ ps. Decisions d (z.0, (z.1.0, (ps, else_in (else_of z.1.1.1)))) i j in
+    let G : Option Transition → Type 0 = λ o. Decisions d (z.0, (z.1.0, (z.1.1.0, o))) i j in
+    subst Q (sym s.1) (subst F (sym (parts_are z.1.1.0)) (subst G (sym (else_are z.1.1.1)) s.2))
+
+action_to : (d : ℕ) (x : Action) (i j : Words) → IsAction d x i j → SpellsAction d x i j
+action_to d x i j (inl s) = let Q : Action → Type 0 = λ y. SpellsAction d y i j in subst Q (sym s.1) s.2
+action_to d x i j (inr (inl s)) = let Q : Action → Type 0 = λ y. SpellsAction d y i j in subst Q (sym s.1) s.2
+action_to d x i j (inr (inr (inl s))) = let Q : Action → Type 0 = λ y. SpellsAction d y i j in subst Q (sym s.1) s.2
+action_to d x i j (inr (inr (inr (inl s)))) = let Q : Action → Type 0 = λ y. SpellsAction d y i j in subst Q (sym s.1) s.2
+action_to d x i j (inr (inr (inr (inr (inl s))))) = let Q : Action → Type 0 = λ y. SpellsAction d y i j in subst Q (sym s.1) s.2
+action_to d x i j (inr (inr (inr (inr (inr (inl s)))))) = decides_to d x i j s
+action_to d x i j (inr (inr (inr (inr (inr (inr s)))))) = absurd s
+
+decision_again : (w : Spelling) (question : Expr) (parts : Parts) (other : Otherwise)
+    → decision_with (w, (question, (parts_in parts, else_in other))) ≡ Decision w question parts other
+decision_again w question parts other = λ n. Decision w question (parts_again parts n) (else_again other n)
+
+action_from : (d : ℕ) (x : Action) (i j : Words) → SpellsAction d x i j → IsAction d x i j
+action_from d (Task w assignments) i j s = inl ((w, assignments), refl, s)
+action_from d (Output w outputs destination) i j s = inr (inl ((w, (outputs, destination)), refl, s))
+action_from d (Set w clauses) i j s = inr (inr (inl ((w, clauses), refl, s)))
+action_from d (Reset w groups) i j s = inr (inr (inr (inl ((w, groups), refl, s))))
+action_from d (Create w process) i j s = inr (inr (inr (inr (inl ((w, process), refl, s)))))
+action_from zero (Decision w question parts other) i j s = absurd s
+action_from (suc d) (Decision w question parts other) i j s =
+    inr (inr (inr (inr (inr (inl (
+      (w, (question, (parts_in parts, else_in other))),
+      sym (decision_again w question parts other),
+      s,
+    ))))))
+
+-- what holds at the words of actions holds where one begins
+module _ (Q : Words → Type 0) (at_task : (s : Spelling) (k : Words) → Q (Fixed mark.Task s ∷ k)) (at_output : (s : Spelling) (k : Words) → Q (Fixed mark.Output s ∷ k))
+    (at_set : (s : Spelling) (k : Words) → Q (Fixed mark.Set s ∷ k)) (at_reset : (s : Spelling) (k : Words) → Q (Fixed mark.Reset s ∷ k))
+    (at_create : (s : Spelling) (k : Words) → Q (Fixed mark.Create s ∷ k)) (at_decision : (s : Spelling) (k : Words) → Q (Fixed mark.Decision s ∷ k)) where
+  pub action_begins : (d : ℕ) (x : Action) (i j : Words) → SpellsAction d x i j → Q i
+  action_begins d (Task w assignments) i j s = subst Q (sym s.1) (at_task w s.0)
+  action_begins d (Output w outputs destination) i j s = subst Q (sym s.1) (at_output w s.0)
+  action_begins d (Set w clauses) i j s = subst Q (sym s.1) (at_set w s.0)
+  action_begins d (Reset w groups) i j s = subst Q (sym s.1) (at_reset w s.0)
+  action_begins d (Create w process) i j s = subst Q (sym s.1) (at_create w s.0)
+  action_begins zero (Decision w question parts other) i j s = absurd s
+  action_begins (suc d) (Decision w question parts other) i j s = subst Q (sym s.1) (at_decision w s.0)
+
+action_starts : (d : ℕ) (x : Action) (i j : Words) → SpellsAction d x i j → begins_action i ≡ true
+unfolding begins_action sees front same_mark
+action_starts = action_begins (λ i. begins_action i ≡ true) (λ s k. refl) (λ s k. refl) (λ s k. refl) (λ s k. refl) (λ s k. refl) (λ s k. refl)
+
+action_unnamed : (d : ℕ) (x : Action) (i j : Words) → SpellsAction d x i j → sees_name i ≡ false
+action_unnamed =
+    action_begins (λ i. sees_name i ≡ false) (no_name mark.Task) (no_name mark.Output) (no_name mark.Set) (no_name mark.Reset) (no_name mark.Create) (no_name mark.Decision)
+
+action_no_ending : (d : ℕ) (x : Action) (i j : Words) → SpellsAction d x i j → begins_terminator i ≡ false
+unfolding begins_terminator sees front same_mark
+action_no_ending = action_begins (λ i. begins_terminator i ≡ false) (λ s k. refl) (λ s k. refl) (λ s k. refl) (λ s k. refl) (λ s k. refl) (λ s k. refl)
+
+-- an action does not begin as one before it
+decision_other : (m : Mark) → same_mark mark.Decision m ≡ false → (d : ℕ) (x : Action) (i j : Words) → IsDecision d x i j → sees m i ≡ false
+decision_other m e zero x i j (inl s) = absurd s
+decision_other m e (suc d) x i j (inl s) = let b = s.2 in ap (sees m) b.1 ∙ sees_other m mark.Decision e s.0.0 b.0
+decision_other m e d x i j (inr s) = absurd s
+
+create_other : (m : Mark) → same_mark mark.Create m ≡ false → same_mark mark.Decision m ≡ false → (d : ℕ) (x : Action) (i j : Words) → IsCreate d x i j → sees m i ≡ false
+create_other m e f d x i j (inl s) = let b = s.2 in ap (sees m) b.1 ∙ sees_other m mark.Create e s.0.0 b.0
+create_other m e f d x i j (inr s) = decision_other m f d x i j s
+
+reset_other : (m : Mark) → same_mark mark.Reset m ≡ false → same_mark mark.Create m ≡ false → same_mark mark.Decision m ≡ false
+    → (d : ℕ) (x : Action) (i j : Words) → IsReset d x i j → sees m i ≡ false
+reset_other m e f g d x i j (inl s) = let b = s.2 in ap (sees m) b.1 ∙ sees_other m mark.Reset e s.0.0 b.0
+reset_other m e f g d x i j (inr s) = create_other m f g d x i j s
+
+set_other : (m : Mark) → same_mark mark.Set m ≡ false → same_mark mark.Reset m ≡ false → same_mark mark.Create m ≡ false → same_mark mark.Decision m ≡ false
+    → (d : ℕ) (x : Action) (i j : Words) → IsSet d x i j → sees m i ≡ false
+set_other m e f g h d x i j (inl s) = let b = s.2 in ap (sees m) b.1 ∙ sees_other m mark.Set e s.0.0 b.0
+set_other m e f g h d x i j (inr s) = reset_other m f g h d x i j s
+
+output_other : (m : Mark) → same_mark mark.Output m ≡ false → same_mark mark.Set m ≡ false → same_mark mark.Reset m ≡ false → same_mark mark.Create m ≡ false
+    → same_mark mark.Decision m ≡ false → (d : ℕ) (x : Action) (i j : Words) → IsOutput d x i j → sees m i ≡ false
+output_other m e f g h o d x i j (inl s) = let b = s.2 in ap (sees m) b.1 ∙ sees_other m mark.Output e s.0.0 b.0
+output_other m e f g h o d x i j (inr s) = set_other m f g h o d x i j s
+
+action_law_by : (d : ℕ) → Rules (perhaps (decision d)) (IsDecision d) (IsDecision (suc d)) Anywhere erased_action
+    → Law (action d) (SpellsAction d) (SpellsAction (suc d)) Anywhere erased_action
+unfolding action_of same_mark
+action_law_by d r =
+    as_law (action_to d) (action_from d) (action_to (suc d))
+    (first_law (sees mark.Task) (sees_front mark.Task) (task_law d)
+    (first_law (sees mark.Output) (sees_front mark.Output) (output_law d)
+    (first_law (sees mark.Set) (sees_front mark.Set) (set_law d)
+    (first_law (sees mark.Reset) (sees_front mark.Reset) (reset_law d)
+    (first_law (sees mark.Create) (sees_front mark.Create) (create_law d) r
+    (λ x i j s. let b = s.2 in sees_at mark.Create s.0.0 i b.0 b.1) (λ x i j s t. decision_other mark.Create refl d x i j s)).rules
+    (λ x i j s. let b = s.2 in sees_at mark.Reset s.0.0 i b.0 b.1) (λ x i j s t. create_other mark.Reset refl refl d x i j s)).rules
+    (λ x i j s. let b = s.2 in sees_at mark.Set s.0.0 i b.0 b.1) (λ x i j s t. reset_other mark.Set refl refl refl d x i j s)).rules
+    (λ x i j s. let b = s.2 in sees_at mark.Output s.0.0 i b.0 b.1) (λ x i j s t. set_other mark.Output refl refl refl refl d x i j s)).rules
+    (λ x i j s. let b = s.2 in sees_at mark.Task s.0.0 i b.0 b.1) (λ x i j s t. output_other mark.Task refl refl refl refl refl d x i j s))
+
+trans_law_by : (d : ℕ) → Rules (perhaps (decision d)) (IsDecision d) (IsDecision (suc d)) Anywhere erased_action
+    → Law (trans d) (SpellsTrans d) (SpellsTrans (suc d)) NoStatement erased_transition
+trans_law_by d r =
+    as_law (λ x i j s. s) (λ x i j s. s) (λ x i j s. s)
+    (trans_of_law (action_law_by d r) (action_starts d) (action_unnamed d) (action_no_ending d))
+
+-- ---- as many inside each other
+
+decision_rules : (d : ℕ) → Rules (perhaps (decision d)) (IsDecision d) (IsDecision (suc d)) Anywhere erased_action
+decision_rules zero = none_rules
+decision_rules (suc d) = more_rules d (trans_law_by d (decision_rules d))
+
+pub action_law : (d : ℕ) → Law (action d) (SpellsAction d) (SpellsAction (suc d)) Anywhere erased_action
+action_law d = action_law_by d (decision_rules d)
+
+pub trans_law : (d : ℕ) → Law (trans d) (SpellsTrans d) (SpellsTrans (suc d)) NoStatement erased_transition
+trans_law d = trans_law_by d (decision_rules d)

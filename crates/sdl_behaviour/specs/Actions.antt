@@ -1,127 +1,62 @@
--- Reading of actions.
-use Rattle.std.specs.Prelude.{ℕ, zero, suc, Bool, true, false, if◌then◌else◌, List, [], ◌∷◌, Option, Some, None, Ok}
-use Rattle.sdl_tree.specs.declared.mark.Mark.{Mark}
+-- Reading of actions but decisions and `set`. A reading is a device of the proofs: what the grammar spells, `sdl_tree` says.
+use Rattle.std.specs.Prelude.{ℕ, List, Option}
 use Rattle.sdl_tree.specs.declared.mark.Mark.TheVariants as mark
-use Rattle.sdl_tree.specs.Spells.Parts.{Words}
-use Rattle.sdl_tree.specs.Tree.{Expr, Action, Applied, Assignment, SetClause, Task, Output, Set, Reset, Create}
-use Rattle.sdl_tree.specs.Views.{exprs_of}
-use Rattle.sdl_behaviour.specs.declared.actions.Look.{Look}
-use Rattle.sdl_behaviour.specs.declared.actions.Look.TheVariants as looks
-use Rattle.sdl_read.specs.Expressions.{expr, args_of}
-use Rattle.sdl_read.specs.Parts.{end}
-use Rattle.sdl_read.specs.Reading.{Parser, ◌>>=◌, ◌>>◌, pure, eat, expect, name, mark_by, same_mark, separated}
+use Rattle.sdl_tree.specs.declared.name.Spelling.{Spelling}
+use Rattle.sdl_tree.specs.Tree.{Expr, Applied, Assignment, Destination, Action, Task, Output, Reset, Create}
+use Rattle.sdl_tree.specs.Words.{Spot}
+use Rattle.sdl_read.specs.Expressions.{expr}
+use Rattle.sdl_read.specs.Parts.{ended}
+use Rattle.sdl_read.specs.Reading.{Parser, ◌⊗◌, behind, made, maybe, sees, expect, name, separated, enclosed, in_parentheses}
+
+abbrev pub assignment_with : Spot × Expr → Assignment
+assignment_with p = record { variable = p.0; value = p.1 }
 
 -- NAME ":=" expr
 unfoldable pub assignment : ℕ → Parser Assignment
-assignment depth = do
-  target ← name
-  expect mark.Assign
-  given ← expr depth
-  pure (record { variable = target; value = given })
+assignment depth = made assignment_with (name ⊗ behind mark.Assign (expr depth))
 
--- a task
+abbrev pub task_with : Spelling × List Assignment → Action
+task_with p = Task p.0 p.1
+
+-- "task" NAME ":=" expr {"," NAME ":=" expr} end
 unfoldable pub task : ℕ → Parser Action
-task depth = do
-  expect mark.Task
-  found ← separated (assignment depth)
-  end
-  pure (Task found)
+task depth = made task_with (expect mark.Task ⊗ ended (separated (assignment depth)))
+
+abbrev pub applied_with : Spot × List Expr → Applied
+applied_with p = record { name = p.0; values = p.1 }
 
 -- NAME [args]
 unfoldable pub applied : ℕ → Parser Applied
-applied depth = do
-  called ← name
-  given ← args_of (expr depth)
-  pure (record { name = called; values = exprs_of given })
+applied depth = made applied_with (name ⊗ in_parentheses (expr depth))
+
+abbrev pub destination_with : Spelling × Expr → Destination
+destination_with p = record { word = p.0; value = p.1 }
 
 -- ["to" expr]
-unfoldable pub destination : ℕ → Parser (Option Expr)
-destination depth = do
-  found ← eat mark.To
-  if found then (do e ← expr depth; pure (Some e)) else pure None
+unfoldable pub destination : ℕ → Parser (Option Destination)
+destination depth = maybe (sees mark.To) (made destination_with (expect mark.To ⊗ expr depth))
 
+abbrev pub output_with : Spelling × (List Applied × Option Destination) → Action
+output_with p = Output p.0 p.1.0 p.1.1
+
+-- "output" NAME [args] {"," NAME [args]} ["to" expr] end
 unfoldable pub output : ℕ → Parser Action
-output depth = do
-  expect mark.Output
-  found ← separated (applied depth)
-  target ← destination depth
-  end
-  pure (Output found target)
+output depth = made output_with (expect mark.Output ⊗ ended (separated (applied depth) ⊗ destination depth))
 
+abbrev pub create_with : Spelling × Applied → Action
+create_with p = Create p.0 p.1
+
+-- "create" NAME [args] end
 unfoldable pub create : ℕ → Parser Action
-create depth = do
-  expect mark.Create
-  made ← applied depth
-  end
-  pure (Create made)
+create depth = made create_with (expect mark.Create ⊗ ended (applied depth))
 
+-- keys = "(" NAME [args] {"," NAME [args]} ")"
 unfoldable pub keys : ℕ → Parser (List Applied)
-keys depth = do
-  expect mark.Open
-  found ← separated (applied depth)
-  expect mark.Close
-  pure found
+keys depth = enclosed (applied depth)
 
+abbrev pub reset_with : Spelling × List (List Applied) → Action
+reset_with p = Reset p.0 p.1
+
+-- "reset" keys {"," keys} end
 unfoldable pub reset : ℕ → Parser Action
-reset depth = do
-  expect mark.Reset
-  found ← separated (keys depth)
-  end
-  pure (Reset found)
-
--- ---- a set
-
-abbrev pub look_comma : ℕ → Look
-look_comma zero = looks.Comma
-look_comma (suc inside) = looks.Inside (suc inside)
-
-abbrev pub look_close : ℕ → Look
-look_close zero = looks.End
-look_close (suc inside) = looks.Inside inside
-
-abbrev pub look_mark : ℕ → Mark → Look
-look_mark inside m =
-    if same_mark m mark.Semicolon then looks.End
-    else (if same_mark m mark.Comma then look_comma inside
-    else (if same_mark m mark.Close then look_close inside
-    else (if same_mark m mark.Open then looks.Inside (suc inside) else looks.Inside inside)))
-
--- what a word that stands inside so many parentheses says of the comma of a clause
-unfoldable pub look_at : ℕ → Option Mark → Look
-look_at inside None = looks.Inside inside
-look_at inside (Some m) = look_mark inside m
-
--- how many parentheses it leaves open
-abbrev pub inside_of : Look → ℕ → ℕ
-inside_of looks.Comma before = before
-inside_of looks.End before = before
-inside_of (looks.Inside inside) before = inside
-
-abbrev pub found_by : Look → (ℕ → Bool) → Bool
-found_by looks.Comma on = true
-found_by looks.End on = false
-found_by (looks.Inside inside) on = on inside
-
--- Whether a comma stands ahead outside parentheses, before a `)` that closes none of them, a `;` and the end of the text.
-unfoldable pub comma_ahead : ℕ → Words → Bool
-comma_ahead inside [] = false
-comma_ahead inside (w ∷ i) = found_by (look_at inside (mark_by (Some w))) (λ now. comma_ahead now i)
-
--- [expr ","]
-unfoldable pub time : ℕ → Parser (Option Expr)
-time depth = λ i. if comma_ahead 0 i then (do e ← expr depth; expect mark.Comma; pure (Some e)) i else Ok (None, i)
-
-unfoldable pub clause : ℕ → Parser SetClause
-clause depth = do
-  expect mark.Open
-  due ← time depth
-  key ← applied depth
-  expect mark.Close
-  pure (record { time = due; timer = key })
-
-unfoldable pub set : ℕ → Parser Action
-set depth = do
-  expect mark.Set
-  found ← separated (clause depth)
-  end
-  pure (Set found)
+reset depth = made reset_with (expect mark.Reset ⊗ ended (separated (keys depth)))

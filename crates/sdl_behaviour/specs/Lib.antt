@@ -1,3 +1,6 @@
 pub mod Actions
+pub mod Answers
+pub mod Clauses
 pub mod States
+pub mod Stimuli
 pub mod Transitions

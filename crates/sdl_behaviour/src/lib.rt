@@ -6,5 +6,9 @@
 #![tactic(auto)]
 
 pub mod actions;
+pub mod answers;
+pub mod clauses;
+pub mod place;
 pub mod states;
+pub mod stimuli;
 pub mod transitions;

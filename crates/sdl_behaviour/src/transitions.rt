@@ -1,18 +1,18 @@
 //! Transitions: actions with their labels, decisions, and what ends them.
 
 ghost use Rattle.std.specs.Prelude.{◌≡◌, ◌≤◌, map, option_map};
-ghost use Rattle.sdl_tree.specs.declared.mark.Mark.TheVariants as mark;
-ghost use Rattle.sdl_tree.specs.Tree as plain;
-ghost use Rattle.sdl_tree.specs.Views.{plain_action, plain_answer, plain_ending, plain_expr, plain_name, plain_next_state, plain_terminator, plain_transition, else_of};
+ghost use Rattle.sdl_tree.specs.Views.{action_value, answer_value, answer_part_value, ending_value, expr_value, name_value, next_state_value, statement_value, terminator_value, transition_value};
 ghost use Rattle.sdl_behaviour.specs.Transitions as spec;
-ghost use Rattle.sdl_behaviour.specs.Transitions.{plain_step, plain_answered};
-ghost use Rattle.sdl_read.specs.Reading.{repeated, separated, sees};
 ghost use Rattle.sdl_read.specs.Reads.{Reads};
 
-use crate::actions::{create, output, reset, set, task};
+use crate::actions::{create, output, reset, task};
+use crate::answers::answer;
+use crate::clauses::set;
+use crate::place::Inside;
 use sdl_read::cursor::Cursor;
-use sdl_read::expressions::{expression, operator_at};
+use sdl_read::expressions::expression;
 use sdl_read::fault::{Fault, Wanted};
+use sdl_read::lists::{Perhaps, enclosed, repeated};
 use sdl_read::parts::end;
 use sdl_tree::{
     Action, ActionStatement, Answer, AnswerPart, Expression, Mark, Name, NextState, Spelling,
@@ -20,15 +20,28 @@ use sdl_tree::{
 };
 use std::alloc::Global;
 
-/// The looseness of the comparisons.
-const COMPARISON: usize = 4;
+impl Perhaps<AnswerPart> for Inside {
+    ghost use Rattle.sdl_tree.specs.Tree as tree;
+    ghost use Rattle.sdl_tree.specs.Views.{answer_part_value};
+    ghost use Rattle.sdl_behaviour.specs.Transitions.{part, trans};
+
+    ghost Node = { tree.Part };
+
+    ghost value = { answer_part_value };
+
+    ghost reads = { λ at. part at.depth (trans at.depth) };
+}
 
 /// `trans = {[NAME ":"] action} [[NAME ":"] terminator]`, in which `depth` parentheses and decisions may stand inside
 /// each other.
 #[cycle(transition)]
-pub fn transition(alloc: Global, cursor: &mut Cursor<'_>, depth: usize) -> Result<Transition, Fault>
+pub fn transition(
+    alloc: Global,
+    cursor: &mut Cursor<'_, '_>,
+    depth: usize,
+) -> Result<Transition, Fault>
     requires { depth ≤ 64 }
-    ensures { Reads plain_transition (spec.trans depth cursor.old) result cursor.new }
+    ensures { Reads transition_value (spec.trans depth cursor.old) result cursor.new }
 {
     let mut actions = Vec::new(alloc);
     for _turn in 0..cursor.left() {
@@ -48,11 +61,11 @@ pub fn transition(alloc: Global, cursor: &mut Cursor<'_>, depth: usize) -> Resul
 }
 
 /// The node, made apart so that its view stands in a contract.
-fn transition_with(
+pub fn transition_with(
     actions: Vec<ActionStatement>,
     terminator: Option<TerminatorStatement>,
 ) -> Transition
-    ensures { plain_transition result ≡ plain.Steps (spec.actions_of (map plain_step actions.items)) (option_map plain_ending terminator) }
+    ensures { transition_value result ≡ spec.steps_with (map statement_value actions.items, option_map ending_value terminator) }
 {
     Transition {
         actions,
@@ -62,10 +75,10 @@ fn transition_with(
 
 /// One of the actions.
 #[cycle(transition)]
-#[tactic(auto, unfolding(crate::specs::Transitions::action))]
-fn action(alloc: Global, cursor: &mut Cursor<'_>, depth: usize) -> Result<Action, Fault>
+#[tactic(auto, unfolding(crate::specs::Transitions::action_of))]
+pub fn action(alloc: Global, cursor: &mut Cursor<'_, '_>, depth: usize) -> Result<Action, Fault>
     requires { depth ≤ 64 }
-    ensures { Reads plain_action (spec.action depth (spec.decision depth) cursor.old) result cursor.new }
+    ensures { Reads action_value (spec.action depth cursor.old) result cursor.new }
 {
     if cursor.sees(Mark::Task) {
         return task(alloc, cursor, depth);
@@ -90,9 +103,9 @@ fn action(alloc: Global, cursor: &mut Cursor<'_>, depth: usize) -> Result<Action
 
 /// A decision, where as many parentheses and decisions may stand inside each other.
 #[cycle(transition)]
-fn decision(alloc: Global, cursor: &mut Cursor<'_>, depth: usize) -> Result<Action, Fault>
+pub fn decision(alloc: Global, cursor: &mut Cursor<'_, '_>, depth: usize) -> Result<Action, Fault>
     requires { depth ≤ 64 }
-    ensures { Reads plain_action (spec.decision depth cursor.old) result cursor.new }
+    ensures { Reads action_value (spec.decision depth cursor.old) result cursor.new }
 {
     if depth == 0 {
         return Err(Fault::TooDeep);
@@ -104,14 +117,18 @@ fn decision(alloc: Global, cursor: &mut Cursor<'_>, depth: usize) -> Result<Acti
 /// parentheses and decisions may stand inside it.
 #[cycle(transition)]
 #[tactic(auto, unfolding(crate::specs::Transitions::decision_of))]
-fn decision_around(alloc: Global, cursor: &mut Cursor<'_>, depth: usize) -> Result<Action, Fault>
+pub fn decision_around(
+    alloc: Global,
+    cursor: &mut Cursor<'_, '_>,
+    depth: usize,
+) -> Result<Action, Fault>
     requires { depth ≤ 64 }
-    ensures { Reads plain_action (spec.decision_of depth (spec.trans depth) cursor.old) result cursor.new }
+    ensures { Reads action_value (spec.decision_of depth (spec.trans depth) cursor.old) result cursor.new }
 {
     let word = cursor.expect(Mark::Decision)?;
     let question = expression(alloc, cursor, depth)?;
     end(cursor)?;
-    let parts = parts(alloc, cursor, depth)?;
+    let parts = repeated(alloc, cursor, Inside { depth }, part)?;
     let otherwise = otherwise(alloc, cursor, depth)?;
     cursor.expect(Mark::EndDecision)?;
     end(cursor)?;
@@ -119,13 +136,13 @@ fn decision_around(alloc: Global, cursor: &mut Cursor<'_>, depth: usize) -> Resu
 }
 
 /// The node, made apart so that its view stands in a contract.
-fn decision_with(
+pub fn decision_with(
     word: Spelling,
     question: Expression,
     parts: Vec<AnswerPart>,
     otherwise: Option<Transition>,
 ) -> Action
-    ensures { plain_action result ≡ plain.Decision (plain_expr question) (spec.parts_of (map plain_answered parts.items)) (else_of (option_map plain_transition otherwise)) }
+    ensures { action_value result ≡ spec.decision_with (word, (expr_value question, (map answer_part_value parts.items, option_map transition_value otherwise))) }
 {
     Action::Decision {
         word,
@@ -135,40 +152,29 @@ fn decision_with(
     }
 }
 
-/// `{"(" answer {"," answer} ")" ":" trans}`
-#[cycle(transition)]
-fn parts(alloc: Global, cursor: &mut Cursor<'_>, depth: usize) -> Result<Vec<AnswerPart>, Fault>
-    requires { depth ≤ 64 }
-    ensures { Reads (λ ps. map plain_answered ps.items) (repeated (sees mark.Open) (spec.part depth (spec.trans depth)) cursor.old) result cursor.new }
-{
-    let mut found = Vec::new(alloc);
-    for _turn in 0..cursor.left() {
-        if !cursor.sees(Mark::Open) {
-            return Ok(found);
-        }
-        found.push(part(alloc, cursor, depth)?)?;
-    }
-    Ok(found)
-}
-
-/// `"(" answer {"," answer} ")" ":" trans`
+/// `"(" answer {"," answer} ")" ":" trans`, if it stands next.
 #[cycle(transition)]
 #[tactic(auto, unfolding(crate::specs::Transitions::part))]
-fn part(alloc: Global, cursor: &mut Cursor<'_>, depth: usize) -> Result<AnswerPart, Fault>
-    requires { depth ≤ 64 }
-    ensures { Reads plain_answered (spec.part depth (spec.trans depth) cursor.old) result cursor.new }
+pub fn part(
+    alloc: Global,
+    cursor: &mut Cursor<'_, '_>,
+    at: Inside,
+) -> Result<Option<AnswerPart>, Fault>
+    requires { at.depth ≤ 64 }
+    ensures { Reads (option_map answer_part_value) (spec.part at.depth (spec.trans at.depth) cursor.old) result cursor.new }
 {
-    cursor.expect(Mark::Open)?;
-    let answers = answers(alloc, cursor, depth)?;
-    cursor.expect(Mark::Close)?;
+    if !cursor.sees(Mark::Open) {
+        return Ok(None);
+    }
+    let answers = enclosed(alloc, cursor, at, answer)?;
     cursor.expect(Mark::Colon)?;
-    let transition = transition(alloc, cursor, depth)?;
-    Ok(part_with(answers, transition))
+    let transition = transition(alloc, cursor, at.depth)?;
+    Ok(Some(part_with(answers, transition)))
 }
 
 /// The node, made apart so that its view stands in a contract.
-fn part_with(answers: Vec<Answer>, transition: Transition) -> AnswerPart
-    ensures { plain_answered result ≡ spec.part_of (map plain_answer answers.items) (plain_transition transition) }
+pub fn part_with(answers: Vec<Answer>, transition: Transition) -> AnswerPart
+    ensures { answer_part_value result ≡ spec.part_with (map answer_value answers.items, transition_value transition) }
 {
     AnswerPart {
         answers,
@@ -179,13 +185,13 @@ fn part_with(answers: Vec<Answer>, transition: Transition) -> AnswerPart
 /// `["else" ":" trans]`
 #[cycle(transition)]
 #[tactic(auto, unfolding(crate::specs::Transitions::otherwise))]
-fn otherwise(
+pub fn otherwise(
     alloc: Global,
-    cursor: &mut Cursor<'_>,
+    cursor: &mut Cursor<'_, '_>,
     depth: usize,
 ) -> Result<Option<Transition>, Fault>
     requires { depth ≤ 64 }
-    ensures { Reads (option_map plain_transition) (spec.otherwise (spec.trans depth) cursor.old) result cursor.new }
+    ensures { Reads (option_map transition_value) (spec.otherwise (spec.trans depth) cursor.old) result cursor.new }
 {
     if !cursor.sees(Mark::Else) {
         return Ok(None);
@@ -196,73 +202,9 @@ fn otherwise(
     Ok(Some(transition))
 }
 
-/// `answer {"," answer}`
-fn answers(alloc: Global, cursor: &mut Cursor<'_>, depth: usize) -> Result<Vec<Answer>, Fault>
-    requires { depth ≤ 64 }
-    ensures { Reads (λ found. map plain_answer found.items) (separated (spec.answer depth) cursor.old) result cursor.new }
-{
-    let mut found = Vec::new(alloc);
-    for _turn in 0..cursor.left() {
-        found.push(answer(alloc, cursor, depth)?)?;
-        if !cursor.eat(Mark::Comma) {
-            return Ok(found);
-        }
-    }
-    Err(Fault::Expected(Wanted::Expression))
-}
-
-/// `answer = expr [":" expr] | ("=" | "/=" | "<" | "<=" | ">" | ">=") expr`
-#[tactic(auto, unfolding(crate::specs::Transitions::answer))]
-fn answer(alloc: Global, cursor: &mut Cursor<'_>, depth: usize) -> Result<Answer, Fault>
-    requires { depth ≤ 64 }
-    ensures { Reads plain_answer (spec.answer depth cursor.old) result cursor.new }
-{
-    let Some(operator) = operator_at(cursor, COMPARISON) else {
-        return value_answer(alloc, cursor, depth);
-    };
-    let word = cursor.spelling();
-    cursor.pass();
-    let value = expression(alloc, cursor, depth)?;
-    Ok(Answer::Compared {
-        operator,
-        word,
-        value,
-    })
-}
-
-/// `expr [":" expr]`
-#[tactic(auto, unfolding(crate::specs::Transitions::value_answer))]
-fn value_answer(alloc: Global, cursor: &mut Cursor<'_>, depth: usize) -> Result<Answer, Fault>
-    requires { depth ≤ 64 }
-    ensures { Reads plain_answer (spec.value_answer depth cursor.old) result cursor.new }
-{
-    let first = expression(alloc, cursor, depth)?;
-    match range_end(alloc, cursor, depth)? {
-        Some(last) => Ok(Answer::Range { first, last }),
-        None => Ok(Answer::Value(first)),
-    }
-}
-
-/// `[":" expr]`
-#[tactic(auto, unfolding(crate::specs::Transitions::range_end))]
-fn range_end(
-    alloc: Global,
-    cursor: &mut Cursor<'_>,
-    depth: usize,
-) -> Result<Option<Expression>, Fault>
-    requires { depth ≤ 64 }
-    ensures { Reads (option_map plain_expr) (spec.range_end depth cursor.old) result cursor.new }
-{
-    if !cursor.eat(Mark::Colon) {
-        return Ok(None);
-    }
-    let last = expression(alloc, cursor, depth)?;
-    Ok(Some(last))
-}
-
 /// Whether a label, an action or a terminator stands next.
 #[tactic(auto, unfolding(crate::specs::Transitions::begins_statement))]
-fn begins_statement(cursor: &Cursor<'_>) -> bool
+pub fn begins_statement(cursor: &Cursor<'_, '_>) -> bool
     ensures { result ≡ spec.begins_statement cursor.now }
 {
     cursor.sees_name() || begins_action(cursor) || begins_terminator(cursor)
@@ -270,7 +212,7 @@ fn begins_statement(cursor: &Cursor<'_>) -> bool
 
 /// Whether an action stands next.
 #[tactic(auto, unfolding(crate::specs::Transitions::begins_action))]
-fn begins_action(cursor: &Cursor<'_>) -> bool
+fn begins_action(cursor: &Cursor<'_, '_>) -> bool
     ensures { result ≡ spec.begins_action cursor.now }
 {
     cursor.sees(Mark::Task)
@@ -283,7 +225,7 @@ fn begins_action(cursor: &Cursor<'_>) -> bool
 
 /// Whether a terminator stands next.
 #[tactic(auto, unfolding(crate::specs::Transitions::begins_terminator))]
-fn begins_terminator(cursor: &Cursor<'_>) -> bool
+pub fn begins_terminator(cursor: &Cursor<'_, '_>) -> bool
     ensures { result ≡ spec.begins_terminator cursor.now }
 {
     cursor.sees(Mark::NextState) || cursor.sees(Mark::Stop) || cursor.sees(Mark::Join)
@@ -291,8 +233,8 @@ fn begins_terminator(cursor: &Cursor<'_>) -> bool
 
 /// `[NAME ":"]`
 #[tactic(auto, unfolding(crate::specs::Transitions::label))]
-fn label(alloc: Global, cursor: &mut Cursor<'_>) -> Result<Option<Name>, Fault>
-    ensures { Reads (option_map plain_name) (spec.label cursor.old) result cursor.new }
+pub fn label(alloc: Global, cursor: &mut Cursor<'_, '_>) -> Result<Option<Name>, Fault>
+    ensures { Reads (option_map name_value) (spec.label cursor.old) result cursor.new }
 {
     if !cursor.sees_name() {
         return Ok(None);
@@ -304,8 +246,8 @@ fn label(alloc: Global, cursor: &mut Cursor<'_>) -> Result<Option<Name>, Fault>
 
 /// `terminator = "nextstate" ("-" | NAME) end | "stop" end | "join" NAME end`
 #[tactic(auto, unfolding(crate::specs::Transitions::terminator))]
-fn terminator(alloc: Global, cursor: &mut Cursor<'_>) -> Result<Terminator, Fault>
-    ensures { Reads plain_terminator (spec.terminator cursor.old) result cursor.new }
+pub fn terminator(alloc: Global, cursor: &mut Cursor<'_, '_>) -> Result<Terminator, Fault>
+    ensures { Reads terminator_value (spec.terminator cursor.old) result cursor.new }
 {
     if cursor.sees(Mark::NextState) {
         return next(alloc, cursor);
@@ -318,8 +260,8 @@ fn terminator(alloc: Global, cursor: &mut Cursor<'_>) -> Result<Terminator, Faul
 
 /// `"nextstate" ("-" | NAME) end`
 #[tactic(auto, unfolding(crate::specs::Transitions::next))]
-fn next(alloc: Global, cursor: &mut Cursor<'_>) -> Result<Terminator, Fault>
-    ensures { Reads plain_terminator (spec.next cursor.old) result cursor.new }
+fn next(alloc: Global, cursor: &mut Cursor<'_, '_>) -> Result<Terminator, Fault>
+    ensures { Reads terminator_value (spec.next cursor.old) result cursor.new }
 {
     let word = cursor.expect(Mark::NextState)?;
     let state = next_state(alloc, cursor)?;
@@ -329,8 +271,8 @@ fn next(alloc: Global, cursor: &mut Cursor<'_>) -> Result<Terminator, Fault>
 
 /// `"-" | NAME`
 #[tactic(auto, unfolding(crate::specs::Transitions::next_state))]
-fn next_state(alloc: Global, cursor: &mut Cursor<'_>) -> Result<NextState, Fault>
-    ensures { Reads plain_next_state (spec.next_state cursor.old) result cursor.new }
+fn next_state(alloc: Global, cursor: &mut Cursor<'_, '_>) -> Result<NextState, Fault>
+    ensures { Reads next_state_value (spec.next_state cursor.old) result cursor.new }
 {
     if !cursor.sees(Mark::Minus) {
         return Ok(NextState::Named(cursor.name(alloc)?));
@@ -341,8 +283,8 @@ fn next_state(alloc: Global, cursor: &mut Cursor<'_>) -> Result<NextState, Fault
 
 /// `"stop" end`
 #[tactic(auto, unfolding(crate::specs::Transitions::stop))]
-fn stop(cursor: &mut Cursor<'_>) -> Result<Terminator, Fault>
-    ensures { Reads plain_terminator (spec.stop cursor.old) result cursor.new }
+fn stop(cursor: &mut Cursor<'_, '_>) -> Result<Terminator, Fault>
+    ensures { Reads terminator_value (spec.stop cursor.old) result cursor.new }
 {
     let word = cursor.expect(Mark::Stop)?;
     end(cursor)?;
@@ -351,8 +293,8 @@ fn stop(cursor: &mut Cursor<'_>) -> Result<Terminator, Fault>
 
 /// `"join" NAME end`
 #[tactic(auto, unfolding(crate::specs::Transitions::join))]
-fn join(alloc: Global, cursor: &mut Cursor<'_>) -> Result<Terminator, Fault>
-    ensures { Reads plain_terminator (spec.join cursor.old) result cursor.new }
+fn join(alloc: Global, cursor: &mut Cursor<'_, '_>) -> Result<Terminator, Fault>
+    ensures { Reads terminator_value (spec.join cursor.old) result cursor.new }
 {
     let word = cursor.expect(Mark::Join)?;
     let label = cursor.name(alloc)?;

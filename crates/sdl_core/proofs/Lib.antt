@@ -1,3 +1,4 @@
+pub mod AlikeLemmas
 pub mod ChainLemmas
 pub mod ListLemmas
 pub mod ProcessLemmas

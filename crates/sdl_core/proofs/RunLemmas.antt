@@ -1,7 +1,5 @@
--- What a tree of what is run stands for is run.
-use Rattle.std.proofs.Common.{◌≡◌, refl, sym, ap, ◌∙◌, ◌+◌, cond, Bool, true, ◌&&◌, Option, Some, None, List, [], ◌∷◌, map, option_map, count_by, nat_le}
-use Rattle.std.specs.List.{list_all}
-use Rattle.std.proofs.lemmas.Bool.{le-leb}
+-- All of what a tree of what is run stands for is run.
+use Rattle.std.proofs.Common.{◌≡◌, refl, subst, ◌∙◌, ℕ, ◌+◌, ◌≤◌, cond, Bool, true, false, Option, Some, None, List, [], ◌∷◌, map, option_map, count_by, arith}
 use Rattle.std.proofs.lemmas.List.Sums.{sum_by-cons}
 use Rattle.sdl_core.specs.declared.behaviour.Action as action
 use Rattle.sdl_core.specs.declared.behaviour.Action.TheVariants as actions
@@ -28,101 +26,121 @@ use Rattle.sdl_core.specs.declared.expressions.Operator.{Operator}
 use Rattle.sdl_core.specs.declared.expressions.Operator.TheVariants.{Plus, Minus}
 use Rattle.sdl_core.specs.Core.{AtMostOneProcess}
 use Rattle.sdl_core.specs.Core as core
-use Rattle.sdl_core.specs.Run.{is_run_operator, is_run_expr, if_there, is_run_assignment, is_run_applied, is_run_action, are_run_actions, is_run_ending, is_run_transition, is_run_stimulus, is_run_part, is_run_group, is_run_local, is_run_process, is_run_definition, is_process, is_run}
-use Rattle.sdl_core.specs.Views.{plain_operator, plain_expr, plain_chain, plain_links, plain_assignment, plain_output, plain_action, plain_actions, plain_ending, plain_transition, plain_stimulus, plain_state, plain_variables, plain_local, plain_process, plain_definition, plain_of}
-use Rattle.sdl_core.proofs.ListLemmas.{both, all_true}
-use Rattle.sdl_core.proofs.ViewLemmas.{run_exprs_of}
-use Rattle.sdl_tree.specs.Tree as plain
+use Rattle.sdl_core.specs.Run.{earlier_of, first_in_list, first_if_there, first_in_operator, first_in_expr, first_in_links, first_in_assignment, first_in_applied, first_in_action, first_in_statement, first_in_actions, first_in_ending, first_in_transition, first_in_stimulus, first_in_part, first_in_group, first_in_local, first_in_process, first_in_definitions, first_not_run}
+use Rattle.sdl_core.specs.Views.{operator_value, expr_value, chain_value, links_value, assignment_value, output_value, action_value, unlabelled, ending_value, transition_value, stimulus_value, state_value, variables_value, local_value, process_value, definition_value, tree_value}
+use Rattle.sdl_core.proofs.ListLemmas.{other_of, all_none}
+use Rattle.sdl_core.proofs.ViewLemmas.{actions_told}
+use Rattle.sdl_tree.specs.declared.name.Spelling.{Spelling}
+use Rattle.sdl_tree.specs.Tree.{actions_of}
 
-run_operator : (o : Operator) → is_run_operator (plain_operator o) ≡ true
-run_operator Plus = refl
-run_operator Minus = refl
+run_operator : (o : Operator) (w : Spelling) → first_in_operator (operator_value o) w ≡ None
+run_operator Plus w = refl
+run_operator Minus w = refl
 
 mutual
-  pub run_expr : (e : Expression) → is_run_expr (plain_expr e) ≡ true
+  run_expr : (e : Expression) → first_in_expr (expr_value e) ≡ None
   run_expr (expression.Number n) = refl
   run_expr (expression.Name x) = refl
   run_expr (Parenthesized' parenthesis p inner) = run_expr inner
   run_expr (Negated' minus p operand) = run_expr operand
   run_expr (Chain' p c) = run_chain c
 
-  run_chain : (c : Chain) → is_run_expr (plain_chain c) ≡ true
-  run_chain (chain.Chain' first shape rest) = run_links _ rest (plain_expr first) (run_expr first)
+  run_chain : (c : Chain) → first_in_expr (chain_value c) ≡ None
+  run_chain (chain.Chain' first shape rest) = other_of (first_in_expr (expr_value first)) (first_in_links (links_value rest)) None (run_expr first) (run_links _ rest)
 
-  run_links : (n : _) (row : Row_of-Link n) (left : plain.Expr) → is_run_expr left ≡ true → is_run_expr (plain_links row left) ≡ true
-  run_links n end_of-Link left h = h
-  run_links n (more_of-Link operator word operand rest) left h =
-      run_links _ rest (plain.Binary (plain_operator operator) left (plain_expr operand))
-      (both (is_run_expr left) (is_run_operator (plain_operator operator) && is_run_expr (plain_expr operand)) h
-      (both (is_run_operator (plain_operator operator)) (is_run_expr (plain_expr operand)) (run_operator operator) (run_expr operand)))
+  run_links : (n : _) (row : Row_of-Link n) → first_in_links (links_value row) ≡ None
+  run_links n end_of-Link = refl
+  run_links n (more_of-Link operator word operand rest) =
+      other_of (earlier_of (first_in_operator (operator_value operator) word) (first_in_expr (expr_value operand))) (first_in_links (links_value rest)) None
+      (other_of (first_in_operator (operator_value operator) word) (first_in_expr (expr_value operand)) None (run_operator operator word) (run_expr operand))
+      (run_links _ rest)
 
-run_optional : {A B : Type 0} (test : B → Bool) (view : A → B) → ((x : A) → test (view x) ≡ true) → (o : Option A) → if_there test (option_map view o) ≡ true
-run_optional test view each None = refl
-run_optional test view each (Some x) = each x
+run_optional : {A B : Type 0} (first : B → Option _) (view : A → B) → ((x : A) → first (view x) ≡ None) → (o : Option A) →
+    first_if_there first (option_map view o) ≡ None
+run_optional first view each None = refl
+run_optional first view each (Some x) = each x
 
-run_assignment : (a : Assignment) → is_run_assignment (plain_assignment a) ≡ true
+run_assignment : (a : Assignment) → first_in_assignment (assignment_value a) ≡ None
 run_assignment a = run_expr a.value
 
-run_output : (o : Output) → is_run_applied (plain_output o) ≡ true
-run_output o = run_exprs_of (map plain_expr o.values.items) ∙ all_true is_run_expr plain_expr run_expr o.values.items
+run_output : (o : Output) → first_in_applied (output_value o) ≡ None
+run_output o = all_none first_in_expr expr_value run_expr o.values.items
 
-run_action : (a : action.Action) → is_run_action (plain_action a) ≡ true
-run_action (actions.Task word assignments) = all_true is_run_assignment plain_assignment run_assignment assignments.items
+run_action : (a : action.Action) → first_in_action (action_value a) ≡ None
+run_action (actions.Task word assignments) = all_none first_in_assignment assignment_value run_assignment assignments.items
 run_action (actions.Output word outputs) =
-    both (list_all is_run_applied (map plain_output outputs.items)) true (all_true is_run_applied plain_output run_output outputs.items) refl
+    other_of (first_in_list first_in_applied (map output_value outputs.items)) None None (all_none first_in_applied output_value run_output outputs.items) refl
 
-run_actions : (xs : List action.Action) → are_run_actions (plain_actions xs) ≡ true
-run_actions [] = refl
-run_actions (a ∷ xs) = both (is_run_action (plain_action a)) (are_run_actions (plain_actions xs)) (run_action a) (run_actions xs)
+run_statement : (a : action.Action) → first_in_statement (unlabelled a) ≡ None
+run_statement a = run_action a
 
-run_ending : (t : Terminator) → is_run_ending (plain_ending t) ≡ true
-run_ending (terminator.NextState state) = refl
-run_ending terminator.Stop = refl
+run_ending : (t : Terminator) → first_in_ending (ending_value t) ≡ None
+run_ending (terminator.NextState word state) = refl
+run_ending (terminator.Stop word) = refl
 
-run_transition : (t : Transition) → is_run_transition (plain_transition t) ≡ true
+run_transition : (t : Transition) → first_in_transition (transition_value t) ≡ None
 run_transition t =
-    both (are_run_actions (plain_actions t.actions.items)) (if_there is_run_ending (option_map plain_ending t.terminator))
-    (run_actions t.actions.items) (run_optional is_run_ending plain_ending run_ending t.terminator)
+    other_of (first_in_actions (actions_of (map unlabelled t.actions.items))) (first_if_there first_in_ending (option_map ending_value t.terminator)) None
+    (actions_told (map unlabelled t.actions.items) ∙ all_none first_in_statement unlabelled run_statement t.actions.items)
+    (run_optional first_in_ending ending_value run_ending t.terminator)
 
-run_stimulus : (s : Stimulus) → is_run_stimulus (plain_stimulus s) ≡ true
+run_stimulus : (s : Stimulus) → first_in_stimulus (stimulus_value s) ≡ None
 run_stimulus (stimulus.Input s) = run_transition s.transition
 
-run_state : (s : StatePart) → is_run_part (plain_state s) ≡ true
-run_state s = all_true is_run_stimulus plain_stimulus run_stimulus s.stimuli.items
+run_state : (s : StatePart) → first_in_part (state_value s) ≡ None
+run_state s = all_none first_in_stimulus stimulus_value run_stimulus s.stimuli.items
 
-run_group : (g : VariableGroup) → is_run_group (plain_variables g) ≡ true
-run_group g = run_optional is_run_expr plain_expr run_expr g.initial
+run_group : (g : VariableGroup) → first_in_group (variables_value g) ≡ None
+run_group g = run_optional first_in_expr expr_value run_expr g.initial
 
-run_local : (d : LocalDefinition) → is_run_local (plain_local d) ≡ true
+run_local : (d : LocalDefinition) → first_in_local (local_value d) ≡ None
 run_local («local».Signals signals) = refl
-run_local («local».Variables groups) = all_true is_run_group plain_variables run_group groups.items
+run_local («local».Variables groups) = all_none first_in_group variables_value run_group groups.items
 
-run_process : (p : ProcessDefinition) → is_run_process (plain_process p) ≡ true
+run_process : (p : ProcessDefinition) → first_in_process (process_value p) ≡ None
 run_process p =
-    both (list_all is_run_local (map plain_local p.definitions.items) && is_run_transition (plain_transition p.start.transition))
-    (list_all is_run_part (map plain_state p.states.items))
-    (both (list_all is_run_local (map plain_local p.definitions.items)) (is_run_transition (plain_transition p.start.transition))
-    (all_true is_run_local plain_local run_local p.definitions.items) (run_transition p.start.transition))
-    (all_true is_run_part plain_state run_state p.states.items)
+    other_of (first_in_list first_in_local (map local_value p.definitions.items))
+    (earlier_of (first_in_transition (transition_value p.start.transition)) (first_in_list first_in_part (map state_value p.states.items))) None
+    (all_none first_in_local local_value run_local p.definitions.items)
+    (other_of (first_in_transition (transition_value p.start.transition)) (first_in_list first_in_part (map state_value p.states.items)) None
+    (run_transition p.start.transition) (all_none first_in_part state_value run_state p.states.items))
 
-run_definition : (d : Definition) → is_run_definition (plain_definition d) ≡ true
-run_definition (definition.Signals signals) = refl
-run_definition (definition.Process process) = run_process process
+-- ---- at most one process
 
-same_process : (d : Definition) → is_process (plain_definition d) ≡ core.is_process d
-same_process (definition.Signals signals) = refl
-same_process (definition.Process process) = refl
+abbrev pub one_if : Bool → ℕ
+one_if true = 1
+one_if false = 0
 
-pub processes_counted : (ds : List Definition) → count_by is_process (map plain_definition ds) ≡ count_by core.is_process ds
-processes_counted [] = refl
-processes_counted (d ∷ ds) =
-    sum_by-cons (λ x. cond (is_process x) 1 0) (plain_definition d) (map plain_definition ds)
-    ∙ ap (λ b. cond b 1 0 + count_by is_process (map plain_definition ds)) (same_process d)
-    ∙ ap (λ n. cond (core.is_process d) 1 0 + n) (processes_counted ds)
-    ∙ sym (sum_by-cons (λ x. cond (core.is_process x) 1 0) d ds)
+abbrev AtMostOne : Bool → List Definition → Type 0
+AtMostOne has_process ds = one_if has_process + count_by core.is_process ds ≤ 1
 
-pub run_tree : (t : Tree) → AtMostOneProcess t → is_run (plain_of t) ≡ true
-run_tree t h =
-    both (list_all is_run_definition (map plain_definition t.definitions.items)) (nat_le (count_by is_process (map plain_definition t.definitions.items)) 1)
-    (all_true is_run_definition plain_definition run_definition t.definitions.items)
-    (ap (λ n. nat_le n 1) (processes_counted t.definitions.items) ∙ le-leb (count_by core.is_process t.definitions.items) 1 h)
+same_left : (a n : ℕ) → a + (0 + n) ≤ 1 → a + n ≤ 1
+same_left a n h = omega arith
+
+one_less : (n : ℕ) → 0 + (1 + n) ≤ 1 → 1 + n ≤ 1
+one_less n h = omega arith
+
+one_too_many : (n : ℕ) → 1 + (1 + n) ≤ 1 → ⊥
+one_too_many n h = omega arith
+
+counted : (has_process : Bool) (d : Definition) (ds : List Definition) → AtMostOne has_process (d ∷ ds) →
+    one_if has_process + (cond (core.is_process d) 1 0 + count_by core.is_process ds) ≤ 1
+counted has_process d ds h =
+    let P : ℕ → Type 0 = λ n. one_if has_process + n ≤ 1 in
+    subst P (sum_by-cons (λ x. cond (core.is_process x) 1 0) d ds) h
+
+run_definitions : (has_process : Bool) (ds : List Definition) → AtMostOne has_process ds → first_in_definitions has_process (map definition_value ds) ≡ None
+run_definitions has_process [] h = refl
+run_definitions has_process (definition.Signals signals ∷ ds) h =
+    run_definitions has_process ds (same_left (one_if has_process) (count_by core.is_process ds) (counted has_process (definition.Signals signals) ds h))
+run_definitions true (definition.Process process ∷ ds) h =
+    absurd (one_too_many (count_by core.is_process ds) (counted true (definition.Process process) ds h))
+run_definitions false (definition.Process process ∷ ds) h =
+    other_of (first_in_process (process_value process)) (first_in_definitions true (map definition_value ds)) None (run_process process)
+    (run_definitions true ds (one_less (count_by core.is_process ds) (counted false (definition.Process process) ds h)))
+
+nothing_before : (n : ℕ) → n ≤ 1 → 0 + n ≤ 1
+nothing_before n h = omega arith
+
+pub run_tree : (t : Tree) → AtMostOneProcess t → first_not_run (tree_value t) ≡ None
+run_tree t h = run_definitions false t.definitions.items (nothing_before (count_by core.is_process t.definitions.items) h)

@@ -1,43 +1,29 @@
--- What the views make of chains and of lists of actions.
-use Rattle.std.proofs.Common.{◌≡◌, refl, ap, ◌∙◌, ◌&&◌, List, [], ◌∷◌, Vec, Global, None, map, fold, is_none}
-use Rattle.std.specs.List.{list_all}
-use Rattle.sdl_core.specs.declared.behaviour.Action as core
+-- What the views make of chains, and what isn't run of lists of actions and links.
+use Rattle.std.proofs.Common.{◌≡◌, refl, ap, ◌∙◌, List, [], ◌∷◌, Vec, Global, map}
 use Rattle.sdl_core.specs.declared.expressions.Chain.{roll-Chain, rolls-Chain', Row_of-Link, end_of-Link, more_of-Link, items-the_row-Link, items_hidden-the_row-Link-0}
 use Rattle.sdl_core.specs.declared.expressions.Expression.{Expression}
 use Rattle.sdl_core.specs.declared.expressions.Expression.TheBlock.{hidden-the_row-Link-0}
 use Rattle.sdl_core.specs.declared.expressions.Link.{Link}
-use Rattle.sdl_core.specs.Run.{is_run_expr, are_run_exprs, is_run_action, are_run_actions}
-use Rattle.sdl_core.specs.Statement.{Statement, plain_statement, unlabelled, is_run_statement, actions_of}
-use Rattle.sdl_core.specs.Views.{plain_expr, plain_chain, plain_links, plain_link, plain_operator, plain_action, plain_actions}
-use Rattle.sdl_tree.specs.declared.behaviour.ActionStatement.{ActionStatement}
-use Rattle.sdl_tree.specs.Tree as plain
-use Rattle.sdl_tree.specs.Views.{plain_statements, exprs_of}
+use Rattle.sdl_core.specs.Run.{earlier_of, first_in_list, first_in_link, first_in_links, first_in_statement, first_in_actions}
+use Rattle.sdl_core.specs.Views.{expr_value, chain_value, links_value, link_value, operator_value}
+use Rattle.sdl_tree.specs.Tree.{links_of, actions_of}
+use Rattle.sdl_tree.specs.Tree as tree
 
-links_of_row : (n : _) (row : Row_of-Link n) (left : plain.Expr) → plain_links row left ≡ fold plain_link left (items-the_row-Link n row)
-links_of_row n end_of-Link left = refl
-links_of_row n (more_of-Link operator word operand rest) left = links_of_row _ rest (plain.Binary (plain_operator operator) left (plain_expr operand))
+links_of_row : (n : _) (row : Row_of-Link n) → links_value row ≡ links_of (map link_value (items-the_row-Link n row))
+links_of_row n end_of-Link = refl
+links_of_row n (more_of-Link operator word operand rest) = ap (tree.AndLink (operator_value operator) word (expr_value operand)) (links_of_row _ rest)
 
-pub plain_chained : (first : Expression) (rest : Vec Link Global) →
-    plain_chain (roll-Chain (record { first = first; rest = rest })) ≡ fold plain_link (plain_expr first) rest.items
-plain_chained first rest =
-    ap plain_chain (rolls-Chain' (record { first = first; rest = rest }))
-    ∙ links_of_row _ (hidden-the_row-Link-0 rest) (plain_expr first)
-    ∙ ap (fold plain_link (plain_expr first)) (items_hidden-the_row-Link-0 rest)
+pub chained_value : (first : Expression) (rest : Vec Link Global) →
+    chain_value (roll-Chain (record { first = first; rest = rest })) ≡ tree.Chain (expr_value first) (links_of (map link_value rest.items))
+chained_value first rest =
+    ap chain_value (rolls-Chain' (record { first = first; rest = rest }))
+    ∙ ap (tree.Chain (expr_value first))
+    (links_of_row _ (hidden-the_row-Link-0 rest) ∙ ap (λ ls. links_of (map link_value ls)) (items_hidden-the_row-Link-0 rest))
 
--- ---- lists of expressions and actions
+pub links_told : (ls : List tree.Link) → first_in_links (links_of ls) ≡ first_in_list first_in_link ls
+links_told [] = refl
+links_told (l ∷ ls) = ap (earlier_of (first_in_link l)) (links_told ls)
 
-pub run_exprs_of : (es : List plain.Expr) → are_run_exprs (exprs_of es) ≡ list_all is_run_expr es
-run_exprs_of [] = refl
-run_exprs_of (e ∷ es) = ap (λ b. is_run_expr e && b) (run_exprs_of es)
-
-pub statements_of : (ss : List ActionStatement) → plain_statements ss ≡ actions_of (map plain_statement ss)
-statements_of [] = refl
-statements_of (s ∷ ss) = ap (plain.AndAction (plain_statement s).label (plain_statement s).action) (statements_of ss)
-
-pub unlabelled_of : (xs : List core.Action) → plain_actions xs ≡ actions_of (map unlabelled xs)
-unlabelled_of [] = refl
-unlabelled_of (a ∷ xs) = ap (plain.AndAction None (plain_action a)) (unlabelled_of xs)
-
-pub run_actions_of : (ss : List Statement) → are_run_actions (actions_of ss) ≡ list_all is_run_statement ss
-run_actions_of [] = refl
-run_actions_of (s ∷ ss) = ap (λ b. is_none s.label && is_run_action s.action && b) (run_actions_of ss)
+pub actions_told : (ss : List tree.Statement) → first_in_actions (actions_of ss) ≡ first_in_list first_in_statement ss
+actions_told [] = refl
+actions_told (s ∷ ss) = ap (earlier_of (first_in_statement s)) (actions_told ss)

@@ -1,5 +1,5 @@
 pub mod Core
+pub mod ErrorText
 pub mod Narrows
 pub mod Run
-pub mod Statement
 pub mod Views

@@ -1,9 +1,10 @@
--- The trees of the whole language, without places, that the trees of what is run stand for.
-use Rattle.std.specs.Prelude.{None, List, [], ◌∷◌, map, option_map}
+-- The trees of the grammar that the trees of what is run stand for, with their spellings and places.
+use Rattle.std.specs.Prelude.{None, map, option_map}
 use Rattle.sdl_core.specs.declared.behaviour.Action.{Action}
 use Rattle.sdl_core.specs.declared.behaviour.Action.TheVariants as action
 use Rattle.sdl_core.specs.declared.behaviour.Assignment.{Assignment}
 use Rattle.sdl_core.specs.declared.behaviour.Output.{Output}
+use Rattle.sdl_core.specs.declared.behaviour.Start.{Start}
 use Rattle.sdl_core.specs.declared.behaviour.StatePart.{StatePart}
 use Rattle.sdl_core.specs.declared.behaviour.Stimulus.{Stimulus}
 use Rattle.sdl_core.specs.declared.behaviour.Stimulus.TheVariants as stimulus
@@ -27,93 +28,94 @@ use Rattle.sdl_core.specs.declared.expressions.Operator.TheVariants as operator
 use Rattle.sdl_tree.specs.declared.expressions.Operator as whole_operator
 use Rattle.sdl_tree.specs.declared.expressions.Operator.TheVariants.{Plus, Minus}
 use Rattle.sdl_tree.specs.declared.expressions.UnaryOperator.TheVariants as unary
-use Rattle.sdl_tree.specs.Tree as plain
-use Rattle.sdl_tree.specs.Views.{plain_name, plain_names, plain_sort, plain_signal, plain_input, plain_next_state, exprs_of}
+use Rattle.sdl_tree.specs.Tree as tree
+use Rattle.sdl_tree.specs.Views.{name_value, names_value, number_value, sort_value, signal_value, input_value, next_state_value}
 
 -- ---- expressions
 
-abbrev pub plain_operator : Operator → whole_operator.Operator
-plain_operator operator.Plus = Plus
-plain_operator operator.Minus = Minus
+abbrev pub operator_value : Operator → whole_operator.Operator
+operator_value operator.Plus = Plus
+operator_value operator.Minus = Minus
 
 abbrev mutual
-  pub plain_expr : Expression → plain.Expr
-  plain_expr (expression.Number n) = plain.Numeral n.value
-  plain_expr (expression.Name x) = plain.Named (plain_name x)
-  plain_expr (Parenthesized' parenthesis p inner) = plain.Paren (plain_expr inner)
-  plain_expr (Negated' minus p operand) = plain.Unary unary.Minus (plain_expr operand)
-  plain_expr (Chain' p c) = plain_chain c
+  pub expr_value : Expression → tree.Expr
+  expr_value (expression.Number n) = tree.Numeral (number_value n)
+  expr_value (expression.Name x) = tree.Named (name_value x)
+  expr_value (Parenthesized' parenthesis p inner) = tree.Paren parenthesis (expr_value inner)
+  expr_value (Negated' minus p operand) = tree.Unary unary.Minus minus (expr_value operand)
+  expr_value (Chain' p c) = chain_value c
 
-  pub plain_chain : Chain → plain.Expr
-  plain_chain (chain.Chain' first shape rest) = plain_links rest (plain_expr first)
+  pub chain_value : Chain → tree.Expr
+  chain_value (chain.Chain' first shape rest) = tree.Chain (expr_value first) (links_value rest)
 
-  -- operators with their operands, behind the term on their left
-  pub plain_links : {m : _} → Row_of-Link m → plain.Expr → plain.Expr
-  plain_links end_of-Link left = left
-  plain_links (more_of-Link operator word operand rest) left =
-      plain_links rest (plain.Binary (plain_operator operator) left (plain_expr operand))
+  -- operators with their operands
+  pub links_value : {m : _} → Row_of-Link m → tree.Links
+  links_value end_of-Link = tree.NoLink
+  links_value (more_of-Link operator word operand rest) = tree.AndLink (operator_value operator) word (expr_value operand) (links_value rest)
 
--- what an operator with its operand makes of the term on its left
-abbrev pub plain_link : plain.Expr → Link → plain.Expr
-plain_link left l = plain.Binary (plain_operator l.operator) left (plain_expr l.operand)
+abbrev pub link_value : Link → tree.Link
+link_value l = record { operator = operator_value l.operator; word = l.word; operand = expr_value l.operand }
 
 -- ---- transitions
 
-abbrev pub plain_assignment : Assignment → plain.Assignment
-plain_assignment a = record { variable = plain_name a.variable; value = plain_expr a.value }
+abbrev pub assignment_value : Assignment → tree.Assignment
+assignment_value a = record { variable = name_value a.variable; value = expr_value a.value }
 
-abbrev pub plain_output : Output → plain.Applied
-plain_output o = record { name = plain_name o.signal; values = exprs_of (map plain_expr o.values.items) }
+abbrev pub output_value : Output → tree.Applied
+output_value o = record { name = name_value o.signal; values = map expr_value o.values.items }
 
-abbrev pub plain_action : Action → plain.Action
-plain_action (action.Task word assignments) = plain.Task (map plain_assignment assignments.items)
-plain_action (action.Output word outputs) = plain.Output (map plain_output outputs.items) None
+abbrev pub action_value : Action → tree.Action
+action_value (action.Task word assignments) = tree.Task word (map assignment_value assignments.items)
+action_value (action.Output word outputs) = tree.Output word (map output_value outputs.items) None
 
--- actions without labels
-abbrev pub plain_actions : List Action → plain.Actions
-plain_actions [] = plain.NoAction
-plain_actions (a ∷ actions) = plain.AndAction None (plain_action a) (plain_actions actions)
+-- an action without a label
+abbrev pub unlabelled : Action → tree.Statement
+unlabelled a = record { label = None; action = action_value a }
 
-abbrev pub plain_terminator : Terminator → plain.Terminator
-plain_terminator (terminator.NextState state) = plain.Next (plain_next_state state)
-plain_terminator terminator.Stop = plain.Stop
+abbrev pub terminator_value : Terminator → tree.Terminator
+terminator_value (terminator.NextState word state) = tree.Next word (next_state_value state)
+terminator_value (terminator.Stop word) = tree.Stop word
 
-abbrev pub plain_ending : Terminator → plain.Ending
-plain_ending t = record { label = None; terminator = plain_terminator t }
+abbrev pub ending_value : Terminator → tree.Ending
+ending_value t = record { label = None; terminator = terminator_value t }
 
-abbrev pub plain_transition : Transition → plain.Transition
-plain_transition t = plain.Steps (plain_actions t.actions.items) (option_map plain_ending t.terminator)
+abbrev pub transition_value : Transition → tree.Transition
+transition_value t = tree.Steps (tree.actions_of (map unlabelled t.actions.items)) (option_map ending_value t.terminator)
+
+abbrev pub start_value : Start → tree.Start
+start_value s = record { word = s.word; transition = transition_value s.transition }
 
 -- ---- states
 
-abbrev pub plain_stimulus : Stimulus → plain.Stimulus
-plain_stimulus (stimulus.Input s) = plain.InputPart (plain.InputList (map plain_input s.inputs.items)) None (plain_transition s.transition)
+abbrev pub stimulus_value : Stimulus → tree.Stimulus
+stimulus_value (stimulus.Input s) = tree.InputPart s.word (tree.InputList (map input_value s.inputs.items)) None (transition_value s.transition)
 
-abbrev pub plain_state : StatePart → plain.BodyPart
-plain_state s = plain.StatePart (plain.StateList (plain_names s.names.items)) (map plain_stimulus s.stimuli.items)
+abbrev pub state_value : StatePart → tree.BodyPart
+state_value s = tree.StatePart (tree.StateList (names_value s.names.items)) (map stimulus_value s.stimuli.items)
 
 -- ---- definitions
 
-abbrev pub plain_variables : VariableGroup → plain.VariableGroup
-plain_variables g = record { names = plain_names g.names.items; sort = plain_sort g.sort; initial = option_map plain_expr g.initial }
+abbrev pub variables_value : VariableGroup → tree.VariableGroup
+variables_value g = record { names = names_value g.names.items; sort = sort_value g.sort; initial = option_map expr_value g.initial }
 
-abbrev pub plain_local : LocalDefinition → plain.LocalDefinition
-plain_local («local».Signals signals) = plain.LocalSignals (map plain_signal signals.items)
-plain_local («local».Variables groups) = plain.Variables (map plain_variables groups.items)
+abbrev pub local_value : LocalDefinition → tree.LocalDefinition
+local_value («local».Signals signals) = tree.LocalSignals (map signal_value signals.items)
+local_value («local».Variables groups) = tree.Variables (map variables_value groups.items)
 
-abbrev pub plain_process : ProcessDefinition → plain.ProcessDefinition
-plain_process p = record {
-  name = plain_name p.name;
+abbrev pub process_value : ProcessDefinition → tree.ProcessDefinition
+process_value p = record {
+  word = p.word;
+  name = name_value p.name;
   counts = None;
-  parameters = [];
-  definitions = map plain_local p.definitions.items;
-  start = plain_transition p.start.transition;
-  body = map plain_state p.states.items;
+  parameters = None;
+  definitions = map local_value p.definitions.items;
+  start = start_value p.start;
+  body = map state_value p.states.items;
 }
 
-abbrev pub plain_definition : Definition → plain.SystemDefinition
-plain_definition (definition.Signals signals) = plain.InSystem (plain.Signals (map plain_signal signals.items))
-plain_definition (definition.Process process) = plain.InSystem (plain.Process (plain_process process))
+abbrev pub definition_value : Definition → tree.SystemDefinition
+definition_value (definition.Signals signals) = tree.InSystem (tree.Signals (map signal_value signals.items))
+definition_value (definition.Process process) = tree.InSystem (tree.Process (process_value process))
 
-abbrev pub plain_of : Tree → plain.Tree
-plain_of t = record { name = plain_name t.name; definitions = map plain_definition t.definitions.items }
+abbrev pub tree_value : Tree → tree.Tree
+tree_value t = record { name = name_value t.name; definitions = map definition_value t.definitions.items }

@@ -65,9 +65,9 @@ pub struct Output {
     pub values: Vec<Expression>,
 }
 
-/// What ends a transition.
+/// What ends a transition, with its word.
 #[derive(Debug, Drop)]
 pub enum Terminator {
-    NextState(NextState),
-    Stop,
+    NextState { word: Spelling, state: NextState },
+    Stop { word: Spelling },
 }

@@ -2,7 +2,7 @@
 
 use crate::behaviour::{Start, StatePart};
 use crate::expressions::Expression;
-use sdl_tree::{Name, SignalDefinition, SortName};
+use sdl_tree::{Name, SignalDefinition, SortName, Spelling};
 
 /// A specification: one system.
 #[derive(Debug, Drop)]
@@ -18,9 +18,10 @@ pub enum Definition {
     Process(ProcessDefinition),
 }
 
-/// A process: its own definitions, the start transition and the parts of its states.
+/// A process: its own definitions, the start transition and the parts of its states, with the word `process`.
 #[derive(Debug, Drop)]
 pub struct ProcessDefinition {
+    pub word: Spelling,
     pub name: Name,
     pub definitions: Vec<LocalDefinition>,
     pub start: Start,

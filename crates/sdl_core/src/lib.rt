@@ -2,8 +2,8 @@
 //!
 //! A specification is signals and one process, a state is a list of names with inputs, a transition is tasks and
 //! outputs, and an expression is sums of numbers and names. Each type is that of the whole tree without what is not
-//! run, and has its name. `narrow` makes this tree of the whole one: it stands for the same tree of the language, and a
-//! refusal comes only where no tree of what is run does.
+//! run, and has its name. `narrow` makes this tree of the whole one: it stands for the same tree, with its places, and a
+//! refusal tells the first construct that is not run. No tree of what is run stands for the same but for places then.
 #![tactic(auto)]
 
 mod behaviour;

@@ -1,3 +1,4 @@
+-- What is held of a reader, and how it is parted into a specification and a script.
 use Rattle.std.specs.Prelude.{◌≡◌, ◌≢◌, ◌⊎◌, ◌<◌, ◌≤◌, ℕ, List, [], ◌∷◌, ◌++◌, All, Option, IfSome, length, codes}
 use Rattle.sdl_engine.specs.declared.input.Input.{Input}
 use Rattle.sdl_engine.specs.declared.input.Input.TheVariants.{Bytes, TooLong}

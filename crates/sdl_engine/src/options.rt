@@ -1,3 +1,5 @@
+//! What is asked for, and what came of it.
+
 use thiserror::Error;
 
 /// What is asked for.

@@ -1,19 +1,37 @@
+//! Refusals of a text or of its run.
+
 use crate::options::Outcome;
 use sdl_report::ScriptError;
 use sdl_source::SourceError;
 use sdl_workers::RunError;
-use thiserror::Error;
+use std::error::Error;
+use std::fmt;
 
 /// Why there is no report, or no canonical text. Its text is the line that says so.
-#[derive(Debug, Drop, Error)]
+#[derive(Debug, Drop)]
 pub enum Refusal {
-    #[error(transparent)]
     Source(SourceError),
-    #[error(transparent)]
     Script(ScriptError),
-    #[error(transparent)]
     Run(RunError),
 }
+
+/// The line that tells it, without its end.
+impl fmt::Display for Refusal {
+    ghost use Rattle.std.specs.Prelude.{Some};
+    ghost use Rattle.sdl_engine.specs.RefusalText.{refusal_text};
+
+    ghost output = { λ refusal. Some (refusal_text refusal) };
+
+    fn fmt<W: fmt::Write>(&self, f: &mut fmt::Formatter<W>) -> fmt::Result {
+        match self {
+            Refusal::Source(error) => write!(f, "{error}"),
+            Refusal::Script(error) => write!(f, "{error}"),
+            Refusal::Run(error) => write!(f, "{error}"),
+        }
+    }
+}
+
+impl Error for Refusal {}
 
 impl Refusal {
     ghost use Rattle.sdl_engine.specs.Answer.{outcome_of};

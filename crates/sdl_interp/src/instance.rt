@@ -1,3 +1,5 @@
+//! An instance of a process: a step of it, its record, and its end.
+
 ghost use Rattle.std.specs.Prelude.{◌≡◌, ◌≢◌, ◌<◌, ◌↔◌, ◌++◌, length, map, slice_get, Some, IsTrue, IfOk, IfErr, OnOk, OnErr};
 ghost use Rattle.port_model.specs.Port.{empty_port, put_into};
 ghost use Rattle.sdl_interp.specs.Instance.{closed, closing, created, HasRun, HasRunOf, IsAtRest, IsQuiet, IsRecordOf, Moves};

@@ -1,3 +1,5 @@
+//! What an instance asks of all that lies outside of it.
+
 ghost use Rattle.std.specs.Prelude.{◌≡◌, OnOk, OnErr};
 
 use port_model::{Item, SignalId};

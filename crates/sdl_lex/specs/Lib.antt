@@ -1,4 +1,5 @@
 pub mod Byte
+pub mod ErrorText
 pub mod Kind
 pub mod LexError
 pub mod Part

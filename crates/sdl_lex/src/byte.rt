@@ -10,7 +10,7 @@ pub fn is_blank(b: u8) -> bool
     b == b' ' || b == b'\t' || b == b'\r' || b == b'\n'
 }
 
-/// What a word may have after its first letter.
+/// Whether a word may have this byte behind its first letter: letters, digits and `_`.
 pub fn is_word_byte(b: u8) -> bool
     ensures { result ≡ is_word_byte b }
 {

@@ -11,6 +11,7 @@ mod piece;
 mod place;
 mod token;
 
+pub use byte::is_word_byte;
 pub use error::LexError;
 pub use lexer::{lex, one_fault, one_list};
 pub use place::{Place, place_of};

@@ -1,8 +1,9 @@
-pub mod BodyLaws
+pub mod BehaviourLaws
 pub mod ChannelLaws
-pub mod ParserLemmas
+pub mod DeclarationLaws
 pub mod ProcessLaws
+pub mod Stops
 pub mod SynonymLaws
+pub mod ParserLemmas
 pub mod SystemLaws
-pub mod VariableLaws
-pub mod WholeLaws
+pub mod TooDeepLemmas

@@ -1,66 +1,94 @@
--- What the laws of the system say of a text.
-use Rattle.std.proofs.Common.{◌≡◌, ℕ, suc, [], ◌∷◌, ◌+◌, ◌-◌, ◌<◌, ◌≤◌, List, length, map, drop, slice_range, Err, refl, ap, ◌∙◌, subst, arith}
+-- What a fault of the reading says of the text.
+use Rattle.std.proofs.Common.{◌≡◌, ◌≤◌, ℕ, Bool, List, [], ◌∷◌, ◌++◌, Option, Some, length, codes, Err, refl, ap, ◌∙◌, subst}
+use Rattle.std.specs.String.{string_bytes}
 use Rattle.sdl_lex.specs.declared.place.Place.{Place}
 use Rattle.sdl_lex.specs.declared.token.Token.{Token}
 use Rattle.sdl_lex.specs.Part.{Lexes}
-use Rattle.sdl_tree.specs.Depth.{IsTooDeep}
+use Rattle.sdl_tree.specs.declared.mark.Mark.TheVariants as mark
+use Rattle.sdl_tree.specs.LeftOut.{IsLeftOut, IsBarred}
 use Rattle.sdl_tree.specs.Spells.{SpellsTree}
-use Rattle.sdl_tree.specs.Spells.Parts.{Words}
+use Rattle.sdl_tree.specs.Spells.Expressions.{limit}
 use Rattle.sdl_tree.specs.Tree.{Tree}
-use Rattle.sdl_tree.specs.Words.{word_of, words_of}
+use Rattle.sdl_tree.specs.Words.{Word, Words, Fixed, words_of, word_place}
+use Rattle.sdl_tree.specs.Words as word
+use Rattle.sdl_read.specs.declared.fault.Fault.{Fault}
+use Rattle.sdl_read.specs.declared.fault.Fault.TheVariants as fault
+use Rattle.sdl_read.specs.Reading.{Refusal, Refused, Deep, Barred, front}
+use Rattle.sdl_read.specs.Reads.{Fails}
+use Rattle.sdl_read.proofs.Steps.{read_as, IsRest}
 use Rattle.sdl_parse.specs.declared.error.ParseError.{ParseError}
 use Rattle.sdl_parse.specs.declared.error.ParseError.TheVariants.{Lex, Expected, LeftOut, TooDeep, Memory}
-use Rattle.sdl_parse.specs.Parser.{SpellsText, HasNoTree, BeginAt, IsTooDeepAt, Refuses, IsShallow}
-use Rattle.sdl_parse.specs.Processes.{Body}
-use Rattle.sdl_read.specs.Reading.{Refusal, Deep}
+use Rattle.sdl_parse.specs.Parser.{HasNoTree, StandsAt, TooMany, SpellsText, Refuses, TellsWord, IsPlaceOf, Tells}
 use Rattle.sdl_parse.specs.Systems.{specification}
-use Rattle.sdl_read.proofs.Laws.{read_as}
-use Rattle.sdl_parse.proofs.ProcessLaws.{IsSoundBody, IsWholeBody}
-use Rattle.sdl_parse.proofs.SystemLaws.{specification_sound, too_deep, one_tree, no_tree}
+use Rattle.sdl_parse.proofs.ProcessLaws.{Behaves}
+use Rattle.sdl_parse.proofs.SystemLaws.{specification_sound, specification_one, specification_refused, specification_told, specification_stands}
 
-length-map : {A B : Type 0} (f : A → B) (xs : List A) → length (map f xs) ≡ length xs
-length-map f [] = refl
-length-map f (x ∷ xs) = ap suc (length-map f xs)
+-- a text has one list of tokens
+abbrev pub OneList : Type 0
+OneList = (text : List ℕ) (ts us : List Token) → Lexes text ts → Lexes text us → ts ≡ us
 
-pub shallow : (e : ParseError) (source : List ℕ) → IsShallow e → HasNoTree source → Refuses e source
-shallow (Lex error) source s none = absurd s
-shallow (Expected place wanted) source s none = none
-shallow (LeftOut place word) source s none = none
-shallow (TooDeep place) source s none = absurd s
-shallow Memory source s none = tt
+front_of : (w : Word) (i : Words) → front (w ∷ i) ≡ Some w
+unfolding front
+front_of w i = refl
 
-module _ (b : Body) (laws : IsSoundBody b) (source : List ℕ) (tokens : List Token) (i : Words) (lexes : Lexes source tokens) (is : i ≡ words_of source tokens) where
-  pub found_of : (t : Tree) (j : Words) → specification b i ≡ read_as t j → SpellsText t source
-  found_of t j e = let P : Words → Type 0 = λ k. SpellsTree t k in (tokens, lexes, subst P is (specification_sound b laws i t j e))
+module _ (begins : Words → Bool) (S T : Words → Type 0) (b : Behaves limit begins S T) (text : List ℕ) (tokens : List Token) where
+  abbrev whole : Words
+  whole = words_of text tokens
 
-  words_length : length i ≡ length tokens
-  words_length = ap length is ∙ length-map (λ t. word_of t.kind (slice_range source t.start t.end)) tokens
+  no_tree : (r : Refusal) → specification limit whole ≡ Err r → HasNoTree whole
+  no_tree r e t s = specification_refused limit begins S T b whole r e t s
 
-  pub some_left : (j : Words) → specification b i ≡ Err (Deep j) → 0 < length j
-  some_left j e = (too_deep b laws i j e).0
+  at_place : (place : Place) (left : Words) (w : Word) (back : Words) → left ≡ w ∷ back → IsPlaceOf place (front left) → place ≡ word_place w
+  at_place place left w back e at = let F : Option Word → Type 0 = λ o. IsPlaceOf place o in subst F (ap front e ∙ front_of w back) at
 
-  pub within : (j : Words) → specification b i ≡ Err (Deep j) → length j ≤ length tokens
-  within j e = let le = (too_deep b laws i j e).1 in let same = words_length in omega (arith, le, same)
+  -- a string and a left-out word
+  word_told : (place : Place) (told : List ℕ) (left : Words) → IsRest whole left → TellsWord place told (front left) → StandsAt place (λ before rest. IsLeftOut whole rest told) whole
+  unfolding front
+  word_told place told [] r t = absurd t
+  word_told place told (Fixed m s ∷ back) r t = absurd t
+  word_told place told (word.Name x ∷ back) r t = absurd t
+  word_told place told (word.Number n x ∷ back) r t = absurd t
+  word_told place told (word.Text x ∷ back) r t = (r.0, word.Text x, back, r.1, t.0, t.1)
+  word_told place told (word.LeftOut lower x ∷ back) r t = (r.0, word.LeftOut lower x, back, r.1, t.0, t.1)
 
-  pub deep_at : (place : Place) (j : Words) → specification b i ≡ Err (Deep j) → BeginAt (drop (length tokens - length j) tokens) source place → IsTooDeepAt place source
-  deep_at place j e at =
-      let deep = too_deep b laws i j e in
-      let some = deep.0 in
-      let fits = within j e in
-      let same : length tokens - length j ≡ length tokens - (length j - 1 + 1) = omega (arith, some) in
-      let P : ℕ → Type 0 = λ n. BeginAt (drop n tokens) source place in
-      let Q : Words → Type 0 = λ k. IsTooDeep k (length j - 1) in
-      (tokens, length j - 1, lexes, omega (arith, some, fits), subst P same at, subst Q is deep.2)
+  -- a condition behind a priority input
+  barred_told : (place : Place) (told : List ℕ) (left : Words) → IsRest whole left → IsBarred whole left → IsPlaceOf place (front left) → told ≡ codes "provided"
+      → StandsAt place (λ before rest. IsLeftOut whole rest told) whole
+  barred_told place told left r n at is =
+      let w : Word = Fixed mark.Provided n.5.0 in
+      let back : Words = n.5.1 in
+      let F : Words → Type 0 = λ k. IsBarred whole k in
+      (r.0, w, back, r.1 ∙ ap (λ k. r.0 ++ k) n.5.2, at_place place left w back n.5.2 at, (is, subst F n.5.2 n))
 
-module _ (b : Body) (Stops : Words → Type 0) (laws : IsWholeBody b Stops) where
-  pub none_of : (source : List ℕ) (tokens : List Token) (i : Words) → Lexes source tokens → i ≡ words_of source tokens → (r : Refusal) → specification b i ≡ Err r → HasNoTree source
-  none_of source tokens i lexes is r e =
-      let P : Words → Type 0 = λ k. (t : Tree) → ¬ SpellsTree t k in
-      (tokens, lexes, subst P is (λ t s. no_tree b Stops laws r i e t s))
+  deep_told : (place : Place) (left : Words) → specification limit whole ≡ Err (Deep left) → IsPlaceOf place (front left) → StandsAt place TooMany whole
+  deep_told place left e at =
+      let c = specification_told limit begins S T b whole left e in
+      (c.0, c.2, c.1, c.3, at_place place left c.2 c.1 c.4 at, c.5)
 
-  pub one_of : ((source : List ℕ) (ts us : List Token) → Lexes source ts → Lexes source us → ts ≡ us)
-      → (t u : Tree) (source : List ℕ) → SpellsText t source → SpellsText u source → t ≡ u
-  one_of one_list t u source s v =
-      let same = one_list source s.0 v.0 s.1 v.1 in
-      let P : List Token → Type 0 = λ ts. SpellsTree t (words_of source ts) in
-      one_tree b Stops laws t u (words_of source v.0) (subst P same s.2) v.2
+  pub refuses : length text ≤ 1048576 → Lexes text tokens → (e : ParseError) (f : Fault) (left : Words) → Fails (specification limit whole) f left → Tells e f (front left) → Refuses e text
+  refuses short lexes (Lex error) f left o t = absurd t
+  refuses short lexes (Expected place wanted) (fault.Expected w) left o t = (short, tokens, lexes, no_tree (Refused left) o)
+  refuses short lexes (Expected place wanted) fault.Condition left o t = absurd t
+  refuses short lexes (Expected place wanted) fault.TooDeep left o t = absurd t
+  refuses short lexes (Expected place wanted) fault.Memory left o t = absurd t
+  refuses short lexes (LeftOut place s) (fault.Expected w) left o t =
+      (short, tokens, lexes, (no_tree (Refused left) o, word_told place (string_bytes s) left (specification_stands limit begins S T b whole (Refused left) o) t))
+  refuses short lexes (LeftOut place s) fault.Condition left o t =
+      let at = specification_stands limit begins S T b whole (Barred left) o in
+      (short, tokens, lexes, (no_tree (Barred left) o, barred_told place (string_bytes s) left at.0 at.1 t.0 t.1))
+  refuses short lexes (LeftOut place s) fault.TooDeep left o t = absurd t
+  refuses short lexes (LeftOut place s) fault.Memory left o t = absurd t
+  refuses short lexes (TooDeep place) (fault.Expected w) left o t = absurd t
+  refuses short lexes (TooDeep place) fault.Condition left o t = absurd t
+  refuses short lexes (TooDeep place) fault.TooDeep left o t = (short, tokens, lexes, (no_tree (Deep left) o, deep_told place left o t))
+  refuses short lexes (TooDeep place) fault.Memory left o t = absurd t
+  refuses short lexes Memory f left o t = tt
+
+  pub found : length text ≤ 1048576 → Lexes text tokens → (t : Tree) (j : Words) → specification limit whole ≡ read_as t j → SpellsText t text
+  found short lexes t j e = (short, tokens, lexes, specification_sound limit begins S T b whole t j e)
+
+-- a text has one tree
+pub one : (begins : Words → Bool) (S T : Words → Type 0) → Behaves limit begins S T → OneList → (t other : Tree) (text : List ℕ) → SpellsText t text → SpellsText other text → t ≡ other
+one begins S T b lists t other text s o =
+    let F : List Token → Type 0 = λ tokens. SpellsTree limit other (words_of text tokens) in
+    specification_one limit begins S T b t other (words_of text s.1) s.3 (subst F (lists text o.1 s.1 o.2 s.2) o.3)

@@ -1,295 +1,254 @@
 -- The laws of blocks and of the system, for each reading of behaviour that has its laws.
-use Rattle.std.proofs.Common.{◌≡◌, ℕ, true, false, ◌||◌, [], ◌∷◌, ◌++◌, length, ◌-◌, ◌<◌, ◌≤◌, Err, refl, sym, ap, ◌∙◌, subst, arith, length-append}
+use Rattle.std.proofs.Common.{◌≡◌, ℕ, suc, ◌⊎◌, inl, inr, Bool, false, List, [], ◌∷◌, ◌++◌, map, Option, Some, None, Err, refl, sym, ap, ◌∙◌, subst}
+use Rattle.sdl_tree.specs.Alike.{AreAlike}
 use Rattle.sdl_tree.specs.declared.mark.Mark.TheVariants as mark
-use Rattle.sdl_tree.specs.Depth.{IsTooDeep}
-use Rattle.sdl_tree.specs.Spells.{SpellsSignal, SpellsSignalList, SpellsSynonym, SpellsChannel, SpellsProcess, SpellsDef, SpellsBlockPart, SpellsBlock, SpellsSystemDef, SpellsTree}
-use Rattle.sdl_tree.specs.Spells.Expressions.{limit}
-use Rattle.sdl_tree.specs.Spells.Parts.{Words, Repeated, SpellsEnd}
-use Rattle.sdl_tree.specs.Tree.{Definition, Signals, SignalList, Synonyms, Channel, Process, BlockPart, InBlock, Connect, BlockDefinition, SystemDefinition, InSystem, Block, Tree}
-use Rattle.sdl_tree.specs.Words.{Fixed}
-use Rattle.sdl_tree.specs.Words as word
-use Rattle.sdl_parse.specs.Channels.{channel, connect}
-use Rattle.sdl_read.specs.Choices.{mapped}
-use Rattle.sdl_read.specs.Names.{end_name}
-use Rattle.sdl_read.specs.Parts.{end}
-use Rattle.sdl_parse.specs.Processes.{Body, process}
-use Rattle.sdl_read.specs.Reading.{Refusal, Refused, Deep, pure, sees, same_mark, front, expect, name, repeated}
-use Rattle.sdl_read.specs.Signals.{signal_list, signal}
-use Rattle.sdl_parse.specs.Systems.{begins_definition, definition, begins_block_part, block_part, block, begins_system_definition, system_definition, at_end, specification}
-use Rattle.sdl_parse.specs.Synonyms.{synonym}
-use Rattle.sdl_parse.proofs.ChannelLaws.{channel_sound, channel_complete, channel_weighs, connect_sound, connect_complete, connect_weighs}
-use Rattle.sdl_read.proofs.ChoiceLaws.{either_sound, either_here, either_other, other, mapped_sound, mapped_is}
-use Rattle.sdl_read.proofs.CountLaws.{Counts, Weighs, light, weighs_bind, counts_bind, counts_pure, counts_expect, weighs_expect, counts_name, counts_end, counts_repeated, weighs_either, weighs_mapped}
-use Rattle.sdl_read.proofs.DepthLaws.{Balanced, Deepens, not_deep, refused_not_deep, balanced_none}
-use Rattle.sdl_read.proofs.Laws.{read_as, Sound, as_read, not_read, bind_ok, bind_is, same_value, same_rest, expect_ok, expect_again, name_ok, name_again}
-use Rattle.sdl_read.proofs.ListLaws.{repeated_sound, repeated_complete}
-use Rattle.sdl_read.proofs.NameLaws.{end_name_sound, end_name_complete, counts_end_name}
-use Rattle.sdl_read.proofs.PartLaws.{end_sound, end_complete}
-use Rattle.sdl_parse.proofs.ProcessLaws.{IsSoundBody, IsWholeBody, process_sound, process_complete, process_weighs}
-use Rattle.sdl_read.proofs.SignalLaws.{signal_list_sound, signal_list_complete, signal_list_weighs, signal_sound, signal_complete, signal_weighs}
-use Rattle.sdl_parse.proofs.SynonymLaws.{synonym_sound, synonym_complete, synonym_weighs}
-
--- ---- with what definitions begin
-
-definition_begins : (x : Definition) (i j : Words) → SpellsDef x i j → begins_definition i ≡ true
-unfolding begins_definition sees front same_mark
-definition_begins (Signals xs) i j s = ap begins_definition s.2
-definition_begins (SignalList x) i j s = ap begins_definition s.2
-definition_begins (Synonyms xs) i j s = ap begins_definition s.2
-definition_begins (Channel x) i j s = ap begins_definition s.5
-definition_begins (Process x) i j s = ap begins_definition s.8
-
-definition_no_connect : (x : Definition) (i j : Words) → SpellsDef x i j → sees mark.Connect i ≡ false
-unfolding sees front same_mark
-definition_no_connect (Signals xs) i j s = ap (sees mark.Connect) s.2
-definition_no_connect (SignalList x) i j s = ap (sees mark.Connect) s.2
-definition_no_connect (Synonyms xs) i j s = ap (sees mark.Connect) s.2
-definition_no_connect (Channel x) i j s = ap (sees mark.Connect) s.5
-definition_no_connect (Process x) i j s = ap (sees mark.Connect) s.8
-
-definition_no_block : (x : Definition) (i j : Words) → SpellsDef x i j → sees mark.Block i ≡ false
-unfolding sees front same_mark
-definition_no_block (Signals xs) i j s = ap (sees mark.Block) s.2
-definition_no_block (SignalList x) i j s = ap (sees mark.Block) s.2
-definition_no_block (Synonyms xs) i j s = ap (sees mark.Block) s.2
-definition_no_block (Channel x) i j s = ap (sees mark.Block) s.5
-definition_no_block (Process x) i j s = ap (sees mark.Block) s.8
-
-block_part_begins : (x : BlockPart) (i j : Words) → SpellsBlockPart x i j → begins_block_part i ≡ true
-unfolding begins_block_part begins_definition sees front same_mark
-block_part_begins (InBlock x) i j s = ap (λ t. t || sees mark.Connect i) (definition_begins x i j s)
-block_part_begins (Connect outer inner) i j s = ap begins_block_part s.3
-
-system_definition_begins : (x : SystemDefinition) (i j : Words) → SpellsSystemDef x i j → begins_system_definition i ≡ true
-unfolding begins_system_definition begins_definition sees front same_mark
-system_definition_begins (InSystem x) i j s = ap (λ t. t || sees mark.Block i) (definition_begins x i j s)
-system_definition_begins (Block x) i j s = ap begins_system_definition s.4
-
-block_ends : (i : Words) → begins_block_part (Fixed mark.EndBlock ∷ i) ≡ false
-unfolding begins_block_part begins_definition sees front same_mark
-block_ends i = refl
-
-system_ends : (i : Words) → begins_system_definition (Fixed mark.EndSystem ∷ i) ≡ false
-unfolding begins_system_definition begins_definition sees front same_mark
-system_ends i = refl
+use Rattle.sdl_tree.specs.declared.name.Spelling.{Spelling}
+use Rattle.sdl_tree.specs.Erased.{erased_name, erased_definition, erased_block_part, erased_block, erased_system_definition, erased}
+use Rattle.sdl_tree.specs.Spells.{SpellsSignal, SpellsSignalList, SpellsSynonym, SpellsChannel, SpellsProcess, SpellsConnect, SpellsDef, SpellsBlockPart, SpellsBlock, SpellsSystemDef, SpellsTree}
+use Rattle.sdl_tree.specs.Spells.Parts.{Behind, Followed, Repeated, SpellsName, Ended, SpellsClosing}
+use Rattle.sdl_tree.specs.Tree.{Definition, Signals, SignalList, Synonyms, Channel, Process, BlockPart, InBlock, Connect, SystemDefinition, InSystem, Block, Tree}
+use Rattle.sdl_tree.specs.Words.{Word, Words, Spot, Fixed}
+use Rattle.sdl_read.specs.Reading.{Refusal, Refused, Deep, made, front, sees, same_mark, name}
+use Rattle.sdl_read.specs.Parts.{ended, tied, sees_one}
+use Rattle.sdl_parse.specs.Systems.{definition_marks, definition, block_part, block_parts, block_with, block, system_definition, system_definitions, at_end, tree_with, system, specification}
+use Rattle.sdl_read.proofs.Depth.{SameFront}
+use Rattle.sdl_read.proofs.Laws.{Law, MaybeLaw, Anywhere, GoodAfter, Made, Tied, tied_law, behind_law, both_law, made_law}
+use Rattle.sdl_read.proofs.ListLaws.{repeated_law}
+use Rattle.sdl_read.proofs.PartLaws.{mark_law, name_law, whole}
+use Rattle.sdl_read.proofs.ClosingLaws.{closing_begins, closing_law, ended_at_law, followed_law}
+use Rattle.sdl_read.proofs.SignalLaws.{record_law, Opens, mark_opens, Choice, one_choice, or_choice, as_choice, maybe_choice, signal_law, signal_opens, signal_list_law, signal_list_opens}
+use Rattle.sdl_read.proofs.Steps.{read_as, StandsAt, same_value, same_rest, not_read, not_refused, not_deep, same_refusal, here_stands}
+use Rattle.sdl_parse.proofs.ChannelLaws.{channel_law, channel_opens, connect_law, connect_opens}
+use Rattle.sdl_parse.proofs.ProcessLaws.{Behaves, process_law, process_opens}
+use Rattle.sdl_parse.proofs.Stops.{made_opens, closed_same}
+use Rattle.sdl_tree.specs.Depth.{OpensTooMany}
+use Rattle.sdl_parse.proofs.TooDeepLemmas.{told}
+use Rattle.sdl_parse.proofs.SynonymLaws.{synonym_law, synonym_opens}
 
 -- ---- the end of the text
 
-at_end_sound : (i : Words) (u : Unit {0}) (j : Words) → at_end i ≡ read_as u j → (i ≡ []) × (j ≡ [])
+abbrev pub IsEnd : Words → Words → Type 0
+IsEnd i j = (i ≡ []) × (j ≡ [])
+
+at_end_sound : (i : Words) (u : Unit {0}) (j : Words) → at_end i ≡ read_as u j → IsEnd i j
 unfolding at_end
 at_end_sound [] u j e = (refl, sym (same_rest tt u [] j e))
-at_end_sound (w ∷ i) u j e = not_read Refused u j e
+at_end_sound (w ∷ i) u j e = not_read (Refused (w ∷ i)) u j e
 
-at_end_again : at_end [] ≡ read_as tt []
+at_end_complete : (u : Unit {0}) (i j : Words) → IsEnd i j → at_end i ≡ read_as u j
 unfolding at_end
-at_end_again = refl
+at_end_complete u i j s = ap at_end s.0 ∙ ap (λ k. read_as u k) (sym s.1)
 
-at_end_deepens : (d : ℕ) → Deepens d at_end
+at_end_refused : (i : Words) (r : Refusal) → at_end i ≡ Err r → r ≡ Refused i
 unfolding at_end
-at_end_deepens d [] j e = not_deep tt [] j e
-at_end_deepens d (w ∷ i) j e = refused_not_deep {A = Unit {0}} j e
+at_end_refused [] r e = not_refused {A = Unit {0}} tt [] r e
+at_end_refused (w ∷ i) r e = same_refusal {A = Unit {0}} (Refused (w ∷ i)) r e
 
-at_end_counts : (d : ℕ) → Counts d at_end
-at_end_counts d = (
-  λ i u j e. let both = at_end_sound i u j e in let P : Words → Type 0 = λ k. Balanced i k in subst P (both.0 ∙ sym both.1) (balanced_none i),
-  at_end_deepens d,
-)
+-- where the text ends, it ends still, where the same stands next
+still_end : (k : Words) → SameFront k [] → k ≡ []
+unfolding front
+still_end [] same = refl
+still_end (w ∷ k) same = absurd (let apart : ◌≡◌ {A = Option Word} (Some w) None = same in cc)
 
-module _ (b : Body) (laws : IsSoundBody b) where
-  definition_sound : Sound (definition b) SpellsDef
-  unfolding definition
-  definition_sound =
-      either_sound mark.Signal _ _ SpellsDef (mapped_sound Signals signal SpellsSignal SpellsDef (λ x i j s. s) signal_sound)
-      (either_sound mark.SignalList _ _ SpellsDef (mapped_sound SignalList signal_list SpellsSignalList SpellsDef (λ x i j s. s) signal_list_sound)
-      (either_sound mark.Synonym _ _ SpellsDef (mapped_sound Synonyms synonym SpellsSynonym SpellsDef (λ x i j s. s) synonym_sound)
-      (either_sound mark.Channel _ _ SpellsDef (mapped_sound Channel channel SpellsChannel SpellsDef (λ x i j s. s) channel_sound)
-      (mapped_sound Process (process b) SpellsProcess SpellsDef (λ x i j s. s) (process_sound b laws)))))
+end_after : (m k : Words) → m ≡ [] → GoodAfter (λ j. j ≡ []) m k → k ≡ []
+end_after m k e (inl same) = let F : Words → Type 0 = λ l. SameFront k l in still_end k (subst F e same)
+end_after m k e (inr t) = t
 
-  definition_weighs : Weighs limit (definition b)
-  unfolding definition
-  definition_weighs =
-      weighs_either limit mark.Signal _ _ (weighs_mapped limit Signals signal (signal_weighs limit))
-      (weighs_either limit mark.SignalList _ _ (weighs_mapped limit SignalList signal_list (signal_list_weighs limit))
-      (weighs_either limit mark.Synonym _ _ (weighs_mapped limit Synonyms synonym synonym_weighs)
-      (weighs_either limit mark.Channel _ _ (weighs_mapped limit Channel channel (channel_weighs limit)) (weighs_mapped limit Process (process b) (process_weighs b laws)))))
+at_end_near : (i : Words) (u : Unit {0}) (m : Words) → at_end i ≡ read_as u m
+    → (w : Words) × (i ≡ w ++ m) × ((k : Words) → GoodAfter (λ j. j ≡ []) m k → at_end (w ++ k) ≡ read_as u k)
+at_end_near i u m e =
+    let s = at_end_sound i u m e in
+    ([], s.0 ∙ sym s.1, λ k g. let t = end_after m k s.1 g in at_end_complete u k k (t, t))
 
-  block_part_sound : Sound (block_part b) SpellsBlockPart
-  unfolding block_part
-  block_part_sound =
-      either_sound mark.Connect connect (mapped InBlock (definition b)) SpellsBlockPart connect_sound (mapped_sound InBlock (definition b) SpellsDef SpellsBlockPart (λ x i j s. s) definition_sound)
+-- words like none are none
+none_alike : (i k : Words) → i ≡ [] → AreAlike i k → k ≡ []
+none_alike [] [] e a = refl
+none_alike [] (w ∷ k) e a = absurd a
+none_alike (v ∷ i) k e a = absurd (let apart : v ∷ i ≡ [] = e in cc)
 
-  block_part_weighs : Weighs limit (block_part b)
-  unfolding block_part
-  block_part_weighs = weighs_either limit mark.Connect connect (mapped InBlock (definition b)) (connect_weighs limit) (weighs_mapped limit InBlock (definition b) definition_weighs)
+at_end_law : Law at_end (λ _. IsEnd) (λ _. IsEnd) (λ j. j ≡ []) whole
+at_end_law = record {
+  rules = record {
+    sound = at_end_sound;
+    complete = λ u i j s t. at_end_complete u i j s;
+    keeps = λ u i j s. ([], s.0 ∙ sym s.1, λ k t. (t, t));
+    near = at_end_near;
+    stands = λ i r s. here_stands i r (at_end_refused i r s);
+    moves = λ u i j k s t. (tt, k, (none_alike i k s.0 t, none_alike i k s.0 t), subst (λ (l : Words). AreAlike l k) (s.0 ∙ sym s.1) t, refl);
+    more = λ u i j s. s;
+    deep = λ i left s. not_deep i left (at_end_refused i (Deep left) s);
+  };
+  one = (tt, [], λ j t. (t, t));
+}
 
-  block_sound : Sound (block b) SpellsBlock
-  unfolding block
-  block_sound i x j e =
-      let a = bind_ok (expect mark.Block i) _ x j e in
-      let c = bind_ok (name a.1) _ x j a.3 in
-      let f = bind_ok (end c.1) _ x j c.3 in
-      let g = bind_ok (repeated begins_block_part (block_part b) f.1) _ x j f.3 in
-      let h = bind_ok (expect mark.EndBlock g.1) _ x j g.3 in
-      let k = bind_ok (end_name c.0 h.1) _ x j h.3 in
-      let l = bind_ok (end k.1) (λ _. pure (record { name = c.0; definitions = g.0 })) x j k.3 in
-      let made : BlockDefinition = record { name = c.0; definitions = g.0 } in
-      let P : Words → Type 0 = λ r. Repeated SpellsBlockPart g.0 f.1 r in
-      as_read (λ y r. SpellsBlock y i r) made x l.1 j l.3 (
-        c.1,
-        f.1,
-        h.1,
-        k.1,
-        expect_ok mark.Block i a.0 a.1 a.2 ∙ ap (λ r. Fixed mark.Block ∷ r) (name_ok a.1 c.0 c.1 c.2),
-        end_sound c.1 f.0 f.1 f.2,
-        subst P (expect_ok mark.EndBlock g.1 h.0 h.1 h.2) (repeated_sound begins_block_part (block_part b) SpellsBlockPart block_part_sound f.1 g.0 g.1 g.2),
-        end_name_sound c.0 h.1 k.0 k.1 k.2,
-        end_sound k.1 l.0 l.1 l.2,
-      )
+-- ---- what both a system and a block define
 
-  block_weighs : Weighs limit (block b)
-  unfolding block
-  block_weighs =
-      weighs_bind limit (expect mark.Block) _ (weighs_expect limit mark.Block (refl, refl)) (λ _.
-      counts_bind limit name _ (counts_name limit) (λ x.
-      counts_bind limit end _ (counts_end limit) (λ _.
-      counts_bind limit (repeated begins_block_part (block_part b)) _ (counts_repeated limit begins_block_part (block_part b) (light limit (block_part b) block_part_weighs)) (λ ds.
-      counts_bind limit (expect mark.EndBlock) _ (counts_expect limit mark.EndBlock (refl, refl)) (λ _.
-      counts_bind limit (end_name x) _ (counts_end_name limit x) (λ _.
-      counts_bind limit end (λ _. pure (record { name = x; definitions = ds })) (counts_end limit) (λ _. counts_pure limit (record { name = x; definitions = ds }))))))))
+abbrev IsDefinition : ℕ → Definition → Words → Words → Type 0
+IsDefinition d x i j = Made Signals SpellsSignal x i j ⊎ (Made SignalList SpellsSignalList x i j ⊎ (Made Synonyms (SpellsSynonym d) x i j
+    ⊎ (Made Channel SpellsChannel x i j ⊎ Made Process (SpellsProcess d) x i j)))
 
-  system_definition_sound : Sound (system_definition b) SpellsSystemDef
-  unfolding system_definition
-  system_definition_sound =
-      either_sound mark.Block (mapped Block (block b)) (mapped InSystem (definition b)) SpellsSystemDef
-      (mapped_sound Block (block b) SpellsBlock SpellsSystemDef (λ x i j s. s) block_sound) (mapped_sound InSystem (definition b) SpellsDef SpellsSystemDef (λ x i j s. s) definition_sound)
+definition_to : (d : ℕ) (x : Definition) (i j : Words) → IsDefinition d x i j → SpellsDef d x i j
+definition_to d x i j (inl s) = let Q : Definition → Type 0 = λ y. SpellsDef d y i j in subst Q (sym s.1) s.2
+definition_to d x i j (inr (inl s)) = let Q : Definition → Type 0 = λ y. SpellsDef d y i j in subst Q (sym s.1) s.2
+definition_to d x i j (inr (inr (inl s))) = let Q : Definition → Type 0 = λ y. SpellsDef d y i j in subst Q (sym s.1) s.2
+definition_to d x i j (inr (inr (inr (inl s)))) = let Q : Definition → Type 0 = λ y. SpellsDef d y i j in subst Q (sym s.1) s.2
+definition_to d x i j (inr (inr (inr (inr s)))) = let Q : Definition → Type 0 = λ y. SpellsDef d y i j in subst Q (sym s.1) s.2
 
-  system_definition_weighs : Weighs limit (system_definition b)
-  unfolding system_definition
-  system_definition_weighs =
-      weighs_either limit mark.Block (mapped Block (block b)) (mapped InSystem (definition b)) (weighs_mapped limit Block (block b) block_weighs) (weighs_mapped limit InSystem (definition b) definition_weighs)
+definition_from : (d : ℕ) (x : Definition) (i j : Words) → SpellsDef d x i j → IsDefinition d x i j
+definition_from d (Signals x) i j s = inl (x, refl, s)
+definition_from d (SignalList x) i j s = inr (inl (x, refl, s))
+definition_from d (Synonyms x) i j s = inr (inr (inl (x, refl, s)))
+definition_from d (Channel x) i j s = inr (inr (inr (inl (x, refl, s))))
+definition_from d (Process x) i j s = inr (inr (inr (inr (x, refl, s))))
 
-  -- what is read is all of the words, and they spell it
-  pub specification_sound : (i : Words) (x : Tree) (j : Words) → specification b i ≡ read_as x j → SpellsTree x i
-  unfolding specification
-  specification_sound i x j e =
-      let a = bind_ok (expect mark.System i) _ x j e in
-      let c = bind_ok (name a.1) _ x j a.3 in
-      let f = bind_ok (end c.1) _ x j c.3 in
-      let g = bind_ok (repeated begins_system_definition (system_definition b) f.1) _ x j f.3 in
-      let h = bind_ok (expect mark.EndSystem g.1) _ x j g.3 in
-      let k = bind_ok (end_name c.0 h.1) _ x j h.3 in
-      let l = bind_ok (end k.1) _ x j k.3 in
-      let m = bind_ok (at_end l.1) (λ _. pure (record { name = c.0; definitions = g.0 })) x j l.3 in
-      let made : Tree = record { name = c.0; definitions = g.0 } in
-      let P : Words → Type 0 = λ r. Repeated SpellsSystemDef g.0 f.1 r in
-      let Q : Words → Type 0 = λ r. SpellsEnd k.1 r in
-      let T : Tree → Type 0 = λ t. SpellsTree t i in
-      let spelled : SpellsTree made i = (
-        c.1,
-        f.1,
-        h.1,
-        k.1,
-        expect_ok mark.System i a.0 a.1 a.2 ∙ ap (λ r. Fixed mark.System ∷ r) (name_ok a.1 c.0 c.1 c.2),
-        end_sound c.1 f.0 f.1 f.2,
-        subst P (expect_ok mark.EndSystem g.1 h.0 h.1 h.2) (repeated_sound begins_system_definition (system_definition b) SpellsSystemDef system_definition_sound f.1 g.0 g.1 g.2),
-        end_name_sound c.0 h.1 k.0 k.1 k.2,
-        subst Q (at_end_sound l.1 m.0 m.1 m.2).0 (end_sound k.1 l.0 l.1 l.2),
-      ) in
-      subst T (same_value made x m.1 j m.3) spelled
+-- ---- blocks and the system
 
-  pub specification_weighs : Weighs limit (specification b)
-  unfolding specification
-  specification_weighs =
-      weighs_bind limit (expect mark.System) _ (weighs_expect limit mark.System (refl, refl)) (λ _.
-      counts_bind limit name _ (counts_name limit) (λ x.
-      counts_bind limit end _ (counts_end limit) (λ _.
-      counts_bind limit (repeated begins_system_definition (system_definition b)) _ (counts_repeated limit begins_system_definition (system_definition b) (light limit (system_definition b) system_definition_weighs)) (λ ds.
-      counts_bind limit (expect mark.EndSystem) _ (counts_expect limit mark.EndSystem (refl, refl)) (λ _.
-      counts_bind limit (end_name x) _ (counts_end_name limit x) (λ _.
-      counts_bind limit end _ (counts_end limit) (λ _.
-      counts_bind limit at_end (λ _. pure (record { name = x; definitions = ds })) (at_end_counts limit) (λ _. counts_pure limit (record { name = x; definitions = ds })))))))))
+abbrev SpellsPartsOf : ℕ → Spot → List BlockPart → Words → Words → Type 0
+SpellsPartsOf d x = Followed (Repeated (SpellsBlockPart d)) (SpellsClosing mark.EndBlock x.text)
 
-  -- what is too deep stands inside as many others as there may be
-  pub too_deep : (i j : Words) → specification b i ≡ Err (Deep j) → (0 < length j) × (length j ≤ length i) × IsTooDeep i (length j - 1)
-  too_deep i j e =
-      let deep = specification_weighs.1 i j e in
-      let last = ap length deep.4 in
-      let all = ap length deep.3 ∙ length-append deep.0 j in
-      let left : length j - 1 ≡ length deep.2 = omega (arith, last) in
-      (omega (arith, last), omega (arith, all), (deep.0, deep.1, deep.2, deep.3 ∙ ap (λ k. deep.0 ++ k) deep.4, deep.5, left, deep.6 0))
+abbrev SpellsDefsOf : ℕ → Spot → List SystemDefinition → Words → Words → Type 0
+SpellsDefsOf d x = Followed (Repeated (SpellsSystemDef d)) (SpellsClosing mark.EndSystem x.text)
 
--- ---- what is spelled is read
+abbrev pub SpellsSystem : ℕ → Tree → Words → Words → Type 0
+SpellsSystem d t i j = Behind mark.System (Tied (Ended SpellsName) (SpellsDefsOf d)) (t.name, t.definitions) i j
 
-module _ (b : Body) (Stops : Words → Type 0) (laws : IsWholeBody b Stops) where
-  definition_complete : (x : Definition) (i j : Words) → SpellsDef x i j → definition b i ≡ read_as x j
+ended_name_law : Law (ended name) (Ended SpellsName) (Ended SpellsName) Anywhere erased_name
+ended_name_law = ended_at_law name_law (λ s m. tt) (λ s m. tt)
+
+endblock_no_part : (s : Spelling) (j : Words) → sees_one (mark.Connect ∷ definition_marks) (Fixed mark.EndBlock s ∷ j) ≡ false
+unfolding sees front same_mark
+endblock_no_part s j = refl
+
+endsystem_no_part : (s : Spelling) (j : Words) → sees_one (mark.Block ∷ definition_marks) (Fixed mark.EndSystem s ∷ j) ≡ false
+unfolding sees front same_mark
+endsystem_no_part s j = refl
+
+block_part_to : (d : ℕ) (x : BlockPart) (i j : Words) → Made Connect SpellsConnect x i j ⊎ Made InBlock (SpellsDef d) x i j → SpellsBlockPart d x i j
+block_part_to d x i j (inl s) = let Q : BlockPart → Type 0 = λ y. SpellsBlockPart d y i j in subst Q (sym s.1) s.2
+block_part_to d x i j (inr s) = let Q : BlockPart → Type 0 = λ y. SpellsBlockPart d y i j in subst Q (sym s.1) s.2
+
+block_part_from : (d : ℕ) (x : BlockPart) (i j : Words) → SpellsBlockPart d x i j → Made Connect SpellsConnect x i j ⊎ Made InBlock (SpellsDef d) x i j
+block_part_from d (Connect x) i j s = inl (x, refl, s)
+block_part_from d (InBlock x) i j s = inr (x, refl, s)
+
+system_definition_to : (d : ℕ) (x : SystemDefinition) (i j : Words) → Made Block (SpellsBlock d) x i j ⊎ Made InSystem (SpellsDef d) x i j → SpellsSystemDef d x i j
+system_definition_to d x i j (inl s) = let Q : SystemDefinition → Type 0 = λ y. SpellsSystemDef d y i j in subst Q (sym s.1) s.2
+system_definition_to d x i j (inr s) = let Q : SystemDefinition → Type 0 = λ y. SpellsSystemDef d y i j in subst Q (sym s.1) s.2
+
+system_definition_from : (d : ℕ) (x : SystemDefinition) (i j : Words) → SpellsSystemDef d x i j → Made Block (SpellsBlock d) x i j ⊎ Made InSystem (SpellsDef d) x i j
+system_definition_from d (Block x) i j s = inl (x, refl, s)
+system_definition_from d (InSystem x) i j s = inr (x, refl, s)
+
+-- ---- one too many inside each other
+
+-- ---- from the definitions to the text
+
+module _ (d : ℕ) (begins : Words → Bool) (S T : Words → Type 0) (b : Behaves d begins S T) where
+  definition_choice : Choice (definition d) (SpellsDef d) (SpellsDef (suc d)) definition_marks erased_definition
   unfolding definition same_mark
-  definition_complete (Signals xs) i j s = either_here mark.Signal _ _ i s.0 (Signals xs) j s.2 (mapped_is Signals signal i xs j (signal_complete xs i j s))
-  definition_complete (SignalList x) i j s =
-      either_other mark.Signal _ _ i (SignalList x) j (other mark.Signal mark.SignalList i _ s.2 refl)
-      (either_here mark.SignalList _ _ i _ (SignalList x) j s.2 (mapped_is SignalList signal_list i x j (signal_list_complete x i j s)))
-  definition_complete (Synonyms xs) i j s =
-      either_other mark.Signal _ _ i (Synonyms xs) j (other mark.Signal mark.Synonym i s.0 s.2 refl)
-      (either_other mark.SignalList _ _ i (Synonyms xs) j (other mark.SignalList mark.Synonym i s.0 s.2 refl)
-      (either_here mark.Synonym _ _ i s.0 (Synonyms xs) j s.2 (mapped_is Synonyms synonym i xs j (synonym_complete xs i j s))))
-  definition_complete (Channel x) i j s =
-      either_other mark.Signal _ _ i (Channel x) j (other mark.Signal mark.Channel i _ s.5 refl)
-      (either_other mark.SignalList _ _ i (Channel x) j (other mark.SignalList mark.Channel i _ s.5 refl)
-      (either_other mark.Synonym _ _ i (Channel x) j (other mark.Synonym mark.Channel i _ s.5 refl)
-      (either_here mark.Channel _ _ i _ (Channel x) j s.5 (mapped_is Channel channel i x j (channel_complete x i j s)))))
-  definition_complete (Process x) i j s =
-      either_other mark.Signal _ _ i (Process x) j (other mark.Signal mark.Process i _ s.8 refl)
-      (either_other mark.SignalList _ _ i (Process x) j (other mark.SignalList mark.Process i _ s.8 refl)
-      (either_other mark.Synonym _ _ i (Process x) j (other mark.Synonym mark.Process i _ s.8 refl)
-      (either_other mark.Channel _ _ i (Process x) j (other mark.Channel mark.Process i _ s.8 refl)
-      (mapped_is Process (process b) i x j (process_complete b Stops laws x i j s)))))
+  definition_choice =
+      as_choice (definition_to d) (definition_from d) (definition_to (suc d))
+      (or_choice mark.Signal _ refl (made_law Signals (λ x y n. ap Signals n) signal_law) (made_opens Signals mark.Signal SpellsSignal signal_opens)
+      (or_choice mark.SignalList _ refl (made_law SignalList (λ x y n. ap SignalList n) signal_list_law) (made_opens SignalList mark.SignalList SpellsSignalList signal_list_opens)
+      (or_choice mark.Synonym _ refl (made_law Synonyms (λ x y n. ap Synonyms n) (synonym_law d)) (made_opens Synonyms mark.Synonym (SpellsSynonym d) (synonym_opens d))
+      (or_choice mark.Channel _ refl (made_law Channel (λ x y n. ap Channel n) channel_law) (made_opens Channel mark.Channel SpellsChannel channel_opens)
+      (one_choice mark.Process (made_law Process (λ x y n. ap Process n) (process_law d begins S T b)) (made_opens Process mark.Process (SpellsProcess d) (process_opens d begins S T b)))))))
 
-  block_part_complete : (x : BlockPart) (i j : Words) → SpellsBlockPart x i j → block_part b i ≡ read_as x j
-  unfolding block_part
-  block_part_complete (InBlock x) i j s =
-      either_other mark.Connect connect (mapped InBlock (definition b)) i (InBlock x) j (definition_no_connect x i j s) (mapped_is InBlock (definition b) i x j (definition_complete x i j s))
-  block_part_complete (Connect outer inner) i j s =
-      either_here mark.Connect connect (mapped InBlock (definition b)) i s.0 (Connect outer inner) j s.3 (connect_complete outer inner i j s)
+  -- the same definitions inside another node
+  inside_choice : {B : Type 0} (f : Definition → B) {g : B → B} → ((x y : Definition) → erased_definition x ≡ erased_definition y → g (f x) ≡ g (f y))
+      → Choice (made f (definition d)) (Made f (SpellsDef d)) (Made f (SpellsDef (suc d))) definition_marks g
+  inside_choice f like = record {
+    law = made_law f like definition_choice.law;
+    takes = λ y i j s. definition_choice.takes s.0 i j s.2;
+    begins = λ y i j s. definition_choice.begins s.0 i j s.2;
+  }
 
-  block_complete : (x : BlockDefinition) (i j : Words) → SpellsBlock x i j → block b i ≡ read_as x j
+  block_part_law : MaybeLaw (block_part d) (SpellsBlockPart d) (SpellsBlockPart (suc d)) Anywhere (sees_one (mark.Connect ∷ definition_marks)) erased_block_part
+  unfolding block_part same_mark
+  block_part_law =
+      maybe_choice (mark.Connect ∷ definition_marks)
+      (as_choice (block_part_to d) (block_part_from d) (block_part_to (suc d))
+      (or_choice mark.Connect definition_marks refl (made_law Connect (λ x y n. ap Connect n) connect_law) (made_opens Connect mark.Connect SpellsConnect connect_opens)
+      (inside_choice InBlock (λ x y n. ap InBlock n))))
+
+  block_parts_law : (x : Spot) → Law (block_parts d x) (SpellsPartsOf d x) (SpellsPartsOf (suc d) x) Anywhere (map erased_block_part)
+  block_parts_law x =
+      followed_law (repeated_law block_part_law (λ i t. tt) tt) (closing_law mark.EndBlock x.text)
+      (λ m j s t. closing_begins (λ k. Anywhere k × (sees_one (mark.Connect ∷ definition_marks) k ≡ false)) mark.EndBlock (λ w k. (tt, endblock_no_part w k)) x.text m j s)
+
+  named_parts_law : Law (tied (ended name) (block_parts d)) (Tied (Ended SpellsName) (SpellsPartsOf d)) (Tied (Ended SpellsName) (SpellsPartsOf (suc d))) Anywhere (λ x. (erased_name x.0, map erased_block_part x.1))
+  named_parts_law = tied_law ended_name_law block_parts_law (λ x y m j s t. tt) (closed_same (Repeated (SpellsBlockPart d)) mark.EndBlock)
+
+  block_law : Law (block d) (SpellsBlock d) (SpellsBlock (suc d)) Anywhere erased_block
   unfolding block
-  block_complete x i j s =
-      ap (block b) s.4
-      ∙ bind_is (expect mark.Block (Fixed mark.Block ∷ word.Name x.name ∷ s.0)) _ tt (word.Name x.name ∷ s.0) (expect_again mark.Block (word.Name x.name ∷ s.0))
-      ∙ bind_is (name (word.Name x.name ∷ s.0)) _ x.name s.0 (name_again x.name s.0)
-      ∙ bind_is (end s.0) _ tt s.1 (end_complete s.0 s.1 s.5)
-      ∙ bind_is (repeated begins_block_part (block_part b) s.1) _ x.definitions (Fixed mark.EndBlock ∷ s.2)
-      (repeated_complete begins_block_part (block_part b) SpellsBlockPart (λ _. Unit {0}) (λ y k l t _. block_part_complete y k l t) (block_part_weighs b laws.sound).2 block_part_begins (λ k t. tt)
-      x.definitions s.1 (Fixed mark.EndBlock ∷ s.2) s.6 tt (block_ends s.2))
-      ∙ bind_is (expect mark.EndBlock (Fixed mark.EndBlock ∷ s.2)) _ tt s.2 (expect_again mark.EndBlock s.2)
-      ∙ bind_is (end_name x.name s.2) _ tt s.3 (end_name_complete x.name s.2 s.3 j s.7 s.8)
-      ∙ bind_is (end s.3) (λ _. pure (record { name = x.name; definitions = x.definitions })) tt j (end_complete s.3 j s.8)
+  block_law =
+      record_law block_with (λ y. (y.word, (y.name, y.definitions))) (λ x y n. ap block_with n) (λ x. refl) (λ y. refl)
+      (both_law (mark_law mark.Block) named_parts_law (λ y m j s t. tt))
 
-  system_definition_complete : (x : SystemDefinition) (i j : Words) → SpellsSystemDef x i j → system_definition b i ≡ read_as x j
-  unfolding system_definition
-  system_definition_complete (InSystem x) i j s =
-      either_other mark.Block (mapped Block (block b)) (mapped InSystem (definition b)) i (InSystem x) j (definition_no_block x i j s) (mapped_is InSystem (definition b) i x j (definition_complete x i j s))
-  system_definition_complete (Block x) i j s =
-      either_here mark.Block (mapped Block (block b)) (mapped InSystem (definition b)) i (word.Name x.name ∷ s.0) (Block x) j s.4 (mapped_is Block (block b) i x j (block_complete x i j s))
+  block_opens : Opens mark.Block (SpellsBlock d)
+  block_opens x i j s = mark_opens mark.Block named_parts_law (x.word, (x.name, x.definitions)) i j s
 
-  pub specification_complete : (x : Tree) (i : Words) → SpellsTree x i → specification b i ≡ read_as x []
+  system_definition_law : MaybeLaw (system_definition d) (SpellsSystemDef d) (SpellsSystemDef (suc d)) Anywhere (sees_one (mark.Block ∷ definition_marks)) erased_system_definition
+  unfolding system_definition same_mark
+  system_definition_law =
+      maybe_choice (mark.Block ∷ definition_marks)
+      (as_choice (system_definition_to d) (system_definition_from d) (system_definition_to (suc d))
+      (or_choice mark.Block definition_marks refl (made_law Block (λ x y n. ap Block n) block_law) (made_opens Block mark.Block (SpellsBlock d) block_opens)
+      (inside_choice InSystem (λ x y n. ap InSystem n))))
+
+  system_definitions_law : (x : Spot) → Law (system_definitions d x) (SpellsDefsOf d x) (SpellsDefsOf (suc d) x) Anywhere (map erased_system_definition)
+  system_definitions_law x =
+      followed_law (repeated_law system_definition_law (λ i t. tt) tt) (closing_law mark.EndSystem x.text)
+      (λ m j s t. closing_begins (λ k. Anywhere k × (sees_one (mark.Block ∷ definition_marks) k ≡ false)) mark.EndSystem (λ w k. (tt, endsystem_no_part w k)) x.text m j s)
+
+  named_definitions_law : Law (tied (ended name) (system_definitions d)) (Tied (Ended SpellsName) (SpellsDefsOf d)) (Tied (Ended SpellsName) (SpellsDefsOf (suc d))) Anywhere (λ x. (erased_name x.0, map erased_system_definition x.1))
+  named_definitions_law = tied_law ended_name_law system_definitions_law (λ x y m j s t. tt) (closed_same (Repeated (SpellsSystemDef d)) mark.EndSystem)
+
+  pub system_law : Law (system d) (SpellsSystem d) (SpellsSystem (suc d)) Anywhere erased
+  system_law =
+      record_law tree_with (λ t. (t.name, t.definitions)) (λ x y n. ap tree_with n) (λ x. refl) (λ t. refl) (behind_law mark.System named_definitions_law)
+
+  pub specification_law : Law (specification d) (Followed (SpellsSystem d) IsEnd) (Followed (SpellsSystem (suc d)) IsEnd) (λ j. j ≡ []) erased
   unfolding specification
-  specification_complete x i s =
-      ap (specification b) s.4
-      ∙ bind_is (expect mark.System (Fixed mark.System ∷ word.Name x.name ∷ s.0)) _ tt (word.Name x.name ∷ s.0) (expect_again mark.System (word.Name x.name ∷ s.0))
-      ∙ bind_is (name (word.Name x.name ∷ s.0)) _ x.name s.0 (name_again x.name s.0)
-      ∙ bind_is (end s.0) _ tt s.1 (end_complete s.0 s.1 s.5)
-      ∙ bind_is (repeated begins_system_definition (system_definition b) s.1) _ x.definitions (Fixed mark.EndSystem ∷ s.2)
-      (repeated_complete begins_system_definition (system_definition b) SpellsSystemDef (λ _. Unit {0}) (λ y k l t _. system_definition_complete y k l t) (system_definition_weighs b laws.sound).2 system_definition_begins (λ k t. tt)
-      x.definitions s.1 (Fixed mark.EndSystem ∷ s.2) s.6 tt (system_ends s.2))
-      ∙ bind_is (expect mark.EndSystem (Fixed mark.EndSystem ∷ s.2)) _ tt s.2 (expect_again mark.EndSystem s.2)
-      ∙ bind_is (end_name x.name s.2) _ tt s.3 (end_name_complete x.name s.2 s.3 [] s.7 s.8)
-      ∙ bind_is (end s.3) _ tt [] (end_complete s.3 [] s.8)
-      ∙ bind_is (at_end []) (λ _. pure (record { name = x.name; definitions = x.definitions })) tt [] at_end_again
+  specification_law = followed_law system_law at_end_law (λ m j s t. tt)
 
-  -- no two trees are spelled by the same words
-  pub one_tree : (x y : Tree) (i : Words) → SpellsTree x i → SpellsTree y i → x ≡ y
-  one_tree x y i s t = same_value x y [] [] (sym (specification_complete x i s) ∙ specification_complete y i t)
+  -- ---- whole texts
 
-  -- where nothing is read, no tree is spelled
-  pub no_tree : (r : Refusal) (i : Words) → specification b i ≡ Err r → (x : Tree) → SpellsTree x i → ⊥
-  no_tree r i e x s = not_read r x [] (sym e ∙ specification_complete x i s)
+  -- what is read spells the words, and leaves none
+  pub specification_sound : (i : Words) (t : Tree) (j : Words) → specification d i ≡ read_as t j → SpellsTree d t i
+  specification_sound i t j e =
+      let s = specification_law.rules.sound i t j e in
+      let R : Words → Type 0 = λ k. SpellsSystem d t i k in subst R s.2.0 s.1
+
+  -- what words spell is read from them
+  pub specification_complete : (t : Tree) (i : Words) → SpellsTree d t i → specification d i ≡ read_as t []
+  specification_complete t i s = specification_law.rules.complete t i [] ([], s, (refl, refl)) refl
+
+  -- words that differ in places and spellings alone from what spells a tree spell one that differs in these alone
+  pub specification_moves : (t : Tree) (i k : Words) → SpellsTree d t i → AreAlike i k → (u : Tree) × SpellsTree d u k × (erased u ≡ erased t)
+  specification_moves t i k s a =
+      let c = specification_law.rules.moves t i [] k ([], s, (refl, refl)) a in
+      let R : Words → Type 0 = λ l. SpellsSystem d c.0 k l in (c.0, subst R c.2.2.0 c.2.1, c.4)
+
+  -- two trees that the same words spell are one
+  pub specification_one : (t u : Tree) (i : Words) → SpellsTree d t i → SpellsTree d u i → t ≡ u
+  specification_one t u i s r = same_value t u [] [] (sym (specification_complete t i s) ∙ specification_complete u i r)
+
+  -- what is refused spells none
+  pub specification_refused : (i : Words) (r : Refusal) → specification d i ≡ Err r → (t : Tree) → SpellsTree d t i → ⊥
+  specification_refused i r e t s = not_refused t [] r (sym (specification_complete t i s) ∙ e)
+
+  -- a refusal stands at a word of the text, or at its end
+  pub specification_stands : (i : Words) (r : Refusal) → specification d i ≡ Err r → StandsAt i r
+  specification_stands = specification_law.rules.stands
+
+  as_tree : (n : ℕ) (t : Tree) (i : Words) → Followed (SpellsSystem n) IsEnd t i [] → SpellsTree n t i
+  as_tree n t i s = let R : Words → Type 0 = λ k. SpellsSystem n t i k in subst R s.2.0 s.1
+
+  as_whole : (t : Tree) (i : Words) → SpellsTree d t i → Followed (SpellsSystem d) IsEnd t i []
+  as_whole t i s = ([], s, (refl, refl))
+
+  -- where one too many is told, the word that stands first in what is left opens it
+  pub specification_told : (i left : Words) → specification d i ≡ Err (Deep left)
+      → (front : Words) × (back : Words) × (w : Word) × (i ≡ front ++ w ∷ back) × (left ≡ w ∷ back) × OpensTooMany d front w
+  specification_told i left e = told d (as_tree d) as_whole (as_tree (suc d)) i left (specification_law.rules.deep i left e)

@@ -1,7 +1,7 @@
-pub mod Bodies
 pub mod Channels
+pub mod Declarations
+pub mod ErrorText
 pub mod Parser
 pub mod Processes
 pub mod Synonyms
 pub mod Systems
-pub mod Variables

@@ -1,24 +1,23 @@
--- Reading of synonyms.
-use Rattle.std.specs.Prelude.{List}
+-- How synonyms are read: a device of the proofs, which say that it reads what the grammar spells and nothing else.
+use Rattle.std.specs.Prelude.{ℕ, List}
 use Rattle.sdl_tree.specs.declared.mark.Mark.TheVariants as mark
-use Rattle.sdl_tree.specs.Spells.Expressions.{limit}
-use Rattle.sdl_tree.specs.Tree.{SynonymDefinition}
+use Rattle.sdl_tree.specs.declared.name.Spelling.{Spelling}
+use Rattle.sdl_tree.specs.Tree.{Expr, SynonymDefinition, SynonymDefinitions}
+use Rattle.sdl_tree.specs.Words.{Spot}
 use Rattle.sdl_read.specs.Expressions.{expr}
-use Rattle.sdl_read.specs.Parts.{end, sort}
-use Rattle.sdl_read.specs.Reading.{Parser, ◌>>=◌, ◌>>◌, pure, expect, name, separated}
+use Rattle.sdl_read.specs.Parts.{ended}
+use Rattle.sdl_read.specs.Reading.{Parser, ◌⊗◌, behind, made, expect, name, separated}
+
+abbrev pub synonym_with : Spot × (Spot × Expr) → SynonymDefinition
+synonym_with p = record { name = p.0; sort = p.1.0; value = p.1.1 }
 
 -- NAME NAME "=" expr
-unfoldable pub synonym_name : Parser SynonymDefinition
-synonym_name = do
-  called ← name
-  given ← sort
-  expect mark.Equal
-  constant ← expr limit
-  pure (record { name = called; sort = given; value = constant })
+unfoldable pub synonym_name : ℕ → Parser SynonymDefinition
+synonym_name depth = made synonym_with (name ⊗ (name ⊗ behind mark.Equal (expr depth)))
 
-unfoldable pub synonym : Parser (List SynonymDefinition)
-synonym = do
-  expect mark.Synonym
-  found ← separated synonym_name
-  end
-  pure found
+abbrev pub synonyms_with : Spelling × List SynonymDefinition → SynonymDefinitions
+synonyms_with p = record { word = p.0; synonyms = p.1 }
+
+-- synonym = "synonym" NAME NAME "=" expr {"," NAME NAME "=" expr} end
+unfoldable pub synonym : ℕ → Parser SynonymDefinitions
+synonym depth = made synonyms_with (expect mark.Synonym ⊗ ended (separated (synonym_name depth)))

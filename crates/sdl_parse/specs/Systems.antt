@@ -1,65 +1,65 @@
--- Reading of blocks and of the system.
-use Rattle.std.specs.Prelude.{Bool, ◌||◌, [], ◌∷◌, Ok, Err}
+-- How blocks and the system are read: a device of the proofs, which say that it reads what the grammar spells and
+-- nothing else.
+use Rattle.std.specs.Prelude.{ℕ, List, [], ◌∷◌, Option, Ok, Err}
+use Rattle.sdl_tree.specs.declared.mark.Mark.{Mark}
 use Rattle.sdl_tree.specs.declared.mark.Mark.TheVariants as mark
-use Rattle.sdl_tree.specs.Spells.Parts.{Words}
-use Rattle.sdl_tree.specs.Tree.{Definition, Signals, SignalList, Synonyms, Channel, Process, BlockPart, InBlock, BlockDefinition, SystemDefinition, InSystem, Block, Tree}
+use Rattle.sdl_tree.specs.declared.name.Spelling.{Spelling}
+use Rattle.sdl_tree.specs.Tree.{Definition, Signals, SignalList, Synonyms, Channel, Process, BlockPart, InBlock, Connect, BlockDefinition, SystemDefinition, InSystem, Block, Tree}
+use Rattle.sdl_tree.specs.Words.{Spot}
+use Rattle.sdl_read.specs.Parts.{followed, ended, closing, tied, sees_one, signal, signal_list}
+use Rattle.sdl_read.specs.Reading.{Parser, Refused, ◌⊗◌, behind, made, either, maybe, sees, expect, name, repeated}
 use Rattle.sdl_parse.specs.Channels.{channel, connect}
-use Rattle.sdl_read.specs.Choices.{either, mapped}
-use Rattle.sdl_read.specs.Names.{end_name}
-use Rattle.sdl_read.specs.Parts.{end}
-use Rattle.sdl_parse.specs.Processes.{Body, process}
-use Rattle.sdl_read.specs.Reading.{Parser, Refused, ◌>>=◌, ◌>>◌, pure, sees, expect, name, repeated}
-use Rattle.sdl_read.specs.Signals.{signal_list, signal}
+use Rattle.sdl_parse.specs.Processes.{process}
 use Rattle.sdl_parse.specs.Synonyms.{synonym}
 
-unfoldable pub begins_definition : Words → Bool
-begins_definition i = (((sees mark.Signal i || sees mark.SignalList i) || sees mark.Synonym i) || sees mark.Channel i) || sees mark.Process i
+abbrev pub definition_marks : List Mark
+definition_marks = mark.Signal ∷ mark.SignalList ∷ mark.Synonym ∷ mark.Channel ∷ mark.Process ∷ []
 
--- a def of both systems and blocks
-unfoldable pub definition : Body → Parser Definition
-definition b =
-    either mark.Signal (mapped Signals signal)
-    (either mark.SignalList (mapped SignalList signal_list)
-    (either mark.Synonym (mapped Synonyms synonym)
-    (either mark.Channel (mapped Channel channel) (mapped Process (process b)))))
+-- def = signal | signallist | synonym | channel | process
+unfoldable pub definition : ℕ → Parser Definition
+definition depth =
+    either (sees mark.Signal) (made Signals signal)
+    (either (sees mark.SignalList) (made SignalList signal_list)
+    (either (sees mark.Synonym) (made Synonyms (synonym depth))
+    (either (sees mark.Channel) (made Channel channel) (made Process (process depth)))))
 
-unfoldable pub begins_block_part : Words → Bool
-begins_block_part i = begins_definition i || sees mark.Connect i
+-- [def], where a connect stands in a block alone
+unfoldable pub block_part : ℕ → Parser (Option BlockPart)
+block_part depth =
+    maybe (sees_one (mark.Connect ∷ definition_marks)) (either (sees mark.Connect) (made Connect connect) (made InBlock (definition depth)))
 
-unfoldable pub block_part : Body → Parser BlockPart
-block_part b = either mark.Connect connect (mapped InBlock (definition b))
+-- {def} "endblock" [NAME] end
+abbrev pub block_parts : ℕ → Spot → Parser (List BlockPart)
+block_parts depth x = followed (repeated (block_part depth)) (closing mark.EndBlock x.text)
 
-unfoldable pub block : Body → Parser BlockDefinition
-block b = do
-  expect mark.Block
-  called ← name
-  end
-  found ← repeated begins_block_part (block_part b)
-  expect mark.EndBlock
-  end_name called
-  end
-  pure (record { name = called; definitions = found })
+abbrev pub block_with : Spelling × (Spot × List BlockPart) → BlockDefinition
+block_with p = record { word = p.0; name = p.1.0; definitions = p.1.1 }
 
-unfoldable pub begins_system_definition : Words → Bool
-begins_system_definition i = begins_definition i || sees mark.Block i
+-- block = "block" NAME end {def} "endblock" [NAME] end
+unfoldable pub block : ℕ → Parser BlockDefinition
+block depth = made block_with (expect mark.Block ⊗ tied (ended name) (block_parts depth))
 
-unfoldable pub system_definition : Body → Parser SystemDefinition
-system_definition b = either mark.Block (mapped Block (block b)) (mapped InSystem (definition b))
+-- [def], where a block stands in a system alone
+unfoldable pub system_definition : ℕ → Parser (Option SystemDefinition)
+system_definition depth =
+    maybe (sees_one (mark.Block ∷ definition_marks)) (either (sees mark.Block) (made Block (block depth)) (made InSystem (definition depth)))
+
+-- {def} "endsystem" [NAME] end
+abbrev pub system_definitions : ℕ → Spot → Parser (List SystemDefinition)
+system_definitions depth x = followed (repeated (system_definition depth)) (closing mark.EndSystem x.text)
 
 -- the end of the text
 unfoldable pub at_end : Parser (Unit {0})
 at_end [] = Ok (tt, [])
-at_end (w ∷ i) = Err Refused
+at_end (w ∷ i) = Err (Refused (w ∷ i))
+
+abbrev pub tree_with : Spot × List SystemDefinition → Tree
+tree_with p = record { name = p.0; definitions = p.1 }
+
+-- spec = "system" NAME end {def} "endsystem" [NAME] end
+abbrev pub system : ℕ → Parser Tree
+system depth = made tree_with (behind mark.System (tied (ended name) (system_definitions depth)))
 
 -- spec, and nothing behind it
-unfoldable pub specification : Body → Parser Tree
-specification b = do
-  expect mark.System
-  called ← name
-  end
-  found ← repeated begins_system_definition (system_definition b)
-  expect mark.EndSystem
-  end_name called
-  end
-  at_end
-  pure (record { name = called; definitions = found })
+unfoldable pub specification : ℕ → Parser Tree
+specification depth = followed (system depth) at_end

@@ -1,20 +1,21 @@
 //! The tree of a specification in SDL/PR, from its text.
 //!
-//! `parse` reads the tokens of a text from the left by the grammar of the language, with one word of look-ahead (and a
-//! look for the comma of a `set` clause), or tells the place where no reading goes on and what must stand there. A tree
-//! that is read spells the tokens, and no other does; a refusal says that no tree spells them.
-//!
-//! Here stand the definitions of a specification, from the timer to the system. Words and expressions are read by
-//! `sdl_read`, and the states of a process by `sdl_behaviour`.
+//! `parse` answers the one tree that the text spells, places and spellings included, or one refusal. What each refusal
+//! says of the text stands in `specs/Parser`; of `Expected` alone no contract says its place and its word. The other
+//! functions read definitions; what a process does is read by `sdl_behaviour`.
 #![tactic(auto)]
 
 mod channels;
+mod declarations;
 mod error;
+mod laws;
 mod parser;
+mod place;
 mod processes;
 mod synonyms;
 mod system;
-mod variables;
+mod timers;
 
 pub use error::ParseError;
-pub use parser::{one_tree, parse};
+pub use laws::{alike_spell, one_tree};
+pub use parser::parse;

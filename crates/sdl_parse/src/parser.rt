@@ -1,76 +1,88 @@
 //! The tree of a text.
 
-ghost use Rattle.std.specs.Prelude.{◌≡◌, ◌-◌, ◌<◌, ◌≤◌, ℕ, List, All, IfErr, IfOk, drop, length};
-ghost use Rattle.sdl_lex.specs.Token.{IsWithin};
-ghost use Rattle.sdl_tree.specs.Tree as plain;
-ghost use Rattle.sdl_tree.specs.Views.{plain_tree};
-ghost use Rattle.sdl_parse.specs.Parser.{BeginAt, IsShallow, Refuses, SpellsText};
+ghost use Rattle.std.specs.Prelude.{◌≡◌, ◌<◌, ◌↔◌, Some, None, IfErr, IfOk, IsErrOf, length};
+ghost use Rattle.sdl_parse.specs.Parser.{Refuses, SpellsText, Tells, TellsLeftOut};
+ghost use Rattle.sdl_read.specs.PlacedWord.{word_of_placed};
+ghost use Rattle.sdl_read.specs.Reading.{front};
+ghost use Rattle.sdl_tree.specs.Views.{tree_value};
 
 use crate::error::ParseError;
 use crate::system::specification;
-use sdl_lex::{Place, Token, lex, one_list, place_of};
+use sdl_lex::{LexError, Place, lex, place_of};
 use sdl_read::cursor::Cursor;
-use sdl_read::fault::{Fault, Wanted};
-use sdl_read::word::{Word, items_of};
+use sdl_read::fault::Fault;
+use sdl_read::lists::LIMIT;
+use sdl_read::word::{PlacedWord, Word, placed_words};
 use sdl_tree::Tree;
 use std::alloc::Global;
 
-/// The tree of a specification, from its text. Of several faults the lexer's comes first, and then the first token
-/// where no reading goes on.
+/// The tree of a specification, from its text. A text that is too long is told before all; of other faults the lexer's
+/// comes first, and then the first token where no reading goes on.
 pub fn parse(alloc: Global, text: &[u8]) -> Result<Tree, ParseError>
-    ensures found { IfOk result (λ tree. SpellsText (plain_tree tree) text.now) }
+    ensures found { IfOk result (λ tree. SpellsText (tree_value tree) text.now) }
     ensures refused { IfErr result (λ e. Refuses e text.now) }
+    ensures too_long { IsErrOf result (ParseError.Lex LexError.TooLong) ↔ (1048576 < length text.now) }
 {
     let tokens = match lex(alloc, text) {
         Ok(tokens) => tokens,
         Err(error) => return Err(ParseError::Lex(error)),
     };
-    let items = match items_of(alloc, text, tokens.as_slice()) {
-        Ok(items) => items,
+    let words = match placed_words(alloc, text, tokens.as_slice()) {
+        Ok(words) => words,
         Err(_) => return Err(ParseError::Memory),
     };
-    let mut cursor = Cursor::new(items.as_slice(), place_of(text, text.len()));
-    match specification(alloc, &mut cursor) {
+    let mut cursor = Cursor::new(words.as_slice());
+    match specification(alloc, &mut cursor, LIMIT) {
         Ok(tree) => Ok(tree),
-        Err(Fault::TooDeep) => {
-            let place = place_of_last(text, tokens.as_slice(), cursor.left());
-            Err(ParseError::TooDeep(place))
-        }
-        Err(Fault::Expected(wanted)) => Err(expected(&cursor, wanted)),
-        Err(Fault::LeftOut(word)) => Err(ParseError::LeftOut(cursor.place(), word)),
-        Err(Fault::Memory) => Err(ParseError::Memory),
+        Err(fault) => Err(refusal(alloc, &cursor, place_of(text, text.len()), fault)),
     }
 }
 
-/// A text has one tree, but for places. The function does nothing: its contract is a law.
-pub fn one_tree()
-    ensures { (t other : plain.Tree) (text : List ℕ) → SpellsText t text → SpellsText other text → t ≡ other }
+/// How a fault at the front of the cursor is told, where the text ends at this place.
+fn refusal(alloc: Global, cursor: &Cursor<'_, '_>, end: Place, fault: Fault) -> ParseError
+    ensures { Tells result fault (front cursor.now) }
 {
-    one_list();
-}
-
-/// The place of the first of the last tokens, of which so many are left.
-fn place_of_last(text: &[u8], tokens: &[Token], left: usize) -> Place
-    requires some { 0 < left }
-    requires within { left ≤ length tokens.now }
-    requires slices { All (IsWithin (length text.now)) tokens.now }
-    ensures { BeginAt (drop (length tokens.now - left) tokens.now) text.now result }
-{
-    let (_, last) = tokens.split_at(tokens.len() - left);
-    match last {
-        [token, ..] => place_of(text, token.start),
-        [] => unreachable!(),
-    }
-}
-
-/// The refusal where this must stand next: a character string and a left-out word have their own.
-fn expected(cursor: &Cursor<'_>, wanted: Wanted) -> ParseError
-    ensures { IsShallow result }
-{
-    let place = cursor.place();
     match cursor.front() {
-        Some(Word::Text) => ParseError::LeftOut(place, "text"),
-        Some(Word::LeftOut(word)) => ParseError::LeftOut(place, word),
-        _ => ParseError::Expected(place, wanted),
+        Some(next) => refusal_of(alloc, next, fault),
+        None => refusal_at_end(alloc, end, fault),
+    }
+}
+
+/// How a fault of this word is told: a character string and a left-out word have their own refusal.
+fn refusal_of(alloc: Global, next: PlacedWord<'_>, fault: Fault) -> ParseError
+    ensures { Tells result fault (Some (word_of_placed next.entry)) }
+{
+    let place = next.place;
+    match fault {
+        Fault::Expected(wanted) => match next.word {
+            Word::Text(_) => left_out(alloc, place, "text"),
+            Word::LeftOut(lower, _) => left_out(alloc, place, lower),
+            _ => ParseError::Expected(place, wanted),
+        },
+        Fault::Condition => left_out(alloc, place, "provided"),
+        Fault::TooDeep => ParseError::TooDeep(place),
+        Fault::Memory => ParseError::Memory,
+    }
+}
+
+/// How a fault of the end of the text is told.
+fn refusal_at_end(alloc: Global, end: Place, fault: Fault) -> ParseError
+    ensures { Tells result fault None }
+{
+    match fault {
+        Fault::Expected(wanted) => ParseError::Expected(end, wanted),
+        Fault::Condition => left_out(alloc, end, "provided"),
+        Fault::TooDeep => ParseError::TooDeep(end),
+        Fault::Memory => ParseError::Memory,
+    }
+}
+
+/// The refusal of a word that is left out there.
+fn left_out(alloc: Global, place: Place, word: &str) -> ParseError
+    ensures { TellsLeftOut result place word.now }
+{
+    match String::from_str(alloc, word) {
+        Ok(word) => ParseError::LeftOut(place, word),
+        Err(_) => ParseError::Memory,
     }
 }

@@ -1,41 +1,58 @@
 //! Processes and what they define for themselves.
 
-ghost use Rattle.std.specs.Prelude.{◌≡◌, map, option_map};
-ghost use Rattle.sdl_tree.specs.Views.{plain_expr, plain_bound, plain_counts, plain_local, plain_body_part, plain_process};
-ghost use Rattle.sdl_parse.specs.Bodies.{behaviour};
+ghost use Rattle.std.specs.Prelude.{◌≡◌, ◌≤◌, option_map};
+ghost use Rattle.sdl_tree.specs.Views.{bound_value, counts_value, expr_value, local_value, process_value};
 ghost use Rattle.sdl_parse.specs.Processes as spec;
-ghost use Rattle.sdl_read.specs.Reading.{repeated};
+ghost use Rattle.sdl_read.specs.Parts.{sees_one};
 ghost use Rattle.sdl_read.specs.Reads.{Reads};
 
+use crate::declarations::{dcl, fpar};
+use crate::place::Defining;
 use crate::synonyms::synonym;
-use crate::variables::{dcl, fpar, timer};
-use sdl_behaviour::states::{begins_body_part, body_part, start};
+use crate::timers::timer;
+use sdl_behaviour::place::Inside;
+use sdl_behaviour::states::{body_part, start};
 use sdl_read::cursor::Cursor;
-use sdl_read::expressions::{LIMIT, expression};
+use sdl_read::expressions::expression;
 use sdl_read::fault::Fault;
-use sdl_read::names::end_name;
-use sdl_read::parts::end;
+use sdl_read::lists::{Perhaps, repeated};
+use sdl_read::parts::{closing, end};
 use sdl_read::signals::{signal, signal_list, signal_set};
-use sdl_read::word::Word;
-use sdl_tree::{BodyPart, Bound, Counts, Expression, LocalDefinition, Mark, ProcessDefinition};
+use sdl_read::word::{PlacedWord, Word};
+use sdl_tree::{Bound, Counts, Expression, LocalDefinition, Mark, ProcessDefinition};
 use std::alloc::Global;
+
+impl Perhaps<LocalDefinition> for Defining {
+    ghost use Rattle.sdl_tree.specs.Tree as tree;
+    ghost use Rattle.sdl_tree.specs.Views.{local_value};
+    ghost use Rattle.sdl_parse.specs.Processes.{local_definition};
+
+    ghost Node = { tree.LocalDefinition };
+
+    ghost value = { local_value };
+
+    ghost reads = { λ at. local_definition at.depth };
+}
 
 /// `process = "process" NAME [counts] end ["fpar" vars end] {pdef} start {state | connection} "endprocess" [NAME] end`
 #[tactic(auto, unfolding(crate::specs::Processes::process))]
-pub fn process(alloc: Global, cursor: &mut Cursor<'_>) -> Result<ProcessDefinition, Fault>
-    ensures { Reads plain_process (spec.process behaviour cursor.old) result cursor.new }
+pub fn process(
+    alloc: Global,
+    cursor: &mut Cursor<'_, '_>,
+    depth: usize,
+) -> Result<ProcessDefinition, Fault>
+    requires { depth ≤ 64 }
+    ensures { Reads process_value (spec.process depth cursor.old) result cursor.new }
 {
     let word = cursor.expect(Mark::Process)?;
     let name = cursor.name(alloc)?;
-    let counts = counts(alloc, cursor)?;
+    let counts = counts(alloc, cursor, depth)?;
     end(cursor)?;
     let parameters = fpar(alloc, cursor)?;
-    let definitions = local_definitions(alloc, cursor)?;
-    let start = start(alloc, cursor)?;
-    let body = body(alloc, cursor)?;
-    cursor.expect(Mark::EndProcess)?;
-    end_name(alloc, cursor, &name)?;
-    end(cursor)?;
+    let definitions = repeated(alloc, cursor, Defining { depth }, local_definition)?;
+    let start = start(alloc, cursor, depth)?;
+    let body = repeated(alloc, cursor, Inside { depth }, body_part)?;
+    closing(alloc, cursor, Mark::EndProcess, &name)?;
     Ok(ProcessDefinition {
         word,
         name,
@@ -47,17 +64,17 @@ pub fn process(alloc: Global, cursor: &mut Cursor<'_>) -> Result<ProcessDefiniti
     })
 }
 
-/// `[counts]`, where `counts = "(" [expr] ["," [expr]] ")"`
-#[tactic(auto, unfolding(crate::specs::Processes::some_counts, crate::specs::Processes::counts, sdl_read::specs::Choices::optional, sdl_read::specs::Choices::mapped))]
-fn counts(alloc: Global, cursor: &mut Cursor<'_>) -> Result<Option<Counts>, Fault>
-    ensures { Reads (λ c. option_map plain_counts c) (spec.some_counts cursor.old) result cursor.new }
+/// `[counts]`, where `counts = "(" [expr] ["," [expr]] ")"`.
+fn counts(alloc: Global, cursor: &mut Cursor<'_, '_>, depth: usize) -> Result<Option<Counts>, Fault>
+    requires { depth ≤ 64 }
+    ensures { Reads (option_map counts_value) (spec.counts depth cursor.old) result cursor.new }
 {
     if !cursor.sees(Mark::Open) {
         return Ok(None);
     }
     let parenthesis = cursor.expect(Mark::Open)?;
-    let initial = count(alloc, cursor)?;
-    let bound = bound(alloc, cursor)?;
+    let initial = count(alloc, cursor, depth)?;
+    let bound = bound(alloc, cursor, depth)?;
     cursor.expect(Mark::Close)?;
     Ok(Some(Counts {
         parenthesis,
@@ -67,37 +84,44 @@ fn counts(alloc: Global, cursor: &mut Cursor<'_>) -> Result<Option<Counts>, Faul
 }
 
 /// `["," [expr]]`
-#[tactic(auto, unfolding(crate::specs::Processes::bound, crate::specs::Processes::maximum, sdl_read::specs::Choices::optional, sdl_read::specs::Choices::mapped))]
-fn bound(alloc: Global, cursor: &mut Cursor<'_>) -> Result<Option<Bound>, Fault>
-    ensures { Reads (λ b. option_map plain_bound b) (spec.bound cursor.old) result cursor.new }
+fn bound(alloc: Global, cursor: &mut Cursor<'_, '_>, depth: usize) -> Result<Option<Bound>, Fault>
+    requires { depth ≤ 64 }
+    ensures { Reads (option_map bound_value) (spec.bound depth cursor.old) result cursor.new }
 {
     if !cursor.sees(Mark::Comma) {
         return Ok(None);
     }
     cursor.expect(Mark::Comma)?;
-    let maximum = count(alloc, cursor)?;
+    let maximum = count(alloc, cursor, depth)?;
     Ok(Some(Bound { maximum }))
 }
 
 /// `[expr]`
-#[tactic(auto, unfolding(crate::specs::Processes::count, sdl_read::specs::Choices::optional, sdl_read::specs::Choices::mapped))]
-fn count(alloc: Global, cursor: &mut Cursor<'_>) -> Result<Option<Expression>, Fault>
-    ensures { Reads (λ e. option_map plain_expr e) (spec.count cursor.old) result cursor.new }
+fn count(
+    alloc: Global,
+    cursor: &mut Cursor<'_, '_>,
+    depth: usize,
+) -> Result<Option<Expression>, Fault>
+    requires { depth ≤ 64 }
+    ensures { Reads (option_map expr_value) (spec.count depth cursor.old) result cursor.new }
 {
     if !begins_expression(cursor) {
         return Ok(None);
     }
-    Ok(Some(expression(alloc, cursor, LIMIT)?))
+    Ok(Some(expression(alloc, cursor, depth)?))
 }
 
-/// Whether what stands next can begin an expression.
+/// Whether an expression can begin with what stands next.
 #[tactic(auto, unfolding(crate::specs::Processes::begins_expression))]
-fn begins_expression(cursor: &Cursor<'_>) -> bool
+fn begins_expression(cursor: &Cursor<'_, '_>) -> bool
     ensures { result ≡ spec.begins_expression cursor.now }
 {
-    match cursor.front() {
-        Some(Word::Name(_)) | Some(Word::Number(..)) => true,
-        Some(Word::Fixed(mark, _)) => opens_expression(mark),
+    let Some(PlacedWord { word, .. }) = cursor.front() else {
+        return false;
+    };
+    match word {
+        Word::Name(_) | Word::Number(..) => true,
+        Word::Fixed(mark, _) => opens_expression(mark),
         _ => false,
     }
 }
@@ -123,24 +147,25 @@ fn opens_expression(mark: Mark) -> bool
     }
 }
 
-/// `{pdef}`
-fn local_definitions(alloc: Global, cursor: &mut Cursor<'_>) -> Result<Vec<LocalDefinition>, Fault>
-    ensures { Reads (λ ds. map plain_local ds.items) (repeated spec.begins_local spec.local_definition cursor.old) result cursor.new }
+/// `pdef = signal | signallist | synonym | "signalset" sigs end | "dcl" vars end | timer`, if one begins here.
+#[tactic(auto, unfolding(crate::specs::Processes::local_definition))]
+fn local_definition(
+    alloc: Global,
+    cursor: &mut Cursor<'_, '_>,
+    at: Defining,
+) -> Result<Option<LocalDefinition>, Fault>
+    requires { at.depth ≤ 64 }
+    ensures { Reads (option_map local_value) (spec.local_definition at.depth cursor.old) result cursor.new }
 {
-    let mut found = Vec::new(alloc);
-    for _turn in 0..cursor.left() {
-        if !begins_local(cursor) {
-            return Ok(found);
-        }
-        found.push(local_definition(alloc, cursor)?)?;
+    if !begins_local(cursor) {
+        return Ok(None);
     }
-    Ok(found)
+    Ok(Some(some_local(alloc, cursor, at.depth)?))
 }
 
 /// Whether what stands next begins a definition that a process makes for itself.
-#[tactic(auto, unfolding(crate::specs::Processes::begins_local))]
-fn begins_local(cursor: &Cursor<'_>) -> bool
-    ensures { result ≡ spec.begins_local cursor.now }
+fn begins_local(cursor: &Cursor<'_, '_>) -> bool
+    ensures { result ≡ sees_one spec.local_marks cursor.now }
 {
     cursor.sees(Mark::Signal)
         || cursor.sees(Mark::SignalList)
@@ -150,10 +175,14 @@ fn begins_local(cursor: &Cursor<'_>) -> bool
         || cursor.sees(Mark::Timer)
 }
 
-/// `pdef = signal | signallist | synonym | "signalset" sigs end | "dcl" vars end | timer`
-#[tactic(auto, unfolding(crate::specs::Processes::local_definition, sdl_read::specs::Choices::either, sdl_read::specs::Choices::mapped))]
-fn local_definition(alloc: Global, cursor: &mut Cursor<'_>) -> Result<LocalDefinition, Fault>
-    ensures { Reads plain_local (spec.local_definition cursor.old) result cursor.new }
+/// `pdef`, where one begins.
+fn some_local(
+    alloc: Global,
+    cursor: &mut Cursor<'_, '_>,
+    depth: usize,
+) -> Result<LocalDefinition, Fault>
+    requires { depth ≤ 64 }
+    ensures { Reads local_value (spec.some_local depth cursor.old) result cursor.new }
 {
     if cursor.sees(Mark::Signal) {
         return Ok(LocalDefinition::Signals(signal(alloc, cursor)?));
@@ -162,27 +191,13 @@ fn local_definition(alloc: Global, cursor: &mut Cursor<'_>) -> Result<LocalDefin
         return Ok(LocalDefinition::SignalList(signal_list(alloc, cursor)?));
     }
     if cursor.sees(Mark::Synonym) {
-        return Ok(LocalDefinition::Synonyms(synonym(alloc, cursor)?));
+        return Ok(LocalDefinition::Synonyms(synonym(alloc, cursor, depth)?));
     }
     if cursor.sees(Mark::SignalSet) {
         return Ok(LocalDefinition::SignalSet(signal_set(alloc, cursor)?));
     }
     if cursor.sees(Mark::Dcl) {
-        return Ok(LocalDefinition::Variables(dcl(alloc, cursor)?));
+        return Ok(LocalDefinition::Variables(dcl(alloc, cursor, depth)?));
     }
-    Ok(LocalDefinition::Timers(timer(alloc, cursor)?))
-}
-
-/// `{state | connection}`
-fn body(alloc: Global, cursor: &mut Cursor<'_>) -> Result<Vec<BodyPart>, Fault>
-    ensures { Reads (λ ps. map plain_body_part ps.items) (repeated behaviour.begins behaviour.part cursor.old) result cursor.new }
-{
-    let mut found = Vec::new(alloc);
-    for _turn in 0..cursor.left() {
-        if !begins_body_part(cursor) {
-            return Ok(found);
-        }
-        found.push(body_part(alloc, cursor)?)?;
-    }
-    Ok(found)
+    Ok(LocalDefinition::Timers(timer(alloc, cursor, depth)?))
 }

@@ -1,42 +1,70 @@
 //! The system and its blocks.
 
-ghost use Rattle.std.specs.Prelude.{◌≡◌, map};
-ghost use Rattle.sdl_tree.specs.Views.{plain_definition, plain_block_part, plain_block, plain_system_definition, plain_tree};
-ghost use Rattle.sdl_parse.specs.Bodies.{behaviour};
+ghost use Rattle.std.specs.Prelude.{◌≡◌, ◌≤◌, ◌∷◌, option_map};
+ghost use Rattle.sdl_tree.specs.declared.mark.Mark.TheVariants as mark;
+ghost use Rattle.sdl_tree.specs.Views.{block_part_value, block_value, definition_value, system_definition_value, tree_value};
 ghost use Rattle.sdl_parse.specs.Systems as spec;
-ghost use Rattle.sdl_read.specs.Reading.{repeated};
+ghost use Rattle.sdl_read.specs.Parts.{sees_one};
 ghost use Rattle.sdl_read.specs.Reads.{Reads};
 
 use crate::channels::{channel, connect};
+use crate::place::Defining;
 use crate::processes::process;
 use crate::synonyms::synonym;
 use sdl_read::cursor::Cursor;
 use sdl_read::fault::{Fault, Wanted};
-use sdl_read::names::end_name;
-use sdl_read::parts::end;
+use sdl_read::lists::{Perhaps, repeated};
+use sdl_read::parts::{closing, end};
 use sdl_read::signals::{signal, signal_list};
 use sdl_tree::{BlockDefinition, BlockPart, Definition, Mark, SystemDefinition, Tree};
 use std::alloc::Global;
 
+impl Perhaps<SystemDefinition> for Defining {
+    ghost use Rattle.sdl_tree.specs.Tree as tree;
+    ghost use Rattle.sdl_tree.specs.Views.{system_definition_value};
+    ghost use Rattle.sdl_parse.specs.Systems.{system_definition};
+
+    ghost Node = { tree.SystemDefinition };
+
+    ghost value = { system_definition_value };
+
+    ghost reads = { λ at. system_definition at.depth };
+}
+
+impl Perhaps<BlockPart> for Defining {
+    ghost use Rattle.sdl_tree.specs.Tree as tree;
+    ghost use Rattle.sdl_tree.specs.Views.{block_part_value};
+    ghost use Rattle.sdl_parse.specs.Systems.{block_part};
+
+    ghost Node = { tree.BlockPart };
+
+    ghost value = { block_part_value };
+
+    ghost reads = { λ at. block_part at.depth };
+}
+
 /// `spec = "system" NAME end {def} "endsystem" [NAME] end`, and nothing behind it.
 #[tactic(auto, unfolding(crate::specs::Systems::specification))]
-pub fn specification(alloc: Global, cursor: &mut Cursor<'_>) -> Result<Tree, Fault>
-    ensures { Reads plain_tree (spec.specification behaviour cursor.old) result cursor.new }
+pub fn specification(
+    alloc: Global,
+    cursor: &mut Cursor<'_, '_>,
+    depth: usize,
+) -> Result<Tree, Fault>
+    requires { depth ≤ 64 }
+    ensures { Reads tree_value (spec.specification depth cursor.old) result cursor.new }
 {
     cursor.expect(Mark::System)?;
     let name = cursor.name(alloc)?;
     end(cursor)?;
-    let definitions = system_definitions(alloc, cursor)?;
-    cursor.expect(Mark::EndSystem)?;
-    end_name(alloc, cursor, &name)?;
-    end(cursor)?;
+    let definitions = repeated(alloc, cursor, Defining { depth }, system_definition)?;
+    closing(alloc, cursor, Mark::EndSystem, &name)?;
     at_end(cursor)?;
     Ok(Tree { name, definitions })
 }
 
 /// The end of the text.
 #[tactic(auto, unfolding(crate::specs::Systems::at_end, sdl_read::specs::Reading::front))]
-fn at_end(cursor: &mut Cursor<'_>) -> Result<(), Fault>
+fn at_end(cursor: &mut Cursor<'_, '_>) -> Result<(), Fault>
     ensures { Reads (λ _. tt) (spec.at_end cursor.old) result cursor.new }
 {
     match cursor.front() {
@@ -45,54 +73,38 @@ fn at_end(cursor: &mut Cursor<'_>) -> Result<(), Fault>
     }
 }
 
-/// `{def}` in a system
-fn system_definitions(
+/// `def`, where a block stands in a system alone, if one begins here.
+#[tactic(auto, unfolding(crate::specs::Systems::system_definition))]
+fn system_definition(
     alloc: Global,
-    cursor: &mut Cursor<'_>,
-) -> Result<Vec<SystemDefinition>, Fault>
-    ensures { Reads (λ ds. map plain_system_definition ds.items) (repeated spec.begins_system_definition (spec.system_definition behaviour) cursor.old) result cursor.new }
-{
-    let mut found = Vec::new(alloc);
-    for _turn in 0..cursor.left() {
-        if !begins_system_definition(cursor) {
-            return Ok(found);
-        }
-        found.push(system_definition(alloc, cursor)?)?;
-    }
-    Ok(found)
-}
-
-/// Whether what stands next begins a definition that a system can have.
-#[tactic(auto, unfolding(crate::specs::Systems::begins_system_definition))]
-fn begins_system_definition(cursor: &Cursor<'_>) -> bool
-    ensures { result ≡ spec.begins_system_definition cursor.now }
-{
-    begins_definition(cursor) || cursor.sees(Mark::Block)
-}
-
-/// `def`, where a block stands in a system alone
-#[tactic(auto, unfolding(crate::specs::Systems::system_definition, sdl_read::specs::Choices::either, sdl_read::specs::Choices::mapped))]
-fn system_definition(alloc: Global, cursor: &mut Cursor<'_>) -> Result<SystemDefinition, Fault>
-    ensures { Reads plain_system_definition (spec.system_definition behaviour cursor.old) result cursor.new }
+    cursor: &mut Cursor<'_, '_>,
+    at: Defining,
+) -> Result<Option<SystemDefinition>, Fault>
+    requires { at.depth ≤ 64 }
+    ensures { Reads (option_map system_definition_value) (spec.system_definition at.depth cursor.old) result cursor.new }
 {
     if cursor.sees(Mark::Block) {
-        return Ok(SystemDefinition::Block(block(alloc, cursor)?));
+        let block = block(alloc, cursor, at.depth)?;
+        return Ok(Some(SystemDefinition::Block(block)));
     }
-    Ok(SystemDefinition::Shared(definition(alloc, cursor)?))
+    if !begins_definition(cursor) {
+        return Ok(None);
+    }
+    let shared = definition(alloc, cursor, at.depth)?;
+    Ok(Some(SystemDefinition::Shared(shared)))
 }
 
 /// `block = "block" NAME end {def} "endblock" [NAME] end`
 #[tactic(auto, unfolding(crate::specs::Systems::block))]
-fn block(alloc: Global, cursor: &mut Cursor<'_>) -> Result<BlockDefinition, Fault>
-    ensures { Reads plain_block (spec.block behaviour cursor.old) result cursor.new }
+fn block(alloc: Global, cursor: &mut Cursor<'_, '_>, depth: usize) -> Result<BlockDefinition, Fault>
+    requires { depth ≤ 64 }
+    ensures { Reads block_value (spec.block depth cursor.old) result cursor.new }
 {
     let word = cursor.expect(Mark::Block)?;
     let name = cursor.name(alloc)?;
     end(cursor)?;
-    let definitions = block_parts(alloc, cursor)?;
-    cursor.expect(Mark::EndBlock)?;
-    end_name(alloc, cursor, &name)?;
-    end(cursor)?;
+    let definitions = repeated(alloc, cursor, Defining { depth }, block_part)?;
+    closing(alloc, cursor, Mark::EndBlock, &name)?;
     Ok(BlockDefinition {
         word,
         name,
@@ -100,43 +112,29 @@ fn block(alloc: Global, cursor: &mut Cursor<'_>) -> Result<BlockDefinition, Faul
     })
 }
 
-/// `{def}` in a block
-fn block_parts(alloc: Global, cursor: &mut Cursor<'_>) -> Result<Vec<BlockPart>, Fault>
-    ensures { Reads (λ ds. map plain_block_part ds.items) (repeated spec.begins_block_part (spec.block_part behaviour) cursor.old) result cursor.new }
-{
-    let mut found = Vec::new(alloc);
-    for _turn in 0..cursor.left() {
-        if !begins_block_part(cursor) {
-            return Ok(found);
-        }
-        found.push(block_part(alloc, cursor)?)?;
-    }
-    Ok(found)
-}
-
-/// Whether what stands next begins a definition that a block can have.
-#[tactic(auto, unfolding(crate::specs::Systems::begins_block_part))]
-fn begins_block_part(cursor: &Cursor<'_>) -> bool
-    ensures { result ≡ spec.begins_block_part cursor.now }
-{
-    begins_definition(cursor) || cursor.sees(Mark::Connect)
-}
-
-/// `def`, where a connect stands in a block alone
-#[tactic(auto, unfolding(crate::specs::Systems::block_part, sdl_read::specs::Choices::either, sdl_read::specs::Choices::mapped))]
-fn block_part(alloc: Global, cursor: &mut Cursor<'_>) -> Result<BlockPart, Fault>
-    ensures { Reads plain_block_part (spec.block_part behaviour cursor.old) result cursor.new }
+/// `def`, where a connect stands in a block alone, if one begins here.
+#[tactic(auto, unfolding(crate::specs::Systems::block_part))]
+fn block_part(
+    alloc: Global,
+    cursor: &mut Cursor<'_, '_>,
+    at: Defining,
+) -> Result<Option<BlockPart>, Fault>
+    requires { at.depth ≤ 64 }
+    ensures { Reads (option_map block_part_value) (spec.block_part at.depth cursor.old) result cursor.new }
 {
     if cursor.sees(Mark::Connect) {
-        return Ok(BlockPart::Connect(connect(alloc, cursor)?));
+        return Ok(Some(BlockPart::Connect(connect(alloc, cursor)?)));
     }
-    Ok(BlockPart::Shared(definition(alloc, cursor)?))
+    if !begins_definition(cursor) {
+        return Ok(None);
+    }
+    let shared = definition(alloc, cursor, at.depth)?;
+    Ok(Some(BlockPart::Shared(shared)))
 }
 
 /// Whether what stands next begins a definition that both a system and a block can have.
-#[tactic(auto, unfolding(crate::specs::Systems::begins_definition))]
-fn begins_definition(cursor: &Cursor<'_>) -> bool
-    ensures { result ≡ spec.begins_definition cursor.now }
+fn begins_definition(cursor: &Cursor<'_, '_>) -> bool
+    ensures { result ≡ sees_one spec.definition_marks cursor.now }
 {
     cursor.sees(Mark::Signal)
         || cursor.sees(Mark::SignalList)
@@ -145,10 +143,11 @@ fn begins_definition(cursor: &Cursor<'_>) -> bool
         || cursor.sees(Mark::Process)
 }
 
-/// `def = signal | signallist | synonym | channel | process`, which both a system and a block can have
-#[tactic(auto, unfolding(crate::specs::Systems::definition, sdl_read::specs::Choices::either, sdl_read::specs::Choices::mapped))]
-fn definition(alloc: Global, cursor: &mut Cursor<'_>) -> Result<Definition, Fault>
-    ensures { Reads plain_definition (spec.definition behaviour cursor.old) result cursor.new }
+/// `def = signal | signallist | synonym | channel | process`, which both a system and a block can have.
+#[tactic(auto, unfolding(crate::specs::Systems::definition))]
+fn definition(alloc: Global, cursor: &mut Cursor<'_, '_>, depth: usize) -> Result<Definition, Fault>
+    requires { depth ≤ 64 }
+    ensures { Reads definition_value (spec.definition depth cursor.old) result cursor.new }
 {
     if cursor.sees(Mark::Signal) {
         return Ok(Definition::Signals(signal(alloc, cursor)?));
@@ -157,10 +156,10 @@ fn definition(alloc: Global, cursor: &mut Cursor<'_>) -> Result<Definition, Faul
         return Ok(Definition::SignalList(signal_list(alloc, cursor)?));
     }
     if cursor.sees(Mark::Synonym) {
-        return Ok(Definition::Synonyms(synonym(alloc, cursor)?));
+        return Ok(Definition::Synonyms(synonym(alloc, cursor, depth)?));
     }
     if cursor.sees(Mark::Channel) {
         return Ok(Definition::Channel(channel(alloc, cursor)?));
     }
-    Ok(Definition::Process(process(alloc, cursor)?))
+    Ok(Definition::Process(process(alloc, cursor, depth)?))
 }

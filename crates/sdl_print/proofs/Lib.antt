@@ -1,4 +1,9 @@
-pub mod ChainLemmas
+pub mod Carried
+pub mod CarriedDefinitions
+pub mod CarriedExpressions
+pub mod CarriedTransitions
+pub mod DecimalLemmas
+pub mod ExpressionLemmas
 pub mod Known
 pub mod ListLemmas
 pub mod MarkLemmas
@@ -6,6 +11,3 @@ pub mod ReadLemmas
 pub mod RoundTripLemmas
 pub mod TokenLemmas
 pub mod TransitionLemmas
-pub mod WritableDefinitions
-pub mod WritableExpressions
-pub mod WritableTransitions

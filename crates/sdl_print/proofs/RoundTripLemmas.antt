@@ -1,80 +1,86 @@
--- The canonical text of a tree is read as this tree.
+-- The canonical text of a tree is read as this tree, but for places.
 use Rattle.std.proofs.Common.{◌≡◌, refl, sym, ap, ◌∙◌, subst, inl, inr, ℕ, List}
 use Rattle.sdl_lex.specs.declared.error.LexError.{LexError}
 use Rattle.sdl_lex.specs.declared.error.LexError.TheVariants as lexer
 use Rattle.sdl_lex.specs.declared.token.Token.{Token}
-use Rattle.sdl_lex.specs.LexError.{IsInText}
-use Rattle.sdl_lex.specs.LexError as lexing
+use Rattle.sdl_lex.specs.LexError as faults
 use Rattle.sdl_lex.specs.Part.{Lexes}
-use Rattle.sdl_tree.specs.Canonical.{canonical, canonical_text}
-use Rattle.sdl_tree.specs.Spells.{SpellsTree}
+use Rattle.sdl_tree.specs.Canonical.{canonical, canonical_text, text_of}
+use Rattle.sdl_tree.specs.Erased.{erased}
+use Rattle.sdl_tree.specs.Spells.Expressions.{limit}
 use Rattle.sdl_tree.specs.Tree.{Tree}
 use Rattle.sdl_tree.specs.Words.{words_of}
+use Rattle.sdl_tree.proofs.ErasedLemmas.{erased_once}
 use Rattle.sdl_tree.proofs.WrittenDefinitions.{canonical_spells}
 use Rattle.sdl_parse.specs.declared.error.ParseError.{ParseError}
 use Rattle.sdl_parse.specs.declared.error.ParseError.TheVariants as parser
-use Rattle.sdl_parse.specs.Parser.{SpellsText, HasNoTree, Refuses}
+use Rattle.sdl_parse.specs.Parser.{SpellsText, HasNoTree, IsSame, AlikeSpell, OneTree, Refuses}
 use Rattle.sdl_print.specs.Laws.{CanonicalLexes, CanonicalSpellsAgain, ReadsAgain}
 use Rattle.sdl_print.specs.RoundTrip.{IsCanonicalOf, IsWantOfRoom}
+use Rattle.sdl_print.proofs.CarriedDefinitions.{canonical_writable}
 use Rattle.sdl_print.proofs.ReadLemmas.{words_read, words_known}
-use Rattle.sdl_print.proofs.WritableDefinitions.{canonical_writable}
 
 pub canonical_lexes : CanonicalLexes
 canonical_lexes t text s =
-    words_read (canonical t) (canonical_writable t (words_of text s.0) s.2 (words_known text s.0 s.1))
+    words_read (canonical (erased t)) (canonical_writable limit t (words_of text s.1) s.3 (words_known text s.1 s.2))
 
-pub canonical_spells_again : CanonicalSpellsAgain
-canonical_spells_again t text s =
-    let again = canonical_lexes t text s in
-    (again.0, again.1, subst (SpellsTree t) (sym again.2) (canonical_spells t (words_of text s.0) s.2))
+pub canonical_spells_again : AlikeSpell → CanonicalSpellsAgain
+canonical_spells_again alike t text s =
+    let lexed = canonical_lexes t text s in
+    let again = alike (erased t) (canonical (erased t)) (words_of (canonical_text t) lexed.0) (canonical_spells limit t (words_of text s.1) s.3) lexed.2 in
+    (again.0, (lexed.0, lexed.1, again.1), again.2 ∙ erased_once t)
 
--- the laws of the crates below: a text has one list of tokens, none where a fault stands in it, and one tree
+-- the laws of the lexer: a text has one list of tokens, and none where a fault stands in it
 abbrev pub OneList : Type 0
 OneList = (text : List ℕ) (tokens others : List Token) → Lexes text tokens → Lexes text others → tokens ≡ others
 
 abbrev pub NoList : Type 0
-NoList = (text : List ℕ) (error : LexError) (tokens : List Token) → IsInText error → lexing.Refuses error text → ¬ Lexes text tokens
+NoList = (text : List ℕ) (error : LexError) (tokens : List Token) → faults.IsInText error → faults.Refuses error text → ¬ Lexes text tokens
 
-abbrev pub OneTree : Type 0
-OneTree = (t other : Tree) (text : List ℕ) → SpellsText t text → SpellsText other text → t ≡ other
+module _ (one_list : OneList) (no_list : NoList) (one_tree : OneTree) (alike : AlikeSpell) (t : Tree) (text : List ℕ) (s : SpellsText t text) where
+  spells_this : (u : Tree) → SpellsText u (canonical_text t) → IsSame u t × (canonical_text u ≡ canonical_text t)
+  spells_this u spelled =
+      let again = canonical_spells_again alike t text s in
+      let tree : u ≡ again.0 = one_tree u again.0 (canonical_text t) spelled (spelled.0, again.1.0, again.1.1, again.1.2) in
+      let erases : IsSame u t = ap erased tree ∙ again.2 in
+      (erases, ap (λ e. text_of (canonical e)) erases)
 
-module _ (one_list : OneList) (no_list : NoList) (one_tree : OneTree) where
-  -- a text that spells a tree is not one that has none
-  has_tree : (t : Tree) (text : List ℕ) → SpellsText t text → ¬ HasNoTree text
-  has_tree t text s none =
-      let same = one_list text s.0 none.0 s.1 none.1 in
-      none.2 t (subst (λ tokens. SpellsTree t (words_of text tokens)) same s.2)
+  has_tree : (tokens : List Token) → Lexes (canonical_text t) tokens → HasNoTree (words_of (canonical_text t) tokens) → ⊥
+  has_tree tokens lexes none =
+      let again = canonical_spells_again alike t text s in
+      let F : List Token → Type 0 = λ found. HasNoTree (words_of (canonical_text t) found) in
+      subst F (one_list (canonical_text t) tokens again.1.0 lexes again.1.1) none again.0 again.1.2
 
-  lexer_for_room : (e : LexError) (t : Tree) (text : List ℕ) → SpellsText t text → lexing.Refuses e text → IsWantOfRoom (parser.Lex e)
-  lexer_for_room lexer.TooLong t text s r = inr (inr refl)
-  lexer_for_room (lexer.BadByte p) t text s r = absurd (no_list text (lexer.BadByte p) s.0 tt r s.1)
-  lexer_for_room (lexer.OpenComment p) t text s r = absurd (no_list text (lexer.OpenComment p) s.0 tt r s.1)
-  lexer_for_room (lexer.OpenString p) t text s r = absurd (no_list text (lexer.OpenString p) s.0 tt r s.1)
-  lexer_for_room (lexer.NumberTooBig p) t text s r = absurd (no_list text (lexer.NumberTooBig p) s.0 tt r s.1)
-  lexer_for_room (lexer.NameTooLong p) t text s r = absurd (no_list text (lexer.NameTooLong p) s.0 tt r s.1)
-  lexer_for_room lexer.Memory t text s r = inr (inl refl)
+  in_text : (error : LexError) → faults.IsInText error → faults.Refuses error (canonical_text t) → ⊥
+  in_text error is refuses = let lexed = canonical_lexes t text s in no_list (canonical_text t) error lexed.0 is refuses lexed.1
 
-  -- a text that spells a tree is refused for want of room alone
-  for_room : (e : ParseError) (t : Tree) (text : List ℕ) → SpellsText t text → Refuses e text → IsWantOfRoom e
-  for_room (parser.Lex e) t text s r = lexer_for_room e t text s r
-  for_room (parser.Expected place wanted) t text s none = absurd (has_tree t text s none)
-  for_room (parser.LeftOut place word) t text s none = absurd (has_tree t text s none)
-  for_room (parser.TooDeep place) t text s r = absurd (has_tree t text s r.0)
-  for_room parser.Memory t text s r = inl refl
+  no_fault : (error : LexError) → faults.Refuses error (canonical_text t) → IsWantOfRoom (parser.Lex error)
+  no_fault lexer.TooLong refuses = inr (inr refl)
+  no_fault (lexer.BadByte p) refuses = absurd (in_text (lexer.BadByte p) tt refuses)
+  no_fault (lexer.OpenComment p) refuses = absurd (in_text (lexer.OpenComment p) tt refuses)
+  no_fault (lexer.OpenString p) refuses = absurd (in_text (lexer.OpenString p) tt refuses)
+  no_fault (lexer.NumberTooBig p) refuses = absurd (in_text (lexer.NumberTooBig p) tt refuses)
+  no_fault (lexer.NameTooLong p) refuses = absurd (in_text (lexer.NameTooLong p) tt refuses)
+  no_fault lexer.Memory refuses = inr (inl refl)
 
-  pub reads_again : ReadsAgain
-  reads_again t text s =
-      let again = canonical_spells_again t text s in
-      ((λ other o. one_tree other t (canonical_text t) o again), (λ e r. for_room e t (canonical_text t) again r))
+  is_room : (e : ParseError) → Refuses e (canonical_text t) → IsWantOfRoom e
+  is_room (parser.Lex error) r = no_fault error r
+  is_room (parser.Expected place wanted) r = absurd (has_tree r.1 r.2 r.3)
+  is_room (parser.LeftOut place told) r = let none = r.3 in absurd (has_tree r.1 r.2 none.0)
+  is_room (parser.TooDeep place) r = let none = r.3 in absurd (has_tree r.1 r.2 none.0)
+  is_room parser.Memory r = inl refl
 
--- ---- a canonical text
+pub reads_again : OneList → NoList → OneTree → AlikeSpell → ReadsAgain
+reads_again one_list no_list one_tree alike t text s =
+    (spells_this one_list no_list one_tree alike t text s, is_room one_list no_list one_tree alike t text s)
 
-module _ (again : ReadsAgain) where
-  -- what is read from a canonical text is the tree that it was written from
-  pub settled : (t : Tree) (text source : List ℕ) → IsCanonicalOf text source → SpellsText t text → canonical_text t ≡ text
-  settled t text source c s =
-      let same = (again c.0 source c.1).0 t (subst (SpellsText t) c.2 s) in
-      ap canonical_text same ∙ sym c.2
+-- what is read from a canonical text is written as this text
+pub settled : ReadsAgain → (t : Tree) (text source : List ℕ) → IsCanonicalOf text source → SpellsText t text → canonical_text t ≡ text
+settled laws t text source is spelled =
+    let F : List ℕ → Type 0 = λ again. SpellsText t again in
+    ((laws is.0 source is.1).0 t (subst F is.2 spelled)).1 ∙ sym is.2
 
-  pub readable : (e : ParseError) (text source : List ℕ) → IsCanonicalOf text source → Refuses e text → IsWantOfRoom e
-  readable e text source c r = (again c.0 source c.1).1 e (subst (Refuses e) c.2 r)
+-- and refused for want of room alone
+pub readable : ReadsAgain → (e : ParseError) (text source : List ℕ) → IsCanonicalOf text source → Refuses e text → IsWantOfRoom e
+readable laws e text source is refuses =
+    let F : List ℕ → Type 0 = λ again. Refuses e again in (laws is.0 source is.1).1 e (subst F is.2 refuses)

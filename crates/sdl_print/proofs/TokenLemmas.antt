@@ -1,14 +1,9 @@
 -- Tokens with a blank behind them.
-use Rattle.std.proofs.Common.{◌≡◌, ◌≢◌, refl, sym, ap, ◌∙◌, subst, ℕ, ℤ, ◌+◌, ◌-◌, ◌*◌, ◌/◌, ◌%◌, ◌<◌, ◌≤◌, true, false, ◌&&◌, ⊎_elim, List, [], ◌∷◌, ◌++◌, length, codes, arith, length-append}
+use Rattle.std.proofs.Common.{◌≡◌, ◌≢◌, refl, sym, ap, ◌∙◌, subst, ℕ, ℤ, ◌≤◌, true, false, ◌&&◌, ⊎_elim, List, [], ◌∷◌, ◌++◌, length, codes, arith}
 use Rattle.std.specs.Prelude.{pos, not, ◌==◌}
 use Rattle.std.specs.Char.{is_ascii_digit}
-use Rattle.std.specs.Fmt.{decimal}
 use Rattle.std.specs.List.{list_all}
-use Rattle.std.proofs.lemmas.Bool.{and_parts, and_from, or_cases, both_ways, not-true, false≢true, eqb-true}
-use Rattle.std.proofs.lemmas.Bool.Decides.{nat_tests}
-use Rattle.std.proofs.lemmas.Fmt.{decimal_by_steps}
-use Rattle.std.proofs.lemmas.List.Folds.{list_all-append}
-use Rattle.std.proofs.lemmas.List.Sums.{fold-append}
+use Rattle.std.proofs.lemmas.Bool.{and_parts, or_cases, both_ways, not-true, false≢true, eqb-true}
 use Rattle.sdl_lex.specs.declared.token.Kind.{Kind}
 use Rattle.sdl_lex.specs.declared.token.Kind.TheVariants as kind
 use Rattle.sdl_lex.specs.Byte.{is_among, is_blank, is_word_byte}
@@ -102,38 +97,3 @@ number_part [] n is value small gap after blank = absurd is
 number_part (b ∷ bytes) n is value small gap after blank =
     let two : class b ≡ 2 = Is-class (kind.Number n) b bytes (gap ∷ after) (is, value) in
     ((is, value), no_slash b (bytes ++ gap ∷ after) (other_class b 2 4 two (omega arith)), before_blank b bytes gap after (other_class b 2 3 two (omega arith)) blank, small)
-
--- ---- numbers in decimal
-
--- the digits of a number
-abbrev IsRow : ℕ → List ℕ → Type 0
-IsRow n ds = (list_all is_ascii_digit ds ≡ true) × (0 < length ds) × (lex.decimal ds ≡ n)
-
-digit : (n : ℕ) → n < 10 → is_ascii_digit (48 + n) ≡ true
-digit n h = grind (arith, nat_tests)
-
-row_one : (n : ℕ) → n < 10 → IsRow n ((48 + n) ∷ [])
-row_one n h =
-    let value : 10 * 0 + (48 + n - 48) ≡ n = omega arith in
-    (and_from (is_ascii_digit (48 + n)) true (digit n h) refl, omega arith, value)
-
-row_more : (n : ℕ) (ds : List ℕ) → 10 ≤ n → IsRow (n / 10) ds → IsRow n (ds ++ (48 + n % 10) ∷ [])
-row_more n ds h row =
-    let last : List ℕ = (48 + n % 10) ∷ [] in
-    let small : n % 10 < 10 = omega arith in
-    let value : 10 * lex.decimal ds + (48 + n % 10 - 48) ≡ n = omega (arith, row.2) in (
-      list_all-append is_ascii_digit ds last
-          ∙ and_from (list_all is_ascii_digit ds) (list_all is_ascii_digit last) row.0 (and_from (is_ascii_digit (48 + n % 10)) true (digit (n % 10) small) refl),
-      omega (arith, length-append ds last),
-      fold-append (λ value digit. 10 * value + (digit - 48)) 0 ds last ∙ value,
-    )
-
-are_digits : (ds : List ℕ) → list_all is_ascii_digit ds ≡ true → 0 < length ds → IsDigits ds
-are_digits [] h some = absurd (omega arith)
-are_digits (b ∷ ds) h some = h
-
--- a number in decimal is digits with its value
-pub decimal_digits : (k : ℕ) → k ≤ 9223372036854775807 → IsDigits (decimal k) × (lex.decimal (decimal k) ≡ k)
-decimal_digits k small =
-    let row = decimal_by_steps IsRow row_one row_more k (omega arith) in
-    (are_digits (decimal k) row.0 row.1, row.2)

@@ -1,3 +1,4 @@
+pub mod Form
 pub mod Laws
 pub mod RoundTrip
 pub mod Wrote

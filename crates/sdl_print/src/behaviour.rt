@@ -1,23 +1,34 @@
 //! Transitions: actions, decisions and what ends them.
 
-ghost use Rattle.std.specs.Prelude.{List, OnOk, option_map};
-ghost use Rattle.sdl_tree.specs.Canonical.{assignment_words, destination_words, time_words, clause_words, keys_words, answer_words, label_words, next_state_words, terminator_words, ending_words, transition_words, actions_words, action_words, parts_words, otherwise_words};
-ghost use Rattle.sdl_tree.specs.Tree as plain;
-ghost use Rattle.sdl_tree.specs.Views.{plain_name, plain_expr, plain_assignment, plain_destination, plain_clause, plain_group, plain_answer, plain_next_state, plain_terminator, plain_ending, plain_transition, plain_statements, plain_action, plain_answer_parts, plain_part, else_of};
+ghost use Rattle.std.specs.Prelude.{[], ◌∷◌, OnOk, map, option_map};
+ghost use Rattle.sdl_tree.specs.Canonical.{assignment_words, destination_words, clause_words, keys_words, answer_words, next_state_words, terminator_words, ending_words, transition_words, actions_words, action_words, parts_words, otherwise_words};
+ghost use Rattle.sdl_tree.specs.Erased.{erased_assignment, erased_destination, erased_clause, erased_applied, erased_answer, erased_next_state, erased_terminator, erased_ending, erased_transition, erased_actions, erased_action, erased_parts, erased_otherwise};
+ghost use Rattle.sdl_tree.specs.Tree as tree;
+ghost use Rattle.sdl_tree.specs.Views.{assignment_value, destination_value, clause_value, group_value, answer_value, next_state_value, terminator_value, ending_value, transition_value, statement_value, action_value, answer_part_value};
+ghost use Rattle.sdl_print.specs.Form.{written_as};
 ghost use Rattle.sdl_print.specs.Wrote.{Wrote};
 
-use crate::canonical::{Canonical, optional, separated};
+use crate::canonical::{Canonical, optional, optional_before, separated};
 use crate::text::Text;
 use sdl_tree::{
-    Action, ActionStatement, Answer, AnswerPart, Assignment, Destination, Expression, Mark, Name,
-    NextState, ResetGroup, SetClause, Terminator, TerminatorStatement, Transition,
+    Action, ActionStatement, Answer, AnswerPart, Assignment, Destination, Mark, NextState,
+    ResetGroup, SetClause, Terminator, TerminatorStatement, Transition,
 };
 use std::alloc::AllocError;
 
-/// Writes a transition.
+/// `{[NAME ":"] action} [[NAME ":"] terminator]`
+impl Canonical for Transition {
+    ghost form = { written_as transition_value erased_transition transition_words };
+
+    fn write(&self, text: &mut Text) -> Result<(), AllocError> {
+        transition(text, self)
+    }
+}
+
 #[cycle(transition)]
-pub fn transition(text: &mut Text, transition: &Transition) -> Result<(), AllocError>
-    ensures { OnOk result (Wrote text.old text.new (transition_words (plain_transition transition.now))) }
+fn transition(text: &mut Text, transition: &Transition) -> Result<(), AllocError>
+    ensures { OnOk result (Wrote text.old text.new
+        (transition_words (erased_transition (transition_value transition.now)))) }
 {
     statements(text, &transition.actions)?;
     optional(text, &transition.terminator)
@@ -25,10 +36,11 @@ pub fn transition(text: &mut Text, transition: &Transition) -> Result<(), AllocE
 
 #[cycle(transition)]
 fn statements(text: &mut Text, statements: &[ActionStatement]) -> Result<(), AllocError>
-    ensures { OnOk result (Wrote text.old text.new (actions_words (plain_statements statements.now))) }
+    ensures { OnOk result (Wrote text.old text.new
+        (actions_words (erased_actions (tree.actions_of (map statement_value statements.now))))) }
 {
     for statement in statements {
-        label(text, &statement.label)?;
+        optional_before(text, &statement.label, Mark::Colon)?;
         action(text, &statement.action)?;
     }
     Ok(())
@@ -36,7 +48,7 @@ fn statements(text: &mut Text, statements: &[ActionStatement]) -> Result<(), All
 
 #[cycle(transition)]
 fn action(text: &mut Text, action: &Action) -> Result<(), AllocError>
-    ensures { OnOk result (Wrote text.old text.new (action_words (plain_action action.now))) }
+    ensures { OnOk result (Wrote text.old text.new (action_words (erased_action (action_value action.now)))) }
 {
     match action {
         Action::Task { assignments, .. } => {
@@ -46,12 +58,12 @@ fn action(text: &mut Text, action: &Action) -> Result<(), AllocError>
         }
         Action::Output {
             outputs,
-            destination: to,
+            destination,
             ..
         } => {
             text.mark(Mark::Output)?;
             separated(text, outputs)?;
-            destination(text, to)?;
+            optional(text, destination)?;
             text.mark(Mark::Semicolon)
         }
         Action::Set { clauses, .. } => {
@@ -86,10 +98,11 @@ fn action(text: &mut Text, action: &Action) -> Result<(), AllocError>
     }
 }
 
-// Writes the answers of a decision with their transitions.
+// The answers of a decision with their transitions.
 #[cycle(transition)]
 fn answer_parts(text: &mut Text, parts: &[AnswerPart]) -> Result<(), AllocError>
-    ensures { OnOk result (Wrote text.old text.new (parts_words (plain_answer_parts parts.now))) }
+    ensures { OnOk result (Wrote text.old text.new
+        (parts_words (erased_parts (tree.parts_of (map answer_part_value parts.now))))) }
 {
     for part in parts {
         answer_part(text, part)?;
@@ -99,7 +112,8 @@ fn answer_parts(text: &mut Text, parts: &[AnswerPart]) -> Result<(), AllocError>
 
 #[cycle(transition)]
 fn answer_part(text: &mut Text, part: &AnswerPart) -> Result<(), AllocError>
-    ensures { OnOk result (Wrote text.old text.new (parts_words (plain_part part.now plain.NoPart))) }
+    ensures { OnOk result (Wrote text.old text.new
+        (parts_words (erased_parts (tree.parts_of (answer_part_value part.now ∷ []))))) }
 {
     text.mark(Mark::Open)?;
     separated(text, &part.answers)?;
@@ -111,7 +125,7 @@ fn answer_part(text: &mut Text, part: &AnswerPart) -> Result<(), AllocError>
 #[cycle(transition)]
 fn otherwise(text: &mut Text, otherwise: &Option<Transition>) -> Result<(), AllocError>
     ensures { OnOk result (Wrote text.old text.new
-        (otherwise_words (else_of (option_map plain_transition otherwise.now)))) }
+        (otherwise_words (erased_otherwise (tree.else_of (option_map transition_value otherwise.now))))) }
 {
     match otherwise {
         None => Ok(()),
@@ -123,12 +137,9 @@ fn otherwise(text: &mut Text, otherwise: &Option<Transition>) -> Result<(), Allo
     }
 }
 
+/// `NAME ":=" expr`
 impl Canonical for Assignment {
-    ghost Node = { plain.Assignment };
-
-    ghost plain = { plain_assignment };
-
-    ghost words = { assignment_words };
+    ghost form = { written_as assignment_value erased_assignment assignment_words };
 
     fn write(&self, text: &mut Text) -> Result<(), AllocError> {
         self.variable.write(text)?;
@@ -137,53 +148,31 @@ impl Canonical for Assignment {
     }
 }
 
-fn destination(text: &mut Text, destination: &Option<Destination>) -> Result<(), AllocError>
-    ensures { OnOk result (Wrote text.old text.new
-        (destination_words (option_map plain_destination destination.now))) }
-{
-    match destination {
-        None => Ok(()),
-        Some(receiver) => {
-            text.mark(Mark::To)?;
-            receiver.value.write(text)
-        }
+/// `"to" expr`
+impl Canonical for Destination {
+    ghost form = { written_as destination_value erased_destination destination_words };
+
+    fn write(&self, text: &mut Text) -> Result<(), AllocError> {
+        text.mark(Mark::To)?;
+        self.value.write(text)
     }
 }
 
+/// `"(" [expr ","] NAME [args] ")"`
 impl Canonical for SetClause {
-    ghost Node = { plain.SetClause };
-
-    ghost plain = { plain_clause };
-
-    ghost words = { clause_words };
+    ghost form = { written_as clause_value erased_clause clause_words };
 
     fn write(&self, text: &mut Text) -> Result<(), AllocError> {
         text.mark(Mark::Open)?;
-        due_time(text, &self.time)?;
+        optional_before(text, &self.time, Mark::Comma)?;
         self.timer.write(text)?;
         text.mark(Mark::Close)
     }
 }
 
-fn due_time(text: &mut Text, time: &Option<Expression>) -> Result<(), AllocError>
-    ensures { OnOk result (Wrote text.old text.new (time_words (option_map plain_expr time.now))) }
-{
-    match time {
-        None => Ok(()),
-        Some(time) => {
-            time.write(text)?;
-            text.mark(Mark::Comma)
-        }
-    }
-}
-
-/// The timers of one pair of parentheses.
+/// `"(" NAME [args] {"," NAME [args]} ")"`
 impl Canonical for ResetGroup {
-    ghost Node = { List plain.Applied };
-
-    ghost plain = { plain_group };
-
-    ghost words = { keys_words };
+    ghost form = { written_as group_value (map erased_applied) keys_words };
 
     fn write(&self, text: &mut Text) -> Result<(), AllocError> {
         text.mark(Mark::Open)?;
@@ -192,12 +181,9 @@ impl Canonical for ResetGroup {
     }
 }
 
+/// `expr | expr ":" expr`, or an operator and `expr`
 impl Canonical for Answer {
-    ghost Node = { plain.Answer };
-
-    ghost plain = { plain_answer };
-
-    ghost words = { answer_words };
+    ghost form = { written_as answer_value erased_answer answer_words };
 
     fn write(&self, text: &mut Text) -> Result<(), AllocError> {
         match self {
@@ -219,58 +205,48 @@ impl Canonical for Answer {
     }
 }
 
-fn label(text: &mut Text, label: &Option<Name>) -> Result<(), AllocError>
-    ensures { OnOk result (Wrote text.old text.new (label_words (option_map plain_name label.now))) }
-{
-    match label {
-        None => Ok(()),
-        Some(name) => {
-            name.write(text)?;
-            text.mark(Mark::Colon)
-        }
-    }
-}
-
-/// A terminator with its label.
+/// `[NAME ":"] terminator`
 impl Canonical for TerminatorStatement {
-    ghost Node = { plain.Ending };
-
-    ghost plain = { plain_ending };
-
-    ghost words = { ending_words };
+    ghost form = { written_as ending_value erased_ending ending_words };
 
     fn write(&self, text: &mut Text) -> Result<(), AllocError> {
-        label(text, &self.label)?;
-        terminator(text, &self.terminator)
+        optional_before(text, &self.label, Mark::Colon)?;
+        self.terminator.write(text)
     }
 }
 
-fn terminator(text: &mut Text, terminator: &Terminator) -> Result<(), AllocError>
-    ensures { OnOk result (Wrote text.old text.new (terminator_words (plain_terminator terminator.now))) }
-{
-    match terminator {
-        Terminator::NextState { state, .. } => {
-            text.mark(Mark::NextState)?;
-            next_state(text, state)?;
-            text.mark(Mark::Semicolon)
-        }
-        Terminator::Stop { .. } => {
-            text.mark(Mark::Stop)?;
-            text.mark(Mark::Semicolon)
-        }
-        Terminator::Join { label, .. } => {
-            text.mark(Mark::Join)?;
-            label.write(text)?;
-            text.mark(Mark::Semicolon)
+/// `"nextstate" ("-" | NAME) ";" | "stop" ";" | "join" NAME ";"`
+impl Canonical for Terminator {
+    ghost form = { written_as terminator_value erased_terminator terminator_words };
+
+    fn write(&self, text: &mut Text) -> Result<(), AllocError> {
+        match self {
+            Terminator::NextState { state, .. } => {
+                text.mark(Mark::NextState)?;
+                state.write(text)?;
+                text.mark(Mark::Semicolon)
+            }
+            Terminator::Stop { .. } => {
+                text.mark(Mark::Stop)?;
+                text.mark(Mark::Semicolon)
+            }
+            Terminator::Join { label, .. } => {
+                text.mark(Mark::Join)?;
+                label.write(text)?;
+                text.mark(Mark::Semicolon)
+            }
         }
     }
 }
 
-fn next_state(text: &mut Text, state: &NextState) -> Result<(), AllocError>
-    ensures { OnOk result (Wrote text.old text.new (next_state_words (plain_next_state state.now))) }
-{
-    match state {
-        NextState::Same(_) => text.mark(Mark::Minus),
-        NextState::Named(name) => name.write(text),
+/// `"-" | NAME`
+impl Canonical for NextState {
+    ghost form = { written_as next_state_value erased_next_state next_state_words };
+
+    fn write(&self, text: &mut Text) -> Result<(), AllocError> {
+        match self {
+            NextState::Same(_) => text.mark(Mark::Minus),
+            NextState::Named(name) => name.write(text),
+        }
     }
 }

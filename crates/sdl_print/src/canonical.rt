@@ -1,33 +1,29 @@
 //! What is written as words, and lists of it.
 
-ghost use Rattle.std.specs.Prelude.{OnOk, map, option_map};
+ghost use Rattle.std.specs.Prelude.{OnOk};
 ghost use Rattle.sdl_tree.specs.Canonical as spec;
-ghost use Rattle.sdl_tree.specs.Spells.Parts.{Words};
-ghost use Rattle.sdl_print.specs.Wrote.{Wrote, after_comma};
+ghost use Rattle.sdl_print.specs.Form.{Form, node, nodes, some_node};
+ghost use Rattle.sdl_print.specs.Wrote.{Wrote, after_comma, before, behind};
 
 use crate::text::Text;
 use sdl_tree::Mark;
 use std::alloc::AllocError;
 
-/// A node of the tree that a production of the grammar spells.
+/// A node of the tree that a production of the grammar spells. Nodes that hold nodes of their own kind are written by
+/// functions of one cycle, which the node's `write` calls.
 pub trait Canonical {
-    /// What the grammar speaks of in place of the node.
-    ghost Node: { Type 0 };
-
-    /// The node without its places.
-    ghost plain: { Self → Node };
-
-    /// Its canonical words, before those that come after it.
-    ghost words: { Node → Words → Words };
+    /// As what the nodes are written.
+    ghost form: { Form Self };
 
     /// Writes the node.
     fn write(&self, text: &mut Text) -> Result<(), AllocError>
-        ensures { OnOk result (Wrote text.old text.new (words (plain self.now))) };
+        ensures { OnOk result (Wrote text.old text.new (form.words (node form self.now))) };
 }
 
-/// Writes the items one after the other.
+/// `{x}`
 pub fn repeated<T: Canonical>(text: &mut Text, items: &[T]) -> Result<(), AllocError>
-    ensures { OnOk result (Wrote text.old text.new (spec.repeated T.words (map T.plain items.now))) }
+    ensures { OnOk result (Wrote text.old text.new
+        (spec.repeated T.form.words (nodes T.form items.now))) }
 {
     for item in items {
         item.write(text)?;
@@ -35,10 +31,10 @@ pub fn repeated<T: Canonical>(text: &mut Text, items: &[T]) -> Result<(), AllocE
     Ok(())
 }
 
-// Writes each item with a comma before it.
+// Each item with a comma before it.
 fn after_commas<T: Canonical>(text: &mut Text, items: &[T]) -> Result<(), AllocError>
     ensures { OnOk result (Wrote text.old text.new
-        (spec.repeated (after_comma T.words) (map T.plain items.now))) }
+        (spec.repeated (after_comma T.form.words) (nodes T.form items.now))) }
 {
     for item in items {
         text.mark(Mark::Comma)?;
@@ -47,9 +43,10 @@ fn after_commas<T: Canonical>(text: &mut Text, items: &[T]) -> Result<(), AllocE
     Ok(())
 }
 
-/// Writes the items with commas between them.
+/// `x {"," x}`
 pub fn separated<T: Canonical>(text: &mut Text, items: &[T]) -> Result<(), AllocError>
-    ensures { OnOk result (Wrote text.old text.new (spec.separated T.words (map T.plain items.now))) }
+    ensures { OnOk result (Wrote text.old text.new
+        (spec.separated T.form.words (nodes T.form items.now))) }
 {
     match items {
         [] => Ok(()),
@@ -60,28 +57,66 @@ pub fn separated<T: Canonical>(text: &mut Text, items: &[T]) -> Result<(), Alloc
     }
 }
 
-/// Writes the items in parentheses, and nothing where there are none.
+/// `["(" x {"," x} ")"]`: nothing where there are no items.
+#[tactic(auto, using(crate::proofs::ListLemmas::parenthesized))]
 pub fn in_parentheses<T: Canonical>(text: &mut Text, items: &[T]) -> Result<(), AllocError>
     ensures { OnOk result (Wrote text.old text.new
-        (spec.in_parentheses T.words (map T.plain items.now))) }
+        (spec.in_parentheses T.form.words (nodes T.form items.now))) }
 {
     match items {
         [] => Ok(()),
         [_, ..] => {
             text.mark(Mark::Open)?;
             separated(text, items)?;
-            text.mark(Mark::Close)
+            text.mark(Mark::Close)?;
+            Ok(())
         }
     }
 }
 
-/// Writes the item, where there is one.
+/// `[x]`
 pub fn optional<T: Canonical>(text: &mut Text, item: &Option<T>) -> Result<(), AllocError>
     ensures { OnOk result (Wrote text.old text.new
-        (spec.optional T.words (option_map T.plain item.now))) }
+        (spec.optional T.form.words (some_node T.form item.now))) }
 {
     match item {
         None => Ok(()),
         Some(item) => item.write(text),
+    }
+}
+
+/// `[x MARK]`
+pub fn optional_before<T: Canonical>(
+    text: &mut Text,
+    item: &Option<T>,
+    mark: Mark,
+) -> Result<(), AllocError>
+    ensures { OnOk result (Wrote text.old text.new
+        (spec.optional (before T.form.words mark) (some_node T.form item.now))) }
+{
+    match item {
+        None => Ok(()),
+        Some(item) => {
+            item.write(text)?;
+            text.mark(mark)
+        }
+    }
+}
+
+/// `[MARK x]`
+pub fn optional_behind<T: Canonical>(
+    text: &mut Text,
+    mark: Mark,
+    item: &Option<T>,
+) -> Result<(), AllocError>
+    ensures { OnOk result (Wrote text.old text.new
+        (spec.optional (behind mark T.form.words) (some_node T.form item.now))) }
+{
+    match item {
+        None => Ok(()),
+        Some(item) => {
+            text.mark(mark)?;
+            item.write(text)
+        }
     }
 }

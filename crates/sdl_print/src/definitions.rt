@@ -1,101 +1,102 @@
 //! What systems, blocks and processes define.
 
-ghost use Rattle.std.specs.Prelude.{OnOk, map, option_map};
-ghost use Rattle.sdl_tree.specs.Canonical.{signal_words, signals_words, signal_list_words, synonym_words, synonyms_words, point_words, path_words, no_delay_words, channel_words, initial_words, variables_words, timer_words, local_words, definition_words, block_part_words, block_words, system_definition_words};
-ghost use Rattle.sdl_tree.specs.Tree as plain;
-ghost use Rattle.sdl_tree.specs.Views.{plain_expr, plain_signal, plain_signal_list, plain_synonym, plain_synonyms, plain_signal_set, plain_connection, plain_variables, plain_timer, plain_timers, plain_local, plain_end, plain_path, plain_channel, plain_definition, plain_block_part, plain_block, plain_system_definition};
+ghost use Rattle.std.specs.Prelude.{OnOk, map};
+ghost use Rattle.sdl_tree.specs.Canonical.{signal_words, signals_words, signal_list_words, synonym_words, synonyms_words, point_words, path_words, no_delay_words, channel_words, variables_words, timer_words, timers_words, signal_set_words, local_words, connect_words, definition_words, block_part_words, block_words, system_definition_words};
+ghost use Rattle.sdl_tree.specs.Erased.{erased_signal, erased_signal_list, erased_synonym, erased_synonyms, erased_end, erased_path, erased_channel, erased_variables, erased_timer, erased_timers, erased_signal_set, erased_local, erased_connection, erased_definition, erased_block_part, erased_block, erased_system_definition};
+ghost use Rattle.sdl_tree.specs.Views.{signal_value, signal_list_value, synonym_value, synonyms_value, end_value, path_value, channel_value, variables_value, timer_value, timers_value, signal_set_value, local_value, connection_value, definition_value, block_part_value, block_value, system_definition_value};
+ghost use Rattle.sdl_print.specs.Form.{written_as};
 ghost use Rattle.sdl_print.specs.Wrote.{Wrote};
 
-use crate::canonical::{Canonical, in_parentheses, optional, repeated, separated};
-use crate::process::process;
+use crate::canonical::{Canonical, in_parentheses, optional, optional_behind, repeated, separated};
 use crate::text::Text;
 use sdl_tree::{
     BlockDefinition, BlockPart, ChannelConnection, ChannelDefinition, ChannelEnd, ChannelPath,
-    Definition, Expression, LocalDefinition, Mark, SignalDefinition, SignalListDefinition,
-    SignalSet, SynonymDefinition, SynonymDefinitions, SystemDefinition, TimerDefinition,
-    TimerDefinitions, VariableGroup,
+    Definition, LocalDefinition, Mark, SignalDefinition, SignalListDefinition, SignalSet,
+    SynonymDefinition, SynonymDefinitions, SystemDefinition, TimerDefinition, TimerDefinitions,
+    VariableGroup,
 };
 use std::alloc::AllocError;
 
+/// `def | block`
 impl Canonical for SystemDefinition {
-    ghost Node = { plain.SystemDefinition };
-
-    ghost plain = { plain_system_definition };
-
-    ghost words = { system_definition_words };
+    ghost form = { written_as system_definition_value erased_system_definition system_definition_words };
 
     fn write(&self, text: &mut Text) -> Result<(), AllocError> {
         match self {
-            SystemDefinition::Shared(shared) => definition(text, shared),
-            SystemDefinition::Block(inner) => block(text, inner),
+            SystemDefinition::Shared(definition) => definition.write(text),
+            SystemDefinition::Block(block) => block.write(text),
         }
     }
 }
 
-fn block(text: &mut Text, block: &BlockDefinition) -> Result<(), AllocError>
-    ensures { OnOk result (Wrote text.old text.new (block_words (plain_block block.now))) }
-{
-    text.mark(Mark::Block)?;
-    block.name.write(text)?;
-    text.mark(Mark::Semicolon)?;
-    repeated(text, &block.definitions)?;
-    text.mark(Mark::EndBlock)?;
-    block.name.write(text)?;
-    text.mark(Mark::Semicolon)
+/// `"block" NAME ";" {def | connect} "endblock" NAME ";"`
+impl Canonical for BlockDefinition {
+    ghost form = { written_as block_value erased_block block_words };
+
+    fn write(&self, text: &mut Text) -> Result<(), AllocError> {
+        text.mark(Mark::Block)?;
+        self.name.write(text)?;
+        text.mark(Mark::Semicolon)?;
+        repeated(text, &self.definitions)?;
+        text.mark(Mark::EndBlock)?;
+        self.name.write(text)?;
+        text.mark(Mark::Semicolon)
+    }
 }
 
+/// `def | connect`
 impl Canonical for BlockPart {
-    ghost Node = { plain.BlockPart };
-
-    ghost plain = { plain_block_part };
-
-    ghost words = { block_part_words };
+    ghost form = { written_as block_part_value erased_block_part block_part_words };
 
     fn write(&self, text: &mut Text) -> Result<(), AllocError> {
         match self {
-            BlockPart::Shared(shared) => definition(text, shared),
-            BlockPart::Connect(joined) => connect(text, joined),
+            BlockPart::Shared(definition) => definition.write(text),
+            BlockPart::Connect(connection) => connection.write(text),
         }
     }
 }
 
-fn connect(text: &mut Text, connection: &ChannelConnection) -> Result<(), AllocError>
-    ensures { OnOk result (Wrote text.old text.new
-        (block_part_words (plain_connection connection.now))) }
-{
-    text.mark(Mark::Connect)?;
-    separated(text, &connection.outer)?;
-    text.mark(Mark::And)?;
-    separated(text, &connection.inner)?;
-    text.mark(Mark::Semicolon)
-}
+/// `"connect" NAME {"," NAME} "and" NAME {"," NAME} ";"`
+impl Canonical for ChannelConnection {
+    ghost form = { written_as connection_value erased_connection connect_words };
 
-fn definition(text: &mut Text, definition: &Definition) -> Result<(), AllocError>
-    ensures { OnOk result (Wrote text.old text.new (definition_words (plain_definition definition.now))) }
-{
-    match definition {
-        Definition::Signals(defined) => signals(text, defined),
-        Definition::SignalList(defined) => signal_list(text, defined),
-        Definition::Synonyms(defined) => synonyms(text, defined),
-        Definition::Channel(defined) => channel(text, defined),
-        Definition::Process(defined) => process(text, defined),
+    fn write(&self, text: &mut Text) -> Result<(), AllocError> {
+        text.mark(Mark::Connect)?;
+        separated(text, &self.outer)?;
+        text.mark(Mark::And)?;
+        separated(text, &self.inner)?;
+        text.mark(Mark::Semicolon)
     }
 }
 
+/// `def = signal | signallist | synonym | channel | process`
+impl Canonical for Definition {
+    ghost form = { written_as definition_value erased_definition definition_words };
+
+    fn write(&self, text: &mut Text) -> Result<(), AllocError> {
+        match self {
+            Definition::Signals(defined) => signals(text, defined),
+            Definition::SignalList(list) => list.write(text),
+            Definition::Synonyms(synonyms) => synonyms.write(text),
+            Definition::Channel(channel) => channel.write(text),
+            Definition::Process(process) => process.write(text),
+        }
+    }
+}
+
+// The signals that one `signal` defines, for which the tree has no node of their own.
 fn signals(text: &mut Text, signals: &[SignalDefinition]) -> Result<(), AllocError>
-    ensures { OnOk result (Wrote text.old text.new (signals_words (map plain_signal signals.now))) }
+    ensures { OnOk result (Wrote text.old text.new
+        (signals_words (map erased_signal (map signal_value signals.now)))) }
 {
     text.mark(Mark::Signal)?;
     separated(text, signals)?;
     text.mark(Mark::Semicolon)
 }
 
+/// `NAME ["(" NAME {"," NAME} ")"]`
 impl Canonical for SignalDefinition {
-    ghost Node = { plain.SignalDefinition };
-
-    ghost plain = { plain_signal };
-
-    ghost words = { signal_words };
+    ghost form = { written_as signal_value erased_signal signal_words };
 
     fn write(&self, text: &mut Text) -> Result<(), AllocError> {
         self.name.write(text)?;
@@ -103,30 +104,33 @@ impl Canonical for SignalDefinition {
     }
 }
 
-fn signal_list(text: &mut Text, list: &SignalListDefinition) -> Result<(), AllocError>
-    ensures { OnOk result (Wrote text.old text.new (signal_list_words (plain_signal_list list.now))) }
-{
-    text.mark(Mark::SignalList)?;
-    list.name.write(text)?;
-    text.mark(Mark::Equal)?;
-    separated(text, &list.items)?;
-    text.mark(Mark::Semicolon)
+/// `"signallist" NAME "=" sig {"," sig} ";"`
+impl Canonical for SignalListDefinition {
+    ghost form = { written_as signal_list_value erased_signal_list signal_list_words };
+
+    fn write(&self, text: &mut Text) -> Result<(), AllocError> {
+        text.mark(Mark::SignalList)?;
+        self.name.write(text)?;
+        text.mark(Mark::Equal)?;
+        separated(text, &self.items)?;
+        text.mark(Mark::Semicolon)
+    }
 }
 
-fn synonyms(text: &mut Text, defined: &SynonymDefinitions) -> Result<(), AllocError>
-    ensures { OnOk result (Wrote text.old text.new (synonyms_words (plain_synonyms defined.now))) }
-{
-    text.mark(Mark::Synonym)?;
-    separated(text, &defined.synonyms)?;
-    text.mark(Mark::Semicolon)
+/// `"synonym" one {"," one} ";"`
+impl Canonical for SynonymDefinitions {
+    ghost form = { written_as synonyms_value erased_synonyms synonyms_words };
+
+    fn write(&self, text: &mut Text) -> Result<(), AllocError> {
+        text.mark(Mark::Synonym)?;
+        separated(text, &self.synonyms)?;
+        text.mark(Mark::Semicolon)
+    }
 }
 
+/// `NAME NAME "=" expr`
 impl Canonical for SynonymDefinition {
-    ghost Node = { plain.SynonymDefinition };
-
-    ghost plain = { plain_synonym };
-
-    ghost words = { synonym_words };
+    ghost form = { written_as synonym_value erased_synonym synonym_words };
 
     fn write(&self, text: &mut Text) -> Result<(), AllocError> {
         self.name.write(text)?;
@@ -136,19 +140,23 @@ impl Canonical for SynonymDefinition {
     }
 }
 
-fn channel(text: &mut Text, channel: &ChannelDefinition) -> Result<(), AllocError>
-    ensures { OnOk result (Wrote text.old text.new (channel_words (plain_channel channel.now))) }
-{
-    text.mark(Mark::Channel)?;
-    channel.name.write(text)?;
-    nodelay(text, channel.is_nodelay)?;
-    channel.first.write(text)?;
-    optional(text, &channel.second)?;
-    text.mark(Mark::EndChannel)?;
-    channel.name.write(text)?;
-    text.mark(Mark::Semicolon)
+/// `"channel" NAME ["nodelay"] path [path] "endchannel" NAME ";"`
+impl Canonical for ChannelDefinition {
+    ghost form = { written_as channel_value erased_channel channel_words };
+
+    fn write(&self, text: &mut Text) -> Result<(), AllocError> {
+        text.mark(Mark::Channel)?;
+        self.name.write(text)?;
+        nodelay(text, self.is_nodelay)?;
+        self.first.write(text)?;
+        optional(text, &self.second)?;
+        text.mark(Mark::EndChannel)?;
+        self.name.write(text)?;
+        text.mark(Mark::Semicolon)
+    }
 }
 
+// `["nodelay"]`
 fn nodelay(text: &mut Text, is_nodelay: bool) -> Result<(), AllocError>
     ensures { OnOk result (Wrote text.old text.new (no_delay_words is_nodelay)) }
 {
@@ -159,112 +167,93 @@ fn nodelay(text: &mut Text, is_nodelay: bool) -> Result<(), AllocError>
     }
 }
 
+/// `"from" point "to" point "with" sig {"," sig} ";"`
 impl Canonical for ChannelPath {
-    ghost Node = { plain.ChannelPath };
-
-    ghost plain = { plain_path };
-
-    ghost words = { path_words };
+    ghost form = { written_as path_value erased_path path_words };
 
     fn write(&self, text: &mut Text) -> Result<(), AllocError> {
         text.mark(Mark::From)?;
-        channel_end(text, &self.from)?;
+        self.from.write(text)?;
         text.mark(Mark::To)?;
-        channel_end(text, &self.to)?;
+        self.to.write(text)?;
         text.mark(Mark::With)?;
         separated(text, &self.signals)?;
         text.mark(Mark::Semicolon)
     }
 }
 
-fn channel_end(text: &mut Text, end: &ChannelEnd) -> Result<(), AllocError>
-    ensures { OnOk result (Wrote text.old text.new (point_words (plain_end end.now))) }
-{
-    match end {
-        ChannelEnd::Env(_) => text.mark(Mark::Env),
-        ChannelEnd::Agent(name) => name.write(text),
+/// `"env" | NAME`
+impl Canonical for ChannelEnd {
+    ghost form = { written_as end_value erased_end point_words };
+
+    fn write(&self, text: &mut Text) -> Result<(), AllocError> {
+        match self {
+            ChannelEnd::Env(_) => text.mark(Mark::Env),
+            ChannelEnd::Agent(name) => name.write(text),
+        }
     }
 }
 
-/// What a process defines for itself.
+/// `signal | signallist | synonym | signalset | dcl | timer`: what a process defines for itself.
 impl Canonical for LocalDefinition {
-    ghost Node = { plain.LocalDefinition };
-
-    ghost plain = { plain_local };
-
-    ghost words = { local_words };
+    ghost form = { written_as local_value erased_local local_words };
 
     fn write(&self, text: &mut Text) -> Result<(), AllocError> {
         match self {
             LocalDefinition::Signals(defined) => signals(text, defined),
-            LocalDefinition::SignalList(defined) => signal_list(text, defined),
-            LocalDefinition::Synonyms(defined) => synonyms(text, defined),
-            LocalDefinition::SignalSet(received) => signal_set(text, received),
+            LocalDefinition::SignalList(list) => list.write(text),
+            LocalDefinition::Synonyms(synonyms) => synonyms.write(text),
+            LocalDefinition::SignalSet(received) => received.write(text),
             LocalDefinition::Variables(groups) => {
                 text.mark(Mark::Dcl)?;
                 separated(text, groups)?;
                 text.mark(Mark::Semicolon)
             }
-            LocalDefinition::Timers(defined) => timers(text, defined),
+            LocalDefinition::Timers(timers) => timers.write(text),
         }
     }
 }
 
-fn signal_set(text: &mut Text, received: &SignalSet) -> Result<(), AllocError>
-    ensures { OnOk result (Wrote text.old text.new
-        (local_words (plain.SignalSet (plain_signal_set received.now)))) }
-{
-    text.mark(Mark::SignalSet)?;
-    separated(text, &received.items)?;
-    text.mark(Mark::Semicolon)
+/// `"signalset" sig {"," sig} ";"`
+impl Canonical for SignalSet {
+    ghost form = { written_as signal_set_value erased_signal_set signal_set_words };
+
+    fn write(&self, text: &mut Text) -> Result<(), AllocError> {
+        text.mark(Mark::SignalSet)?;
+        separated(text, &self.items)?;
+        text.mark(Mark::Semicolon)
+    }
 }
 
-fn timers(text: &mut Text, defined: &TimerDefinitions) -> Result<(), AllocError>
-    ensures { OnOk result (Wrote text.old text.new
-        (local_words (plain.Timers (plain_timers defined.now)))) }
-{
-    text.mark(Mark::Timer)?;
-    separated(text, &defined.timers)?;
-    text.mark(Mark::Semicolon)
-}
-
+/// `NAME {"," NAME} NAME [":=" expr]`: variables of one sort.
 impl Canonical for VariableGroup {
-    ghost Node = { plain.VariableGroup };
-
-    ghost plain = { plain_variables };
-
-    ghost words = { variables_words };
+    ghost form = { written_as variables_value erased_variables variables_words };
 
     fn write(&self, text: &mut Text) -> Result<(), AllocError> {
         separated(text, &self.names)?;
         self.sort.write(text)?;
-        initial(text, &self.initial)
+        optional_behind(text, Mark::Assign, &self.initial)
     }
 }
 
+/// `"timer" one {"," one} ";"`
+impl Canonical for TimerDefinitions {
+    ghost form = { written_as timers_value erased_timers timers_words };
+
+    fn write(&self, text: &mut Text) -> Result<(), AllocError> {
+        text.mark(Mark::Timer)?;
+        separated(text, &self.timers)?;
+        text.mark(Mark::Semicolon)
+    }
+}
+
+/// `NAME ["(" NAME {"," NAME} ")"] [":=" expr]`
 impl Canonical for TimerDefinition {
-    ghost Node = { plain.TimerDefinition };
-
-    ghost plain = { plain_timer };
-
-    ghost words = { timer_words };
+    ghost form = { written_as timer_value erased_timer timer_words };
 
     fn write(&self, text: &mut Text) -> Result<(), AllocError> {
         self.name.write(text)?;
         in_parentheses(text, &self.sorts)?;
-        initial(text, &self.duration)
-    }
-}
-
-// Writes the value that a variable has at first, or the default duration of a timer.
-fn initial(text: &mut Text, initial: &Option<Expression>) -> Result<(), AllocError>
-    ensures { OnOk result (Wrote text.old text.new (initial_words (option_map plain_expr initial.now))) }
-{
-    match initial {
-        None => Ok(()),
-        Some(value) => {
-            text.mark(Mark::Assign)?;
-            value.write(text)
-        }
+        optional_behind(text, Mark::Assign, &self.duration)
     }
 }

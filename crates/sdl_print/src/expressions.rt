@@ -1,22 +1,21 @@
 //! Expressions.
 
-ghost use Rattle.std.specs.Prelude.{OnOk};
-ghost use Rattle.sdl_tree.specs.Canonical.{expr_words, args_words, applied_words};
-ghost use Rattle.sdl_tree.specs.Tree as plain;
-ghost use Rattle.sdl_tree.specs.Views.{plain_expr, plain_chain, plain_exprs, plain_applied};
+ghost use Rattle.std.specs.Prelude.{OnOk, map};
+ghost use Rattle.sdl_tree.specs.Canonical.{expr_words, values_words, applied_words};
+ghost use Rattle.sdl_tree.specs.Erased.{erased_expr, erased_exprs, erased_applied};
+ghost use Rattle.sdl_tree.specs.Tree as tree;
+ghost use Rattle.sdl_tree.specs.Views.{expr_value, chain_value, applied_value};
+ghost use Rattle.sdl_print.specs.Form.{written_as};
 ghost use Rattle.sdl_print.specs.Wrote.{Wrote};
 
-use crate::canonical::Canonical;
+use crate::canonical::{Canonical, in_parentheses};
 use crate::text::Text;
 use sdl_tree::{Applied, Chain, Expression, Mark};
 use std::alloc::AllocError;
 
+/// `expr`
 impl Canonical for Expression {
-    ghost Node = { plain.Expr };
-
-    ghost plain = { plain_expr };
-
-    ghost words = { expr_words };
+    ghost form = { written_as expr_value erased_expr expr_words };
 
     fn write(&self, text: &mut Text) -> Result<(), AllocError> {
         expression(text, self)
@@ -25,17 +24,21 @@ impl Canonical for Expression {
 
 #[cycle(expression)]
 fn expression(text: &mut Text, expression: &Expression) -> Result<(), AllocError>
-    ensures { OnOk result (Wrote text.old text.new (expr_words (plain_expr expression.now))) }
+    ensures { OnOk result (Wrote text.old text.new (expr_words (erased_expr (expr_value expression.now)))) }
 {
     match expression {
         Expression::Number(number) => number.write(text),
         Expression::Name(name) => name.write(text),
         Expression::Keyword { value, .. } => text.mark(value.mark()),
-        Expression::Active { timer, values, .. } => {
+        Expression::Active {
+            timer,
+            values: listed,
+            ..
+        } => {
             text.mark(Mark::Active)?;
             text.mark(Mark::Open)?;
             timer.write(text)?;
-            arguments(text, values)?;
+            values(text, listed)?;
             text.mark(Mark::Close)
         }
         Expression::Parenthesized { inner, .. } => {
@@ -55,10 +58,10 @@ fn expression(text: &mut Text, expression: &Expression) -> Result<(), AllocError
     }
 }
 
-// Writes the operands of a chain with the operators between them.
+// The operands of a chain with the operators between them.
 #[cycle(expression)]
 fn chain(text: &mut Text, chain: &Chain) -> Result<(), AllocError>
-    ensures { OnOk result (Wrote text.old text.new (expr_words (plain_chain chain.now))) }
+    ensures { OnOk result (Wrote text.old text.new (expr_words (erased_expr (chain_value chain.now)))) }
 {
     expression(text, &chain.first)?;
     for link in &chain.rest {
@@ -68,10 +71,11 @@ fn chain(text: &mut Text, chain: &Chain) -> Result<(), AllocError>
     Ok(())
 }
 
-// Writes values in parentheses, and nothing where there are none.
+// The values of a timer in parentheses, and nothing where there are none.
 #[cycle(expression)]
-fn arguments(text: &mut Text, values: &[Expression]) -> Result<(), AllocError>
-    ensures { OnOk result (Wrote text.old text.new (args_words (plain_exprs values.now))) }
+fn values(text: &mut Text, values: &[Expression]) -> Result<(), AllocError>
+    ensures { OnOk result (Wrote text.old text.new
+        (values_words (erased_exprs (tree.exprs_of (map expr_value values.now))))) }
 {
     match values {
         [] => Ok(()),
@@ -87,16 +91,12 @@ fn arguments(text: &mut Text, values: &[Expression]) -> Result<(), AllocError>
     }
 }
 
-/// A name with the values in parentheses behind it.
+/// `NAME ["(" expr {"," expr} ")"]`: a signal that is sent, a timer, or a process that is created.
 impl Canonical for Applied {
-    ghost Node = { plain.Applied };
-
-    ghost plain = { plain_applied };
-
-    ghost words = { applied_words };
+    ghost form = { written_as applied_value erased_applied applied_words };
 
     fn write(&self, text: &mut Text) -> Result<(), AllocError> {
         self.name.write(text)?;
-        arguments(text, &self.values)
+        in_parentheses(text, &self.values)
     }
 }

@@ -3,7 +3,7 @@
 //! `print` writes the words of a tree with one blank between two, and a line end instead of it after each `;`.
 //! What it writes is exactly the canonical text, which `specs/Canonical` of `sdl_tree` defines. `canonicalize` reads a
 //! text and prints its tree. The canonical text of a tree that some text spells is read as this tree again, but for
-//! places: `reads_again`.
+//! places and spellings: `reads_again`.
 #![tactic(auto)]
 
 mod behaviour;

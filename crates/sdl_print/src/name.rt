@@ -1,22 +1,19 @@
 //! Names and numbers.
 
-ghost use Rattle.std.specs.Prelude.{ℤ, Option, option_map};
-ghost use Rattle.sdl_tree.specs.Canonical.{name_words, optional};
-ghost use Rattle.sdl_tree.specs.Tree as plain;
-ghost use Rattle.sdl_tree.specs.Views.{plain_name, plain_sort};
-ghost use Rattle.sdl_print.specs.Wrote.{number_words};
+ghost use Rattle.std.specs.Prelude.{option_map};
+ghost use Rattle.sdl_tree.specs.Canonical.{name_words, number_words, optional};
+ghost use Rattle.sdl_tree.specs.Erased.{erased_name, erased_sort, erased_number};
+ghost use Rattle.sdl_tree.specs.Views.{name_value, sort_value, number_value};
+ghost use Rattle.sdl_print.specs.Form.{written_as};
 
 use crate::canonical::Canonical;
 use crate::text::Text;
 use sdl_tree::{Name, Number, SortName};
 use std::alloc::AllocError;
 
+/// `NAME`, as it is spelled
 impl Canonical for Name {
-    ghost Node = { plain.Name };
-
-    ghost plain = { plain_name };
-
-    ghost words = { name_words };
+    ghost form = { written_as name_value erased_name name_words };
 
     fn write(&self, text: &mut Text) -> Result<(), AllocError> {
         text.word(self.text.as_str())
@@ -25,11 +22,7 @@ impl Canonical for Name {
 
 /// `PId` is written `Pid`.
 impl Canonical for SortName {
-    ghost Node = { plain.Name };
-
-    ghost plain = { plain_sort };
-
-    ghost words = { name_words };
+    ghost form = { written_as sort_value erased_sort name_words };
 
     fn write(&self, text: &mut Text) -> Result<(), AllocError> {
         text.word(self.text())
@@ -38,11 +31,7 @@ impl Canonical for SortName {
 
 /// A variable in an input, where a value is kept.
 impl Canonical for Option<Name> {
-    ghost Node = { Option plain.Name };
-
-    ghost plain = { option_map plain_name };
-
-    ghost words = { optional name_words };
+    ghost form = { written_as (option_map name_value) (option_map erased_name) (optional name_words) };
 
     fn write(&self, text: &mut Text) -> Result<(), AllocError> {
         match self {
@@ -54,14 +43,10 @@ impl Canonical for Option<Name> {
 
 /// In decimal, by its value.
 impl Canonical for Number {
-    ghost Node = { ℤ };
+    ghost form = { written_as number_value erased_number number_words };
 
-    ghost plain = { λ n. n.value };
-
-    ghost words = { number_words };
-
-    #[tactic(auto, unfolding(crate::specs::Wrote::followed_by))]
     fn write(&self, text: &mut Text) -> Result<(), AllocError> {
-        write!(text.written, "{} ", self.value)
+        text.number(self.value)?;
+        Ok(())
     }
 }

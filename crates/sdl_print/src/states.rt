@@ -1,13 +1,14 @@
 //! States, and what begins their transitions.
 
 ghost use Rattle.std.specs.Prelude.{OnOk, option_map};
+ghost use Rattle.sdl_tree.specs.Canonical as canonical;
 ghost use Rattle.sdl_tree.specs.Canonical.{start_words, sig_words, in1_words, ins_words, saved_words, condition_words, priority_words, stimulus_words, states_words, body_part_words};
-ghost use Rattle.sdl_tree.specs.Tree as plain;
-ghost use Rattle.sdl_tree.specs.Views.{plain_condition, plain_transition, plain_item, plain_input, plain_inputs, plain_saved, plain_stimulus, plain_states, plain_body_part};
+ghost use Rattle.sdl_tree.specs.Erased.{erased_number, erased_start, erased_item, erased_input, erased_inputs, erased_saved, erased_condition, erased_stimulus, erased_states, erased_body_part};
+ghost use Rattle.sdl_tree.specs.Views.{number_value, start_value, item_value, input_value, inputs_value, saved_value, condition_value, stimulus_value, states_value, body_part_value};
+ghost use Rattle.sdl_print.specs.Form.{written_as};
 ghost use Rattle.sdl_print.specs.Wrote.{Wrote};
 
-use crate::behaviour::transition;
-use crate::canonical::{Canonical, in_parentheses, repeated, separated};
+use crate::canonical::{Canonical, in_parentheses, optional, repeated, separated};
 use crate::text::Text;
 use sdl_tree::{
     BodyPart, ContinuousSignal, EnablingCondition, FreeAction, Input, InputPart, Inputs, Mark,
@@ -15,21 +16,20 @@ use sdl_tree::{
 };
 use std::alloc::AllocError;
 
-/// Writes the start transition.
-pub fn start(text: &mut Text, start: &Start) -> Result<(), AllocError>
-    ensures { OnOk result (Wrote text.old text.new (start_words (plain_transition start.now.transition))) }
-{
-    text.mark(Mark::Start)?;
-    text.mark(Mark::Semicolon)?;
-    transition(text, &start.transition)
+/// `"start" ";" trans`
+impl Canonical for Start {
+    ghost form = { written_as start_value erased_start start_words };
+
+    fn write(&self, text: &mut Text) -> Result<(), AllocError> {
+        text.mark(Mark::Start)?;
+        text.mark(Mark::Semicolon)?;
+        self.transition.write(text)
+    }
 }
 
+/// `state | connection`
 impl Canonical for BodyPart {
-    ghost Node = { plain.BodyPart };
-
-    ghost plain = { plain_body_part };
-
-    ghost words = { body_part_words };
+    ghost form = { written_as body_part_value erased_body_part body_part_words };
 
     fn write(&self, text: &mut Text) -> Result<(), AllocError> {
         match self {
@@ -39,48 +39,51 @@ impl Canonical for BodyPart {
     }
 }
 
+// `"state" states ";" {stimulus} "endstate" ";"`
 fn state_part(text: &mut Text, part: &StatePart) -> Result<(), AllocError>
     ensures { OnOk result (Wrote text.old text.new
-        (body_part_words (plain_body_part (BodyPart.State part.now)))) }
+        (body_part_words (erased_body_part (body_part_value (BodyPart.State part.now))))) }
 {
     text.mark(Mark::State)?;
-    states(text, &part.states)?;
+    part.states.write(text)?;
     text.mark(Mark::Semicolon)?;
     repeated(text, &part.stimuli)?;
     text.mark(Mark::EndState)?;
     text.mark(Mark::Semicolon)
 }
 
+// `"connection" NAME ":" trans "endconnection" ";"`
 fn free_action(text: &mut Text, action: &FreeAction) -> Result<(), AllocError>
     ensures { OnOk result (Wrote text.old text.new
-        (body_part_words (plain_body_part (BodyPart.FreeAction action.now)))) }
+        (body_part_words (erased_body_part (body_part_value (BodyPart.FreeAction action.now))))) }
 {
     text.mark(Mark::Connection)?;
     action.label.write(text)?;
     text.mark(Mark::Colon)?;
-    transition(text, &action.transition)?;
+    action.transition.write(text)?;
     text.mark(Mark::EndConnection)?;
     text.mark(Mark::Semicolon)
 }
 
-fn states(text: &mut Text, states: &States) -> Result<(), AllocError>
-    ensures { OnOk result (Wrote text.old text.new (states_words (plain_states states.now))) }
-{
-    match states {
-        States::Named(names) => separated(text, names),
-        States::All { except, .. } => {
-            text.mark(Mark::Asterisk)?;
-            in_parentheses(text, except)
+/// `NAME {"," NAME} | "*" ["(" NAME {"," NAME} ")"]`
+impl Canonical for States {
+    ghost form = { written_as states_value erased_states states_words };
+
+    fn write(&self, text: &mut Text) -> Result<(), AllocError> {
+        match self {
+            States::Named(names) => separated(text, names)?,
+            States::All { except, .. } => {
+                text.mark(Mark::Asterisk)?;
+                in_parentheses(text, except)?;
+            }
         }
+        Ok(())
     }
 }
 
+/// `input | priority | save | provided`
 impl Canonical for Stimulus {
-    ghost Node = { plain.Stimulus };
-
-    ghost plain = { plain_stimulus };
-
-    ghost words = { stimulus_words };
+    ghost form = { written_as stimulus_value erased_stimulus stimulus_words };
 
     fn write(&self, text: &mut Text) -> Result<(), AllocError> {
         match self {
@@ -92,63 +95,68 @@ impl Canonical for Stimulus {
     }
 }
 
+// `"input" ins ";" ["provided" expr ";"] trans`
 fn input_part(text: &mut Text, part: &InputPart) -> Result<(), AllocError>
     ensures { OnOk result (Wrote text.old text.new
-        (stimulus_words (plain_stimulus (Stimulus.Input part.now)))) }
+        (stimulus_words (erased_stimulus (stimulus_value (Stimulus.Input part.now))))) }
 {
     text.mark(Mark::Input)?;
-    inputs(text, &part.inputs)?;
+    part.inputs.write(text)?;
     text.mark(Mark::Semicolon)?;
-    condition(text, &part.condition)?;
-    transition(text, &part.transition)
+    optional(text, &part.condition)?;
+    part.transition.write(text)
 }
 
+// `"priority" "input" in1 {"," in1} ";" trans`
 fn priority_input(text: &mut Text, input: &PriorityInput) -> Result<(), AllocError>
     ensures { OnOk result (Wrote text.old text.new
-        (stimulus_words (plain_stimulus (Stimulus.Priority input.now)))) }
+        (stimulus_words (erased_stimulus (stimulus_value (Stimulus.Priority input.now))))) }
 {
     text.mark(Mark::Priority)?;
     text.mark(Mark::Input)?;
     separated(text, &input.inputs)?;
     text.mark(Mark::Semicolon)?;
-    transition(text, &input.transition)
+    input.transition.write(text)
 }
 
+// `"save" ("*" | sig {"," sig}) ";"`
 fn save_part(text: &mut Text, part: &SavePart) -> Result<(), AllocError>
     ensures { OnOk result (Wrote text.old text.new
-        (stimulus_words (plain_stimulus (Stimulus.Save part.now)))) }
+        (stimulus_words (erased_stimulus (stimulus_value (Stimulus.Save part.now))))) }
 {
     text.mark(Mark::Save)?;
-    saved(text, &part.saved)?;
+    part.saved.write(text)?;
     text.mark(Mark::Semicolon)
 }
 
+// `"provided" expr ";" ["priority" NUMBER ";"] trans`
 fn continuous_signal(text: &mut Text, signal: &ContinuousSignal) -> Result<(), AllocError>
     ensures { OnOk result (Wrote text.old text.new
-        (stimulus_words (plain_stimulus (Stimulus.Continuous signal.now)))) }
+        (stimulus_words (erased_stimulus (stimulus_value (Stimulus.Continuous signal.now))))) }
 {
     text.mark(Mark::Provided)?;
     signal.condition.write(text)?;
     text.mark(Mark::Semicolon)?;
     priority(text, &signal.priority)?;
-    transition(text, &signal.transition)
+    signal.transition.write(text)
 }
 
-fn inputs(text: &mut Text, inputs: &Inputs) -> Result<(), AllocError>
-    ensures { OnOk result (Wrote text.old text.new (ins_words (plain_inputs inputs.now))) }
-{
-    match inputs {
-        Inputs::Listed(listed) => separated(text, listed),
-        Inputs::All(_) => text.mark(Mark::Asterisk),
+/// `"*" | in1 {"," in1}`
+impl Canonical for Inputs {
+    ghost form = { written_as inputs_value erased_inputs ins_words };
+
+    fn write(&self, text: &mut Text) -> Result<(), AllocError> {
+        match self {
+            Inputs::Listed(listed) => separated(text, listed)?,
+            Inputs::All(_) => text.mark(Mark::Asterisk)?,
+        }
+        Ok(())
     }
 }
 
+/// `NAME ["(" [NAME] {"," [NAME]} ")"]`
 impl Canonical for Input {
-    ghost Node = { plain.Input };
-
-    ghost plain = { plain_input };
-
-    ghost words = { in1_words };
+    ghost form = { written_as input_value erased_input in1_words };
 
     fn write(&self, text: &mut Text) -> Result<(), AllocError> {
         self.signal.write(text)?;
@@ -156,22 +164,22 @@ impl Canonical for Input {
     }
 }
 
-fn saved(text: &mut Text, saved: &Saved) -> Result<(), AllocError>
-    ensures { OnOk result (Wrote text.old text.new (saved_words (plain_saved saved.now))) }
-{
-    match saved {
-        Saved::Listed(items) => separated(text, items),
-        Saved::All(_) => text.mark(Mark::Asterisk),
+/// `"*" | sig {"," sig}`
+impl Canonical for Saved {
+    ghost form = { written_as saved_value erased_saved saved_words };
+
+    fn write(&self, text: &mut Text) -> Result<(), AllocError> {
+        match self {
+            Saved::Listed(items) => separated(text, items)?,
+            Saved::All(_) => text.mark(Mark::Asterisk)?,
+        }
+        Ok(())
     }
 }
 
-/// A signal, or in parentheses a list of signals.
+/// `NAME | "(" NAME ")"`: a signal, or a list of signals.
 impl Canonical for SignalListItem {
-    ghost Node = { plain.SignalListItem };
-
-    ghost plain = { plain_item };
-
-    ghost words = { sig_words };
+    ghost form = { written_as item_value erased_item sig_words };
 
     fn write(&self, text: &mut Text) -> Result<(), AllocError> {
         match self {
@@ -185,23 +193,21 @@ impl Canonical for SignalListItem {
     }
 }
 
-fn condition(text: &mut Text, condition: &Option<EnablingCondition>) -> Result<(), AllocError>
-    ensures { OnOk result (Wrote text.old text.new
-        (condition_words (option_map plain_condition condition.now))) }
-{
-    match condition {
-        None => Ok(()),
-        Some(enabling) => {
-            text.mark(Mark::Provided)?;
-            enabling.condition.write(text)?;
-            text.mark(Mark::Semicolon)
-        }
+/// `"provided" expr ";"`
+impl Canonical for EnablingCondition {
+    ghost form = { written_as condition_value erased_condition condition_words };
+
+    fn write(&self, text: &mut Text) -> Result<(), AllocError> {
+        text.mark(Mark::Provided)?;
+        self.condition.write(text)?;
+        text.mark(Mark::Semicolon)
     }
 }
 
+// `["priority" NUMBER ";"]`
 fn priority(text: &mut Text, priority: &Option<Number>) -> Result<(), AllocError>
     ensures { OnOk result (Wrote text.old text.new
-        (priority_words (option_map (λ n. n.value) priority.now))) }
+        (canonical.optional priority_words (option_map erased_number (option_map number_value priority.now)))) }
 {
     match priority {
         None => Ok(()),

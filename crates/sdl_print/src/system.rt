@@ -1,9 +1,10 @@
-//! The canonical text of a tree, and of the tree that a text spells.
+//! The canonical text of a tree.
 
-ghost use Rattle.std.specs.Prelude.{◌≡◌, [], ℕ, List, string_bytes, IfErr, IfOk, OnOk};
-ghost use Rattle.sdl_tree.specs.Canonical.{canonical, canonical_text};
-ghost use Rattle.sdl_tree.specs.Views.{plain_tree};
+ghost use Rattle.std.specs.Prelude.{◌≡◌, ℕ, List, [], string_bytes, IfErr, IfOk, OnOk};
 ghost use Rattle.sdl_parse.specs.Parser.{Refuses};
+ghost use Rattle.sdl_tree.specs.Canonical.{canonical, canonical_text};
+ghost use Rattle.sdl_tree.specs.Erased.{erased};
+ghost use Rattle.sdl_tree.specs.Views.{tree_value};
 ghost use Rattle.sdl_print.specs.RoundTrip.{IsCanonicalOf, IsWantOfRoom};
 ghost use Rattle.sdl_print.specs.Wrote.{followed_by};
 
@@ -20,7 +21,7 @@ use std::alloc::{AllocError, Global};
 /// `endconnection` stand without a name. Fails only where memory is refused.
 #[tactic(auto, unfolding(crate::specs::Wrote::followed_by))]
 pub fn print(alloc: Global, tree: &Tree) -> Result<String, AllocError>
-    ensures { IfOk result (λ text. string_bytes text ≡ canonical_text (plain_tree tree.now)) }
+    ensures { IfOk result (λ text. string_bytes text ≡ canonical_text (tree_value tree.now)) }
 {
     let mut text = Text::new(alloc);
     system(&mut text, tree)?;
@@ -47,10 +48,10 @@ pub fn canonicalize(alloc: Global, text: &[u8]) -> Result<String, ParseError>
     }
 }
 
-// Writes the words of the tree, with none behind them.
+// The words of the tree, with none behind them.
 fn system(text: &mut Text, tree: &Tree) -> Result<(), AllocError>
     ensures { OnOk result (followed_by text.new []
-        ≡ followed_by text.old (canonical (plain_tree tree.now))) }
+        ≡ followed_by text.old (canonical (erased (tree_value tree.now)))) }
 {
     text.mark(Mark::System)?;
     tree.name.write(text)?;

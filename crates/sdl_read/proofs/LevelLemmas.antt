@@ -1,8 +1,8 @@
--- The levels of expressions, where a loop counts down to the one below.
+-- The levels of expressions, where the code counts down to the one below.
 use Rattle.std.proofs.Common.{◌≡◌, ℕ, suc, ◌-◌, ◌≤◌, ◌<◌, Err, refl, subst, ap, arith}
-use Rattle.sdl_tree.specs.Spells.Parts.{Words}
-use Rattle.sdl_read.specs.Reading.{and_then, Deep}
-use Rattle.sdl_read.specs.Expressions.{Readers, readers, level, primary, signed, climb_all, paren_of, active_of, args_of, deep_active, no_args, expr}
+use Rattle.sdl_tree.specs.Words.{Words}
+use Rattle.sdl_read.specs.Reading.{Deep, in_parentheses}
+use Rattle.sdl_read.specs.Expressions.{Readers, readers, level, primary, signed, chain, paren_of, active_of, deep_active, no_args, expr}
 
 pub level_zero : (r : Readers) (k : ℕ) (i : Words) → k ≡ 0 → level r k i ≡ primary r i
 unfolding level
@@ -12,16 +12,16 @@ pub level_one : (r : Readers) (k : ℕ) (i : Words) → k ≡ 1 → level r k i 
 unfolding level
 level_one r k i e = ap (λ n. level r n i) e
 
-pub level_clause : (r : Readers) (n : ℕ) (i : Words) → level r (suc (suc n)) i ≡ and_then (level r (suc n) i) (climb_all (level r (suc n)) (suc (suc n)))
+level_clause : (r : Readers) (n : ℕ) (i : Words) → level r (suc (suc n)) i ≡ chain (level r (suc n)) (suc (suc n)) i
 unfolding level
 level_clause r n i = refl
 
-pub level_up : (r : Readers) (k : ℕ) (i : Words) → 2 ≤ k → level r k i ≡ and_then (level r (k - 1) i) (climb_all (level r (k - 1)) k)
+pub level_up : (r : Readers) (k : ℕ) (i : Words) → 2 ≤ k → level r k i ≡ chain (level r (k - 1)) k i
 level_up r k i some =
     let whole : suc (suc (k - 2)) ≡ k = omega arith in
     let below : suc (k - 2) ≡ k - 1 = omega arith in
-    let P : ℕ → Type 0 = λ b. level r b i ≡ and_then (level r (k - 1) i) (climb_all (level r (k - 1)) b) in
-    let Q : ℕ → Type 0 = λ a. level r (suc (suc (k - 2))) i ≡ and_then (level r a i) (climb_all (level r a) (suc (suc (k - 2)))) in
+    let P : ℕ → Type 0 = λ b. level r b i ≡ chain (level r (k - 1)) b i in
+    let Q : ℕ → Type 0 = λ a. level r (suc (suc (k - 2))) i ≡ chain (level r a) (suc (suc (k - 2))) i in
     subst P whole (subst Q below (level_clause r (k - 2) i))
 
 -- ---- what is read inside one more pair of parentheses
@@ -38,15 +38,15 @@ pub args_none : (d : ℕ) (i : Words) → d ≡ 0 → (readers d).args i ≡ no_
 unfolding readers
 args_none d i e = ap (λ n. (readers n).args i) e
 
-pub paren_clause : (n : ℕ) (i : Words) → (readers (suc n)).paren i ≡ paren_of (expr n) i
+paren_clause : (n : ℕ) (i : Words) → (readers (suc n)).paren i ≡ paren_of (expr n) i
 unfolding readers
 paren_clause n i = refl
 
-pub active_clause : (n : ℕ) (i : Words) → (readers (suc n)).active i ≡ active_of (readers n).args i
+active_clause : (n : ℕ) (i : Words) → (readers (suc n)).active i ≡ active_of (readers n).args i
 unfolding readers
 active_clause n i = refl
 
-pub args_clause : (n : ℕ) (i : Words) → (readers (suc n)).args i ≡ args_of (expr n) i
+args_clause : (n : ℕ) (i : Words) → (readers (suc n)).args i ≡ in_parentheses (expr n) i
 unfolding readers
 args_clause n i = refl
 
@@ -60,7 +60,7 @@ active_inside d i some =
     let e : suc (d - 1) ≡ d = omega arith in
     let P : ℕ → Type 0 = λ n. (readers n).active i ≡ active_of (readers (d - 1)).args i in subst P e (active_clause (d - 1) i)
 
-pub args_inside : (d : ℕ) (i : Words) → 0 < d → (readers d).args i ≡ args_of (expr (d - 1)) i
+pub args_inside : (d : ℕ) (i : Words) → 0 < d → (readers d).args i ≡ in_parentheses (expr (d - 1)) i
 args_inside d i some =
     let e : suc (d - 1) ≡ d = omega arith in
-    let P : ℕ → Type 0 = λ n. (readers n).args i ≡ args_of (expr (d - 1)) i in subst P e (args_clause (d - 1) i)
+    let P : ℕ → Type 0 = λ n. (readers n).args i ≡ in_parentheses (expr (d - 1)) i in subst P e (args_clause (d - 1) i)

@@ -1,37 +1,22 @@
 -- Operators and keyword operands, and their marks.
-use Rattle.std.proofs.Common.{◌≡◌, ℕ, ◌<◌, ◌≤◌, ◌==◌, inl, inr, true, false, ◌∷◌, Option, Some, None, refl, sym, ap, ◌∙◌, subst, arith}
+use Rattle.std.proofs.Common.{◌≡◌, ℕ, ◌<◌, ◌≤◌, ◌==◌, inl, inr, true, false, is_some, [], ◌∷◌, ◌++◌, Option, Some, None, Err, refl, sym, ap, ◌∙◌, arith}
 use Rattle.std.proofs.lemmas.Bool.Decides.{nat_tests}
 use Rattle.sdl_tree.specs.declared.expressions.KeywordValue.{KeywordValue}
 use Rattle.sdl_tree.specs.declared.expressions.KeywordValue.TheVariants as value
+use Rattle.sdl_tree.specs.declared.expressions.UnaryOperator.{UnaryOperator}
+use Rattle.sdl_tree.specs.declared.expressions.UnaryOperator.TheVariants as unary
 use Rattle.sdl_tree.specs.declared.expressions.Operator.{Operator}
 use Rattle.sdl_tree.specs.declared.expressions.Operator.TheVariants as operator
 use Rattle.sdl_tree.specs.declared.mark.Mark.{Mark}
-use Rattle.sdl_tree.specs.declared.mark.Mark.TheVariants as mark
-use Rattle.sdl_tree.specs.Spells.Expressions.{looseness, operator_mark, value_mark}
-use Rattle.sdl_tree.specs.Spells.Parts.{Words}
-use Rattle.sdl_tree.specs.Words.{Fixed}
-use Rattle.sdl_read.specs.Reading.{front, rest, mark_at}
-use Rattle.sdl_read.specs.Expressions.{operator_of, operator_by, of_level, operator_at, value_of}
-use Rattle.sdl_read.proofs.Laws.{mark_ok, chosen, if_true, if_false}
-
-pub operator_of_ok : (m : Mark) (o : Operator) → operator_of m ≡ Some o → operator_mark o ≡ m
-operator_of_ok mark.Implies o e = let same : operator.Implies ≡ o = cc in ap operator_mark (sym same)
-operator_of_ok mark.Or o e = let same : operator.Or ≡ o = cc in ap operator_mark (sym same)
-operator_of_ok mark.Xor o e = let same : operator.Xor ≡ o = cc in ap operator_mark (sym same)
-operator_of_ok mark.And o e = let same : operator.And ≡ o = cc in ap operator_mark (sym same)
-operator_of_ok mark.Equal o e = let same : operator.Equal ≡ o = cc in ap operator_mark (sym same)
-operator_of_ok mark.NotEqual o e = let same : operator.NotEqual ≡ o = cc in ap operator_mark (sym same)
-operator_of_ok mark.Less o e = let same : operator.Less ≡ o = cc in ap operator_mark (sym same)
-operator_of_ok mark.LessOrEqual o e = let same : operator.LessOrEqual ≡ o = cc in ap operator_mark (sym same)
-operator_of_ok mark.Greater o e = let same : operator.Greater ≡ o = cc in ap operator_mark (sym same)
-operator_of_ok mark.GreaterOrEqual o e = let same : operator.GreaterOrEqual ≡ o = cc in ap operator_mark (sym same)
-operator_of_ok mark.Plus o e = let same : operator.Plus ≡ o = cc in ap operator_mark (sym same)
-operator_of_ok mark.Minus o e = let same : operator.Minus ≡ o = cc in ap operator_mark (sym same)
-operator_of_ok mark.Asterisk o e = let same : operator.Times ≡ o = cc in ap operator_mark (sym same)
-operator_of_ok mark.Slash o e = let same : operator.Divide ≡ o = cc in ap operator_mark (sym same)
-operator_of_ok mark.Mod o e = let same : operator.Mod ≡ o = cc in ap operator_mark (sym same)
-operator_of_ok mark.Rem o e = let same : operator.Rem ≡ o = cc in ap operator_mark (sym same)
-operator_of_ok _ o e = absurd cc
+use Rattle.sdl_tree.specs.declared.name.Spelling.{Spelling}
+use Rattle.sdl_tree.specs.Erased.{erased_word, plain}
+use Rattle.sdl_tree.specs.Spells.Expressions.{looseness, operator_mark, value_mark, unary_mark}
+use Rattle.sdl_tree.specs.Words.{Words, Fixed}
+use Rattle.sdl_read.specs.Reading.{Refusal, Refused, Deep, and_then, on, mark_by, front, mark_at, expect}
+use Rattle.sdl_read.specs.Expressions.{operator_of, by_mark, of_level, operator_at, value_of, value_at, unary_of, unary_at, marked, sees_operator}
+use Rattle.sdl_read.proofs.Depth.{SameFront}
+use Rattle.sdl_read.proofs.Laws.{Rules, Law, Anywhere, near_anywhere}
+use Rattle.sdl_read.proofs.Steps.{read_as, as_read, not_read, not_refused, same_refusal, here_stands, not_deep, bind_ok, bind_err, bind_is, chosen, on_ok, if_true, if_false, expect_ok, expect_again, expect_refused, alike_fixed, alike_from}
 
 pub operator_of_again : (o : Operator) → operator_of (operator_mark o) ≡ Some o
 operator_of_again operator.Implies = refl
@@ -51,34 +36,27 @@ operator_of_again operator.Divide = refl
 operator_of_again operator.Mod = refl
 operator_of_again operator.Rem = refl
 
-pub binary_is_loose : (o : Operator) → 2 ≤ looseness o
-binary_is_loose operator.Implies = omega arith
-binary_is_loose operator.Or = omega arith
-binary_is_loose operator.Xor = omega arith
-binary_is_loose operator.And = omega arith
-binary_is_loose operator.Equal = omega arith
-binary_is_loose operator.NotEqual = omega arith
-binary_is_loose operator.Less = omega arith
-binary_is_loose operator.LessOrEqual = omega arith
-binary_is_loose operator.Greater = omega arith
-binary_is_loose operator.GreaterOrEqual = omega arith
-binary_is_loose operator.Plus = omega arith
-binary_is_loose operator.Minus = omega arith
-binary_is_loose operator.Times = omega arith
-binary_is_loose operator.Divide = omega arith
-binary_is_loose operator.Mod = omega arith
-binary_is_loose operator.Rem = omega arith
+pub value_of_again : (v : KeywordValue) → value_of (value_mark v) ≡ Some v
+value_of_again value.True = refl
+value_of_again value.False = refl
+value_of_again value.Null = refl
+value_of_again value.Now = refl
+value_of_again value.SelfPid = refl
+value_of_again value.Parent = refl
+value_of_again value.Offspring = refl
+value_of_again value.Sender = refl
 
-pub value_of_ok : (m : Mark) (v : KeywordValue) → value_of m ≡ Some v → value_mark v ≡ m
-value_of_ok mark.True v e = let same : value.True ≡ v = cc in ap value_mark (sym same)
-value_of_ok mark.False v e = let same : value.False ≡ v = cc in ap value_mark (sym same)
-value_of_ok mark.Null v e = let same : value.Null ≡ v = cc in ap value_mark (sym same)
-value_of_ok mark.Now v e = let same : value.Now ≡ v = cc in ap value_mark (sym same)
-value_of_ok mark.SelfPid v e = let same : value.SelfPid ≡ v = cc in ap value_mark (sym same)
-value_of_ok mark.Parent v e = let same : value.Parent ≡ v = cc in ap value_mark (sym same)
-value_of_ok mark.Offspring v e = let same : value.Offspring ≡ v = cc in ap value_mark (sym same)
-value_of_ok mark.Sender v e = let same : value.Sender ≡ v = cc in ap value_mark (sym same)
-value_of_ok _ v e = absurd cc
+pub unary_of_again : (o : UnaryOperator) → unary_of (unary_mark o) ≡ Some o
+unary_of_again unary.Minus = refl
+unary_of_again unary.Not = refl
+
+pub value_at_again : (v : KeywordValue) (s : Spelling) (j : Words) → value_at (Fixed (value_mark v) s ∷ j) ≡ Some v
+unfolding value_at mark_at front
+value_at_again v s j = value_of_again v
+
+pub unary_at_again : (o : UnaryOperator) (s : Spelling) (j : Words) → unary_at (Fixed (unary_mark o) s ∷ j) ≡ Some o
+unfolding unary_at mark_at front
+unary_at_again o s j = unary_of_again o
 
 of_level_ok : (k : ℕ) (p : Option Operator) (o : Operator) → of_level k p ≡ Some o → (p ≡ Some o) × (looseness o ≡ k)
 of_level_ok k None o e = absurd cc
@@ -89,21 +67,29 @@ of_level_ok k (Some q) o e = elim (chosen (looseness q == k) (Some q) None (Some
   | inr s ↦ absurd cc
 ]
 
-operator_by_ok : (p : Option Mark) (o : Operator) → operator_by p ≡ Some o → (m : Mark) × (p ≡ Some m) × (operator_of m ≡ Some o)
-operator_by_ok None o e = absurd cc
-operator_by_ok (Some m) o e = (m, refl, e)
-
-pub operator_at_ok : (k : ℕ) (i : Words) (o : Operator) → operator_at k i ≡ Some o → (looseness o ≡ k) × (i ≡ Fixed (operator_mark o) ∷ rest i)
+pub operator_at_ok : (k : ℕ) (i : Words) (o : Operator) → operator_at k i ≡ Some o → (by_mark operator_of (mark_at i) ≡ Some o) × (looseness o ≡ k)
 unfolding operator_at
-operator_at_ok k i o e =
-    let a = of_level_ok k (operator_by (mark_at i)) o e in
-    let b = operator_by_ok (mark_at i) o a.0 in
-    (a.1, mark_ok i b.0 b.1 ∙ ap (λ n. Fixed n ∷ rest i) (sym (operator_of_ok b.0 o b.2)))
+operator_at_ok k i o e = of_level_ok k (by_mark operator_of (mark_at i)) o e
+
+pub operator_at_again : (k : ℕ) (o : Operator) (s : Spelling) (j : Words) → looseness o ≡ k → operator_at k (Fixed (operator_mark o) s ∷ j) ≡ Some o
+unfolding operator_at mark_at front
+operator_at_again k o s j e =
+    let same : (looseness o == k) ≡ true = grind (arith, nat_tests, e) in
+    ap (of_level k) (operator_of_again o) ∙ if_true (looseness o == k) (Some o) None same
+
+pub some_of : {K : Type 0} (o : Option K) → is_some o ≡ true → (v : K) × (o ≡ Some v)
+some_of None e = absurd cc
+some_of (Some v) e = (v, refl)
 
 -- ---- where an expression of a looseness stops: each operator that stands next is looser
 
 abbrev pub Stops : ℕ → Words → Type 0
-Stops k j = (o : Operator) → operator_by (mark_at j) ≡ Some o → k < looseness o
+Stops k j = (o : Operator) → by_mark operator_of (mark_at j) ≡ Some o → k < looseness o
+
+-- and at the end of the text
+pub stops_last : (k : ℕ) → Stops k []
+unfolding mark_at front
+stops_last k o e = absurd cc
 
 of_level_none : (k : ℕ) (p : Option Operator) → ((o : Operator) → p ≡ Some o → k < looseness o) → of_level k p ≡ None
 of_level_none k None stop = refl
@@ -111,21 +97,83 @@ of_level_none k (Some o) stop =
     let looser : k < looseness o = stop o refl in
     let other : (looseness o == k) ≡ false = grind (arith, nat_tests, looser) in if_false (looseness o == k) (Some o) None other
 
-pub operator_none : (k : ℕ) (j : Words) → Stops k j → operator_at k j ≡ None
+pub operator_none : (k : ℕ) (j : Words) → Stops k j → sees_operator k j ≡ false
 unfolding operator_at
-operator_none k j stop = of_level_none k (operator_by (mark_at j)) stop
+operator_none k j stop = ap is_some (of_level_none k (by_mark operator_of (mark_at j)) stop)
 
-pub operator_again : (o : Operator) (k : ℕ) (m : Words) → looseness o ≡ k → operator_at k (Fixed (operator_mark o) ∷ m) ≡ Some o
-unfolding operator_at mark_at front
-operator_again o k m e =
-    let same : (looseness o == k) ≡ true = grind (arith, nat_tests, e) in
-    ap (of_level k) (operator_of_again o) ∙ if_true (looseness o == k) (Some o) None same
-
-pub stops_before : (o : Operator) (k : ℕ) (m : Words) → k < looseness o → Stops k (Fixed (operator_mark o) ∷ m)
-unfolding mark_at front
-stops_before o k m looser p e =
-    let q : operator_of (operator_mark o) ≡ Some o = operator_of_again o in
-    let same : o ≡ p = cc in let P : Operator → Type 0 = λ r. k < looseness r in subst P same looser
+-- an expression of a smaller looseness stops at an operator
+pub stops_before : (l k : ℕ) (j : Words) → l < k → sees_operator k j ≡ true → Stops l j
+stops_before l k j less seen p e =
+    let a = some_of (operator_at k j) seen in
+    let b = operator_at_ok k j a.0 a.1 in
+    let same : a.0 ≡ p = (let both : ◌≡◌ {A = Option Operator} (Some a.0) (Some p) = sym b.0 ∙ e in cc) in
+    let level : looseness p ≡ k = sym (ap looseness same) ∙ b.1 in omega (arith, level)
 
 pub stops_below : (k l : ℕ) (j : Words) → k ≤ l → Stops l j → Stops k j
 stops_below k l j le stop o e = let more = stop o e in omega arith
+
+-- it stops wherever the same stands next
+pub same_mark_at : (i k : Words) → SameFront i k → mark_at i ≡ mark_at k
+unfolding mark_at
+same_mark_at i k e = ap mark_by e
+
+pub operator_front : (l : ℕ) (i k : Words) → SameFront i k → sees_operator l i ≡ sees_operator l k
+unfolding operator_at
+operator_front l i k e = ap (λ m. is_some (of_level l (by_mark operator_of m))) (same_mark_at i k e)
+
+pub operator_end : (l : ℕ) → sees_operator l [] ≡ false
+unfolding operator_at mark_at front
+operator_end l = refl
+
+-- ---- one of some marks
+
+abbrev pub IsMarked : {K : Type 0} → (K → Mark) → (K → Type 0) → K × Spelling → Words → Words → Type 0
+IsMarked mark_of Good x i j = Good x.0 × (i ≡ Fixed (mark_of x.0) x.1 ∷ j)
+
+module _ {K : Type 0} (find : Words → Option K) (mark_of : K → Mark) (Good : K → Type 0) (good : (i : Words) (v : K) → find i ≡ Some v → Good v)
+    (again : (v : K) (s : Spelling) (j : Words) → Good v → find (Fixed (mark_of v) s ∷ j) ≡ Some v) where
+  marked_sound : (i : Words) (x : K × Spelling) (j : Words) → marked find mark_of i ≡ read_as x j → IsMarked mark_of Good x i j
+  marked_sound i x j e =
+      elim (on_ok (find i) (Err (Refused i)) (λ v. and_then (expect (mark_of v) i) (λ s k. read_as (v, s) k)) (read_as x j) e) as (λ _. IsMarked mark_of Good x i j) [
+        | inl t ↦ not_read (Refused i) x j t.1
+        | inr t ↦
+            let c = bind_ok (expect (mark_of t.0) i) (λ s k. read_as (t.0, s) k) x j t.2 in
+            as_read (λ y k. IsMarked mark_of Good y i k) (t.0, c.0) x c.1 j c.3 (good i t.0 t.1, expect_ok (mark_of t.0) i c.0 c.1 c.2)
+      ]
+
+  marked_complete : (x : K × Spelling) (i j : Words) → IsMarked mark_of Good x i j → marked find mark_of i ≡ read_as x j
+  marked_complete x i j e =
+      let at : Words = Fixed (mark_of x.0) x.1 ∷ j in
+      ap (marked find mark_of) e.1
+      ∙ ap (λ o. on o (Err (Refused at)) (λ v. and_then (expect (mark_of v) at) (λ s k. read_as (v, s) k))) (again x.0 x.1 j e.0)
+      ∙ bind_is (expect (mark_of x.0) at) (λ s k. read_as (x.0, s) k) x.1 j (expect_again (mark_of x.0) x.1 j)
+
+  marked_refused : (i : Words) (r : Refusal) → marked find mark_of i ≡ Err r → r ≡ Refused i
+  marked_refused i r e =
+      elim (on_ok (find i) (Err (Refused i)) (λ v. and_then (expect (mark_of v) i) (λ s k. read_as (v, s) k)) (Err r) e) as (λ _. r ≡ Refused i) [
+        | inl t ↦ same_refusal {A = K × Spelling} (Refused i) r t.1
+        | inr t ↦ elim (bind_err (expect (mark_of t.0) i) (λ s k. read_as (t.0, s) k) r t.2) as (λ _. r ≡ Refused i) [
+          | inl u ↦ expect_refused (mark_of t.0) i r u
+          | inr u ↦ not_refused {A = K × Spelling} (t.0, u.0) u.1 r u.3
+        ]
+      ]
+
+  marked_keeps : (x : K × Spelling) (i j : Words) → IsMarked mark_of Good x i j → (u : Words) × (i ≡ u ++ j) × ((k : Words) → Anywhere k → IsMarked mark_of Good x (u ++ k) k)
+  marked_keeps x i j e = (Fixed (mark_of x.0) x.1 ∷ [], e.1, λ k t. (e.0, refl))
+
+  pub marked_rules : Rules (marked find mark_of) (IsMarked mark_of Good) (IsMarked mark_of Good) Anywhere (λ x. (x.0, erased_word x.1))
+  marked_rules = record {
+    sound = marked_sound;
+    complete = λ x i j e t. marked_complete x i j e;
+    keeps = marked_keeps;
+    near = near_anywhere marked_sound (λ x i j e t. marked_complete x i j e) marked_keeps;
+    stands = λ i r e. here_stands i r (marked_refused i r e);
+    moves = λ x i j k e t.
+        let a = alike_fixed (mark_of x.0) x.1 j k (alike_from i (Fixed (mark_of x.0) x.1 ∷ j) k e.1 t) in ((x.0, a.0), a.1, (e.0, a.2), a.3, refl);
+    more = λ x i j e. e;
+    deep = λ i left e. not_deep i left (marked_refused i (Deep left) e);
+  }
+
+  -- where there is such a mark
+  pub marked_law : (v : K) → Good v → Law (marked find mark_of) (IsMarked mark_of Good) (IsMarked mark_of Good) Anywhere (λ x. (x.0, erased_word x.1))
+  marked_law v good_one = record { rules = marked_rules; one = ((v, plain), Fixed (mark_of v) plain ∷ [], λ j t. (good_one, refl)) }

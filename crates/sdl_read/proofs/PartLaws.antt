@@ -1,193 +1,226 @@
 -- The laws of the productions that stand in many others.
-use Rattle.std.proofs.Common.{◌≡◌, ℕ, ◌<◌, ◌≤◌, ◌⊎◌, inl, inr, false, List, [], ◌∷◌, length, Ok, refl, sym, ap, ◌∙◌, subst, arith}
+use Rattle.std.proofs.Common.{◌≡◌, ◌⊎◌, inl, inr, true, false, List, [], ◌∷◌, ◌++◌, length, map, Ok, Err, pos, refl, sym, ap, ◌∙◌, subst, arith}
+use Rattle.sdl_tree.specs.Alike.{AreAlike}
+use Rattle.sdl_tree.specs.declared.mark.Mark.{Mark}
 use Rattle.sdl_tree.specs.declared.mark.Mark.TheVariants as mark
-use Rattle.sdl_tree.specs.Spells.Parts.{Words, Separated, InParentheses, SpellsEnd, SpellsSort, sort_of}
-use Rattle.sdl_tree.specs.Words.{Fixed}
+use Rattle.sdl_tree.specs.declared.name.Spelling.{Spelling}
+use Rattle.sdl_tree.specs.Erased.{plain, erased_word, erased_name, erased_number, erased_item}
+use Rattle.sdl_tree.specs.Spells.Parts.{IsMark, Both, Behind, Before, Enclosed, InParentheses, SpellsName, SpellsNumber, SpellsEnd, Ended, SpellsSig}
+use Rattle.sdl_tree.specs.Tree.{SignalListItem, SignalItem, ListItem}
+use Rattle.sdl_tree.specs.Words.{Words, Spot, Fixed}
 use Rattle.sdl_tree.specs.Words as word
-use Rattle.sdl_read.specs.Reading.{Parser, and_then, pure, front, same_mark, mark_at, sees, after, expect, name, text, separated, in_parentheses}
-use Rattle.sdl_read.specs.Parts.{comment, end, sort}
-use Rattle.sdl_read.proofs.Laws.{read_as, Sound, Complete, Keeps, Shortens, as_read, bind_ok, bind_is, chosen, chosen_by, ate, eaten, not_eaten, after_other, if_true, if_false, same_rest, sees_again, expect_ok, expect_again, name_ok, name_again, text_ok, text_again, shortens_expect}
-use Rattle.sdl_read.proofs.ListLaws.{separated_sound, separated_complete, separated_shortens}
-use Rattle.sdl_read.proofs.OperatorLaws.{Stops}
+use Rattle.sdl_read.specs.Reading.{Parser, Refusal, Refused, Deep, front, sees, same_mark, is_name, sees_name, expect, name, number, text, enclosed, in_parentheses}
+use Rattle.sdl_read.specs.Parts.{end, sig}
+use Rattle.sdl_read.proofs.Depth.{SameFront, HasOne}
+use Rattle.sdl_read.proofs.Laws.{Law, Anywhere, near_anywhere, Takes, Made, as_law, stops_law, both_law, behind_law, before_law, made_law, either_law}
+use Rattle.sdl_read.proofs.ListLaws.{separated_law}
+use Rattle.sdl_read.proofs.Steps.{read_as, same_value, same_rest, not_refused, here_stands, not_deep, sees_front, sees_at, expect_ok, expect_again, expect_refused, name_ok, name_again, name_refused, number_ok, number_again, number_refused, text_ok, text_again, text_refused, alike_fixed, alike_name, alike_number, alike_text, alike_from}
 
--- ---- marks that are not others
+-- ---- single words
 
-abbrev pub NoOpen : Words → Type 0
-NoOpen j = sees mark.Open j ≡ false
+-- one word
+module _ {A : Type 0} {p : Parser A} {P : A → Words → Words → Type 0} {e : A → A} where
+  pub single_law : (sound : (i : Words) (x : A) (j : Words) → p i ≡ read_as x j → P x i j)
+      → (complete : (x : A) (i j : Words) → P x i j → Anywhere j → p i ≡ read_as x j)
+      → (keeps : (x : A) (i j : Words) → P x i j → (u : Words) × (i ≡ u ++ j) × ((k : Words) → Anywhere k → P x (u ++ k) k))
+      → ((i : Words) (r : Refusal) → p i ≡ Err r → r ≡ Refused i)
+      → ((x : A) (i j k : Words) → P x i j → AreAlike i k → (y : A) × (l : Words) × P y k l × AreAlike j l × (e y ≡ e x))
+      → HasOne P Anywhere → Law p P P Anywhere e
+  single_law sound complete keeps refused moves one = record {
+    rules = record {
+      sound = sound;
+      complete = complete;
+      keeps = keeps;
+      near = near_anywhere sound complete keeps;
+      stands = λ i r s. here_stands i r (refused i r s);
+      moves = moves;
+      more = λ x i j s. s;
+      deep = λ i left s. not_deep i left (refused i (Deep left) s);
+    };
+    one = one;
+  }
 
-pub comma_no_open : (j : Words) → sees mark.Open (Fixed mark.Comma ∷ j) ≡ false
-unfolding sees front same_mark
-comma_no_open j = refl
+pub mark_law : (m : Mark) → Law (expect m) (IsMark m) (IsMark m) Anywhere erased_word
+mark_law m = single_law
+    (expect_ok m)
+    (λ s i j e t. ap (expect m) e ∙ expect_again m s j)
+    (λ s i j e. (Fixed m s ∷ [], e, λ k t. refl))
+    (expect_refused m)
+    (λ s i j k e t. let a = alike_fixed m s j k (alike_from i (Fixed m s ∷ j) k e t) in (a.0, a.1, a.2, a.3, refl))
+    (plain, Fixed m plain ∷ [], λ j t. refl)
 
-pub close_no_open : (j : Words) → sees mark.Open (Fixed mark.Close ∷ j) ≡ false
-unfolding sees front same_mark
-close_no_open j = refl
+-- some name
+abbrev pub nameless : Spot
+nameless = record { text = []; place = plain.place }
 
-pub close_no_comma : (j : Words) → sees mark.Comma (Fixed mark.Close ∷ j) ≡ false
-unfolding sees front same_mark
-close_no_comma j = refl
+-- a name, of which what is kept depends on its text alone
+pub name_as : (erased : Spot → Spot) → ((x y : Spot) → x.text ≡ y.text → erased x ≡ erased y) → Law name SpellsName SpellsName Anywhere erased
+name_as erased same = single_law
+    name_ok
+    (λ x i j e t. ap name e ∙ name_again x j)
+    (λ x i j e. (word.Name x ∷ [], e, λ k t. refl))
+    name_refused
+    (λ x i j k e t. let a = alike_name x j k (alike_from i (word.Name x ∷ j) k e t) in (a.0, a.1, a.2, a.3, same a.0 x a.4))
+    (nameless, word.Name nameless ∷ [], λ j t. refl)
+
+abbrev same_name : (x y : Spot) → x.text ≡ y.text → erased_name x ≡ erased_name y
+same_name x y e = λ i. record { text = e i; place = (erased_name x).place }
+
+pub name_law : Law name SpellsName SpellsName Anywhere erased_name
+name_law = name_as erased_name same_name
+
+pub number_law : Law number SpellsNumber SpellsNumber Anywhere erased_number
+number_law = single_law
+    number_ok
+    (λ x i j e t. ap number e ∙ number_again x j)
+    (λ x i j e. (word.Number x.value x.digits ∷ [], e, λ k t. refl))
+    number_refused
+    (λ x i j k e t.
+    let a = alike_number x j k (alike_from i (word.Number x.value x.digits ∷ j) k e t) in
+    (a.0, a.1, a.2, a.3, λ n. erased_number (record { value = a.4 n; digits = x.digits })))
+    (record { value = pos 0; digits = nameless }, word.Number (pos 0) nameless ∷ [], λ j t. refl)
+
+-- a character string, which the tree drops
+abbrev pub SpellsText : Unit {0} → Words → Words → Type 0
+SpellsText u i j = (x : Spot) × (i ≡ word.Text x ∷ j)
+
+abbrev pub whole : Unit {0} → Unit {0}
+whole u = u
+
+text_law : Law text SpellsText SpellsText Anywhere whole
+text_law = single_law
+    text_ok
+    (λ u i j e t. ap text e.1 ∙ text_again e.0 j)
+    (λ u i j e. (word.Text e.0 ∷ [], e.1, λ k t. (e.0, refl)))
+    text_refused
+    (λ u i j k e t. let a = alike_text e.0 j k (alike_from i (word.Text e.0 ∷ j) k e.1 t) in (tt, a.1, (a.0, a.2), a.3, refl))
+    (tt, word.Text nameless ∷ [], λ j t. (nameless, refl))
+
+pub name_front : (i k : Words) → SameFront i k → sees_name i ≡ sees_name k
+unfolding sees_name
+name_front i k e = ap is_name e
+
+pub name_takes : Takes SpellsName
+name_takes x i j e = let same = ap length e in omega (arith, same)
+
+pub mark_takes : (m : Mark) → Takes (IsMark m)
+mark_takes m s i j e = let same = ap length e in omega (arith, same)
 
 -- ---- end
 
-abbrev SpellsComment : Words → Words → Type 0
-SpellsComment i j = (i ≡ j) ⊎ (i ≡ Fixed mark.Comment ∷ word.Text ∷ j)
+abbrev DropsEnd : Unit {0} → Words → Words → Type 0
+DropsEnd u i j = SpellsEnd i j
 
-comment_sound : (i : Words) (u : Unit {0}) (j : Words) → comment i ≡ read_as u j → SpellsComment i j
-unfolding comment
-comment_sound i u j e =
-    elim (chosen_by (sees mark.Comment i) text (pure tt) (after mark.Comment i) (read_as u j) e) as (λ _. SpellsComment i j) [
-      | inl s ↦ inr (ate mark.Comment i s.0 ∙ ap (λ k. Fixed mark.Comment ∷ k) (text_ok (after mark.Comment i) u j s.1))
-      | inr s ↦ inl (sym (after_other mark.Comment i s.0) ∙ same_rest tt u (after mark.Comment i) j s.1)
-    ]
+abbrev DropsComment : (Spelling × (Unit {0} × Spelling)) → Words → Words → Type 0
+DropsComment = Both (IsMark mark.Comment) (Both SpellsText (IsMark mark.Semicolon))
 
-comment_some : (j : Words) → comment (Fixed mark.Comment ∷ word.Text ∷ j) ≡ read_as tt j
-unfolding comment
-comment_some j = eaten mark.Comment (word.Text ∷ j) text (pure tt) ∙ text_again j
+begins_comment : (u : Unit {0}) (i j : Words) → Made (λ _. tt) DropsComment u i j → sees mark.Comment i ≡ true
+begins_comment u i j s = sees_at mark.Comment s.0.0 i s.2.0 s.2.1
 
-comment_none : (j : Words) → sees mark.Comment j ≡ false → comment j ≡ read_as tt j
-unfolding comment
-comment_none j none = not_eaten mark.Comment j text (pure tt) none
+no_comment : (u : Unit {0}) (i j : Words) → Made (λ _. tt) (IsMark mark.Semicolon) u i j → sees mark.Comment i ≡ false
+unfolding sees front same_mark
+no_comment u i j s = ap (sees mark.Comment) s.2
 
-comment_keeps : Keeps comment
-comment_keeps i u j e =
-    elim (comment_sound i u j e) as (λ _. length j ≤ length i) [
-      | inl s ↦ let same = ap length s in omega (arith, same)
-      | inr s ↦ let same = ap length s in omega (arith, same)
-    ]
+end_to : (u : Unit {0}) (i j : Words) → Made (λ _. tt) DropsComment u i j ⊎ Made (λ _. tt) (IsMark mark.Semicolon) u i j → SpellsEnd i j
+end_to u i j (inl s) =
+    let c = s.2 in let x = c.2 in
+    inr (s.0.0, s.0.1.1, x.1.0, c.1 ∙ ap (λ k. Fixed mark.Comment s.0.0 ∷ k) (x.1.1 ∙ ap (λ k. word.Text x.1.0 ∷ k) x.2))
+end_to u i j (inr s) = inl (s.0, s.2)
 
-end_by : (i j : Words) → SpellsComment i (Fixed mark.Semicolon ∷ j) → SpellsEnd i j
-end_by i j s = s
+end_from : (u : Unit {0}) (i j : Words) → SpellsEnd i j → Made (λ _. tt) DropsComment u i j ⊎ Made (λ _. tt) (IsMark mark.Semicolon) u i j
+end_from u i j (inl s) = inr (s.0, refl, s.1)
+end_from u i j (inr s) = inl ((s.0, (tt, s.1)), refl, (word.Text s.2 ∷ Fixed mark.Semicolon s.1 ∷ j, s.3, (Fixed mark.Semicolon s.1 ∷ j, (s.2, refl), refl)))
 
-pub end_sound : (i : Words) (u : Unit {0}) (j : Words) → end i ≡ read_as u j → SpellsEnd i j
+pub end_law : Law end DropsEnd DropsEnd Anywhere whole
 unfolding end
-end_sound i u j e =
-    let a = bind_ok (comment i) _ u j e in
-    let b = bind_ok (expect mark.Semicolon a.1) (λ _. pure tt) u j a.3 in
-    let rest : b.1 ≡ j = same_rest tt u b.1 j b.3 in
-    let P : Words → Type 0 = λ m. SpellsComment i m in
-    end_by i j (subst P (expect_ok mark.Semicolon a.1 b.0 b.1 b.2 ∙ ap (λ k. Fixed mark.Semicolon ∷ k) rest) (comment_sound i a.0 a.1 a.2))
+end_law =
+    as_law end_to end_from end_to
+    (either_law (sees mark.Comment) (sees_front mark.Comment)
+    (made_law (λ _. tt) (λ x y e. refl) (both_law (mark_law mark.Comment) (both_law text_law (mark_law mark.Semicolon) (λ y m j s t. tt)) (λ y m j s t. tt)))
+    (made_law (λ _. tt) (λ x y e. refl) (mark_law mark.Semicolon))
+    begins_comment (λ u i j s t. no_comment u i j s))
 
-no_comment : (j : Words) → sees mark.Comment (Fixed mark.Semicolon ∷ j) ≡ false
+-- what an end begins with goes on with no list and no expression
+pub end_begins : (P : Words → Type 0) → ((s : Spelling) (m : Words) → P (Fixed mark.Semicolon s ∷ m)) → ((s : Spelling) (m : Words) → P (Fixed mark.Comment s ∷ m))
+    → (i j : Words) → SpellsEnd i j → P i
+end_begins P at_semicolon at_comment i j (inl s) = subst P (sym s.1) (at_semicolon s.0 j)
+end_begins P at_semicolon at_comment i j (inr s) = subst P (sym s.3) (at_comment s.0 (word.Text s.2 ∷ Fixed mark.Semicolon s.1 ∷ j))
+
+-- x end, by what an end drops
+module _ {A : Type 0} (P : A → Words → Words → Type 0) where
+  ended_to : (x : A) (i j : Words) → Made (λ (y : A × Unit {0}). y.0) (Both P DropsEnd) x i j → Ended P x i j
+  ended_to x i j s = let Q : A → Type 0 = λ y. Ended P y i j in subst Q (sym s.1) s.2
+
+  ended_from : (x : A) (i j : Words) → Ended P x i j → Made (λ (y : A × Unit {0}). y.0) (Both P DropsEnd) x i j
+  ended_from x i j s = ((x, tt), refl, s)
+
+-- ---- "(" x {"," x} ")"
+
+close_no_comma : (s : Spelling) (j : Words) → sees mark.Comma (Fixed mark.Close s ∷ j) ≡ false
 unfolding sees front same_mark
-no_comment j = refl
+close_no_comma s j = refl
 
-pub end_complete : (i j : Words) → SpellsEnd i j → end i ≡ read_as tt j
-unfolding end
-end_complete i j (inl s) =
-    ap end s
-    ∙ bind_is (comment (Fixed mark.Semicolon ∷ j)) _ tt (Fixed mark.Semicolon ∷ j) (comment_none (Fixed mark.Semicolon ∷ j) (no_comment j))
-    ∙ bind_is (expect mark.Semicolon (Fixed mark.Semicolon ∷ j)) (λ _. pure tt) tt j (expect_again mark.Semicolon j)
-end_complete i j (inr s) =
-    ap end s
-    ∙ bind_is (comment (Fixed mark.Comment ∷ word.Text ∷ Fixed mark.Semicolon ∷ j)) _ tt (Fixed mark.Semicolon ∷ j) (comment_some (Fixed mark.Semicolon ∷ j))
-    ∙ bind_is (expect mark.Semicolon (Fixed mark.Semicolon ∷ j)) (λ _. pure tt) tt j (expect_again mark.Semicolon j)
+abbrev pub Nothing : {A : Type 0} → List A → Words → Words → Type 0
+Nothing xs i j = (xs ≡ []) × (i ≡ j)
 
-pub end_shortens : Shortens end
-end_shortens i u j e = elim (end_sound i u j e) as (λ _. length j < length i) [
-  | inl s ↦ let same = ap length s in omega (arith, same)
-  | inr s ↦ let same = ap length s in omega (arith, same)
-]
+module _ {A : Type 0} (e : A → A) where
+  -- no list stands where none begins
+  pub nothing_law : Law (λ i. Ok ([], i)) Nothing Nothing (λ j. sees mark.Open j ≡ false) (map e)
+  nothing_law = record {
+    rules = record {
+      sound = λ i xs j s. (sym (same_value [] xs i j s), same_rest [] xs i j s);
+      complete = λ xs i j s t. ap (λ k. read_as [] k) s.1 ∙ ap (λ ys. read_as ys j) (sym s.0);
+      keeps = λ xs i j s. ([], s.1, λ k t. (s.0, refl));
+      near = λ i xs j s. ([], same_rest [] xs i j s, λ k g. ap (λ ys. read_as ys k) (same_value [] xs i j s));
+      stands = λ i r s. not_refused {A = List A} [] i r s;
+      moves = λ xs i j k s t. ([], k, (refl, refl), alike_from i j k s.1 t, ap (map e) (sym s.0));
+      more = λ xs i j s. s;
+      deep = λ i left s. not_refused {A = List A} [] i (Deep left) s;
+    };
+    one = ([], [], λ j t. (refl, refl));
+  }
 
--- what ends begins with a mark that goes on with no list, no arguments and no expression
-pub end_begins : (P : Words → Type 0) → ((m : Words) → P (Fixed mark.Semicolon ∷ m)) → ((m : Words) → P (Fixed mark.Comment ∷ m)) → (i j : Words) → SpellsEnd i j → P i
-end_begins P at_semicolon at_comment i j (inl s) = subst P (sym s) (at_semicolon j)
-end_begins P at_semicolon at_comment i j (inr s) = subst P (sym s) (at_comment (word.Text ∷ Fixed mark.Semicolon ∷ j))
+module _ {A : Type 0} (P : A → Words → Words → Type 0) where
+  pub opens_list : (xs : List A) (i j : Words) → Enclosed P xs i j → sees mark.Open i ≡ true
+  opens_list xs i j s = sees_at mark.Open s.0 i s.1 s.2
 
--- ---- sorts
+  pub listed_to : (xs : List A) (i j : Words) → Enclosed P xs i j ⊎ Nothing xs i j → InParentheses P xs i j
+  listed_to [] i j (inl s) = absurd s.3.1
+  listed_to (x ∷ xs) i j (inl s) = s
+  listed_to [] i j (inr s) = s.1
+  listed_to (x ∷ xs) i j (inr s) = absurd (let apart : x ∷ xs ≡ [] = s.0 in cc)
 
-pub sort_sound : Sound sort SpellsSort
-unfolding sort
-sort_sound i x j e =
-    let a = bind_ok (name i) (λ spelled. pure (sort_of spelled)) x j e in
-    as_read (λ y k. SpellsSort y i k) (sort_of a.0) x a.1 j a.3 (a.0, name_ok i a.0 a.1 a.2, refl)
+  pub listed_from : (xs : List A) (i j : Words) → InParentheses P xs i j → Enclosed P xs i j ⊎ Nothing xs i j
+  listed_from [] i j s = inr (refl, s)
+  listed_from (x ∷ xs) i j s = inl s
 
-pub sort_complete : (x : List ℕ) (i j : Words) → SpellsSort x i j → sort i ≡ read_as x j
-unfolding sort
-sort_complete x i j s =
-    ap sort s.1
-    ∙ bind_is (name (word.Name s.0 ∷ j)) (λ spelled. pure (sort_of spelled)) s.0 j (name_again s.0 j)
-    ∙ ap (λ y. read_as y j) (sym s.2)
+module _ {A : Type 0} {item : Parser A} {P M : A → Words → Words → Type 0} {S : Words → Type 0} {e : A → A} (a : Law item P M S e) (takes : Takes P)
+    (at_comma : (s : Spelling) (m : Words) → S (Fixed mark.Comma s ∷ m)) (at_close : (s : Spelling) (m : Words) → S (Fixed mark.Close s ∷ m)) where
+  pub enclosed_law : Law (enclosed item) (Enclosed P) (Enclosed M) Anywhere (map e)
+  enclosed_law = behind_law mark.Open (before_law mark.Close (separated_law a takes at_comma) (λ s j. (at_close s j, close_no_comma s j)))
 
-pub sort_shortens : Shortens sort
-sort_shortens i x j e = let same = ap length (sort_sound i x j e).1 in omega (arith, same)
+  -- and not at a parenthesis
+  pub in_parentheses_law : Law (in_parentheses item) (InParentheses P) (InParentheses M) (λ j. sees mark.Open j ≡ false) (map e)
+  in_parentheses_law =
+      as_law (listed_to P) (listed_from P) (listed_to M)
+      (either_law (sees mark.Open) (sees_front mark.Open) (stops_law (λ j t. tt) enclosed_law) (nothing_law e) (opens_list P) (λ xs i j s t. ap (sees mark.Open) s.1 ∙ t))
 
--- ---- lists in parentheses
+-- ---- sig
 
-module _ {A : Type 0} (item : Parser A) (Spells : A → Words → Words → Type 0) where
-  bracketed : (xs : List A) (i m j : Words) → i ≡ Fixed mark.Open ∷ m → Separated Spells xs m (Fixed mark.Close ∷ j) → InParentheses Spells xs i j
-  bracketed [] i m j e s = absurd s
-  bracketed (x ∷ xs) i m j e s = (m, e, s)
+pub sig_law : Law sig SpellsSig SpellsSig Anywhere erased_item
+unfolding sig sees front same_mark
+sig_law =
+    as_law sig_to sig_from sig_to
+    (either_law (sees mark.Open) (sees_front mark.Open)
+    (made_law ListItem (λ x y e. ap ListItem e) (behind_law mark.Open (before_law mark.Close name_law (λ s j. tt))))
+    (made_law SignalItem (λ x y e. ap SignalItem e) name_law)
+    (λ x i j s. sees_at mark.Open s.2.0 i s.2.1 s.2.2)
+    (λ x i j s t. ap (sees mark.Open) s.2))
+  where
+    sig_to : (x : SignalListItem) (i j : Words) → Made ListItem (Behind mark.Open (Before SpellsName mark.Close)) x i j ⊎ Made SignalItem SpellsName x i j → SpellsSig x i j
+    sig_to x i j (inl s) = let Q : SignalListItem → Type 0 = λ y. SpellsSig y i j in subst Q (sym s.1) s.2
+    sig_to x i j (inr s) = let Q : SignalListItem → Type 0 = λ y. SpellsSig y i j in subst Q (sym s.1) s.2
 
-  pub in_parentheses_sound : Sound item Spells → Sound (in_parentheses item) (InParentheses Spells)
-  unfolding in_parentheses
-  in_parentheses_sound sound i xs j e =
-      elim (chosen (sees mark.Open i) (and_then (expect mark.Open i) (λ _. λ m. and_then (separated item m) (λ ys. λ k. and_then (expect mark.Close k) (λ _. pure ys)))) (Ok ([], i)) (read_as xs j) e)
-      as (λ _. InParentheses Spells xs i j) [
-        | inl s ↦
-            let a = bind_ok (expect mark.Open i) (λ _. λ m. and_then (separated item m) (λ ys. λ k. and_then (expect mark.Close k) (λ _. pure ys))) xs j s.1 in
-            let b = bind_ok (separated item a.1) (λ ys. λ k. and_then (expect mark.Close k) (λ _. pure ys)) xs j a.3 in
-            let c = bind_ok (expect mark.Close b.1) (λ _. pure b.0) xs j b.3 in
-            let P : Words → Type 0 = λ m. Separated Spells b.0 a.1 m in
-            as_read (λ y k. InParentheses Spells y i k) b.0 xs c.1 j c.3
-            (bracketed b.0 i a.1 c.1 (expect_ok mark.Open i a.0 a.1 a.2) (subst P (expect_ok mark.Close b.1 c.0 c.1 c.2) (separated_sound item Spells sound a.1 b.0 b.1 b.2)))
-        | inr s ↦ as_read (λ y k. InParentheses Spells y i k) [] xs i j s.1 refl
-      ]
-
-  in_parentheses_none : (j : Words) → sees mark.Open j ≡ false → in_parentheses item j ≡ read_as [] j
-  unfolding in_parentheses
-  in_parentheses_none j none = if_false (sees mark.Open j) (and_then (expect mark.Open j) (λ _. λ m. and_then (separated item m) (λ ys. λ k. and_then (expect mark.Close k) (λ _. pure ys)))) (Ok ([], j)) none
-
-  in_parentheses_some : (m : Words) → in_parentheses item (Fixed mark.Open ∷ m)
-      ≡ and_then (expect mark.Open (Fixed mark.Open ∷ m)) (λ _. λ m. and_then (separated item m) (λ ys. λ k. and_then (expect mark.Close k) (λ _. pure ys)))
-  unfolding in_parentheses
-  in_parentheses_some m = if_true (sees mark.Open (Fixed mark.Open ∷ m)) (and_then (expect mark.Open (Fixed mark.Open ∷ m)) (λ _. λ m. and_then (separated item m) (λ ys. λ k. and_then (expect mark.Close k) (λ _. pure ys)))) (Ok ([], Fixed mark.Open ∷ m)) (sees_again mark.Open m)
-
-  pub in_parentheses_complete : (Stops : Words → Type 0) → Complete item Spells Stops → Shortens item
-      → ((m : Words) → Stops (Fixed mark.Comma ∷ m)) → ((m : Words) → Stops (Fixed mark.Close ∷ m))
-      → (xs : List A) (i j : Words) → InParentheses Spells xs i j → sees mark.Open j ≡ false → in_parentheses item i ≡ read_as xs j
-  in_parentheses_complete Stops complete shortens at_comma at_close [] i j s none = ap (in_parentheses item) s ∙ in_parentheses_none j none
-  in_parentheses_complete Stops complete shortens at_comma at_close (x ∷ xs) i j s none =
-      let m : Words = s.0 in
-      ap (in_parentheses item) s.1
-      ∙ in_parentheses_some m
-      ∙ bind_is (expect mark.Open (Fixed mark.Open ∷ m)) (λ _. λ m. and_then (separated item m) (λ ys. λ k. and_then (expect mark.Close k) (λ _. pure ys))) tt m (expect_again mark.Open m)
-      ∙ bind_is (separated item m) (λ ys. λ k. and_then (expect mark.Close k) (λ _. pure ys)) (x ∷ xs) (Fixed mark.Close ∷ j)
-      (separated_complete item Spells Stops complete shortens at_comma (x ∷ xs) m (Fixed mark.Close ∷ j) s.2 (at_close j) (close_no_comma j))
-      ∙ bind_is (expect mark.Close (Fixed mark.Close ∷ j)) (λ _. pure (x ∷ xs)) tt j (expect_again mark.Close j)
-
-  pub in_parentheses_keeps : Shortens item → Keeps (in_parentheses item)
-  unfolding in_parentheses
-  in_parentheses_keeps shortens i xs j e =
-      elim (chosen (sees mark.Open i) (and_then (expect mark.Open i) (λ _. λ m. and_then (separated item m) (λ ys. λ k. and_then (expect mark.Close k) (λ _. pure ys)))) (Ok ([], i)) (read_as xs j) e)
-      as (λ _. length j ≤ length i) [
-        | inl s ↦
-            let a = bind_ok (expect mark.Open i) (λ _. λ m. and_then (separated item m) (λ ys. λ k. and_then (expect mark.Close k) (λ _. pure ys))) xs j s.1 in
-            let b = bind_ok (separated item a.1) (λ ys. λ k. and_then (expect mark.Close k) (λ _. pure ys)) xs j a.3 in
-            let c = bind_ok (expect mark.Close b.1) (λ _. pure b.0) xs j b.3 in
-            let first = shortens_expect mark.Open i a.0 a.1 a.2 in
-            let second = separated_shortens item shortens a.1 b.0 b.1 b.2 in
-            let third = shortens_expect mark.Close b.1 c.0 c.1 c.2 in
-            let same = ap length (same_rest b.0 xs c.1 j c.3) in omega (arith, same)
-        | inr s ↦ let same = ap length (same_rest [] xs i j s.1) in omega (arith, same)
-      ]
-
--- ---- what stands before an end stops there
-
-pub end_no_comma : (i j : Words) → SpellsEnd i j → sees mark.Comma i ≡ false
-unfolding sees front same_mark
-end_no_comma = end_begins (λ k. sees mark.Comma k ≡ false) (λ m. refl) (λ m. refl)
-
-pub end_no_open : (i j : Words) → SpellsEnd i j → sees mark.Open i ≡ false
-unfolding sees front same_mark
-end_no_open = end_begins (λ k. sees mark.Open k ≡ false) (λ m. refl) (λ m. refl)
-
-stops_at_semicolon : (k : ℕ) (j : Words) → Stops k (Fixed mark.Semicolon ∷ j)
-unfolding mark_at front
-stops_at_semicolon k j o e = absurd cc
-
-stops_at_comment : (k : ℕ) (j : Words) → Stops k (Fixed mark.Comment ∷ j)
-unfolding mark_at front
-stops_at_comment k j o e = absurd cc
-
-pub end_stops : (k : ℕ) (i j : Words) → SpellsEnd i j → Stops k i
-end_stops k = end_begins (λ m. Stops k m) (stops_at_semicolon k) (stops_at_comment k)
+    sig_from : (x : SignalListItem) (i j : Words) → SpellsSig x i j → Made ListItem (Behind mark.Open (Before SpellsName mark.Close)) x i j ⊎ Made SignalItem SpellsName x i j
+    sig_from (SignalItem x) i j s = inr (x, refl, s)
+    sig_from (ListItem x) i j s = inl (x, refl, s)

@@ -1,208 +1,219 @@
--- The laws of signals and signal lists.
-use Rattle.std.proofs.Common.{◌≡◌, ℕ, ◌<◌, inl, inr, false, List, [], ◌∷◌, length, refl, ap, ◌∙◌, arith}
-use Rattle.sdl_tree.specs.Spells.{SpellsSignalList, SpellsSignalSet, SpellsSignalName, SpellsSignal}
-use Rattle.sdl_tree.specs.Spells.Parts.{Words, SpellsName, SpellsEnd, SpellsSig, SpellsSigs, SpellsSort}
-use Rattle.sdl_tree.specs.Tree.{SignalListItem, SignalItem, ListItem, SignalListDefinition, SignalDefinition}
-use Rattle.sdl_tree.specs.Words.{Fixed}
+-- The laws of more ways to put readings together, of what closes a construct, and of signals.
+use Rattle.std.proofs.Common.{◌≡◌, ◌⊎◌, inl, inr, Bool, true, false, ◌||◌, List, [], ◌∷◌, length, map, refl, sym, ap, ◌∙◌, subst, arith, true≢false}
+use Rattle.sdl_tree.specs.declared.mark.Mark.{Mark}
 use Rattle.sdl_tree.specs.declared.mark.Mark.TheVariants as mark
-use Rattle.sdl_tree.specs.Words as word
-use Rattle.sdl_read.specs.Choices.{mapped}
-use Rattle.sdl_read.specs.Parts.{end, sort}
-use Rattle.sdl_read.specs.Reading.{Deep, and_then, pure, sees, front, expect, name, separated, in_parentheses}
-use Rattle.sdl_read.specs.Signals.{list_item, sig, sigs, signal_list, signal_set, signal_name, signal}
-use Rattle.sdl_read.proofs.ChoiceLaws.{either_sound, either_here, either_other, mapped_sound, mapped_is, introduced_sound, introduced_complete, ended_complete}
-use Rattle.sdl_read.proofs.CountLaws.{Weighs, weighs_bind, counts_bind, counts_pure, weighs_expect, counts_expect, counts_name, counts_end, weighs_name, weighs_either, weighs_mapped, weighs_introduced, weighs_separated, light, expect_not_deep, name_not_deep, weighs_sort, counts_in_parentheses}
-use Rattle.sdl_read.proofs.DepthLaws.{Balanced, IsInside, Deepens, bind_err, not_deep}
-use Rattle.sdl_read.proofs.Laws.{read_as, Sound, Shortens, as_read, bind_ok, bind_is, expect_ok, expect_again, name_ok, name_again, Complete, same_rest, shortens_name}
-use Rattle.sdl_read.proofs.ListLaws.{separated_sound, separated_complete}
-use Rattle.sdl_read.proofs.PartLaws.{end_sound, end_complete, end_no_comma, end_no_open, comma_no_open, sort_sound, sort_complete, sort_shortens, in_parentheses_sound, in_parentheses_complete, in_parentheses_keeps, NoOpen}
+use Rattle.sdl_tree.specs.declared.name.Spelling.{Spelling}
+use Rattle.sdl_tree.specs.Erased.{erased_name, erased_sort, erased_item, erased_signal, erased_signal_list, erased_signal_set}
+use Rattle.sdl_tree.specs.Spells.{SpellsSignalName, SpellsSignal, SpellsSignalList, SpellsSignalSet}
+use Rattle.sdl_tree.specs.Spells.Parts.{IsMark, Both, Behind, Separated, InParentheses, Begins, SpellsName, Ended, SpellsSig, SpellsSigs, sort_of}
+use Rattle.sdl_tree.specs.Tree.{SignalItem, ListItem}
+use Rattle.sdl_tree.specs.Words.{Words, Spot, Fixed}
+use Rattle.sdl_read.specs.Reading.{Parser, ◌⊗◌, behind, made, either, maybe, front, sees, same_mark, name, separated, in_parentheses}
+use Rattle.sdl_read.specs.Parts.{ended, sees_one, signal_with, signal_name, signal, sig, signal_list_with, signal_list, signal_set_with, signal_set}
+use Rattle.sdl_read.proofs.Depth.{SameFront}
+use Rattle.sdl_read.proofs.Laws.{Law, MaybeLaw, Anywhere, Takes, Made, left_behind, as_law, both_law, behind_law, made_law, either_law, maybe_law}
+use Rattle.sdl_read.proofs.ListLaws.{separated_law}
+use Rattle.sdl_read.proofs.PartLaws.{mark_law, name_as, name_law, name_takes, in_parentheses_law, sig_law}
+use Rattle.sdl_read.proofs.ClosingLaws.{ended_at_law}
+use Rattle.sdl_read.proofs.Steps.{IsRest, rest_length, sees_at, sees_front}
 
--- ---- NAME [sorts]
+-- ---- nodes that are records
 
-signal_name_sound : Sound signal_name SpellsSignalName
-unfolding signal_name
-signal_name_sound i x j e =
-    let a = bind_ok (name i) _ x j e in
-    let b = bind_ok (in_parentheses sort a.1) (λ given. pure (record { name = a.0; sorts = given })) x j a.3 in
-    let made : SignalDefinition = record { name = a.0; sorts = b.0 } in
-    as_read (λ y k. SpellsSignalName y i k) made x b.1 j b.3
-    (a.1, name_ok i a.0 a.1 a.2, in_parentheses_sound sort SpellsSort sort_sound a.1 b.0 b.1 b.2)
+-- a record is made of its fields
+module _ {A B : Type 0} (f : A → B) (fields : B → A) {p : Parser A} {P M : A → Words → Words → Type 0} {S : Words → Type 0} {e : A → A} {g : B → B} where
+  pub record_law : ((x y : A) → e x ≡ e y → g (f x) ≡ g (f y)) → ((x : A) → fields (f x) ≡ x) → ((y : B) → f (fields y) ≡ y)
+      → Law p P M S e → Law (made f p) (λ y i j. P (fields y) i j) (λ y i j. M (fields y) i j) S g
+  record_law like again back a = as_law (spelled P) (λ y i j s. (fields y, sym (back y), s)) (spelled M) (made_law f like a)
+    where
+      spelled : (R : A → Words → Words → Type 0) (y : B) (i j : Words) → Made f R y i j → R (fields y) i j
+      spelled R y i j s = let Q : A → Type 0 = λ x. R x i j in subst Q (sym (again s.0) ∙ ap fields (sym s.1)) s.2
 
-signal_name_complete : Complete signal_name SpellsSignalName NoOpen
-unfolding signal_name
-signal_name_complete x i j s none =
-    ap signal_name s.1
-    ∙ bind_is (name (word.Name x.name ∷ s.0)) _ x.name s.0 (name_again x.name s.0)
-    ∙ bind_is (in_parentheses sort s.0) (λ given. pure (record { name = x.name; sorts = given })) x.sorts j
-    (in_parentheses_complete sort SpellsSort (λ _. Unit {0}) (λ x i j s _. sort_complete x i j s) sort_shortens (λ m. tt) (λ m. tt) x.sorts s.0 j s.2 none)
+-- ---- what begins with a mark, and takes it
 
-signal_name_shortens : Shortens signal_name
-unfolding signal_name
-signal_name_shortens i x j e =
-    let a = bind_ok (name i) _ x j e in
-    let b = bind_ok (in_parentheses sort a.1) (λ given. pure (record { name = a.0; sorts = given })) x j a.3 in
-    let made : SignalDefinition = record { name = a.0; sorts = b.0 } in
-    let first = shortens_name i a.0 a.1 a.2 in
-    let second = in_parentheses_keeps sort SpellsSort sort_shortens a.1 b.0 b.1 b.2 in
-    let same = ap length (same_rest made x b.1 j b.3) in omega (arith, same)
+abbrev pub Opens : {A : Type 0} → Mark → (A → Words → Words → Type 0) → Type 0
+Opens {A} m P = (x : A) (i j : Words) → P x i j → (s : Spelling) × (k : Words) × (i ≡ Fixed m s ∷ k) × IsRest k j
 
-pub signal_sound : Sound signal SpellsSignal
-unfolding signal
-signal_sound i x j e =
-    let a = bind_ok (expect mark.Signal i) _ x j e in
-    let b = bind_ok (separated signal_name a.1) _ x j a.3 in
-    let c = bind_ok (end b.1) (λ _. pure b.0) x j b.3 in
-    as_read (λ y k. SpellsSignal y i k) b.0 x c.1 j c.3
-    (a.1, b.1, expect_ok mark.Signal i a.0 a.1 a.2, separated_sound signal_name SpellsSignalName signal_name_sound a.1 b.0 b.1 b.2, end_sound b.1 c.0 c.1 c.2)
+pub mark_opens : {B : Type 0} (m : Mark) {q : Parser B} {Q N : B → Words → Words → Type 0} {T : Words → Type 0} {f : B → B} → Law q Q N T f → Opens m (Both (IsMark m) Q)
+mark_opens m b x i j s = (x.0, s.0, s.1, left_behind b.rules x.1 s.0 j s.2)
 
-pub signal_complete : (x : List SignalDefinition) (i j : Words) → SpellsSignal x i j → signal i ≡ read_as x j
-unfolding signal
-signal_complete x i j s =
-    ap signal s.2
-    ∙ bind_is (expect mark.Signal (Fixed mark.Signal ∷ s.0)) _ tt s.0 (expect_again mark.Signal s.0)
-    ∙ bind_is (separated signal_name s.0) _ x s.1
-    (separated_complete signal_name SpellsSignalName NoOpen signal_name_complete signal_name_shortens comma_no_open x s.0 s.1 s.3 (end_no_open s.1 j s.4) (end_no_comma s.1 j s.4))
-    ∙ bind_is (end s.1) (λ _. pure x) tt j (end_complete s.1 j s.4)
+pub behind_opens : {B : Type 0} (m : Mark) {q : Parser B} {Q N : B → Words → Words → Type 0} {T : Words → Type 0} {f : B → B} → Law q Q N T f → Opens m (Behind m Q)
+behind_opens m b x i j s = (s.0, s.1, s.2, left_behind b.rules x s.1 j s.3)
 
-signal_name_weighs : (d : ℕ) → Weighs d signal_name
-unfolding signal_name
-signal_name_weighs d =
-    weighs_bind d name _ (weighs_name d) (λ x.
-    counts_bind d (in_parentheses sort) (λ given. pure (record { name = x; sorts = given })) (counts_in_parentheses d sort (light d sort (weighs_sort d))) (λ given. counts_pure d (record { name = x; sorts = given })))
+module _ {A : Type 0} (m : Mark) (P : A → Words → Words → Type 0) (opens : Opens m P) where
+  pub opens_seen : (x : A) (i j : Words) → P x i j → sees m i ≡ true
+  opens_seen x i j s = let o = opens x i j s in sees_at m o.0 i o.1 o.2
 
-pub signal_weighs : (d : ℕ) → Weighs d signal
-unfolding signal
-signal_weighs d =
-    weighs_bind d (expect mark.Signal) _ (weighs_expect d mark.Signal (refl, refl)) (λ _.
-    counts_bind d (separated signal_name) _ (light d (separated signal_name) (weighs_separated d signal_name (signal_name_weighs d))) (λ xs.
-    counts_bind d end (λ _. pure xs) (counts_end d) (λ _. counts_pure d xs)))
+  pub opens_takes : Takes P
+  opens_takes x i j s =
+      let o = opens x i j s in
+      let first = ap length o.2 in
+      let more = rest_length o.1 j o.3 in omega (arith, first)
 
--- ---- sig
+-- what is spelled by the first, up to where the second begins, and by it
+pub both_takes : {A B : Type 0} {q : Parser B} {P : A → Words → Words → Type 0} {Q N : B → Words → Words → Type 0} {T : Words → Type 0} {f : B → B}
+    → Takes P → Law q Q N T f → Takes (Both P Q)
+both_takes takes b x i j s =
+    let less = takes x.0 i s.0 s.1 in
+    let more = rest_length s.0 j (left_behind b.rules x.1 s.0 j s.2) in omega arith
 
-list_item_sound : Sound list_item SpellsSig
-unfolding list_item
-list_item_sound i x j e =
-    let a = bind_ok (expect mark.Open i) _ x j e in
-    let b = bind_ok (name a.1) _ x j a.3 in
-    let c = bind_ok (expect mark.Close b.1) (λ _. pure (ListItem b.0)) x j b.3 in
-    as_read (λ y k. SpellsSig y i k) (ListItem b.0) x c.1 j c.3
-    (expect_ok mark.Open i a.0 a.1 a.2 ∙ ap (λ m. Fixed mark.Open ∷ m) (name_ok a.1 b.0 b.1 b.2 ∙ ap (λ m. word.Name b.0 ∷ m) (expect_ok mark.Close b.1 c.0 c.1 c.2)))
+-- ---- one of some productions, each of which begins with a mark of its own
 
-list_item_complete : (x : List ℕ) (j : Words) → list_item (Fixed mark.Open ∷ word.Name x ∷ Fixed mark.Close ∷ j) ≡ read_as (ListItem x) j
-unfolding list_item
-list_item_complete x j =
-    bind_is (expect mark.Open (Fixed mark.Open ∷ word.Name x ∷ Fixed mark.Close ∷ j)) _ tt (word.Name x ∷ Fixed mark.Close ∷ j) (expect_again mark.Open (word.Name x ∷ Fixed mark.Close ∷ j))
-    ∙ bind_is (name (word.Name x ∷ Fixed mark.Close ∷ j)) _ x (Fixed mark.Close ∷ j) (name_again x (Fixed mark.Close ∷ j))
-    ∙ bind_is (expect mark.Close (Fixed mark.Close ∷ j)) (λ _. pure (ListItem x)) tt j (expect_again mark.Close j)
+abbrev pub BeginsOne : List Mark → Words → Type 0
+BeginsOne [] i = ⊥
+BeginsOne (m ∷ ms) i = Begins m i ⊎ BeginsOne ms i
 
-sig_sound : Sound sig SpellsSig
-unfolding sig
-sig_sound = either_sound mark.Open list_item (mapped SignalItem name) SpellsSig list_item_sound (mapped_sound SignalItem name SpellsName SpellsSig (λ x i j s. s) name_ok)
+abbrev pub has_mark : Mark → List Mark → Bool
+has_mark m [] = false
+has_mark m (n ∷ ns) = same_mark n m || has_mark m ns
 
-name_no_open : (x : List ℕ) (j : Words) → sees mark.Open (word.Name x ∷ j) ≡ false
+or_left : (a b : Bool) → a ≡ true → (a || b) ≡ true
+or_left a b e = ap (λ c. c || b) e
+
+or_right : (a b : Bool) → b ≡ true → (a || b) ≡ true
+or_right true b e = refl
+or_right false b e = e
+
+none_left : (a b : Bool) → (a || b) ≡ false → a ≡ false
+none_left true b e = absurd (true≢false e)
+none_left false b e = refl
+
+none_right : (a b : Bool) → (a || b) ≡ false → b ≡ false
+none_right true b e = absurd (true≢false e)
+none_right false b e = e
+
+pub begins_seen : (ms : List Mark) (i : Words) → BeginsOne ms i → sees_one ms i ≡ true
+begins_seen [] i b = absurd b
+begins_seen (m ∷ ms) i (inl b) = or_left (sees m i) (sees_one ms i) (sees_at m b.0 i b.1 b.2)
+begins_seen (m ∷ ms) i (inr b) = or_right (sees m i) (sees_one ms i) (begins_seen ms i b)
+
+other_mark : (m n : Mark) (i : Words) → Begins n i → same_mark n m ≡ false → sees m i ≡ false
 unfolding sees front
-name_no_open x j = refl
+other_mark m n i b other = ap (sees m) b.2 ∙ other
 
-sig_complete : (x : SignalListItem) (i j : Words) → SpellsSig x i j → sig i ≡ read_as x j
-unfolding sig
-sig_complete (SignalItem x) i j s =
-    either_other mark.Open list_item (mapped SignalItem name) i (SignalItem x) j (ap (sees mark.Open) s ∙ name_no_open x j)
-    (mapped_is SignalItem name i x j (ap name s ∙ name_again x j))
-sig_complete (ListItem x) i j s =
-    either_here mark.Open list_item (mapped SignalItem name) i (word.Name x ∷ Fixed mark.Close ∷ j) (ListItem x) j s (ap list_item s ∙ list_item_complete x j)
+-- a mark that is none of them doesn't stand where one of them does
+pub begins_unseen : (m : Mark) (ms : List Mark) (i : Words) → has_mark m ms ≡ false → BeginsOne ms i → sees m i ≡ false
+begins_unseen m [] i none b = absurd b
+begins_unseen m (n ∷ ns) i none (inl b) = other_mark m n i b (none_left (same_mark n m) (has_mark m ns) none)
+begins_unseen m (n ∷ ns) i none (inr b) = begins_unseen m ns i (none_right (same_mark n m) (has_mark m ns) none) b
 
-spelled_balanced : (x : SignalListItem) (i j : Words) → SpellsSig x i j → Balanced i j
-spelled_balanced (SignalItem x) i j s = (word.Name x ∷ [], s, λ n. refl)
-spelled_balanced (ListItem x) i j s = (Fixed mark.Open ∷ word.Name x ∷ Fixed mark.Close ∷ [], s, λ n. omega arith)
+-- what stands next says which of the marks does
+pub one_front : (ms : List Mark) (i k : Words) → SameFront i k → sees_one ms i ≡ sees_one ms k
+one_front [] i k same = refl
+one_front (m ∷ ms) i k same = λ n. sees_front m i k same n || one_front ms i k same n
 
-spelled_shorter : (x : SignalListItem) (i j : Words) → SpellsSig x i j → length j < length i
-spelled_shorter (SignalItem x) i j s = let same = ap length s in omega (arith, same)
-spelled_shorter (ListItem x) i j s = let same = ap length s in omega (arith, same)
+pub no_mark : (m : Mark) → sees m [] ≡ false
+unfolding sees front
+no_mark m = refl
 
-list_item_deepens : (d : ℕ) → Deepens d list_item
-unfolding list_item
-list_item_deepens d i j e =
-    elim (bind_err (expect mark.Open i) (λ _. λ m. and_then (name m) (λ x. λ k. and_then (expect mark.Close k) (λ _. pure (ListItem x)))) (Deep j) e) as (λ _. IsInside d i j) [
-      | inl s ↦ expect_not_deep mark.Open i j s
-      | inr s ↦
-          elim (bind_err (name s.1) (λ x. λ k. and_then (expect mark.Close k) (λ _. pure (ListItem x))) (Deep j) s.3) as (λ _. IsInside d i j) [
-            | inl t ↦ name_not_deep s.1 j t
-            | inr t ↦
-                elim (bind_err (expect mark.Close t.1) (λ _. pure (ListItem t.0)) (Deep j) t.3) as (λ _. IsInside d i j) [
-                  | inl u ↦ expect_not_deep mark.Close t.1 j u
-                  | inr u ↦ not_deep (ListItem t.0) u.1 j u.3
-                ]
-          ]
-    ]
+pub none_at_end : (ms : List Mark) → sees_one ms [] ≡ false
+none_at_end [] = refl
+none_at_end (m ∷ ms) = λ n. no_mark m n || none_at_end ms n
 
-list_item_weighs : (d : ℕ) → Weighs d list_item
-list_item_weighs d =
-    (λ i x j e. spelled_balanced x i j (list_item_sound i x j e), list_item_deepens d, λ i x j e. spelled_shorter x i j (list_item_sound i x j e))
+-- [x], where x begins with this mark
+pub maybe_mark : {A : Type 0} (m : Mark) {p : Parser A} {P M : A → Words → Words → Type 0} {S : Words → Type 0} {e : A → A} → Law p P M S e → Opens m P
+    → MaybeLaw (maybe (sees m) p) P M S (sees m) e
+maybe_mark m {P = P} a opens = maybe_law (sees m) (sees_front m) a.rules (no_mark m) (opens_seen m P opens) (opens_takes m P opens)
 
-sig_weighs : (d : ℕ) → Weighs d sig
-unfolding sig
-sig_weighs d = weighs_either d mark.Open list_item (mapped SignalItem name) (list_item_weighs d) (weighs_mapped d SignalItem name (weighs_name d))
+-- what is read, and the marks with one of which it begins
+pub record Choice {A : Type 0} (p : Parser A) (P M : A → Words → Words → Type 0) (marks : List Mark) (erased : A → A) : Type 0 where
+  pub law : Law p P M Anywhere erased
+  pub takes : Takes P
+  pub begins : (x : A) (i j : Words) → P x i j → BeginsOne marks i
 
--- ---- sigs
+pub one_choice : {A : Type 0} (m : Mark) {p : Parser A} {P M : A → Words → Words → Type 0} {e : A → A} → Law p P M Anywhere e → Opens m P → Choice p P M (m ∷ []) e
+one_choice m {P = P} a opens =
+    record { law = a; takes = opens_takes m P opens; begins = λ x i j s. let o = opens x i j s in inl (o.0, o.1, o.2) }
 
-pub sigs_sound : Sound sigs SpellsSigs
-sigs_sound = separated_sound sig SpellsSig sig_sound
+-- the first, where its mark stands, and else one of the others
+module _ {A : Type 0} (m : Mark) (ms : List Mark) {p q : Parser A} {P M Q N : A → Words → Words → Type 0} {e : A → A} where
+  pub or_choice : has_mark m ms ≡ false → Law p P M Anywhere e → Opens m P → Choice q Q N ms e
+      → Choice (either (sees m) p q) (λ x i j. P x i j ⊎ Q x i j) (λ x i j. M x i j ⊎ N x i j) (m ∷ ms) e
+  or_choice none a opens b = record {
+    law = either_law (sees m) (sees_front m) a b.law (opens_seen m P opens) (λ x i j s t. begins_unseen m ms i none (b.begins x i j s));
+    takes = or_takes;
+    begins = or_begins;
+  }
+    where
+      or_takes : Takes (λ (x : A) i j. P x i j ⊎ Q x i j)
+      or_takes x i j (inl s) = opens_takes m P opens x i j s
+      or_takes x i j (inr s) = b.takes x i j s
 
--- before an end
-pub sigs_complete : (xs : List SignalListItem) (i k j : Words) → SpellsSigs xs i k → SpellsEnd k j → sigs i ≡ read_as xs k
-sigs_complete = ended_complete sig SpellsSig (λ _. Unit {0}) (λ x i j s _. sig_complete x i j s) (sig_weighs 0).2 (λ m. tt) (λ k j e. tt)
+      or_begins : (x : A) (i j : Words) → P x i j ⊎ Q x i j → BeginsOne (m ∷ ms) i
+      or_begins x i j (inl s) = let o = opens x i j s in inl (o.0, o.1, o.2)
+      or_begins x i j (inr s) = inr (b.begins x i j s)
 
-pub sigs_weigh : (d : ℕ) → Weighs d sigs
-sigs_weigh d = weighs_separated d sig (sig_weighs d)
+-- another name for a choice
+pub as_choice : {A : Type 0} {p : Parser A} {P M R O : A → Words → Words → Type 0} {ms : List Mark} {e : A → A}
+    → ((x : A) (i j : Words) → P x i j → R x i j) → ((x : A) (i j : Words) → R x i j → P x i j) → ((x : A) (i j : Words) → M x i j → O x i j)
+    → Choice p P M ms e → Choice p R O ms e
+as_choice to from to_more c =
+    record { law = as_law to from to_more c.law; takes = λ x i j s. c.takes x i j (from x i j s); begins = λ x i j s. c.begins x i j (from x i j s) }
 
--- ---- signallist
+-- [x], where x begins with one of these marks
+pub maybe_choice : {A : Type 0} (ms : List Mark) {p : Parser A} {P M : A → Words → Words → Type 0} {e : A → A} → Choice p P M ms e
+    → MaybeLaw (maybe (sees_one ms) p) P M Anywhere (sees_one ms) e
+maybe_choice ms c = maybe_law (sees_one ms) (one_front ms) c.law.rules (none_at_end ms) (λ x i j s. begins_seen ms i (c.begins x i j s)) c.takes
 
-pub signal_list_sound : Sound signal_list SpellsSignalList
+-- ---- signals
+
+same_sort : (x y : Spot) → x.text ≡ y.text → erased_sort x ≡ erased_sort y
+same_sort x y e = λ n. record { text = sort_of (e n); place = (erased_sort x).place }
+
+-- the name of a sort
+pub sort_law : Law name SpellsName SpellsName Anywhere erased_sort
+sort_law = name_as erased_sort same_sort
+
+-- [sorts]
+pub sorts_law : Law (in_parentheses name) (InParentheses SpellsName) (InParentheses SpellsName) (λ j. sees mark.Open j ≡ false) (map erased_sort)
+sorts_law = in_parentheses_law sort_law name_takes (λ s m. tt) (λ s m. tt)
+
+signal_name_law : Law signal_name SpellsSignalName SpellsSignalName (λ j. sees mark.Open j ≡ false) erased_signal
+unfolding signal_name
+signal_name_law =
+    record_law signal_with (λ y. (y.name, y.sorts)) (λ x y n. ap signal_with n) (λ x. refl) (λ y. refl) (both_law name_law sorts_law (λ y m j s t. tt))
+
+signal_name_takes : Takes SpellsSignalName
+signal_name_takes x i j s = both_takes name_takes sorts_law (x.name, x.sorts) i j s
+
+signal_names_law : Law (ended (separated signal_name)) (Ended (Separated SpellsSignalName)) (Ended (Separated SpellsSignalName)) Anywhere (map erased_signal)
+unfolding sees front same_mark
+signal_names_law = ended_at_law (separated_law signal_name_law signal_name_takes (λ s m. refl)) (λ s m. (refl, refl)) (λ s m. (refl, refl))
+
+pub signal_law : Law signal SpellsSignal SpellsSignal Anywhere (map erased_signal)
+unfolding signal
+signal_law = behind_law mark.Signal signal_names_law
+
+pub signal_opens : Opens mark.Signal SpellsSignal
+signal_opens = behind_opens mark.Signal signal_names_law
+
+pub sig_takes : Takes SpellsSig
+sig_takes (SignalItem x) i j s = name_takes x i j s
+sig_takes (ListItem x) i j s =
+    let first = ap length s.2 in
+    let second = ap length s.3.1 in omega (arith, first, second)
+
+-- sigs end
+pub sigs_law : Law (ended (separated sig)) (Ended SpellsSigs) (Ended SpellsSigs) Anywhere (map erased_item)
+unfolding sees front same_mark
+sigs_law = ended_at_law (separated_law sig_law sig_takes (λ s m. tt)) (λ s m. (tt, refl)) (λ s m. (tt, refl))
+
+named_sigs_law : Law (name ⊗ behind mark.Equal (ended (separated sig))) (Both SpellsName (Behind mark.Equal (Ended SpellsSigs))) (Both SpellsName (Behind mark.Equal (Ended SpellsSigs))) Anywhere (λ x. (erased_name x.0, map erased_item x.1))
+named_sigs_law = both_law name_law (behind_law mark.Equal sigs_law) (λ y m j s t. tt)
+
+pub signal_list_law : Law signal_list SpellsSignalList SpellsSignalList Anywhere erased_signal_list
 unfolding signal_list
-signal_list_sound i x j e =
-    let a = bind_ok (expect mark.SignalList i) _ x j e in
-    let b = bind_ok (name a.1) _ x j a.3 in
-    let c = bind_ok (expect mark.Equal b.1) _ x j b.3 in
-    let f = bind_ok (sigs c.1) _ x j c.3 in
-    let g = bind_ok (end f.1) (λ _. pure (record { name = b.0; items = f.0 })) x j f.3 in
-    let made : SignalListDefinition = record { name = b.0; items = f.0 } in
-    as_read (λ y k. SpellsSignalList y i k) made x g.1 j g.3 (
-      c.1,
-      f.1,
-      expect_ok mark.SignalList i a.0 a.1 a.2 ∙ ap (λ m. Fixed mark.SignalList ∷ m) (name_ok a.1 b.0 b.1 b.2 ∙ ap (λ m. word.Name b.0 ∷ m) (expect_ok mark.Equal b.1 c.0 c.1 c.2)),
-      sigs_sound c.1 f.0 f.1 f.2,
-      end_sound f.1 g.0 g.1 g.2,
-    )
+signal_list_law =
+    record_law signal_list_with (λ y. (y.word, (y.name, y.items))) (λ x y n. ap signal_list_with n) (λ x. refl) (λ y. refl)
+    (both_law (mark_law mark.SignalList) named_sigs_law (λ y m j s t. tt))
 
-pub signal_list_complete : (x : SignalListDefinition) (i j : Words) → SpellsSignalList x i j → signal_list i ≡ read_as x j
-unfolding signal_list
-signal_list_complete x i j s =
-    ap signal_list s.2
-    ∙ bind_is (expect mark.SignalList (Fixed mark.SignalList ∷ word.Name x.name ∷ Fixed mark.Equal ∷ s.0)) _ tt (word.Name x.name ∷ Fixed mark.Equal ∷ s.0) (expect_again mark.SignalList (word.Name x.name ∷ Fixed mark.Equal ∷ s.0))
-    ∙ bind_is (name (word.Name x.name ∷ Fixed mark.Equal ∷ s.0)) _ x.name (Fixed mark.Equal ∷ s.0) (name_again x.name (Fixed mark.Equal ∷ s.0))
-    ∙ bind_is (expect mark.Equal (Fixed mark.Equal ∷ s.0)) _ tt s.0 (expect_again mark.Equal s.0)
-    ∙ bind_is (sigs s.0) _ x.items s.1 (sigs_complete x.items s.0 s.1 j s.3 s.4)
-    ∙ bind_is (end s.1) (λ _. pure (record { name = x.name; items = x.items })) tt j (end_complete s.1 j s.4)
+pub signal_list_opens : Opens mark.SignalList SpellsSignalList
+signal_list_opens x i j s = mark_opens mark.SignalList named_sigs_law (x.word, (x.name, x.items)) i j s
 
-pub signal_list_weighs : (d : ℕ) → Weighs d signal_list
-unfolding signal_list
-signal_list_weighs d =
-    weighs_bind d (expect mark.SignalList) _ (weighs_expect d mark.SignalList (refl, refl)) (λ _.
-    counts_bind d name _ (counts_name d) (λ x.
-    counts_bind d (expect mark.Equal) _ (counts_expect d mark.Equal (refl, refl)) (λ _.
-    counts_bind d sigs _ (light d sigs (sigs_weigh d)) (λ items.
-    counts_bind d end (λ _. pure (record { name = x; items = items })) (counts_end d) (λ _. counts_pure d (record { name = x; items = items }))))))
-
--- ---- signalset
-
-pub signal_set_sound : Sound signal_set SpellsSignalSet
+pub signal_set_law : Law signal_set SpellsSignalSet SpellsSignalSet Anywhere erased_signal_set
 unfolding signal_set
-signal_set_sound = introduced_sound mark.SignalSet sigs SpellsSigs sigs_sound
+signal_set_law =
+    record_law signal_set_with (λ y. (y.word, y.items)) (λ x y n. ap signal_set_with n) (λ x. refl) (λ y. refl)
+    (both_law (mark_law mark.SignalSet) sigs_law (λ y m j s t. tt))
 
-pub signal_set_complete : (xs : List SignalListItem) (i j : Words) → SpellsSignalSet xs i j → signal_set i ≡ read_as xs j
-unfolding signal_set
-signal_set_complete = introduced_complete mark.SignalSet sigs SpellsSigs sigs_complete
-
-pub signal_set_weighs : (d : ℕ) → Weighs d signal_set
-unfolding signal_set
-signal_set_weighs d = weighs_introduced d mark.SignalSet sigs (refl, refl) (light d sigs (sigs_weigh d))
+pub signal_set_opens : Opens mark.SignalSet SpellsSignalSet
+signal_set_opens x i j s = mark_opens mark.SignalSet sigs_law (x.word, x.items) i j s

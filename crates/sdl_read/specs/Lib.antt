@@ -1,9 +1,7 @@
-pub mod Choices
 pub mod Expressions
-pub mod Item
-pub mod Names
 pub mod Parts
+pub mod PlacedWord
+pub mod Reader
 pub mod Reading
 pub mod Reads
-pub mod Signals
 pub mod Wanted

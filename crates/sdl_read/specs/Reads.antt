@@ -1,13 +1,14 @@
 -- What a function that reads ensures: what its parser gives, unless memory fails.
 use Rattle.std.specs.Prelude.{◌≡◌, Result, Ok, Err}
-use Rattle.sdl_tree.specs.Spells.Parts.{Words}
+use Rattle.sdl_tree.specs.Words.{Words}
 use Rattle.sdl_read.specs.declared.fault.Fault.{Fault}
-use Rattle.sdl_read.specs.declared.fault.Fault.TheVariants.{Expected, LeftOut, TooDeep, Memory}
-use Rattle.sdl_read.specs.Reading.{Outcome, Refused, Deep}
+use Rattle.sdl_read.specs.declared.fault.Fault.TheVariants.{Expected, Condition, TooDeep, Memory}
+use Rattle.sdl_read.specs.Reading.{Outcome, Refused, Deep, Barred}
 
+-- The fault is of the word that stands first in what is left.
 abbrev pub Fails : {A : Type 0} → Outcome A → Fault → Words → Type 0
-Fails outcome (Expected wanted) new = outcome ≡ Err Refused
-Fails outcome (LeftOut word) new = outcome ≡ Err Refused
+Fails outcome (Expected wanted) new = outcome ≡ Err (Refused new)
+Fails outcome Condition new = outcome ≡ Err (Barred new)
 Fails outcome TooDeep new = outcome ≡ Err (Deep new)
 Fails outcome Memory new = Unit {0}
 

@@ -1,13 +1,13 @@
 //! A cursor over the words of a text.
 
 ghost use Rattle.std.specs.Prelude.{◌≡◌, length, map, option_map};
-ghost use Rattle.sdl_read.specs.Item.{item_meaning, meaning};
+ghost use Rattle.sdl_read.specs.PlacedWord.{word_of_placed};
 ghost use Rattle.sdl_read.specs.Reading as spec;
 ghost use Rattle.sdl_read.specs.Reads.{Reads};
-ghost use Rattle.sdl_tree.specs.Views.{plain_name};
+ghost use Rattle.sdl_tree.specs.Views.{name_value, number_value};
 
 use crate::fault::{Fault, Wanted};
-use crate::word::{Item, Word};
+use crate::word::{PlacedWord, Word};
 use sdl_lex::Place;
 use sdl_tree::{Mark, Name, Number, Spelling};
 use std::alloc::Global;
@@ -15,64 +15,74 @@ use std::marker::Model;
 
 /// The words that are not read yet. The first of them, or the end of the text, is the front.
 #[derive(Drop)]
-pub struct Cursor<'t> {
-    items: &'t [Item<'t>],
-    /// The place just past the text.
-    end: Place,
+pub struct Cursor<'c, 't> {
+    words: &'c [PlacedWord<'t>],
 }
 
-impl<'t> Model for Cursor<'t> {
+impl<'c, 't> Model for Cursor<'c, 't> {
     ghost use Rattle.std.specs.Prelude.{map};
-    ghost use Rattle.sdl_tree.specs.Spells.Parts.{Words};
-    ghost use Rattle.sdl_read.specs.Item.{item_meaning};
+    ghost use Rattle.sdl_tree.specs.Words.{Words};
+    ghost use Rattle.sdl_read.specs.PlacedWord.{word_of_placed};
 
     ghost Value = { Words };
 
-    ghost view = { λ c. map item_meaning c.items.now };
+    ghost view = { λ c. map word_of_placed c.words.now };
 }
 
-impl<'t> Cursor<'t> {
-    /// The cursor before all words of a text, which ends at this place.
-    pub fn new(items: &'t [Item<'t>], end: Place) -> Cursor<'t>
-        ensures { result ≡ map item_meaning items.now }
+impl<'c, 't> Cursor<'c, 't> {
+    /// The cursor before all words of a text.
+    pub fn new(words: &'c [PlacedWord<'t>]) -> Cursor<'c, 't>
+        ensures { result ≡ map word_of_placed words.now }
     {
-        Cursor { items, end }
+        Cursor { words }
     }
 
     /// A second cursor at the same place, to look ahead with.
-    pub fn again(&self) -> Cursor<'t>
+    pub fn again(&self) -> Cursor<'c, 't>
         ensures { result ≡ self.now }
     {
-        Cursor {
-            items: self.items,
-            end: self.end,
-        }
+        Cursor { words: self.words }
     }
 
     /// What stands next, if not the end of the text.
     #[tactic(auto, unfolding(crate::specs::Reading::front))]
-    pub fn front(&self) -> Option<Word<'t>>
-        ensures { option_map meaning result ≡ spec.front self.now }
+    pub fn front(&self) -> Option<PlacedWord<'t>>
+        ensures { option_map word_of_placed result ≡ spec.front self.now }
     {
-        match self.items {
-            [first, ..] => Some(first.word),
+        match self.words {
+            [first, ..] => Some(*first),
             [] => None,
         }
     }
 
-    /// The place of what stands next; at the end of the text, the place just past it.
-    pub fn place(&self) -> Place {
-        match self.items {
-            [first, ..] => first.place,
-            [] => self.end,
+    /// The place of what stands next, if not the end of the text.
+    #[tactic(auto, unfolding(crate::specs::Reading::place_at))]
+    pub fn place(&self) -> Option<Place>
+        ensures { result ≡ spec.place_at self.now }
+    {
+        match self.front() {
+            Some(next) => Some(next.place),
+            None => None,
         }
     }
 
-    /// How many words are left, and so how many turns a list can take at most.
+    /// How many words are left.
     pub fn left(&self) -> usize
         ensures { result ≡ length self.now }
     {
-        self.items.len()
+        self.words.len()
+    }
+
+    /// How many turns a list of items can take at most: each but the last takes a word, and where the text ends an item
+    /// is asked for, too.
+    #[tactic(auto, unfolding(crate::specs::Reading::turns))]
+    pub fn turns(&self) -> usize
+        ensures { result ≡ spec.turns self.now }
+    {
+        match self.words {
+            [] => 1,
+            [_, ..] => self.words.len(),
+        }
     }
 
     /// Goes past one word.
@@ -80,8 +90,8 @@ impl<'t> Cursor<'t> {
     pub fn pass(&mut self)
         ensures { self.new ≡ spec.rest self.old }
     {
-        if let [_, rest @ ..] = self.items {
-            self.items = rest;
+        if let [_, rest @ ..] = self.words {
+            self.words = rest;
         }
     }
 
@@ -90,8 +100,8 @@ impl<'t> Cursor<'t> {
     pub fn mark(&self) -> Option<Mark>
         ensures { result ≡ spec.mark_at self.now }
     {
-        match self.front() {
-            Some(Word::Fixed(mark, _)) => Some(mark),
+        match self.front()?.word {
+            Word::Fixed(mark, _) => Some(mark),
             _ => None,
         }
     }
@@ -102,7 +112,12 @@ impl<'t> Cursor<'t> {
         ensures { result ≡ spec.sees mark self.now }
     {
         match self.front() {
-            Some(Word::Fixed(next, _)) => next == mark,
+            Some(
+                PlacedWord {
+                    word: Word::Fixed(next, _),
+                    ..
+                },
+            ) => next == mark,
             _ => false,
         }
     }
@@ -112,7 +127,27 @@ impl<'t> Cursor<'t> {
     pub fn sees_name(&self) -> bool
         ensures { result ≡ spec.sees_name self.now }
     {
-        matches!(self.front(), Some(Word::Name(_)))
+        matches!(
+            self.front(),
+            Some(PlacedWord {
+                word: Word::Name(_),
+                ..
+            })
+        )
+    }
+
+    /// Whether a number stands next.
+    #[tactic(auto, unfolding(crate::specs::Reading::sees_number))]
+    pub fn sees_number(&self) -> bool
+        ensures { result ≡ spec.sees_number self.now }
+    {
+        matches!(
+            self.front(),
+            Some(PlacedWord {
+                word: Word::Number(..),
+                ..
+            })
+        )
     }
 
     /// Whether the mark stands next, which is then passed.
@@ -128,37 +163,41 @@ impl<'t> Cursor<'t> {
         found
     }
 
-    /// Passes this mark.
-    #[tactic(auto, unfolding(crate::specs::Reading::expect))]
+    /// Passes this mark, and tells how it is spelled and where it stands.
+    #[tactic(auto, unfolding(crate::specs::Reading::expect, crate::specs::Reading::same_mark))]
     pub fn expect(&mut self, mark: Mark) -> Result<Spelling, Fault>
-        ensures { Reads (λ _. tt) (spec.expect mark self.old) result self.new }
+        ensures { Reads (λ s. s) (spec.expect mark self.old) result self.new }
     {
-        if !self.sees(mark) {
-            return Err(Fault::Expected(Wanted::Mark(mark)));
-        }
-        let spelling = self.spelling();
-        self.pass();
-        Ok(spelling)
-    }
-
-    /// How the mark that stands next is spelled, and where; nothing for what is no mark.
-    pub fn spelling(&self) -> Spelling {
-        let place = self.place();
         match self.front() {
-            Some(Word::Fixed(_, text)) => Spelling { text, place },
-            _ => Spelling { text: "", place },
+            Some(
+                PlacedWord {
+                    word: Word::Fixed(next, case),
+                    place,
+                },
+            ) => {
+                if next == mark {
+                    self.pass();
+                    return Ok(Spelling { case, place });
+                }
+                Err(Fault::Expected(Wanted::Mark(mark)))
+            }
+            _ => Err(Fault::Expected(Wanted::Mark(mark))),
         }
     }
 
     /// Passes a name.
     #[tactic(auto, unfolding(crate::specs::Reading::name))]
     pub fn name(&mut self, alloc: Global) -> Result<Name, Fault>
-        ensures { Reads plain_name (spec.name self.old) result self.new }
+        ensures { Reads name_value (spec.name self.old) result self.new }
     {
         match self.front() {
-            Some(Word::Name(text)) => {
+            Some(
+                PlacedWord {
+                    word: Word::Name(text),
+                    place,
+                },
+            ) => {
                 let text = String::from_str(alloc, text)?;
-                let place = self.place();
                 self.pass();
                 Ok(Name { text, place })
             }
@@ -169,12 +208,16 @@ impl<'t> Cursor<'t> {
     /// Passes a number.
     #[tactic(auto, unfolding(crate::specs::Reading::number))]
     pub fn number(&mut self, alloc: Global) -> Result<Number, Fault>
-        ensures { Reads (λ n. n.value) (spec.number self.old) result self.new }
+        ensures { Reads number_value (spec.number self.old) result self.new }
     {
         match self.front() {
-            Some(Word::Number(value, digits)) => {
+            Some(
+                PlacedWord {
+                    word: Word::Number(value, digits),
+                    place,
+                },
+            ) => {
                 let text = String::from_str(alloc, digits)?;
-                let place = self.place();
                 self.pass();
                 let digits = Name { text, place };
                 Ok(Number { value, digits })
@@ -189,7 +232,12 @@ impl<'t> Cursor<'t> {
         ensures { Reads (λ _. tt) (spec.text self.old) result self.new }
     {
         match self.front() {
-            Some(Word::Text) => {
+            Some(
+                PlacedWord {
+                    word: Word::Text(_),
+                    ..
+                },
+            ) => {
                 self.pass();
                 Ok(())
             }

@@ -1,91 +1,104 @@
 //! Expressions.
 
-ghost use Rattle.std.specs.Prelude.{◌≡◌, ◌-◌, ◌≤◌, map, IfOk};
+ghost use Rattle.std.specs.Prelude.{◌≡◌, ◌-◌, ◌≤◌, map, option_map, IfOk};
 ghost use Rattle.sdl_tree.specs.Spells.Expressions as grammar;
-ghost use Rattle.sdl_tree.specs.Tree as plain;
-ghost use Rattle.sdl_tree.specs.Views.{plain_expr, plain_exprs, plain_name};
+ghost use Rattle.sdl_tree.specs.Views.{expr_value, link_value, name_value};
 ghost use Rattle.sdl_read.specs.Expressions as spec;
-ghost use Rattle.sdl_read.specs.Reading.{separated};
+ghost use Rattle.sdl_read.specs.Reading.{in_parentheses};
 ghost use Rattle.sdl_read.specs.Reads.{Reads};
 
 use crate::cursor::Cursor;
 use crate::fault::{Fault, Wanted};
-use crate::word::Word;
+use crate::lists::{At, LOOSEST, Perhaps, Production, in_parentheses, repeated};
 use sdl_tree::{
     Chain, Expression, KeywordValue, Link, Mark, Name, Operator, Spelling, UnaryOperator,
 };
 use std::alloc::{AllocError, Global};
 
-/// The looseness of the weakest operators. A primary has 0, and a unary operator 1.
-const LOOSEST: usize = 7;
+impl Production<Expression> for At {
+    ghost use Rattle.sdl_tree.specs.Tree.{Expr};
+    ghost use Rattle.sdl_tree.specs.Views.{expr_value};
+    ghost use Rattle.sdl_read.specs.Expressions.{level, readers};
 
-/// How many parentheses and decisions may stand inside each other, which bounds the stack.
-pub const LIMIT: usize = 64;
+    ghost Node = { Expr };
+
+    ghost value = { expr_value };
+
+    ghost reads = { λ at. level (readers at.depth) at.loose };
+}
+
+impl Perhaps<Link> for At {
+    ghost use Rattle.std.specs.Prelude.{◌-◌};
+    ghost use Rattle.sdl_tree.specs.Tree as plain;
+    ghost use Rattle.sdl_tree.specs.Views.{link_value};
+    ghost use Rattle.sdl_read.specs.Expressions.{level, link, readers};
+
+    ghost Node = { plain.Link };
+
+    ghost value = { link_value };
+
+    ghost reads = { λ at. link (level (readers at.depth) (at.loose - 1)) at.loose };
+}
 
 /// `expr`, in which `depth` parentheses may stand inside each other.
-pub fn expression(alloc: Global, cursor: &mut Cursor<'_>, depth: usize) -> Result<Expression, Fault>
+pub fn expression(
+    alloc: Global,
+    cursor: &mut Cursor<'_, '_>,
+    depth: usize,
+) -> Result<Expression, Fault>
     requires { depth ≤ 64 }
-    ensures { Reads plain_expr (spec.expr depth cursor.old) result cursor.new }
+    ensures { Reads expr_value (spec.expr depth cursor.old) result cursor.new }
 {
-    level(alloc, cursor, depth, LOOSEST)
+    let loose = LOOSEST;
+    level(alloc, cursor, At { depth, loose })
 }
 
-/// An expression whose operators have at most this looseness.
+/// An expression whose operators have at most the looseness of the place.
 #[cycle(nesting)]
-fn level(
-    alloc: Global,
-    cursor: &mut Cursor<'_>,
-    depth: usize,
-    loose: usize,
-) -> Result<Expression, Fault>
-    requires shallow { depth ≤ 64 }
-    requires loosest { loose ≤ 7 }
-    ensures { Reads plain_expr (spec.level (spec.readers depth) loose cursor.old) result cursor.new }
+pub fn level(alloc: Global, cursor: &mut Cursor<'_, '_>, at: At) -> Result<Expression, Fault>
+    requires shallow { at.depth ≤ 64 }
+    requires loosest { at.loose ≤ 7 }
+    ensures { Reads expr_value (spec.level (spec.readers at.depth) at.loose cursor.old) result cursor.new }
 {
-    if loose == 0 {
+    let depth = at.depth;
+    if at.loose == 0 {
         return primary(alloc, cursor, depth);
     }
-    if loose == 1 {
+    if at.loose == 1 {
         return signed(alloc, cursor, depth);
     }
-    let first = level(alloc, cursor, depth, loose - 1)?;
-    links(alloc, cursor, depth, loose, first)
+    let loose = at.loose - 1;
+    let first = level(alloc, cursor, At { depth, loose })?;
+    let rest = repeated(alloc, cursor, at, link)?;
+    Ok(chain(alloc, first, rest)?)
 }
 
-/// What operators of this looseness make of their first operand.
+/// An operator of the place's looseness and the operand behind it, if such an operator stands next.
 #[cycle(nesting)]
-fn links(
-    alloc: Global,
-    cursor: &mut Cursor<'_>,
-    depth: usize,
-    loose: usize,
-    first: Expression,
-) -> Result<Expression, Fault>
-    requires shallow { depth ≤ 64 }
-    requires binary { 2 ≤ loose }
-    requires loosest { loose ≤ 7 }
-    ensures { Reads plain_expr (spec.climb_all (spec.level (spec.readers depth) (loose - 1)) loose (plain_expr first) cursor.old) result cursor.new }
+#[tactic(auto, unfolding(crate::specs::Expressions::link))]
+pub fn link(alloc: Global, cursor: &mut Cursor<'_, '_>, at: At) -> Result<Option<Link>, Fault>
+    requires shallow { at.depth ≤ 64 }
+    requires binary { 2 ≤ at.loose }
+    requires loosest { at.loose ≤ 7 }
+    ensures { Reads (option_map link_value) (spec.link (spec.level (spec.readers at.depth) (at.loose - 1)) at.loose cursor.old) result cursor.new }
 {
-    let mut rest = Vec::new(alloc);
-    for _turn in 0..cursor.left() {
-        let Some(operator) = operator_at(cursor, loose) else {
-            return Ok(chain(alloc, first, rest)?);
-        };
-        let word = cursor.spelling();
-        cursor.pass();
-        let operand = level(alloc, cursor, depth, loose - 1)?;
-        rest.push(Link {
-            operator,
-            word,
-            operand,
-        })?;
-    }
-    Ok(chain(alloc, first, rest)?)
+    let depth = at.depth;
+    let loose = at.loose - 1;
+    let Some(operator) = operator_at(cursor, at.loose) else {
+        return Ok(None);
+    };
+    let word = cursor.expect(operator.mark())?;
+    let operand = level(alloc, cursor, At { depth, loose })?;
+    Ok(Some(Link {
+        operator,
+        word,
+        operand,
+    }))
 }
 
 /// Operands with the operators between them, or one operand alone.
 fn chain(alloc: Global, first: Expression, rest: Vec<Link>) -> Result<Expression, AllocError>
-    ensures { IfOk result (λ e. plain_expr e ≡ spec.plain_so_far first rest.items) }
+    ensures { IfOk result (λ e. expr_value e ≡ spec.chain_with (expr_value first) (map link_value rest.items)) }
 {
     if rest.is_empty() {
         return Ok(first);
@@ -96,19 +109,14 @@ fn chain(alloc: Global, first: Expression, rest: Vec<Link>) -> Result<Expression
 /// `["-" | "not"] primary`
 #[cycle(nesting)]
 #[tactic(auto, unfolding(crate::specs::Expressions::signed))]
-fn signed(alloc: Global, cursor: &mut Cursor<'_>, depth: usize) -> Result<Expression, Fault>
+fn signed(alloc: Global, cursor: &mut Cursor<'_, '_>, depth: usize) -> Result<Expression, Fault>
     requires { depth ≤ 64 }
-    ensures { Reads plain_expr (spec.signed (spec.readers depth) cursor.old) result cursor.new }
+    ensures { Reads expr_value (spec.signed (spec.readers depth) cursor.old) result cursor.new }
 {
-    let operator = if cursor.sees(Mark::Minus) {
-        UnaryOperator::Minus
-    } else if cursor.sees(Mark::Not) {
-        UnaryOperator::Not
-    } else {
+    let Some(operator) = unary_at(cursor) else {
         return primary(alloc, cursor, depth);
     };
-    let word = cursor.spelling();
-    cursor.pass();
+    let word = cursor.expect(operator.mark())?;
     let operand = primary(alloc, cursor, depth)?;
     Ok(Expression::Unary {
         operator,
@@ -120,52 +128,39 @@ fn signed(alloc: Global, cursor: &mut Cursor<'_>, depth: usize) -> Result<Expres
 /// `primary = NUMBER | "true" | "false" | "null" | NAME | "now" | "self" | "parent" | "offspring" | "sender"
 /// | "active" "(" NAME [args] ")" | "(" expr ")"`
 #[cycle(nesting)]
-#[tactic(auto, unfolding(crate::specs::Expressions::primary, crate::specs::Reading::name, crate::specs::Reading::number))]
-fn primary(alloc: Global, cursor: &mut Cursor<'_>, depth: usize) -> Result<Expression, Fault>
+#[tactic(auto, unfolding(crate::specs::Expressions::primary))]
+fn primary(alloc: Global, cursor: &mut Cursor<'_, '_>, depth: usize) -> Result<Expression, Fault>
     requires { depth ≤ 64 }
-    ensures { Reads plain_expr (spec.primary (spec.readers depth) cursor.old) result cursor.new }
+    ensures { Reads expr_value (spec.primary (spec.readers depth) cursor.old) result cursor.new }
 {
-    match cursor.front() {
-        Some(Word::Number(..)) => Ok(Expression::Number(cursor.number(alloc)?)),
-        Some(Word::Name(_)) => Ok(Expression::Name(cursor.name(alloc)?)),
-        Some(Word::Fixed(mark, _)) => fixed(alloc, cursor, depth, mark),
-        _ => Err(Fault::Expected(Wanted::Expression)),
+    if cursor.sees_name() {
+        return Ok(Expression::Name(cursor.name(alloc)?));
     }
-}
-
-/// A primary that begins with this mark.
-#[cycle(nesting)]
-#[tactic(auto, unfolding(crate::specs::Expressions::fixed, crate::specs::Reading::same_mark))]
-fn fixed(
-    alloc: Global,
-    cursor: &mut Cursor<'_>,
-    depth: usize,
-    mark: Mark,
-) -> Result<Expression, Fault>
-    requires { depth ≤ 64 }
-    ensures { Reads plain_expr (spec.fixed (spec.readers depth) mark cursor.old) result cursor.new }
-{
-    if mark == Mark::Open {
+    if cursor.sees_number() {
+        return Ok(Expression::Number(cursor.number(alloc)?));
+    }
+    if let Some(value) = value_at(cursor) {
+        let word = cursor.expect(value.mark())?;
+        return Ok(Expression::Keyword { value, word });
+    }
+    if cursor.sees(Mark::Open) {
         return parenthesized(alloc, cursor, depth);
     }
-    if mark == Mark::Active {
+    if cursor.sees(Mark::Active) {
         return active(alloc, cursor, depth);
     }
-    match value_of(mark) {
-        Some(value) => {
-            let word = cursor.spelling();
-            cursor.pass();
-            Ok(Expression::Keyword { value, word })
-        }
-        None => Err(Fault::Expected(Wanted::Expression)),
-    }
+    Err(Fault::Expected(Wanted::Expression))
 }
 
 /// `"(" expr ")"`, where as many parentheses may stand inside each other.
 #[cycle(nesting)]
-fn parenthesized(alloc: Global, cursor: &mut Cursor<'_>, depth: usize) -> Result<Expression, Fault>
+fn parenthesized(
+    alloc: Global,
+    cursor: &mut Cursor<'_, '_>,
+    depth: usize,
+) -> Result<Expression, Fault>
     requires { depth ≤ 64 }
-    ensures { Reads plain_expr ((spec.readers depth).paren cursor.old) result cursor.new }
+    ensures { Reads expr_value ((spec.readers depth).paren cursor.old) result cursor.new }
 {
     if depth == 0 {
         return Err(Fault::TooDeep);
@@ -178,14 +173,15 @@ fn parenthesized(alloc: Global, cursor: &mut Cursor<'_>, depth: usize) -> Result
 #[tactic(auto, unfolding(crate::specs::Expressions::paren_of))]
 fn between_parentheses(
     alloc: Global,
-    cursor: &mut Cursor<'_>,
+    cursor: &mut Cursor<'_, '_>,
     depth: usize,
 ) -> Result<Expression, Fault>
     requires { depth ≤ 64 }
-    ensures { Reads plain_expr (spec.paren_of (spec.expr depth) cursor.old) result cursor.new }
+    ensures { Reads expr_value (spec.paren_of (spec.expr depth) cursor.old) result cursor.new }
 {
+    let loose = LOOSEST;
     let parenthesis = cursor.expect(Mark::Open)?;
-    let inner = level(alloc, cursor, depth, LOOSEST)?;
+    let inner = level(alloc, cursor, At { depth, loose })?;
     cursor.expect(Mark::Close)?;
     Ok(Expression::Parenthesized {
         parenthesis,
@@ -195,9 +191,9 @@ fn between_parentheses(
 
 /// `"active" "(" NAME [args] ")"`, where as many parentheses may stand inside each other.
 #[cycle(nesting)]
-fn active(alloc: Global, cursor: &mut Cursor<'_>, depth: usize) -> Result<Expression, Fault>
+fn active(alloc: Global, cursor: &mut Cursor<'_, '_>, depth: usize) -> Result<Expression, Fault>
     requires { depth ≤ 64 }
-    ensures { Reads plain_expr ((spec.readers depth).active cursor.old) result cursor.new }
+    ensures { Reads expr_value ((spec.readers depth).active cursor.old) result cursor.new }
 {
     if depth == 0 {
         return deep_active(cursor);
@@ -207,8 +203,8 @@ fn active(alloc: Global, cursor: &mut Cursor<'_>, depth: usize) -> Result<Expres
 
 /// `"active"`, where its parenthesis would stand inside too many.
 #[tactic(auto, unfolding(crate::specs::Expressions::deep_active))]
-fn deep_active(cursor: &mut Cursor<'_>) -> Result<Expression, Fault>
-    ensures { Reads plain_expr (spec.deep_active cursor.old) result cursor.new }
+fn deep_active(cursor: &mut Cursor<'_, '_>) -> Result<Expression, Fault>
+    ensures { Reads expr_value (spec.deep_active cursor.old) result cursor.new }
 {
     cursor.expect(Mark::Active)?;
     if cursor.sees(Mark::Open) {
@@ -221,9 +217,13 @@ fn deep_active(cursor: &mut Cursor<'_>) -> Result<Expression, Fault>
 /// `"active" "(" NAME [args] ")"`, where as many parentheses may stand inside its own.
 #[cycle(nesting)]
 #[tactic(auto, unfolding(crate::specs::Expressions::active_of))]
-fn active_timer(alloc: Global, cursor: &mut Cursor<'_>, depth: usize) -> Result<Expression, Fault>
+fn active_timer(
+    alloc: Global,
+    cursor: &mut Cursor<'_, '_>,
+    depth: usize,
+) -> Result<Expression, Fault>
     requires { depth ≤ 64 }
-    ensures { Reads plain_expr (spec.active_of (spec.readers depth).args cursor.old) result cursor.new }
+    ensures { Reads expr_value (spec.active_of (spec.readers depth).args cursor.old) result cursor.new }
 {
     let word = cursor.expect(Mark::Active)?;
     cursor.expect(Mark::Open)?;
@@ -235,7 +235,7 @@ fn active_timer(alloc: Global, cursor: &mut Cursor<'_>, depth: usize) -> Result<
 
 /// The node, made apart so that its view stands in a contract.
 fn active_with(word: Spelling, timer: Name, values: Vec<Expression>) -> Expression
-    ensures { plain_expr result ≡ plain.Active (plain_name timer) (plain_exprs values.items) }
+    ensures { expr_value result ≡ spec.active_with (word, (name_value timer, map expr_value values.items)) }
 {
     Expression::Active {
         word,
@@ -248,14 +248,16 @@ fn active_with(word: Spelling, timer: Name, values: Vec<Expression>) -> Expressi
 #[cycle(nesting)]
 fn inner_arguments(
     alloc: Global,
-    cursor: &mut Cursor<'_>,
+    cursor: &mut Cursor<'_, '_>,
     depth: usize,
 ) -> Result<Vec<Expression>, Fault>
     requires { depth ≤ 64 }
-    ensures { Reads (λ es. map plain_expr es.items) ((spec.readers depth).args cursor.old) result cursor.new }
+    ensures { Reads (λ es. map expr_value es.items) ((spec.readers depth).args cursor.old) result cursor.new }
 {
     if depth > 0 {
-        return arguments(alloc, cursor, depth - 1);
+        let loose = LOOSEST;
+        let depth = depth - 1;
+        return in_parentheses(alloc, cursor, At { depth, loose }, level);
     }
     if cursor.sees(Mark::Open) {
         Err(Fault::TooDeep)
@@ -265,48 +267,21 @@ fn inner_arguments(
 }
 
 /// `[args]`, where `args = "(" expr {"," expr} ")"`.
-#[cycle(nesting)]
-#[tactic(auto, unfolding(crate::specs::Expressions::args_of))]
 pub fn arguments(
     alloc: Global,
-    cursor: &mut Cursor<'_>,
+    cursor: &mut Cursor<'_, '_>,
     depth: usize,
 ) -> Result<Vec<Expression>, Fault>
     requires { depth ≤ 64 }
-    ensures { Reads (λ es. map plain_expr es.items) (spec.args_of (spec.expr depth) cursor.old) result cursor.new }
+    ensures { Reads (λ es. map expr_value es.items) (in_parentheses (spec.expr depth) cursor.old) result cursor.new }
 {
-    if !cursor.sees(Mark::Open) {
-        return Ok(Vec::new(alloc));
-    }
-    cursor.expect(Mark::Open)?;
-    let values = expressions(alloc, cursor, depth)?;
-    cursor.expect(Mark::Close)?;
-    Ok(values)
-}
-
-/// `expr {"," expr}`
-#[cycle(nesting)]
-fn expressions(
-    alloc: Global,
-    cursor: &mut Cursor<'_>,
-    depth: usize,
-) -> Result<Vec<Expression>, Fault>
-    requires { depth ≤ 64 }
-    ensures { Reads (λ es. map plain_expr es.items) (separated (spec.expr depth) cursor.old) result cursor.new }
-{
-    let mut found = Vec::new(alloc);
-    for _turn in 0..cursor.left() {
-        found.push(level(alloc, cursor, depth, LOOSEST)?)?;
-        if !cursor.eat(Mark::Comma) {
-            return Ok(found);
-        }
-    }
-    Err(Fault::Expected(Wanted::Expression))
+    let loose = LOOSEST;
+    in_parentheses(alloc, cursor, At { depth, loose }, level)
 }
 
 /// The operator of this looseness that stands next, if one does.
 #[tactic(auto, unfolding(crate::specs::Expressions::operator_at))]
-pub fn operator_at(cursor: &Cursor<'_>, loose: usize) -> Option<Operator>
+pub fn operator_at(cursor: &Cursor<'_, '_>, loose: usize) -> Option<Operator>
     ensures { result ≡ spec.operator_at loose cursor.now }
 {
     let mark = cursor.mark()?;
@@ -315,6 +290,35 @@ pub fn operator_at(cursor: &Cursor<'_>, loose: usize) -> Option<Operator>
         Some(operator)
     } else {
         None
+    }
+}
+
+/// The operator before an operand that stands next, if one does.
+#[tactic(auto, unfolding(crate::specs::Expressions::unary_at))]
+fn unary_at(cursor: &Cursor<'_, '_>) -> Option<UnaryOperator>
+    ensures { result ≡ spec.unary_at cursor.now }
+{
+    let mark = cursor.mark()?;
+    unary_of(mark)
+}
+
+/// The operand of one keyword that stands next, if one does.
+#[tactic(auto, unfolding(crate::specs::Expressions::value_at))]
+fn value_at(cursor: &Cursor<'_, '_>) -> Option<KeywordValue>
+    ensures { result ≡ spec.value_at cursor.now }
+{
+    let mark = cursor.mark()?;
+    value_of(mark)
+}
+
+/// The operator before an operand that this mark is, if it is one.
+fn unary_of(mark: Mark) -> Option<UnaryOperator>
+    ensures { result ≡ spec.unary_of mark }
+{
+    match mark {
+        Mark::Minus => Some(UnaryOperator::Minus),
+        Mark::Not => Some(UnaryOperator::Not),
+        _ => None,
     }
 }
 

@@ -13,8 +13,8 @@ use std::fmt;
 pub enum Fault {
     /// Another token stands there than what must.
     Expected(Wanted),
-    /// This keyword has no meaning there.
-    LeftOut(&'static str),
+    /// A `provided` stands there right behind the end of a priority input, which has no condition.
+    Condition,
     /// What stands there opens a parenthesis or a decision inside 64 others.
     TooDeep,
     Memory,

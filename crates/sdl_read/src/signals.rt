@@ -1,46 +1,61 @@
 //! Signals and signal lists.
 
 ghost use Rattle.std.specs.Prelude.{◌≡◌, map};
-ghost use Rattle.sdl_tree.specs.Views.{plain_item, plain_signal, plain_signal_list, plain_signal_set};
-ghost use Rattle.sdl_read.specs.Signals as spec;
+ghost use Rattle.sdl_tree.specs.Views.{item_value, signal_list_value, signal_set_value, signal_value};
+ghost use Rattle.sdl_read.specs.Parts as spec;
 ghost use Rattle.sdl_read.specs.Reading.{separated};
 ghost use Rattle.sdl_read.specs.Reads.{Reads};
 
 use crate::cursor::Cursor;
-use crate::fault::{Fault, Wanted};
+use crate::fault::Fault;
+use crate::lists::{At, Production, separated};
 use crate::parts::{end, sorts};
 use sdl_tree::{Mark, SignalDefinition, SignalListDefinition, SignalListItem, SignalSet};
 use std::alloc::Global;
 
+impl Production<SignalDefinition> for At {
+    ghost use Rattle.sdl_tree.specs.Tree as tree;
+    ghost use Rattle.sdl_tree.specs.Views.{signal_value};
+    ghost use Rattle.sdl_read.specs.Parts.{signal_name};
+
+    ghost Node = { tree.SignalDefinition };
+
+    ghost value = { signal_value };
+
+    ghost reads = { λ _. signal_name };
+}
+
+impl Production<SignalListItem> for At {
+    ghost use Rattle.sdl_tree.specs.Tree as tree;
+    ghost use Rattle.sdl_tree.specs.Views.{item_value};
+    ghost use Rattle.sdl_read.specs.Parts.{sig};
+
+    ghost Node = { tree.SignalListItem };
+
+    ghost value = { item_value };
+
+    ghost reads = { λ _. sig };
+}
+
 /// `signal = "signal" NAME [sorts] {"," NAME [sorts]} end`
-#[tactic(auto, unfolding(crate::specs::Signals::signal))]
-pub fn signal(alloc: Global, cursor: &mut Cursor<'_>) -> Result<Vec<SignalDefinition>, Fault>
-    ensures { Reads (λ ss. map plain_signal ss.items) (spec.signal cursor.old) result cursor.new }
+#[tactic(auto, unfolding(crate::specs::Parts::signal))]
+pub fn signal(alloc: Global, cursor: &mut Cursor<'_, '_>) -> Result<Vec<SignalDefinition>, Fault>
+    ensures { Reads (λ ss. map signal_value ss.items) (spec.signal cursor.old) result cursor.new }
 {
     cursor.expect(Mark::Signal)?;
-    let found = signal_names(alloc, cursor)?;
+    let found = separated(alloc, cursor, At::OUTERMOST, signal_name)?;
     end(cursor)?;
     Ok(found)
 }
 
-/// `NAME [sorts] {"," NAME [sorts]}`
-fn signal_names(alloc: Global, cursor: &mut Cursor<'_>) -> Result<Vec<SignalDefinition>, Fault>
-    ensures { Reads (λ ss. map plain_signal ss.items) (separated spec.signal_name cursor.old) result cursor.new }
-{
-    let mut found = Vec::new(alloc);
-    for _turn in 0..cursor.left() {
-        found.push(signal_name(alloc, cursor)?)?;
-        if !cursor.eat(Mark::Comma) {
-            return Ok(found);
-        }
-    }
-    Err(Fault::Expected(Wanted::Name))
-}
-
 /// `NAME [sorts]`
-#[tactic(auto, unfolding(crate::specs::Signals::signal_name))]
-fn signal_name(alloc: Global, cursor: &mut Cursor<'_>) -> Result<SignalDefinition, Fault>
-    ensures { Reads plain_signal (spec.signal_name cursor.old) result cursor.new }
+#[tactic(auto, unfolding(crate::specs::Parts::signal_name))]
+fn signal_name(
+    alloc: Global,
+    cursor: &mut Cursor<'_, '_>,
+    _at: At,
+) -> Result<SignalDefinition, Fault>
+    ensures { Reads signal_value (spec.signal_name cursor.old) result cursor.new }
 {
     let name = cursor.name(alloc)?;
     let sorts = sorts(alloc, cursor)?;
@@ -48,9 +63,12 @@ fn signal_name(alloc: Global, cursor: &mut Cursor<'_>) -> Result<SignalDefinitio
 }
 
 /// `signallist = "signallist" NAME "=" sigs end`
-#[tactic(auto, unfolding(crate::specs::Signals::signal_list))]
-pub fn signal_list(alloc: Global, cursor: &mut Cursor<'_>) -> Result<SignalListDefinition, Fault>
-    ensures { Reads plain_signal_list (spec.signal_list cursor.old) result cursor.new }
+#[tactic(auto, unfolding(crate::specs::Parts::signal_list))]
+pub fn signal_list(
+    alloc: Global,
+    cursor: &mut Cursor<'_, '_>,
+) -> Result<SignalListDefinition, Fault>
+    ensures { Reads signal_list_value (spec.signal_list cursor.old) result cursor.new }
 {
     let word = cursor.expect(Mark::SignalList)?;
     let name = cursor.name(alloc)?;
@@ -61,9 +79,9 @@ pub fn signal_list(alloc: Global, cursor: &mut Cursor<'_>) -> Result<SignalListD
 }
 
 /// `"signalset" sigs end`
-#[tactic(auto, unfolding(crate::specs::Signals::signal_set, crate::specs::Choices::introduced))]
-pub fn signal_set(alloc: Global, cursor: &mut Cursor<'_>) -> Result<SignalSet, Fault>
-    ensures { Reads plain_signal_set (spec.signal_set cursor.old) result cursor.new }
+#[tactic(auto, unfolding(crate::specs::Parts::signal_set))]
+pub fn signal_set(alloc: Global, cursor: &mut Cursor<'_, '_>) -> Result<SignalSet, Fault>
+    ensures { Reads signal_set_value (spec.signal_set cursor.old) result cursor.new }
 {
     let word = cursor.expect(Mark::SignalSet)?;
     let items = sigs(alloc, cursor)?;
@@ -72,23 +90,16 @@ pub fn signal_set(alloc: Global, cursor: &mut Cursor<'_>) -> Result<SignalSet, F
 }
 
 /// `sigs = sig {"," sig}`
-pub fn sigs(alloc: Global, cursor: &mut Cursor<'_>) -> Result<Vec<SignalListItem>, Fault>
-    ensures { Reads (λ xs. map plain_item xs.items) (spec.sigs cursor.old) result cursor.new }
+pub fn sigs(alloc: Global, cursor: &mut Cursor<'_, '_>) -> Result<Vec<SignalListItem>, Fault>
+    ensures { Reads (λ xs. map item_value xs.items) (separated spec.sig cursor.old) result cursor.new }
 {
-    let mut found = Vec::new(alloc);
-    for _turn in 0..cursor.left() {
-        found.push(sig(alloc, cursor)?)?;
-        if !cursor.eat(Mark::Comma) {
-            return Ok(found);
-        }
-    }
-    Err(Fault::Expected(Wanted::Name))
+    separated(alloc, cursor, At::OUTERMOST, sig)
 }
 
 /// `sig = NAME | "(" NAME ")"`
-#[tactic(auto, unfolding(crate::specs::Signals::sig, crate::specs::Signals::list_item, crate::specs::Choices::either, crate::specs::Choices::mapped))]
-fn sig(alloc: Global, cursor: &mut Cursor<'_>) -> Result<SignalListItem, Fault>
-    ensures { Reads plain_item (spec.sig cursor.old) result cursor.new }
+#[tactic(auto, unfolding(crate::specs::Parts::sig))]
+fn sig(alloc: Global, cursor: &mut Cursor<'_, '_>, _at: At) -> Result<SignalListItem, Fault>
+    ensures { Reads item_value (spec.sig cursor.old) result cursor.new }
 {
     if !cursor.sees(Mark::Open) {
         return Ok(SignalListItem::Signal(cursor.name(alloc)?));

@@ -4,85 +4,83 @@ ghost use Rattle.std.specs.Prelude.{◌≡◌, ◌≤◌, ◌++◌, All, IfOk, l
 ghost use Rattle.std.specs.Str.{IsAscii};
 ghost use Rattle.sdl_lex.specs.Place.{place_after};
 ghost use Rattle.sdl_lex.specs.Token.{InOrder, IsSlice};
-ghost use Rattle.sdl_read.specs.Item.{item_meaning, meaning};
+ghost use Rattle.sdl_read.specs.PlacedWord.{word_of_placed};
 ghost use Rattle.sdl_tree.specs.Words as words;
 
 use sdl_lex::{Kind, Place, Token};
-use sdl_tree::{Mark, keyword_of, left_out, sign_of};
+use sdl_tree::{Case, Mark, keyword_of, left_out, sign_of};
 use std::alloc::{AllocError, Global};
 use std::str;
 
-/// The meaning of a token, with its spelling where the tree keeps that.
+/// The meaning of a token, with its text where the text decides.
 #[derive(Clone, Copy, Debug)]
 pub enum Word<'t> {
     /// A keyword, a literal or another mark in this spelling.
-    Fixed(Mark, &'static str),
+    Fixed(Mark, Case),
     Name(&'t str),
     /// A number and its digits.
     Number(i64, &'t str),
-    /// A character string.
-    Text,
-    /// A word of the standard that is left out here, in lower case.
-    LeftOut(&'static str),
+    /// A character string, with its quotes.
+    Text(&'t [u8]),
+    /// A word of the standard that is left out here, in lower case and as it is spelled.
+    LeftOut(&'t str, &'t str),
 }
 
 /// A word and the place of its token.
 #[derive(Clone, Copy, Debug)]
-pub struct Item<'t> {
+pub struct PlacedWord<'t> {
     pub word: Word<'t>,
     pub place: Place,
 }
 
 /// The words of a text with these tokens, each classified once, with their places.
-pub fn items_of<'t>(
+pub fn placed_words<'t>(
     alloc: Global,
     text: &'t [u8],
     tokens: &[Token],
-) -> Result<Vec<Item<'t>>, AllocError>
+) -> Result<Vec<PlacedWord<'t>>, AllocError>
     requires in_order { InOrder 0 tokens.now (length text.now) }
     requires slices { All (IsSlice text.now) tokens.now }
-    ensures { IfOk result (λ items. map item_meaning items.items ≡ words.words_of text.now tokens.now) }
+    ensures { IfOk result (λ found. map word_of_placed found.items ≡ words.words_of text.now tokens.now) }
 {
-    let mut items = Vec::new(alloc);
+    let mut found = Vec::new(alloc);
     let mut from = 0;
     let mut place = Place::START;
     let mut rest = tokens;
     'rest: while let Some((token, after)) = rest.split_first() {
         place = moved(text, from, place, token.start);
         from = token.start;
-        items.push(Item {
-            word: word_of(text, *token),
-            place,
-        })?;
+        found.push(placed(text, *token, place))?;
         rest = after;
     }
-    Ok(items)
+    Ok(found)
 }
 
-/// What a token means.
+/// What a token means that stands at this place.
 #[tactic(auto, unfolding(sdl_tree::specs::Words::word_of))]
-fn word_of<'t>(text: &'t [u8], token: Token) -> Word<'t>
+fn placed<'t>(text: &'t [u8], token: Token, place: Place) -> PlacedWord<'t>
     requires ordered { token.start ≤ token.end }
     requires within { token.end ≤ length text.now }
     requires slice { IsSlice text.now token }
-    ensures { meaning result ≡ words.word_of token.kind (slice_range text.now token.start token.end) }
+    ensures { word_of_placed result ≡ words.word_of token.kind (record { text = slice_range text.now token.start token.end; place = place }) }
 {
     let bytes = &text[token.start..token.end];
-    match token.kind {
+    let word = match token.kind {
         Kind::Word => match keyword_of(bytes) {
-            Some((mark, spelling)) => Word::Fixed(mark, spelling),
+            Some(keyword) => Word::Fixed(keyword.mark, keyword.case),
             None => match left_out(bytes) {
-                Some(lower) => Word::LeftOut(lower),
+                Some(lower) => Word::LeftOut(lower, spelled(bytes)),
                 None => Word::Name(spelled(bytes)),
             },
         },
         Kind::Number(value) => Word::Number(value, spelled(bytes)),
-        Kind::Text => Word::Text,
+        Kind::Text => Word::Text(bytes),
         Kind::Mark => match sign_of(bytes) {
-            Some((mark, spelling)) => Word::Fixed(mark, spelling),
+            Some(mark) => Word::Fixed(mark, Case::Lower),
             None => Word::Name(spelled(bytes)),
         },
-    }
+    };
+    PlacedWord { word, place }
 }
 
 /// The bytes of a word, a number or a mark as text.

@@ -6,7 +6,7 @@ use Rattle.port_model.specs.declared.value.Value.{Value}
 use Rattle.sdl_system.specs.Reserved.{is_reserved}
 use Rattle.sdl_report.specs.declared.fault.Fault.{Fault}
 use Rattle.sdl_report.specs.declared.fault.Fault.TheVariants.{Syntax, BackInTime, UnknownSignal, Arguments, Memory}
-use Rattle.sdl_report.specs.Part.{past_blanks, SpellsNumber}
+use Rattle.sdl_report.specs.Part.{past_spaces, SpellsNumber}
 use Rattle.sdl_report.specs.Reading.{number, word, HasNoTime}
 use Rattle.sdl_report.specs.Spelled.{IsSyntaxFault}
 use Rattle.sdl_report.specs.Spelling.{Spelled, SpellsSignal, SpellsValues, SpellsLine, IsNoSpelling, latest_time}
@@ -35,23 +35,23 @@ same_rest at n bytes rest after e s =
     ap (λ p. p.1) pair
 
 module _ (line : List ℕ) where
-  pub no_time : HasNoTime (past_blanks line) → IsNoSpelling line
+  pub no_time : HasNoTime (past_spaces line) → IsNoSpelling line
   no_time none at signal s =
-      let late = none (min at (2 ^ 64 - 1)) s.0 (number_complete at (past_blanks line) s.0 s.1) in
+      let late = none (min at (2 ^ 64 - 1)) s.0 (number_complete at (past_spaces line) s.0 s.1) in
       let within = s.2 in
       omega (arith, late, within)
 
-module _ (line : List ℕ) (at : ℕ) (rest : List ℕ) (read : number (past_blanks line) ≡ Some (at, rest)) where
+module _ (line : List ℕ) (at : ℕ) (rest : List ℕ) (read : number (past_spaces line) ≡ Some (at, rest)) where
   pub line_alone : at ≤ latest_time → rest ≡ [] → SpellsLine at None line
-  line_alone within nil = (rest, time_sound at (past_blanks line) rest read within, within, nil)
+  line_alone within nil = (rest, time_sound at (past_spaces line) rest read within, within, nil)
 
   pub line_whole : at ≤ latest_time → (name m : List ℕ) (values : List (Option Value)) → word rest ≡ Some (name, m) → is_reserved name ≡ false → SpellsValues values m
       → SpellsLine at (Some (record { name = name; values = values })) line
   line_whole within name m values named free all =
-      (rest, time_sound at (past_blanks line) rest read within, within, (m, word_sound name rest m named, free, all))
+      (rest, time_sound at (past_spaces line) rest read within, within, (m, word_sound name rest m named, free, all))
 
   behind : (n : ℕ) (signal : Option Spelled) → SpellsLine n signal line → SpellsSignal signal rest
-  behind n signal s = subst (SpellsSignal signal) (sym (same_rest at n (past_blanks line) rest s.0 read s.1)) s.3
+  behind n signal s = subst (SpellsSignal signal) (sym (same_rest at n (past_spaces line) rest s.0 read s.1)) s.3
 
   no_signal : ((signal : Option Spelled) → SpellsSignal signal rest → ⊥) → IsNoSpelling line
   no_signal none n signal s = none signal (behind n signal s)

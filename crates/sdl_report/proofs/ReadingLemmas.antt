@@ -10,7 +10,9 @@ use Rattle.std.proofs.lemmas.List.Sums.{prefix_len-le-length}
 use Rattle.port_model.specs.declared.pid.Pid.TheVariants.{Of}
 use Rattle.port_model.specs.declared.value.Value.{Value}
 use Rattle.port_model.specs.declared.value.Value.TheVariants.{Int, Pid}
-use Rattle.sdl_report.specs.Part.{IsDigits, IsWord, decimal, is_word_byte, past_blanks, SpellsMark, SpellsNumber, SpellsWord}
+use Rattle.sdl_lex.specs.Byte.{is_word_byte}
+use Rattle.sdl_lex.specs.Kind.{IsDigits, IsWord, decimal}
+use Rattle.sdl_report.specs.Part.{past_spaces, SpellsMark, SpellsNumber, SpellsWord}
 use Rattle.sdl_report.specs.Reading.{on, mark, number, number_as, word, literal_in, value}
 use Rattle.sdl_report.specs.Spelling.{positive, negative, numbered, literal, SpellsLiteral, SpellsValue}
 use Rattle.sdl_report.proofs.RunLemmas.{run_is, run_len}
@@ -28,18 +30,18 @@ mark_sound b (first ∷ behind) rest e =
     ⊎_elim
     (λ same.
     let here : first ≡ b = eqb-true first b same in
-    let read : Some (past_blanks behind) ≡ Some rest = ap (λ t. cond t (Some (past_blanks behind)) None) (sym same) ∙ e in
+    let read : Some (past_spaces behind) ≡ Some rest = ap (λ t. cond t (Some (past_spaces behind)) None) (sym same) ∙ e in
     (behind, ap (λ x. x ∷ behind) here, cc))
-    (λ other. let read : None ≡ Some rest = ap (λ t. cond t (Some (past_blanks behind)) None) (sym other) ∙ e in cc)
+    (λ other. let read : None ≡ Some rest = ap (λ t. cond t (Some (past_spaces behind)) None) (sym other) ∙ e in cc)
     (cases_Bool (eqb first b))
 
 pub mark_complete : (b : ℕ) (bytes rest : List ℕ) → SpellsMark b bytes rest → mark b bytes ≡ Some rest
 mark_complete b bytes rest s =
-    ap (mark b) s.1 ∙ ap (λ t. cond t (Some (past_blanks s.0)) None) (eq-eqb b b refl) ∙ ap Some (sym s.2)
+    ap (mark b) s.1 ∙ ap (λ t. cond t (Some (past_spaces s.0)) None) (eq-eqb b b refl) ∙ ap Some (sym s.2)
 
 -- where a byte that isn't the mark comes first, the mark isn't read
 pub mark_other : (b : ℕ) (bytes : List ℕ) (first : ℕ) (behind : List ℕ) → bytes ≡ first ∷ behind → eqb first b ≡ false → mark b bytes ≡ None
-mark_other b bytes first behind e other = ap (mark b) e ∙ ap (λ t. cond t (Some (past_blanks behind)) None) other
+mark_other b bytes first behind e other = ap (mark b) e ∙ ap (λ t. cond t (Some (past_spaces behind)) None) other
 
 -- one mark is not another
 pub mark_not : (a b : ℕ) (bytes rest : List ℕ) → eqb a b ≡ false → mark a bytes ≡ Some rest → mark b bytes ≡ None
@@ -54,8 +56,8 @@ number_complete n bytes rest (b ∷ digits, after, joined, are, stops, is, rest_
     let some : eqb (prefix_len is_ascii_digit bytes) 0 ≡ false = false_from_ne_true (eqb (prefix_len is_ascii_digit bytes) 0) (λ zero_len. let none = eqb-true (prefix_len is_ascii_digit bytes) 0 zero_len in absurd (omega (arith, len, none))) in
     let front : take (prefix_len is_ascii_digit bytes) bytes ≡ b ∷ digits = (λ i. take (len i) (joined i)) ∙ take_at (b ∷ digits) after (suc (length digits)) refl in
     let back : drop (prefix_len is_ascii_digit bytes) bytes ≡ after = (λ i. drop (len i) (joined i)) ∙ drop_at (b ∷ digits) after (suc (length digits)) refl in
-    ap (λ t. cond t None (Some (min (decimal (take (prefix_len is_ascii_digit bytes) bytes)) (2 ^ 64 - 1), past_blanks (drop (prefix_len is_ascii_digit bytes) bytes)))) some
-    ∙ (λ i. Some (min (decimal (front i)) (2 ^ 64 - 1), past_blanks (back i)))
+    ap (λ t. cond t None (Some (min (decimal (take (prefix_len is_ascii_digit bytes) bytes)) (2 ^ 64 - 1), past_spaces (drop (prefix_len is_ascii_digit bytes) bytes)))) some
+    ∙ (λ i. Some (min (decimal (front i)) (2 ^ 64 - 1), past_spaces (back i)))
     ∙ (λ i. Some (min (sym is i) (2 ^ 64 - 1), sym rest_is i))
 
 are_digits : (digits : List ℕ) → list_all is_ascii_digit digits ≡ true → length digits ≢ 0 → IsDigits digits
@@ -65,12 +67,12 @@ are_digits (b ∷ digits) all some = all
 pub number_sound : (n : ℕ) (bytes rest : List ℕ) → number bytes ≡ Some (n, rest) → (m : ℕ) × SpellsNumber m bytes rest × (n ≡ min m (2 ^ 64 - 1))
 number_sound n bytes rest e =
     ⊎_elim
-    (λ none. let read : None ≡ Some (n, rest) = ap (λ t. cond t None (Some (min (decimal (take (prefix_len is_ascii_digit bytes) bytes)) (2 ^ 64 - 1), past_blanks (drop (prefix_len is_ascii_digit bytes) bytes)))) (sym none) ∙ e in cc)
+    (λ none. let read : None ≡ Some (n, rest) = ap (λ t. cond t None (Some (min (decimal (take (prefix_len is_ascii_digit bytes) bytes)) (2 ^ 64 - 1), past_spaces (drop (prefix_len is_ascii_digit bytes) bytes)))) (sym none) ∙ e in cc)
     (λ some.
     let k = prefix_len is_ascii_digit bytes in
-    let read : Some (min (decimal (take k bytes)) (2 ^ 64 - 1), past_blanks (drop k bytes)) ≡ Some (n, rest) =
-    ap (λ t. cond t None (Some (min (decimal (take k bytes)) (2 ^ 64 - 1), past_blanks (drop k bytes)))) (sym some) ∙ e in
-    let pair : ◌≡◌ {A = ℕ × List ℕ} (min (decimal (take k bytes)) (2 ^ 64 - 1), past_blanks (drop k bytes)) (n, rest) = cc in
+    let read : Some (min (decimal (take k bytes)) (2 ^ 64 - 1), past_spaces (drop k bytes)) ≡ Some (n, rest) =
+    ap (λ t. cond t None (Some (min (decimal (take k bytes)) (2 ^ 64 - 1), past_spaces (drop k bytes)))) (sym some) ∙ e in
+    let pair : ◌≡◌ {A = ℕ × List ℕ} (min (decimal (take k bytes)) (2 ^ 64 - 1), past_spaces (drop k bytes)) (n, rest) = cc in
     let run = run_is is_ascii_digit bytes in
     let len : length (take k bytes) ≡ k = length-take-le k bytes (prefix_len-le-length is_ascii_digit bytes) in
     (decimal (take k bytes), (take k bytes, drop k bytes, sym (take-append-drop k bytes), are_digits (take k bytes) run.0 (λ zero_len. both_ways (eqb k 0) some (eq-eqb k 0 (sym len ∙ zero_len))), run.1, refl, sym (ap (λ p. p.1) pair)), sym (ap (λ p. p.0) pair)))
@@ -82,7 +84,7 @@ letter_word_byte : (b : ℕ) → is_ascii_alphabetic b ≡ true → is_word_byte
 letter_word_byte b h = grind (arith, nat_tests)
 
 abbrev word_read : List ℕ → Option (List ℕ × List ℕ)
-word_read bytes = Some (take (prefix_len is_word_byte bytes) bytes, past_blanks (drop (prefix_len is_word_byte bytes) bytes))
+word_read bytes = Some (take (prefix_len is_word_byte bytes) bytes, past_spaces (drop (prefix_len is_word_byte bytes) bytes))
 
 pub word_complete : (w bytes rest : List ℕ) → SpellsWord w bytes rest → word bytes ≡ Some (w, rest)
 word_complete [] bytes rest s = absurd s.2
@@ -93,7 +95,7 @@ word_complete (b ∷ w) bytes rest (after, joined, (letter, more), stops, rest_i
     let back : drop (prefix_len is_word_byte ((b ∷ w) ++ after)) ((b ∷ w) ++ after) ≡ after = drop_at (b ∷ w) after (prefix_len is_word_byte ((b ∷ w) ++ after)) (sym len) in
     ap word joined
     ∙ ap (λ t. cond t (word_read ((b ∷ w) ++ after)) None) letter
-    ∙ (λ i. Some (front i, past_blanks (back i)))
+    ∙ (λ i. Some (front i, past_spaces (back i)))
     ∙ (λ i. Some (b ∷ w, sym rest_is i))
 
 is_word : (b : ℕ) (bytes : List ℕ) → is_ascii_alphabetic b ≡ true → IsWord (take (prefix_len is_word_byte (b ∷ bytes)) (b ∷ bytes))
@@ -109,7 +111,7 @@ word_sound w (b ∷ bytes) rest e =
     (λ letter.
     let k = prefix_len is_word_byte (b ∷ bytes) in
     let read : word_read (b ∷ bytes) ≡ Some (w, rest) = ap (λ t. cond t (word_read (b ∷ bytes)) None) (sym letter) ∙ e in
-    let pair : ◌≡◌ {A = List ℕ × List ℕ} (take k (b ∷ bytes), past_blanks (drop k (b ∷ bytes))) (w, rest) = cc in
+    let pair : ◌≡◌ {A = List ℕ × List ℕ} (take k (b ∷ bytes), past_spaces (drop k (b ∷ bytes))) (w, rest) = cc in
     let same : take k (b ∷ bytes) ≡ w = ap (λ p. p.0) pair in
     (drop k (b ∷ bytes), sym (take-append-drop k (b ∷ bytes)) ∙ ap (λ l. l ++ drop k (b ∷ bytes)) same, subst IsWord same (is_word b bytes letter), (run_is is_word_byte (b ∷ bytes)).1, sym (ap (λ p. p.1) pair)))
     (λ other. let read : None ≡ Some (w, rest) = ap (λ t. cond t (word_read (b ∷ bytes)) None) (sym other) ∙ e in cc)
@@ -136,7 +138,7 @@ letter_no_digit b h = grind (arith, nat_tests)
 no_number_at : (b : ℕ) (behind : List ℕ) → is_ascii_digit b ≡ false → number (b ∷ behind) ≡ None
 no_number_at b behind other =
     let none : prefix_len is_ascii_digit (b ∷ behind) ≡ 0 = ap (λ t. cond t (1 + prefix_len is_ascii_digit behind) 0) other in
-    ap (λ k. cond (eqb k 0) None (Some (min (decimal (take k (b ∷ behind))) (2 ^ 64 - 1), past_blanks (drop k (b ∷ behind))))) none
+    ap (λ k. cond (eqb k 0) None (Some (min (decimal (take k (b ∷ behind))) (2 ^ 64 - 1), past_spaces (drop k (b ∷ behind))))) none
 
 -- ---- values
 

@@ -8,7 +8,8 @@ use Rattle.std.proofs.lemmas.List.{get_or-take}
 use Rattle.std.proofs.lemmas.List.Sums.{prefix_len-le-length, prefix_len_passes}
 use Rattle.std.proofs.lemmas.Str.{IsUtf8-from_ascii}
 use Rattle.std.proofs.lemmas.Str.Ascii.{IsAscii-from_reads}
-use Rattle.sdl_report.specs.Part.{Stops, is_word_byte}
+use Rattle.sdl_lex.specs.Byte.{is_word_byte}
+use Rattle.sdl_report.specs.Part.{Stops}
 
 word_byte_ascii : (b : ℕ) → is_word_byte b ≡ true → b < 128
 word_byte_ascii b h = grind (arith, nat_tests)

@@ -1,3 +1,4 @@
+-- Which events begin a transition.
 use Rattle.std.specs.Prelude.{Bool, true, false}
 use Rattle.sdl_report.specs.declared.event.Event.{Event}
 use Rattle.sdl_report.specs.declared.event.Event.TheVariants.{Start, Consumed, Discarded}

@@ -1,3 +1,4 @@
+pub mod ErrorText
 pub mod Event
 pub mod Gathered
 pub mod Name

@@ -4,7 +4,9 @@ use Rattle.std.specs.Prelude.{◌≡◌, ℕ, ◌<◌, ◌-◌, ◌^◌, ◌==�
 use Rattle.std.specs.Char.{is_ascii_alphabetic, is_ascii_digit}
 use Rattle.std.specs.List.{prefix_len}
 use Rattle.port_model.specs.declared.value.Value.{Value}
-use Rattle.sdl_report.specs.Part.{decimal, is_word_byte, past_blanks}
+use Rattle.sdl_lex.specs.Byte.{is_word_byte}
+use Rattle.sdl_lex.specs.Kind.{decimal}
+use Rattle.sdl_report.specs.Part.{past_spaces}
 use Rattle.sdl_report.specs.Spelling.{positive, negative, numbered, literal, latest_time}
 
 -- what comes of a reading, and what where there is none
@@ -14,19 +16,19 @@ on (Some x) none some = some x
 
 abbrev pub mark : ℕ → List ℕ → Option (List ℕ)
 mark b [] = None
-mark b (first ∷ behind) = if first == b then Some (past_blanks behind) else None
+mark b (first ∷ behind) = if first == b then Some (past_spaces behind) else None
 
 -- a number, at most 2^64 - 1
 abbrev pub number : List ℕ → Option (ℕ × List ℕ)
 number bytes =
     if prefix_len is_ascii_digit bytes == 0 then None
-    else Some (min (decimal (take (prefix_len is_ascii_digit bytes) bytes)) (2 ^ 64 - 1), past_blanks (drop (prefix_len is_ascii_digit bytes) bytes))
+    else Some (min (decimal (take (prefix_len is_ascii_digit bytes) bytes)) (2 ^ 64 - 1), past_spaces (drop (prefix_len is_ascii_digit bytes) bytes))
 
 abbrev pub word : List ℕ → Option (List ℕ × List ℕ)
 word [] = None
 word (first ∷ behind) =
     if is_ascii_alphabetic first
-    then Some (take (prefix_len is_word_byte (first ∷ behind)) (first ∷ behind), past_blanks (drop (prefix_len is_word_byte (first ∷ behind)) (first ∷ behind)))
+    then Some (take (prefix_len is_word_byte (first ∷ behind)) (first ∷ behind), past_spaces (drop (prefix_len is_word_byte (first ∷ behind)) (first ∷ behind)))
     else None
 
 -- a number, by what it stands for

@@ -1,3 +1,4 @@
+-- Scripts for a system: lines at times that never fall, with signals that the environment can send.
 use Rattle.std.specs.Prelude.{◌≡◌, ℕ, true, ◌-◌, ◌≤◌, List, length, All, IfSome, IsSomeAnd, slice_get}
 use Rattle.std.specs.Option.{option_map_or}
 use Rattle.std.specs.List.Sorted.{IsNonDecreasingBy}

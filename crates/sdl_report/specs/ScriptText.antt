@@ -18,7 +18,7 @@ use Rattle.sdl_report.specs.declared.fault.Fault.TheVariants as fault
 use Rattle.sdl_report.specs.declared.script.ScriptError.{ScriptError}
 use Rattle.sdl_report.specs.declared.script.ScriptError.TheVariants.{Syntax, BackInTime, UnknownSignal, Arguments, Memory}
 use Rattle.sdl_report.specs.declared.script.ScriptLine.{ScriptLine}
-use Rattle.sdl_report.specs.Part.{is_blank}
+use Rattle.sdl_report.specs.Part.{is_space}
 use Rattle.sdl_report.specs.Script.{IsScript, end_of}
 use Rattle.sdl_report.specs.Spelling.{Spelled, SpellsLine, IsNoSpelling}
 
@@ -48,9 +48,9 @@ BeginsWith line text rest =
     ⊎ ((text ≡ line ++ 13 ∷ 10 ∷ rest)
     ⊎ ((text ≡ line) × (line ≢ []) × (rest ≡ []))))
 
--- a line says nothing: it begins with `#`, or has blanks and tabs alone
+-- a line says nothing: it begins with `#`, or has spaces alone
 abbrev pub SaysNothing : List ℕ → Type 0
-SaysNothing line = (slice_get line 0 ≡ Some 35) ⊎ IsTrue (list_all is_blank line)
+SaysNothing line = (slice_get line 0 ≡ Some 35) ⊎ IsTrue (list_all is_space line)
 
 -- ---- what a spelled signal means in a system
 

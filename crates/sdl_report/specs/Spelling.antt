@@ -6,7 +6,7 @@ use Rattle.port_model.specs.declared.pid.Pid.TheVariants.{Null, Env, Of}
 use Rattle.port_model.specs.declared.value.Value.{Value}
 use Rattle.port_model.specs.declared.value.Value.TheVariants as value
 use Rattle.sdl_system.specs.Reserved.{is_reserved}
-use Rattle.sdl_report.specs.Part.{past_blanks, SpellsMark, SpellsNumber, SpellsWord}
+use Rattle.sdl_report.specs.Part.{past_spaces, SpellsMark, SpellsNumber, SpellsWord}
 
 -- the value of a number, a negative number and the number of an instance; none where no sort holds it: an Integer has 64
 -- bits signed, an instance's number has 32
@@ -32,7 +32,7 @@ literal word =
     else if is_one_of word (codes "env" ∷ codes "ENV" ∷ []) then Some (value.Pid Env)
     else None
 
--- The bytes are a value in one of its forms, blanks, and the rest. A number that no sort holds is no value.
+-- The bytes are a value in one of its forms, spaces, and the rest. A number that no sort holds is no value.
 
 abbrev pub SpellsPositive : Option Value → List ℕ → List ℕ → Type 0
 SpellsPositive v bytes rest = (n : ℕ) × SpellsNumber n bytes rest × (v ≡ positive n)
@@ -79,7 +79,7 @@ latest_time = 1000000000000000
 
 -- the line is a time and a signal, or a time alone
 abbrev pub SpellsLine : ℕ → Option Spelled → List ℕ → Type 0
-SpellsLine at signal line = (m : List ℕ) × SpellsNumber at (past_blanks line) m × (at ≤ latest_time) × SpellsSignal signal m
+SpellsLine at signal line = (m : List ℕ) × SpellsNumber at (past_spaces line) m × (at ≤ latest_time) × SpellsSignal signal m
 
 -- no time and signal are spelled by the line
 abbrev pub IsNoSpelling : List ℕ → Type 0

@@ -3,28 +3,24 @@
 ghost use Rattle.std.specs.Prelude.{◌≡◌, ◌≤◌, length};
 ghost use Rattle.std.specs.Char.{is_ascii_digit};
 ghost use Rattle.std.specs.List.{prefix_len};
-ghost use Rattle.sdl_report.specs.Part.{is_blank, is_word_byte};
+ghost use Rattle.sdl_lex.specs.Byte.{is_word_byte};
+ghost use Rattle.sdl_report.specs.Part.{is_space};
 
-/// Whether a byte is a blank or a tab.
-pub fn is_blank(byte: u8) -> bool
-    ensures { result ≡ is_blank byte }
+use sdl_lex::is_word_byte;
+
+/// Whether a byte is a space: a blank or a tab.
+pub fn is_space(byte: u8) -> bool
+    ensures { result ≡ is_space byte }
 {
     byte == b' ' || byte == b'\t'
 }
 
-/// Whether a byte may stand in a word behind its first letter.
-fn is_word_byte(byte: u8) -> bool
-    ensures { result ≡ is_word_byte byte }
-{
-    byte.is_ascii_alphanumeric() || byte == b'_'
-}
-
-/// How many blanks and tabs come first.
-pub fn blanks_len(bytes: &[u8]) -> usize
-    ensures value { result ≡ prefix_len is_blank bytes.now }
+/// How many spaces come first.
+pub fn spaces_len(bytes: &[u8]) -> usize
+    ensures value { result ≡ prefix_len is_space bytes.now }
     ensures within { result ≤ length bytes.now }
 {
-    bytes.iter().take_while(|byte| is_blank(**byte)).count()
+    bytes.iter().take_while(|byte| is_space(**byte)).count()
 }
 
 /// How many digits come first.

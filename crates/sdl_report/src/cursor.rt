@@ -3,13 +3,13 @@
 ghost use Rattle.std.specs.Prelude.{◌≡◌, ◌-◌, ◌^◌, ◌≤◌, length, min, IsSomeAnd};
 ghost use Rattle.std.specs.Str.{IsAscii};
 ghost use Rattle.sdl_report.specs.Part as part;
-ghost use Rattle.sdl_report.specs.Part.{decimal};
+ghost use Rattle.sdl_lex.specs.Kind.{decimal};
 
-use crate::byte::{blanks_len, digits_len, word_len};
+use crate::byte::{digits_len, spaces_len, word_len};
 use std::marker::Model;
 use std::str;
 
-/// What of a line is still to be read. It never begins with a blank or a tab.
+/// What of a line is still to be read. It never begins with a space: a blank or a tab.
 #[derive(Drop)]
 pub struct Cursor<'a> {
     rest: &'a [u8],
@@ -26,14 +26,14 @@ impl<'a> Model for Cursor<'a> {
 impl<'a> Cursor<'a> {
     ghost use Rattle.std.specs.Prelude.{◌≡◌, ◌<◌, ◌≤◌, ◌↔◌, Some, None, [], drop, take, length, if◌then◌else◌, IfNone, IsTrue, MatchOption};
     ghost use Rattle.std.specs.Bool.{OnTrue, OnFalse};
-    ghost use Rattle.sdl_report.specs.Part.{past_blanks};
+    ghost use Rattle.sdl_report.specs.Part.{past_spaces};
     ghost use Rattle.sdl_report.specs.Reading.{mark, number, word};
 
     pub fn new(line: &'a [u8]) -> Self
-        ensures { result ≡ past_blanks line.now }
+        ensures { result ≡ past_spaces line.now }
     {
         Cursor {
-            rest: past_blanks(line),
+            rest: past_spaces(line),
         }
     }
 
@@ -43,7 +43,7 @@ impl<'a> Cursor<'a> {
         self.rest.is_empty()
     }
 
-    /// Steps over this byte and the blanks behind it, where it comes next.
+    /// Steps over this byte and the spaces behind it, where it comes next.
     pub fn eat(&mut self, byte: u8) -> bool
         ensures read { (if result then Some self.new else None) ≡ mark byte self.old }
         ensures kept { OnFalse result (self.new ≡ self.old) }
@@ -51,7 +51,7 @@ impl<'a> Cursor<'a> {
     {
         match self.rest.split_first() {
             Some((first, behind)) if *first == byte => {
-                self.rest = past_blanks(behind);
+                self.rest = past_spaces(behind);
                 true
             }
             _ => false,
@@ -85,24 +85,24 @@ impl<'a> Cursor<'a> {
         ascii_text(self.pass(len))
     }
 
-    // Steps over so many bytes and the blanks behind them.
+    // Steps over so many bytes and the spaces behind them.
     fn pass(&mut self, len: usize) -> &'a [u8]
         requires { len ≤ length self.old }
         ensures run { result.now ≡ take len self.old }
-        ensures rest { self.new ≡ past_blanks (drop len self.old) }
+        ensures rest { self.new ≡ past_spaces (drop len self.old) }
         ensures shorter { length self.new ≤ length self.old }
     {
         let (run, behind) = self.rest.split_at(len);
-        self.rest = past_blanks(behind);
+        self.rest = past_spaces(behind);
         run
     }
 }
 
-fn past_blanks(bytes: &[u8]) -> &[u8]
-    ensures value { result.now ≡ part.past_blanks bytes.now }
+fn past_spaces(bytes: &[u8]) -> &[u8]
+    ensures value { result.now ≡ part.past_spaces bytes.now }
     ensures shorter { length result.now ≤ length bytes.now }
 {
-    let (_, rest) = bytes.split_at(blanks_len(bytes));
+    let (_, rest) = bytes.split_at(spaces_len(bytes));
     rest
 }
 

@@ -3,11 +3,11 @@
 ghost use Rattle.std.specs.Prelude.{◌≡◌, ◌<◌, length, IfErr, IfOk, IfSome, OnOk};
 ghost use Rattle.std.specs.Bool.{OnFalse, OnTrue};
 ghost use Rattle.std.specs.List.{list_all};
-ghost use Rattle.sdl_report.specs.Part.{is_blank};
+ghost use Rattle.sdl_report.specs.Part.{is_space};
 ghost use Rattle.sdl_report.specs.Script.{IsFromEnv, IsNext, IsScript, end_of};
 ghost use Rattle.sdl_report.specs.ScriptText.{Adds, HasFault, Refuses, Says, SaysNothing, SaysScript};
 
-use crate::byte::is_blank;
+use crate::byte::is_space;
 use crate::fault::Fault;
 use crate::line::split_line;
 use crate::meaning::item_of;
@@ -15,7 +15,8 @@ use crate::spelling::Spelling;
 use port_model::Item;
 use sdl_system::System;
 use std::alloc::Global;
-use thiserror::Error;
+use std::error::Error;
+use std::fmt;
 
 /// A script: its lines in order, without those that say nothing. Their times never fall.
 #[derive(Debug, Drop)]
@@ -31,23 +32,38 @@ pub struct ScriptLine {
 }
 
 /// Why a script is refused, with the number of the line, from 1.
-#[derive(Clone, Copy, Debug, PartialEq, Eq, Error)]
+#[derive(Clone, Copy, Debug, PartialEq, Eq)]
 pub enum ScriptError {
     /// The line isn't `TIME [NAME [ "(" value {"," value} ")" ]]`, or its time is past 1,000,000,000,000,000.
-    #[error("script {0} Syntax")]
     Syntax(usize),
     /// The time is below that of a line before.
-    #[error("script {0} BackInTime")]
     BackInTime(usize),
     /// No signal of the system's own scope has this name, or no path leads it from the environment to a process.
-    #[error("script {0} UnknownSignal")]
     UnknownSignal(usize),
     /// The values aren't as many as the signal has parameters, or one isn't of its parameter's sort.
-    #[error("script {0} Arguments")]
     Arguments(usize),
-    #[error("script Memory")]
     Memory,
 }
+
+/// The line that tells it, without its end.
+impl fmt::Display for ScriptError {
+    ghost use Rattle.std.specs.Prelude.{Some};
+    ghost use Rattle.sdl_report.specs.ErrorText.{script_text};
+
+    ghost output = { λ error. Some (script_text error) };
+
+    fn fmt<W: fmt::Write>(&self, f: &mut fmt::Formatter<W>) -> fmt::Result {
+        match self {
+            ScriptError::Syntax(number) => write!(f, "script {number} Syntax"),
+            ScriptError::BackInTime(number) => write!(f, "script {number} BackInTime"),
+            ScriptError::UnknownSignal(number) => write!(f, "script {number} UnknownSignal"),
+            ScriptError::Arguments(number) => write!(f, "script {number} Arguments"),
+            ScriptError::Memory => write!(f, "script Memory"),
+        }
+    }
+}
+
+impl Error for ScriptError {}
 
 impl Script {
     /// The time of the last line, in ticks, and 0 where there is none.
@@ -127,11 +143,11 @@ fn says_nothing(line: &[u8]) -> bool
     ensures nothing { OnTrue result (SaysNothing line.now) }
     ensures something { OnFalse result (¬ SaysNothing line.now) }
 {
-    line.first() == Some(&b'#') || is_blank_line(line)
+    line.first() == Some(&b'#') || is_empty_line(line)
 }
 
-fn is_blank_line(line: &[u8]) -> bool
-    ensures { result ≡ list_all is_blank line.now }
+fn is_empty_line(line: &[u8]) -> bool
+    ensures { result ≡ list_all is_space line.now }
 {
-    line.iter().all(|byte| is_blank(*byte))
+    line.iter().all(|byte| is_space(*byte))
 }

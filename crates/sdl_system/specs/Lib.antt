@@ -6,6 +6,7 @@ pub mod Counts
 pub mod Declarations
 pub mod Different
 pub mod Entering
+pub mod ErrorText
 pub mod Expression
 pub mod Fault
 pub mod Limits

@@ -72,9 +72,9 @@ step_in scope (action.Output word outputs) = option_map output (all_some (map (s
 
 abbrev pub end_in : Scope → Option Terminator → Option End
 end_in scope None = None
-end_in scope (Some terminator.Stop) = Some Stop
-end_in scope (Some (terminator.NextState (next.Same dash))) = Some Same
-end_in scope (Some (terminator.NextState (next.Named name))) = option_map NextState (state_in scope name)
+end_in scope (Some (terminator.Stop word)) = Some Stop
+end_in scope (Some (terminator.NextState word (next.Same dash))) = Some Same
+end_in scope (Some (terminator.NextState word (next.Named name))) = option_map NextState (state_in scope name)
 
 abbrev pub ended : List Step → End → Body
 ended steps end = steps_before steps (end_of end)
@@ -84,7 +84,7 @@ body_in scope transition = both ended (all_some (map (step_in scope) transition.
 
 -- whether the transition stays in the state that it began in
 abbrev pub stays : Option Terminator → Bool
-stays (Some (terminator.NextState (next.Same dash))) = true
+stays (Some (terminator.NextState word (next.Same dash))) = true
 stays other = false
 
 -- the start begins in no state, so that it can't stay in it

@@ -1,10 +1,11 @@
 //! Faults of a specification, and which of them is told.
 ghost use Rattle.std.specs.Prelude.{◌≡◌, ◌≢◌, true, false, IfOk};
 ghost use Rattle.sdl_system.specs.declared.error.BuildError.TheVariants.{Memory};
+ghost use Rattle.sdl_tree.specs.Mark.{spelled};
 
 use crate::error::BuildError;
 use sdl_lex::Place;
-use sdl_tree::{Name, Spelling};
+use sdl_tree::{Mark, Name, Spelling};
 use std::alloc::{AllocError, Global};
 
 /// A token of the text, as it is spelled, and where it stands.
@@ -24,9 +25,12 @@ impl<'t> Token<'t> {
     }
 
     /// The token of a keyword or a mark.
-    pub fn of_spelling(word: Spelling) -> Token<'t> {
+    pub fn of_mark(mark: Mark, word: Spelling) -> Token<'t>
+        ensures text { result.text.now ≡ spelled mark word.case }
+        ensures place { result.place ≡ word.place }
+    {
         Token {
-            text: word.text,
+            text: mark.spelled(word.case),
             place: word.place,
         }
     }

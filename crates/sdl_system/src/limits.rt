@@ -14,7 +14,7 @@ use crate::resolve::{Names, local_signals};
 use sdl_core::{
     Action, Definition, LocalDefinition, ProcessDefinition, StatePart, Stimulus, Transition, Tree,
 };
-use sdl_tree::{Name, SignalDefinition};
+use sdl_tree::{Mark, Name, SignalDefinition};
 use std::alloc::{AllocError, Global};
 
 /// The signals of a specification.
@@ -150,12 +150,11 @@ impl<'t> Count<'t> {
     fn action(&mut self, action: &'t Action)
         ensures { Counts self.old self.new 0 0 1 true }
     {
-        let (Action::Task { word, .. } | Action::Output { word, .. }) = action;
-        count_one(
-            &mut self.statements,
-            Token::of_spelling(*word),
-            &mut self.faults,
-        );
+        let token = match action {
+            Action::Task { word, .. } => Token::of_mark(Mark::Task, *word),
+            Action::Output { word, .. } => Token::of_mark(Mark::Output, *word),
+        };
+        count_one(&mut self.statements, token, &mut self.faults);
     }
 
     fn states(&mut self, alloc: Global, parts: &'t [StatePart]) -> Result<(), AllocError>

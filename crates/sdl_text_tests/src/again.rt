@@ -22,7 +22,7 @@ fn reads_canonical_text_again(rt: HostRuntime) -> Result<(), Fail> {
     Ok(())
 }
 
-/// All that a tree says, without places and in lower case, for a keyword has two spellings.
+/// All that a tree says but for places and spellings: in lower case, with every keyword spelled so.
 fn nodes_of(alloc: Global, tree: &Tree) -> Result<String, AllocError> {
     let whole = format!(in alloc; "{tree:?}")?;
     let mut nodes = String::new(alloc);
@@ -34,5 +34,6 @@ fn nodes_of(alloc: Global, tree: &Tree) -> Result<String, AllocError> {
         };
         nodes.push_str(rest)?;
     }
-    nodes.as_str().to_ascii_lowercase(alloc)
+    let nodes = nodes.as_str().to_ascii_lowercase(alloc)?;
+    nodes.as_str().replace(alloc, "case: upper", "case: lower")
 }

@@ -1,6 +1,6 @@
 //! Words and marks in their spellings.
 
-use sdl_tree::{Mark, is_reserved, keyword_of, left_out, sign_of};
+use sdl_tree::{Case, Keyword, Mark, is_reserved, keyword_of, left_out, sign_of};
 use std::test::Fail;
 
 #[test]
@@ -8,14 +8,33 @@ fn knows_the_spellings(rt: HostRuntime) {
     assert!(rt;
         matches!(
             keyword_of(b"SIGNALLIST"),
-            Some((Mark::SignalList, "SIGNALLIST"))
+            Some(Keyword {
+                mark: Mark::SignalList,
+                case: Case::Upper
+            })
         )
     );
-    assert!(rt; matches!(keyword_of(b"self"), Some((Mark::SelfPid, "self"))));
-    assert!(rt; matches!(keyword_of(b"True"), Some((Mark::True, "True"))));
+    assert!(rt;
+        matches!(
+            keyword_of(b"self"),
+            Some(Keyword {
+                mark: Mark::SelfPid,
+                case: Case::Lower
+            })
+        )
+    );
+    assert!(rt;
+        matches!(
+            keyword_of(b"True"),
+            Some(Keyword {
+                mark: Mark::True,
+                case: Case::Capital
+            })
+        )
+    );
     assert!(rt; keyword_of(b"System").is_none());
     assert!(rt; keyword_of(b"trUE").is_none());
-    assert!(rt; matches!(sign_of(b"=>"), Some((Mark::Implies, "=>"))));
+    assert!(rt; matches!(sign_of(b"=>"), Some(Mark::Implies)));
     assert!(rt; sign_of(b"=<").is_none());
 }
 

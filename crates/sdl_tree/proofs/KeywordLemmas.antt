@@ -4,7 +4,9 @@ use Rattle.std.specs.Borrow.{Bor}
 use Rattle.std.specs.List.{find}
 use Rattle.std.specs.Str.{bytes_eq}
 use Rattle.sdl_tree.specs.declared.mark.Mark.{Mark}
-use Rattle.sdl_tree.specs.Keyword.{spelled, both_cases, entry_in, lower_case_in}
+use Rattle.sdl_tree.specs.declared.keyword.Keyword.{Keyword}
+use Rattle.sdl_tree.specs.declared.mark.Case.{Case}
+use Rattle.sdl_tree.specs.Keyword.{entry, both_cases, keyword_in, lower_case_in}
 
 pub find_mapped : {A B : Type 0} (f : A → B) (p : B → Bool) (xs : List A) → option_map f (find (λ x. p (f x)) xs) ≡ find p (map f xs)
 find_mapped f p [] = refl
@@ -14,13 +16,18 @@ find_mapped f p (x ∷ xs) =
       | false ↦ find_mapped f p xs
     ]
 
-pub is_some_mapped : {A B : Type 0} (f : A → B) (o : Option A) → is_some (option_map f o) ≡ is_some o
-is_some_mapped f None = refl
-is_some_mapped f (Some x) = refl
+abbrev pub keyword_of_entry : Mark × Case × Bor (List ℕ) → Keyword
+keyword_of_entry e = record { mark = e.0; case = e.1 }
 
-pub spelling_found : (table : List (Mark × Bor (List ℕ))) (bytes : List ℕ) →
-    option_map spelled (find (λ e. bytes_eq e.1.now bytes) table) ≡ entry_in (map spelled table) bytes
-spelling_found table bytes = find_mapped spelled (λ e. bytes_eq e.1 bytes) table
+keyword_twice : (o : Option (Mark × Case × Bor (List ℕ))) → option_map keyword_of_entry o ≡ option_map {T = Keyword × List ℕ} (λ e. e.0) (option_map entry o)
+keyword_twice None = refl
+keyword_twice (Some e) = refl
+
+pub keyword_found_in : (table : List (Mark × Case × Bor (List ℕ))) (word : List ℕ) →
+    option_map keyword_of_entry (find (λ e. bytes_eq e.2.now word) table) ≡ keyword_in (map entry table) word
+keyword_found_in table word =
+    let keyword : Keyword × List ℕ → Keyword = λ e. e.0 in
+    keyword_twice (find (λ e. bytes_eq e.2.now word) table) ∙ ap (option_map keyword) (find_mapped entry (λ e. bytes_eq e.1 word) table)
 
 lower_twice : (o : Option (Bor (List ℕ) × Bor (List ℕ))) → option_map {T = Bor (List ℕ) × Bor (List ℕ)} (λ e. e.0.now) o ≡ option_map {T = List ℕ × List ℕ} (λ e. e.0) (option_map both_cases o)
 lower_twice None = refl

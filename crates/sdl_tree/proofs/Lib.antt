@@ -1,7 +1,12 @@
+pub mod ErasedLemmas
 pub mod ExampleLemmas
 pub mod KeywordLemmas
+pub mod LawLemmas
+pub mod SpelledLemmas
 pub mod ViewLemmas
 pub mod WordLemmas
+pub mod Written
 pub mod WrittenDefinitions
+pub mod WrittenExpressions
 pub mod WrittenStates
 pub mod WrittenTransitions

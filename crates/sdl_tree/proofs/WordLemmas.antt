@@ -1,5 +1,5 @@
 -- What tokens mean.
-use Rattle.std.proofs.Common.{◌≡◌, refl, sym, subst, ℕ, Bool, true, false, true≢false, ◌&&◌, ◌==◌, IsTrue, ⊎_elim, inl, inr, List, [], ◌∷◌, codes}
+use Rattle.std.proofs.Common.{◌≡◌, refl, sym, subst, ℕ, Bool, true, false, true≢false, ◌&&◌, ◌==◌, IsTrue, ⊎_elim, inl, inr, ap, Some, option_map, List, [], ◌∷◌, codes}
 use Rattle.std.proofs.lemmas.Bool.{eqb-true, or_cases}
 use Rattle.sdl_lex.specs.Byte.{is_among, is_mark_byte}
 use Rattle.sdl_lex.specs.Kind.{is_mark}
@@ -8,10 +8,11 @@ use Rattle.sdl_tree.specs.declared.mark.Mark.{Mark}
 use Rattle.sdl_tree.specs.declared.mark.Mark.TheVariants as mark
 use Rattle.sdl_tree.specs.Keyword.{keyword_found, sign_found, left_out_found}
 use Rattle.sdl_tree.specs.Laws.{SignsAreFixed, TextsAreFixed}
-use Rattle.sdl_tree.specs.Words.{Fixed, word_of}
+use Rattle.sdl_tree.specs.Words.{fixed_or, in_lower_case, word_of}
+use Rattle.sdl_tree.specs.Words as word
 
 abbrev IsSign : List ℕ → Type 0
-IsSign bytes = (m : Mark) × (word_of kind.Mark bytes ≡ Fixed m)
+IsSign bytes = (m : Mark) × (sign_found bytes ≡ Some m)
 
 abbrev Each : (ℕ → Type 0) → List ℕ → Type 0
 Each P [] = Unit {0}
@@ -28,7 +29,7 @@ both_true true false e = absurd (true≢false (sym e))
 both_true false y e = absurd (true≢false (sym e))
 
 sign_of_one : (b : ℕ) → IsTrue (is_mark_byte b) → IsSign (b ∷ [])
-unfolding word_of sign_found
+unfolding sign_found
 sign_of_one = among_each (λ b. IsSign (b ∷ [])) (codes "(),;:=<>+-*/") (
   (mark.Open, refl),
   (
@@ -50,14 +51,14 @@ sign_of_one = among_each (λ b. IsSign (b ∷ [])) (codes "(),;:=<>+-*/") (
 )
 
 sign_with_equal : (b : ℕ) → IsTrue (is_among b (codes ":/<>")) → IsSign (b ∷ 61 ∷ [])
-unfolding word_of sign_found
+unfolding sign_found
 sign_with_equal = among_each (λ b. IsSign (b ∷ 61 ∷ [])) (codes ":/<>") (
   (mark.Assign, refl),
   ((mark.NotEqual, refl), ((mark.LessOrEqual, refl), ((mark.GreaterOrEqual, refl), tt))),
 )
 
 sign_of_two : (b c : ℕ) → IsTrue (is_mark (b ∷ c ∷ [])) → IsSign (b ∷ c ∷ [])
-unfolding word_of sign_found
+unfolding sign_found
 sign_of_two b c e = ⊎_elim
     (λ h. let both = both_true (is_among b (codes ":/<>")) (c == 61) h in
     subst (λ d. IsSign (b ∷ d ∷ [])) (sym (eqb-true c 61 both.1)) (sign_with_equal b both.0))
@@ -66,11 +67,17 @@ sign_of_two b c e = ⊎_elim
     (subst (λ d. IsSign (61 ∷ d ∷ [])) (sym (eqb-true c 62 both.1)) (mark.Implies, refl)))
     (or_cases (is_among b (codes ":/<>") && c == 61) (b == 61 && c == 62) e)
 
+is_sign : (bytes : List ℕ) → IsTrue (is_mark bytes) → IsSign bytes
+is_sign [] e = absurd (true≢false (sym e))
+is_sign (b ∷ []) e = sign_of_one b e
+is_sign (b ∷ c ∷ []) e = sign_of_two b c e
+is_sign (b ∷ c ∷ d ∷ bytes) e = absurd (true≢false (sym e))
+
 pub signs_are_fixed : SignsAreFixed
-signs_are_fixed [] e = absurd (true≢false (sym e))
-signs_are_fixed (b ∷ []) e = sign_of_one b e
-signs_are_fixed (b ∷ c ∷ []) e = sign_of_two b c e
-signs_are_fixed (b ∷ c ∷ d ∷ bytes) e = absurd (true≢false (sym e))
+unfolding word_of
+signs_are_fixed x e =
+    let sign = is_sign x.text e in
+    (sign.0, ap (λ found. fixed_or (word.Name x) x.place (option_map in_lower_case found)) sign.1)
 
 pub texts_are_fixed : TextsAreFixed
 unfolding word_of keyword_found sign_found left_out_found

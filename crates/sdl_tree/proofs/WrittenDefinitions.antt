@@ -1,233 +1,181 @@
--- The canonical words of a definition, and of a tree, spell it.
-use Rattle.std.proofs.Common.{refl, Bool, true, false, Option, Some, None, List, [], ◌∷◌, inr}
+-- What is written for the erasure of a definition, and of a tree, spells it.
+use Rattle.std.proofs.Common.{◌≡◌, refl, ℕ, Bool, true, false, Option, Some, None, option_map, List, [], ◌∷◌, map}
 use Rattle.sdl_tree.specs.declared.mark.Mark.TheVariants as mark
-use Rattle.sdl_tree.specs.Canonical.{separated, repeated, optional, in_parentheses, name_words, end_words, expr_words, transition_words, start_words, sig_words, body_part_words, signal_words, signals_words, signal_list_words, synonym_words, synonyms_words, point_words, path_words, no_delay_words, channel_words, bound_words, counts_words, parameters_words, fpar_words, initial_words, variables_words, timer_words, local_words, process_words, definition_words, block_part_words, block_words, system_definition_words, canonical}
-use Rattle.sdl_tree.specs.Spells.{SpellsSorts, SpellsSignalName, SpellsSignal, SpellsSignalList, SpellsSynonymName, SpellsSynonym, SpellsPoint, SpellsPath, SpellsNoDelay, SpellsChannel, SpellsCount, SpellsBound, SpellsCounts, SpellsParameters, SpellsFpar, SpellsInitial, SpellsVariables, SpellsOne, SpellsPdef, SpellsProcess, SpellsDef, SpellsBlockPart, SpellsBlock, SpellsSystemDef, SpellsTree}
-use Rattle.sdl_tree.specs.Spells.Behaviour.{SpellsStart, SpellsBodyPart}
-use Rattle.sdl_tree.specs.Spells.Expressions.{limit, SpellsExpr}
-use Rattle.sdl_tree.specs.Spells.Parts.{Words, SpellsSort}
-use Rattle.sdl_tree.specs.Tree.{Name, Expr, Transition, SignalDefinition, SignalListDefinition, SynonymDefinition, ParameterGroup, VariableGroup, TimerDefinition, LocalDefinition, LocalSignals, LocalSignalList, LocalSynonyms, SignalSet, Variables, Timers, Bound, Counts, ProcessDefinition, ChannelEnd, Env, Agent, ChannelPath, ChannelDefinition, Definition, Signals, SignalList, Synonyms, Channel, Process, BlockPart, InBlock, Connect, BlockDefinition, SystemDefinition, InSystem, Block, Tree}
-use Rattle.sdl_tree.specs.Words.{Fixed}
+use Rattle.sdl_tree.specs.Canonical.{fixed, separated, repeated, optional, in_parentheses, name_words, end_words, sig_words, expr_words, start_words, body_part_words, signal_words, signals_words, signal_list_words, synonym_words, synonyms_words, point_words, path_words, no_delay_words, channel_words, bound_words, counts_words, parameters_words, fpar_words, initial_words, variables_words, timer_words, timers_words, signal_set_words, local_words, process_words, connect_words, definition_words, block_part_words, block_words, system_definition_words, canonical}
+use Rattle.sdl_tree.specs.Erased.{plain, erased_name, erased_sort, erased_expr, erased_item, erased_signal, erased_signal_list, erased_synonym, erased_synonyms, erased_parameters, erased_fpar, erased_variables, erased_timer, erased_timers, erased_signal_set, erased_local, erased_bound, erased_counts, erased_start, erased_body_part, erased_process, erased_end, erased_path, erased_channel, erased_connection, erased_definition, erased_block_part, erased_block, erased_system_definition, erased}
+use Rattle.sdl_tree.specs.Spells.{SpellsSignalName, SpellsSignal, SpellsSignalList, SpellsSynonymName, SpellsSynonym, SpellsPoint, SpellsPath, SpellsNoDelay, SpellsPaths, SpellsChannel, SpellsBound, SpellsCounts, SpellsParameters, SpellsFpar, SpellsInitial, SpellsVariables, SpellsDcl, SpellsOne, SpellsTimer, SpellsSignalSet, SpellsPdef, SpellsBody, SpellsProcess, SpellsConnect, SpellsDef, SpellsBlockPart, SpellsBlockParts, SpellsBlock, SpellsSystemDef, SpellsSystemDefs, SpellsTree}
+use Rattle.sdl_tree.specs.Spells.Parts.{InParentheses, SpellsName, SpellsClosing}
+use Rattle.sdl_tree.specs.Tree.{SignalDefinition, SignalListDefinition, SynonymDefinition, SynonymDefinitions, ParameterGroup, FormalParameters, VariableGroup, TimerDefinition, TimerDefinitions, SignalSet, LocalDefinition, LocalSignals, LocalSignalList, LocalSynonyms, LocalSignalSet, Variables, Timers, Bound, Counts, ProcessDefinition, BodyPart, ChannelEnd, Env, Agent, ChannelPath, ChannelDefinition, Connection, Definition, Signals, SignalList, Synonyms, Channel, Process, BlockPart, InBlock, Connect, BlockDefinition, SystemDefinition, InSystem, Block, Tree}
+use Rattle.sdl_tree.specs.Words.{Words, Fixed}
 use Rattle.sdl_tree.specs.Words as word
+use Rattle.sdl_tree.proofs.Written.{Writes, mark_written, name_written, sort_written, names_written, closing_words, closing_written, both_written, behind_written, before_written, followed_written, ended_written, optional_written, separated_written, repeated_written, in_parentheses_written, sigs_written}
+use Rattle.sdl_tree.proofs.WrittenExpressions.{expr_written}
+use Rattle.sdl_tree.proofs.WrittenTransitions.{start_written}
 use Rattle.sdl_tree.proofs.WrittenStates.{body_part_written}
-use Rattle.sdl_tree.proofs.WrittenTransitions.{IsWritten, separated_written, repeated_written, optional_written, in_parentheses_written, names_written, end_written, sort_written, sigs_written, expr_written, transition_written}
 
-sorts_written : IsWritten (List Name) SpellsSorts (in_parentheses name_words)
-sorts_written = in_parentheses_written SpellsSort name_words sort_written
+sorts_written : Writes (map erased_sort) (InParentheses SpellsName) (in_parentheses name_words)
+sorts_written = in_parentheses_written sort_written
 
-signal_written : IsWritten SignalDefinition SpellsSignalName signal_words
-signal_written d i j k s = (_, refl, sorts_written d.sorts s.0 j k s.2)
+signal_written : Writes erased_signal SpellsSignalName signal_words
+signal_written = record { writes = λ d i j k s. (both_written name_written sorts_written).writes (d.name, d.sorts) i j k s }
 
-signals_written : IsWritten (List SignalDefinition) SpellsSignal signals_words
-signals_written ds i j k s =
-    (_, end_words k, refl, separated_written SpellsSignalName signal_words signal_written ds s.0 s.1 (end_words k) s.3, end_written k)
+signals_written : Writes (map erased_signal) SpellsSignal signals_words
+signals_written = record { writes = (behind_written (ended_written (separated_written signal_written)) mark.Signal).writes }
 
-signal_list_written : IsWritten SignalListDefinition SpellsSignalList signal_list_words
-signal_list_written l i j k s = (_, end_words k, refl, sigs_written l.items s.0 s.1 (end_words k) s.3, end_written k)
+signal_list_written : Writes erased_signal_list SpellsSignalList signal_list_words
+signal_list_written = record {
+  writes = λ l i j k s.
+      (both_written (mark_written mark.SignalList) (both_written name_written (behind_written (ended_written sigs_written) mark.Equal))).writes
+      (l.word, (l.name, l.items)) i j k s;
+}
 
-synonym_written : IsWritten SynonymDefinition SpellsSynonymName synonym_words
-synonym_written d i j k s =
-    let rest = expr_words d.value k in (
-      _,
-      rest,
-      refl,
-      sort_written d.sort s.0 (Fixed mark.Equal ∷ s.1) (Fixed mark.Equal ∷ rest) s.3,
-      expr_written limit d.value s.1 j k s.4,
-    )
+synonym_written : (depth : ℕ) → Writes erased_synonym (SpellsSynonymName depth) synonym_words
+synonym_written depth = record {
+  writes = λ d i j k s.
+      (both_written name_written (both_written sort_written (behind_written (expr_written depth) mark.Equal))).writes (d.name, (d.sort, d.value)) i j k s;
+}
 
-synonyms_written : IsWritten (List SynonymDefinition) SpellsSynonym synonyms_words
-synonyms_written ds i j k s =
-    (_, end_words k, refl, separated_written SpellsSynonymName synonym_words synonym_written ds s.0 s.1 (end_words k) s.3, end_written k)
+synonyms_written : (depth : ℕ) → Writes erased_synonyms (SpellsSynonym depth) synonyms_words
+synonyms_written depth = record {
+  writes = λ d i j k s. (both_written (mark_written mark.Synonym) (ended_written (separated_written (synonym_written depth)))).writes (d.word, d.synonyms) i j k s;
+}
 
-point_written : IsWritten ChannelEnd SpellsPoint point_words
-point_written Env i j k s = refl
-point_written (Agent x) i j k s = refl
+point_on : (x : ChannelEnd) (i j k : Words) → SpellsPoint x i j → SpellsPoint (erased_end x) (point_words (erased_end x) k) k
+point_on (Env w) i j k s = refl
+point_on (Agent x) i j k s = refl
 
-path_written : IsWritten ChannelPath SpellsPath path_words
-path_written p i j k s =
-    let carried = separated sig_words p.signals (end_words k) in
-    let rest = point_words p.to (Fixed mark.With ∷ carried) in (
-      _,
-      rest,
-      carried,
-      end_words k,
-      refl,
-      point_written p.from s.0 (Fixed mark.To ∷ s.1) (Fixed mark.To ∷ rest) s.5,
-      point_written p.to s.1 (Fixed mark.With ∷ s.2) (Fixed mark.With ∷ carried) s.6,
-      sigs_written p.signals s.2 s.3 (end_words k) s.7,
-      end_written k,
-    )
+point_written : Writes erased_end SpellsPoint point_words
+point_written = record { writes = point_on }
 
-no_delay_written : IsWritten Bool SpellsNoDelay no_delay_words
-no_delay_written false i j k s = refl
-no_delay_written true i j k s = refl
+path_written : Writes erased_path SpellsPath path_words
+path_written = record {
+  writes = λ p i j k s.
+      (behind_written (both_written point_written (behind_written (both_written point_written (behind_written (ended_written sigs_written) mark.With)) mark.To)) mark.From).writes
+      (p.from, (p.to, p.signals)) i j k s;
+}
 
-channel_written : IsWritten ChannelDefinition SpellsChannel channel_words
-channel_written c i j k s =
-    let close = word.Name c.name ∷ end_words k in
-    let end = Fixed mark.EndChannel ∷ close in
-    let second = optional path_words c.second end in
-    let first = path_words c.first second in (
-      _,
-      first,
-      second,
-      close,
-      end_words k,
-      refl,
-      no_delay_written c.is_nodelay s.0 s.1 first s.6,
-      path_written c.first s.1 s.2 second s.7,
-      optional_written SpellsPath path_words path_written c.second s.2 (Fixed mark.EndChannel ∷ s.3) end s.8,
-      inr refl,
-      end_written k,
-    )
+no_delay_on : (x : Bool) (i j k : Words) → SpellsNoDelay x i j → SpellsNoDelay x (no_delay_words x k) k
+no_delay_on false i j k s = refl
+no_delay_on true i j k s = (plain, refl)
 
-count_written : IsWritten (Option Expr) SpellsCount (optional expr_words)
-count_written = optional_written (SpellsExpr limit) expr_words (expr_written limit)
+no_delay_written : Writes (λ x. x) SpellsNoDelay no_delay_words
+no_delay_written = record { writes = no_delay_on }
 
-bound_written : IsWritten (Option Bound) SpellsBound (optional bound_words)
-bound_written None i j k s = refl
-bound_written (Some b) i j k s = (_, refl, count_written b.maximum s.0 j k s.2)
+channel_written : Writes erased_channel SpellsChannel channel_words
+channel_written = record {
+  writes = λ c i j k s.
+      let paths = both_written no_delay_written (both_written path_written (optional_written path_written)) in
+      let name = erased_name c.name in
+      let closed = followed_written paths (SpellsClosing mark.EndChannel c.name.text) (closing_words mark.EndChannel name) (closing_written mark.EndChannel name) in
+      (both_written (mark_written mark.Channel) (both_written name_written closed)).writes (c.word, (c.name, (c.is_nodelay, (c.first, c.second)))) i j k s;
+}
 
-counts_written : IsWritten Counts SpellsCounts counts_words
-counts_written c i j k s =
-    let close = Fixed mark.Close ∷ k in
-    let rest = optional bound_words c.bound close in
-    (_, rest, refl, count_written c.initial s.0 s.1 rest s.3, bound_written c.bound s.1 (Fixed mark.Close ∷ j) close s.4)
+bound_written : (depth : ℕ) → Writes erased_bound (SpellsBound depth) bound_words
+bound_written depth = record { writes = λ b i j k s. (behind_written (optional_written (expr_written depth)) mark.Comma).writes b.maximum i j k s }
 
-parameters_written : IsWritten ParameterGroup SpellsParameters parameters_words
-parameters_written g i j k s =
-    let rest = word.Name g.sort ∷ k in
-    (rest, names_written g.names i s.0 rest s.1, sort_written g.sort s.0 j k s.2)
+counts_written : (depth : ℕ) → Writes erased_counts (SpellsCounts depth) counts_words
+counts_written depth = record {
+  writes = λ c i j k s.
+      (both_written (mark_written mark.Open) (before_written (both_written (optional_written (expr_written depth)) (optional_written (bound_written depth))) mark.Close)).writes
+      (c.parenthesis, (c.initial, c.bound)) i j k s;
+}
 
-fpar_written : IsWritten (List ParameterGroup) SpellsFpar fpar_words
-fpar_written [] i j k s = refl
-fpar_written (g ∷ groups) i j k s = (
-  _,
-  end_words k,
-  refl,
-  separated_written SpellsParameters parameters_words parameters_written (g ∷ groups) s.0 s.1 (end_words k) s.3,
-  end_written k,
-)
+parameters_written : Writes erased_parameters SpellsParameters parameters_words
+parameters_written = record { writes = λ g i j k s. (both_written names_written sort_written).writes (g.names, g.sort) i j k s }
 
-initial_written : IsWritten (Option Expr) SpellsInitial initial_words
-initial_written None i j k s = refl
-initial_written (Some e) i j k s = (_, refl, expr_written limit e s.0 j k s.2)
+fpar_written : Writes erased_fpar SpellsFpar fpar_words
+fpar_written = record {
+  writes = λ f i j k s. (both_written (mark_written mark.Fpar) (ended_written (separated_written parameters_written))).writes (f.word, f.groups) i j k s;
+}
 
-variables_written : IsWritten VariableGroup SpellsVariables variables_words
-variables_written g i j k s =
-    let initial = initial_words g.initial k in
-    let rest = word.Name g.sort ∷ initial in (
-      rest,
-      initial,
-      names_written g.names i s.0 rest s.2,
-      sort_written g.sort s.0 s.1 initial s.3,
-      initial_written g.initial s.1 j k s.4,
-    )
+initial_written : (depth : ℕ) → Writes (option_map erased_expr) (SpellsInitial depth) (optional initial_words)
+initial_written depth = record { writes = (optional_written (behind_written (expr_written depth) mark.Assign)).writes }
 
-timer_written : IsWritten TimerDefinition SpellsOne timer_words
-timer_written t i j k s =
-    let rest = initial_words t.duration k in
-    (_, rest, refl, sorts_written t.sorts s.0 s.1 rest s.3, initial_written t.duration s.1 j k s.4)
+variables_written : (depth : ℕ) → Writes erased_variables (SpellsVariables depth) variables_words
+variables_written depth = record {
+  writes = λ g i j k s. (both_written names_written (both_written sort_written (initial_written depth))).writes (g.names, (g.sort, g.initial)) i j k s;
+}
 
-local_written : IsWritten LocalDefinition SpellsPdef local_words
-local_written (LocalSignals signals) i j k s = signals_written signals i j k s
-local_written (LocalSignalList list) i j k s = signal_list_written list i j k s
-local_written (LocalSynonyms synonyms) i j k s = synonyms_written synonyms i j k s
-local_written (SignalSet items) i j k s = (_, end_words k, refl, sigs_written items s.0 s.1 (end_words k) s.3, end_written k)
-local_written (Variables groups) i j k s = (
-  _,
-  end_words k,
-  refl,
-  separated_written SpellsVariables variables_words variables_written groups s.0 s.1 (end_words k) s.3,
-  end_written k,
-)
-local_written (Timers timers) i j k s =
-    (_, end_words k, refl, separated_written SpellsOne timer_words timer_written timers s.0 s.1 (end_words k) s.3, end_written k)
+timer_written : (depth : ℕ) → Writes erased_timer (SpellsOne depth) timer_words
+timer_written depth = record {
+  writes = λ t i j k s. (both_written name_written (both_written sorts_written (initial_written depth))).writes (t.name, (t.sorts, t.duration)) i j k s;
+}
 
-start_written : IsWritten Transition SpellsStart start_words
-start_written t i j k s =
-    let rest = transition_words t k in
-    (_, rest, refl, end_written rest, transition_written t limit s.1 j k s.4)
+timers_written : (depth : ℕ) → Writes erased_timers (SpellsTimer depth) timers_words
+timers_written depth = record {
+  writes = λ t i j k s. (both_written (mark_written mark.Timer) (ended_written (separated_written (timer_written depth)))).writes (t.word, t.timers) i j k s;
+}
 
-process_written : IsWritten ProcessDefinition SpellsProcess process_words
-process_written p i j k s =
-    let close = word.Name p.name ∷ end_words k in
-    let end = Fixed mark.EndProcess ∷ close in
-    let body = repeated body_part_words p.body end in
-    let start = start_words p.start body in
-    let local = repeated local_words p.definitions start in
-    let fpar = fpar_words p.parameters local in (
-      _,
-      end_words fpar,
-      fpar,
-      local,
-      start,
-      body,
-      close,
-      end_words k,
-      refl,
-      optional_written SpellsCounts counts_words counts_written p.counts s.0 s.1 (end_words fpar) s.9,
-      end_written fpar,
-      fpar_written p.parameters s.2 s.3 local s.11,
-      repeated_written SpellsPdef local_words local_written p.definitions s.3 s.4 start s.12,
-      start_written p.start s.4 s.5 body s.13,
-      repeated_written SpellsBodyPart body_part_words body_part_written p.body s.5 (Fixed mark.EndProcess ∷ s.6) end s.14,
-      inr refl,
-      end_written k,
-    )
+signal_set_written : Writes erased_signal_set SpellsSignalSet signal_set_words
+signal_set_written = record {
+  writes = λ x i j k s. (both_written (mark_written mark.SignalSet) (ended_written sigs_written)).writes (x.word, x.items) i j k s;
+}
 
-definition_written : IsWritten Definition SpellsDef definition_words
-definition_written (Signals signals) i j k s = signals_written signals i j k s
-definition_written (SignalList list) i j k s = signal_list_written list i j k s
-definition_written (Synonyms synonyms) i j k s = synonyms_written synonyms i j k s
-definition_written (Channel channel) i j k s = channel_written channel i j k s
-definition_written (Process process) i j k s = process_written process i j k s
+local_on : (depth : ℕ) → (x : LocalDefinition) (i j k : Words) → SpellsPdef depth x i j → SpellsPdef depth (erased_local x) (local_words (erased_local x) k) k
+local_on depth (LocalSignals signals) i j k s = signals_written.writes signals i j k s
+local_on depth (LocalSignalList list) i j k s = signal_list_written.writes list i j k s
+local_on depth (LocalSynonyms synonyms) i j k s = (synonyms_written depth).writes synonyms i j k s
+local_on depth (LocalSignalSet signals) i j k s = signal_set_written.writes signals i j k s
+local_on depth (Variables groups) i j k s = (behind_written (ended_written (separated_written (variables_written depth))) mark.Dcl).writes groups i j k s
+local_on depth (Timers timers) i j k s = (timers_written depth).writes timers i j k s
 
-block_part_written : IsWritten BlockPart SpellsBlockPart block_part_words
-block_part_written (InBlock definition) i j k s = definition_written definition i j k s
-block_part_written (Connect outer inner) i j k s =
-    let rest = separated name_words inner (end_words k) in (
-      _,
-      rest,
-      end_words k,
-      refl,
-      names_written outer s.0 (Fixed mark.And ∷ s.1) (Fixed mark.And ∷ rest) s.4,
-      names_written inner s.1 s.2 (end_words k) s.5,
-      end_written k,
-    )
+local_written : (depth : ℕ) → Writes erased_local (SpellsPdef depth) local_words
+local_written depth = record { writes = local_on depth }
 
-block_written : IsWritten BlockDefinition SpellsBlock block_words
-block_written b i j k s =
-    let close = word.Name b.name ∷ end_words k in
-    let end = Fixed mark.EndBlock ∷ close in
-    let rest = repeated block_part_words b.definitions end in (
-      _,
-      rest,
-      close,
-      end_words k,
-      refl,
-      end_written rest,
-      repeated_written SpellsBlockPart block_part_words block_part_written b.definitions s.1 (Fixed mark.EndBlock ∷ s.2) end s.6,
-      inr refl,
-      end_written k,
-    )
+process_written : (depth : ℕ) → Writes erased_process (SpellsProcess depth) process_words
+process_written depth = record {
+  writes = λ p i j k s.
+      let name = erased_name p.name in
+      let body = followed_written (repeated_written (body_part_written depth)) (SpellsClosing mark.EndProcess p.name.text) (closing_words mark.EndProcess name)
+      (closing_written mark.EndProcess name) in
+      let locals = repeated_written (local_written depth) in
+      let counts = ended_written (optional_written (counts_written depth)) in
+      (both_written (mark_written mark.Process)
+      (both_written name_written (both_written counts (both_written (optional_written fpar_written) (both_written locals (both_written (start_written depth) body)))))).writes
+      (p.word, (p.name, (p.counts, (p.parameters, (p.definitions, (p.start, p.body)))))) i j k s;
+}
 
-system_definition_written : IsWritten SystemDefinition SpellsSystemDef system_definition_words
-system_definition_written (InSystem definition) i j k s = definition_written definition i j k s
-system_definition_written (Block block) i j k s = block_written block i j k s
+connect_written : Writes erased_connection SpellsConnect connect_words
+connect_written = record {
+  writes = λ c i j k s.
+      (both_written (mark_written mark.Connect) (both_written names_written (behind_written (ended_written names_written) mark.And))).writes
+      (c.word, (c.outer, c.inner)) i j k s;
+}
 
-pub canonical_spells : (t : Tree) (i : Words) → SpellsTree t i → SpellsTree t (canonical t)
-canonical_spells t i s =
-    let close = word.Name t.name ∷ end_words [] in
-    let end = Fixed mark.EndSystem ∷ close in
-    let rest = repeated system_definition_words t.definitions end in (
-      _,
-      rest,
-      close,
-      end_words [],
-      refl,
-      end_written rest,
-      repeated_written SpellsSystemDef system_definition_words system_definition_written t.definitions s.1 (Fixed mark.EndSystem ∷ s.2) end s.6,
-      inr refl,
-      end_written [],
-    )
+definition_on : (depth : ℕ) → (x : Definition) (i j k : Words) → SpellsDef depth x i j → SpellsDef depth (erased_definition x) (definition_words (erased_definition x) k) k
+definition_on depth (Signals signals) i j k s = signals_written.writes signals i j k s
+definition_on depth (SignalList list) i j k s = signal_list_written.writes list i j k s
+definition_on depth (Synonyms synonyms) i j k s = (synonyms_written depth).writes synonyms i j k s
+definition_on depth (Channel channel) i j k s = channel_written.writes channel i j k s
+definition_on depth (Process process) i j k s = (process_written depth).writes process i j k s
+
+block_part_on : (depth : ℕ) → (x : BlockPart) (i j k : Words) → SpellsBlockPart depth x i j → SpellsBlockPart depth (erased_block_part x) (block_part_words (erased_block_part x) k) k
+block_part_on depth (InBlock definition) i j k s = definition_on depth definition i j k s
+block_part_on depth (Connect connection) i j k s = connect_written.writes connection i j k s
+
+block_part_written : (depth : ℕ) → Writes erased_block_part (SpellsBlockPart depth) block_part_words
+block_part_written depth = record { writes = block_part_on depth }
+
+block_written : (depth : ℕ) → Writes erased_block (SpellsBlock depth) block_words
+block_written depth = record {
+  writes = λ b i j k s.
+      let name = erased_name b.name in
+      let parts = followed_written (repeated_written (block_part_written depth)) (SpellsClosing mark.EndBlock b.name.text) (closing_words mark.EndBlock name)
+      (closing_written mark.EndBlock name) in
+      (both_written (mark_written mark.Block) (both_written (ended_written name_written) parts)).writes (b.word, (b.name, b.definitions)) i j k s;
+}
+
+system_definition_on : (depth : ℕ) → (x : SystemDefinition) (i j k : Words) → SpellsSystemDef depth x i j →
+    SpellsSystemDef depth (erased_system_definition x) (system_definition_words (erased_system_definition x) k) k
+system_definition_on depth (InSystem definition) i j k s = definition_on depth definition i j k s
+system_definition_on depth (Block block) i j k s = (block_written depth).writes block i j k s
+
+system_definition_written : (depth : ℕ) → Writes erased_system_definition (SpellsSystemDef depth) system_definition_words
+system_definition_written depth = record { writes = system_definition_on depth }
+
+pub canonical_spells : (depth : ℕ) → (t : Tree) (i : Words) → SpellsTree depth t i → SpellsTree depth (erased t) (canonical (erased t))
+canonical_spells depth t i s =
+    let name = erased_name t.name in
+    let definitions = followed_written (repeated_written (system_definition_written depth)) (SpellsClosing mark.EndSystem t.name.text)
+    (closing_words mark.EndSystem name) (closing_written mark.EndSystem name) in
+    (behind_written (both_written (ended_written name_written) definitions) mark.System).writes (t.name, t.definitions) i [] [] s

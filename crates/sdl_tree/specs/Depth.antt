@@ -1,35 +1,21 @@
--- How deep parentheses and decisions stand inside each other. Each parenthesis counts here, also one that the grammar doesn't
--- count.
-use denote.Enum.Bare.{sameb}
-use Rattle.std.specs.Prelude.{◌≡◌, ℕ, ◌+◌, ◌-◌, ◌≤◌, Bool, true, ◌||◌, if◌then◌else◌, [], ◌∷◌, ◌++◌, length}
-use Rattle.sdl_tree.specs.contracts.mark.Mark.{the_type}
-use Rattle.sdl_tree.specs.declared.mark.Mark.{Mark}
+-- Which word of a text opens one too many inside each other. What counts, the grammar says: the depth of *Spells*.
+use Rattle.std.specs.Prelude.{◌≡◌, ℕ, ◌⊎◌, suc, List, [], ◌∷◌, ◌++◌}
 use Rattle.sdl_tree.specs.declared.mark.Mark.TheVariants as mark
-use Rattle.sdl_tree.specs.Spells.Expressions.{limit}
-use Rattle.sdl_tree.specs.Spells.Parts.{Words}
-use Rattle.sdl_tree.specs.Words.{Fixed}
-use Rattle.sdl_tree.specs.Words as word
+use Rattle.sdl_tree.specs.declared.name.Spelling.{Spelling}
+use Rattle.sdl_tree.specs.Spells.{SpellsTree}
+use Rattle.sdl_tree.specs.Tree.{Tree}
+use Rattle.sdl_tree.specs.Words.{Word, Words, Fixed}
 
-abbrev pub opens : Mark → Bool
-opens m = sameb the_type m mark.Open || sameb the_type m mark.Decision
+-- a parenthesis or a decision, of which the grammar counts some
+abbrev pub IsOpening : Word → Type 0
+IsOpening w = (s : Spelling) × ((w ≡ Fixed mark.Open s) ⊎ (w ≡ Fixed mark.Decision s))
 
-abbrev pub closes : Mark → Bool
-closes m = sameb the_type m mark.Close || sameb the_type m mark.EndDecision
+-- some text that begins so spells a tree
+abbrev pub GoesOn : ℕ → Words → Type 0
+GoesOn depth front = (t : Tree) × (back : Words) × SpellsTree depth t (front ++ back)
 
--- how many are open after a mark, where `open` were before it
-abbrev pub open_after : ℕ → Mark → ℕ
-open_after before m = if opens m then before + 1 else (if closes m then before - 1 else before)
-
--- how many parentheses and decisions the words leave open, where some were before them
-abbrev pub unclosed : ℕ → Words → ℕ
-unclosed before [] = before
-unclosed before (Fixed m ∷ words) = unclosed (open_after before m) words
-unclosed before (word.Name x ∷ words) = unclosed before words
-unclosed before (word.Number n ∷ words) = unclosed before words
-unclosed before (word.Text ∷ words) = unclosed before words
-unclosed before (word.LeftOut lower ∷ words) = unclosed before words
-
--- A parenthesis or decision that opens before the last `left` words stands inside the limit of others.
-abbrev pub IsTooDeep : Words → ℕ → Type 0
-IsTooDeep i left = (front : Words) × (m : Mark) × (back : Words)
-    × (i ≡ front ++ Fixed m ∷ back) × (opens m ≡ true) × (left ≡ length back) × (limit ≤ unclosed 0 front)
+-- The word behind these opens one too many inside each other: with it no text goes on, one does where one more may stand
+-- inside each other, and up to each opening word before it one does as it is.
+abbrev pub OpensTooMany : ℕ → Words → Word → Type 0
+OpensTooMany depth front w = IsOpening w × GoesOn (suc depth) (front ++ w ∷ []) × ¬ GoesOn depth (front ++ w ∷ [])
+    × ((before between : Words) (opening : Word) → front ≡ before ++ opening ∷ between → IsOpening opening → GoesOn depth (before ++ opening ∷ []))

@@ -1,83 +1,87 @@
--- Small texts with their trees.
+-- Small texts with their trees. Where no other is told, the place of each word is that where a text begins.
 use Rattle.std.specs.Prelude.{◌≡◌, ℕ, pos, true, false, Some, None, List, [], ◌∷◌, ◌++◌, map, codes}
+use Rattle.std.specs.Fmt.{decimal}
 use Rattle.sdl_lex.specs.declared.token.Kind.{Kind}
 use Rattle.sdl_lex.specs.declared.token.Kind.TheVariants as kind
+use Rattle.sdl_lex.specs.declared.token.Token.{Token}
 use Rattle.sdl_tree.specs.declared.expressions.KeywordValue.TheVariants as value
 use Rattle.sdl_tree.specs.declared.expressions.Operator.TheVariants as operator
 use Rattle.sdl_tree.specs.declared.expressions.UnaryOperator.TheVariants as unary
+use Rattle.sdl_tree.specs.declared.mark.Case.TheVariants.{Upper}
+use Rattle.sdl_tree.specs.declared.name.Spelling.{Spelling}
 use Rattle.sdl_tree.specs.Canonical.{canonical_text}
+use Rattle.sdl_tree.specs.Erased.{start, plain}
 use Rattle.sdl_tree.specs.Spells.{SpellsBlock, SpellsProcess, SpellsTree}
 use Rattle.sdl_tree.specs.Spells.Behaviour.{SpellsBodyPart, SpellsTrans}
 use Rattle.sdl_tree.specs.Spells.Expressions.{limit, SpellsExpr}
-use Rattle.sdl_tree.specs.Spells.Parts.{Words}
-use Rattle.sdl_tree.specs.Tree.{Applied, BlockDefinition, BodyPart, Expr, ProcessDefinition, Terminator, Transition, Tree, Active, Agent, AndAction, AndExpr, AndPart, Binary, Channel, Compared, Connect, ContinuousSignal, Create, Decision, Else, Env, FreeAction, InBlock, InSystem, InputList, InputPart, Join, Keyword, ListItem, Named, Next, NoAction, NoExpr, NoPart, Numeral, Output, PriorityInput, Process, Range, Reset, Same, SaveAll, SaveList, SavePart, Set, SignalItem, SignalList, SignalSet, Signals, StateAll, StateList, StatePart, Steps, Stop, Synonyms, Task, Timers, To, Unary, Value, Variables}
-use Rattle.sdl_tree.specs.Words.{word_of}
+use Rattle.sdl_tree.specs.Tree.{Number, BlockDefinition, BodyPart, Expr, ProcessDefinition, Transition, Tree, Active, Agent, AndAction, AndExpr, AndLink, AndPart, Block, Chain, Channel, Compared, Connect, ContinuousSignal, Create, Decision, Else, Env, FreeAction, InBlock, InSystem, InputList, InputPart, Join, Keyword, ListItem, LocalSignalSet, Named, Next, NoAction, NoExpr, NoLink, NoPart, Numeral, Output, PriorityInput, Process, Range, Reset, Same, SaveAll, SaveList, SavePart, Set, SignalItem, SignalList, Signals, StateAll, StateList, StatePart, Steps, Stop, Synonyms, Task, Timers, To, Unary, Value, Variables}
+use Rattle.sdl_tree.specs.Words.{Spot, Words, word_of, words_of}
 
 abbrev pub Pieces : Type 0
 Pieces = List (Kind × List ℕ)
 
+-- what is spelled so
+abbrev pub spot : List ℕ → Spot
+spot text = record { text = text; place = start }
+
 -- what tokens of these kinds with these bytes mean
 abbrev pub words : Pieces → Words
-words pieces = map (λ piece. word_of piece.0 piece.1) pieces
+words pieces = map (λ piece. word_of piece.0 (spot piece.1)) pieces
 
-abbrev pub w : List ℕ → Kind × List ℕ
-w bytes = (kind.Word, bytes)
+abbrev pub word : List ℕ → Kind × List ℕ
+word bytes = (kind.Word, bytes)
 
 abbrev pub sign : List ℕ → Kind × List ℕ
 sign bytes = (kind.Mark, bytes)
 
 abbrev pub number : ℕ → Kind × List ℕ
-number k = (kind.Number (pos k), [])
+number k = (kind.Number (pos k), decimal k)
 
 abbrev pub string : Kind × List ℕ
-string = (kind.Text, [])
+string = (kind.Text, codes "'c'")
 
-abbrev pub bare : List ℕ → Applied
-bare x = record { name = x; values = NoExpr }
+abbrev pub upper : Spelling
+upper = record { case = Upper; place = start }
 
-abbrev pub with_value : List ℕ → Expr → Applied
-with_value x e = record { name = x; values = AndExpr e NoExpr }
+abbrev pub numeral : ℕ → Number
+numeral k = record { value = pos k; digits = spot (decimal k) }
 
 abbrev pub n : ℕ → Expr
-n k = Numeral (pos k)
-
-abbrev pub ended : Terminator → Transition
-ended terminator = Steps NoAction (Some (record { label = None; terminator = terminator }))
-
-abbrev pub nothing : Transition
-nothing = Steps NoAction None
+n k = Numeral (numeral k)
 
 -- ---- a system with a channel and a process of one state
 
 abbrev pub system_pieces : Pieces
 system_pieces =
-    w (codes "SYSTEM") ∷ w (codes "S") ∷ w (codes "comment") ∷ string ∷ sign (codes ";")
-    ∷ w (codes "signal") ∷ w (codes "a") ∷ sign (codes ";")
-    ∷ w (codes "CHANNEL") ∷ w (codes "C") ∷ w (codes "from") ∷ w (codes "env") ∷ w (codes "to") ∷ w (codes "P") ∷ w (codes "with")
-    ∷ w (codes "a") ∷ sign (codes ";") ∷ w (codes "endchannel") ∷ w (codes "C") ∷ sign (codes ";")
-    ∷ w (codes "PROCESS") ∷ w (codes "P") ∷ sign (codes ";")
-    ∷ w (codes "START") ∷ sign (codes ";") ∷ w (codes "NEXTSTATE") ∷ w (codes "s") ∷ sign (codes ";")
-    ∷ w (codes "state") ∷ w (codes "s") ∷ sign (codes ";") ∷ w (codes "endstate") ∷ w (codes "s") ∷ sign (codes ";")
-    ∷ w (codes "ENDPROCESS") ∷ sign (codes ";") ∷ w (codes "endsystem") ∷ sign (codes ";") ∷ []
+    word (codes "SYSTEM") ∷ word (codes "S") ∷ word (codes "comment") ∷ string ∷ sign (codes ";")
+    ∷ word (codes "signal") ∷ word (codes "a") ∷ sign (codes ";")
+    ∷ word (codes "CHANNEL") ∷ word (codes "C") ∷ word (codes "from") ∷ word (codes "env") ∷ word (codes "to") ∷ word (codes "P") ∷ word (codes "with")
+    ∷ word (codes "a") ∷ sign (codes ";") ∷ word (codes "endchannel") ∷ word (codes "C") ∷ sign (codes ";")
+    ∷ word (codes "PROCESS") ∷ word (codes "P") ∷ sign (codes ";")
+    ∷ word (codes "START") ∷ sign (codes ";") ∷ word (codes "NEXTSTATE") ∷ word (codes "s") ∷ sign (codes ";")
+    ∷ word (codes "state") ∷ word (codes "s") ∷ sign (codes ";") ∷ word (codes "endstate") ∷ word (codes "s") ∷ sign (codes ";")
+    ∷ word (codes "ENDPROCESS") ∷ sign (codes ";") ∷ word (codes "endsystem") ∷ sign (codes ";") ∷ []
 
 abbrev pub system_tree : Tree
 system_tree = record {
-  name = codes "S";
+  name = spot (codes "S");
   definitions =
-      InSystem (Signals (record { name = codes "a"; sorts = [] } ∷ []))
+      InSystem (Signals (record { name = spot (codes "a"); sorts = [] } ∷ []))
       ∷ InSystem (Channel (record {
-        name = codes "C";
+        word = upper;
+        name = spot (codes "C");
         is_nodelay = false;
-        first = record { from = Env; to = Agent (codes "P"); signals = SignalItem (codes "a") ∷ [] };
+        first = record { from = Env plain; to = Agent (spot (codes "P")); signals = SignalItem (spot (codes "a")) ∷ [] };
         second = None;
       }))
       ∷ InSystem (Process (record {
-        name = codes "P";
+        word = upper;
+        name = spot (codes "P");
         counts = None;
-        parameters = [];
+        parameters = None;
         definitions = [];
-        start = ended (Next (To (codes "s")));
-        body = StatePart (StateList (codes "s" ∷ [])) [] ∷ [];
+        start = record { word = upper; transition = Steps (NoAction) (Some (record { label = None; terminator = Next upper (To (spot (codes "s"))) })) };
+        body = StatePart (StateList (spot (codes "s") ∷ [])) ([]) ∷ [];
       }))
       ∷ [];
 }
@@ -87,7 +91,7 @@ lines [] = []
 lines (line ∷ others) = line ++ (10 ∷ lines others)
 
 abbrev pub SystemSpelled : Type 0
-SystemSpelled = SpellsTree system_tree (words system_pieces)
+SystemSpelled = SpellsTree limit system_tree (words system_pieces)
 
 abbrev pub SystemWritten : Type 0
 SystemWritten = canonical_text system_tree ≡ lines (
@@ -109,168 +113,170 @@ SystemWritten = canonical_text system_tree ≡ lines (
 -- `q: task v := 0, f := true; .. nextstate -;`
 abbrev pub transition_words : Words
 transition_words = words (
-    w (codes "q") ∷ sign (codes ":") ∷ w (codes "task") ∷ w (codes "v") ∷ sign (codes ":=") ∷ number 0
-    ∷ sign (codes ",") ∷ w (codes "f") ∷ sign (codes ":=") ∷ w (codes "true") ∷ sign (codes ";")
-    ∷ w (codes "output") ∷ w (codes "a") ∷ sign (codes ",") ∷ w (codes "b") ∷ sign (codes "(") ∷ number 1
-    ∷ sign (codes ",") ∷ w (codes "v") ∷ sign (codes ")") ∷ w (codes "to") ∷ w (codes "sender")
-    ∷ sign (codes ";") ∷ w (codes "set") ∷ sign (codes "(") ∷ w (codes "now") ∷ sign (codes "+") ∷ number 1
-    ∷ sign (codes ",") ∷ w (codes "T") ∷ sign (codes "(") ∷ number 2 ∷ sign (codes ")") ∷ sign (codes ")")
-    ∷ sign (codes ",") ∷ sign (codes "(") ∷ w (codes "U") ∷ sign (codes ")") ∷ sign (codes ";")
-    ∷ w (codes "reset") ∷ sign (codes "(") ∷ w (codes "T") ∷ sign (codes "(") ∷ number 2 ∷ sign (codes ")")
-    ∷ sign (codes ",") ∷ w (codes "U") ∷ sign (codes ")") ∷ sign (codes ",") ∷ sign (codes "(") ∷ w (codes "U")
-    ∷ sign (codes ")") ∷ sign (codes ";") ∷ w (codes "create") ∷ w (codes "P") ∷ sign (codes "(")
-    ∷ w (codes "self") ∷ sign (codes ")") ∷ sign (codes ";") ∷ w (codes "decision") ∷ w (codes "v")
+    word (codes "q") ∷ sign (codes ":") ∷ word (codes "task") ∷ word (codes "v") ∷ sign (codes ":=") ∷ number 0
+    ∷ sign (codes ",") ∷ word (codes "f") ∷ sign (codes ":=") ∷ word (codes "true") ∷ sign (codes ";")
+    ∷ word (codes "output") ∷ word (codes "a") ∷ sign (codes ",") ∷ word (codes "b") ∷ sign (codes "(") ∷ number 1
+    ∷ sign (codes ",") ∷ word (codes "v") ∷ sign (codes ")") ∷ word (codes "to") ∷ word (codes "sender")
+    ∷ sign (codes ";") ∷ word (codes "set") ∷ sign (codes "(") ∷ word (codes "now") ∷ sign (codes "+") ∷ number 1
+    ∷ sign (codes ",") ∷ word (codes "T") ∷ sign (codes "(") ∷ number 2 ∷ sign (codes ")") ∷ sign (codes ")")
+    ∷ sign (codes ",") ∷ sign (codes "(") ∷ word (codes "U") ∷ sign (codes ")") ∷ sign (codes ";")
+    ∷ word (codes "reset") ∷ sign (codes "(") ∷ word (codes "T") ∷ sign (codes "(") ∷ number 2 ∷ sign (codes ")")
+    ∷ sign (codes ",") ∷ word (codes "U") ∷ sign (codes ")") ∷ sign (codes ",") ∷ sign (codes "(") ∷ word (codes "U")
+    ∷ sign (codes ")") ∷ sign (codes ";") ∷ word (codes "create") ∷ word (codes "P") ∷ sign (codes "(")
+    ∷ word (codes "self") ∷ sign (codes ")") ∷ sign (codes ";") ∷ word (codes "decision") ∷ word (codes "v")
     ∷ sign (codes ";") ∷ sign (codes "(") ∷ number 1 ∷ sign (codes ",") ∷ sign (codes ">") ∷ number 3
     ∷ sign (codes ",") ∷ number 4 ∷ sign (codes ":") ∷ number 5 ∷ sign (codes ")") ∷ sign (codes ":")
-    ∷ w (codes "stop") ∷ sign (codes ";") ∷ sign (codes "(") ∷ number 2 ∷ sign (codes ")") ∷ sign (codes ":")
-    ∷ w (codes "else") ∷ sign (codes ":") ∷ w (codes "join") ∷ w (codes "q") ∷ sign (codes ";")
-    ∷ w (codes "enddecision") ∷ w (codes "comment") ∷ string ∷ sign (codes ";") ∷ w (codes "nextstate")
+    ∷ word (codes "stop") ∷ sign (codes ";") ∷ sign (codes "(") ∷ number 2 ∷ sign (codes ")") ∷ sign (codes ":")
+    ∷ word (codes "else") ∷ sign (codes ":") ∷ word (codes "join") ∷ word (codes "q") ∷ sign (codes ";")
+    ∷ word (codes "enddecision") ∷ word (codes "comment") ∷ string ∷ sign (codes ";") ∷ word (codes "nextstate")
     ∷ sign (codes "-") ∷ sign (codes ";") ∷ [])
 
 abbrev pub transition_tree : Transition
-transition_tree = Steps
-    (AndAction (Some (codes "q")) (Task (
-    record { variable = codes "v"; value = n 0 } ∷ record { variable = codes "f"; value = Keyword value.True } ∷ []))
-    (AndAction None (Output (
-    bare (codes "a") ∷ record { name = codes "b"; values = AndExpr (n 1) (AndExpr (Named (codes "v")) NoExpr) } ∷ []) (Some (Keyword value.Sender)))
-    (AndAction None (Set (
-    record { time = Some (Binary operator.Plus (Keyword value.Now) (n 1)); timer = with_value (codes "T") (n 2) }
-    ∷ record { time = None; timer = bare (codes "U") } ∷ []))
-    (AndAction None (Reset ((with_value (codes "T") (n 2) ∷ bare (codes "U") ∷ []) ∷ (bare (codes "U") ∷ []) ∷ []))
-    (AndAction None (Create (with_value (codes "P") (Keyword value.SelfPid)))
-    (AndAction None (Decision (Named (codes "v"))
-    (AndPart (Value (n 1) ∷ Compared operator.Greater (n 3) ∷ Range (n 4) (n 5) ∷ []) (ended Stop) (AndPart (Value (n 2) ∷ []) nothing NoPart))
-    (Else (ended (Join (codes "q")))))
-    NoAction))))))
-    (Some (record { label = None; terminator = Next Same }))
+transition_tree = Steps (AndAction (Some (spot (codes "q"))) (Task plain (record { variable = spot (codes "v"); value = n 0 } ∷ record { variable = spot (codes "f"); value = Keyword value.True plain } ∷ [])) (AndAction None (Output plain (record { name = spot (codes "a"); values = [] } ∷ record { name = spot (codes "b"); values = n 1 ∷ Named (spot (codes "v")) ∷ [] } ∷ []) (Some (record { word = plain; value = Keyword value.Sender plain }))) (AndAction None (Set plain (record { time = Some (Chain (Keyword value.Now plain) (AndLink operator.Plus plain (n 1) (NoLink))); timer = record { name = spot (codes "T"); values = n 2 ∷ [] } } ∷ record { time = None; timer = record { name = spot (codes "U"); values = [] } } ∷ [])) (AndAction None (Reset plain ((record { name = spot (codes "T"); values = n 2 ∷ [] } ∷ record { name = spot (codes "U"); values = [] } ∷ []) ∷ (record { name = spot (codes "U"); values = [] } ∷ []) ∷ [])) (AndAction None (Create plain (record { name = spot (codes "P"); values = Keyword value.SelfPid plain ∷ [] })) (AndAction None (Decision plain (Named (spot (codes "v"))) (AndPart (Value (n 1) ∷ Compared operator.Greater plain (n 3) ∷ Range (n 4) (n 5) ∷ []) (Steps (NoAction) (Some (record { label = None; terminator = Stop plain }))) (AndPart (Value (n 2) ∷ []) (Steps (NoAction) None) (NoPart))) (Else (Steps (NoAction) (Some (record { label = None; terminator = Join plain (spot (codes "q")) }))))) (NoAction))))))) (Some (record { label = None; terminator = Next plain (Same plain) }))
 
 abbrev pub TransitionSpelled : Type 0
-TransitionSpelled = SpellsTrans transition_tree limit transition_words []
+TransitionSpelled = SpellsTrans limit transition_tree transition_words []
 
 -- ---- a state with each stimulus
 
 abbrev pub state_words : Words
 state_words = words (
-    w (codes "state") ∷ sign (codes "*") ∷ sign (codes "(") ∷ w (codes "s") ∷ sign (codes ",") ∷ w (codes "t")
-    ∷ sign (codes ")") ∷ sign (codes ";") ∷ w (codes "save") ∷ sign (codes "*") ∷ sign (codes ";")
-    ∷ w (codes "save") ∷ w (codes "a") ∷ sign (codes ",") ∷ sign (codes "(") ∷ w (codes "L") ∷ sign (codes ")")
-    ∷ sign (codes ";") ∷ w (codes "priority") ∷ w (codes "input") ∷ w (codes "a") ∷ sign (codes ",")
-    ∷ w (codes "b") ∷ sign (codes "(") ∷ w (codes "v") ∷ sign (codes ",") ∷ sign (codes ")") ∷ sign (codes ";")
-    ∷ w (codes "stop") ∷ sign (codes ";") ∷ w (codes "input") ∷ w (codes "c") ∷ sign (codes "(")
-    ∷ sign (codes ")") ∷ sign (codes ";") ∷ w (codes "provided") ∷ w (codes "not") ∷ w (codes "f")
-    ∷ sign (codes ";") ∷ w (codes "provided") ∷ w (codes "active") ∷ sign (codes "(") ∷ w (codes "T")
+    word (codes "state") ∷ sign (codes "*") ∷ sign (codes "(") ∷ word (codes "s") ∷ sign (codes ",") ∷ word (codes "t")
+    ∷ sign (codes ")") ∷ sign (codes ";") ∷ word (codes "save") ∷ sign (codes "*") ∷ sign (codes ";")
+    ∷ word (codes "save") ∷ word (codes "a") ∷ sign (codes ",") ∷ sign (codes "(") ∷ word (codes "L") ∷ sign (codes ")")
+    ∷ sign (codes ";") ∷ word (codes "priority") ∷ word (codes "input") ∷ word (codes "a") ∷ sign (codes ",")
+    ∷ word (codes "b") ∷ sign (codes "(") ∷ word (codes "v") ∷ sign (codes ",") ∷ sign (codes ")") ∷ sign (codes ";")
+    ∷ word (codes "stop") ∷ sign (codes ";") ∷ word (codes "input") ∷ word (codes "c") ∷ sign (codes "(")
+    ∷ sign (codes ")") ∷ sign (codes ";") ∷ word (codes "provided") ∷ word (codes "not") ∷ word (codes "f")
+    ∷ sign (codes ";") ∷ word (codes "provided") ∷ word (codes "active") ∷ sign (codes "(") ∷ word (codes "T")
     ∷ sign (codes "(") ∷ number 1 ∷ sign (codes ")") ∷ sign (codes ")") ∷ sign (codes ";")
-    ∷ w (codes "priority") ∷ number 3 ∷ sign (codes ";") ∷ w (codes "stop") ∷ sign (codes ";")
-    ∷ w (codes "endstate") ∷ sign (codes ";") ∷ [])
+    ∷ word (codes "priority") ∷ number 3 ∷ sign (codes ";") ∷ word (codes "stop") ∷ sign (codes ";")
+    ∷ word (codes "endstate") ∷ sign (codes ";") ∷ [])
 
 abbrev pub state_tree : BodyPart
-state_tree = StatePart (StateAll (codes "s" ∷ codes "t" ∷ [])) (
-    SavePart SaveAll
-    ∷ SavePart (SaveList (SignalItem (codes "a") ∷ ListItem (codes "L") ∷ []))
-    ∷ PriorityInput (record { signal = codes "a"; variables = [] } ∷ record { signal = codes "b"; variables = Some (codes "v") ∷ None ∷ [] } ∷ []) (ended Stop)
-    ∷ InputPart (InputList (record { signal = codes "c"; variables = None ∷ [] } ∷ [])) (Some (Unary unary.Not (Named (codes "f")))) nothing
-    ∷ ContinuousSignal (Active (codes "T") (AndExpr (n 1) NoExpr)) (Some (pos 3)) (ended Stop)
-    ∷ [])
+state_tree = StatePart (StateAll plain (spot (codes "s") ∷ spot (codes "t") ∷ [])) (SavePart plain (SaveAll plain) ∷ SavePart plain (SaveList (SignalItem (spot (codes "a")) ∷ ListItem (spot (codes "L")) ∷ [])) ∷ PriorityInput plain (record { signal = spot (codes "a"); variables = [] } ∷ record { signal = spot (codes "b"); variables = Some (spot (codes "v")) ∷ None ∷ [] } ∷ []) (Steps (NoAction) (Some (record { label = None; terminator = Stop plain }))) ∷ InputPart plain (InputList (record { signal = spot (codes "c"); variables = None ∷ [] } ∷ [])) (Some (record { word = plain; condition = Unary unary.Not plain (Named (spot (codes "f"))) })) (Steps (NoAction) None) ∷ ContinuousSignal plain (Active plain (spot (codes "T")) (AndExpr (n 1) (NoExpr))) (Some (numeral 3)) (Steps (NoAction) (Some (record { label = None; terminator = Stop plain }))) ∷ [])
 
 abbrev pub StateSpelled : Type 0
-StateSpelled = SpellsBodyPart state_tree state_words []
+StateSpelled = SpellsBodyPart limit state_tree state_words []
 
 -- ---- a process with each of its definitions
 
 abbrev pub process_words : Words
 process_words = words (
-    w (codes "process") ∷ w (codes "P") ∷ sign (codes "(") ∷ number 1 ∷ sign (codes ",") ∷ sign (codes ")")
-    ∷ sign (codes ";") ∷ w (codes "fpar") ∷ w (codes "x") ∷ sign (codes ",") ∷ w (codes "y") ∷ w (codes "PId")
-    ∷ sign (codes ",") ∷ w (codes "z") ∷ w (codes "Boolean") ∷ sign (codes ";") ∷ w (codes "signalset")
-    ∷ w (codes "a") ∷ sign (codes ",") ∷ sign (codes "(") ∷ w (codes "L") ∷ sign (codes ")") ∷ sign (codes ";")
-    ∷ w (codes "dcl") ∷ w (codes "v") ∷ w (codes "Integer") ∷ sign (codes ":=") ∷ sign (codes "-") ∷ number 1
-    ∷ sign (codes ",") ∷ w (codes "f") ∷ w (codes "Boolean") ∷ sign (codes ";") ∷ w (codes "timer")
-    ∷ w (codes "T") ∷ sign (codes "(") ∷ w (codes "Integer") ∷ sign (codes ")") ∷ sign (codes ":=") ∷ number 5
-    ∷ sign (codes ",") ∷ w (codes "U") ∷ sign (codes ";") ∷ w (codes "start") ∷ sign (codes ";")
-    ∷ w (codes "stop") ∷ sign (codes ";") ∷ w (codes "connection") ∷ w (codes "r") ∷ sign (codes ":")
-    ∷ w (codes "stop") ∷ sign (codes ";") ∷ w (codes "endprocess") ∷ sign (codes ";") ∷ [])
+    word (codes "process") ∷ word (codes "P") ∷ sign (codes "(") ∷ number 1 ∷ sign (codes ",") ∷ sign (codes ")")
+    ∷ sign (codes ";") ∷ word (codes "fpar") ∷ word (codes "x") ∷ sign (codes ",") ∷ word (codes "y") ∷ word (codes "PId")
+    ∷ sign (codes ",") ∷ word (codes "z") ∷ word (codes "Boolean") ∷ sign (codes ";") ∷ word (codes "signalset")
+    ∷ word (codes "a") ∷ sign (codes ",") ∷ sign (codes "(") ∷ word (codes "L") ∷ sign (codes ")") ∷ sign (codes ";")
+    ∷ word (codes "dcl") ∷ word (codes "v") ∷ word (codes "Integer") ∷ sign (codes ":=") ∷ sign (codes "-") ∷ number 1
+    ∷ sign (codes ",") ∷ word (codes "f") ∷ word (codes "Boolean") ∷ sign (codes ";") ∷ word (codes "timer")
+    ∷ word (codes "T") ∷ sign (codes "(") ∷ word (codes "Integer") ∷ sign (codes ")") ∷ sign (codes ":=") ∷ number 5
+    ∷ sign (codes ",") ∷ word (codes "U") ∷ sign (codes ";") ∷ word (codes "start") ∷ sign (codes ";")
+    ∷ word (codes "stop") ∷ sign (codes ";") ∷ word (codes "connection") ∷ word (codes "r") ∷ sign (codes ":")
+    ∷ word (codes "stop") ∷ sign (codes ";") ∷ word (codes "endprocess") ∷ sign (codes ";") ∷ [])
 
 abbrev pub process_tree : ProcessDefinition
 process_tree = record {
-  name = codes "P";
-  counts = Some (record { initial = Some (n 1); bound = Some (record { maximum = None }) });
-  parameters =
-      record { names = codes "x" ∷ codes "y" ∷ []; sort = codes "Pid" }
-      ∷ record { names = codes "z" ∷ []; sort = codes "Boolean" } ∷ [];
-  definitions =
-      SignalSet (SignalItem (codes "a") ∷ ListItem (codes "L") ∷ [])
-      ∷ Variables (
-      record { names = codes "v" ∷ []; sort = codes "Integer"; initial = Some (Unary unary.Minus (n 1)) }
-      ∷ record { names = codes "f" ∷ []; sort = codes "Boolean"; initial = None } ∷ [])
-      ∷ Timers (
-      record { name = codes "T"; sorts = codes "Integer" ∷ []; duration = Some (n 5) }
-      ∷ record { name = codes "U"; sorts = []; duration = None } ∷ [])
-      ∷ [];
-  start = ended Stop;
-  body = FreeAction (codes "r") (ended Stop) ∷ [];
+  word = plain;
+  name = spot (codes "P");
+  counts = Some (record { parenthesis = plain; initial = Some (n 1); bound = Some (record { maximum = None }) });
+  parameters = Some (record { word = plain; groups = record { names = spot (codes "x") ∷ spot (codes "y") ∷ []; sort = spot (codes "PId") } ∷ record { names = spot (codes "z") ∷ []; sort = spot (codes "Boolean") } ∷ [] });
+  definitions = LocalSignalSet (record { word = plain; items = SignalItem (spot (codes "a")) ∷ ListItem (spot (codes "L")) ∷ [] }) ∷ Variables (record { names = spot (codes "v") ∷ []; sort = spot (codes "Integer"); initial = Some (Unary unary.Minus plain (n 1)) } ∷ record { names = spot (codes "f") ∷ []; sort = spot (codes "Boolean"); initial = None } ∷ []) ∷ Timers (record { word = plain; timers = record { name = spot (codes "T"); sorts = spot (codes "Integer") ∷ []; duration = Some (n 5) } ∷ record { name = spot (codes "U"); sorts = []; duration = None } ∷ [] }) ∷ [];
+  start = record { word = plain; transition = Steps (NoAction) (Some (record { label = None; terminator = Stop plain })) };
+  body = FreeAction plain (spot (codes "r")) (Steps (NoAction) (Some (record { label = None; terminator = Stop plain }))) ∷ [];
 }
 
 abbrev pub ProcessSpelled : Type 0
-ProcessSpelled = SpellsProcess process_tree process_words []
+ProcessSpelled = SpellsProcess limit process_tree process_words []
 
 -- ---- a block with each of its definitions
 
 abbrev pub block_words : Words
 block_words = words (
-    w (codes "block") ∷ w (codes "B") ∷ sign (codes ";") ∷ w (codes "signallist") ∷ w (codes "L")
-    ∷ sign (codes "=") ∷ w (codes "a") ∷ sign (codes ",") ∷ sign (codes "(") ∷ w (codes "M") ∷ sign (codes ")")
-    ∷ sign (codes ";") ∷ w (codes "synonym") ∷ w (codes "n") ∷ w (codes "Pid") ∷ sign (codes "=")
-    ∷ w (codes "null") ∷ sign (codes ";") ∷ w (codes "channel") ∷ w (codes "R") ∷ w (codes "nodelay")
-    ∷ w (codes "from") ∷ w (codes "env") ∷ w (codes "to") ∷ w (codes "P") ∷ w (codes "with") ∷ sign (codes "(")
-    ∷ w (codes "L") ∷ sign (codes ")") ∷ sign (codes ";") ∷ w (codes "from") ∷ w (codes "P") ∷ w (codes "to")
-    ∷ w (codes "env") ∷ w (codes "with") ∷ w (codes "b") ∷ sign (codes ";") ∷ w (codes "endchannel")
-    ∷ sign (codes ";") ∷ w (codes "connect") ∷ w (codes "C") ∷ w (codes "and") ∷ w (codes "R")
-    ∷ sign (codes ",") ∷ w (codes "Q") ∷ sign (codes ";") ∷ w (codes "endblock") ∷ w (codes "B")
+    word (codes "block") ∷ word (codes "B") ∷ sign (codes ";") ∷ word (codes "signallist") ∷ word (codes "L")
+    ∷ sign (codes "=") ∷ word (codes "a") ∷ sign (codes ",") ∷ sign (codes "(") ∷ word (codes "M") ∷ sign (codes ")")
+    ∷ sign (codes ";") ∷ word (codes "synonym") ∷ word (codes "n") ∷ word (codes "Pid") ∷ sign (codes "=")
+    ∷ word (codes "null") ∷ sign (codes ";") ∷ word (codes "channel") ∷ word (codes "R") ∷ word (codes "nodelay")
+    ∷ word (codes "from") ∷ word (codes "env") ∷ word (codes "to") ∷ word (codes "P") ∷ word (codes "with") ∷ sign (codes "(")
+    ∷ word (codes "L") ∷ sign (codes ")") ∷ sign (codes ";") ∷ word (codes "from") ∷ word (codes "P") ∷ word (codes "to")
+    ∷ word (codes "env") ∷ word (codes "with") ∷ word (codes "b") ∷ sign (codes ";") ∷ word (codes "endchannel")
+    ∷ sign (codes ";") ∷ word (codes "connect") ∷ word (codes "C") ∷ word (codes "and") ∷ word (codes "R")
+    ∷ sign (codes ",") ∷ word (codes "Q") ∷ sign (codes ";") ∷ word (codes "endblock") ∷ word (codes "B")
     ∷ sign (codes ";") ∷ [])
 
 abbrev pub block_tree : BlockDefinition
 block_tree = record {
-  name = codes "B";
+  word = plain;
+  name = spot (codes "B");
   definitions =
-      InBlock (SignalList (record { name = codes "L"; items = SignalItem (codes "a") ∷ ListItem (codes "M") ∷ [] }))
-      ∷ InBlock (Synonyms (record { name = codes "n"; sort = codes "Pid"; value = Keyword value.Null } ∷ []))
+      InBlock (SignalList (record { word = plain; name = spot (codes "L"); items = SignalItem (spot (codes "a")) ∷ ListItem (spot (codes "M")) ∷ [] }))
+      ∷ InBlock (Synonyms (record { word = plain; synonyms = record { name = spot (codes "n"); sort = spot (codes "Pid"); value = Keyword value.Null plain } ∷ [] }))
       ∷ InBlock (Channel (record {
-        name = codes "R";
+        word = plain;
+        name = spot (codes "R");
         is_nodelay = true;
-        first = record { from = Env; to = Agent (codes "P"); signals = ListItem (codes "L") ∷ [] };
-        second = Some (record { from = Agent (codes "P"); to = Env; signals = SignalItem (codes "b") ∷ [] });
+        first = record { from = Env plain; to = Agent (spot (codes "P")); signals = ListItem (spot (codes "L")) ∷ [] };
+        second = Some (record { from = Agent (spot (codes "P")); to = Env plain; signals = SignalItem (spot (codes "b")) ∷ [] });
       }))
-      ∷ Connect (codes "C" ∷ []) (codes "R" ∷ codes "Q" ∷ [])
+      ∷ Connect (record { word = plain; outer = spot (codes "C") ∷ []; inner = spot (codes "R") ∷ spot (codes "Q") ∷ [] })
       ∷ [];
 }
 
 abbrev pub BlockSpelled : Type 0
-BlockSpelled = SpellsBlock block_tree block_words []
+BlockSpelled = SpellsBlock limit block_tree block_words []
 
 -- ---- operators
 
-abbrev pub a : Expr
-a = Named (codes "a")
-
-abbrev pub b : Expr
-b = Named (codes "b")
-
-abbrev pub c : Expr
-c = Named (codes "c")
-
 -- `a - b - c`
 abbrev pub difference : Words
-difference = words (w (codes "a") ∷ sign (codes "-") ∷ w (codes "b") ∷ sign (codes "-") ∷ w (codes "c") ∷ [])
+difference = words (word (codes "a") ∷ sign (codes "-") ∷ word (codes "b") ∷ sign (codes "-") ∷ word (codes "c") ∷ [])
 
-abbrev pub GroupsToTheLeft : Type 0
-GroupsToTheLeft = SpellsExpr limit (Binary operator.Minus (Binary operator.Minus a b) c) difference []
+-- the last operand
+abbrev pub c : Expr
+c = Named (spot (codes "c"))
 
-abbrev pub NotToTheRight : Type 0
-NotToTheRight = ¬ SpellsExpr limit (Binary operator.Minus a (Binary operator.Minus b c)) difference []
+-- Operators of one looseness stand in one chain.
+abbrev pub IsOneChain : Type 0
+IsOneChain = SpellsExpr limit (Chain (Named (spot (codes "a"))) (AndLink operator.Minus plain (Named (spot (codes "b"))) (AndLink operator.Minus plain (Named (spot (codes "c"))) (NoLink)))) difference []
+
+-- No chain of them stands in another.
+abbrev pub NotInAnother : Type 0
+NotInAnother = (first rest : Expr) → ¬ SpellsExpr limit
+    (Chain (Chain first (AndLink operator.Minus plain rest NoLink)) (AndLink operator.Minus plain c NoLink)) difference []
 
 -- `not a = b`
 abbrev pub negation : Words
-negation = words (w (codes "not") ∷ w (codes "a") ∷ sign (codes "=") ∷ w (codes "b") ∷ [])
+negation = words (word (codes "not") ∷ word (codes "a") ∷ sign (codes "=") ∷ word (codes "b") ∷ [])
 
 abbrev pub NegatesTheFirst : Type 0
-NegatesTheFirst = SpellsExpr limit (Binary operator.Equal (Unary unary.Not a) b) negation []
+NegatesTheFirst = SpellsExpr limit (Chain (Unary unary.Not plain (Named (spot (codes "a")))) (AndLink operator.Equal plain (Named (spot (codes "b"))) (NoLink))) negation []
+
+-- ---- places
+
+-- `system S;`, and on the next lines `BLOCK B;endblock;` and `endsystem;`
+abbrev pub placed_text : List ℕ
+placed_text = lines (codes "system S;" ∷ codes "BLOCK B;endblock;" ∷ codes "endsystem;" ∷ [])
+
+abbrev pub token : Kind → ℕ → ℕ → Token
+token k from to = record { kind = k; start = from; end = to }
+
+abbrev pub placed_tokens : List Token
+placed_tokens =
+    token kind.Word 0 6 ∷ token kind.Word 7 8 ∷ token kind.Mark 8 9
+    ∷ token kind.Word 10 15 ∷ token kind.Word 16 17 ∷ token kind.Mark 17 18 ∷ token kind.Word 18 26 ∷ token kind.Mark 26 27
+    ∷ token kind.Word 28 37 ∷ token kind.Mark 37 38 ∷ []
+
+abbrev pub placed_block : BlockDefinition
+placed_block = record {
+  word = record { case = Upper; place = record { line = 2; column = 1 } };
+  name = record { text = codes "B"; place = record { line = 2; column = 7 } };
+  definitions = [];
+}
+
+abbrev pub placed_tree : Tree
+placed_tree = record {
+  name = record { text = codes "S"; place = record { line = 1; column = 8 } };
+  definitions = Block placed_block ∷ [];
+}
+
+abbrev pub PlacesKept : Type 0
+PlacesKept = SpellsTree limit placed_tree (words_of placed_text placed_tokens)

@@ -1,28 +1,27 @@
 -- The spellings of words, and the words that no name is spelled like.
 use Rattle.std.specs.Prelude.{◌≡◌, ℕ, Bool, ◌||◌, Option, List, [], ◌∷◌, ◌++◌, map, is_some, option_map, codes}
 use Rattle.std.specs.Borrow.{Bor}
-use Rattle.std.specs.Char.{to_ascii_uppercase}
 use Rattle.std.specs.List.{find}
 use Rattle.std.specs.Str.{bytes_eq}
+use Rattle.sdl_tree.specs.declared.keyword.Keyword.{Keyword}
+use Rattle.sdl_tree.specs.declared.mark.Case.{Case}
+use Rattle.sdl_tree.specs.declared.mark.Case.TheVariants.{Lower, Upper, Capital}
 use Rattle.sdl_tree.specs.declared.mark.Mark.{Mark}
-use Rattle.sdl_tree.specs.Mark.{keywords, literals, signs, text}
+use Rattle.sdl_tree.specs.Mark.{keywords, literals, signs, text, in_upper_case, spelled}
 
-abbrev pub in_upper_case : List ℕ → List ℕ
-in_upper_case word = map to_ascii_uppercase word
-
-abbrev pub with_capital : List ℕ → List ℕ
-with_capital [] = []
-with_capital (b ∷ bytes) = to_ascii_uppercase b ∷ bytes
+-- a keyword in a spelling, with its text
+abbrev pub spelling : Mark → Case → Keyword × List ℕ
+spelling m case = (record { mark = m; case = case }, spelled m case)
 
 -- each keyword in lower and in upper case
-abbrev pub keyword_spellings : List Mark → List (Mark × List ℕ)
+abbrev pub keyword_spellings : List Mark → List (Keyword × List ℕ)
 keyword_spellings [] = []
-keyword_spellings (m ∷ marks) = (m, text m) ∷ (m, in_upper_case (text m)) ∷ keyword_spellings marks
+keyword_spellings (m ∷ marks) = spelling m Lower ∷ spelling m Upper ∷ keyword_spellings marks
 
 -- each literal also with a capital first letter
-abbrev pub literal_spellings : List Mark → List (Mark × List ℕ)
+abbrev pub literal_spellings : List Mark → List (Keyword × List ℕ)
 literal_spellings [] = []
-literal_spellings (m ∷ marks) = (m, text m) ∷ (m, in_upper_case (text m)) ∷ (m, with_capital (text m)) ∷ literal_spellings marks
+literal_spellings (m ∷ marks) = spelling m Lower ∷ spelling m Upper ∷ spelling m Capital ∷ literal_spellings marks
 
 -- the words of the standard that the language leaves out
 abbrev pub left_out_words : List (List ℕ)
@@ -36,8 +35,8 @@ left_out_words =
     codes "virtual" ∷ []
 
 -- an entry of a table, with its text
-abbrev pub spelled : Mark × Bor (List ℕ) → Mark × List ℕ
-spelled entry = (entry.0, entry.1.now)
+abbrev pub entry : Mark × Case × Bor (List ℕ) → Keyword × List ℕ
+entry e = (record { mark = e.0; case = e.1 }, e.2.now)
 
 -- a word in lower and in upper case
 abbrev pub both_cases : Bor (List ℕ) × Bor (List ℕ) → List ℕ × List ℕ
@@ -49,16 +48,19 @@ lower_case_in table word =
     let lower : List ℕ × List ℕ → List ℕ = λ entry. entry.0 in
     option_map lower (find (λ entry. bytes_eq entry.0 word || bytes_eq entry.1 word) table)
 
--- the first entry with this text
-abbrev pub entry_in : List (Mark × List ℕ) → List ℕ → Option (Mark × List ℕ)
-entry_in table bytes = find (λ entry. bytes_eq entry.1 bytes) table
+-- the keyword of the first entry with this text
+abbrev pub keyword_in : List (Keyword × List ℕ) → List ℕ → Option Keyword
+keyword_in table word =
+    let keyword : Keyword × List ℕ → Keyword = λ e. e.0 in
+    option_map keyword (find (λ e. bytes_eq e.1 word) table)
 
--- the mark that the bytes spell, with its spelling
-unfoldable pub keyword_found : List ℕ → Option (Mark × List ℕ)
-keyword_found bytes = entry_in (keyword_spellings keywords ++ literal_spellings literals) bytes
+-- the keyword or the literal that the bytes spell
+unfoldable pub keyword_found : List ℕ → Option Keyword
+keyword_found word = keyword_in (keyword_spellings keywords ++ literal_spellings literals) word
 
-unfoldable pub sign_found : List ℕ → Option (Mark × List ℕ)
-sign_found bytes = entry_in (map (λ m. (m, text m)) signs) bytes
+-- the mark of other characters that the bytes spell
+unfoldable pub sign_found : List ℕ → Option Mark
+sign_found bytes = find (λ m. bytes_eq (text m) bytes) signs
 
 -- the word in lower case, if the bytes spell a word that is left out
 unfoldable pub left_out_found : List ℕ → Option (List ℕ)
@@ -69,8 +71,8 @@ unfoldable pub is_reserved : List ℕ → Bool
 is_reserved word = is_some (keyword_found word) || is_some (left_out_found word)
 
 -- These entries are enough to look up a keyword or a literal that begins with this byte.
-abbrev pub AreKeywordsFrom : ℕ → List (Mark × List ℕ) → Type 0
-AreKeywordsFrom first entries = (rest : List ℕ) → entry_in entries (first ∷ rest) ≡ keyword_found (first ∷ rest)
+abbrev pub AreKeywordsFrom : ℕ → List (Keyword × List ℕ) → Type 0
+AreKeywordsFrom first entries = (rest : List ℕ) → keyword_in entries (first ∷ rest) ≡ keyword_found (first ∷ rest)
 
 -- These entries are enough to look up a word that is left out and begins with this byte.
 abbrev pub AreLeftOutFrom : ℕ → List (List ℕ × List ℕ) → Type 0

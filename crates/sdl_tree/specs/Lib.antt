@@ -1,8 +1,11 @@
+pub mod Alike
 pub mod Canonical
 pub mod Depth
+pub mod Erased
 pub mod Examples
 pub mod Keyword
 pub mod Laws
+pub mod LeftOut
 pub mod Mark
 pub mod Spells
 pub mod Tree

@@ -1,5 +1,8 @@
 -- What the grammar fixes: keywords, literals and marks of other characters.
-use Rattle.std.specs.Prelude.{ℕ, List, [], ◌∷◌, codes}
+use Rattle.std.specs.Prelude.{ℕ, List, [], ◌∷◌, map, codes}
+use Rattle.std.specs.Char.{to_ascii_uppercase}
+use Rattle.sdl_tree.specs.declared.mark.Case.{Case}
+use Rattle.sdl_tree.specs.declared.mark.Case.TheVariants.{Lower, Upper, Capital}
 use Rattle.sdl_tree.specs.declared.mark.Mark.{Mark}
 use Rattle.sdl_tree.specs.declared.mark.Mark.TheVariants.{Active, And, Block, Channel, Comment, Connect, Connection, Create, Dcl, Decision, Else, EndBlock, EndChannel, EndConnection, EndDecision, EndProcess, EndState, EndSystem, Env, Fpar, From, Input, Join, Mod, NextState, NoDelay, Not, Now, Offspring, Or, Output, Parent, Priority, Process, Provided, Rem, Reset, Save, SelfPid, Sender, Set, Signal, SignalList, SignalSet, Start, State, Stop, Synonym, System, Task, Timer, To, With, Xor, True, False, Null, Assign, NotEqual, LessOrEqual, GreaterOrEqual, Implies, Open, Close, Comma, Semicolon, Colon, Equal, Less, Greater, Plus, Minus, Asterisk, Slash}
 
@@ -96,3 +99,19 @@ text Plus = codes "+"
 text Minus = codes "-"
 text Asterisk = codes "*"
 text Slash = codes "/"
+
+abbrev pub in_upper_case : List ℕ → List ℕ
+in_upper_case word = map to_ascii_uppercase word
+
+-- a literal with a capital first letter, and every other mark as it is
+abbrev pub with_capital : Mark → List ℕ
+with_capital True = codes "True"
+with_capital False = codes "False"
+with_capital Null = codes "Null"
+with_capital m = text m
+
+-- the mark as it is written in this spelling
+abbrev pub spelled : Mark → Case → List ℕ
+spelled m Lower = text m
+spelled m Upper = in_upper_case (text m)
+spelled m Capital = with_capital m

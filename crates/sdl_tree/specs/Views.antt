@@ -1,4 +1,4 @@
--- The trees without places that the public trees stand for.
+-- The trees of the grammar that the public trees are, with their spellings and places.
 use Rattle.std.specs.Prelude.{Option, Some, None, List, [], ◌∷◌, map, option_map, string_bytes}
 use Rattle.sdl_tree.specs.declared.behaviour.Action.{Decision', Row_of-AnswerPart, end_of-AnswerPart, more_of-AnswerPart, Held-Action-Decision-3, None', Some'}
 use Rattle.sdl_tree.specs.declared.behaviour.Action as action
@@ -21,6 +21,7 @@ use Rattle.sdl_tree.specs.declared.behaviour.ResetGroup.{ResetGroup}
 use Rattle.sdl_tree.specs.declared.behaviour.Saved.{Saved}
 use Rattle.sdl_tree.specs.declared.behaviour.Saved.TheVariants as saved
 use Rattle.sdl_tree.specs.declared.behaviour.SetClause.{SetClause}
+use Rattle.sdl_tree.specs.declared.behaviour.Start.{Start}
 use Rattle.sdl_tree.specs.declared.behaviour.States.{States}
 use Rattle.sdl_tree.specs.declared.behaviour.States.TheVariants as states
 use Rattle.sdl_tree.specs.declared.behaviour.Stimulus.{Stimulus}
@@ -66,260 +67,255 @@ use Rattle.sdl_tree.specs.declared.expressions.Expression.{Expression, Active', 
 use Rattle.sdl_tree.specs.declared.expressions.Expression as expression
 use Rattle.sdl_tree.specs.declared.expressions.Link.{Link}
 use Rattle.sdl_tree.specs.declared.name.Name.{Name}
+use Rattle.sdl_tree.specs.declared.name.Number.{Number}
 use Rattle.sdl_tree.specs.declared.name.SortName.{SortName}
-use Rattle.sdl_tree.specs.Spells.Parts.{sort_of}
-use Rattle.sdl_tree.specs.Tree as plain
+use Rattle.sdl_tree.specs.Tree as tree
+use Rattle.sdl_tree.specs.Words.{Spot}
 
-abbrev pub plain_name : Name → plain.Name
-plain_name x = string_bytes x.text
+abbrev pub name_value : Name → Spot
+name_value x = record { text = string_bytes x.text; place = x.place }
 
-abbrev pub plain_names : List Name → List plain.Name
-plain_names xs = map plain_name xs
+abbrev pub names_value : List Name → List Spot
+names_value xs = map name_value xs
 
-abbrev pub plain_sort : SortName → plain.Name
-plain_sort s = sort_of (plain_name s.spelled)
+abbrev pub sort_value : SortName → Spot
+sort_value s = name_value s.spelled
 
-abbrev pub plain_sorts : List SortName → List plain.Name
-plain_sorts ss = map plain_sort ss
+abbrev pub sorts_value : List SortName → List Spot
+sorts_value ss = map sort_value ss
+
+abbrev pub number_value : Number → tree.Number
+number_value n = record { value = n.value; digits = name_value n.digits }
 
 -- ---- expressions
 
 abbrev mutual
-  pub plain_expr : Expression → plain.Expr
-  plain_expr (expression.Number n) = plain.Numeral n.value
-  plain_expr (expression.Name x) = plain.Named (plain_name x)
-  plain_expr (expression.Keyword value word) = plain.Keyword value
-  plain_expr (Active' word timer shape values) = plain.Active (plain_name timer) (plain_row values)
-  plain_expr (Parenthesized' parenthesis p inner) = plain.Paren (plain_expr inner)
-  plain_expr (Unary' operator word p operand) = plain.Unary operator (plain_expr operand)
-  plain_expr (Chain' p c) = plain_chain c
+  pub expr_value : Expression → tree.Expr
+  expr_value (expression.Number n) = tree.Numeral (number_value n)
+  expr_value (expression.Name x) = tree.Named (name_value x)
+  expr_value (expression.Keyword value word) = tree.Keyword value word
+  expr_value (Active' word timer shape values) = tree.Active word (name_value timer) (row_value values)
+  expr_value (Parenthesized' parenthesis p inner) = tree.Paren parenthesis (expr_value inner)
+  expr_value (Unary' operator word p operand) = tree.Unary operator word (expr_value operand)
+  expr_value (Chain' p c) = chain_value c
 
-  pub plain_chain : Chain → plain.Expr
-  plain_chain (chain.Chain' first shape rest) = plain_links rest (plain_expr first)
+  pub chain_value : Chain → tree.Expr
+  chain_value (chain.Chain' first shape rest) = tree.Chain (expr_value first) (links_value rest)
 
-  -- operators with their operands, behind the term on their left
-  pub plain_links : {m : _} → Row_of-Link m → plain.Expr → plain.Expr
-  plain_links end_of-Link left = left
-  plain_links (more_of-Link operator word operand rest) left = plain_links rest (plain.Binary operator left (plain_expr operand))
+  -- operators with their operands
+  pub links_value : {m : _} → Row_of-Link m → tree.Links
+  links_value end_of-Link = tree.NoLink
+  links_value (more_of-Link operator word operand rest) = tree.AndLink operator word (expr_value operand) (links_value rest)
 
-  pub plain_row : {m : _} → Row_of-Expression m → plain.Exprs
-  plain_row end_of-Expression = plain.NoExpr
-  plain_row (more_of-Expression e rest) = plain.AndExpr (plain_expr e) (plain_row rest)
+  pub row_value : {m : _} → Row_of-Expression m → tree.Exprs
+  row_value end_of-Expression = tree.NoExpr
+  row_value (more_of-Expression e rest) = tree.AndExpr (expr_value e) (row_value rest)
 
-abbrev pub exprs_of : List plain.Expr → plain.Exprs
-exprs_of [] = plain.NoExpr
-exprs_of (e ∷ es) = plain.AndExpr e (exprs_of es)
+abbrev pub link_value : Link → tree.Link
+link_value l = record { operator = l.operator; word = l.word; operand = expr_value l.operand }
 
--- what an operator with its operand makes of the term on its left
-abbrev pub plain_link : plain.Expr → Link → plain.Expr
-plain_link left l = plain.Binary l.operator left (plain_expr l.operand)
-
-abbrev pub plain_exprs : List Expression → plain.Exprs
-plain_exprs es = exprs_of (map plain_expr es)
-
-abbrev pub plain_applied : Applied → plain.Applied
-plain_applied a = record { name = plain_name a.name; values = plain_exprs a.values.items }
+abbrev pub applied_value : Applied → tree.Applied
+applied_value a = record { name = name_value a.name; values = map expr_value a.values.items }
 
 -- ---- transitions
 
-abbrev pub plain_assignment : Assignment → plain.Assignment
-plain_assignment a = record { variable = plain_name a.variable; value = plain_expr a.value }
+abbrev pub assignment_value : Assignment → tree.Assignment
+assignment_value a = record { variable = name_value a.variable; value = expr_value a.value }
 
-abbrev pub plain_destination : Destination → plain.Expr
-plain_destination d = plain_expr d.value
+abbrev pub destination_value : Destination → tree.Destination
+destination_value d = record { word = d.word; value = expr_value d.value }
 
-abbrev pub plain_clause : SetClause → plain.SetClause
-plain_clause c = record { time = option_map plain_expr c.time; timer = plain_applied c.timer }
+abbrev pub clause_value : SetClause → tree.SetClause
+clause_value c = record { time = option_map expr_value c.time; timer = applied_value c.timer }
 
-abbrev pub plain_group : ResetGroup → List plain.Applied
-plain_group g = map plain_applied g.timers.items
+abbrev pub group_value : ResetGroup → List tree.Applied
+group_value g = map applied_value g.timers.items
 
-abbrev pub plain_answer : Answer → plain.Answer
-plain_answer (answer.Value e) = plain.Value (plain_expr e)
-plain_answer (answer.Range first last) = plain.Range (plain_expr first) (plain_expr last)
-plain_answer (answer.Compared operator word e) = plain.Compared operator (plain_expr e)
+abbrev pub answer_value : Answer → tree.Answer
+answer_value (answer.Value e) = tree.Value (expr_value e)
+answer_value (answer.Range first last) = tree.Range (expr_value first) (expr_value last)
+answer_value (answer.Compared operator word e) = tree.Compared operator word (expr_value e)
 
-abbrev pub plain_next_state : NextState → plain.NextState
-plain_next_state (next.Same word) = plain.Same
-plain_next_state (next.Named x) = plain.To (plain_name x)
+abbrev pub next_state_value : NextState → tree.NextState
+next_state_value (next.Same word) = tree.Same word
+next_state_value (next.Named x) = tree.To (name_value x)
 
-abbrev pub plain_terminator : Terminator → plain.Terminator
-plain_terminator (terminator.NextState word state) = plain.Next (plain_next_state state)
-plain_terminator (terminator.Stop word) = plain.Stop
-plain_terminator (terminator.Join word label) = plain.Join (plain_name label)
+abbrev pub terminator_value : Terminator → tree.Terminator
+terminator_value (terminator.NextState word state) = tree.Next word (next_state_value state)
+terminator_value (terminator.Stop word) = tree.Stop word
+terminator_value (terminator.Join word label) = tree.Join word (name_value label)
 
-abbrev pub plain_ending : TerminatorStatement → plain.Ending
-plain_ending t = record { label = option_map plain_name t.label; terminator = plain_terminator t.terminator }
+abbrev pub ending_value : TerminatorStatement → tree.Ending
+ending_value t = record { label = option_map name_value t.label; terminator = terminator_value t.terminator }
 
 abbrev mutual
-  pub plain_transition : Transition → plain.Transition
-  plain_transition (Transition' shape actions ending) = plain.Steps (plain_actions actions) (option_map plain_ending ending)
+  pub transition_value : Transition → tree.Transition
+  transition_value (Transition' shape actions ending) = tree.Steps (actions_value actions) (option_map ending_value ending)
 
-  pub plain_actions : {m : _} → Row_of-ActionStatement m → plain.Actions
-  plain_actions end_of-ActionStatement = plain.NoAction
-  plain_actions (more_of-ActionStatement label first rest) = plain.AndAction (option_map plain_name label) (plain_action first) (plain_actions rest)
+  pub actions_value : {m : _} → Row_of-ActionStatement m → tree.Actions
+  actions_value end_of-ActionStatement = tree.NoAction
+  actions_value (more_of-ActionStatement label first rest) = tree.AndAction (option_map name_value label) (action_value first) (actions_value rest)
 
-  pub plain_action : action.Action → plain.Action
-  plain_action (action.Task word assignments) = plain.Task (map plain_assignment assignments.items)
-  plain_action (action.Output word outputs destination) = plain.Output (map plain_applied outputs.items) (option_map plain_destination destination)
-  plain_action (action.Set word clauses) = plain.Set (map plain_clause clauses.items)
-  plain_action (action.Reset word groups) = plain.Reset (map plain_group groups.items)
-  plain_action (action.Create word process) = plain.Create (plain_applied process)
-  plain_action (Decision' word question shape parts otherwise) = plain.Decision (plain_expr question) (plain_parts parts) (plain_otherwise otherwise)
+  pub action_value : action.Action → tree.Action
+  action_value (action.Task word assignments) = tree.Task word (map assignment_value assignments.items)
+  action_value (action.Output word outputs destination) = tree.Output word (map applied_value outputs.items) (option_map destination_value destination)
+  action_value (action.Set word clauses) = tree.Set word (map clause_value clauses.items)
+  action_value (action.Reset word groups) = tree.Reset word (map group_value groups.items)
+  action_value (action.Create word process) = tree.Create word (applied_value process)
+  action_value (Decision' word question shape parts otherwise) = tree.Decision word (expr_value question) (parts_value parts) (otherwise_value otherwise)
 
-  pub plain_parts : {m : _} → Row_of-AnswerPart m → plain.Parts
-  plain_parts end_of-AnswerPart = plain.NoPart
-  plain_parts (more_of-AnswerPart part rest) = plain_part part (plain_parts rest)
+  pub parts_value : {m : _} → Row_of-AnswerPart m → tree.Parts
+  parts_value end_of-AnswerPart = tree.NoPart
+  parts_value (more_of-AnswerPart part rest) = part_value part (parts_value rest)
 
-  pub plain_part : AnswerPart → plain.Parts → plain.Parts
-  plain_part (answer_part.AnswerPart' answers transition) rest = plain.AndPart (map plain_answer answers.items) (plain_transition transition) rest
+  pub part_value : AnswerPart → tree.Parts → tree.Parts
+  part_value (answer_part.AnswerPart' answers transition) rest = tree.AndPart (map answer_value answers.items) (transition_value transition) rest
 
-  pub plain_otherwise : Held-Action-Decision-3 → plain.Otherwise
-  plain_otherwise None' = plain.NoElse
-  plain_otherwise (Some' transition) = plain.Else (plain_transition transition)
+  pub otherwise_value : Held-Action-Decision-3 → tree.Otherwise
+  otherwise_value None' = tree.NoElse
+  otherwise_value (Some' transition) = tree.Else (transition_value transition)
 
-abbrev pub plain_statements : List ActionStatement → plain.Actions
-plain_statements [] = plain.NoAction
-plain_statements (s ∷ statements) = plain.AndAction (option_map plain_name s.label) (plain_action s.action) (plain_statements statements)
+abbrev pub statement_value : ActionStatement → tree.Statement
+statement_value s = record { label = option_map name_value s.label; action = action_value s.action }
 
-abbrev pub plain_answer_parts : List AnswerPart → plain.Parts
-plain_answer_parts [] = plain.NoPart
-plain_answer_parts (p ∷ parts) = plain_part p (plain_answer_parts parts)
+abbrev pub answer_part_value : AnswerPart → tree.Part
+answer_part_value (answer_part.AnswerPart' answers transition) =
+    record { answers = map answer_value answers.items; transition = transition_value transition }
 
-abbrev pub else_of : Option plain.Transition → plain.Otherwise
-else_of None = plain.NoElse
-else_of (Some transition) = plain.Else transition
+abbrev pub start_value : Start → tree.Start
+start_value s = record { word = s.word; transition = transition_value s.transition }
 
 -- ---- states
 
-abbrev pub plain_item : SignalListItem → plain.SignalListItem
-plain_item (item.Signal x) = plain.SignalItem (plain_name x)
-plain_item (item.List x) = plain.ListItem (plain_name x)
+abbrev pub item_value : SignalListItem → tree.SignalListItem
+item_value (item.Signal x) = tree.SignalItem (name_value x)
+item_value (item.List x) = tree.ListItem (name_value x)
 
-abbrev pub plain_items : List SignalListItem → List plain.SignalListItem
-plain_items xs = map plain_item xs
+abbrev pub items_value : List SignalListItem → List tree.SignalListItem
+items_value xs = map item_value xs
 
-abbrev pub plain_input : Input → plain.Input
-plain_input i = record { signal = plain_name i.signal; variables = map (option_map plain_name) i.variables.items }
+abbrev pub input_value : Input → tree.Input
+input_value i = record { signal = name_value i.signal; variables = map (option_map name_value) i.variables.items }
 
-abbrev pub plain_condition : EnablingCondition → plain.Expr
-plain_condition c = plain_expr c.condition
+abbrev pub condition_value : EnablingCondition → tree.Condition
+condition_value c = record { word = c.word; condition = expr_value c.condition }
 
-abbrev pub plain_inputs : Inputs → plain.Inputs
-plain_inputs (inputs.Listed is) = plain.InputList (map plain_input is.items)
-plain_inputs (inputs.All asterisk) = plain.InputAll
+abbrev pub inputs_value : Inputs → tree.Inputs
+inputs_value (inputs.Listed is) = tree.InputList (map input_value is.items)
+inputs_value (inputs.All asterisk) = tree.InputAll asterisk
 
-abbrev pub plain_saved : Saved → plain.Saved
-plain_saved (saved.Listed items) = plain.SaveList (plain_items items.items)
-plain_saved (saved.All asterisk) = plain.SaveAll
+abbrev pub saved_value : Saved → tree.Saved
+saved_value (saved.Listed items) = tree.SaveList (items_value items.items)
+saved_value (saved.All asterisk) = tree.SaveAll asterisk
 
-abbrev pub plain_stimulus : Stimulus → plain.Stimulus
-plain_stimulus (stimulus.Input s) = plain.InputPart (plain_inputs s.inputs) (option_map plain_condition s.condition) (plain_transition s.transition)
-plain_stimulus (stimulus.Priority s) = plain.PriorityInput (map plain_input s.inputs.items) (plain_transition s.transition)
-plain_stimulus (stimulus.Save s) = plain.SavePart (plain_saved s.saved)
-plain_stimulus (stimulus.Continuous s) =
-    plain.ContinuousSignal (plain_expr s.condition) (option_map (λ n. n.value) s.priority) (plain_transition s.transition)
+abbrev pub stimulus_value : Stimulus → tree.Stimulus
+stimulus_value (stimulus.Input s) = tree.InputPart s.word (inputs_value s.inputs) (option_map condition_value s.condition) (transition_value s.transition)
+stimulus_value (stimulus.Priority s) = tree.PriorityInput s.word (map input_value s.inputs.items) (transition_value s.transition)
+stimulus_value (stimulus.Save s) = tree.SavePart s.word (saved_value s.saved)
+stimulus_value (stimulus.Continuous s) =
+    tree.ContinuousSignal s.word (expr_value s.condition) (option_map number_value s.priority) (transition_value s.transition)
 
-abbrev pub plain_states : States → plain.States
-plain_states (states.Named names) = plain.StateList (plain_names names.items)
-plain_states (states.All asterisk except) = plain.StateAll (plain_names except.items)
+abbrev pub states_value : States → tree.States
+states_value (states.Named names) = tree.StateList (names_value names.items)
+states_value (states.All asterisk except) = tree.StateAll asterisk (names_value except.items)
 
-abbrev pub plain_body_part : BodyPart → plain.BodyPart
-plain_body_part (body.State s) = plain.StatePart (plain_states s.states) (map plain_stimulus s.stimuli.items)
-plain_body_part (body.FreeAction f) = plain.FreeAction (plain_name f.label) (plain_transition f.transition)
+abbrev pub body_part_value : BodyPart → tree.BodyPart
+body_part_value (body.State s) = tree.StatePart (states_value s.states) (map stimulus_value s.stimuli.items)
+body_part_value (body.FreeAction f) = tree.FreeAction f.word (name_value f.label) (transition_value f.transition)
 
 -- ---- definitions
 
-abbrev pub plain_signal : SignalDefinition → plain.SignalDefinition
-plain_signal s = record { name = plain_name s.name; sorts = plain_sorts s.sorts.items }
+abbrev pub signal_value : SignalDefinition → tree.SignalDefinition
+signal_value s = record { name = name_value s.name; sorts = sorts_value s.sorts.items }
 
-abbrev pub plain_signal_list : SignalListDefinition → plain.SignalListDefinition
-plain_signal_list l = record { name = plain_name l.name; items = plain_items l.items.items }
+abbrev pub signal_list_value : SignalListDefinition → tree.SignalListDefinition
+signal_list_value l = record { word = l.word; name = name_value l.name; items = items_value l.items.items }
 
-abbrev pub plain_synonym : SynonymDefinition → plain.SynonymDefinition
-plain_synonym s = record { name = plain_name s.name; sort = plain_sort s.sort; value = plain_expr s.value }
+abbrev pub synonym_value : SynonymDefinition → tree.SynonymDefinition
+synonym_value s = record { name = name_value s.name; sort = sort_value s.sort; value = expr_value s.value }
 
-abbrev pub plain_synonyms : SynonymDefinitions → List plain.SynonymDefinition
-plain_synonyms s = map plain_synonym s.synonyms.items
+abbrev pub synonyms_value : SynonymDefinitions → tree.SynonymDefinitions
+synonyms_value s = record { word = s.word; synonyms = map synonym_value s.synonyms.items }
 
-abbrev pub plain_parameters : ParameterGroup → plain.ParameterGroup
-plain_parameters g = record { names = plain_names g.names.items; sort = plain_sort g.sort }
+abbrev pub parameters_value : ParameterGroup → tree.ParameterGroup
+parameters_value g = record { names = names_value g.names.items; sort = sort_value g.sort }
 
-abbrev pub plain_fpar : Option FormalParameters → List plain.ParameterGroup
-plain_fpar None = []
-plain_fpar (Some f) = map plain_parameters f.groups.items
+abbrev pub fpar_value : FormalParameters → tree.FormalParameters
+fpar_value f = record { word = f.word; groups = map parameters_value f.groups.items }
 
-abbrev pub plain_variables : VariableGroup → plain.VariableGroup
-plain_variables g = record { names = plain_names g.names.items; sort = plain_sort g.sort; initial = option_map plain_expr g.initial }
+abbrev pub variables_value : VariableGroup → tree.VariableGroup
+variables_value g = record { names = names_value g.names.items; sort = sort_value g.sort; initial = option_map expr_value g.initial }
 
-abbrev pub plain_timer : TimerDefinition → plain.TimerDefinition
-plain_timer t = record { name = plain_name t.name; sorts = plain_sorts t.sorts.items; duration = option_map plain_expr t.duration }
+abbrev pub timer_value : TimerDefinition → tree.TimerDefinition
+timer_value t = record { name = name_value t.name; sorts = sorts_value t.sorts.items; duration = option_map expr_value t.duration }
 
-abbrev pub plain_timers : TimerDefinitions → List plain.TimerDefinition
-plain_timers t = map plain_timer t.timers.items
+abbrev pub timers_value : TimerDefinitions → tree.TimerDefinitions
+timers_value t = record { word = t.word; timers = map timer_value t.timers.items }
 
-abbrev pub plain_signal_set : SignalSet → List plain.SignalListItem
-plain_signal_set s = plain_items s.items.items
+abbrev pub signal_set_value : SignalSet → tree.SignalSet
+signal_set_value s = record { word = s.word; items = items_value s.items.items }
 
-abbrev pub plain_local : LocalDefinition → plain.LocalDefinition
-plain_local («local».Signals signals) = plain.LocalSignals (map plain_signal signals.items)
-plain_local («local».SignalList list) = plain.LocalSignalList (plain_signal_list list)
-plain_local («local».Synonyms synonyms) = plain.LocalSynonyms (plain_synonyms synonyms)
-plain_local («local».SignalSet signals) = plain.SignalSet (plain_signal_set signals)
-plain_local («local».Variables groups) = plain.Variables (map plain_variables groups.items)
-plain_local («local».Timers timers) = plain.Timers (plain_timers timers)
+abbrev pub local_value : LocalDefinition → tree.LocalDefinition
+local_value («local».Signals signals) = tree.LocalSignals (map signal_value signals.items)
+local_value («local».SignalList list) = tree.LocalSignalList (signal_list_value list)
+local_value («local».Synonyms synonyms) = tree.LocalSynonyms (synonyms_value synonyms)
+local_value («local».SignalSet signals) = tree.LocalSignalSet (signal_set_value signals)
+local_value («local».Variables groups) = tree.Variables (map variables_value groups.items)
+local_value («local».Timers timers) = tree.Timers (timers_value timers)
 
-abbrev pub plain_bound : Bound → plain.Bound
-plain_bound b = record { maximum = option_map plain_expr b.maximum }
+abbrev pub bound_value : Bound → tree.Bound
+bound_value b = record { maximum = option_map expr_value b.maximum }
 
-abbrev pub plain_counts : Counts → plain.Counts
-plain_counts c = record { initial = option_map plain_expr c.initial; bound = option_map plain_bound c.bound }
+abbrev pub counts_value : Counts → tree.Counts
+counts_value c = record { parenthesis = c.parenthesis; initial = option_map expr_value c.initial; bound = option_map bound_value c.bound }
 
-abbrev pub plain_process : ProcessDefinition → plain.ProcessDefinition
-plain_process p = record {
-  name = plain_name p.name;
-  counts = option_map plain_counts p.counts;
-  parameters = plain_fpar p.parameters;
-  definitions = map plain_local p.definitions.items;
-  start = plain_transition p.start.transition;
-  body = map plain_body_part p.body.items;
+abbrev pub process_value : ProcessDefinition → tree.ProcessDefinition
+process_value p = record {
+  word = p.word;
+  name = name_value p.name;
+  counts = option_map counts_value p.counts;
+  parameters = option_map fpar_value p.parameters;
+  definitions = map local_value p.definitions.items;
+  start = start_value p.start;
+  body = map body_part_value p.body.items;
 }
 
-abbrev pub plain_end : ChannelEnd → plain.ChannelEnd
-plain_end (channel_end.Env word) = plain.Env
-plain_end (channel_end.Agent x) = plain.Agent (plain_name x)
+abbrev pub end_value : ChannelEnd → tree.ChannelEnd
+end_value (channel_end.Env word) = tree.Env word
+end_value (channel_end.Agent x) = tree.Agent (name_value x)
 
-abbrev pub plain_path : ChannelPath → plain.ChannelPath
-plain_path p = record { from = plain_end p.from; to = plain_end p.to; signals = plain_items p.signals.items }
+abbrev pub path_value : ChannelPath → tree.ChannelPath
+path_value p = record { from = end_value p.from; to = end_value p.to; signals = items_value p.signals.items }
 
-abbrev pub plain_channel : ChannelDefinition → plain.ChannelDefinition
-plain_channel c = record {
-  name = plain_name c.name;
+abbrev pub channel_value : ChannelDefinition → tree.ChannelDefinition
+channel_value c = record {
+  word = c.word;
+  name = name_value c.name;
   is_nodelay = c.is_nodelay;
-  first = plain_path c.first;
-  second = option_map plain_path c.second;
+  first = path_value c.first;
+  second = option_map path_value c.second;
 }
 
-abbrev pub plain_definition : Definition → plain.Definition
-plain_definition (definition.Signals signals) = plain.Signals (map plain_signal signals.items)
-plain_definition (definition.SignalList list) = plain.SignalList (plain_signal_list list)
-plain_definition (definition.Synonyms synonyms) = plain.Synonyms (plain_synonyms synonyms)
-plain_definition (definition.Channel channel) = plain.Channel (plain_channel channel)
-plain_definition (definition.Process process) = plain.Process (plain_process process)
+abbrev pub definition_value : Definition → tree.Definition
+definition_value (definition.Signals signals) = tree.Signals (map signal_value signals.items)
+definition_value (definition.SignalList list) = tree.SignalList (signal_list_value list)
+definition_value (definition.Synonyms synonyms) = tree.Synonyms (synonyms_value synonyms)
+definition_value (definition.Channel channel) = tree.Channel (channel_value channel)
+definition_value (definition.Process process) = tree.Process (process_value process)
 
-abbrev pub plain_connection : ChannelConnection → plain.BlockPart
-plain_connection c = plain.Connect (plain_names c.outer.items) (plain_names c.inner.items)
+abbrev pub connection_value : ChannelConnection → tree.Connection
+connection_value c = record { word = c.word; outer = names_value c.outer.items; inner = names_value c.inner.items }
 
-abbrev pub plain_block_part : BlockPart → plain.BlockPart
-plain_block_part (block.Shared d) = plain.InBlock (plain_definition d)
-plain_block_part (block.Connect c) = plain_connection c
+abbrev pub block_part_value : BlockPart → tree.BlockPart
+block_part_value (block.Shared d) = tree.InBlock (definition_value d)
+block_part_value (block.Connect c) = tree.Connect (connection_value c)
 
-abbrev pub plain_block : BlockDefinition → plain.BlockDefinition
-plain_block b = record { name = plain_name b.name; definitions = map plain_block_part b.definitions.items }
+abbrev pub block_value : BlockDefinition → tree.BlockDefinition
+block_value b = record { word = b.word; name = name_value b.name; definitions = map block_part_value b.definitions.items }
 
-abbrev pub plain_system_definition : SystemDefinition → plain.SystemDefinition
-plain_system_definition (system.Shared d) = plain.InSystem (plain_definition d)
-plain_system_definition (system.Block b) = plain.Block (plain_block b)
+abbrev pub system_definition_value : SystemDefinition → tree.SystemDefinition
+system_definition_value (system.Shared d) = tree.InSystem (definition_value d)
+system_definition_value (system.Block b) = tree.Block (block_value b)
 
-abbrev pub plain_tree : Tree → plain.Tree
-plain_tree t = record { name = plain_name t.name; definitions = map plain_system_definition t.definitions.items }
+abbrev pub tree_value : Tree → tree.Tree
+tree_value t = record { name = name_value t.name; definitions = map system_definition_value t.definitions.items }

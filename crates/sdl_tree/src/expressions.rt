@@ -1,7 +1,7 @@
 //! Expressions.
 
 ghost use Rattle.std.specs.Prelude.{◌≡◌};
-ghost use Rattle.sdl_tree.specs.Spells.Expressions.{operator_mark, unary_mark, value_mark};
+ghost use Rattle.sdl_tree.specs.Spells.Expressions as grammar;
 
 use crate::mark::Mark;
 use crate::name::{Name, Number, Spelling};
@@ -36,7 +36,8 @@ pub enum Expression {
     Chain(Box<Chain>),
 }
 
-/// Operands joined by operators of one level, which group to the left.
+/// Operands joined by operators of one level, which group to the left. In the tree of a text there is an operator,
+/// and each operand is of a stronger level.
 #[cycle(expression)]
 #[derive(Debug, Drop)]
 pub struct Chain {
@@ -69,7 +70,7 @@ pub enum KeywordValue {
 impl KeywordValue {
     /// Its keyword.
     pub fn mark(self) -> Mark
-        ensures { result ≡ value_mark self }
+        ensures { result ≡ grammar.value_mark self }
     {
         match self {
             KeywordValue::True => Mark::True,
@@ -94,7 +95,7 @@ pub enum UnaryOperator {
 impl UnaryOperator {
     /// Its keyword or mark.
     pub fn mark(self) -> Mark
-        ensures { result ≡ unary_mark self }
+        ensures { result ≡ grammar.unary_mark self }
     {
         match self {
             UnaryOperator::Minus => Mark::Minus,
@@ -132,7 +133,7 @@ pub enum Operator {
 impl Operator {
     /// Its keyword or mark.
     pub fn mark(self) -> Mark
-        ensures { result ≡ operator_mark self }
+        ensures { result ≡ grammar.operator_mark self }
     {
         match self {
             Operator::Implies => Mark::Implies,
@@ -151,6 +152,25 @@ impl Operator {
             Operator::Divide => Mark::Slash,
             Operator::Mod => Mark::Mod,
             Operator::Rem => Mark::Rem,
+        }
+    }
+
+    /// How loosely it binds its operands: a primary has 0, a unary operator 1, and the weakest operator 7.
+    pub fn looseness(self) -> usize
+        ensures { result ≡ grammar.looseness self }
+    {
+        match self {
+            Operator::Implies => 7,
+            Operator::Or | Operator::Xor => 6,
+            Operator::And => 5,
+            Operator::Equal
+            | Operator::NotEqual
+            | Operator::Less
+            | Operator::LessOrEqual
+            | Operator::Greater
+            | Operator::GreaterOrEqual => 4,
+            Operator::Plus | Operator::Minus => 3,
+            Operator::Times | Operator::Divide | Operator::Mod | Operator::Rem => 2,
         }
     }
 }

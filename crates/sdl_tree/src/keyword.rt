@@ -5,41 +5,57 @@
 ghost use Rattle.std.specs.Prelude.{◌≡◌, ◌||◌, map, option_map};
 ghost use Rattle.std.specs.List.{find};
 ghost use Rattle.std.specs.Str.{bytes_eq};
-ghost use Rattle.sdl_tree.specs.Keyword.{spelled, both_cases, entry_in, lower_case_in, keyword_found, sign_found, left_out_found, is_reserved, AreKeywordsFrom, AreLeftOutFrom};
+ghost use Rattle.sdl_tree.specs.Keyword.{entry, both_cases, keyword_in, lower_case_in, keyword_found, sign_found, left_out_found, is_reserved, AreKeywordsFrom, AreLeftOutFrom};
 
-use crate::mark::Mark;
+use crate::mark::{Case, Mark};
 
-/// The keyword or literal that a word spells, if any, with that spelling.
+/// A keyword or a literal, and how it is spelled.
+#[derive(Clone, Copy, Debug, PartialEq, Eq)]
+pub struct Keyword {
+    pub mark: Mark,
+    pub case: Case,
+}
+
+/// A keyword in one of its spellings.
+type Entry = (Mark, Case, &'static str);
+
+/// The keyword or literal that a word spells, if any, with its spelling.
 #[tactic(auto, unfolding(crate::specs::Keyword::keyword_found))]
-pub fn keyword_of(word: &[u8]) -> Option<(Mark, &'static str)>
-    ensures { option_map spelled result ≡ keyword_found word.now }
+pub fn keyword_of(word: &[u8]) -> Option<Keyword>
+    ensures { result ≡ keyword_found word.now }
 {
     let (first, _) = word.split_first()?;
-    spelling_in(keywords_from(*first), word)
+    keyword_in(keywords_from(*first), word)
 }
 
-/// The mark of other characters that these bytes are, if they are one, with its text.
-#[tactic(auto, unfolding(crate::specs::Keyword::sign_found))]
-pub fn sign_of(bytes: &[u8]) -> Option<(Mark, &'static str)>
-    ensures { option_map spelled result ≡ sign_found bytes.now }
+/// The keyword of the first entry with this text.
+fn keyword_in(table: &[Entry], word: &[u8]) -> Option<Keyword>
+    ensures { result ≡ keyword_in (map entry table.now) word.now }
 {
-    spelling_in(&SIGNS, bytes)
+    match entry_of(table, word) {
+        Some((mark, case, _)) => Some(Keyword { mark, case }),
+        None => None,
+    }
 }
 
-/// The first entry of a table with this text.
-fn spelling_in(table: &[(Mark, &'static str)], bytes: &[u8]) -> Option<(Mark, &'static str)>
-    ensures { option_map spelled result ≡ entry_in (map spelled table.now) bytes.now }
-{
-    entry_of(table, bytes)
-}
-
-fn entry_of(table: &[(Mark, &'static str)], bytes: &[u8]) -> Option<(Mark, &'static str)>
-    ensures { result ≡ find (λ e. bytes_eq e.1.now bytes.now) table.now }
+fn entry_of(table: &[Entry], word: &[u8]) -> Option<Entry>
+    ensures { result ≡ find (λ e. bytes_eq e.2.now word.now) table.now }
 {
     table
         .iter()
         .copied()
-        .find(|(_, text)| text.as_bytes() == bytes)
+        .find(|(_, _, text)| text.as_bytes() == word)
+}
+
+/// The mark of other characters that these bytes are, if they are one.
+#[tactic(auto, unfolding(crate::specs::Keyword::sign_found))]
+pub fn sign_of(bytes: &[u8]) -> Option<Mark>
+    ensures { result ≡ sign_found bytes.now }
+{
+    SIGNS
+        .iter()
+        .copied()
+        .find(|mark| mark.text().as_bytes() == bytes)
 }
 
 /// The word in lower case, if it is one that the standard reserves for what is left out here.
@@ -81,153 +97,171 @@ pub fn is_reserved(word: &[u8]) -> bool
 
 /// The keywords, and behind them the literals, in the spellings that begin with this byte.
 #[tactic(auto, unfolding(crate::specs::Keyword::keyword_found))]
-fn keywords_from(first: u8) -> &'static [(Mark, &'static str)]
-    ensures { AreKeywordsFrom first (map spelled result.now) }
+fn keywords_from(first: u8) -> &'static [Entry]
+    ensures { AreKeywordsFrom first (map entry result.now) }
 {
     match first {
-        b'a' => &[(Mark::Active, "active"), (Mark::And, "and")],
-        b'A' => &[(Mark::Active, "ACTIVE"), (Mark::And, "AND")],
-        b'b' => &[(Mark::Block, "block")],
-        b'B' => &[(Mark::Block, "BLOCK")],
+        b'a' => &[
+            (Mark::Active, Case::Lower, "active"),
+            (Mark::And, Case::Lower, "and"),
+        ],
+        b'A' => &[
+            (Mark::Active, Case::Upper, "ACTIVE"),
+            (Mark::And, Case::Upper, "AND"),
+        ],
+        b'b' => &[(Mark::Block, Case::Lower, "block")],
+        b'B' => &[(Mark::Block, Case::Upper, "BLOCK")],
         b'c' => &[
-            (Mark::Channel, "channel"),
-            (Mark::Comment, "comment"),
-            (Mark::Connect, "connect"),
-            (Mark::Connection, "connection"),
-            (Mark::Create, "create"),
+            (Mark::Channel, Case::Lower, "channel"),
+            (Mark::Comment, Case::Lower, "comment"),
+            (Mark::Connect, Case::Lower, "connect"),
+            (Mark::Connection, Case::Lower, "connection"),
+            (Mark::Create, Case::Lower, "create"),
         ],
         b'C' => &[
-            (Mark::Channel, "CHANNEL"),
-            (Mark::Comment, "COMMENT"),
-            (Mark::Connect, "CONNECT"),
-            (Mark::Connection, "CONNECTION"),
-            (Mark::Create, "CREATE"),
+            (Mark::Channel, Case::Upper, "CHANNEL"),
+            (Mark::Comment, Case::Upper, "COMMENT"),
+            (Mark::Connect, Case::Upper, "CONNECT"),
+            (Mark::Connection, Case::Upper, "CONNECTION"),
+            (Mark::Create, Case::Upper, "CREATE"),
         ],
-        b'd' => &[(Mark::Dcl, "dcl"), (Mark::Decision, "decision")],
-        b'D' => &[(Mark::Dcl, "DCL"), (Mark::Decision, "DECISION")],
+        b'd' => &[
+            (Mark::Dcl, Case::Lower, "dcl"),
+            (Mark::Decision, Case::Lower, "decision"),
+        ],
+        b'D' => &[
+            (Mark::Dcl, Case::Upper, "DCL"),
+            (Mark::Decision, Case::Upper, "DECISION"),
+        ],
         b'e' => &[
-            (Mark::Else, "else"),
-            (Mark::EndBlock, "endblock"),
-            (Mark::EndChannel, "endchannel"),
-            (Mark::EndConnection, "endconnection"),
-            (Mark::EndDecision, "enddecision"),
-            (Mark::EndProcess, "endprocess"),
-            (Mark::EndState, "endstate"),
-            (Mark::EndSystem, "endsystem"),
-            (Mark::Env, "env"),
+            (Mark::Else, Case::Lower, "else"),
+            (Mark::EndBlock, Case::Lower, "endblock"),
+            (Mark::EndChannel, Case::Lower, "endchannel"),
+            (Mark::EndConnection, Case::Lower, "endconnection"),
+            (Mark::EndDecision, Case::Lower, "enddecision"),
+            (Mark::EndProcess, Case::Lower, "endprocess"),
+            (Mark::EndState, Case::Lower, "endstate"),
+            (Mark::EndSystem, Case::Lower, "endsystem"),
+            (Mark::Env, Case::Lower, "env"),
         ],
         b'E' => &[
-            (Mark::Else, "ELSE"),
-            (Mark::EndBlock, "ENDBLOCK"),
-            (Mark::EndChannel, "ENDCHANNEL"),
-            (Mark::EndConnection, "ENDCONNECTION"),
-            (Mark::EndDecision, "ENDDECISION"),
-            (Mark::EndProcess, "ENDPROCESS"),
-            (Mark::EndState, "ENDSTATE"),
-            (Mark::EndSystem, "ENDSYSTEM"),
-            (Mark::Env, "ENV"),
+            (Mark::Else, Case::Upper, "ELSE"),
+            (Mark::EndBlock, Case::Upper, "ENDBLOCK"),
+            (Mark::EndChannel, Case::Upper, "ENDCHANNEL"),
+            (Mark::EndConnection, Case::Upper, "ENDCONNECTION"),
+            (Mark::EndDecision, Case::Upper, "ENDDECISION"),
+            (Mark::EndProcess, Case::Upper, "ENDPROCESS"),
+            (Mark::EndState, Case::Upper, "ENDSTATE"),
+            (Mark::EndSystem, Case::Upper, "ENDSYSTEM"),
+            (Mark::Env, Case::Upper, "ENV"),
         ],
         b'f' => &[
-            (Mark::Fpar, "fpar"),
-            (Mark::From, "from"),
-            (Mark::False, "false"),
+            (Mark::Fpar, Case::Lower, "fpar"),
+            (Mark::From, Case::Lower, "from"),
+            (Mark::False, Case::Lower, "false"),
         ],
         b'F' => &[
-            (Mark::Fpar, "FPAR"),
-            (Mark::From, "FROM"),
-            (Mark::False, "FALSE"),
-            (Mark::False, "False"),
+            (Mark::Fpar, Case::Upper, "FPAR"),
+            (Mark::From, Case::Upper, "FROM"),
+            (Mark::False, Case::Upper, "FALSE"),
+            (Mark::False, Case::Capital, "False"),
         ],
-        b'i' => &[(Mark::Input, "input")],
-        b'I' => &[(Mark::Input, "INPUT")],
-        b'j' => &[(Mark::Join, "join")],
-        b'J' => &[(Mark::Join, "JOIN")],
-        b'm' => &[(Mark::Mod, "mod")],
-        b'M' => &[(Mark::Mod, "MOD")],
+        b'i' => &[(Mark::Input, Case::Lower, "input")],
+        b'I' => &[(Mark::Input, Case::Upper, "INPUT")],
+        b'j' => &[(Mark::Join, Case::Lower, "join")],
+        b'J' => &[(Mark::Join, Case::Upper, "JOIN")],
+        b'm' => &[(Mark::Mod, Case::Lower, "mod")],
+        b'M' => &[(Mark::Mod, Case::Upper, "MOD")],
         b'n' => &[
-            (Mark::NextState, "nextstate"),
-            (Mark::NoDelay, "nodelay"),
-            (Mark::Not, "not"),
-            (Mark::Now, "now"),
-            (Mark::Null, "null"),
+            (Mark::NextState, Case::Lower, "nextstate"),
+            (Mark::NoDelay, Case::Lower, "nodelay"),
+            (Mark::Not, Case::Lower, "not"),
+            (Mark::Now, Case::Lower, "now"),
+            (Mark::Null, Case::Lower, "null"),
         ],
         b'N' => &[
-            (Mark::NextState, "NEXTSTATE"),
-            (Mark::NoDelay, "NODELAY"),
-            (Mark::Not, "NOT"),
-            (Mark::Now, "NOW"),
-            (Mark::Null, "NULL"),
-            (Mark::Null, "Null"),
+            (Mark::NextState, Case::Upper, "NEXTSTATE"),
+            (Mark::NoDelay, Case::Upper, "NODELAY"),
+            (Mark::Not, Case::Upper, "NOT"),
+            (Mark::Now, Case::Upper, "NOW"),
+            (Mark::Null, Case::Upper, "NULL"),
+            (Mark::Null, Case::Capital, "Null"),
         ],
         b'o' => &[
-            (Mark::Offspring, "offspring"),
-            (Mark::Or, "or"),
-            (Mark::Output, "output"),
+            (Mark::Offspring, Case::Lower, "offspring"),
+            (Mark::Or, Case::Lower, "or"),
+            (Mark::Output, Case::Lower, "output"),
         ],
         b'O' => &[
-            (Mark::Offspring, "OFFSPRING"),
-            (Mark::Or, "OR"),
-            (Mark::Output, "OUTPUT"),
+            (Mark::Offspring, Case::Upper, "OFFSPRING"),
+            (Mark::Or, Case::Upper, "OR"),
+            (Mark::Output, Case::Upper, "OUTPUT"),
         ],
         b'p' => &[
-            (Mark::Parent, "parent"),
-            (Mark::Priority, "priority"),
-            (Mark::Process, "process"),
-            (Mark::Provided, "provided"),
+            (Mark::Parent, Case::Lower, "parent"),
+            (Mark::Priority, Case::Lower, "priority"),
+            (Mark::Process, Case::Lower, "process"),
+            (Mark::Provided, Case::Lower, "provided"),
         ],
         b'P' => &[
-            (Mark::Parent, "PARENT"),
-            (Mark::Priority, "PRIORITY"),
-            (Mark::Process, "PROCESS"),
-            (Mark::Provided, "PROVIDED"),
+            (Mark::Parent, Case::Upper, "PARENT"),
+            (Mark::Priority, Case::Upper, "PRIORITY"),
+            (Mark::Process, Case::Upper, "PROCESS"),
+            (Mark::Provided, Case::Upper, "PROVIDED"),
         ],
-        b'r' => &[(Mark::Rem, "rem"), (Mark::Reset, "reset")],
-        b'R' => &[(Mark::Rem, "REM"), (Mark::Reset, "RESET")],
+        b'r' => &[
+            (Mark::Rem, Case::Lower, "rem"),
+            (Mark::Reset, Case::Lower, "reset"),
+        ],
+        b'R' => &[
+            (Mark::Rem, Case::Upper, "REM"),
+            (Mark::Reset, Case::Upper, "RESET"),
+        ],
         b's' => &[
-            (Mark::Save, "save"),
-            (Mark::SelfPid, "self"),
-            (Mark::Sender, "sender"),
-            (Mark::Set, "set"),
-            (Mark::Signal, "signal"),
-            (Mark::SignalList, "signallist"),
-            (Mark::SignalSet, "signalset"),
-            (Mark::Start, "start"),
-            (Mark::State, "state"),
-            (Mark::Stop, "stop"),
-            (Mark::Synonym, "synonym"),
-            (Mark::System, "system"),
+            (Mark::Save, Case::Lower, "save"),
+            (Mark::SelfPid, Case::Lower, "self"),
+            (Mark::Sender, Case::Lower, "sender"),
+            (Mark::Set, Case::Lower, "set"),
+            (Mark::Signal, Case::Lower, "signal"),
+            (Mark::SignalList, Case::Lower, "signallist"),
+            (Mark::SignalSet, Case::Lower, "signalset"),
+            (Mark::Start, Case::Lower, "start"),
+            (Mark::State, Case::Lower, "state"),
+            (Mark::Stop, Case::Lower, "stop"),
+            (Mark::Synonym, Case::Lower, "synonym"),
+            (Mark::System, Case::Lower, "system"),
         ],
         b'S' => &[
-            (Mark::Save, "SAVE"),
-            (Mark::SelfPid, "SELF"),
-            (Mark::Sender, "SENDER"),
-            (Mark::Set, "SET"),
-            (Mark::Signal, "SIGNAL"),
-            (Mark::SignalList, "SIGNALLIST"),
-            (Mark::SignalSet, "SIGNALSET"),
-            (Mark::Start, "START"),
-            (Mark::State, "STATE"),
-            (Mark::Stop, "STOP"),
-            (Mark::Synonym, "SYNONYM"),
-            (Mark::System, "SYSTEM"),
+            (Mark::Save, Case::Upper, "SAVE"),
+            (Mark::SelfPid, Case::Upper, "SELF"),
+            (Mark::Sender, Case::Upper, "SENDER"),
+            (Mark::Set, Case::Upper, "SET"),
+            (Mark::Signal, Case::Upper, "SIGNAL"),
+            (Mark::SignalList, Case::Upper, "SIGNALLIST"),
+            (Mark::SignalSet, Case::Upper, "SIGNALSET"),
+            (Mark::Start, Case::Upper, "START"),
+            (Mark::State, Case::Upper, "STATE"),
+            (Mark::Stop, Case::Upper, "STOP"),
+            (Mark::Synonym, Case::Upper, "SYNONYM"),
+            (Mark::System, Case::Upper, "SYSTEM"),
         ],
         b't' => &[
-            (Mark::Task, "task"),
-            (Mark::Timer, "timer"),
-            (Mark::To, "to"),
-            (Mark::True, "true"),
+            (Mark::Task, Case::Lower, "task"),
+            (Mark::Timer, Case::Lower, "timer"),
+            (Mark::To, Case::Lower, "to"),
+            (Mark::True, Case::Lower, "true"),
         ],
         b'T' => &[
-            (Mark::Task, "TASK"),
-            (Mark::Timer, "TIMER"),
-            (Mark::To, "TO"),
-            (Mark::True, "TRUE"),
-            (Mark::True, "True"),
+            (Mark::Task, Case::Upper, "TASK"),
+            (Mark::Timer, Case::Upper, "TIMER"),
+            (Mark::To, Case::Upper, "TO"),
+            (Mark::True, Case::Upper, "TRUE"),
+            (Mark::True, Case::Capital, "True"),
         ],
-        b'w' => &[(Mark::With, "with")],
-        b'W' => &[(Mark::With, "WITH")],
-        b'x' => &[(Mark::Xor, "xor")],
-        b'X' => &[(Mark::Xor, "XOR")],
+        b'w' => &[(Mark::With, Case::Lower, "with")],
+        b'W' => &[(Mark::With, Case::Upper, "WITH")],
+        b'x' => &[(Mark::Xor, Case::Lower, "xor")],
+        b'X' => &[(Mark::Xor, Case::Upper, "XOR")],
         _ => &[],
     }
 }
@@ -281,22 +315,22 @@ fn left_out_from(first: u8) -> &'static [(&'static str, &'static str)]
     }
 }
 
-static SIGNS: [(Mark, &str); 17] = [
-    (Mark::Assign, ":="),
-    (Mark::NotEqual, "/="),
-    (Mark::LessOrEqual, "<="),
-    (Mark::GreaterOrEqual, ">="),
-    (Mark::Implies, "=>"),
-    (Mark::Open, "("),
-    (Mark::Close, ")"),
-    (Mark::Comma, ","),
-    (Mark::Semicolon, ";"),
-    (Mark::Colon, ":"),
-    (Mark::Equal, "="),
-    (Mark::Less, "<"),
-    (Mark::Greater, ">"),
-    (Mark::Plus, "+"),
-    (Mark::Minus, "-"),
-    (Mark::Asterisk, "*"),
-    (Mark::Slash, "/"),
+static SIGNS: [Mark; 17] = [
+    Mark::Assign,
+    Mark::NotEqual,
+    Mark::LessOrEqual,
+    Mark::GreaterOrEqual,
+    Mark::Implies,
+    Mark::Open,
+    Mark::Close,
+    Mark::Comma,
+    Mark::Semicolon,
+    Mark::Colon,
+    Mark::Equal,
+    Mark::Less,
+    Mark::Greater,
+    Mark::Plus,
+    Mark::Minus,
+    Mark::Asterisk,
+    Mark::Slash,
 ];

@@ -1,11 +1,16 @@
 //! What holds of the definitions: laws and examples, as functions that do nothing.
 
-ghost use Rattle.sdl_tree.specs.Examples.{BlockSpelled, GroupsToTheLeft, NegatesTheFirst, NotToTheRight, ProcessSpelled, StateSpelled, SystemSpelled, SystemWritten, TransitionSpelled};
-ghost use Rattle.sdl_tree.specs.Laws.{CanonicalSpells, NoConditionOnPriority, SignsAreFixed, TextsAreFixed};
+ghost use Rattle.sdl_tree.specs.Examples.{BlockSpelled, IsOneChain, NegatesTheFirst, NotInAnother, PlacesKept, ProcessSpelled, StateSpelled, SystemSpelled, SystemWritten, TransitionSpelled};
+ghost use Rattle.sdl_tree.specs.Laws.{CanonicalSpells, ErasedOnce, NoConditionOnPriority, SignsAreFixed, TextsAreFixed, WordsAreSpelled};
 
-/// The canonical words of a tree that some words spell spell it too.
+/// The canonical words of a tree that some words spell spell it too, but for places and spellings.
 pub fn canonical_spells()
     ensures { CanonicalSpells }
+{}
+
+/// What is erased twice is erased.
+pub fn erased_once()
+    ensures { ErasedOnce }
 {}
 
 /// A token of the kind `Mark` means a mark, and never a name.
@@ -16,6 +21,11 @@ pub fn signs_are_fixed()
 /// The text of a mark means the mark.
 pub fn texts_are_fixed()
     ensures { TextsAreFixed }
+{}
+
+/// A word is spelled as its token is, in whatever case, and stands where it does.
+pub fn words_are_spelled()
+    ensures { WordsAreSpelled }
 {}
 
 /// No `provided` stands right behind the end of a priority input.
@@ -29,6 +39,11 @@ pub fn spells_a_system()
     ensures written { SystemWritten }
 {}
 
+/// A system with a block on its second line, with the place of each word that the tree keeps.
+pub fn keeps_places()
+    ensures { PlacesKept }
+{}
+
 /// A block, a process, a state and a transition with each form of what they can hold.
 pub fn spells_each_form()
     ensures block { BlockSpelled }
@@ -37,9 +52,9 @@ pub fn spells_each_form()
     ensures transition { TransitionSpelled }
 {}
 
-/// Operators of one level group to the left, and `not` belongs to the primary behind it.
+/// Operators of one looseness stand in one chain, and `not` belongs to the primary behind it.
 pub fn groups_operators()
-    ensures left { GroupsToTheLeft }
-    ensures not_right { NotToTheRight }
+    ensures one_chain { IsOneChain }
+    ensures not_nested { NotInAnother }
     ensures negated { NegatesTheFirst }
 {}

@@ -1,8 +1,9 @@
 //! The tree of a specification in SDL/PR, as public data, and the definitions of which text spells which tree.
 //!
 //! `specs/` has the grammar of the language (Z.106) as a relation between words and trees: `Words` says what each
-//! token of a text means, `Tree` what a tree is without its places, `Spells` which words spell which tree, and
-//! `Canonical` which words a tree is written with. The canonical words of a tree spell it.
+//! token of a text means, how it is spelled and where it stands, `Views` which tree of the grammar a public tree is,
+//! `Spells` which words spell which tree, `Erased` what a tree is but for places and spellings, and `Canonical` which
+//! words such a tree is written with. The canonical words of a tree spell it.
 #![tactic(auto)]
 
 mod behaviour;
@@ -27,6 +28,6 @@ pub use definitions::{
     Tree, VariableGroup,
 };
 pub use expressions::{Applied, Chain, Expression, KeywordValue, Link, Operator, UnaryOperator};
-pub use keyword::{is_reserved, keyword_of, left_out, sign_of};
-pub use mark::Mark;
+pub use keyword::{Keyword, is_reserved, keyword_of, left_out, sign_of};
+pub use mark::{Case, Mark};
 pub use name::{Name, Number, SortName, Spelling};

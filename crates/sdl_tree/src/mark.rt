@@ -103,7 +103,27 @@ pub enum Mark {
     Slash,
 }
 
+/// How a keyword is spelled: in lower case, in upper case, or (a literal) with a capital first letter. Every other mark
+/// has one spelling, `Lower`.
+#[derive(Clone, Copy, Debug, PartialEq, Eq)]
+pub enum Case {
+    Lower,
+    Upper,
+    Capital,
+}
+
 impl Mark {
+    /// The mark as it is written in this spelling.
+    pub fn spelled(self, case: Case) -> &'static str
+        ensures { result.now ≡ spec.spelled self case }
+    {
+        match case {
+            Case::Lower => self.text(),
+            Case::Upper => self.in_upper_case(),
+            Case::Capital => self.with_capital(),
+        }
+    }
+
     /// The mark as it is written: words in lower case.
     pub fn text(self) -> &'static str
         ensures { result.now ≡ spec.text self }
@@ -183,6 +203,83 @@ impl Mark {
             Mark::Minus => "-",
             Mark::Asterisk => "*",
             Mark::Slash => "/",
+        }
+    }
+
+    fn in_upper_case(self) -> &'static str
+        ensures { result.now ≡ spec.in_upper_case (spec.text self) }
+    {
+        match self {
+            Mark::Active => "ACTIVE",
+            Mark::And => "AND",
+            Mark::Block => "BLOCK",
+            Mark::Channel => "CHANNEL",
+            Mark::Comment => "COMMENT",
+            Mark::Connect => "CONNECT",
+            Mark::Connection => "CONNECTION",
+            Mark::Create => "CREATE",
+            Mark::Dcl => "DCL",
+            Mark::Decision => "DECISION",
+            Mark::Else => "ELSE",
+            Mark::EndBlock => "ENDBLOCK",
+            Mark::EndChannel => "ENDCHANNEL",
+            Mark::EndConnection => "ENDCONNECTION",
+            Mark::EndDecision => "ENDDECISION",
+            Mark::EndProcess => "ENDPROCESS",
+            Mark::EndState => "ENDSTATE",
+            Mark::EndSystem => "ENDSYSTEM",
+            Mark::Env => "ENV",
+            Mark::Fpar => "FPAR",
+            Mark::From => "FROM",
+            Mark::Input => "INPUT",
+            Mark::Join => "JOIN",
+            Mark::Mod => "MOD",
+            Mark::NextState => "NEXTSTATE",
+            Mark::NoDelay => "NODELAY",
+            Mark::Not => "NOT",
+            Mark::Now => "NOW",
+            Mark::Offspring => "OFFSPRING",
+            Mark::Or => "OR",
+            Mark::Output => "OUTPUT",
+            Mark::Parent => "PARENT",
+            Mark::Priority => "PRIORITY",
+            Mark::Process => "PROCESS",
+            Mark::Provided => "PROVIDED",
+            Mark::Rem => "REM",
+            Mark::Reset => "RESET",
+            Mark::Save => "SAVE",
+            Mark::SelfPid => "SELF",
+            Mark::Sender => "SENDER",
+            Mark::Set => "SET",
+            Mark::Signal => "SIGNAL",
+            Mark::SignalList => "SIGNALLIST",
+            Mark::SignalSet => "SIGNALSET",
+            Mark::Start => "START",
+            Mark::State => "STATE",
+            Mark::Stop => "STOP",
+            Mark::Synonym => "SYNONYM",
+            Mark::System => "SYSTEM",
+            Mark::Task => "TASK",
+            Mark::Timer => "TIMER",
+            Mark::To => "TO",
+            Mark::With => "WITH",
+            Mark::Xor => "XOR",
+            Mark::True => "TRUE",
+            Mark::False => "FALSE",
+            Mark::Null => "NULL",
+            sign => sign.text(),
+        }
+    }
+
+    /// A literal with a capital first letter, and every other mark as `text` has it.
+    fn with_capital(self) -> &'static str
+        ensures { result.now ≡ spec.with_capital self }
+    {
+        match self {
+            Mark::True => "True",
+            Mark::False => "False",
+            Mark::Null => "Null",
+            other => other.text(),
         }
     }
 }

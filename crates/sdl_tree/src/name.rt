@@ -1,8 +1,9 @@
 //! What the tree keeps of a single token: its spelling and its place.
 
-ghost use Rattle.std.specs.Prelude.{◌≡◌};
-ghost use Rattle.sdl_tree.specs.Views.{plain_sort};
+ghost use Rattle.std.specs.Prelude.{◌≡◌, string_bytes};
+ghost use Rattle.sdl_tree.specs.Spells.Parts.{sort_of};
 
+use crate::mark::Case;
 use sdl_lex::Place;
 
 /// A name as the text spells it, and where it stands.
@@ -21,7 +22,7 @@ pub struct SortName {
 impl SortName {
     /// The sort's one name: `Pid` for `PId`.
     pub fn text(&self) -> &str
-        ensures { result.now ≡ plain_sort self.now }
+        ensures { result.now ≡ sort_of (string_bytes self.now.spelled.text) }
     {
         let spelled = self.spelled.text.as_str();
         if spelled == "PId" { "Pid" } else { spelled }
@@ -35,10 +36,9 @@ pub struct Number {
     pub digits: Name,
 }
 
-/// A keyword or a mark as the text spells it, and where it stands. A keyword has two spellings, in lower and in
-/// upper case, and a literal a third with a capital first letter.
-#[derive(Clone, Copy, Debug)]
+/// A keyword or a mark as the text has it: its spelling, and where it stands.
+#[derive(Clone, Copy, Debug, PartialEq, Eq)]
 pub struct Spelling {
-    pub text: &'static str,
+    pub case: Case,
     pub place: Place,
 }

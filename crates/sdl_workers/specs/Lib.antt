@@ -1,6 +1,7 @@
-pub mod Global
-pub mod Course
-pub mod Report
-pub mod Records
 pub mod Around
+pub mod Course
+pub mod ErrorText
+pub mod Global
+pub mod Records
+pub mod Report
 pub mod Serial

@@ -1,3 +1,5 @@
+//! A serial run of all initial instances.
+
 ghost use Rattle.std.specs.Prelude.{◌≡◌, IfOk, IfErr, List};
 ghost use Rattle.sdl_system.specs.Behaviour.{Behaviour};
 ghost use Rattle.sdl_workers.specs.Global.{AreBehaviours};

@@ -1,11 +1,11 @@
 //! Definitions: a run knows signals, variables, and one process without counts and parameters.
 
-ghost use Rattle.std.specs.Prelude.{◌≡◌, ◌≤◌, ◌+◌, [], None, count_by, is_none, is_some, map, option_map, IfErr, IfOk, IsTrue};
+ghost use Rattle.std.specs.Prelude.{◌≡◌, ◌≤◌, false, None, count_by, map, option_map, IfOk};
 ghost use Rattle.sdl_core.specs.Core as core;
-ghost use Rattle.sdl_core.specs.Narrows.{Narrows};
-ghost use Rattle.sdl_core.specs.Run.{are_none, are_run_definitions, is_process, is_run_definition, is_run_group, is_run_local, is_run_process, one_if};
-ghost use Rattle.sdl_core.specs.Views.{plain_definition, plain_local, plain_process, plain_variables};
-ghost use Rattle.sdl_tree.specs.Tree as plain;
+ghost use Rattle.sdl_core.specs.Narrows.{Tells};
+ghost use Rattle.sdl_core.specs.Run.{first_if_there, first_in_counts, first_in_definition, first_in_definitions, first_in_fpar, first_in_group, first_in_local, first_in_process, has_process_behind, process_word, second_process};
+ghost use Rattle.sdl_core.specs.Views.{definition_value, local_value, process_value, variables_value};
+ghost use Rattle.sdl_tree.specs.Tree as tree;
 ghost use Rattle.sdl_tree.specs.Views as whole;
 
 use crate::behaviour::Start;
@@ -20,7 +20,8 @@ pub fn definitions(
     alloc: Global,
     definitions: Vec<SystemDefinition>,
 ) -> Result<Vec<Definition>, NotRun>
-    ensures narrowed { Narrows (λ list. map plain_definition list.items) are_run_definitions (map whole.plain_system_definition definitions.items) result }
+    ensures same { IfOk result (λ list. map definition_value list.items ≡ map whole.system_definition_value definitions.items) }
+    ensures told { Tells (first_in_definitions false (map whole.system_definition_value definitions.items)) result }
     ensures one_process { IfOk result (λ list. count_by core.is_process list.items ≤ 1) }
 {
     let mut narrowed = Vec::new(alloc);
@@ -34,9 +35,8 @@ pub fn definitions(
 
 /// Whether there is a process, with one more definition. A second process is refused.
 fn has_process_with(has_process: bool, definition: &SystemDefinition) -> Result<bool, NotRun>
-    ensures counted { IfOk result (λ has_one. one_if has_one ≡ one_if has_process + one_if (is_process (whole.plain_system_definition definition.now))) }
-    ensures first { IfErr result (λ _. IsTrue has_process) }
-    ensures second { IfErr result (λ _. IsTrue (is_process (whole.plain_system_definition definition.now))) }
+    ensures behind { IfOk result (λ has_one. has_one ≡ has_process_behind has_process (process_word (whole.system_definition_value definition.now))) }
+    ensures told { Tells (second_process has_process (process_word (whole.system_definition_value definition.now))) result }
 {
     match process_word(definition) {
         None => Ok(has_process),
@@ -52,7 +52,7 @@ fn has_process_with(has_process: bool, definition: &SystemDefinition) -> Result<
 
 /// The word `process` of a definition that is a process.
 fn process_word(definition: &SystemDefinition) -> Option<Spelling>
-    ensures { is_some result ≡ is_process (whole.plain_system_definition definition.now) }
+    ensures { result ≡ process_word (whole.system_definition_value definition.now) }
 {
     match definition {
         SystemDefinition::Shared(sdl_tree::Definition::Process(process)) => Some(process.word),
@@ -63,13 +63,13 @@ fn process_word(definition: &SystemDefinition) -> Option<Spelling>
 impl Narrow for SystemDefinition {
     type Core = Definition;
 
-    ghost Plain = { plain.SystemDefinition };
+    ghost Node = { tree.SystemDefinition };
 
-    ghost view = { whole.plain_system_definition };
+    ghost view = { whole.system_definition_value };
 
-    ghost core_view = { plain_definition };
+    ghost core_view = { definition_value };
 
-    ghost is_run = { is_run_definition };
+    ghost first = { first_in_definition };
 
     fn narrow(self, alloc: Global) -> Result<Definition, NotRun> {
         match self {
@@ -80,7 +80,8 @@ impl Narrow for SystemDefinition {
 }
 
 fn shared(alloc: Global, definition: sdl_tree::Definition) -> Result<Definition, NotRun>
-    ensures { Narrows plain_definition is_run_definition (plain.InSystem (whole.plain_definition definition)) result }
+    ensures same { IfOk result (λ narrowed. definition_value narrowed ≡ tree.InSystem (whole.definition_value definition)) }
+    ensures told { Tells (first_in_definition (tree.InSystem (whole.definition_value definition))) result }
 {
     match definition {
         sdl_tree::Definition::Signals(signals) => Ok(Definition::Signals(signals)),
@@ -100,17 +101,17 @@ fn shared(alloc: Global, definition: sdl_tree::Definition) -> Result<Definition,
 impl Narrow for sdl_tree::ProcessDefinition {
     type Core = ProcessDefinition;
 
-    ghost Plain = { plain.ProcessDefinition };
+    ghost Node = { tree.ProcessDefinition };
 
-    ghost view = { whole.plain_process };
+    ghost view = { whole.process_value };
 
-    ghost core_view = { plain_process };
+    ghost core_view = { process_value };
 
-    ghost is_run = { is_run_process };
+    ghost first = { first_in_process };
 
     fn narrow(self, alloc: Global) -> Result<ProcessDefinition, NotRun> {
         let sdl_tree::ProcessDefinition {
-            word: _,
+            word,
             name,
             counts,
             parameters,
@@ -124,6 +125,7 @@ impl Narrow for sdl_tree::ProcessDefinition {
         let transition = start.transition.narrow(alloc)?;
         let states = narrow_all(alloc, body)?;
         Ok(ProcessDefinition {
+            word,
             name,
             definitions,
             start: Start {
@@ -137,7 +139,8 @@ impl Narrow for sdl_tree::ProcessDefinition {
 
 /// That no counts stand.
 fn no_counts(counts: Option<Counts>) -> Result<(), NotRun>
-    ensures { Narrows (λ _. None) is_none (option_map whole.plain_counts counts) result }
+    ensures same { IfOk result (λ _. None ≡ option_map whole.counts_value counts) }
+    ensures told { Tells (first_if_there first_in_counts (option_map whole.counts_value counts)) result }
 {
     match counts {
         None => Ok(()),
@@ -145,32 +148,27 @@ fn no_counts(counts: Option<Counts>) -> Result<(), NotRun>
     }
 }
 
-/// That no parameters stand. A list without a group has none.
+/// That no parameters stand.
 fn no_parameters(parameters: Option<FormalParameters>) -> Result<(), NotRun>
-    ensures { Narrows (λ _. []) are_none (whole.plain_fpar parameters) result }
+    ensures same { IfOk result (λ _. None ≡ option_map whole.fpar_value parameters) }
+    ensures told { Tells (first_if_there first_in_fpar (option_map whole.fpar_value parameters)) result }
 {
     match parameters {
         None => Ok(()),
-        Some(parameters) => {
-            if parameters.groups.is_empty() {
-                Ok(())
-            } else {
-                Err(NotRun::LeftOut(parameters.word.place, Mark::Fpar))
-            }
-        }
+        Some(parameters) => Err(NotRun::LeftOut(parameters.word.place, Mark::Fpar)),
     }
 }
 
 impl Narrow for sdl_tree::LocalDefinition {
     type Core = LocalDefinition;
 
-    ghost Plain = { plain.LocalDefinition };
+    ghost Node = { tree.LocalDefinition };
 
-    ghost view = { whole.plain_local };
+    ghost view = { whole.local_value };
 
-    ghost core_view = { plain_local };
+    ghost core_view = { local_value };
 
-    ghost is_run = { is_run_local };
+    ghost first = { first_in_local };
 
     fn narrow(self, alloc: Global) -> Result<LocalDefinition, NotRun> {
         match self {
@@ -197,13 +195,13 @@ impl Narrow for sdl_tree::LocalDefinition {
 impl Narrow for sdl_tree::VariableGroup {
     type Core = VariableGroup;
 
-    ghost Plain = { plain.VariableGroup };
+    ghost Node = { tree.VariableGroup };
 
-    ghost view = { whole.plain_variables };
+    ghost view = { whole.variables_value };
 
-    ghost core_view = { plain_variables };
+    ghost core_view = { variables_value };
 
-    ghost is_run = { is_run_group };
+    ghost first = { first_in_group };
 
     fn narrow(self, alloc: Global) -> Result<VariableGroup, NotRun> {
         let sdl_tree::VariableGroup {

@@ -1,11 +1,10 @@
 //! Expressions: a run knows numbers, names, parentheses, negation, sums and differences.
 
-ghost use Rattle.std.specs.Prelude.{◌≡◌, ◌≢◌, false, fold, IfErr, IfOk};
-ghost use Rattle.sdl_core.specs.Narrows.{Narrows};
-ghost use Rattle.sdl_core.specs.Run.{is_run_expr, is_run_operator};
-ghost use Rattle.sdl_core.specs.Views.{plain_expr, plain_link, plain_operator};
-ghost use Rattle.sdl_core.specs.declared.not_run.NotRun.TheVariants.{Memory};
-ghost use Rattle.sdl_tree.specs.Tree as plain;
+ghost use Rattle.std.specs.Prelude.{◌≡◌, map, IfOk};
+ghost use Rattle.sdl_core.specs.Narrows.{Tells};
+ghost use Rattle.sdl_core.specs.Run.{first_in_expr, first_in_link, first_in_list, first_in_operator};
+ghost use Rattle.sdl_core.specs.Views.{expr_value, link_value, operator_value};
+ghost use Rattle.sdl_tree.specs.Tree as tree;
 ghost use Rattle.sdl_tree.specs.Views as whole;
 
 use crate::expressions::{Chain, Expression, Link, Operator};
@@ -17,13 +16,13 @@ use std::alloc::Global;
 impl Narrow for sdl_tree::Expression {
     type Core = Expression;
 
-    ghost Plain = { plain.Expr };
+    ghost Node = { tree.Expr };
 
-    ghost view = { whole.plain_expr };
+    ghost view = { whole.expr_value };
 
-    ghost core_view = { plain_expr };
+    ghost core_view = { expr_value };
 
-    ghost is_run = { is_run_expr };
+    ghost first = { first_in_expr };
 
     fn narrow(self, alloc: Global) -> Result<Expression, NotRun> {
         expression(alloc, self)
@@ -32,7 +31,8 @@ impl Narrow for sdl_tree::Expression {
 
 #[cycle(expression)]
 fn expression(alloc: Global, expression: sdl_tree::Expression) -> Result<Expression, NotRun>
-    ensures { Narrows plain_expr is_run_expr (whole.plain_expr expression) result }
+    ensures same { IfOk result (λ narrowed. expr_value narrowed ≡ whole.expr_value expression) }
+    ensures told { Tells (first_in_expr (whole.expr_value expression)) result }
 {
     match expression {
         sdl_tree::Expression::Number(number) => Ok(Expression::Number(number)),
@@ -73,7 +73,8 @@ fn expression(alloc: Global, expression: sdl_tree::Expression) -> Result<Express
 
 #[cycle(expression)]
 fn chain(alloc: Global, chain: sdl_tree::Chain) -> Result<Expression, NotRun>
-    ensures { Narrows plain_expr is_run_expr (whole.plain_chain chain) result }
+    ensures same { IfOk result (λ narrowed. expr_value narrowed ≡ whole.chain_value chain) }
+    ensures told { Tells (first_in_expr (whole.chain_value chain)) result }
 {
     let sdl_tree::Chain { first, rest } = chain;
     let first = expression(alloc, first)?;
@@ -81,11 +82,11 @@ fn chain(alloc: Global, chain: sdl_tree::Chain) -> Result<Expression, NotRun>
     Ok(Expression::Chain(Box::new(alloc, Chain { first, rest })?))
 }
 
-/// Operators with their operands make the same of each term on their left, or they make of none a term that is run.
+/// Narrows operators with the operands behind them.
 #[cycle(expression)]
 fn links(alloc: Global, links: Vec<sdl_tree::Link>) -> Result<Vec<Link>, NotRun>
-    ensures narrowed { IfOk result (λ list. (left : plain.Expr) → fold plain_link left list.items ≡ fold whole.plain_link left links.items) }
-    ensures refused { IfErr result (λ refusal. refusal ≢ Memory → (left : plain.Expr) → is_run_expr (fold whole.plain_link left links.items) ≡ false) }
+    ensures same { IfOk result (λ list. map link_value list.items ≡ map whole.link_value links.items) }
+    ensures told { Tells (first_in_list first_in_link (map whole.link_value links.items)) result }
 {
     let mut narrowed = Vec::new(alloc);
     for link in links {
@@ -106,7 +107,8 @@ fn links(alloc: Global, links: Vec<sdl_tree::Link>) -> Result<Vec<Link>, NotRun>
 }
 
 fn additive(operator: sdl_tree::Operator, word: Spelling) -> Result<Operator, NotRun>
-    ensures { Narrows plain_operator is_run_operator operator result }
+    ensures same { IfOk result (λ narrowed. operator_value narrowed ≡ operator) }
+    ensures told { Tells (first_in_operator operator word) result }
 {
     match operator {
         sdl_tree::Operator::Plus => Ok(Operator::Plus),

@@ -1,10 +1,10 @@
 //! States: a run knows lists of states, and inputs of named signals without a condition.
 
-ghost use Rattle.std.specs.Prelude.{map};
-ghost use Rattle.sdl_core.specs.Narrows.{Narrows};
-ghost use Rattle.sdl_core.specs.Run.{are_run_inputs, are_run_states, is_run_part, is_run_stimulus};
-ghost use Rattle.sdl_core.specs.Views.{plain_state, plain_stimulus};
-ghost use Rattle.sdl_tree.specs.Tree as plain;
+ghost use Rattle.std.specs.Prelude.{◌≡◌, map, IfOk};
+ghost use Rattle.sdl_core.specs.Narrows.{Tells};
+ghost use Rattle.sdl_core.specs.Run.{first_in_inputs, first_in_states, first_in_part, first_in_stimulus};
+ghost use Rattle.sdl_core.specs.Views.{state_value, stimulus_value};
+ghost use Rattle.sdl_tree.specs.Tree as tree;
 ghost use Rattle.sdl_tree.specs.Views as whole;
 ghost use Rattle.sdl_tree.specs.declared.behaviour.BodyPart.TheVariants as body;
 ghost use Rattle.sdl_tree.specs.declared.behaviour.Stimulus.TheVariants as stimulus;
@@ -18,13 +18,13 @@ use std::alloc::Global;
 impl Narrow for BodyPart {
     type Core = StatePart;
 
-    ghost Plain = { plain.BodyPart };
+    ghost Node = { tree.BodyPart };
 
-    ghost view = { whole.plain_body_part };
+    ghost view = { whole.body_part_value };
 
-    ghost core_view = { plain_state };
+    ghost core_view = { state_value };
 
-    ghost is_run = { is_run_part };
+    ghost first = { first_in_part };
 
     fn narrow(self, alloc: Global) -> Result<StatePart, NotRun> {
         match self {
@@ -37,7 +37,8 @@ impl Narrow for BodyPart {
 }
 
 fn state(alloc: Global, part: sdl_tree::StatePart) -> Result<StatePart, NotRun>
-    ensures { Narrows plain_state is_run_part (whole.plain_body_part (body.State part)) result }
+    ensures same { IfOk result (λ narrowed. state_value narrowed ≡ whole.body_part_value (body.State part)) }
+    ensures told { Tells (first_in_part (whole.body_part_value (body.State part))) result }
 {
     let sdl_tree::StatePart { states, stimuli } = part;
     let names = names(states)?;
@@ -46,7 +47,8 @@ fn state(alloc: Global, part: sdl_tree::StatePart) -> Result<StatePart, NotRun>
 }
 
 fn names(states: States) -> Result<Vec<Name>, NotRun>
-    ensures { Narrows (λ list. plain.StateList (whole.plain_names list.items)) are_run_states (whole.plain_states states) result }
+    ensures same { IfOk result (λ list. tree.StateList (whole.names_value list.items) ≡ whole.states_value states) }
+    ensures told { Tells (first_in_states (whole.states_value states)) result }
 {
     match states {
         States::Named(names) => Ok(names),
@@ -60,13 +62,13 @@ fn names(states: States) -> Result<Vec<Name>, NotRun>
 impl Narrow for sdl_tree::Stimulus {
     type Core = Stimulus;
 
-    ghost Plain = { plain.Stimulus };
+    ghost Node = { tree.Stimulus };
 
-    ghost view = { whole.plain_stimulus };
+    ghost view = { whole.stimulus_value };
 
-    ghost core_view = { plain_stimulus };
+    ghost core_view = { stimulus_value };
 
-    ghost is_run = { is_run_stimulus };
+    ghost first = { first_in_stimulus };
 
     fn narrow(self, alloc: Global) -> Result<Stimulus, NotRun> {
         match self {
@@ -83,7 +85,8 @@ impl Narrow for sdl_tree::Stimulus {
 }
 
 fn input(alloc: Global, part: sdl_tree::InputPart) -> Result<Stimulus, NotRun>
-    ensures { Narrows plain_stimulus is_run_stimulus (whole.plain_stimulus (stimulus.Input part)) result }
+    ensures same { IfOk result (λ narrowed. stimulus_value narrowed ≡ whole.stimulus_value (stimulus.Input part)) }
+    ensures told { Tells (first_in_stimulus (whole.stimulus_value (stimulus.Input part))) result }
 {
     let sdl_tree::InputPart {
         word,
@@ -106,7 +109,8 @@ fn input(alloc: Global, part: sdl_tree::InputPart) -> Result<Stimulus, NotRun>
 }
 
 fn inputs(inputs: Inputs) -> Result<Vec<Input>, NotRun>
-    ensures { Narrows (λ list. plain.InputList (map whole.plain_input list.items)) are_run_inputs (whole.plain_inputs inputs) result }
+    ensures same { IfOk result (λ list. tree.InputList (map whole.input_value list.items) ≡ whole.inputs_value inputs) }
+    ensures told { Tells (first_in_inputs (whole.inputs_value inputs)) result }
 {
     match inputs {
         Inputs::Listed(inputs) => Ok(inputs),

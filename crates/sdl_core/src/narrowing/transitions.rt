@@ -1,11 +1,10 @@
 //! Transitions: a run knows tasks, outputs without a destination, `nextstate` and `stop`, all of them without labels.
 
-ghost use Rattle.std.specs.Prelude.{None, is_none, map, option_map};
-ghost use Rattle.sdl_core.specs.Narrows.{Narrows};
-ghost use Rattle.sdl_core.specs.Run.{is_run_assignment, is_run_applied, is_run_action, is_run_terminator, is_run_ending, is_run_transition};
-ghost use Rattle.sdl_core.specs.Statement.{Statement, plain_statement, unlabelled, is_run_statement};
-ghost use Rattle.sdl_core.specs.Views.{plain_assignment, plain_output, plain_action, plain_terminator, plain_ending, plain_transition};
-ghost use Rattle.sdl_tree.specs.Tree as plain;
+ghost use Rattle.std.specs.Prelude.{◌≡◌, None, map, option_map, IfOk};
+ghost use Rattle.sdl_core.specs.Narrows.{Tells};
+ghost use Rattle.sdl_core.specs.Run.{first_in_action, first_in_applied, first_in_assignment, first_in_ending, first_in_statement, first_in_terminator, first_in_transition};
+ghost use Rattle.sdl_core.specs.Views.{assignment_value, output_value, action_value, terminator_value, ending_value, transition_value, unlabelled};
+ghost use Rattle.sdl_tree.specs.Tree as tree;
 ghost use Rattle.sdl_tree.specs.Views as whole;
 
 use crate::behaviour::{Action, Assignment, Output, Terminator, Transition};
@@ -17,13 +16,13 @@ use std::alloc::Global;
 impl Narrow for sdl_tree::Transition {
     type Core = Transition;
 
-    ghost Plain = { plain.Transition };
+    ghost Node = { tree.Transition };
 
-    ghost view = { whole.plain_transition };
+    ghost view = { whole.transition_value };
 
-    ghost core_view = { plain_transition };
+    ghost core_view = { transition_value };
 
-    ghost is_run = { is_run_transition };
+    ghost first = { first_in_transition };
 
     fn narrow(self, alloc: Global) -> Result<Transition, NotRun> {
         let sdl_tree::Transition {
@@ -42,13 +41,13 @@ impl Narrow for sdl_tree::Transition {
 impl Narrow for sdl_tree::ActionStatement {
     type Core = Action;
 
-    ghost Plain = { Statement };
+    ghost Node = { tree.Statement };
 
-    ghost view = { plain_statement };
+    ghost view = { whole.statement_value };
 
     ghost core_view = { unlabelled };
 
-    ghost is_run = { is_run_statement };
+    ghost first = { first_in_statement };
 
     fn narrow(self, alloc: Global) -> Result<Action, NotRun> {
         let sdl_tree::ActionStatement {
@@ -62,7 +61,8 @@ impl Narrow for sdl_tree::ActionStatement {
 
 /// That no label stands.
 fn no_label(label: Option<Name>) -> Result<(), NotRun>
-    ensures { Narrows (λ _. None) is_none (option_map whole.plain_name label) result }
+    ensures same { IfOk result (λ _. None ≡ option_map whole.name_value label) }
+    ensures told { Tells (option_map whole.name_value label) result }
 {
     match label {
         None => Ok(()),
@@ -71,7 +71,8 @@ fn no_label(label: Option<Name>) -> Result<(), NotRun>
 }
 
 fn action(alloc: Global, action: sdl_tree::Action) -> Result<Action, NotRun>
-    ensures { Narrows plain_action is_run_action (whole.plain_action action) result }
+    ensures same { IfOk result (λ narrowed. action_value narrowed ≡ whole.action_value action) }
+    ensures told { Tells (first_in_action (whole.action_value action)) result }
 {
     match action {
         sdl_tree::Action::Task { word, assignments } => {
@@ -110,7 +111,8 @@ fn output(
     outputs: Vec<Applied>,
     destination: Option<Destination>,
 ) -> Result<Action, NotRun>
-    ensures { Narrows plain_action is_run_action (plain.Output (map whole.plain_applied outputs.items) (option_map whole.plain_destination destination)) result }
+    ensures same { IfOk result (λ narrowed. action_value narrowed ≡ tree.Output word (map whole.applied_value outputs.items) (option_map whole.destination_value destination)) }
+    ensures told { Tells (first_in_action (tree.Output word (map whole.applied_value outputs.items) (option_map whole.destination_value destination))) result }
 {
     let outputs = narrow_all(alloc, outputs)?;
     match destination {
@@ -122,13 +124,13 @@ fn output(
 impl Narrow for sdl_tree::Assignment {
     type Core = Assignment;
 
-    ghost Plain = { plain.Assignment };
+    ghost Node = { tree.Assignment };
 
-    ghost view = { whole.plain_assignment };
+    ghost view = { whole.assignment_value };
 
-    ghost core_view = { plain_assignment };
+    ghost core_view = { assignment_value };
 
-    ghost is_run = { is_run_assignment };
+    ghost first = { first_in_assignment };
 
     fn narrow(self, alloc: Global) -> Result<Assignment, NotRun> {
         let sdl_tree::Assignment { variable, value } = self;
@@ -140,13 +142,13 @@ impl Narrow for sdl_tree::Assignment {
 impl Narrow for Applied {
     type Core = Output;
 
-    ghost Plain = { plain.Applied };
+    ghost Node = { tree.Applied };
 
-    ghost view = { whole.plain_applied };
+    ghost view = { whole.applied_value };
 
-    ghost core_view = { plain_output };
+    ghost core_view = { output_value };
 
-    ghost is_run = { is_run_applied };
+    ghost first = { first_in_applied };
 
     fn narrow(self, alloc: Global) -> Result<Output, NotRun> {
         let Applied { name, values } = self;
@@ -161,13 +163,13 @@ impl Narrow for Applied {
 impl Narrow for sdl_tree::TerminatorStatement {
     type Core = Terminator;
 
-    ghost Plain = { plain.Ending };
+    ghost Node = { tree.Ending };
 
-    ghost view = { whole.plain_ending };
+    ghost view = { whole.ending_value };
 
-    ghost core_view = { plain_ending };
+    ghost core_view = { ending_value };
 
-    ghost is_run = { is_run_ending };
+    ghost first = { first_in_ending };
 
     fn narrow(self, _alloc: Global) -> Result<Terminator, NotRun> {
         let sdl_tree::TerminatorStatement {
@@ -180,11 +182,15 @@ impl Narrow for sdl_tree::TerminatorStatement {
 }
 
 fn terminator(terminator: sdl_tree::Terminator) -> Result<Terminator, NotRun>
-    ensures { Narrows plain_terminator is_run_terminator (whole.plain_terminator terminator) result }
+    ensures same { IfOk result (λ narrowed. terminator_value narrowed ≡ whole.terminator_value terminator) }
+    ensures told { Tells (first_in_terminator (whole.terminator_value terminator)) result }
 {
     match terminator {
-        sdl_tree::Terminator::NextState { word: _, state } => Ok(Terminator::NextState(state)),
-        sdl_tree::Terminator::Stop { word: _ } => Ok(Terminator::Stop),
+        sdl_tree::Terminator::NextState { word, state } => Ok(Terminator::NextState {
+            word,
+            state,
+        }),
+        sdl_tree::Terminator::Stop { word } => Ok(Terminator::Stop { word }),
         sdl_tree::Terminator::Join {
             word,
             label: _label,

@@ -9,6 +9,7 @@ use crate::fault::{Faults, Kind, Token};
 use crate::resolve::names::Names;
 use port_model::Value;
 use sdl_core::{Chain, Expression, Link, Operator};
+use sdl_tree::Mark;
 
 /// The value of a constant expression, where it has one. What refuses it is noted.
 pub fn initial_value<'t>(
@@ -143,8 +144,8 @@ fn first_token(expression: &Expression) -> Token<'_> {
     match expression {
         Expression::Number(number) => Token::of_name(&number.digits),
         Expression::Name(name) => Token::of_name(name),
-        Expression::Parenthesized { parenthesis, .. } => Token::of_spelling(*parenthesis),
-        Expression::Negated { minus, .. } => Token::of_spelling(*minus),
+        Expression::Parenthesized { parenthesis, .. } => Token::of_mark(Mark::Open, *parenthesis),
+        Expression::Negated { minus, .. } => Token::of_mark(Mark::Minus, *minus),
         Expression::Chain(chain) => first_token(&chain.first),
     }
 }

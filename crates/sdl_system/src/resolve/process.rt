@@ -20,7 +20,7 @@ use crate::resolve::states::{Behaviour, state_names};
 use crate::resolve::transition::{or_stop, resolve_transition};
 use crate::resolve::variables::Variables;
 use sdl_core::{ProcessDefinition, Start, Terminator};
-use sdl_tree::NextState;
+use sdl_tree::{Mark, NextState};
 use std::alloc::{AllocError, Global};
 
 /// The process of this number, by its definition.
@@ -71,10 +71,16 @@ fn resolve_start<'t>(
     ensures begins { IfOk result (λ found. IfSome found (λ transition. transition.end ≢ End.Same)) }
     ensures below { IfOk result (λ found. IfSome found (EndsBelow (name_count scope.entry.states.now))) }
 {
-    let resolved = resolve_transition(alloc, scope, start.word, &start.transition, faults)?;
+    let word = Token::of_mark(Mark::Start, start.word);
+    let resolved = resolve_transition(alloc, scope, word, &start.transition, faults)?;
     match &start.transition.terminator {
-        Some(Terminator::NextState(NextState::Same(dash))) => {
-            faults.note(Kind::NoState, Token::of_spelling(*dash));
+        Some(
+            Terminator::NextState {
+                state: NextState::Same(dash),
+                ..
+            },
+        ) => {
+            faults.note(Kind::NoState, Token::of_mark(Mark::Minus, *dash));
             Ok(None)
         }
         _ => Ok(resolved),

@@ -22,7 +22,7 @@ use crate::resolve::scope::Scope;
 use crate::resolve::transition::{or_stop, resolve_transition};
 use port_model::{Class, Selection, SignalId};
 use sdl_core::{InputPart, StatePart, Stimulus};
-use sdl_tree::Name;
+use sdl_tree::{Mark, Name};
 use std::alloc::{AllocError, Global};
 
 /// The names of all states of a process, in the order in which its state lists first name them.
@@ -132,7 +132,8 @@ impl Behaviour {
         let Ok(number) = u32::try_from(self.transitions.len()) else {
             return Err(AllocError);
         };
-        let transition = resolve_transition(alloc, scope, part.word, &part.transition, faults)?;
+        let word = Token::of_mark(Mark::Input, part.word);
+        let transition = resolve_transition(alloc, scope, word, &part.transition, faults)?;
         let transition = or_stop(alloc, transition);
         self.transitions.push(transition)?;
         for input in &part.inputs {

@@ -15,7 +15,7 @@ use crate::resolve::expression::{resolve_expression, resolve_expressions};
 use crate::resolve::found::{if_all, push_found};
 use crate::resolve::scope::Scope;
 use sdl_core::{Action, Terminator};
-use sdl_tree::{NextState, Spelling};
+use sdl_tree::NextState;
 use std::alloc::{AllocError, Global};
 
 /// A transition with its names resolved, or None where a fault was noted in it. `word` begins what the
@@ -23,7 +23,7 @@ use std::alloc::{AllocError, Global};
 pub fn resolve_transition<'t>(
     alloc: Global,
     scope: Scope<'_, 't>,
-    word: Spelling,
+    word: Token<'t>,
     transition: &'t sdl_core::Transition,
     faults: &mut Faults<'t>,
 ) -> Result<Option<Transition>, AllocError>
@@ -74,7 +74,7 @@ pub fn or_stop(alloc: Global, found: Option<Transition>) -> Transition
 
 fn resolve_end<'t>(
     scope: Scope<'_, 't>,
-    word: Spelling,
+    word: Token<'t>,
     terminator: &'t Option<Terminator>,
     faults: &mut Faults<'t>,
 ) -> Option<End>
@@ -83,14 +83,24 @@ fn resolve_end<'t>(
     ensures below { IfSome result (IsEndBelow (name_count scope.entry.states.now)) }
 {
     match terminator {
-        Some(Terminator::Stop) => Some(End::Stop),
-        Some(Terminator::NextState(NextState::Same(_))) => Some(End::Same),
-        Some(Terminator::NextState(NextState::Named(name))) => match scope.state(name, faults) {
+        Some(Terminator::Stop { .. }) => Some(End::Stop),
+        Some(
+            Terminator::NextState {
+                state: NextState::Same(_),
+                ..
+            },
+        ) => Some(End::Same),
+        Some(
+            Terminator::NextState {
+                state: NextState::Named(name),
+                ..
+            },
+        ) => match scope.state(name, faults) {
             Some(state) => Some(End::NextState(state)),
             None => None,
         },
         None => {
-            faults.note(Kind::NoEnd, Token::of_spelling(word));
+            faults.note(Kind::NoEnd, word);
             None
         }
     }

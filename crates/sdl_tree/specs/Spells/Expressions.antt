@@ -1,5 +1,5 @@
 -- Which words spell which expression.
-use Rattle.std.specs.Prelude.{◌≡◌, ℕ, ◌-◌, ◌≤◌, zero, suc, ◌∷◌}
+use Rattle.std.specs.Prelude.{◌≡◌, ℕ, ◌⊎◌, zero, suc, List, ◌∷◌}
 use Rattle.sdl_tree.specs.declared.expressions.KeywordValue.{KeywordValue}
 use Rattle.sdl_tree.specs.declared.expressions.KeywordValue.TheVariants as value
 use Rattle.sdl_tree.specs.declared.expressions.UnaryOperator.{UnaryOperator}
@@ -8,10 +8,9 @@ use Rattle.sdl_tree.specs.declared.expressions.Operator.{Operator}
 use Rattle.sdl_tree.specs.declared.expressions.Operator.TheVariants as operator
 use Rattle.sdl_tree.specs.declared.mark.Mark.{Mark}
 use Rattle.sdl_tree.specs.declared.mark.Mark.TheVariants as mark
-use Rattle.sdl_tree.specs.Spells.Parts.{Words}
-use Rattle.sdl_tree.specs.Tree.{Expr, Numeral, Named, Keyword, Active, Paren, Unary, Binary, Exprs, NoExpr, AndExpr, Applied}
-use Rattle.sdl_tree.specs.Words.{Fixed}
-use Rattle.sdl_tree.specs.Words as word
+use Rattle.sdl_tree.specs.Spells.Parts.{IsMark, Both, Behind, Before, RepeatedOnce, InParentheses, SpellsName, SpellsNumber}
+use Rattle.sdl_tree.specs.Tree.{Expr, Numeral, Named, Keyword, Active, Paren, Unary, Chain, exprs_in, Link, links_in, Applied}
+use Rattle.sdl_tree.specs.Words.{Spot, Words}
 
 -- how many parentheses and decisions may stand inside each other
 abbrev pub limit : ℕ
@@ -71,47 +70,55 @@ looseness operator.Rem = 2
 abbrev pub loosest : ℕ
 loosest = 7
 
+-- primary = NUMBER | "true" | "false" | "null" | NAME | "now" | "self" | "parent" | "offspring" | "sender"
+--         | "active" "(" NAME [args] ")" | "(" expr ")"
+-- `Inner` says what expression may stand in the parentheses, and `Timer` what timer in those behind `active`.
+abbrev pub SpellsPrimary : (Expr → Words → Words → Type 0) → (Spot × List Expr → Words → Words → Type 0) → Expr → Words → Words → Type 0
+SpellsPrimary Inner Timer (Numeral n) i j = SpellsNumber n i j
+SpellsPrimary Inner Timer (Named x) i j = SpellsName x i j
+SpellsPrimary Inner Timer (Keyword v w) i j = IsMark (value_mark v) w i j
+SpellsPrimary Inner Timer (Active w timer values) i j =
+    Both (IsMark mark.Active) (Behind mark.Open (Before Timer mark.Close)) (w, (timer, exprs_in values)) i j
+SpellsPrimary Inner Timer (Paren w e) i j = Both (IsMark mark.Open) (Before Inner mark.Close) (w, e) i j
+SpellsPrimary Inner Timer (Unary o w e) i j = ⊥
+SpellsPrimary Inner Timer (Chain e links) i j = ⊥
+
+-- ("-" | "not") primary
+abbrev pub SpellsUnary : (Expr → Words → Words → Type 0) → Expr → Words → Words → Type 0
+SpellsUnary Operand (Unary o w e) i j = Both (IsMark (unary_mark o)) Operand (w, e) i j
+SpellsUnary Operand _ i j = ⊥
+
+-- an operator of this looseness and the operand behind it
+abbrev pub SpellsLink : (Expr → Words → Words → Type 0) → ℕ → Link → Words → Words → Type 0
+SpellsLink Operand loose l i j = (looseness l.operator ≡ loose) × Both (IsMark (operator_mark l.operator)) Operand (l.word, l.operand) i j
+
+-- operands with operators of this looseness between them
+abbrev pub SpellsChain : (Expr → Words → Words → Type 0) → ℕ → Expr → Words → Words → Type 0
+SpellsChain Operand loose (Chain e links) i j = Both Operand (RepeatedOnce (SpellsLink Operand loose)) (e, links_in links) i j
+SpellsChain Operand loose _ i j = ⊥
+
+-- an expression of at most this looseness
+abbrev pub SpellsAt : (Expr → Words → Words → Type 0) → (Spot × List Expr → Words → Words → Type 0) → ℕ → Expr → Words → Words → Type 0
+SpellsAt Inner Timer zero e i j = SpellsPrimary Inner Timer e i j
+SpellsAt Inner Timer (suc zero) e i j = SpellsPrimary Inner Timer e i j ⊎ SpellsUnary (SpellsPrimary Inner Timer) e i j
+SpellsAt Inner Timer (suc (suc k)) e i j = SpellsAt Inner Timer (suc k) e i j ⊎ SpellsChain (SpellsAt Inner Timer (suc k)) (suc (suc k)) e i j
+
 abbrev mutual
-  -- The expression has at most this looseness, and at most `depth` parentheses inside each other. Operators of one
-  -- looseness group to the left.
-  -- primary = NUMBER | "true" | "false" | "null" | NAME | "now" | "self" | "parent" | "offspring" | "sender"
-  --         | "active" "(" NAME [args] ")" | "(" expr ")"
-  pub SpellsAt : Expr → ℕ → ℕ → Words → Words → Type 0
-  SpellsAt (Numeral n) depth loose i j = i ≡ word.Number n ∷ j
-  SpellsAt (Named x) depth loose i j = i ≡ word.Name x ∷ j
-  SpellsAt (Keyword v) depth loose i j = i ≡ Fixed (value_mark v) ∷ j
-  SpellsAt (Active timer values) zero loose i j = ⊥
-  SpellsAt (Active timer values) (suc depth) loose i j = (m : Words)
-      × (i ≡ Fixed mark.Active ∷ Fixed mark.Open ∷ word.Name timer ∷ m) × SpellsInnerArgs values depth m (Fixed mark.Close ∷ j)
-  SpellsAt (Paren e) zero loose i j = ⊥
-  SpellsAt (Paren e) (suc depth) loose i j = (m : Words) × (i ≡ Fixed mark.Open ∷ m) × SpellsAt e depth loosest m (Fixed mark.Close ∷ j)
-  SpellsAt (Unary o e) depth loose i j = (1 ≤ loose) × (m : Words) × (i ≡ Fixed (unary_mark o) ∷ m) × SpellsAt e depth 0 m j
-  SpellsAt (Binary o a b) depth loose i j = (looseness o ≤ loose) × (m : Words)
-      × SpellsAt a depth (looseness o) i (Fixed (operator_mark o) ∷ m) × SpellsAt b depth (looseness o - 1) m j
+  -- What may stand in parentheses that count, where they and those in them are at most so many inside each other: with
+  -- none left, nothing.
+  pub SpellsInner : ℕ → Expr → Words → Words → Type 0
+  SpellsInner zero e i j = ⊥
+  SpellsInner (suc depth) e i j = SpellsAt (SpellsInner depth) (SpellsTimer depth) loosest e i j
 
-  -- [args] inside `active`, where the parentheses count
-  pub SpellsInnerArgs : Exprs → ℕ → Words → Words → Type 0
-  SpellsInnerArgs NoExpr depth i j = i ≡ j
-  SpellsInnerArgs (AndExpr e es) zero i j = ⊥
-  SpellsInnerArgs (AndExpr e es) (suc depth) i j = (m k : Words)
-      × (i ≡ Fixed mark.Open ∷ m) × SpellsAt e depth loosest m k × SpellsMoreExprs es depth k (Fixed mark.Close ∷ j)
+  -- NAME [args] behind `active`, where both pairs of parentheses count
+  pub SpellsTimer : ℕ → Spot × List Expr → Words → Words → Type 0
+  SpellsTimer zero t i j = ⊥
+  SpellsTimer (suc depth) t i j = Both SpellsName (InParentheses (SpellsInner depth)) t i j
 
-  -- {"," expr}
-  pub SpellsMoreExprs : Exprs → ℕ → Words → Words → Type 0
-  SpellsMoreExprs NoExpr depth i j = i ≡ j
-  SpellsMoreExprs (AndExpr e es) depth i j = (m k : Words)
-      × (i ≡ Fixed mark.Comma ∷ m) × SpellsAt e depth loosest m k × SpellsMoreExprs es depth k j
-
--- expr
+-- expr, with at most `depth` parentheses inside each other
 abbrev pub SpellsExpr : ℕ → Expr → Words → Words → Type 0
-SpellsExpr depth e i j = SpellsAt e depth loosest i j
+SpellsExpr depth e i j = SpellsAt (SpellsInner depth) (SpellsTimer depth) loosest e i j
 
--- [args], where args = "(" expr {"," expr} ")"
-abbrev pub SpellsArgs : ℕ → Exprs → Words → Words → Type 0
-SpellsArgs depth NoExpr i j = i ≡ j
-SpellsArgs depth (AndExpr e es) i j = (m k : Words)
-    × (i ≡ Fixed mark.Open ∷ m) × SpellsExpr depth e m k × SpellsMoreExprs es depth k (Fixed mark.Close ∷ j)
-
--- NAME [args]
+-- NAME [args], where args = "(" expr {"," expr} ")"
 abbrev pub SpellsApplied : ℕ → Applied → Words → Words → Type 0
-SpellsApplied depth a i j = (m : Words) × (i ≡ word.Name a.name ∷ m) × SpellsArgs depth a.values m j
+SpellsApplied depth a i j = Both SpellsName (InParentheses (SpellsExpr depth)) (a.name, a.values) i j

@@ -1,3 +1,5 @@
+//! Which words of a command line choose what.
+
 use super::options;
 use clap::error::ErrorKind;
 use sdl_engine::Command;

@@ -1,5 +1,6 @@
 use Rattle.std.proofs.Common.{◌≡◌, codes, refl, subst, sym}
-use Rattle.sdl_engine.specs.RefusalText.{lex_text, line_of}
+use Rattle.sdl_lex.specs.ErrorText.{lex_text}
+use Rattle.sdl_engine.specs.RefusalText.{line_of}
 use Rattle.sdl_engine.proofs.refusal_text.fixed_lex_line.Goals as goal
 
 pub returns-in-TooLong : goal.returns-in-TooLong

@@ -6,13 +6,20 @@ use sdl_core::{
     VariableGroup,
 };
 use sdl_lex::Place;
-use sdl_tree::{Input, Name, NextState, Number, SignalDefinition, SortName, Spelling};
+use sdl_tree::{Case, Input, Name, NextState, Number, SignalDefinition, SortName, Spelling};
 use std::alloc::{AllocError, Global};
 
-fn word(text: &'static str) -> Spelling {
+fn word() -> Spelling {
     Spelling {
-        text,
+        case: Case::Lower,
         place: Place::START,
+    }
+}
+
+fn next_state(state: NextState) -> Terminator {
+    Terminator::NextState {
+        word: word(),
+        state,
     }
 }
 
@@ -29,74 +36,49 @@ fn integer(alloc: Global) -> Result<SortName, AllocError> {
 }
 
 /// A number, in its decimal digits.
-pub fn number(alloc: Global, value: i64) -> Result<Expression, AllocError> {
+fn number(alloc: Global, value: i64) -> Result<Expression, AllocError> {
     let text = format!(in alloc; "{value}")?;
     let digits = name(alloc, text.as_str())?;
     Ok(Expression::Number(Number { value, digits }))
 }
 
 /// The variable of this name.
-pub fn variable(alloc: Global, text: &str) -> Result<Expression, AllocError> {
+fn variable(alloc: Global, text: &str) -> Result<Expression, AllocError> {
     Ok(Expression::Name(name(alloc, text)?))
 }
 
-/// `(inner)`
-pub fn in_parentheses(alloc: Global, inner: Expression) -> Result<Expression, AllocError> {
-    Ok(Expression::Parenthesized {
-        parenthesis: word("("),
-        inner: Box::new(alloc, inner)?,
-    })
-}
-
-/// `- operand`
-pub fn negated(alloc: Global, operand: Expression) -> Result<Expression, AllocError> {
-    Ok(Expression::Negated {
-        minus: word("-"),
-        operand: Box::new(alloc, operand)?,
-    })
-}
-
 /// `+ operand`, behind another operand.
-pub fn plus(operand: Expression) -> Link {
+fn plus(operand: Expression) -> Link {
     Link {
         operator: Operator::Plus,
-        word: word("+"),
-        operand,
-    }
-}
-
-/// `- operand`, behind another operand.
-pub fn minus(operand: Expression) -> Link {
-    Link {
-        operator: Operator::Minus,
-        word: word("-"),
+        word: word(),
         operand,
     }
 }
 
 /// An operand with what follows it.
-pub fn chain(alloc: Global, first: Expression, rest: Vec<Link>) -> Result<Expression, AllocError> {
+fn chain(alloc: Global, first: Expression, rest: Vec<Link>) -> Result<Expression, AllocError> {
     Ok(Expression::Chain(Box::new(alloc, Chain { first, rest })?))
 }
 
 /// `task n := value`
-pub fn task(alloc: Global, value: Expression) -> Result<Action, AllocError> {
+fn task(alloc: Global, value: Expression) -> Result<Action, AllocError> {
     let variable = name(alloc, "n")?;
     let assignments = vec![in alloc; Assignment { variable, value }]?;
     Ok(Action::Task {
-        word: word("task"),
+        word: word(),
         assignments,
     })
 }
 
 /// `task n := n + 1`
-pub fn count(alloc: Global) -> Result<Action, AllocError> {
+fn count(alloc: Global) -> Result<Action, AllocError> {
     let rest = vec![in alloc; plus(number(alloc, 1)?)]?;
     task(alloc, chain(alloc, variable(alloc, "n")?, rest)?)
 }
 
 /// `output one(..), other(..)`
-pub fn output(
+fn output(
     alloc: Global,
     one: (&str, Expression),
     other: (&str, Expression),
@@ -109,7 +91,7 @@ pub fn output(
         })?;
     }
     Ok(Action::Output {
-        word: word("output"),
+        word: word(),
         outputs,
     })
 }
@@ -173,14 +155,14 @@ fn input(
     let signal = name(alloc, signal)?;
     let inputs = vec![in alloc; Input { signal, variables }]?;
     Ok(Stimulus::Input(InputPart {
-        word: word("input"),
+        word: word(),
         inputs,
         transition,
     }))
 }
 
 fn same() -> Terminator {
-    Terminator::NextState(NextState::Same(word("-")))
+    next_state(NextState::Same(word()))
 }
 
 /// `state idle; input inc(m); task n := n + 1; nextstate -; input get; output val(n), val(m); nextstate -; input quit;
@@ -194,7 +176,7 @@ fn idle(alloc: Global) -> Result<StatePart, AllocError> {
         ("val", variable(alloc, "m")?),
     )?;
     let tells = transition(vec![in alloc; tells]?, same());
-    let stops = transition(Vec::new(alloc), Terminator::Stop);
+    let stops = transition(Vec::new(alloc), Terminator::Stop { word: word() });
     let stimuli = vec![in alloc;
         input(alloc, "inc", vec![in alloc; Some(m)]?, counts)?,
         input(alloc, "get", Vec::new(alloc), tells)?,
@@ -206,27 +188,25 @@ fn idle(alloc: Global) -> Result<StatePart, AllocError> {
     })
 }
 
-/// A process that counts in n and keeps in m what it was told last, once it has made these actions at its start.
-fn process(alloc: Global, actions: Vec<Action>) -> Result<ProcessDefinition, AllocError> {
-    let idle_state = Terminator::NextState(NextState::Named(name(alloc, "idle")?));
+/// A process that counts in n and keeps in m what it was told last.
+fn process(alloc: Global) -> Result<ProcessDefinition, AllocError> {
+    let idle_state = next_state(NextState::Named(name(alloc, "idle")?));
     Ok(ProcessDefinition {
+        word: word(),
         name: name(alloc, "P")?,
         definitions: vec![in alloc; variables(alloc)?]?,
         start: Start {
-            word: word("start"),
-            transition: transition(actions, idle_state),
+            word: word(),
+            transition: transition(Vec::new(alloc), idle_state),
         },
         states: vec![in alloc; idle(alloc)?]?,
     })
 }
 
 /// The system of that process. The signals are inc, get, quit and val, in this order.
-pub fn system(alloc: Global, actions: Vec<Action>) -> Result<Tree, AllocError> {
+pub fn system(alloc: Global) -> Result<Tree, AllocError> {
     Ok(Tree {
         name: name(alloc, "S")?,
-        definitions: vec![in alloc;
-            signals(alloc)?,
-            Definition::Process(process(alloc, actions)?),
-        ]?,
+        definitions: vec![in alloc; signals(alloc)?, Definition::Process(process(alloc)?)]?,
     })
 }

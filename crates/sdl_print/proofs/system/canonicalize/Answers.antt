@@ -1,5 +1,5 @@
 use Rattle.std.proofs.Common.{◌∙◌}
-use Rattle.sdl_tree.specs.Views.{plain_tree}
+use Rattle.sdl_tree.specs.Views.{tree_value}
 use Rattle.sdl_print.proofs.RoundTripLemmas.{settled, readable}
 use Rattle.sdl_print.proofs.system.canonicalize.Goals as goal
 
@@ -9,4 +9,4 @@ returns-in-Err-clause-readable c =
 
 pub returns-in-Ok-print-clause-settled : goal.returns-in-Ok-print-clause-settled
 returns-in-Ok-print-clause-settled c =
-    λ source is. c.in-Ok-print.ensures ∙ settled c.reads_again.ensures (plain_tree c.in-Ok.tree) c.args.text.now source is c.in-Ok.ensures.found
+    λ source is. c.in-Ok-print.ensures ∙ settled c.reads_again.ensures (tree_value c.in-Ok.tree) c.args.text.now source is c.in-Ok.ensures.found

@@ -1,6 +1,6 @@
 use Rattle.std.proofs.Common.{◌≡◌, ◌-◌, ◌^◌, take}
 use Rattle.std.specs.Prelude.{min}
-use Rattle.sdl_report.specs.Part.{decimal}
+use Rattle.sdl_lex.specs.Kind.{decimal}
 use Rattle.sdl_report.proofs.cursor.saturated.Given as goal
 
 abbrev pub invariant-loop-digit : goal.invariant-loop-digit

@@ -7,6 +7,7 @@ returns-in-Err-narrow-clause-refused c = record {
   tree = _;
   spelled = c.in-Ok.ensures.found;
   holds_more = c.in-Err-narrow.ensures.refused;
+  told = c.in-Err-narrow.ensures.told;
 }
 
 pub returns-in-Ok-build-clause-built : goal.returns-in-Ok-build-clause-built

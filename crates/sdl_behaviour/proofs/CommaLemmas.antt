@@ -1,0 +1,274 @@
+-- What a look for the comma of a clause passes: expressions, and all that stands in parentheses.
+use Rattle.std.proofs.Common.{◌≡◌, ℕ, zero, suc, ◌⊎◌, inl, inr, Bool, true, false, true≢false, ◌||◌, List, [], ◌∷◌, refl, sym, ap, ◌∙◌}
+use Rattle.sdl_tree.specs.declared.expressions.KeywordValue.{KeywordValue}
+use Rattle.sdl_tree.specs.declared.expressions.KeywordValue.TheVariants as value
+use Rattle.sdl_tree.specs.declared.expressions.UnaryOperator.{UnaryOperator}
+use Rattle.sdl_tree.specs.declared.expressions.UnaryOperator.TheVariants as unary
+use Rattle.sdl_tree.specs.declared.expressions.Operator.{Operator}
+use Rattle.sdl_tree.specs.declared.expressions.Operator.TheVariants as operator
+use Rattle.sdl_tree.specs.declared.mark.Mark.TheVariants as mark
+use Rattle.sdl_tree.specs.declared.name.Spelling.{Spelling}
+use Rattle.sdl_tree.specs.Spells.Expressions.{loosest, operator_mark, value_mark, unary_mark, SpellsPrimary, SpellsLink, SpellsAt, SpellsInner, SpellsTimer, SpellsExpr, SpellsApplied}
+use Rattle.sdl_tree.specs.Spells.Parts.{Separated, Repeated, RepeatedOnce, InParentheses}
+use Rattle.sdl_tree.specs.Tree.{Number, Expr, Numeral, Named, Keyword, Active, Paren, Unary, Chain, exprs_in, Links, NoLink, AndLink, links_in, Applied}
+use Rattle.sdl_tree.specs.Words.{Words, Spot, Fixed}
+use Rattle.sdl_tree.specs.Words as word
+use Rattle.sdl_behaviour.specs.Clauses.{look_at, comma_ahead}
+use Rattle.sdl_read.specs.Reading.{front, rest, sees, same_mark, sees_name}
+use Rattle.sdl_behaviour.proofs.WayLaws.{name_begins, no_name}
+
+number_passes : (x : Number) (n : ℕ) (i : Words) → comma_ahead n (word.Number x.value x.digits ∷ i) ≡ comma_ahead n i
+unfolding comma_ahead look_at
+number_passes x n i = refl
+
+name_passes : (x : Spot) (n : ℕ) (i : Words) → comma_ahead n (word.Name x ∷ i) ≡ comma_ahead n i
+unfolding comma_ahead look_at
+name_passes x n i = refl
+
+value_passes : (v : KeywordValue) (s : Spelling) (n : ℕ) (i : Words) → comma_ahead n (Fixed (value_mark v) s ∷ i) ≡ comma_ahead n i
+unfolding comma_ahead look_at same_mark
+value_passes value.True s n i = refl
+value_passes value.False s n i = refl
+value_passes value.Null s n i = refl
+value_passes value.Now s n i = refl
+value_passes value.SelfPid s n i = refl
+value_passes value.Parent s n i = refl
+value_passes value.Offspring s n i = refl
+value_passes value.Sender s n i = refl
+
+unary_passes : (o : UnaryOperator) (s : Spelling) (n : ℕ) (i : Words) → comma_ahead n (Fixed (unary_mark o) s ∷ i) ≡ comma_ahead n i
+unfolding comma_ahead look_at same_mark
+unary_passes unary.Minus s n i = refl
+unary_passes unary.Not s n i = refl
+
+operator_passes : (o : Operator) (s : Spelling) (n : ℕ) (i : Words) → comma_ahead n (Fixed (operator_mark o) s ∷ i) ≡ comma_ahead n i
+unfolding comma_ahead look_at same_mark
+operator_passes operator.Implies s n i = refl
+operator_passes operator.Or s n i = refl
+operator_passes operator.Xor s n i = refl
+operator_passes operator.And s n i = refl
+operator_passes operator.Equal s n i = refl
+operator_passes operator.NotEqual s n i = refl
+operator_passes operator.Less s n i = refl
+operator_passes operator.LessOrEqual s n i = refl
+operator_passes operator.Greater s n i = refl
+operator_passes operator.GreaterOrEqual s n i = refl
+operator_passes operator.Plus s n i = refl
+operator_passes operator.Minus s n i = refl
+operator_passes operator.Times s n i = refl
+operator_passes operator.Divide s n i = refl
+operator_passes operator.Mod s n i = refl
+operator_passes operator.Rem s n i = refl
+
+active_passes : (s : Spelling) (n : ℕ) (i : Words) → comma_ahead n (Fixed mark.Active s ∷ i) ≡ comma_ahead n i
+unfolding comma_ahead look_at same_mark
+active_passes s n i = refl
+
+open_opens : (s : Spelling) (n : ℕ) (i : Words) → comma_ahead n (Fixed mark.Open s ∷ i) ≡ comma_ahead (suc n) i
+unfolding comma_ahead look_at same_mark
+open_opens s n i = refl
+
+close_closes : (s : Spelling) (n : ℕ) (i : Words) → comma_ahead (suc n) (Fixed mark.Close s ∷ i) ≡ comma_ahead n i
+unfolding comma_ahead look_at same_mark
+close_closes s n i = refl
+
+comma_inside : (s : Spelling) (n : ℕ) (i : Words) → comma_ahead (suc n) (Fixed mark.Comma s ∷ i) ≡ comma_ahead (suc n) i
+unfolding comma_ahead look_at same_mark
+comma_inside s n i = refl
+
+comma_found : (s : Spelling) (i : Words) → comma_ahead 0 (Fixed mark.Comma s ∷ i) ≡ true
+unfolding comma_ahead look_at same_mark
+comma_found s i = refl
+
+close_ends : (s : Spelling) (i : Words) → comma_ahead 0 (Fixed mark.Close s ∷ i) ≡ false
+unfolding comma_ahead look_at same_mark
+close_ends s i = refl
+
+-- what a look passes, inside as many parentheses
+abbrev Passes : {A : Type 0} → (A → Words → Words → Type 0) → Type 0
+Passes {A} P = (n : ℕ) (x : A) (i j : Words) → P x i j → comma_ahead n i ≡ comma_ahead n j
+
+module _ {A : Type 0} (P : A → Words → Words → Type 0) (passes : Passes P) where
+  repeated_passes : Passes (Repeated P)
+  repeated_passes n [] i j s = ap (comma_ahead n) s
+  repeated_passes n (x ∷ xs) i j s = passes n x i s.0 s.1 ∙ repeated_passes n xs s.0 j s.2
+
+  once_passes : Passes (RepeatedOnce P)
+  once_passes n [] i j s = absurd s
+  once_passes n (x ∷ xs) i j s = repeated_passes n (x ∷ xs) i j s
+
+  separated_passes : (n : ℕ) (xs : List A) (i j : Words) → Separated P xs i j → comma_ahead (suc n) i ≡ comma_ahead (suc n) j
+  separated_passes n [] i j s = absurd s
+  separated_passes n (x ∷ []) i j s = passes (suc n) x i j s
+  separated_passes n (x ∷ y ∷ ys) i j s =
+      passes (suc n) x i (Fixed mark.Comma s.0 ∷ s.1) s.2 ∙ comma_inside s.0 n s.1 ∙ separated_passes n (y ∷ ys) s.1 j s.3
+
+  listed_passes : Passes (InParentheses P)
+  listed_passes n [] i j s = ap (comma_ahead n) s
+  listed_passes n (x ∷ xs) i j s =
+      let inner = s.3 in
+      ap (comma_ahead n) s.2 ∙ open_opens s.0 n s.1 ∙ separated_passes n (x ∷ xs) s.1 (Fixed mark.Close inner.0 ∷ j) inner.1 ∙ close_closes inner.0 n j
+
+module _ (Inner : Expr → Words → Words → Type 0) (Timer : Spot × List Expr → Words → Words → Type 0) (inner : Passes Inner) (timer : Passes Timer) where
+  primary_passes : Passes (SpellsPrimary Inner Timer)
+  primary_passes n (Numeral x) i j s = ap (comma_ahead n) s ∙ number_passes x n j
+  primary_passes n (Named x) i j s = ap (comma_ahead n) s ∙ name_passes x n j
+  primary_passes n (Keyword v w) i j s = ap (comma_ahead n) s ∙ value_passes v w n j
+  primary_passes n (Paren w e) i j s =
+      let b = s.2 in
+      ap (comma_ahead n) s.1 ∙ open_opens w n s.0 ∙ inner (suc n) e s.0 (Fixed mark.Close b.0 ∷ j) b.1 ∙ close_closes b.0 n j
+  primary_passes n (Active w x values) i j s =
+      let b = s.2 in let c = b.3 in
+      ap (comma_ahead n) s.1 ∙ active_passes w n s.0 ∙ ap (comma_ahead n) b.2 ∙ open_opens b.0 n b.1
+      ∙ timer (suc n) (x, exprs_in values) b.1 (Fixed mark.Close c.0 ∷ j) c.1 ∙ close_closes c.0 n j
+  primary_passes n (Unary o w e) i j s = absurd s
+  primary_passes n (Chain e links) i j s = absurd s
+
+  link_passes : (k : ℕ) → Passes (SpellsAt Inner Timer k) → (l : ℕ) → Passes (SpellsLink (SpellsAt Inner Timer k) l)
+  link_passes k operand l n x i j s =
+      let b = s.1 in ap (comma_ahead n) b.1 ∙ operator_passes x.operator x.word n b.0 ∙ operand n x.operand b.0 j b.2
+
+  level_passes : (k : ℕ) → Passes (SpellsAt Inner Timer k)
+  level_passes zero n x i j s = primary_passes n x i j s
+  level_passes (suc zero) n x i j (inl s) = primary_passes n x i j s
+  level_passes (suc zero) n (Unary o w e) i j (inr s) = ap (comma_ahead n) s.1 ∙ unary_passes o w n s.0 ∙ primary_passes n e s.0 j s.2
+  level_passes (suc zero) n (Named x) i j (inr s) = absurd s
+  level_passes (suc zero) n (Numeral x) i j (inr s) = absurd s
+  level_passes (suc zero) n (Keyword v w) i j (inr s) = absurd s
+  level_passes (suc zero) n (Paren w e) i j (inr s) = absurd s
+  level_passes (suc zero) n (Active w x values) i j (inr s) = absurd s
+  level_passes (suc zero) n (Chain e links) i j (inr s) = absurd s
+  level_passes (suc (suc k)) n x i j (inl s) = level_passes (suc k) n x i j s
+  level_passes (suc (suc k)) n (Chain e links) i j (inr s) =
+      level_passes (suc k) n e i s.0 s.1
+      ∙ once_passes (SpellsLink (SpellsAt Inner Timer (suc k)) (suc (suc k))) (link_passes (suc k) (level_passes (suc k)) (suc (suc k))) n (links_in links) s.0 j s.2
+  level_passes (suc (suc k)) n (Named x) i j (inr s) = absurd s
+  level_passes (suc (suc k)) n (Numeral x) i j (inr s) = absurd s
+  level_passes (suc (suc k)) n (Keyword v w) i j (inr s) = absurd s
+  level_passes (suc (suc k)) n (Paren w e) i j (inr s) = absurd s
+  level_passes (suc (suc k)) n (Active w x values) i j (inr s) = absurd s
+  level_passes (suc (suc k)) n (Unary o w e) i j (inr s) = absurd s
+
+mutual
+  inner_passes : (d : ℕ) → Passes (SpellsInner d)
+  inner_passes zero n x i j s = absurd s
+  inner_passes (suc d) n x i j s = level_passes (SpellsInner d) (SpellsTimer d) (inner_passes d) (timer_passes d) loosest n x i j s
+
+  timer_passes : (d : ℕ) → Passes (SpellsTimer d)
+  timer_passes zero n x i j s = absurd s
+  timer_passes (suc d) n x i j s =
+      ap (comma_ahead n) s.1 ∙ name_passes x.0 n s.0 ∙ listed_passes (SpellsInner d) (inner_passes d) n x.1 s.0 j s.2
+
+expr_passes : (d : ℕ) → Passes (SpellsExpr d)
+expr_passes d = level_passes (SpellsInner d) (SpellsTimer d) (inner_passes d) (timer_passes d) loosest
+
+-- a comma stands ahead of a time
+pub time_comma : (d : ℕ) (x : Expr) (s : Spelling) (i j : Words) → SpellsExpr d x i (Fixed mark.Comma s ∷ j) → comma_ahead 0 i ≡ true
+time_comma d x s i j t = expr_passes d 0 x i (Fixed mark.Comma s ∷ j) t ∙ comma_found s j
+
+-- and none of a timer alone
+pub timer_no_comma : (d : ℕ) (x : Applied) (s : Spelling) (i j : Words) → SpellsApplied d x i (Fixed mark.Close s ∷ j) → comma_ahead 0 i ≡ false
+timer_no_comma d x s i j t =
+    ap (comma_ahead 0) t.1 ∙ name_passes x.name 0 t.0 ∙ listed_passes (SpellsExpr d) (expr_passes d) 0 x.values t.0 (Fixed mark.Close s ∷ j) t.2 ∙ close_ends s j
+
+-- ---- behind a name that begins an expression stands the end of the expression, or an operator
+
+abbrev IsBehind : Words → Words → Type 0
+IsBehind l j = (l ≡ j) ⊎ ((o : Operator) × (w : Spelling) × (m : Words) × (l ≡ Fixed (operator_mark o) w ∷ m))
+
+-- words that begin with a name don't begin otherwise
+named_apart : {X : Type 0} (y : Spot) (i l : Words) → i ≡ word.Name y ∷ l → sees_name i ≡ false → X
+named_apart y i l e none = absurd (true≢false (sym (name_begins y i l e) ∙ none))
+
+tail_of : (x y : Spot) (i j l : Words) → i ≡ word.Name x ∷ j → i ≡ word.Name y ∷ l → l ≡ j
+unfolding rest
+tail_of x y i j l e f = ap rest (sym f ∙ e)
+
+numeral_unnamed : (x : Number) (j : Words) → sees_name (word.Number x.value x.digits ∷ j) ≡ false
+unfolding sees_name front
+numeral_unnamed x j = refl
+
+module _ (Inner : Expr → Words → Words → Type 0) (Timer : Spot × List Expr → Words → Words → Type 0) where
+  behind_primary : (x : Expr) (i j : Words) → SpellsPrimary Inner Timer x i j → (y : Spot) (l : Words) → i ≡ word.Name y ∷ l → IsBehind l j
+  behind_primary (Named x) i j s y l e = inl (tail_of x y i j l s e)
+  behind_primary (Numeral x) i j s y l e = named_apart y i l e (ap sees_name s ∙ numeral_unnamed x j)
+  behind_primary (Keyword v w) i j s y l e = named_apart y i l e (ap sees_name s ∙ no_name (value_mark v) w j)
+  behind_primary (Paren w f) i j s y l e = named_apart y i l e (ap sees_name s.1 ∙ no_name mark.Open w s.0)
+  behind_primary (Active w x values) i j s y l e = named_apart y i l e (ap sees_name s.1 ∙ no_name mark.Active w s.0)
+  behind_primary (Unary o w f) i j s y l e = absurd s
+  behind_primary (Chain f links) i j s y l e = absurd s
+
+  at_link : (k : ℕ) (links : Links) (l m j : Words) → RepeatedOnce (SpellsLink (SpellsAt Inner Timer k) (suc k)) (links_in links) m j → IsBehind l m → IsBehind l j
+  at_link k NoLink l m j s b = absurd s
+  at_link k (AndLink o w f ls) l m j s (inr b) = inr b
+  at_link k (AndLink o w f ls) l m j s (inl b) = let first = s.1.1 in inr (o, w, first.0, b ∙ first.1)
+
+  behind_level : (k : ℕ) (x : Expr) (i j : Words) → SpellsAt Inner Timer k x i j → (y : Spot) (l : Words) → i ≡ word.Name y ∷ l → IsBehind l j
+  behind_level zero x i j s y l e = behind_primary x i j s y l e
+  behind_level (suc zero) x i j (inl s) y l e = behind_primary x i j s y l e
+  behind_level (suc zero) (Unary o w f) i j (inr s) y l e = named_apart y i l e (ap sees_name s.1 ∙ no_name (unary_mark o) w s.0)
+  behind_level (suc zero) (Named x) i j (inr s) y l e = absurd s
+  behind_level (suc zero) (Numeral x) i j (inr s) y l e = absurd s
+  behind_level (suc zero) (Keyword v w) i j (inr s) y l e = absurd s
+  behind_level (suc zero) (Paren w f) i j (inr s) y l e = absurd s
+  behind_level (suc zero) (Active w x values) i j (inr s) y l e = absurd s
+  behind_level (suc zero) (Chain f links) i j (inr s) y l e = absurd s
+  behind_level (suc (suc k)) x i j (inl s) y l e = behind_level (suc k) x i j s y l e
+  behind_level (suc (suc k)) (Chain f links) i j (inr s) y l e = at_link (suc k) links l s.0 j s.2 (behind_level (suc k) f i s.0 s.1 y l e)
+  behind_level (suc (suc k)) (Named x) i j (inr s) y l e = absurd s
+  behind_level (suc (suc k)) (Numeral x) i j (inr s) y l e = absurd s
+  behind_level (suc (suc k)) (Keyword v w) i j (inr s) y l e = absurd s
+  behind_level (suc (suc k)) (Paren w f) i j (inr s) y l e = absurd s
+  behind_level (suc (suc k)) (Active w x values) i j (inr s) y l e = absurd s
+  behind_level (suc (suc k)) (Unary o w f) i j (inr s) y l e = absurd s
+
+-- a parenthesis
+abbrev pub at_parenthesis : Words → Bool
+at_parenthesis i = sees mark.Open i || sees mark.Close i
+
+operator_elsewhere : (o : Operator) (w : Spelling) (m : Words) → at_parenthesis (Fixed (operator_mark o) w ∷ m) ≡ false
+unfolding sees front same_mark
+operator_elsewhere operator.Implies w m = refl
+operator_elsewhere operator.Or w m = refl
+operator_elsewhere operator.Xor w m = refl
+operator_elsewhere operator.And w m = refl
+operator_elsewhere operator.Equal w m = refl
+operator_elsewhere operator.NotEqual w m = refl
+operator_elsewhere operator.Less w m = refl
+operator_elsewhere operator.LessOrEqual w m = refl
+operator_elsewhere operator.Greater w m = refl
+operator_elsewhere operator.GreaterOrEqual w m = refl
+operator_elsewhere operator.Plus w m = refl
+operator_elsewhere operator.Minus w m = refl
+operator_elsewhere operator.Times w m = refl
+operator_elsewhere operator.Divide w m = refl
+operator_elsewhere operator.Mod w m = refl
+operator_elsewhere operator.Rem w m = refl
+
+at_close : (s : Spelling) (j : Words) → at_parenthesis (Fixed mark.Close s ∷ j) ≡ true
+unfolding sees front same_mark
+at_close s j = refl
+
+at_open : (s : Spelling) (j : Words) → at_parenthesis (Fixed mark.Open s ∷ j) ≡ true
+unfolding sees front same_mark
+at_open s j = refl
+
+comma_elsewhere : (s : Spelling) (j : Words) → at_parenthesis (Fixed mark.Comma s ∷ j) ≡ false
+unfolding sees front same_mark
+comma_elsewhere s j = refl
+
+-- behind a name that begins a time stands no parenthesis
+pub time_elsewhere : (d : ℕ) (x : Expr) (s : Spelling) (i j : Words) → SpellsExpr d x i (Fixed mark.Comma s ∷ j) → (y : Spot) (l : Words) → i ≡ word.Name y ∷ l → at_parenthesis l ≡ false
+time_elsewhere d x s i j t y l e =
+    elim (behind_level (SpellsInner d) (SpellsTimer d) loosest x i (Fixed mark.Comma s ∷ j) t y l e) as (λ _. at_parenthesis l ≡ false) [
+      | inl b ↦ ap at_parenthesis b ∙ comma_elsewhere s j
+      | inr b ↦ ap at_parenthesis b.3 ∙ operator_elsewhere b.0 b.1 b.2
+    ]
+
+-- behind the name of a timer stands one
+pub timer_there : (d : ℕ) (x : Applied) (s : Spelling) (i j : Words) → SpellsApplied d x i (Fixed mark.Close s ∷ j) → (l : Words) × (i ≡ word.Name x.name ∷ l) × (at_parenthesis l ≡ true)
+timer_there d x s i j t = (t.0, t.1, listed x.values t.0 t.2)
+  where
+    listed : (es : List Expr) (m : Words) → InParentheses (SpellsExpr d) es m (Fixed mark.Close s ∷ j) → at_parenthesis m ≡ true
+    listed [] m u = ap at_parenthesis u ∙ at_close s j
+    listed (f ∷ fs) m u = ap at_parenthesis u.2 ∙ at_open u.0 u.1

@@ -1,9 +1,0 @@
-use Rattle.std.proofs.Common.{◌≡◌, ◌-◌, map}
-use Rattle.sdl_tree.specs.Views.{plain_applied}
-use Rattle.sdl_behaviour.specs.Actions as spec
-use Rattle.sdl_read.specs.Reading.{separated, separated_from}
-use Rattle.sdl_behaviour.proofs.actions.applications.Given as goal
-
-abbrev pub invariant-loop-turn : goal.invariant-loop-turn
-invariant-loop-turn l =
-    separated (spec.applied l.depth) l.fn.cursor ≡ separated_from (spec.applied l.depth) (l._turn-end - l._turn) (map plain_applied l.found.items) l.cursor

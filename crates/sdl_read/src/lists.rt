@@ -1,0 +1,127 @@
+//! Lists of anything that can be read.
+
+ghost use Rattle.std.specs.Prelude.{◌≡◌, map, option_map};
+ghost use Rattle.sdl_read.specs.Reader.{IsReader};
+ghost use Rattle.sdl_read.specs.Reading as spec;
+ghost use Rattle.sdl_read.specs.Reads.{Reads};
+
+use crate::cursor::Cursor;
+use crate::fault::{Fault, Wanted};
+use sdl_tree::Mark;
+use std::alloc::Global;
+
+/// A place in the grammar: all that the reading of an item depends on besides the words.
+#[derive(Clone, Copy, Debug)]
+pub struct At {
+    /// How many parentheses and decisions may stand inside each other.
+    pub depth: usize,
+    /// The looseness of the weakest operators that may stand in an expression.
+    pub loose: usize,
+}
+
+/// How many parentheses and decisions may stand inside each other, which bounds the stack.
+pub const LIMIT: usize = 64;
+
+/// The looseness of the weakest operators. A primary has 0, and a unary operator 1.
+pub const LOOSEST: usize = 7;
+
+impl At {
+    /// Inside nothing.
+    pub const OUTERMOST: At = At {
+        depth: LIMIT,
+        loose: LOOSEST,
+    };
+}
+
+/// What a value of type `P` is read from at a place of this type. It has no functions, so that it stands in no cycle of
+/// calls: a list is given the function that reads its items. A crate that reads types of another crate has a type of
+/// places of its own.
+pub trait Production<P> {
+    ghost use Rattle.sdl_read.specs.Reading.{Parser};
+
+    ghost Node: { Type 0 };
+
+    ghost value: { P → Node };
+
+    ghost reads: { Self → Parser Node };
+}
+
+/// What a value of type `P` is read from at a place of this type, if it begins where it is asked for.
+pub trait Perhaps<P> {
+    ghost use Rattle.std.specs.Prelude.{Option};
+    ghost use Rattle.sdl_read.specs.Reading.{Parser};
+
+    ghost Node: { Type 0 };
+
+    ghost value: { P → Node };
+
+    ghost reads: { Self → Parser (Option Node) };
+}
+
+/// `x {"," x}`
+pub fn separated<
+    P: Drop,
+    A: Production<P> + Copy,
+    F: Fn(Global, &mut Cursor<'_, '_>, A) -> Result<P, Fault>,
+>(alloc: Global, cursor: &mut Cursor<'_, '_>, at: A, item: F) -> Result<Vec<P>, Fault>
+    requires { IsReader A.value (A.reads at) at (F.pre item) (F.post item) }
+    ensures { Reads (λ xs. map A.value xs.items) (spec.separated (A.reads at) cursor.old) result cursor.new }
+{
+    let mut found = Vec::new(alloc);
+    for _turn in 0..cursor.turns() {
+        found.push(item(alloc, cursor, at)?)?;
+        if !cursor.eat(Mark::Comma) {
+            return Ok(found);
+        }
+    }
+    Err(Fault::Expected(Wanted::Name))
+}
+
+/// `{x}`
+pub fn repeated<
+    P: Drop,
+    A: Perhaps<P> + Copy,
+    F: Fn(Global, &mut Cursor<'_, '_>, A) -> Result<Option<P>, Fault>,
+>(alloc: Global, cursor: &mut Cursor<'_, '_>, at: A, item: F) -> Result<Vec<P>, Fault>
+    requires { IsReader (option_map A.value) (A.reads at) at (F.pre item) (F.post item) }
+    ensures { Reads (λ xs. map A.value xs.items) (spec.repeated (A.reads at) cursor.old) result cursor.new }
+{
+    let mut found = Vec::new(alloc);
+    for _turn in 0..cursor.left() {
+        match item(alloc, cursor, at)? {
+            Some(next) => found.push(next)?,
+            None => return Ok(found),
+        }
+    }
+    Ok(found)
+}
+
+/// `"(" x {"," x} ")"`
+pub fn enclosed<
+    P: Drop,
+    A: Production<P> + Copy,
+    F: Fn(Global, &mut Cursor<'_, '_>, A) -> Result<P, Fault>,
+>(alloc: Global, cursor: &mut Cursor<'_, '_>, at: A, item: F) -> Result<Vec<P>, Fault>
+    requires { IsReader A.value (A.reads at) at (F.pre item) (F.post item) }
+    ensures { Reads (λ xs. map A.value xs.items) (spec.enclosed (A.reads at) cursor.old) result cursor.new }
+{
+    cursor.expect(Mark::Open)?;
+    let found = separated(alloc, cursor, at, item)?;
+    cursor.expect(Mark::Close)?;
+    Ok(found)
+}
+
+/// `["(" x {"," x} ")"]`
+pub fn in_parentheses<
+    P: Drop,
+    A: Production<P> + Copy,
+    F: Fn(Global, &mut Cursor<'_, '_>, A) -> Result<P, Fault>,
+>(alloc: Global, cursor: &mut Cursor<'_, '_>, at: A, item: F) -> Result<Vec<P>, Fault>
+    requires { IsReader A.value (A.reads at) at (F.pre item) (F.post item) }
+    ensures { Reads (λ xs. map A.value xs.items) (spec.in_parentheses (A.reads at) cursor.old) result cursor.new }
+{
+    if !cursor.sees(Mark::Open) {
+        return Ok(Vec::new(alloc));
+    }
+    enclosed(alloc, cursor, at, item)
+}
