@@ -1,0 +1,23 @@
+use Rattle.std.proofs.Common.{◌∙◌, ap, option_map, sym}
+use Rattle.sdl_scope.specs.declared.fault.Kind.TheVariants.{Limit}
+use Rattle.sdl_scope.specs.Faults.{earlier, least_of, limit_at, told, told_at}
+use Rattle.sdl_scope.specs.Limits.{declared_name}
+use Rattle.sdl_scope.specs.Listed.{declared_value}
+use Rattle.sdl_scope.proofs.PastLemmas.{noted-at}
+use Rattle.sdl_scope.proofs.limits.note_declared.Goals as goal
+
+pub returns-in-Some : goal.returns-in-Some
+returns-in-Some c =
+    let old = told c.args.faults.now in
+    noted-at declared_name declared_value c.args.declared.now 1000 c.get.result
+    old (told c.note.new.self) c.get.ensures.lookup
+    (c.note.ensures ∙ ap (λ word. earlier old (told_at Limit word)) c.of_name.ensures
+    ∙ ap (λ got. least_of old (limit_at (option_map (λ one. declared_name (declared_value one.now)) got)))
+    (sym c.in-Some.is))
+
+pub returns-in_default : goal.returns-in_default
+returns-in_default c =
+    let old = told c.args.faults.now in
+    noted-at declared_name declared_value c.args.declared.now 1000 c.get.result old old c.get.ensures.lookup
+    (ap (λ got. least_of old (limit_at (option_map (λ one. declared_name (declared_value one.now)) got)))
+    (sym c.in_default.is))
