@@ -1,15 +1,16 @@
-use Rattle.std.proofs.Common.{◌≡◌, ℕ, cond, Bool, true, false, List, [], ◌∷◌, ◌++◌, map, Result, Ok, Err, MatchBool, MatchResult, refl, sym, ap, ◌∙◌, subst, append_assoc, append-nil, All, ⊎_elim}
+use Rattle.std.proofs.Common.{◌≡◌, ◌==◌, ℕ, cond, Bool, true, false, List, [], ◌∷◌, ◌++◌, map, Result, Ok, Err, MatchBool, MatchResult, refl, sym, ap, ◌∙◌, subst, append_assoc, append-nil, All, ⊎_elim}
 use Rattle.port_model.specs.declared.error.PortError.{PortError}
 use Rattle.port_model.specs.declared.taken.Taken.TheVariants.{Consumed, Discarded, Nothing}
 use Rattle.port_model.specs.declared.selection.Class.TheVariants as class
 use Rattle.std.proofs.lemmas.List.{map-append}
 use Rattle.port_model.specs.declared.selection.Class.{Class}
 use Rattle.port_model.specs.declared.taken.Taken.{Taken}
-use Rattle.port_model.specs.Port.{PortState, expires}
+use Rattle.port_model.specs.Port.{PortState, expires, expire_in}
 use Rattle.port_model.specs.Take as take
 use Rattle.input_port.specs.declared.rule.Placed.{Placed}
 use Rattle.input_port.specs.Ends.{Owning, Retiring}
-use Rattle.input_port.specs.Fuses.{fuses_after, AreWaiting}
+use Rattle.port_model.specs.PlainPort.{armed_left}
+use Rattle.input_port.specs.Left.{AreWaiting}
 use Rattle.port_model.specs.declared.got.Got.TheVariants as got
 use Rattle.port_model.specs.Timers.{with_waiting}
 use Rattle.input_port.specs.declared.entry.Entry.{Entry}
@@ -19,9 +20,9 @@ use Rattle.input_port.specs.Put.{longer}
 use Rattle.input_port.proofs.PutLists.{starts_all, starts_through}
 
 -- entries drawn one after the other
-pub after_draws-append : (port : PortState) (xs ys : List Placed) → after_draws port (xs ++ ys) ≡ after_draws (after_draws port xs) ys
-after_draws-append port [] ys = refl
-after_draws-append port (x ∷ xs) ys = after_draws-append (after_draw port x) xs ys
+pub after_draws-append : (pid : ℕ) (port : PortState) (xs ys : List Placed) → after_draws pid port (xs ++ ys) ≡ after_draws pid (after_draws pid port xs) ys
+after_draws-append pid port [] ys = refl
+after_draws-append pid port (x ∷ xs) ys = after_draws-append pid (after_draw pid port x) xs ys
 
 pub known_after-append : (known drawn xs ys : List Placed) → known_after known drawn (xs ++ ys) ≡ known_after (known_after known drawn xs) (drawn ++ xs) ys
 known_after-append known drawn [] ys = ap (λ d. known_after known d ys) (sym (append-nil drawn))
@@ -48,7 +49,7 @@ draws_none old = (
     known = refl;
     kept = starts_all old.known;
     state = refl;
-    fuses = refl;
+    armed = refl;
   },
 )
 
@@ -67,8 +68,8 @@ draws_more old mid new a b =
         known = s.known ∙ ap (λ k. known_after k mid.drawn b.0) f.known ∙ ap (λ d. known_after (known_after old.known old.drawn a.0) d b.0) f.drawn
             ∙ sym (known_after-append old.known old.drawn a.0 b.0);
         kept = starts_through new.known mid.known old.known s.kept f.kept;
-        state = s.state ∙ ap (λ p. after_draws p b.0) f.state ∙ sym (after_draws-append old.state a.0 b.0);
-        fuses = s.fuses ∙ f.fuses;
+        state = s.state ∙ ap (λ n. after_draws n mid.state b.0) f.pid ∙ ap (λ p. after_draws old.pid p b.0) f.state ∙ sym (after_draws-append old.pid old.state a.0 b.0);
+        armed = s.armed ∙ f.armed;
       },
     )
 
@@ -81,12 +82,12 @@ pull_draws old new (Ok false) pulled = subst (HasDrawn old) (sym pulled.0) (draw
 pull_draws old new (Err error) pulled = subst (HasDrawn old) (sym pulled.1) (draws_none old)
 
 -- a take that finds nothing in the port changes nothing
-pub nothing_taken : (classes : List Class) (old new : Owning) → take.Takes classes old.state Nothing new.state → new ≡ record old { state = new.state; fuses = fuses_after Nothing old.fuses } → new ≡ old
+pub nothing_taken : (classes : List Class) (old new : Owning) → take.Takes classes old.state Nothing new.state → new ≡ record old { state = new.state; armed = armed_left Nothing old.armed } → new ≡ old
 nothing_taken classes old new takes same = same ∙ ap (λ s. record old { state = s }) takes.1
 
 -- what is known where a take goes on: the port found nothing, and one entry more was drawn, or none
 pub goes_on : (classes : List Class) (first old mid new : Owning) (r : Result Bool PortError) → HasDrawn first old
-    → take.Takes classes old.state Nothing mid.state → mid ≡ record old { state = mid.state; fuses = fuses_after Nothing old.fuses }
+    → take.Takes classes old.state Nothing mid.state → mid ≡ record old { state = mid.state; armed = armed_left Nothing old.armed }
     → MatchResult r (λ more. MatchBool more ((placed : Placed) × IsDrawn mid new (placed ∷ [])) ((new ≡ mid) × (new.known ≡ new.drawn))) (λ error. (error ≡ PortError.Memory) × (new ≡ mid))
     → HasDrawn first new
 goes_on classes first old mid new r before takes same pulled =
@@ -94,7 +95,7 @@ goes_on classes first old mid new r before takes same pulled =
 
 -- The same after a stop: `grown` is what the owner would be, had its port not been stopped.
 abbrev grown : Retiring → Retiring → List Placed → Owning
-grown old new news = record new.owner { state = after_draws old.owner.state news }
+grown old new news = record new.owner { state = after_draws old.owner.pid old.owner.state news }
 
 since_some : (old new : Retiring) (news : List Placed) → IsDrawn old.owner (grown old new news) news → new.owner.state ≡ old.owner.state
     → new.since ≡ old.since ++ map entry_of news → HasDrawnSince old new
@@ -121,7 +122,7 @@ since_more old mid new a b =
           ∙ sym (known_after-append old.owner.known old.owner.drawn a.0 b.0);
       kept = starts_through new.owner.known mid.owner.known old.owner.known next.kept first.kept;
       state = refl;
-      fuses = next.fuses ∙ first.fuses;
+      armed = next.armed ∙ first.armed;
     } in
     since_some old new (a.0 ++ b.0) both (s.state ∙ f.state)
     (s.since ∙ ap (λ l. l ++ map entry_of b.0) f.since ∙ append_assoc old.since (map entry_of a.0) (map entry_of b.0)
@@ -139,14 +140,15 @@ chosen-alive : (b : Bool) (p q : PortState) → p.alive ≡ q.alive → (cond b 
 chosen-alive true p q e = e
 chosen-alive false p q e = refl
 
-after_entry-alive : (port : PortState) (at : ℕ) (entry : Entry) → (after_entry port at entry).alive ≡ port.alive
-after_entry-alive port at (Signal item) = chosen-alive port.alive (record port { waiting = port.waiting ++ got.Signal item ∷ [] }) port refl
-after_entry-alive port at (Timer fuse) = chosen-alive (expires port fuse.key fuse.arm fuse.due at)
-    (record port { waiting = port.waiting ++ got.Timer fuse.key ∷ []; timers = with_waiting fuse.key fuse.arm port.timers }) port refl
+after_entry-alive : (pid : ℕ) (port : PortState) (at : ℕ) (entry : Entry) → (after_entry pid port at entry).alive ≡ port.alive
+after_entry-alive pid port at (Signal item) = chosen-alive port.alive (record port { waiting = port.waiting ++ got.Signal item ∷ [] }) port refl
+after_entry-alive pid port at (Timer fuse) = chosen-alive (fuse.pid == pid) (expire_in port fuse.key fuse.arm fuse.due at) port
+    (chosen-alive (expires port fuse.key fuse.arm fuse.due at)
+    (record port { waiting = port.waiting ++ got.Timer fuse.key ∷ []; timers = with_waiting fuse.key fuse.arm port.timers }) port refl)
 
-pub after_draws-alive : (port : PortState) (news : List Placed) → (after_draws port news).alive ≡ port.alive
-after_draws-alive port [] = refl
-after_draws-alive port (x ∷ xs) = after_draws-alive (after_draw port x) xs ∙ after_entry-alive port x.at x.entry
+pub after_draws-alive : (pid : ℕ) (port : PortState) (news : List Placed) → (after_draws pid port news).alive ≡ port.alive
+after_draws-alive pid port [] = refl
+after_draws-alive pid port (x ∷ xs) = after_draws-alive pid (after_draw pid port x) xs ∙ after_entry-alive pid port x.at x.entry
 
 -- a take leaves a living port alive, and so do draws
 pub taken-alive : (classes : List Class) (old new : PortState) (taken : Taken) → take.Takes classes old taken new → new.alive ≡ old.alive
@@ -156,22 +158,23 @@ taken-alive classes old new (Discarded g) takes = ap (λ p. p.alive) takes.1.now
 taken-alive classes old new Nothing takes = ap (λ p. p.alive) takes.1
 
 pub drawn-alive : (old new : Owning) → HasDrawn old new → new.state.alive ≡ old.state.alive
-drawn-alive old new a = ap (λ p. p.alive) a.1.state ∙ after_draws-alive old.state a.0
+drawn-alive old new a = ap (λ p. p.alive) a.1.state ∙ after_draws-alive old.pid old.state a.0
 
 -- all that was put is drawn, and so is all that the owner knew, and the answer is what waits then
 pub finishes : (old mid : Owning) (answer : List Entry) → HasDrawn old mid → mid.known ≡ mid.drawn
-    → AreWaiting mid.state.waiting mid.fuses answer → Finishes old answer
+    → AreWaiting mid.state.waiting mid.pid mid.armed answer → Finishes old answer
 finishes old mid answer a fresh list =
     let s = a.1 in
     record {
       news = a.0;
       next = s.next;
       known = (s.kept.0, sym (fresh ∙ s.drawn) ∙ s.kept.1);
-      list = subst (λ p. AreWaiting p.waiting old.fuses answer) s.state (subst (λ f. AreWaiting mid.state.waiting f answer) s.fuses list);
+      list = subst (λ p. AreWaiting p.waiting old.pid old.armed answer) s.state
+          (subst (λ l. AreWaiting mid.state.waiting old.pid l answer) s.armed (subst (λ n. AreWaiting mid.state.waiting n mid.armed answer) s.pid list));
     }
 
 pub take-alive : (classes : List Class) (old new : Owning) (r : Result Taken PortError)
     → MatchResult r (λ taken. TakesHere classes old new taken) (λ error. (error ≡ PortError.Memory) × HasDrawn old new)
     → new.state.alive ≡ old.state.alive
-take-alive classes old new (Ok taken) is = taken-alive classes (after_draws old.state is.news) new.state taken is.take ∙ after_draws-alive old.state is.news
+take-alive classes old new (Ok taken) is = taken-alive classes (after_draws old.pid old.state is.news) new.state taken is.take ∙ after_draws-alive old.pid old.state is.news
 take-alive classes old new (Err error) is = drawn-alive old new is.1

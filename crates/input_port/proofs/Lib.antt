@@ -1,5 +1,5 @@
 pub mod Drawing
-pub mod Fusing
+pub mod Leaving
 pub mod Meeting
 pub mod Moves
 pub mod Passes

@@ -1,13 +1,13 @@
 use Rattle.std.proofs.Common.{◌≡◌, ℕ, List, [], ◌∷◌, ◌++◌, length, Option, Some, None, MatchOption, sym, refl, ap, ◌∙◌, subst, arith, length-append, append-nil}
-use Rattle.std.proofs.lemmas.List.Elements.{All-head}
+use Rattle.std.proofs.lemmas.List.Elements.{All-head, All-same, All-tail}
 use Rattle.input_port.specs.declared.rule.Placed.{Placed}
 use Rattle.input_port.specs.declared.rule.Gone.{Gone}
 use Rattle.input_port.specs.declared.rule.View.{View}
 use Rattle.input_port.specs.Calls.{popped_list, TakesIn}
-use Rattle.input_port.specs.Ends.{Sending, sent_by}
-use Rattle.input_port.specs.Put.{StartsWith, of, longer, AllThere}
+use Rattle.input_port.specs.Ends.{Sending, sent_by, IsOwning}
+use Rattle.input_port.specs.Put.{StartsWith, of, longer, AllThere, Apart}
 use Rattle.input_port.specs.Steps.{Draws, IsFresh}
-use Rattle.input_port.specs.Views.{gathers}
+use Rattle.input_port.specs.Views.{gathers, without_first, without_last}
 use Rattle.input_port.proofs.PutLists.{of-append, starts_all, starts_through, both_told}
 
 abbrev Counted : List Placed → Gone → Type 0
@@ -29,6 +29,9 @@ takes_in_one v u m w x is draws =
       told = starts_through w.seen (longer v.seen u.seen) u.seen d.1 both.1;
       gathered = gathered;
       all = All-head (Counted w.seen) (record { number = u.number; count = u.count }) v.gathered (subst (AllThere w.seen) gathered d.4);
+      begins = d.2;
+      there = d.4;
+      apart = d.7;
     }
 
 -- a sender was taken in, and the queue was empty
@@ -47,6 +50,9 @@ takes_in_none v u m w is same fresh =
       told = both.1;
       gathered = refl;
       all = All-head (Counted (longer v.seen u.seen)) (record { number = u.number; count = u.count }) v.gathered f.2;
+      begins = subst (λ l. StartsWith l v.drawn) (sym (f.0 refl)) (starts_all v.drawn);
+      there = f.2;
+      apart = f.3;
     })
 
 -- what the pop after a gathering tells
@@ -75,3 +81,17 @@ comes_back sender back v u w news takes number seen count same all =
     let told = subst (StartsWith w.seen) seen takes.told in
     let long = ap (λ n. length (of n w.seen)) (sym number) ∙ takes.all ∙ count in
     ap (λ n. of n back.seen) same ∙ ap (of sender.number) all ∙ own_same sender.number w.seen sender.seen told long
+
+-- what the owner knows without the sender that it gave back
+pub given_back : (v u w z : View) (news : List Placed) (n : ℕ) → TakesIn v u w news → z ≡ without_last w → length v.gathered ≡ n → IsOwning z n
+given_back v u w z news n t is len =
+    let tail : without_first w.gathered ≡ v.gathered = ap without_first t.gathered in
+    let apart = subst Apart t.gathered t.apart in
+    subst (λ l. IsOwning l n) (sym is) (record {
+      takes = refl;
+      gathered_is = ap length tail ∙ len;
+      begins = t.begins;
+      there = All-same (Counted w.seen) (without_first w.gathered) v.gathered tail
+          (All-tail (Counted w.seen) (record { number = u.number; count = u.count }) v.gathered (subst (AllThere w.seen) t.gathered t.there));
+      apart = subst Apart (sym tail) apart.1;
+    })

@@ -9,8 +9,8 @@ use Rattle.crossbeam_queue.proofs.Lists.{at_set}
 use Rattle.input_port.specs.declared.rule.Placed.{Placed}
 use Rattle.input_port.specs.declared.rule.Gone.{Gone}
 use Rattle.input_port.specs.declared.rule.View.{View}
-use Rattle.input_port.specs.Put.{StartsWith, of, one_to, longer}
-use Rattle.input_port.specs.Rule.{Book, FitsDesk, FitsSender, IsGone, Apart, FitsOwner, Fits, IsGiven, Kept}
+use Rattle.input_port.specs.Put.{StartsWith, of, one_to, longer, Apart}
+use Rattle.input_port.specs.Rule.{Book, FitsDesk, FitsSender, IsGone, FitsOwner, Fits, IsGiven, Kept}
 use Rattle.input_port.specs.Steps.{Adds, Draws, IsFresh}
 use Rattle.input_port.specs.Views.{whole, desk, sender, owner, spent, owner_of, gathers, without_first, without_last, sender_again, last_gathered}
 use Rattle.input_port.proofs.Passes.{each_set, each_split, seated, seated_here, seated_else}
@@ -198,6 +198,7 @@ pops pass v may x items views h at =
         All-weaker (IsGone (drew b x) w.seen) (λ g. length (of g.number w.seen) ≡ g.count) (λ g o. o.counted) v.gathered gone,
         number.0,
         count ∙ ap (λ d. length (of x.number d) + 1) (sym f.drawn),
+        f.apart,
       ),
     )
 
@@ -210,6 +211,7 @@ learns pass v may items views h at =
           (f.known.0, f.drawn ∙ sym (append-nil b.drawn) ∙ ap (λ l. b.drawn ++ l) (sym none) ∙ h.puts ∙ f.known.1) f.begins),
       f.told,
       All-weaker (IsGone b v.seen) (λ g. length (of g.number v.seen) ≡ g.count) (λ g o. o.counted) v.gathered f.gathered,
+      f.apart,
     )
 
 -- The first pass is split into the owner's and the desk's.

@@ -1,17 +1,23 @@
-use Rattle.std.specs.Prelude.{◌≡◌, ℕ, true, ◌+◌, ◌<◌, List, [], ◌∷◌, ◌++◌, length, map, Option, None, Some, Contains}
+use Rattle.std.specs.Prelude.{◌≡◌, ◌⊎◌, ◌==◌, ℕ, true, ◌+◌, ◌<◌, if◌then◌else◌, List, [], ◌∷◌, ◌++◌, length, map, Option, None, Some, Contains}
 use Rattle.port_model.specs.declared.selection.Class.{Class}
 use Rattle.port_model.specs.declared.selection.Class.TheVariants as class
 use Rattle.port_model.specs.declared.taken.Taken.{Taken}
 use Rattle.port_model.specs.declared.taken.Taken.TheVariants.{Consumed, Nothing}
-use Rattle.port_model.specs.Port.{PortState, put_into, expire_in}
+use Rattle.port_model.specs.declared.error.PortError.{PortError}
+use Rattle.port_model.specs.declared.error.PortError.TheVariants.{SetsSpent, Memory}
+use Rattle.port_model.specs.declared.timer_key.TimerKey.{TimerKey}
+use Rattle.port_model.specs.PlainPort.{armed_left}
+use Rattle.port_model.specs.Port.{PortState, put_into, expire_in, remove_from, set_in, stopped}
+use Rattle.port_model.specs.Timers.{without_armed}
 use Rattle.port_model.specs.Take as take
 use Rattle.input_port.specs.declared.entry.Entry.{Entry}
 use Rattle.input_port.specs.declared.entry.Entry.TheVariants.{Signal, Timer}
+use Rattle.input_port.specs.declared.entry.Fuse.{Fuse}
 use Rattle.input_port.specs.declared.rule.Placed.{Placed}
 use Rattle.input_port.specs.declared.rule.View.{View}
 use Rattle.input_port.specs.Ends.{Sending, Owning, Retiring, sent_by}
-use Rattle.input_port.specs.Fuses.{fuses_after, AreWaiting}
-use Rattle.input_port.specs.Put.{StartsWith, of, longer}
+use Rattle.input_port.specs.Left.{AreWaiting}
+use Rattle.input_port.specs.Put.{StartsWith, of, longer, AllThere, Apart}
 
 -- A put or an expiry of a sender: behind all that it had seen came entries of others, and then just this one, as its next.
 pub record Puts (old new : Sending) (at : ℕ) (entry : Entry) : Type 0 where
@@ -21,18 +27,40 @@ pub record Puts (old new : Sending) (at : ℕ) (entry : Entry) : Type 0 where
   pub others : of old.number between ≡ []
   pub seen : new.seen ≡ (old.seen ++ between) ++ record { number = old.number; count = sent_by old + 1; at = at; entry = entry } ∷ []
 
--- what the port becomes by an entry where it is drawn: a signal's put, or a timer's expiry
-abbrev pub after_entry : PortState → ℕ → Entry → PortState
-after_entry port at (Signal item) = put_into port item
-after_entry port at (Timer fuse) = expire_in port fuse.key fuse.arm fuse.due at
+-- what the port of an instance becomes by an entry where it is drawn: a signal's put, or the expiry of one of its own timers
+abbrev pub after_entry : ℕ → PortState → ℕ → Entry → PortState
+after_entry pid port at (Signal item) = put_into port item
+after_entry pid port at (Timer fuse) = if fuse.pid == pid then expire_in port fuse.key fuse.arm fuse.due at else port
 
-abbrev pub after_draw : PortState → Placed → PortState
-after_draw port placed = after_entry port placed.at placed.entry
+abbrev pub after_draw : ℕ → PortState → Placed → PortState
+after_draw pid port placed = after_entry pid port placed.at placed.entry
 
 -- and by some entries, one after the other
-abbrev pub after_draws : PortState → List Placed → PortState
-after_draws port [] = port
-after_draws port (placed ∷ more) = after_draws (after_draw port placed) more
+abbrev pub after_draws : ℕ → PortState → List Placed → PortState
+after_draws pid port [] = port
+after_draws pid port (placed ∷ more) = after_draws pid (after_draw pid port placed) more
+
+-- what an owner becomes by a set, a reset and the stop
+abbrev pub after_set : Owning → TimerKey → ℕ → Owning
+after_set o key due = record o {
+  state = set_in o.state key due;
+  armed = without_armed key o.armed ++ record { key = key; arm = o.state.sets + 1; due = due } ∷ [];
+}
+
+abbrev pub after_reset : Owning → TimerKey → Owning
+after_reset o key = record o { state = remove_from o.state key; armed = without_armed key o.armed }
+
+abbrev pub after_stop : Owning → Owning
+after_stop o = record o { state = stopped o.state; armed = [] }
+
+-- A set of a timer: its fuse has the port's number, the key, the number of the set and the time. A refused one changes nothing.
+pub record Sets (old : Owning) (key : TimerKey) (due : ℕ) (fuse : Fuse) (new : Owning) : Type 0 where
+  pub owner : new ≡ after_set old key due
+  pub fuse_is : fuse ≡ record { pid = old.pid; key = key; arm = old.state.sets + 1; due = due }
+
+pub record RefusesSet (old : Owning) (error : PortError) (new : Owning) : Type 0 where
+  pub same : new ≡ old
+  pub told : (error ≡ SetsSpent) ⊎ (error ≡ Memory)
 
 -- The known list after some entries are drawn: with each of them it goes on as far as before, or up to what is drawn,
 -- whichever is longer.
@@ -47,7 +75,7 @@ AreNext drawn (placed ∷ more) =
     (0 < placed.number) × (placed.count ≡ length (of placed.number drawn) + 1) × AreNext (drawn ++ placed ∷ []) more
 
 -- The owner drew these entries, in their order, and each made of its port what a put or an expiry makes. What it knew it knows.
--- No set or reset was made: the fuses are the same.
+-- No set or reset was made: what the sets gave is the same.
 pub record IsDrawn (old new : Owning) (news : List Placed) : Type 0 where
   pub port : new.port ≡ old.port
   pub pid : new.pid ≡ old.pid
@@ -56,8 +84,8 @@ pub record IsDrawn (old new : Owning) (news : List Placed) : Type 0 where
   pub next : AreNext old.drawn news
   pub known : new.known ≡ known_after old.known old.drawn news
   pub kept : StartsWith new.known old.known
-  pub state : new.state ≡ after_draws old.state news
-  pub fuses : new.fuses ≡ old.fuses
+  pub state : new.state ≡ after_draws old.pid old.state news
+  pub armed : new.armed ≡ old.armed
 
 -- it drew some entries, or none
 abbrev pub HasDrawn : Owning → Owning → Type 0
@@ -73,9 +101,9 @@ IsNoPriority classes taken = Unit {0}
 -- of a priority input.
 pub record TakesHere (classes : List Class) (old new : Owning) (taken : Taken) : Type 0 where
   pub news : List Placed
-  pub draws : IsDrawn old (record new { state = after_draws old.state news; fuses = old.fuses }) news
-  pub take : take.Takes classes (after_draws old.state news) taken new.state
-  pub fuses : new.fuses ≡ fuses_after taken old.fuses
+  pub draws : IsDrawn old (record new { state = after_draws old.pid old.state news; armed = old.armed }) news
+  pub take : take.Takes classes (after_draws old.pid old.state news) taken new.state
+  pub armed : new.armed ≡ armed_left taken old.armed
   pub fresh : taken ≡ Nothing → new.known ≡ new.drawn
   pub passed : Contains classes class.Priority → IsNoPriority classes taken → new.known ≡ new.drawn
 
@@ -96,11 +124,14 @@ pub record TakesIn (v u w : View) (news : List Placed) : Type 0 where
   pub told : StartsWith w.seen u.seen
   pub gathered : w.gathered ≡ record { number = u.number; count = u.count } ∷ v.gathered
   pub all : length (of u.number w.seen) ≡ u.count
+  pub begins : StartsWith w.seen w.drawn
+  pub there : AllThere w.seen w.gathered
+  pub apart : Apart w.gathered
 
 -- A gathering: the owner knows all that it knew and all that the sender had seen, and all that the sender has put is among
 -- that. On the way it draws these entries: one, or none.
 pub record IsGathered (old new : Owning) (sender : Sending) (news : List Placed) : Type 0 where
-  pub draws : IsDrawn (record old { known = longer old.known sender.seen; gathered = old.gathered + 1 }) new news
+  pub draws : IsDrawn (record old { known = longer old.known sender.seen; gathered = record { number = sender.number; count = sent_by sender } ∷ old.gathered }) new news
   pub kept : StartsWith new.known old.known
   pub told : StartsWith new.known sender.seen
   pub all : length (of sender.number new.known) ≡ sent_by sender
@@ -126,14 +157,14 @@ pub record Finishes (old : Owning) (answer : List Entry) : Type 0 where
   pub news : List Placed
   pub next : AreNext old.drawn news
   pub known : StartsWith (old.drawn ++ news) old.known
-  pub list : AreWaiting (after_draws old.state news).waiting old.fuses answer
+  pub list : AreWaiting (after_draws old.pid old.state news).waiting old.pid old.armed answer
 
 abbrev pub entry_of : Placed → Entry
 entry_of placed = placed.entry
 
 -- After its stop the owner drew these entries, in their order, and keeps them. Its port is as the stop left it.
 pub record IsDrawnSince (old new : Retiring) (news : List Placed) : Type 0 where
-  pub draws : IsDrawn old.owner (record new.owner { state = after_draws old.owner.state news }) news
+  pub draws : IsDrawn old.owner (record new.owner { state = after_draws old.owner.pid old.owner.state news }) news
   pub state : new.owner.state ≡ old.owner.state
   pub since : new.since ≡ old.since ++ map entry_of news
 
@@ -143,7 +174,7 @@ HasDrawnSince old new = (news : List Placed) × IsDrawnSince old new news
 -- A gathering after the stop: as before it, and what is drawn on the way is kept.
 pub record GathersSince (old new : Retiring) (sender : Sending) : Type 0 where
   pub news : List Placed
-  pub gathers : IsGathered old.owner (record new.owner { state = after_draws old.owner.state news }) sender news
+  pub gathers : IsGathered old.owner (record new.owner { state = after_draws old.owner.pid old.owner.state news }) sender news
   pub state : new.owner.state ≡ old.owner.state
   pub since : new.since ≡ old.since ++ map entry_of news
 

@@ -2,12 +2,13 @@ use Rattle.std.specs.Prelude.{◌≡◌, ℕ, ◌≤◌, ◌^◌, Bool, true, fa
 use Rattle.std.specs.declared.alloc.Global.{Global}
 use Rattle.crossbeam_queue.specs.SegTies.{SegId}
 use Rattle.port_model.specs.Port.{PortState}
+use Rattle.port_model.specs.Timers.{Armed}
 use Rattle.input_port.specs.declared.entry.Entry.{Entry}
-use Rattle.input_port.specs.declared.entry.Fuse.{Fuse}
 use Rattle.input_port.specs.declared.entry.Entry.TheVariants.{Signal, Timer}
 use Rattle.input_port.specs.declared.rule.Placed.{Placed}
+use Rattle.input_port.specs.declared.rule.Gone.{Gone}
 use Rattle.input_port.specs.declared.rule.View.{View}
-use Rattle.input_port.specs.Put.{of}
+use Rattle.input_port.specs.Put.{of, StartsWith, AllThere, Apart}
 
 -- what a caller sees of the desk: which port it is of, and how many numbers it has given out
 pub record Desking : Type 0 where
@@ -20,30 +21,37 @@ pub record Sending : Type 0 where
   pub number : ℕ
   pub seen : List Placed
 
--- What a caller sees of the owner: which port it is of, and its number; the entries that it has drawn; its known list; how many
--- senders are gathered with it; the port of the standard that its calls and the drawn entries have made; and the fuses of the
--- active timers, as their sets gave them.
+-- What a caller sees of the owner: which port it is of, and its number; the entries that it has drawn; its known list; the
+-- senders that are gathered with it, the last one first; the port of the standard that its calls and the drawn entries have
+-- made; and what the sets of the active timers gave.
 pub record Owning : Type 0 where
   pub port : SegId Global
   pub pid : ℕ
   pub drawn : List Placed
   pub known : List Placed
-  pub gathered : ℕ
+  pub gathered : List Gone
   pub state : PortState
-  pub fuses : List Fuse
+  pub armed : List Armed
+
+-- What every owner knows: the known list begins with what was drawn, and has all entries of the gathered senders, whose
+-- numbers differ.
+pub record IsKnowing (o : Owning) : Type 0 where
+  pub begins : StartsWith o.known o.drawn
+  pub there : AllThere o.known o.gathered
+  pub apart : Apart o.gathered
 
 -- a port that no queue stands behind, and the owner of a port for one thread, who draws nothing
 abbrev pub no_port : SegId Global
 no_port = record { web = (0, 0); heap = record { memory = record { seal = tt } } }
 
-abbrev pub single : ℕ → PortState → List Fuse → Owning
-single pid state fuses = record { port = no_port; pid = pid; drawn = []; known = []; gathered = 0; state = state; fuses = fuses }
+abbrev pub single : ℕ → PortState → List Armed → Owning
+single pid state armed = record { port = no_port; pid = pid; drawn = []; known = []; gathered = []; state = state; armed = armed }
 
 -- what a caller sees of a port for one thread
 pub record Solitary : Type 0 where
   pub pid : ℕ
   pub state : PortState
-  pub fuses : List Fuse
+  pub armed : List Armed
 
 -- what a caller sees of an owner after its stop: the owner, and the entries that it has drawn since, which had no effect
 pub record Retiring : Type 0 where
@@ -84,3 +92,6 @@ pub record IsDesking (known : View) (given : ℕ) : Type 0 where
 pub record IsOwning (known : View) (gathered : ℕ) : Type 0 where
   pub takes : known.takes ≡ true
   pub gathered_is : length known.gathered ≡ gathered
+  pub begins : StartsWith known.seen known.drawn
+  pub there : AllThere known.seen known.gathered
+  pub apart : Apart known.gathered

@@ -1,7 +1,7 @@
 pub mod Calls
 pub mod Ends
-pub mod Fuses
 pub mod Held
+pub mod Left
 pub mod Put
 pub mod Rule
 pub mod Steps

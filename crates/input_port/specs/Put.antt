@@ -1,4 +1,4 @@
-use Rattle.std.specs.Prelude.{◌≡◌, ℕ, zero, suc, nat_eq, nat_lt, List, [], ◌∷◌, ◌++◌, length, filter, All, if◌then◌else◌}
+use Rattle.std.specs.Prelude.{◌≡◌, ◌≢◌, ℕ, zero, suc, nat_eq, nat_lt, List, [], ◌∷◌, ◌++◌, length, filter, All, if◌then◌else◌}
 use Rattle.input_port.specs.declared.rule.Placed.{Placed}
 use Rattle.input_port.specs.declared.rule.Gone.{Gone}
 
@@ -24,6 +24,11 @@ longer xs ys = if nat_lt (length xs) (length ys) then ys else xs
 
 abbrev pub shorter : List Placed → List Placed → List Placed
 shorter xs ys = if nat_lt (length xs) (length ys) then xs else ys
+
+-- no number stands twice among the gathered senders
+abbrev pub Apart : List Gone → Type 0
+Apart [] = Unit {0}
+Apart (g ∷ gs) = All (λ other. other.number ≢ g.number) gs × Apart gs
 
 -- each gathered sender's entries all stand in the list
 abbrev pub AllThere : List Placed → List Gone → Type 0

@@ -1,10 +1,10 @@
-use Rattle.std.specs.Prelude.{◌≡◌, ◌≢◌, ℕ, suc, ◌<◌, ◌≤◌, true, List, [], ◌∷◌, ◌++◌, length, map, All}
+use Rattle.std.specs.Prelude.{◌≡◌, ℕ, suc, ◌<◌, ◌≤◌, true, List, ◌++◌, length, map, All}
 use mathlib.Core.Option.{some}
 use lib.ListN.{get_elem?}
 use Rattle.input_port.specs.declared.rule.Placed.{Placed}
 use Rattle.input_port.specs.declared.rule.Gone.{Gone}
 use Rattle.input_port.specs.declared.rule.View.{View}
-use Rattle.input_port.specs.Put.{StartsWith, of, one_to}
+use Rattle.input_port.specs.Put.{StartsWith, of, one_to, Apart}
 
 -- What the rule keeps of a port: its put list, what of it is drawn, how many numbers the desk has given out, which pass has
 -- which number (`seat n` is one more than the pass that puts under n, and 0 where none does), and which passes are the desk's
@@ -38,11 +38,6 @@ pub record IsGone (b : Book) (known : List Placed) (g : Gone) : Type 0 where
   pub free : b.seat g.number ≡ 0
   pub own : of g.number b.puts ≡ of g.number known
   pub counted : length (of g.number known) ≡ g.count
-
--- no number stands twice among the gathered
-abbrev pub Apart : List Gone → Type 0
-Apart [] = Unit {0}
-Apart (g ∷ gs) = All (λ other. other.number ≢ g.number) gs × Apart gs
 
 -- The one pass that takes knows what is drawn. Its known list begins the put list, and begins with the drawn entries.
 pub record FitsOwner (b : Book) (pass : ℕ) (v : View) : Type 0 where

@@ -1,10 +1,11 @@
-ghost use Rattle.std.specs.Prelude.{◌≡◌, [], MatchResult};
-ghost use Rattle.port_model.specs.Port.{empty_port, expires, expire_in, put_into};
-ghost use Rattle.input_port.specs.Ends.{single};
+//! The port of one thread as an inbox.
+ghost use Rattle.std.specs.Prelude.{◌≡◌, ◌==◌, ◌&&◌, [], MatchResult};
+ghost use Rattle.port_model.specs.Port.{empty_port, expires, put_into};
+ghost use Rattle.input_port.specs.Calls.{after_entry};
+ghost use Rattle.input_port.specs.declared.entry.Entry.TheVariants.{Timer};
 
-use crate::fused_port::FusedPort;
-use crate::{Fuse, Inbox, Unput};
-use port_model::{Item, PortError, Selection, Taken, TimerKey};
+use crate::{Fuse, Inbox, Unput, fused};
+use port_model::{Item, PlainPort, PortError, Selection, Taken, TimerKey};
 use std::alloc::Global;
 use std::marker::Model;
 
@@ -12,7 +13,7 @@ use std::marker::Model;
 #[derive(Drop)]
 pub struct Alone {
     pid: u32,
-    fused: FusedPort,
+    plain: PlainPort,
 }
 
 impl Model for Alone {
@@ -20,17 +21,17 @@ impl Model for Alone {
 
     ghost Value = { Solitary };
 
-    ghost view = { λ a. record { pid = a.pid; state = a.fused.state; fuses = a.fused.fuses } };
+    ghost view = { λ a. record { pid = a.pid; state = a.plain.state; armed = a.plain.armed } };
 }
 
 impl Alone {
     /// An empty port of the instance `pid`. Takes no memory.
     pub fn new(alloc: Global, pid: u32) -> Self
-        ensures { result ≡ record { pid = pid; state = empty_port; fuses = [] } }
+        ensures { result ≡ record { pid = pid; state = empty_port; armed = [] } }
     {
         Alone {
             pid,
-            fused: FusedPort::new(alloc),
+            plain: PlainPort::new(alloc),
         }
     }
 
@@ -38,20 +39,27 @@ impl Alone {
     pub fn put(&mut self, item: Item) -> Result<(), Unput<Item>>
         ensures { MatchResult result (λ _. self.new ≡ record self.old { state = put_into self.old.state item }) (λ back. (back.value ≡ item) × (self.new ≡ self.old)) }
     {
-        match self.fused.put(item) {
+        match self.plain.put(item) {
             Ok(()) => Ok(()),
-            Err(value) => Err(Unput { value }),
+            Err((_, value)) => Err(Unput { value }),
         }
     }
 
-    /// Expires a timer, and says whether its signal was put: before its time, and after another set or a reset, nothing changes.
-    /// For want of memory the fuse comes back.
+    /// Expires a timer, and says whether its signal was put: before its time, after another set or a reset, and by the fuse of
+    /// another port, nothing changes. For want of memory the fuse comes back.
     pub fn expire(&mut self, fuse: Fuse, at: u64) -> Result<bool, Unput<Fuse>>
-        ensures { MatchResult result (λ expired. (expired ≡ expires self.old.state fuse.key fuse.arm fuse.due at) × (self.new ≡ record self.old { state = expire_in self.old.state fuse.key fuse.arm fuse.due at })) (λ back. (back.value ≡ fuse) × (self.new ≡ self.old)) }
+        ensures expired { MatchResult result (λ expired. expired ≡ ((fuse.pid == self.old.pid) && expires self.old.state fuse.key fuse.arm fuse.due at)) (λ back. back.value ≡ fuse) }
+        ensures state { MatchResult result (λ _. self.new ≡ record self.old { state = after_entry self.old.pid self.old.state at (Timer fuse) }) (λ _. self.new ≡ self.old) }
     {
-        match self.fused.expire(&fuse, at) {
+        if fuse.pid() != self.pid {
+            return Ok(false);
+        }
+        let (key, arm, due) = fuse.into_parts();
+        match self.plain.expire(key, arm, due, at) {
             Ok(expired) => Ok(expired),
-            Err(_) => Err(Unput { value: fuse }),
+            Err((_, key)) => Err(Unput {
+                value: Fuse::new(self.pid, key, arm, due),
+            }),
         }
     }
 }
@@ -60,31 +68,31 @@ impl Inbox for Alone {
     ghost use Rattle.std.specs.Prelude.{[]};
     ghost use Rattle.input_port.specs.Ends.{single};
 
-    ghost owning = { λ a. single a.pid a.state a.fuses };
+    ghost owning = { λ a. single a.pid a.state a.armed };
 
     ghost since = { λ a. [] };
 
     fn take(&mut self, selection: &Selection) -> Result<Taken, PortError> {
-        Ok(self.fused.take(selection))
+        Ok(self.plain.take(selection))
     }
 
     fn set(&mut self, key: TimerKey, due: u64) -> Result<Fuse, PortError> {
-        self.fused.set(self.pid, key, due)
+        fused::set(&mut self.plain, self.pid, key, due)
     }
 
     fn reset(&mut self, key: &TimerKey) {
-        self.fused.reset(key);
+        self.plain.reset(key);
     }
 
     fn active(&self, key: &TimerKey) -> bool {
-        self.fused.active(key)
+        self.plain.active(key)
     }
 
     fn next_due(&self) -> Option<u64> {
-        self.fused.next_due()
+        self.plain.next_due()
     }
 
     fn stop(&mut self) {
-        self.fused.stop();
+        self.plain.stop();
     }
 }

@@ -1,10 +1,9 @@
-ghost use Rattle.std.specs.Prelude.{◌≡◌, ◌⊎◌, ◌+◌, true, List, [], ◌∷◌, ◌++◌, MatchResult};
-ghost use Rattle.port_model.specs.Port.{remove_from, set_in, stopped};
+//! The owner's calls, whatever stands behind the port.
+ghost use Rattle.std.specs.Prelude.{◌≡◌, ◌↔◌, true, List, IsErrOf, MatchResult};
 ghost use Rattle.port_model.specs.Timers.{due_times, is_active, IsLeast};
 ghost use Rattle.port_model.specs.declared.plain_port.TheConstants.{MOST_SETS};
-ghost use Rattle.input_port.specs.Calls.{TakesHere, HasDrawn};
+ghost use Rattle.input_port.specs.Calls.{after_reset, after_stop, HasDrawn, RefusesSet, Sets, TakesHere};
 ghost use Rattle.input_port.specs.Ends.{Owning};
-ghost use Rattle.input_port.specs.Fuses.{without_fuse};
 ghost use Rattle.input_port.specs.declared.entry.Entry.{Entry};
 
 use crate::Fuse;
@@ -30,13 +29,14 @@ pub trait Inbox {
     fn set(&mut self, key: TimerKey, due: u64) -> Result<Fuse, PortError>
         requires { (Self.owning self.old).state.alive ≡ true }
         ensures since { Self.since self.new ≡ Self.since self.old }
-        ensures set { MatchResult result (λ fuse. (Self.owning self.new ≡ record (Self.owning self.old) { state = set_in (Self.owning self.old).state key due; fuses = without_fuse key (Self.owning self.old).fuses ++ fuse ∷ [] }) × (fuse ≡ record { pid = (Self.owning self.old).pid; key = key; arm = (Self.owning self.old).state.sets + 1; due = due })) (λ error. (Self.owning self.new ≡ Self.owning self.old) × (((error ≡ PortError.SetsSpent) × ((Self.owning self.old).state.sets ≡ MOST_SETS)) ⊎ (error ≡ PortError.Memory))) };
+        ensures set { MatchResult result (λ fuse. Sets (Self.owning self.old) key due fuse (Self.owning self.new)) (λ error. RefusesSet (Self.owning self.old) error (Self.owning self.new)) }
+        ensures spent { IsErrOf result PortError.SetsSpent ↔ ((Self.owning self.old).state.sets ≡ MOST_SETS) };
 
     /// Resets a timer.
     fn reset(&mut self, key: &TimerKey)
         requires { (Self.owning self.old).state.alive ≡ true }
         ensures since { Self.since self.new ≡ Self.since self.old }
-        ensures reset { Self.owning self.new ≡ record (Self.owning self.old) { state = remove_from (Self.owning self.old).state key.now; fuses = without_fuse key.now (Self.owning self.old).fuses } };
+        ensures reset { Self.owning self.new ≡ after_reset (Self.owning self.old) key.now };
 
     /// Whether a timer is active.
     fn active(&self, key: &TimerKey) -> bool
@@ -52,5 +52,5 @@ pub trait Inbox {
     fn stop(&mut self)
         requires { (Self.owning self.old).state.alive ≡ true }
         ensures since { Self.since self.new ≡ Self.since self.old }
-        ensures stop { Self.owning self.new ≡ record (Self.owning self.old) { state = stopped (Self.owning self.old).state; fuses = [] } };
+        ensures stop { Self.owning self.new ≡ after_stop (Self.owning self.old) };
 }

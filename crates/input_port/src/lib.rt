@@ -12,7 +12,7 @@ mod alone;
 pub mod birth;
 mod desk;
 mod entry;
-mod fused_port;
+mod fused;
 mod held;
 mod inbox;
 mod owner;

@@ -1,18 +1,19 @@
-ghost use Rattle.std.specs.Prelude.{◌≡◌, ◌↔◌, ◌⊎◌, ◌<◌, ◌+◌, ◌-◌, ◌^◌, [], ◌∷◌, ◌++◌, true, None, MatchBool, MatchOption, MatchResult};
-ghost use Rattle.port_model.specs.Port.{empty_port, remove_from, set_in, stopped};
+//! What an owner does. The atomic steps are those of `steps`; each call says what it makes of the owner's own port.
+ghost use Rattle.std.specs.Prelude.{◌≡◌, ◌↔◌, ◌⊎◌, ◌<◌, ◌+◌, ◌-◌, ◌^◌, [], ◌∷◌, ◌++◌, true, None, length, IsErrOf, MatchBool, MatchOption, MatchResult};
+ghost use Rattle.port_model.specs.PlainPort.{armed_left};
+ghost use Rattle.port_model.specs.Port.{empty_port};
 ghost use Rattle.port_model.specs.Take.{Takes};
 ghost use Rattle.port_model.specs.Timers.{due_times, is_active, IsLeast};
 ghost use Rattle.port_model.specs.declared.plain_port.TheConstants.{MOST_SETS};
-ghost use Rattle.input_port.specs.Fuses.{fuses_after, without_fuse};
+ghost use Rattle.input_port.specs.Left.{AreWaiting};
 ghost use Rattle.input_port.specs.Views.{owner};
 ghost use Rattle.input_port.specs.declared.rule.Placed.{Placed};
-ghost use Rattle.input_port.specs.Calls.{after_draw, after_draws, popped_list, Finishes, Gathers, HasDrawn, IsDrawn, IsGathered, Meets, TakesHere, TakesIn};
+ghost use Rattle.input_port.specs.Calls.{after_draw, after_draws, after_reset, after_set, after_stop, popped_list, Finishes, Gathers, HasDrawn, IsDrawn, IsGathered, Meets, RefusesSet, Sets, TakesHere, TakesIn};
 ghost use Rattle.crossbeam_queue.specs.SegTies.{IsSegPassOf};
 
-use crate::fused_port::FusedPort;
 use crate::rule::{Pass, Placed, Queue};
-use crate::{Entry, Fuse, Port, Retired, Sender, steps};
-use port_model::{PortError, Selection, Taken, TimerKey};
+use crate::{Entry, Fuse, Port, Retired, Sender, fused, steps};
+use port_model::{PlainPort, PortError, Selection, Taken, TimerKey};
 use std::alloc::Global;
 use std::marker::Model;
 use std::sync::Wait;
@@ -23,7 +24,7 @@ pub struct Owner {
     alloc: Global,
     pid: u32,
     pass: Pass,
-    fused: FusedPort,
+    plain: PlainPort,
     gathered: u64,
 }
 
@@ -38,9 +39,9 @@ impl Model for Owner {
       pid = o.pid;
       drawn = o.pass.me.view.client.drawn;
       known = o.pass.me.view.client.seen;
-      gathered = o.gathered;
-      state = o.fused.state;
-      fuses = o.fused.fuses;
+      gathered = o.pass.me.view.client.gathered;
+      state = o.plain.state;
+      armed = o.plain.armed;
     } };
 
     ghost invariant = { λ o. IsOwning o.pass.me.view.client o.gathered × (o.pass.me.hand ≡ None) × (o.pass.me.spare ≡ None) };
@@ -50,20 +51,20 @@ impl Owner {
     pub(crate) fn new(alloc: Global, pid: u32, pass: Pass) -> Self
         requires view { pass.me.view.client ≡ owner [] [] [] [] }
         requires free { (pass.me.hand ≡ None) × (pass.me.spare ≡ None) }
-        ensures { result ≡ record { port = record { web = pass.web; heap = pass.heap }; pid = pid; drawn = []; known = []; gathered = 0; state = empty_port; fuses = [] } }
+        ensures { result ≡ record { port = record { web = pass.web; heap = pass.heap }; pid = pid; drawn = []; known = []; gathered = []; state = empty_port; armed = [] } }
     {
         Owner {
             alloc,
             pid,
             pass,
-            fused: FusedPort::new(alloc),
+            plain: PlainPort::new(alloc),
             gathered: 0,
         }
     }
 
     /// How many senders have been gathered and not handed back.
     pub fn gathered(&self) -> u64
-        ensures { result ≡ self.now.gathered }
+        ensures { result ≡ length self.now.gathered }
     {
         self.gathered
     }
@@ -130,9 +131,9 @@ impl Owner {
     // Takes from what is drawn.
     fn choose(&mut self, selection: &Selection) -> Taken
         ensures take { Takes selection.now self.old.state result self.new.state }
-        ensures same { self.new ≡ record self.old { state = self.new.state; fuses = fuses_after result self.old.fuses } }
+        ensures same { self.new ≡ record self.old { state = self.new.state; armed = armed_left result self.old.armed } }
     {
-        self.fused.take(selection)
+        self.plain.take(selection)
     }
 
     // Draws one entry, if the queue has one. The room for it is made first, so that no entry is lost for want of memory.
@@ -141,13 +142,13 @@ impl Owner {
         ensures port { self.new.port ≡ self.old.port }
         ensures pulled { MatchResult result (λ more. MatchBool more ((placed : Placed) × IsDrawn self.old self.new (placed ∷ [])) ((self.new ≡ self.old) × (self.new.known ≡ self.new.drawn))) (λ error. (error ≡ PortError.Memory) × (self.new ≡ self.old)) }
     {
-        if let Err(_) = self.fused.reserve() {
+        if let Err(_) = self.plain.reserve() {
             return Err(PortError::Memory);
         }
         match steps::pop(rt, &port.queue, &mut self.pass) {
             None => Ok(false),
             Some(placed) => {
-                self.fused.draw(placed);
+                fused::draw(&mut self.plain, self.pid, placed);
                 Ok(true)
             }
         }
@@ -169,11 +170,11 @@ impl Owner {
         if self.gathered == u64::MAX {
             return Err((PortError::Memory, sender));
         }
-        if let Err(_) = self.fused.reserve() {
+        if let Err(_) = self.plain.reserve() {
             return Err((PortError::Memory, sender));
         }
         let popped = take_in(rt, &port.queue, &mut self.pass, sender.into_pass());
-        draw_popped(&mut self.fused, popped);
+        draw_popped(&mut self.plain, self.pid, popped);
         self.gathered += 1;
         Ok(())
     }
@@ -192,12 +193,12 @@ impl Owner {
         ensures port { self.new.port ≡ self.old.port }
         ensures meet { MatchResult result (λ back. Meets self.old self.new sender back) (λ back. (back.0 ≡ PortError.Memory) × (back.1 ≡ sender) × (self.new ≡ self.old)) }
     {
-        if let Err(_) = self.fused.reserve() {
+        if let Err(_) = self.plain.reserve() {
             return Err((PortError::Memory, sender));
         }
         let (number, count, signals) = sender.numbers();
         let popped = take_in(rt, &port.queue, &mut self.pass, sender.into_pass());
-        draw_popped(&mut self.fused, popped);
+        draw_popped(&mut self.plain, self.pid, popped);
         let pass = steps::split_again(&port.queue, &mut self.pass);
         Ok(Sender::again(pass, number, count, signals))
     }
@@ -206,43 +207,44 @@ impl Owner {
     /// key is dropped then, and nothing changes.
     pub fn set(&mut self, key: TimerKey, due: u64) -> Result<Fuse, PortError>
         ensures port { self.new.port ≡ self.old.port }
-        ensures set { MatchResult result (λ fuse. (self.new ≡ record self.old { state = set_in self.old.state key due; fuses = without_fuse key self.old.fuses ++ fuse ∷ [] }) × (fuse ≡ record { pid = self.old.pid; key = key; arm = self.old.state.sets + 1; due = due })) (λ error. (self.new ≡ self.old) × (((error ≡ PortError.SetsSpent) × (self.old.state.sets ≡ MOST_SETS)) ⊎ (error ≡ PortError.Memory))) }
+        ensures set { MatchResult result (λ fuse. Sets self.old key due fuse self.new) (λ error. RefusesSet self.old error self.new) }
+        ensures spent { IsErrOf result PortError.SetsSpent ↔ (self.old.state.sets ≡ MOST_SETS) }
     {
-        self.fused.set(self.pid, key, due)
+        fused::set(&mut self.plain, self.pid, key, due)
     }
 
     /// Resets a timer: it isn't active any more, and its signal doesn't wait.
     pub fn reset(&mut self, key: &TimerKey)
-        ensures { self.new ≡ record self.old { state = remove_from self.old.state key.now; fuses = without_fuse key.now self.old.fuses } }
+        ensures { self.new ≡ after_reset self.old key.now }
     {
-        self.fused.reset(key);
+        self.plain.reset(key);
     }
 
     /// Whether a timer is active.
     pub fn active(&self, key: &TimerKey) -> bool
         ensures { result ≡ is_active key.now self.now.state.timers }
     {
-        self.fused.active(key)
+        self.plain.active(key)
     }
 
     /// The least due time of a timer that is set and has not expired.
     pub fn next_due(&self) -> Option<u64>
         ensures { IsLeast (due_times self.now.state.timers) result }
     {
-        self.fused.next_due()
+        self.plain.next_due()
     }
 
     // Ends the port, as `stop`, where the owner can't be consumed.
     pub(crate) fn halt(&mut self)
-        ensures { self.new ≡ record self.old { state = stopped self.old.state; fuses = [] } }
+        ensures { self.new ≡ after_stop self.old }
     {
-        self.fused.stop();
+        self.plain.stop();
     }
 
     /// Ends the port (Z.101, stop): what waits is discarded, no timer is active, and later entries have no effect. There is no
     /// owner any more, and so no further take, set or reset. Takes no memory.
     pub fn stop(mut self) -> Retired
-        ensures { result ≡ record { owner = record self { state = stopped self.state; fuses = [] }; since = [] } }
+        ensures { result ≡ record { owner = after_stop self; since = [] } }
     {
         let since = self.nothing_since();
         self.halt();
@@ -261,7 +263,7 @@ impl Owner {
         requires { self.old.port ≡ port.now.queue }
         ensures port { self.new.port ≡ self.old.port }
         ensures state { self.new.state ≡ self.old.state }
-        ensures popped { MatchOption result ((self.new ≡ self.old) × (self.new.known ≡ self.new.drawn)) (λ placed. IsDrawn self.old (record self.new { state = after_draw self.old.state placed }) (placed ∷ [])) }
+        ensures popped { MatchOption result ((self.new ≡ self.old) × (self.new.known ≡ self.new.drawn)) (λ placed. IsDrawn self.old (record self.new { state = after_draw self.old.pid self.old.state placed }) (placed ∷ [])) }
     {
         steps::pop(rt, &port.queue, &mut self.pass)
     }
@@ -270,10 +272,10 @@ impl Owner {
     pub(crate) fn absorb<R: Wait>(&mut self, rt: &R, port: &Port, sender: Sender) -> Option<Placed>
         requires owner { self.old.port ≡ port.now.queue }
         requires sender { sender.port ≡ port.now.queue }
-        requires fewer { self.old.gathered < 2 ^ 64 - 1 }
+        requires fewer { length self.old.gathered < 2 ^ 64 - 1 }
         ensures port { self.new.port ≡ self.old.port }
         ensures state { self.new.state ≡ self.old.state }
-        ensures gather { IsGathered self.old (record self.new { state = after_draws self.old.state (popped_list result) }) sender (popped_list result) }
+        ensures gather { IsGathered self.old (record self.new { state = after_draws self.old.pid self.old.state (popped_list result) }) sender (popped_list result) }
     {
         let popped = take_in(rt, &port.queue, &mut self.pass, sender.into_pass());
         self.gathered += 1;
@@ -294,18 +296,18 @@ impl Owner {
             alloc,
             pid,
             pass,
-            fused,
+            plain,
             gathered,
         } = self;
-        match fused.into_entries(alloc) {
+        match fused::into_entries(alloc, pid, plain) {
             Ok(list) => Ok(list),
-            Err(fused) => Err((
+            Err(plain) => Err((
                 PortError::Memory,
                 Owner {
                     alloc,
                     pid,
                     pass,
-                    fused,
+                    plain,
                     gathered,
                 },
             )),
@@ -326,12 +328,12 @@ fn take_in<R: Wait>(rt: &R, queue: &Queue, pass: &mut Pass, other: Pass) -> Opti
 }
 
 // Puts what was popped into the owner's port, into the room that was made.
-fn draw_popped(fused: &mut FusedPort, popped: Option<Placed>)
-    requires { 0 < fused.old.room }
-    ensures state { fused.new.state ≡ after_draws fused.old.state (popped_list popped) }
-    ensures fuses { fused.new.fuses ≡ fused.old.fuses }
+fn draw_popped(plain: &mut PlainPort, pid: u32, popped: Option<Placed>)
+    requires { 0 < plain.old.room }
+    ensures state { plain.new.state ≡ after_draws pid plain.old.state (popped_list popped) }
+    ensures armed { plain.new.armed ≡ plain.old.armed }
 {
     if let Some(placed) = popped {
-        fused.draw(placed);
+        fused::draw(plain, pid, placed);
     }
 }

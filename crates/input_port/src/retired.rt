@@ -1,4 +1,4 @@
-ghost use Rattle.std.specs.Prelude.{◌≡◌, ◌<◌, [], ◌∷◌, ◌++◌, map, vec_len, vec_capacity, MatchBool, MatchResult};
+ghost use Rattle.std.specs.Prelude.{◌≡◌, ◌<◌, [], ◌∷◌, ◌++◌, length, map, vec_len, vec_capacity, MatchBool, MatchResult};
 ghost use Rattle.input_port.specs.declared.rule.Placed.{Placed};
 ghost use Rattle.input_port.specs.Calls.{entry_of, popped_list, FinishesSince, GathersSince, HasDrawnSince, IsDrawnSince};
 
@@ -39,7 +39,7 @@ impl Retired {
 
     /// How many senders have been gathered and not handed back.
     pub fn gathered(&self) -> u64
-        ensures { result ≡ self.now.owner.gathered }
+        ensures { result ≡ length self.now.owner.gathered }
     {
         self.owner.gathered()
     }

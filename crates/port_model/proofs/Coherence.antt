@@ -1,7 +1,6 @@
-use Rattle.std.proofs.Common.{◌≡◌, ℕ, suc, ◌+◌, ◌<◌, ◌≤◌, Bool, true, false, not, ◌&&◌, ◌||◌, cond, List, [], ◌∷◌, ◌++◌, length, map, take, drop, get_or, subst, sym, ap, ◌∙◌, refl, arith, length-append}
-use Rattle.std.specs.Prelude.{filter, remove, nat_le}
+use Rattle.std.proofs.Common.{◌≡◌, ℕ, ◌+◌, ◌≤◌, Bool, true, false, not, ◌&&◌, ◌||◌, cond, List, [], ◌∷◌, ◌++◌, length, map, subst, sym, ap, ◌∙◌, refl, arith, length-append}
+use Rattle.std.specs.Prelude.{filter, nat_le}
 use Rattle.std.specs.List.{list_any}
-use Rattle.std.proofs.lemmas.List.{take-append-drop, drop_more}
 use Rattle.std.proofs.lemmas.List.Elements.{filter-append}
 use Rattle.port_model.specs.declared.timer_key.TimerKey.{TimerKey}
 use Rattle.port_model.specs.declared.timer.ActiveTimer.{ActiveTimer}
@@ -10,8 +9,8 @@ use Rattle.port_model.specs.declared.timer.Phase.TheVariants.{Running, Waiting}
 use Rattle.port_model.specs.declared.got.Got.{Got}
 use Rattle.port_model.specs.declared.got.Got.TheVariants.{Signal, Timer}
 use Rattle.port_model.specs.declared.item.Item.{Item}
-use Rattle.port_model.specs.Coherence.{is_set, has_key, runs_by, FitsKey, IsCoherent}
-use Rattle.port_model.specs.Timers.{same_key, same_phase, is_running, is_signal_of, waiting_timer, with_waiting, without_key, without_signal, after_taking}
+use Rattle.port_model.specs.Coherence.{has_key, runs_by, FitsKey, IsCoherent}
+use Rattle.port_model.specs.Timers.{same_key, is_set, same_phase, is_running, is_signal_of, waiting_timer, with_waiting, without_key, without_signal, after_taking}
 use Rattle.port_model.proofs.Keys.{same_key-Decides}
 
 -- how many entries pass a test, after the list has changed
@@ -72,7 +71,7 @@ module _ {X : Type 0} where
       ap length (filter-append p xs (x ∷ [])) ∙ length-append (filter p xs) (filter p (x ∷ []))
       ∙ ap (λ n. length (filter p xs) + n) (length_cons (p x) x [] ∙ omega arith)
 
-  length_removed : (p : X → Bool) (before after : List X) (x : X)
+  pub length_removed : (p : X → Bool) (before after : List X) (x : X)
       → length (filter p (before ++ x ∷ after)) ≡ length (filter p (before ++ after)) + cond (p x) 1 0
   length_removed p [] after x = length_cons (p x) x (filter p after) ∙ omega arith
   length_removed p (y ∷ before) after x =
@@ -224,16 +223,6 @@ coherent_between before after (Timer key) timers is k =
         let runs = ap length (runs_other key k timers differ) in
         let has = ap length (has_other key k timers differ) in
         record { one = omega arith; waits = omega arith }
-
-pub coherent_taken : (waiting : List Got) (timers : List ActiveTimer) (place : ℕ) (got : Got)
-    → place < length waiting → got ≡ get_or waiting place got → IsCoherent waiting timers → IsCoherent (remove waiting place) (after_taking got timers)
-coherent_taken waiting timers place got within at is =
-    let next : place + 1 ≡ suc place = omega arith in
-    let parts : waiting ≡ take place waiting ++ got ∷ drop (suc place) waiting =
-    sym (take-append-drop place waiting)
-    ∙ ap (λ l. take place waiting ++ l)
-    (drop_more waiting place got within ∙ ap (λ x. x ∷ drop (place + 1) waiting) (sym at) ∙ ap (λ n. got ∷ drop n waiting) next) in
-    coherent_between (take place waiting) (drop (suc place) waiting) got timers (subst (λ l. IsCoherent l timers) parts is)
 
 -- an expiry
 waiting_has : (key k : TimerKey) (arm : ℕ) (timer : ActiveTimer) → has_key k (waiting_timer key arm timer) ≡ has_key k timer

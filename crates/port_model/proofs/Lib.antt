@@ -1,7 +1,10 @@
+pub mod Backlogs
 pub mod Coherence
 pub mod Histories
 pub mod Keys
-pub mod Least
 pub mod Order
+pub mod Ordered
+pub mod Ports
 pub mod Resets
 pub mod Searches
+pub mod Table

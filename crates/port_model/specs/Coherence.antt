@@ -1,15 +1,8 @@
-use Rattle.std.specs.Prelude.{◌≡◌, ◌+◌, ◌≤◌, ◌&&◌, Bool, true, false, List, length, filter}
+use Rattle.std.specs.Prelude.{◌≡◌, ◌+◌, ◌≤◌, ◌&&◌, Bool, List, length, filter}
 use Rattle.port_model.specs.declared.got.Got.{Got}
 use Rattle.port_model.specs.declared.timer_key.TimerKey.{TimerKey}
 use Rattle.port_model.specs.declared.timer.ActiveTimer.{ActiveTimer}
-use Rattle.port_model.specs.declared.timer.Phase.{Phase}
-use Rattle.port_model.specs.declared.timer.Phase.TheVariants.{Running, Waiting}
-use Rattle.port_model.specs.Timers.{same_key, is_signal_of}
-
--- the timer is set and has not expired
-abbrev pub is_set : Phase → Bool
-is_set (Running arm due) = true
-is_set (Waiting arm) = false
+use Rattle.port_model.specs.Timers.{same_key, is_set, is_signal_of}
 
 -- the timer is the one of this key, and it is that and has not expired
 abbrev pub has_key : TimerKey → ActiveTimer → Bool

@@ -1,3 +1,4 @@
+pub mod Backlog
 pub mod Class
 pub mod Coherence
 pub mod History
@@ -7,6 +8,7 @@ pub mod Port
 pub mod Same
 pub mod Search
 pub mod Selection
+pub mod Table
 pub mod Take
 pub mod Text
 pub mod Timers

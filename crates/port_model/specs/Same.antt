@@ -1,14 +1,18 @@
 use Rattle.std.specs.Prelude.{◌≡◌, Bool, List, refl}
 use Rattle.std.proofs.Common.{ap}
 use Rattle.std.specs.Bool.{Decides}
-use Rattle.std.specs.Cmp.{IsEquivalence, decided, booleans_Decides, unsigned_Decides, signed_Decides}
-use Rattle.std.specs.Cmp.Lexicographic.{pointwise, pointwise_decides}
+use Rattle.std.specs.declared.cmp.Ordering.{Ordering}
+use Rattle.std.specs.Ordering.{eq_by_cmp}
+use Rattle.std.specs.Cmp.{IsEquivalence, IsTotalOrder, decided, booleans_Decides, unsigned_Decides, signed_Decides}
+use Rattle.std.specs.Cmp.Lexicographic.{pointwise, pointwise_decides, slice_cmp, lists_total, lists_ties}
 use Rattle.port_model.specs.declared.pid.Pid.{Pid}
 use Rattle.port_model.specs.declared.pid.Pid.TheVariants.{Null, Env, Of}
 use Rattle.port_model.specs.declared.value.Value.{Value}
 use Rattle.port_model.specs.declared.value.Value.TheVariants as sort
 use Rattle.port_model.specs.contracts.pid.PidPartialEq.TheImpl as pids
 use Rattle.port_model.specs.contracts.value.ValuePartialEq.TheImpl as values
+use Rattle.port_model.specs.contracts.value.ValueOrd.TheImpl as order
+use Rattle.port_model.specs.contracts.value.ValueOrd.TheImpl.Laws.{total-law, matches_eq-law}
 
 -- whether two Pids, two values or two lists of values are the same: what `==` answers
 abbrev pub same_pid : Pid → Pid → Bool
@@ -39,3 +43,16 @@ same_values-Decides = pointwise_decides same_value-Decides
 
 pub same_values_equiv : IsEquivalence same_values
 same_values_equiv = decided same_values same_values-Decides
+
+-- the order in which values stand, and lists of values: what `cmp` answers
+abbrev pub value_order : Value → Value → Ordering
+value_order = order.ghosts.cmp
+
+abbrev pub values_order : List Value → List Value → Ordering
+values_order = slice_cmp value_order
+
+pub values_order_total : IsTotalOrder values_order
+values_order_total = lists_total total-law
+
+pub values_order_ties : (xs ys : List Value) → same_values xs ys ≡ eq_by_cmp values_order xs ys
+values_order_ties = lists_ties value_order matches_eq-law

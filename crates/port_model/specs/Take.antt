@@ -44,3 +44,8 @@ Takes classes old (Consumed got) new =
 Takes classes old (Discarded got) new =
     All (IsOrdinary classes) old.waiting × TakesFirst (IsSaved classes) old got new × HasClass class.Discard classes got
 Takes classes old Nothing new = All (IsSaved classes) old.waiting × (new ≡ old)
+
+-- what a take gives of an entry that no priority input names and no save
+abbrev pub taken_as : Class → Got → Taken
+taken_as class.Discard got = Discarded got
+taken_as c got = Consumed got

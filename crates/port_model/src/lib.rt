@@ -4,6 +4,7 @@
 //! is a port for one thread, and each of its calls is exactly the step of that name.
 #![tactic(auto)]
 
+mod backlog;
 mod error;
 mod got;
 mod item;
@@ -15,6 +16,7 @@ mod selection;
 mod taken;
 mod timer;
 mod timer_key;
+mod timers;
 mod value;
 mod values;
 
@@ -26,5 +28,6 @@ pub use plain_port::PlainPort;
 pub use selection::{Class, Selection};
 pub use taken::Taken;
 pub use timer_key::TimerKey;
+pub use timers::{Timer, Timers};
 pub use value::Value;
 pub use values::Values;

@@ -4,7 +4,7 @@ ghost use Rattle.port_model.specs.Text.{pid_text};
 use std::fmt;
 
 /// The identity of an instance: what `self`, `parent`, `offspring` and `sender` hold.
-#[derive(Clone, Copy, Debug, PartialEq, Eq)]
+#[derive(Clone, Copy, Debug, PartialEq, Eq, PartialOrd, Ord)]
 pub enum Pid {
     /// No instance: `null`.
     Null,

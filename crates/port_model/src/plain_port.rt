@@ -1,11 +1,15 @@
-ghost use Rattle.std.specs.Prelude.{◌≡◌, ◌↔◌, ◌⊎◌, ◌+◌, ◌<◌, true, length, slice_index_or, remove, IfOk, IfErr, IsErrOf, OnOk, OnErr};
+//! The input port of one thread.
+ghost use Rattle.std.specs.Prelude.{◌≡◌, ◌↔◌, ◌⊎◌, ◌+◌, ◌<◌, ◌++◌, ◌∷◌, [], true, length, All, IsTrue, IfOk, IfErr, IsErrOf, OnOk, OnErr, MatchOption, MatchResult};
+ghost use Rattle.port_model.specs.Backlog.{waiting_in};
 ghost use Rattle.port_model.specs.Coherence.{IsCoherent};
+ghost use Rattle.port_model.specs.PlainPort.{armed_left};
 ghost use Rattle.port_model.specs.Port.{empty_port, expires, expire_in, put_into, remove_from, set_in, stopped};
-ghost use Rattle.port_model.specs.Take.{Takes};
-ghost use Rattle.port_model.specs.Timers.{after_taking, due_times, is_active, IsLeast};
+ghost use Rattle.port_model.specs.Take.{taken_as, HasClass, IsOrdinary, Takes, TakesFirst};
+ghost use Rattle.port_model.specs.Timers.{after_taking, armed_after, due_times, is_active, without_armed, without_signal, IsLeast};
+ghost use Rattle.port_model.specs.declared.selection.Class.TheVariants as class;
 
-use crate::timer::{ActiveTimer, Phase};
-use crate::{Class, Got, Item, PortError, Selection, Taken, TimerKey, search, timer};
+use crate::backlog::Backlog;
+use crate::{Class, Got, Item, PortError, Selection, Taken, TimerKey, Timers};
 use std::alloc::{AllocError, Global};
 use std::collections::VecDeque;
 use std::marker::Model;
@@ -16,48 +20,55 @@ pub const MOST_SETS: u64 = 1 << 62;
 /// An input port for one thread: a list of what waits and the active timers.
 #[derive(Debug, Drop)]
 pub struct PlainPort {
-    waiting: VecDeque<Got>,
-    timers: Vec<ActiveTimer>,
+    waiting: Backlog,
+    timers: Timers,
     sets: u64,
     alive: bool,
 }
 
 impl Model for PlainPort {
-    ghost use Rattle.std.specs.Prelude.{◌-◌, ◌≤◌};
-    ghost use Rattle.std.specs.VecDeque.{deque_len, deque_capacity};
+    ghost use Rattle.std.specs.Prelude.{◌≤◌};
     ghost use Rattle.port_model.specs.declared.plain_port.TheConstants.{MOST_SETS};
+    ghost use Rattle.port_model.specs.Backlog.{waiting_in};
     ghost use Rattle.port_model.specs.Coherence.{IsCoherent};
-    ghost use Rattle.port_model.specs.PlainPort.{PlainPortValue};
+    ghost use Rattle.port_model.specs.PlainPort.{AreUpTo, PlainPortValue};
 
     ghost Value = { PlainPortValue };
 
     ghost view = { λ port. record {
-      state = record { waiting = port.waiting.items; timers = port.timers.items; sets = port.sets; alive = port.alive };
-      room = deque_capacity port.waiting - deque_len port.waiting;
+      state = record { waiting = waiting_in port.waiting; timers = port.timers.timers; sets = port.sets; alive = port.alive };
+      armed = port.timers.armed;
+      room = port.waiting.room;
     } };
 
-    ghost invariant = { λ port. (port.sets ≤ MOST_SETS) × IsCoherent port.waiting.items port.timers.items };
+    ghost invariant = { λ port. (port.sets ≤ MOST_SETS)
+        × IsCoherent (waiting_in port.waiting) port.timers.timers
+        × AreUpTo port.sets port.timers.armed };
 }
 
 impl PlainPort {
     /// An empty port. Takes no memory.
     pub fn new(alloc: Global) -> Self
-        ensures { result.state ≡ empty_port }
+        ensures state { result.state ≡ empty_port }
+        ensures armed { result.armed ≡ [] }
     {
         PlainPort {
-            waiting: VecDeque::new(alloc),
-            timers: Vec::new(alloc),
+            waiting: Backlog::new(alloc),
+            timers: Timers::new(alloc),
             sets: 0,
             alive: true,
         }
     }
 
-    /// Makes room for one entry more. Nothing else changes, also where memory is refused.
+    /// Makes room for one entry more. Nothing else changes, also where memory is refused; and it is refused only where no room
+    /// was left.
     pub fn reserve(&mut self) -> Result<(), AllocError>
         ensures ok { OnOk result (0 < self.new.room) }
         ensures state { self.new.state ≡ self.old.state }
+        ensures armed { self.new.armed ≡ self.old.armed }
+        ensures full { OnErr result (self.old.room ≡ 0) }
     {
-        self.waiting.reserve(1)
+        self.waiting.reserve()
     }
 
     /// Puts a signal behind all that waits. A stopped port drops it, and takes no memory. For want of memory the signal
@@ -67,6 +78,8 @@ impl PlainPort {
         ensures err { OnErr result (self.new.state ≡ self.old.state) }
         ensures handed_back { IfErr result (λ refused. refused.1 ≡ item) }
         ensures refused_alive { OnErr result (self.old.state.alive ≡ true) }
+        ensures armed { self.new.armed ≡ self.old.armed }
+        ensures full { OnErr result (self.old.room ≡ 0) }
     {
         if !self.alive {
             return Ok(());
@@ -81,31 +94,37 @@ impl PlainPort {
     /// `put` into the room that `reserve` has made. Takes no memory.
     pub fn put_reserved(&mut self, item: Item)
         requires { 0 < self.old.room }
-        ensures { self.new.state ≡ put_into self.old.state item }
+        ensures state { self.new.state ≡ put_into self.old.state item }
+        ensures armed { self.new.armed ≡ self.old.armed }
     {
         if self.alive {
-            self.waiting.push_back_reserved(Got::Signal(item));
+            self.waiting.push_reserved(Got::Signal(item));
         }
     }
 
     /// Expires a timer (Z.102, timer): where it is Running by the set number `arm` for the time `due`, and `at` is `due` or
     /// later, its signal goes behind all that waits. The reply is whether that was so. In every other case nothing changes.
+    /// The key comes back for want of memory, and nothing changes.
     pub fn expire(
         &mut self,
-        key: &TimerKey,
+        key: TimerKey,
         arm: u64,
         due: u64,
         at: u64,
-    ) -> Result<bool, AllocError>
-        ensures ok { IfOk result (λ expired. expired ≡ expires self.old.state key.now arm due at) }
-        ensures state { OnOk result (self.new.state ≡ expire_in self.old.state key.now arm due at) }
+    ) -> Result<bool, (AllocError, TimerKey)>
+        ensures ok { IfOk result (λ expired. expired ≡ expires self.old.state key arm due at) }
+        ensures state { OnOk result (self.new.state ≡ expire_in self.old.state key arm due at) }
         ensures err { OnErr result (self.new.state ≡ self.old.state) }
+        ensures handed_back { IfErr result (λ refused. refused.1 ≡ key) }
+        ensures armed { self.new.armed ≡ self.old.armed }
+        ensures full { OnErr result (self.old.room ≡ 0) }
     {
-        if !self.expires(key, arm, due, at) {
+        if !self.expires(&key, arm, due, at) {
             return Ok(false);
         }
-        let key = key.copied()?;
-        self.reserve()?;
+        if let Err(error) = self.reserve() {
+            return Err((error, key));
+        }
         Ok(self.expire_reserved(key, arm, due, at))
     }
 
@@ -114,19 +133,27 @@ impl PlainPort {
         requires { 0 < self.old.room }
         ensures reply { result ≡ expires self.old.state key arm due at }
         ensures state { self.new.state ≡ expire_in self.old.state key arm due at }
+        ensures armed { self.new.armed ≡ self.old.armed }
     {
         if !self.expires(&key, arm, due, at) {
             return false;
         }
-        timer::expire(&mut self.timers, &key, arm);
-        self.waiting.push_back_reserved(Got::Timer(key));
+        self.timers.expire(&key, arm, due);
+        self.waiting.push_reserved(Got::Timer(key));
         true
     }
 
     fn expires(&self, key: &TimerKey, arm: u64, due: u64, at: u64) -> bool
         ensures { result ≡ expires self.now.state key.now arm due at }
     {
-        due <= at && timer::is_running(&self.timers, key, arm, due)
+        due <= at && self.timers.runs(key, arm, due)
+    }
+
+    /// Whether all sets that the port counts are made, so that the next one is refused.
+    pub fn sets_spent(&self) -> bool
+        ensures { IsTrue result ↔ (self.now.state.sets ≡ MOST_SETS) }
+    {
+        self.sets == MOST_SETS
     }
 
     /// Sets a timer for the time `due`, after a reset. The reply is the number of the set, from 1. Refused with `SetsSpent`
@@ -137,85 +164,79 @@ impl PlainPort {
         ensures spent { IsErrOf result PortError.SetsSpent ↔ (self.old.state.sets ≡ MOST_SETS) }
         ensures errors { IfErr result (λ error. (error ≡ PortError.SetsSpent) ⊎ (error ≡ PortError.Memory)) }
         ensures err { OnErr result (self.new.state ≡ self.old.state) }
+        ensures armed { MatchResult result (λ arm. self.new.armed ≡ without_armed key self.old.armed ++ record { key = key; arm = arm; due = due } ∷ []) (λ _. self.new.armed ≡ self.old.armed) }
     {
         if self.sets == MOST_SETS {
             return Err(PortError::SetsSpent);
         }
-        if let Err(_) = self.timers.reserve(1) {
+        let Ok(waited) = self.timers.set(key, self.sets + 1, due) else {
             return Err(PortError::Memory);
-        }
-        timer::forget(&mut self.timers, &key);
-        search::forget(&mut self.waiting, &key);
+        };
         self.sets += 1;
-        self.timers.push_reserved(ActiveTimer {
-            key,
-            phase: Phase::Running {
-                arm: self.sets,
-                due,
-            },
-        });
+        forget_signal(&mut self.waiting, waited);
         Ok(self.sets)
     }
 
     /// Resets a timer: it isn't active any more, and its signal doesn't wait. For an inactive timer nothing changes.
     pub fn reset(&mut self, key: &TimerKey)
-        ensures { self.new.state ≡ remove_from self.old.state key.now }
+        ensures state { self.new.state ≡ remove_from self.old.state key.now }
+        ensures armed { self.new.armed ≡ without_armed key.now self.old.armed }
     {
-        timer::forget(&mut self.timers, key);
-        search::forget(&mut self.waiting, key);
+        if self.timers.remove(key) {
+            self.waiting.forget(key);
+        }
     }
 
     /// Whether a timer is active: from its set until its signal is taken or it is reset.
     pub fn active(&self, key: &TimerKey) -> bool
         ensures { result ≡ is_active key.now self.now.state.timers }
     {
-        timer::is_active(&self.timers, key)
+        self.timers.active(key)
     }
 
     /// The least due time of a timer that is set and has not expired.
     pub fn next_due(&self) -> Option<u64>
         ensures { IsLeast (due_times self.now.state.timers) result }
     {
-        timer::next_due(&self.timers)
+        self.timers.next_due()
     }
 
     /// Takes the first entry of a priority input, else the first that isn't saved (Z.102, priority input, save). Takes no
     /// memory.
     pub fn take(&mut self, selection: &Selection) -> Taken
-        ensures { Takes selection.now self.old.state result self.new.state }
+        ensures take { Takes selection.now self.old.state result self.new.state }
+        ensures armed { self.new.armed ≡ armed_left result self.old.armed }
     {
-        if let Some(place) = search::first_priority(&self.waiting, selection) {
-            return Taken::Consumed(self.take_out(place));
+        if let Some(got) = self.take_priority(selection) {
+            return Taken::Consumed(got);
         }
-        let Some((place, class)) = search::first_unsaved(&self.waiting, selection) else {
-            return Taken::Nothing;
-        };
-        let got = self.take_out(place);
-        match class {
-            Class::Discard => Taken::Discarded(got),
-            _ => Taken::Consumed(got),
+        match self.waiting.take_unsaved(selection) {
+            None => Taken::Nothing,
+            Some((got, class)) => {
+                end_timer(&mut self.timers, &got);
+                taken_as(class, got)
+            }
         }
     }
 
-    // Takes the entry at `place` out of the list, and with a timer's signal its timer.
-    fn take_out(&mut self, place: usize) -> Got
-        requires { place < length self.old.state.waiting }
-        ensures entry { result ≡ slice_index_or self.old.state.waiting place result }
-        ensures state { self.new.state ≡ record self.old.state {
-          waiting = remove self.old.state.waiting place;
-          timers = after_taking result self.old.state.timers;
-        } }
+    /// Takes the first entry of a priority input, if there is one (Z.102, priority input). Takes no memory.
+    pub fn take_priority(&mut self, selection: &Selection) -> Option<Got>
+        ensures state { MatchOption result ((self.new.state ≡ self.old.state) × All (IsOrdinary selection.now) self.old.state.waiting) (λ got. TakesFirst (IsOrdinary selection.now) self.old.state got self.new.state × HasClass class.Priority selection.now got) }
+        ensures armed { MatchOption result (self.new.armed ≡ self.old.armed) (λ got. self.new.armed ≡ armed_after got self.old.armed) }
     {
-        let got = self.waiting.remove(place).unwrap();
-        if let Got::Timer(key) = &got {
-            timer::forget(&mut self.timers, key);
+        match self.waiting.take_priority(selection) {
+            None => None,
+            Some(got) => {
+                end_timer(&mut self.timers, &got);
+                Some(got)
+            }
         }
-        got
     }
 
     /// Ends the port: what waits is discarded, no timer is active, and later puts have no effect.
     pub fn stop(&mut self)
-        ensures { self.new.state ≡ stopped self.old.state }
+        ensures state { self.new.state ≡ stopped self.old.state }
+        ensures armed { self.new.armed ≡ [] }
     {
         self.waiting.clear();
         self.timers.clear();
@@ -229,19 +250,49 @@ impl PlainPort {
         self.waiting.len()
     }
 
-    /// What waits, in order. Each timer's signal among it is that of the one active timer of its key, and stands there once.
-    /// Takes no memory.
-    pub fn into_waiting(self) -> VecDeque<Got>
-        ensures waiting { result.items ≡ self.state.waiting }
-        ensures timers { IsCoherent result.items self.state.timers }
+    /// What waits, in order, and the table of the active timers. Each timer's signal among it is that of the one active timer of
+    /// its key, and stands there once. Takes no memory.
+    pub fn into_parts(self) -> (VecDeque<Got>, Timers)
+        ensures waiting { result.0.items ≡ self.state.waiting }
+        ensures timers { result.1 ≡ record { timers = self.state.timers; armed = self.armed } }
+        ensures coherent { IsCoherent result.0.items result.1.timers }
     {
         let PlainPort {
             waiting,
-            timers: _,
+            timers,
             sets: _,
             alive: _,
         } = self;
-        waiting
+        (waiting.into_deque(), timers)
+    }
+}
+
+// What a take gives of an entry that was taken out, by its class.
+fn taken_as(class: Class, got: Got) -> Taken
+    ensures { result ≡ taken_as class got }
+{
+    match class {
+        Class::Discard => Taken::Discarded(got),
+        _ => Taken::Consumed(got),
+    }
+}
+
+// Takes the signal of this timer out, if there is one.
+fn forget_signal(waiting: &mut Backlog, waited: Option<TimerKey>)
+    ensures { MatchOption waited (waiting_in waiting.new ≡ waiting_in waiting.old) (λ key. waiting_in waiting.new ≡ without_signal key (waiting_in waiting.old)) }
+{
+    if let Some(key) = waited {
+        waiting.forget(&key);
+    }
+}
+
+// A timer whose signal is taken is active no longer.
+fn end_timer(timers: &mut Timers, got: &Got)
+    ensures timers { timers.new.timers ≡ after_taking got.now timers.old.timers }
+    ensures armed { timers.new.armed ≡ armed_after got.now timers.old.armed }
+{
+    if let Got::Timer(key) = got {
+        timers.remove(key);
     }
 }
 

@@ -1,18 +1,20 @@
-ghost use Rattle.std.specs.Prelude.{◌≡◌};
+//! Searches in what waits.
+ghost use Rattle.std.specs.Prelude.{◌≡◌, ◌≤◌, length, take, All};
+ghost use Rattle.std.specs.VecDeque.{deque_capacity};
 ghost use Rattle.port_model.specs.Search.{FindsPriority, FindsUnsaved};
+ghost use Rattle.port_model.specs.Take.{IsOrdinary};
 ghost use Rattle.port_model.specs.Timers.{without_signal};
 
 use crate::{Class, Got, Selection, TimerKey};
 use std::collections::VecDeque;
 
-// The place of the first entry of a priority input. Where the state has none, what waits isn't looked at.
-pub fn first_priority(waiting: &VecDeque<Got>, selection: &Selection) -> Option<usize>
+// The place of the first entry of a priority input, where none of those before `from` is one.
+pub fn first_priority(waiting: &VecDeque<Got>, from: usize, selection: &Selection) -> Option<usize>
+    requires within { from ≤ length waiting.now.items }
+    requires looked { All (IsOrdinary selection.now) (take from waiting.now.items) }
     ensures { FindsPriority selection.now waiting.now.items result }
 {
-    if !selection.has_priority() {
-        return None;
-    }
-    for place in 0..waiting.len() {
+    for place in from..waiting.len() {
         if let Class::Priority = selection.class_of(waiting[place].name()) {
             return Some(place);
         }
@@ -35,7 +37,9 @@ pub fn first_unsaved(waiting: &VecDeque<Got>, selection: &Selection) -> Option<(
 
 // Takes the signal of the timer with this key out of the list.
 pub fn forget(waiting: &mut VecDeque<Got>, key: &TimerKey)
-    ensures { waiting.new.items ≡ without_signal key.now waiting.old.items }
+    ensures items { waiting.new.items ≡ without_signal key.now waiting.old.items }
+    ensures shorter { length waiting.new.items ≤ length waiting.old.items }
+    ensures capacity { deque_capacity waiting.new ≡ deque_capacity waiting.old }
 {
     waiting.retain(|got| !got.is_signal_of(key));
 }

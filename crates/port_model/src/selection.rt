@@ -1,3 +1,4 @@
+//! What a state does with each name.
 ghost use Rattle.std.specs.Prelude.{◌≡◌, ◌↔◌, IsTrue, Contains};
 ghost use Rattle.port_model.specs.Selection.{class_of};
 
@@ -20,18 +21,34 @@ pub enum Class {
 /// The class of each name in one state. The class of a name stands at its number; a name past the end is `Discard`.
 #[derive(Debug, Drop)]
 pub struct Selection {
-    pub classes: Vec<Class>,
+    classes: Vec<Class>,
+    has_priority: bool,
 }
 
 impl Model for Selection {
+    ghost use Rattle.std.specs.Prelude.{◌↔◌, IsTrue, Contains};
     ghost use Rattle.port_model.specs.Class.{ClassList};
+    ghost use Rattle.port_model.specs.declared.selection.Class.TheVariants.{Priority};
 
     ghost Value = { ClassList };
 
     ghost view = { λ selection. selection.classes.items };
+
+    ghost invariant = { λ selection. IsTrue selection.has_priority ↔ Contains selection.classes.items Priority };
 }
 
 impl Selection {
+    /// The selection with these classes. Takes no memory.
+    pub fn new(classes: Vec<Class>) -> Self
+        ensures { result ≡ classes.items }
+    {
+        let has_priority = classes.contains(&Class::Priority);
+        Selection {
+            classes,
+            has_priority,
+        }
+    }
+
     /// The class of a name.
     pub fn class_of(&self, name: SignalId) -> Class
         ensures { result ≡ class_of self.now name }
@@ -42,10 +59,10 @@ impl Selection {
             .unwrap_or(Class::Discard)
     }
 
-    /// Whether some name has the class `Priority`.
+    /// Whether some name has the class `Priority`. It is known since the selection was made.
     pub fn has_priority(&self) -> bool
         ensures { IsTrue result ↔ Contains self.now Class.Priority }
     {
-        self.classes.contains(&Class::Priority)
+        self.has_priority
     }
 }

@@ -4,7 +4,7 @@ use crate::{SignalId, Values};
 use std::alloc::AllocError;
 
 /// What tells the timers of an instance apart: name and values. A timer without parameters has no values.
-#[derive(Debug, PartialEq, Eq, Drop)]
+#[derive(Debug, PartialEq, Eq, PartialOrd, Ord, Drop)]
 pub struct TimerKey {
     pub name: SignalId,
     pub values: Values,

@@ -5,7 +5,7 @@ use crate::Pid;
 use std::fmt;
 
 /// A value of one of the predefined sorts. Times and durations are in ticks.
-#[derive(Clone, Copy, Debug, PartialEq, Eq)]
+#[derive(Clone, Copy, Debug, PartialEq, Eq, PartialOrd, Ord)]
 pub enum Value {
     Int(i64),
     Bool(bool),

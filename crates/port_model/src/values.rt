@@ -2,6 +2,7 @@ ghost use Rattle.std.specs.Prelude.{◌≡◌, ◌↔◌, [], length, slice_get,
 
 use crate::Value;
 use std::alloc::{AllocError, Global};
+use std::cmp::Ordering;
 use std::fmt;
 use std::marker::Model;
 
@@ -115,4 +116,36 @@ impl Eq for Values {
     ghost use Rattle.port_model.specs.Same.{same_values_equiv};
 
     ghost laws = { same_values_equiv };
+}
+
+impl PartialOrd for Values {
+    ghost use Rattle.std.specs.Prelude.{refl};
+    ghost use Rattle.std.specs.Cmp.{partial_order_from_agreeing_total};
+    ghost use Rattle.std.specs.Ordering.{as_partial_cmp};
+    ghost use Rattle.port_model.specs.Same.{values_order, values_order_total, values_order_ties};
+
+    ghost partial_cmp = { as_partial_cmp values_order };
+
+    ghost laws = { partial_order_from_agreeing_total values_order values_order_total (λ x y. refl) values_order_ties };
+
+    fn partial_cmp(&self, other: &Self) -> Option<Ordering> {
+        Some(self.cmp(other))
+    }
+}
+
+impl Ord for Values {
+    ghost use Rattle.std.specs.Prelude.{refl};
+    ghost use Rattle.port_model.specs.Same.{values_order, values_order_total, values_order_ties};
+
+    ghost cmp = { values_order };
+
+    ghost total = { values_order_total };
+
+    ghost matches_partial_cmp = { λ x y. refl };
+
+    ghost matches_eq = { values_order_ties };
+
+    fn cmp(&self, other: &Self) -> Ordering {
+        self.list.cmp(&other.list)
+    }
 }

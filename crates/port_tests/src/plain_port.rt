@@ -75,9 +75,7 @@ fn expect_takes(
     classes: [Class; 2],
     expected: &[Told],
 ) -> Result<(), AllocError> {
-    let selection = Selection {
-        classes: classes.to_vec(alloc)?,
-    };
+    let selection = Selection::new(classes.to_vec(alloc)?);
     for told_there in expected {
         let taken = port.take(&selection);
         assert_eq!(rt; summary(&taken), *told_there);
@@ -156,6 +154,20 @@ fn key(alloc: Global, number: i64) -> Result<TimerKey, AllocError> {
     })
 }
 
+/// Expires a timer by a copy of its key.
+fn expire(
+    port: &mut PlainPort,
+    key: &TimerKey,
+    arm: u64,
+    due: u64,
+    at: u64,
+) -> Result<bool, AllocError> {
+    match port.expire(key.copied()?, arm, due, at) {
+        Ok(expired) => Ok(expired),
+        Err((error, _)) => Err(error),
+    }
+}
+
 const INPUTS: [Class; 2] = [Class::Input, Class::Input];
 
 #[test]
@@ -166,7 +178,7 @@ fn a_timer_is_active_until_its_signal_is_taken(rt: HostRuntime) -> Result<(), Fa
     let arm = port.set(timer.copied()?, 10)?;
     assert_eq!(rt; (arm, port.next_due()), (1, Some(10)));
     for (at, expires) in [(9, false), (10, true), (11, false)] {
-        assert_eq!(rt; port.expire(&timer, 1, 10, at)?, expires);
+        assert_eq!(rt; expire(&mut port, &timer, 1, 10, at)?, expires);
         assert!(rt; port.active(&timer));
     }
     assert_eq!(rt; port.next_due(), None);
@@ -187,7 +199,7 @@ fn a_reset_takes_the_waiting_signal_too(rt: HostRuntime) -> Result<(), Fail> {
     let mut port = PlainPort::new(alloc);
     let timer = key(alloc, 1)?;
     let arm = port.set(timer.copied()?, 10)?;
-    assert!(rt; port.expire(&timer, arm, 10, 10)?);
+    assert!(rt; expire(&mut port, &timer, arm, 10, 10)?);
     put(&mut port, alloc, 1, 2)?;
     port.reset(&timer);
     assert!(rt; !port.active(&timer));
@@ -208,8 +220,8 @@ fn a_set_ends_the_one_before(rt: HostRuntime) -> Result<(), Fail> {
     let timer = key(alloc, 1)?;
     for (arm, due) in [(1, 10), (2, 20), (3, 20)] {
         assert_eq!(rt; port.set(timer.copied()?, due)?, arm);
-        assert!(rt; !port.expire(&timer, 1, 10, 9)?);
-        assert_eq!(rt; port.expire(&timer, 2, 20, 30)?, arm == 2);
+        assert!(rt; !expire(&mut port, &timer, 1, 10, 9)?);
+        assert_eq!(rt; expire(&mut port, &timer, 2, 20, 30)?, arm == 2);
     }
     expect_takes(&rt, alloc, &mut port, INPUTS, &[Told::Nothing])?;
     assert_eq!(rt; port.next_due(), Some(20));
@@ -261,12 +273,14 @@ fn what_waits_comes_out_in_order(rt: HostRuntime) -> Result<(), Fail> {
     let timer = key(alloc, 7)?;
     put(&mut port, alloc, 1, 2)?;
     let arm = port.set(timer.copied()?, 10)?;
-    assert_eq!(rt; port.expire(&timer, arm, 10, 10), Ok(true));
+    assert_eq!(rt; expire(&mut port, &timer, arm, 10, 10), Ok(true));
     put(&mut port, alloc, 1, 3)?;
     assert_eq!(rt; port.waiting_len(), 3);
-    let waiting = port.into_waiting();
+    let (waiting, timers) = port.into_parts();
     assert_eq!(rt; waiting.len(), 3);
     assert_eq!(rt; name_and_value(&waiting[0]), (1, Some(Value::Int(2))));
+    let armed = timers.get(&timer).map(|kept| (kept.arm, kept.due, kept.waits));
+    assert_eq!(rt; armed, Some((arm, 10, true)));
     assert_eq!(rt; waiting[1], Got::Timer(timer));
     assert_eq!(rt; name_and_value(&waiting[2]), (1, Some(Value::Int(3))));
     Ok(())

@@ -29,9 +29,7 @@ fn key(alloc: Global, name: u32) -> TimerKey {
 }
 
 fn selection(alloc: Global, classes: &[Class]) -> Result<Selection, AllocError> {
-    Ok(Selection {
-        classes: classes.to_vec(alloc)?,
-    })
+    Ok(Selection::new(classes.to_vec(alloc)?))
 }
 
 /// The name and the first value of a signal.

@@ -209,9 +209,7 @@ fn idle_states(alloc: Global, names: &Names<'_>) -> Result<Vec<State>, AllocErro
     let mut states = Vec::new(alloc);
     for text in names.texts() {
         let name = String::from_str(alloc, text)?;
-        let selection = Selection {
-            classes: Vec::new(alloc),
-        };
+        let selection = Selection::new(Vec::new(alloc));
         states.push(State {
             name,
             selection,
@@ -350,5 +348,5 @@ fn selection_of(alloc: Global, inputs: &[Option<Input>]) -> Result<Selection, Al
             Class::Discard
         })?;
     }
-    Ok(Selection { classes })
+    Ok(Selection::new(classes))
 }

@@ -2,11 +2,8 @@ use Rattle.std.proofs.Common.{◌∙◌, ap, rules, arith}
 use Rattle.port_model.specs.Selection.{class_of}
 use Rattle.port_model.specs.declared.selection.Class.TheVariants as class
 use Rattle.port_model.specs.Take.{IsOrdinary, HasClass}
-use Rattle.port_model.proofs.Searches.{first_found, passes_one, all_passed, all_ordinary}
+use Rattle.port_model.proofs.Searches.{first_found, passes_one, all_passed}
 use Rattle.port_model.proofs.search.first_priority.Goals as goal
-
-pub returns-then-not-has_priority : goal.returns-then-not-has_priority
-returns-then-not-has_priority c = all_ordinary c.args.selection.now c.args.waiting.now.items (search rules)
 
 pub returns-in-Priority : goal.returns-in-Priority
 returns-in-Priority c =

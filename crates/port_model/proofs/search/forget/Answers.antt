@@ -3,5 +3,5 @@ use Rattle.std.proofs.lemmas.Fn.{filter_same}
 use Rattle.port_model.specs.Timers.{is_signal_of}
 use Rattle.port_model.proofs.search.forget.Goals as goal
 
-pub returns : goal.returns
-returns c = filter_same _ (λ got. not (is_signal_of c.args.key.now got)) _ (λ x b f' k. search rules) _ _ c.retain.ensures.filtered
+pub returns-clause-items : goal.returns-clause-items
+returns-clause-items c = filter_same _ (λ got. not (is_signal_of c.args.key.now got)) _ (λ x b f' k. search rules) _ _ c.retain.ensures.filtered

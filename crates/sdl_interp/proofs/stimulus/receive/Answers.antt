@@ -17,7 +17,7 @@ returns-in-Nothing-clause-quiet g c = λ p is.
     let state = c.state_of-state.result.now in (
       state_of c.args.process.now.transitions.items state,
       state_at c.args.process.now p c.args.id.0 state is c.state_of-state.ensures,
-      (subst (λ (x : PlainPortValue). All (IsSaved state.selection) x.state.waiting) c.make_room.ensures.port c.in-Nothing.ensures.0, refl),
+      (subst (λ (x : PlainPortValue). All (IsSaved state.selection) x.state.waiting) c.make_room.ensures.port c.in-Nothing.ensures.take.0, refl),
     )
 
 pub returns-in-Discarded-clause-goes : goal.returns-in-Discarded-clause-goes
@@ -26,7 +26,7 @@ returns-in-Discarded-clause-goes g c = λ p is.
     let m = c.make_room.new.machine in
     goes_since p IsOneStep (In c.args.id) (In c.args.id) (value_of c.args.machine.now) (value_of m) (value_of c.discard.new.machine) (g.W.World.value c.args.world.now) (g.W.World.value c.discard.new.world) c.make_room.ensures.same
     (c.discard.ensures.goes p c.args.id (state_of c.args.process.now.transitions.items state) m.port.state (state_at c.args.process.now p c.args.id.0 state is c.state_of-state.ensures)
-    (ap (λ (x : PlainPortValue). x.state.alive) c.make_room.ensures.port ∙ c.requires.going.1) c.in-Discarded.ensures)
+    (ap (λ (x : PlainPortValue). x.state.alive) c.make_room.ensures.port ∙ c.requires.going.1) c.in-Discarded.ensures.take)
 
 pub returns-in-Consumed-clause-state : goal.returns-in-Consumed-clause-state
 returns-in-Consumed-clause-state g c =
@@ -51,5 +51,5 @@ returns-in-Consumed-clause-goes g c = λ p is.
     (c.consume.ensures.goes p c.args.id (state_of transitions state) (record { variables = input.variables.items; body = body_of transition }) m.port.state
     (state_at c.args.process.now p c.args.id.0 state is c.state_of-state.ensures)
     (reception_at transitions state.inputs.items _ input transition (subst (λ (x : SignalId). slice_get state.inputs.items x.0 ≡ Some (Some input)) c.name.ensures found) c.transition_of-transition.ensures)
-    refl (ap (λ (x : PlainPortValue). x.state.alive) c.make_room.ensures.port ∙ c.requires.going.1) c.in-Consumed.ensures)
+    refl (ap (λ (x : PlainPortValue). x.state.alive) c.make_room.ensures.port ∙ c.requires.going.1) c.in-Consumed.ensures.take)
     (c.make.ensures.goes p))

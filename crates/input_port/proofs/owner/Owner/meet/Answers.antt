@@ -1,6 +1,6 @@
 use Rattle.std.proofs.Common.{rules}
 use Rattle.input_port.specs.Calls.{popped_list}
-use Rattle.input_port.proofs.Meeting.{comes_back}
+use Rattle.input_port.proofs.Meeting.{comes_back, given_back}
 use Rattle.input_port.proofs.owner.Owner.meet.Goals as goal
 
 pub returns-clause-meet : goal.returns-clause-meet
@@ -15,3 +15,10 @@ returns-clause-meet g c = record {
       (search rules) (search rules) (search rules) (search rules) (search rules);
   seen = search rules;
 }
+
+pub invariant_of-self-2 : goal.invariant_of-self-2
+invariant_of-self-2 g c = (
+  given_back _ _ _ _ _ _ c.take_in-popped.ensures.taken c.split_again-pass.ensures.owner c.self.invariant.0.gathered_is,
+  search rules,
+  search rules,
+)
