@@ -1,4 +1,4 @@
-use Rattle.std.proofs.Common.{◌≡◌, ◌==◌, ℕ, cond, Bool, true, false, List, [], ◌∷◌, ◌++◌, map, Result, Ok, Err, MatchBool, MatchResult, refl, sym, ap, ◌∙◌, subst, append_assoc, append-nil, All, ⊎_elim}
+use Rattle.std.proofs.Common.{◌≡◌, ◌==◌, ℕ, cond, Bool, true, false, List, [], ◌∷◌, ◌++◌, map, Result, Ok, Err, MatchBool, MatchResult, refl, sym, ap, ◌∙◌, subst, append_assoc, append-nil, All, ⊎_elim, inl}
 use Rattle.port_model.specs.declared.error.PortError.{PortError}
 use Rattle.port_model.specs.declared.taken.Taken.TheVariants.{Consumed, Discarded, Nothing}
 use Rattle.port_model.specs.declared.selection.Class.TheVariants as class
@@ -8,15 +8,17 @@ use Rattle.port_model.specs.declared.taken.Taken.{Taken}
 use Rattle.port_model.specs.Port.{PortState, expires, expire_in}
 use Rattle.port_model.specs.Take as take
 use Rattle.input_port.specs.declared.rule.Placed.{Placed}
-use Rattle.input_port.specs.Ends.{Owning, Retiring}
+use Rattle.input_port.specs.Ends.{Owning, Retiring, Sending, IsKnowing}
 use Rattle.port_model.specs.PlainPort.{armed_left}
+use Rattle.input_port.specs.Held.{HasDrawnHere, Leaves}
 use Rattle.input_port.specs.Left.{AreWaiting}
 use Rattle.port_model.specs.declared.got.Got.TheVariants as got
-use Rattle.port_model.specs.Timers.{with_waiting}
+use Rattle.port_model.specs.declared.got.Got.{Got}
+use Rattle.port_model.specs.Timers.{with_waiting, armed_after, Armed}
 use Rattle.input_port.specs.declared.entry.Entry.{Entry}
 use Rattle.input_port.specs.declared.entry.Entry.TheVariants.{Signal, Timer}
-use Rattle.input_port.specs.Calls.{after_entry, after_draw, after_draws, known_after, entry_of, AreNext, Finishes, TakesHere, IsDrawn, HasDrawn, IsDrawnSince, HasDrawnSince}
-use Rattle.input_port.specs.Put.{longer}
+use Rattle.input_port.specs.Calls.{after_entry, after_draw, after_draws, known_after, entry_of, AreNext, Finishes, FinishesSince, Gathers, Meets, TakesHere, IsDrawn, HasDrawn, IsDrawnSince, HasDrawnSince}
+use Rattle.input_port.specs.Put.{longer, AllThere}
 use Rattle.input_port.proofs.PutLists.{starts_all, starts_through}
 
 -- entries drawn one after the other
@@ -94,46 +96,47 @@ goes_on classes first old mid new r before takes same pulled =
     draws_more first old new before (subst (λ o. HasDrawn o new) (nothing_taken classes old mid takes same) (pull_draws mid new r pulled))
 
 -- The same after a stop: `grown` is what the owner would be, had its port not been stopped.
-abbrev grown : Retiring → Retiring → List Placed → Owning
-grown old new news = record new.owner { state = after_draws old.owner.pid old.owner.state news }
+abbrev grown : Owning → Owning → List Placed → Owning
+grown old new news = record new { state = after_draws old.pid old.state news }
 
-since_some : (old new : Retiring) (news : List Placed) → IsDrawn old.owner (grown old new news) news → new.owner.state ≡ old.owner.state
-    → new.since ≡ old.since ++ map entry_of news → HasDrawnSince old new
-since_some old new news draws state since = (news, record { draws = draws; state = state; since = since })
+since_some : (old new : Owning) (since kept : List Entry) (news : List Placed) → IsDrawn old (grown old new news) news → new.state ≡ old.state
+    → kept ≡ since ++ map entry_of news → HasDrawnSince old new since kept
+since_some old new since kept news draws state is = (news, record { draws = draws; state = state; since_is = is })
 
-pub since_none : (old : Retiring) → HasDrawnSince old old
+pub since_none : (old : Owning) (since : List Entry) → HasDrawnSince old old since since
 unfolding draws_none
-since_none old = since_some old old [] (draws_none old.owner).1 refl (sym (append-nil old.since))
+since_none old since = since_some old old since since [] (draws_none old).1 refl (sym (append-nil since))
 
-pub since_more : (old mid new : Retiring) → HasDrawnSince old mid → HasDrawnSince mid new → HasDrawnSince old new
-since_more old mid new a b =
+pub since_more : (old mid new : Owning) (since more kept : List Entry) → HasDrawnSince old mid since more → HasDrawnSince mid new more kept
+    → HasDrawnSince old new since kept
+since_more old mid new since more kept a b =
     let f = a.1 in
     let s = b.1 in
-    let first : IsDrawn old.owner (grown old mid a.0) a.0 = f.draws in
-    let next : IsDrawn mid.owner (grown mid new b.0) b.0 = s.draws in
-    let both : IsDrawn old.owner (grown old new (a.0 ++ b.0)) (a.0 ++ b.0) = record {
+    let first : IsDrawn old (grown old mid a.0) a.0 = f.draws in
+    let next : IsDrawn mid (grown mid new b.0) b.0 = s.draws in
+    let both : IsDrawn old (grown old new (a.0 ++ b.0)) (a.0 ++ b.0) = record {
       port = next.port ∙ first.port;
       pid = next.pid ∙ first.pid;
       gathered = next.gathered ∙ first.gathered;
-      drawn = next.drawn ∙ ap (λ l. l ++ b.0) first.drawn ∙ append_assoc old.owner.drawn a.0 b.0;
-      next = AreNext-append old.owner.drawn a.0 b.0 first.next (subst (λ d. AreNext d b.0) first.drawn next.next);
-      known = next.known ∙ ap (λ k. known_after k mid.owner.drawn b.0) first.known
-          ∙ ap (λ d. known_after (known_after old.owner.known old.owner.drawn a.0) d b.0) first.drawn
-          ∙ sym (known_after-append old.owner.known old.owner.drawn a.0 b.0);
-      kept = starts_through new.owner.known mid.owner.known old.owner.known next.kept first.kept;
+      drawn = next.drawn ∙ ap (λ l. l ++ b.0) first.drawn ∙ append_assoc old.drawn a.0 b.0;
+      next = AreNext-append old.drawn a.0 b.0 first.next (subst (λ d. AreNext d b.0) first.drawn next.next);
+      known = next.known ∙ ap (λ k. known_after k mid.drawn b.0) first.known ∙ ap (λ d. known_after (known_after old.known old.drawn a.0) d b.0) first.drawn
+          ∙ sym (known_after-append old.known old.drawn a.0 b.0);
+      kept = starts_through new.known mid.known old.known next.kept first.kept;
       state = refl;
       armed = next.armed ∙ first.armed;
     } in
-    since_some old new (a.0 ++ b.0) both (s.state ∙ f.state)
-    (s.since ∙ ap (λ l. l ++ map entry_of b.0) f.since ∙ append_assoc old.since (map entry_of a.0) (map entry_of b.0)
-    ∙ ap (λ l. old.since ++ l) (sym (map-append entry_of a.0 b.0)))
+    since_some old new since kept (a.0 ++ b.0) both (s.state ∙ f.state)
+    (s.since_is ∙ ap (λ l. l ++ map entry_of b.0) f.since_is ∙ append_assoc since (map entry_of a.0) (map entry_of b.0)
+    ∙ ap (λ l. since ++ l) (sym (map-append entry_of a.0 b.0)))
 
-pub pull_since : (old new : Retiring) (r : Result Bool PortError)
-    → MatchResult r (λ more. MatchBool more ((placed : Placed) × IsDrawnSince old new (placed ∷ [])) ((new ≡ old) × (new.owner.known ≡ new.owner.drawn))) (λ error. (error ≡ PortError.Memory) × (new ≡ old))
-    → HasDrawnSince old new
-pull_since old new (Ok true) pulled = (pulled.0 ∷ [], pulled.1)
-pull_since old new (Ok false) pulled = subst (HasDrawnSince old) (sym pulled.0) (since_none old)
-pull_since old new (Err error) pulled = subst (HasDrawnSince old) (sym pulled.1) (since_none old)
+pub pull_since : (old new : Owning) (since kept : List Entry) (r : Result Bool PortError)
+    → MatchResult r (λ more. MatchBool more ((placed : Placed) × IsDrawnSince old new since kept (placed ∷ [])) ((new ≡ old) × (kept ≡ since) × (new.known ≡ new.drawn)))
+      (λ error. (error ≡ PortError.Memory) × (new ≡ old) × (kept ≡ since))
+    → HasDrawnSince old new since kept
+pull_since old new since kept (Ok true) pulled = (pulled.0 ∷ [], pulled.1)
+pull_since old new since kept (Ok false) pulled = subst (λ n. HasDrawnSince old n since kept) (sym pulled.0) (subst (λ l. HasDrawnSince old old since l) (sym pulled.1) (since_none old since))
+pull_since old new since kept (Err error) pulled = subst (λ n. HasDrawnSince old n since kept) (sym pulled.1) (subst (λ l. HasDrawnSince old old since l) (sym pulled.2) (since_none old since))
 
 -- a draw leaves a stopped port stopped, and a living one alive
 chosen-alive : (b : Bool) (p q : PortState) → p.alive ≡ q.alive → (cond b p q).alive ≡ q.alive
@@ -161,16 +164,30 @@ pub drawn-alive : (old new : Owning) → HasDrawn old new → new.state.alive �
 drawn-alive old new a = ap (λ p. p.alive) a.1.state ∙ after_draws-alive old.pid old.state a.0
 
 -- all that was put is drawn, and so is all that the owner knew, and the answer is what waits then
-pub finishes : (old mid : Owning) (answer : List Entry) → HasDrawn old mid → mid.known ≡ mid.drawn
+pub finishes : (old mid : Owning) (answer : List Entry) → HasDrawn old mid → mid.known ≡ mid.drawn → IsKnowing mid
     → AreWaiting mid.state.waiting mid.pid mid.armed answer → Finishes old answer
-finishes old mid answer a fresh list =
+finishes old mid answer a fresh knows list =
     let s = a.1 in
     record {
       news = a.0;
       next = s.next;
       known = (s.kept.0, sym (fresh ∙ s.drawn) ∙ s.kept.1);
+      there = subst (λ l. AllThere l old.gathered) (fresh ∙ s.drawn) (subst (AllThere mid.known) s.gathered knows.there);
       list = subst (λ p. AreWaiting p.waiting old.pid old.armed answer) s.state
           (subst (λ l. AreWaiting mid.state.waiting old.pid l answer) s.armed (subst (λ n. AreWaiting mid.state.waiting n mid.armed answer) s.pid list));
+    }
+
+-- the same after a stop
+pub finishes_since : (old mid : Owning) (since kept : List Entry) → HasDrawnSince old mid since kept → mid.known ≡ mid.drawn → IsKnowing mid → FinishesSince old since kept
+finishes_since old mid since kept a fresh knows =
+    let s = a.1 in
+    let d : IsDrawn old (grown old mid a.0) a.0 = s.draws in
+    record {
+      news = a.0;
+      next = d.next;
+      known = (d.kept.0, sym (fresh ∙ d.drawn) ∙ d.kept.1);
+      there = subst (λ l. AllThere l old.gathered) (fresh ∙ d.drawn) (subst (AllThere mid.known) d.gathered knows.there);
+      list = s.since_is;
     }
 
 pub take-alive : (classes : List Class) (old new : Owning) (r : Result Taken PortError)
@@ -178,3 +195,37 @@ pub take-alive : (classes : List Class) (old new : Owning) (r : Result Taken Por
     → new.state.alive ≡ old.state.alive
 take-alive classes old new (Ok taken) is = taken-alive classes (after_draws old.pid old.state is.news) new.state taken is.take ∙ after_draws-alive old.pid old.state is.news
 take-alive classes old new (Err error) is = drawn-alive old new is.1
+
+-- an entry of a priority input that is drawn already
+pub taken_urgent : (classes : List Class) (old : Owning) (state : PortState) (armed : List Armed) (g : Got)
+    → take.TakesFirst (take.IsOrdinary classes) old.state g state → take.HasClass class.Priority classes g → armed ≡ armed_after g old.armed
+    → TakesHere classes old (record old { state = state; armed = armed }) (Consumed g)
+unfolding draws_none
+taken_urgent classes old state armed g first urgent left = record {
+  news = [];
+  draws = (draws_none old).1;
+  take = inl (first, urgent);
+  armed = left;
+  fresh = λ e. absurd cc;
+  passed = λ _ ordinary. absurd (ordinary urgent);
+}
+
+-- a gathering and a meeting leave a living owner alive
+pub gather-alive : (old new : Owning) (sender : Sending) (r : Result (Unit {0}) (PortError × Sending))
+    → MatchResult r (λ _. Gathers old new sender) (λ back. (back.0 ≡ PortError.Memory) × (back.1 ≡ sender) × (new ≡ old)) → new.state.alive ≡ old.state.alive
+gather-alive old new sender (Ok u) is = ap (λ p. p.alive) is.1.draws.state ∙ after_draws-alive old.pid old.state is.0
+gather-alive old new sender (Err e) is = ap (λ o. o.state.alive) is.2
+
+pub meet-alive : (old new : Owning) (sender : Sending) (r : Result Sending (PortError × Sending))
+    → MatchResult r (λ back. Meets old new sender back) (λ back. (back.0 ≡ PortError.Memory) × (back.1 ≡ sender) × (new ≡ old)) → new.state.alive ≡ old.state.alive
+meet-alive old new sender (Ok back) is = ap (λ p. p.alive) is.draws.state ∙ after_draws-alive old.pid old.state is.news
+meet-alive old new sender (Err e) is = ap (λ o. o.state.alive) is.2
+
+-- what an inbox leaves that has stopped
+pub leaves_stopped : (old mid : Retiring) (answer : List Entry) → HasDrawnHere old mid → mid.owner.known ≡ mid.owner.drawn → IsKnowing mid.owner
+    → mid.owner.state.alive ≡ false → mid.since ≡ answer → Leaves old answer
+leaves_stopped old mid answer here fresh knows dead same = record {
+  living = λ alive. let still = drawn-alive old.owner mid.owner (here.living alive).0 ∙ alive in absurd (let both : false ≡ true = sym dead ∙ still in cc);
+  stopped = λ stop. finishes_since old.owner mid.owner old.since answer
+      (subst (λ l. HasDrawnSince old.owner mid.owner old.since l) same (here.stopped stop)) fresh knows;
+}

@@ -1,10 +1,11 @@
-use Rattle.std.proofs.Common.{◌≡◌, ℕ, List, [], ◌∷◌, ◌++◌, length, Option, Some, None, MatchOption, sym, refl, ap, ◌∙◌, subst, arith, length-append, append-nil}
+use Rattle.std.proofs.Common.{◌≡◌, ◌+◌, ℕ, count_by, List, [], ◌∷◌, ◌++◌, length, Option, Some, None, MatchOption, sym, refl, ap, ◌∙◌, subst, arith, length-append, append-nil}
+use Rattle.std.proofs.lemmas.Grind.{common_steps}
 use Rattle.std.proofs.lemmas.List.Elements.{All-head, All-same, All-tail}
 use Rattle.input_port.specs.declared.rule.Placed.{Placed}
 use Rattle.input_port.specs.declared.rule.Gone.{Gone}
 use Rattle.input_port.specs.declared.rule.View.{View}
 use Rattle.input_port.specs.Calls.{popped_list, TakesIn}
-use Rattle.input_port.specs.Ends.{Sending, sent_by, IsOwning}
+use Rattle.input_port.specs.Ends.{Sending, is_signal, sent_by, IsOwning}
 use Rattle.input_port.specs.Put.{StartsWith, of, longer, AllThere, Apart}
 use Rattle.input_port.specs.Steps.{Draws, IsFresh}
 use Rattle.input_port.specs.Views.{gathers, without_first, without_last}
@@ -83,15 +84,22 @@ comes_back sender back v u w news takes number seen count same all =
     ap (λ n. of n back.seen) same ∙ ap (of sender.number) all ∙ own_same sender.number w.seen sender.seen told long
 
 -- what the owner knows without the sender that it gave back
-pub given_back : (v u w z : View) (news : List Placed) (n : ℕ) → TakesIn v u w news → z ≡ without_last w → length v.gathered ≡ n → IsOwning z n
-given_back v u w z news n t is len =
+pub given_back : (v u w z : View) (news : List Placed) (n signals : ℕ) → TakesIn v u w news → z ≡ without_last w → length v.gathered ≡ n
+    → count_by is_signal w.drawn ≡ signals → IsOwning z n signals
+given_back v u w z news n signals t is len counted =
     let tail : without_first w.gathered ≡ v.gathered = ap without_first t.gathered in
     let apart = subst Apart t.gathered t.apart in
-    subst (λ l. IsOwning l n) (sym is) (record {
+    subst (λ l. IsOwning l n signals) (sym is) (record {
       takes = refl;
       gathered_is = ap length tail ∙ len;
+      signals_are = counted;
       begins = t.begins;
       there = All-same (Counted w.seen) (without_first w.gathered) v.gathered tail
           (All-tail (Counted w.seen) (record { number = u.number; count = u.count }) v.gathered (subst (AllThere w.seen) t.gathered t.there));
       apart = subst Apart (sym tail) apart.1;
     })
+
+-- the signals among what was drawn, and some more
+pub counted_more : (drawn now news : List Placed) (signals more : ℕ) → now ≡ drawn ++ news → count_by is_signal drawn ≡ signals
+    → more ≡ count_by is_signal news → count_by is_signal now ≡ signals + more
+counted_more drawn now news signals more same counted few = let all = ap (count_by is_signal) same in grind (arith, common_steps)

@@ -15,7 +15,7 @@ use Rattle.input_port.specs.declared.entry.Entry.TheVariants.{Signal, Timer}
 use Rattle.input_port.specs.declared.entry.Fuse.{Fuse}
 use Rattle.input_port.specs.declared.rule.Placed.{Placed}
 use Rattle.input_port.specs.declared.rule.View.{View}
-use Rattle.input_port.specs.Ends.{Sending, Owning, Retiring, sent_by}
+use Rattle.input_port.specs.Ends.{Sending, Owning, sent_by}
 use Rattle.input_port.specs.Left.{AreWaiting}
 use Rattle.input_port.specs.Put.{StartsWith, of, longer, AllThere, Apart}
 
@@ -151,36 +151,40 @@ pub record Meets (old new : Owning) (sender back : Sending) : Type 0 where
   pub own : of back.number back.seen ≡ of sender.number sender.seen
   pub seen : back.seen ≡ new.known
 
--- Entries are drawn until nothing is left of what the owner knew. The answer is what waits in the port of the standard after that:
--- what was put and neither taken nor reset, in its order, each timer's signal with the fuse that its set gave.
+-- Entries are drawn until nothing is left of what the owner knew, nor of what the gathered senders put, and not one more of
+-- these. The answer is what waits in the port of the standard after that: what was put and neither taken nor reset, in its
+-- order, each timer's signal with the fuse that its set gave.
 pub record Finishes (old : Owning) (answer : List Entry) : Type 0 where
   pub news : List Placed
   pub next : AreNext old.drawn news
   pub known : StartsWith (old.drawn ++ news) old.known
+  pub there : AllThere (old.drawn ++ news) old.gathered
   pub list : AreWaiting (after_draws old.pid old.state news).waiting old.pid old.armed answer
 
 abbrev pub entry_of : Placed → Entry
 entry_of placed = placed.entry
 
 -- After its stop the owner drew these entries, in their order, and keeps them. Its port is as the stop left it.
-pub record IsDrawnSince (old new : Retiring) (news : List Placed) : Type 0 where
-  pub draws : IsDrawn old.owner (record new.owner { state = after_draws old.owner.pid old.owner.state news }) news
-  pub state : new.owner.state ≡ old.owner.state
-  pub since : new.since ≡ old.since ++ map entry_of news
+pub record IsDrawnSince (old new : Owning) (since kept : List Entry) (news : List Placed) : Type 0 where
+  pub draws : IsDrawn old (record new { state = after_draws old.pid old.state news }) news
+  pub state : new.state ≡ old.state
+  pub since_is : kept ≡ since ++ map entry_of news
 
-abbrev pub HasDrawnSince : Retiring → Retiring → Type 0
-HasDrawnSince old new = (news : List Placed) × IsDrawnSince old new news
+abbrev pub HasDrawnSince : Owning → Owning → List Entry → List Entry → Type 0
+HasDrawnSince old new since kept = (news : List Placed) × IsDrawnSince old new since kept news
 
 -- A gathering after the stop: as before it, and what is drawn on the way is kept.
-pub record GathersSince (old new : Retiring) (sender : Sending) : Type 0 where
+pub record GathersSince (old new : Owning) (since kept : List Entry) (sender : Sending) : Type 0 where
   pub news : List Placed
-  pub gathers : IsGathered old.owner (record new.owner { state = after_draws old.owner.pid old.owner.state news }) sender news
-  pub state : new.owner.state ≡ old.owner.state
-  pub since : new.since ≡ old.since ++ map entry_of news
+  pub gathers : IsGathered old (record new { state = after_draws old.pid old.state news }) sender news
+  pub state : new.state ≡ old.state
+  pub since_is : kept ≡ since ++ map entry_of news
 
--- After the stop entries are drawn until nothing is left of what the owner knew: these are the entries drawn since.
-pub record FinishesSince (old : Retiring) (answer : List Entry) : Type 0 where
+-- After the stop entries are drawn until nothing is left of what the owner knew, nor of what the gathered senders put: these
+-- are the entries drawn since.
+pub record FinishesSince (old : Owning) (since answer : List Entry) : Type 0 where
   pub news : List Placed
-  pub next : AreNext old.owner.drawn news
-  pub known : StartsWith (old.owner.drawn ++ news) old.owner.known
-  pub list : answer ≡ old.since ++ map entry_of news
+  pub next : AreNext old.drawn news
+  pub known : StartsWith (old.drawn ++ news) old.known
+  pub there : AllThere (old.drawn ++ news) old.gathered
+  pub list : answer ≡ since ++ map entry_of news

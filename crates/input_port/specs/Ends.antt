@@ -21,6 +21,14 @@ pub record Sending : Type 0 where
   pub number : ℕ
   pub seen : List Placed
 
+-- the entry is a signal
+abbrev pub is_signal_entry : Entry → Bool
+is_signal_entry (Signal item) = true
+is_signal_entry (Timer fuse) = false
+
+abbrev pub is_signal : Placed → Bool
+is_signal placed = is_signal_entry placed.entry
+
 -- What a caller sees of the owner: which port it is of, and its number; the entries that it has drawn; its known list; the
 -- senders that are gathered with it, the last one first; the port of the standard that its calls and the drawn entries have
 -- made; and what the sets of the active timers gave.
@@ -32,6 +40,10 @@ pub record Owning : Type 0 where
   pub gathered : List Gone
   pub state : PortState
   pub armed : List Armed
+
+-- how many signals an owner has drawn
+abbrev pub signals_drawn : Owning → ℕ
+signals_drawn o = count_by is_signal o.drawn
 
 -- What every owner knows: the known list begins with what was drawn, and has all entries of the gathered senders, whose
 -- numbers differ.
@@ -53,18 +65,12 @@ pub record Solitary : Type 0 where
   pub state : PortState
   pub armed : List Armed
 
--- what a caller sees of an owner after its stop: the owner, and the entries that it has drawn since, which had no effect
+-- what a caller sees of an owner after its stop: the owner, the entries that it has drawn since, which had no effect, and how
+-- many signals it had drawn before
 pub record Retiring : Type 0 where
   pub owner : Owning
   pub since : List Entry
-
--- the entry is a signal
-abbrev pub is_signal_entry : Entry → Bool
-is_signal_entry (Signal item) = true
-is_signal_entry (Timer fuse) = false
-
-abbrev pub is_signal : Placed → Bool
-is_signal placed = is_signal_entry placed.entry
+  pub before : ℕ
 
 -- how many entries a sender has put, and how many of them are signals
 abbrev pub sent_by : Sending → ℕ
@@ -89,9 +95,10 @@ pub record IsDesking (known : View) (given : ℕ) : Type 0 where
   pub given_is : known.number ≡ given
 
 -- the owner's
-pub record IsOwning (known : View) (gathered : ℕ) : Type 0 where
+pub record IsOwning (known : View) (gathered signals : ℕ) : Type 0 where
   pub takes : known.takes ≡ true
   pub gathered_is : length known.gathered ≡ gathered
+  pub signals_are : count_by is_signal known.drawn ≡ signals
   pub begins : StartsWith known.seen known.drawn
   pub there : AllThere known.seen known.gathered
   pub apart : Apart known.gathered

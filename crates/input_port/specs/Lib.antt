@@ -1,5 +1,6 @@
 pub mod Calls
 pub mod Ends
+pub mod Headline
 pub mod Held
 pub mod Left
 pub mod Put

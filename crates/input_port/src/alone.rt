@@ -65,12 +65,14 @@ impl Alone {
 }
 
 impl Inbox for Alone {
-    ghost use Rattle.std.specs.Prelude.{[]};
+    ghost use Rattle.std.specs.Prelude.{false, []};
     ghost use Rattle.input_port.specs.Ends.{single};
 
     ghost owning = { λ a. single a.pid a.state a.armed };
 
     ghost since = { λ a. [] };
+
+    ghost shared = { false };
 
     fn take(&mut self, selection: &Selection) -> Result<Taken, PortError> {
         Ok(self.plain.take(selection))

@@ -1,122 +1,185 @@
-ghost use Rattle.std.specs.Prelude.{◌≡◌, [], true, MatchResult};
-ghost use Rattle.input_port.specs.Held.{Leaves, HasDrawnHere};
+//! The owner of a shared port, with the port, as an inbox.
+ghost use Rattle.std.specs.Prelude.{◌≡◌, [], true, length, MatchResult};
+ghost use Rattle.input_port.specs.Ends.{signals_drawn, IsKnowing};
+ghost use Rattle.input_port.specs.Held.{GathersHere, HasDrawnHere, Leaves};
 
-use crate::{Entry, Fuse, Inbox, Owner, Port, Retired};
+use crate::drawer::Drawer;
+use crate::{Entry, Fuse, Inbox, Owner, Port, Sender, since};
 use port_model::{PortError, Selection, Taken, TimerKey};
 use std::marker::Model;
 use std::sync::Wait;
 
-/// The owner of a shared port, with the port, as an inbox.
+/// The owner of a shared port, with the port and the handle by which it waits, as an inbox. It lives until `stop`.
 #[derive(Drop)]
-pub struct Held<'a, R: Wait> {
-    rt: &'a R,
+pub struct Held<'a, R: Wait + Copy> {
+    rt: R,
     port: &'a Port,
-    owner: Owner,
+    drawer: Drawer,
     since: Vec<Entry>,
+    before: u64,
     stopped: bool,
 }
 
-impl<'a, R: Wait> Model for Held<'a, R> {
+impl<'a, R: Wait + Copy> Model for Held<'a, R> {
     ghost use Rattle.std.specs.Prelude.{◌≡◌, not};
     ghost use Rattle.input_port.specs.Ends.{Retiring};
 
     ghost Value = { Retiring };
 
-    ghost view = { λ h. record { owner = h.owner; since = h.since.items } };
+    ghost view = { λ h. record { owner = h.drawer; since = h.since.items; before = h.before } };
 
-    ghost invariant = { λ h. (h.owner.port ≡ h.port.now.queue) × (h.owner.state.alive ≡ not h.stopped) };
+    ghost invariant = { λ h. (h.drawer.port ≡ h.port.now.queue) × (h.drawer.state.alive ≡ not h.stopped) };
 }
 
-impl<'a, R: Wait> Held<'a, R> {
+impl<'a, R: Wait + Copy> Held<'a, R> {
     /// An inbox that was not stopped. That the port is the owner's is the caller's condition.
-    pub fn new(rt: &'a R, port: &'a Port, owner: Owner) -> Self
-        requires port { owner.port ≡ port.now.queue }
-        requires alive { owner.state.alive ≡ true }
-        ensures { result ≡ record { owner = owner; since = [] } }
+    pub fn new(rt: R, port: &'a Port, owner: Owner) -> Self
+        requires { owner.port ≡ port.now.queue }
+        ensures inbox { result ≡ record { owner = owner; since = []; before = 0 } }
+        ensures alive { result.owner.state.alive ≡ true }
     {
-        let since = owner.nothing_since();
+        let drawer = owner.into_drawer();
+        let since = drawer.nothing_since();
         Held {
             rt,
             port,
-            owner,
+            drawer,
             since,
+            before: 0,
             stopped: false,
         }
     }
 
+    /// How many senders have been gathered and not handed back.
+    pub fn gathered(&self) -> u64
+        ensures { result ≡ length self.now.owner.gathered }
+    {
+        self.drawer.gathered()
+    }
+
+    /// How many signals have been drawn, before a stop and since.
+    pub fn signals(&self) -> u64
+        ensures { result ≡ signals_drawn self.now.owner }
+    {
+        self.drawer.signals()
+    }
+
+    /// How many signals had been drawn when it stopped, and 0 before.
+    pub fn drawn(&self) -> u64
+        ensures { result ≡ self.now.before }
+    {
+        self.before
+    }
+
+    /// Takes a sender in, before a stop and after it. For want of memory the sender comes back. That the port is the sender's is
+    /// the caller's condition.
+    pub fn gather(&mut self, sender: Sender) -> Result<(), (PortError, Sender)>
+        requires { sender.port ≡ self.old.owner.port }
+        ensures port { self.new.owner.port ≡ self.old.owner.port }
+        ensures before { self.new.before ≡ self.old.before }
+        ensures gather { MatchResult result (λ _. GathersHere self.old self.new sender) (λ back. (back.0 ≡ PortError.Memory) × (back.1 ≡ sender) × (self.new ≡ self.old)) }
+    {
+        if self.stopped {
+            return since::gather(
+                &mut self.drawer,
+                &mut self.since,
+                &self.rt,
+                self.port,
+                sender,
+            );
+        }
+        self.drawer.gather(&self.rt, self.port, sender)
+    }
+
+    /// Draws all that stands in the port, up to a fresh point, before a stop and after it. For want of memory it stops before.
+    pub fn drain(&mut self) -> Result<(), PortError>
+        ensures port { self.new.owner.port ≡ self.old.owner.port }
+        ensures before { self.new.before ≡ self.old.before }
+        ensures drawn { HasDrawnHere self.old self.new }
+        ensures fresh { MatchResult result (λ _. self.new.owner.known ≡ self.new.owner.drawn) (λ error. error ≡ PortError.Memory) }
+    {
+        if self.stopped {
+            return since::drain(&mut self.drawer, &mut self.since, &self.rt, self.port);
+        }
+        self.drawer.drain(&self.rt, self.port)
+    }
+
+    /// What every owner knows, as a fact.
+    pub fn knows(&self)
+        ensures { IsKnowing self.now.owner }
+    {
+        self.drawer.knows();
+    }
+
     /// Draws what stands in the port, and gives what is left: as `Owner::finish`, or after a stop as `Retired::finish`. For want of
     /// memory the inbox comes back, and keeps what it has drawn.
-    pub fn finish(self) -> Result<Vec<Entry>, (PortError, Self)>
+    pub fn finish(mut self) -> Result<Vec<Entry>, (PortError, Self)>
         ensures { MatchResult result (λ list. Leaves self.entry list.items) (λ back. (back.0 ≡ PortError.Memory) × HasDrawnHere self.entry back.1) }
     {
+        if let Err(error) = self.drain() {
+            return Err((error, self));
+        }
+        self.knows();
         let Held {
             rt,
             port,
-            owner,
+            drawer,
             since,
+            before,
             stopped,
         } = self;
-        if !stopped {
-            return match owner.finish(rt, port) {
-                Ok(list) => Ok(list),
-                Err((error, owner)) => Err((
-                    error,
-                    Held {
-                        rt,
-                        port,
-                        owner,
-                        since,
-                        stopped,
-                    },
-                )),
-            };
+        if stopped {
+            return Ok(since);
         }
-        match Retired::new(owner, since).finish(rt, port) {
+        match drawer.into_entries() {
             Ok(list) => Ok(list),
-            Err((error, retired)) => {
-                let (owner, since) = retired.into_parts();
-                Err((
-                    error,
-                    Held {
-                        rt,
-                        port,
-                        owner,
-                        since,
-                        stopped,
-                    },
-                ))
-            }
+            Err(drawer) => Err((
+                PortError::Memory,
+                Held {
+                    rt,
+                    port,
+                    drawer,
+                    since,
+                    before,
+                    stopped,
+                },
+            )),
         }
     }
 }
 
-impl<'a, R: Wait> Inbox for Held<'a, R> {
+impl<'a, R: Wait + Copy> Inbox for Held<'a, R> {
+    ghost use Rattle.std.specs.Prelude.{true};
+
     ghost owning = { λ h. h.owner };
 
     ghost since = { λ h. h.since };
 
+    ghost shared = { true };
+
     fn take(&mut self, selection: &Selection) -> Result<Taken, PortError> {
-        self.owner.take(self.rt, self.port, selection)
+        self.drawer.take(&self.rt, self.port, selection)
     }
 
     fn set(&mut self, key: TimerKey, due: u64) -> Result<Fuse, PortError> {
-        self.owner.set(key, due)
+        self.drawer.set(key, due)
     }
 
     fn reset(&mut self, key: &TimerKey) {
-        self.owner.reset(key);
+        self.drawer.reset(key);
     }
 
     fn active(&self, key: &TimerKey) -> bool {
-        self.owner.active(key)
+        self.drawer.active(key)
     }
 
     fn next_due(&self) -> Option<u64> {
-        self.owner.next_due()
+        self.drawer.next_due()
     }
 
     fn stop(&mut self) {
-        self.owner.halt();
+        self.before = self.drawer.signals();
+        self.drawer.stop();
         self.stopped = true;
     }
 }

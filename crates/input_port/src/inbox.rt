@@ -1,5 +1,5 @@
 //! The owner's calls, whatever stands behind the port.
-ghost use Rattle.std.specs.Prelude.{◌≡◌, ◌↔◌, true, List, IsErrOf, MatchResult};
+ghost use Rattle.std.specs.Prelude.{◌≡◌, ◌↔◌, Bool, true, List, IsErrOf, MatchResult};
 ghost use Rattle.port_model.specs.Timers.{due_times, is_active, IsLeast};
 ghost use Rattle.port_model.specs.declared.plain_port.TheConstants.{MOST_SETS};
 ghost use Rattle.input_port.specs.Calls.{after_reset, after_stop, HasDrawn, RefusesSet, Sets, TakesHere};
@@ -17,6 +17,9 @@ pub trait Inbox {
 
     /// What it has drawn since its stop.
     ghost since: { Self → List Entry };
+
+    /// Whether all that comes into the port from outside is drawn from a queue that threads share.
+    ghost shared: { Bool };
 
     /// Takes from the port (Z.102, priority input, save). For want of memory nothing is taken.
     fn take(&mut self, selection: &Selection) -> Result<Taken, PortError>

@@ -11,15 +11,18 @@
 mod alone;
 pub mod birth;
 mod desk;
+mod drawer;
 mod entry;
 mod fused;
 mod held;
 mod inbox;
+pub mod laws;
 mod owner;
 mod retired;
 mod rule;
 mod sender;
 mod shared;
+mod since;
 mod steps;
 mod unput;
 

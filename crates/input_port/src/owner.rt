@@ -1,50 +1,36 @@
-//! What an owner does. The atomic steps are those of `steps`; each call says what it makes of the owner's own port.
-ghost use Rattle.std.specs.Prelude.{◌≡◌, ◌↔◌, ◌⊎◌, ◌<◌, ◌+◌, ◌-◌, ◌^◌, [], ◌∷◌, ◌++◌, true, None, length, IsErrOf, MatchBool, MatchOption, MatchResult};
-ghost use Rattle.port_model.specs.PlainPort.{armed_left};
+//! The owner of a port: the instance, as long as it lives.
+ghost use Rattle.std.specs.Prelude.{◌≡◌, ◌↔◌, [], true, None, length, IsErrOf, MatchResult};
 ghost use Rattle.port_model.specs.Port.{empty_port};
-ghost use Rattle.port_model.specs.Take.{Takes};
 ghost use Rattle.port_model.specs.Timers.{due_times, is_active, IsLeast};
 ghost use Rattle.port_model.specs.declared.plain_port.TheConstants.{MOST_SETS};
+ghost use Rattle.input_port.specs.Calls.{after_reset, after_stop, Finishes, Gathers, HasDrawn, Meets, RefusesSet, Sets, TakesHere};
+ghost use Rattle.input_port.specs.Ends.{signals_drawn, IsKnowing};
 ghost use Rattle.input_port.specs.Left.{AreWaiting};
 ghost use Rattle.input_port.specs.Views.{owner};
-ghost use Rattle.input_port.specs.declared.rule.Placed.{Placed};
-ghost use Rattle.input_port.specs.Calls.{after_draw, after_draws, after_reset, after_set, after_stop, popped_list, Finishes, Gathers, HasDrawn, IsDrawn, IsGathered, Meets, RefusesSet, Sets, TakesHere, TakesIn};
-ghost use Rattle.crossbeam_queue.specs.SegTies.{IsSegPassOf};
 
-use crate::rule::{Pass, Placed, Queue};
-use crate::{Entry, Fuse, Port, Retired, Sender, fused, steps};
-use port_model::{PlainPort, PortError, Selection, Taken, TimerKey};
+use crate::drawer::Drawer;
+use crate::rule::Pass;
+use crate::{Entry, Fuse, Port, Retired, Sender};
+use port_model::{PortError, Selection, Taken, TimerKey};
 use std::alloc::Global;
 use std::marker::Model;
 use std::sync::Wait;
 
-/// The one that takes from a port and has its timers: the instance.
+/// The one that takes from a port and has its timers: the instance. It lives; `stop` makes another type of it.
 #[derive(Drop)]
 pub struct Owner {
-    alloc: Global,
-    pid: u32,
-    pass: Pass,
-    plain: PlainPort,
-    gathered: u64,
+    drawer: Drawer,
 }
 
 impl Model for Owner {
-    ghost use Rattle.std.specs.Prelude.{◌≡◌, None};
-    ghost use Rattle.input_port.specs.Ends.{Owning, IsOwning};
+    ghost use Rattle.std.specs.Prelude.{◌≡◌, true};
+    ghost use Rattle.input_port.specs.Ends.{Owning};
 
     ghost Value = { Owning };
 
-    ghost view = { λ o. record {
-      port = record { web = o.pass.web; heap = o.pass.heap };
-      pid = o.pid;
-      drawn = o.pass.me.view.client.drawn;
-      known = o.pass.me.view.client.seen;
-      gathered = o.pass.me.view.client.gathered;
-      state = o.plain.state;
-      armed = o.plain.armed;
-    } };
+    ghost view = { λ o. o.drawer };
 
-    ghost invariant = { λ o. IsOwning o.pass.me.view.client o.gathered × (o.pass.me.hand ≡ None) × (o.pass.me.spare ≡ None) };
+    ghost invariant = { λ o. o.drawer.state.alive ≡ true };
 }
 
 impl Owner {
@@ -54,25 +40,37 @@ impl Owner {
         ensures { result ≡ record { port = record { web = pass.web; heap = pass.heap }; pid = pid; drawn = []; known = []; gathered = []; state = empty_port; armed = [] } }
     {
         Owner {
-            alloc,
-            pid,
-            pass,
-            plain: PlainPort::new(alloc),
-            gathered: 0,
+            drawer: Drawer::new(alloc, pid, pass),
         }
+    }
+
+    // What it has, where it lives on in an inbox.
+    pub(crate) fn into_drawer(self) -> Drawer
+        ensures owner { result ≡ self }
+        ensures alive { result.state.alive ≡ true }
+    {
+        let Owner { drawer } = self;
+        drawer
     }
 
     /// How many senders have been gathered and not handed back.
     pub fn gathered(&self) -> u64
         ensures { result ≡ length self.now.gathered }
     {
-        self.gathered
+        self.drawer.gathered()
+    }
+
+    /// How many signals have been drawn.
+    pub fn signals(&self) -> u64
+        ensures { result ≡ signals_drawn self.now }
+    {
+        self.drawer.signals()
     }
 
     /// Takes from the port (Z.102, priority input, save): draws entries until the selection takes one, or until none is left.
-    /// After `Nothing` all that the owner knows of is drawn. In a state with a priority input everything is drawn first. For
-    /// want of memory nothing is taken, and what was drawn stays in the port. That it is the owner's port is the caller's
-    /// condition.
+    /// After `Nothing` all that the owner knows of is drawn. In a state with a priority input an entry of one that is drawn is
+    /// taken at once; else everything is drawn first. For want of memory nothing is taken, and what was drawn stays in the port.
+    /// That it is the owner's port is the caller's condition.
     pub fn take<R: Wait>(
         &mut self,
         rt: &R,
@@ -81,77 +79,28 @@ impl Owner {
     ) -> Result<Taken, PortError>
         requires { self.old.port ≡ port.now.queue }
         ensures port { self.new.port ≡ self.old.port }
+        ensures alive { self.new.state.alive ≡ true }
+        ensures knows { IsKnowing self.new }
         ensures take { MatchResult result (λ taken. TakesHere selection.now self.old self.new taken) (λ error. (error ≡ PortError.Memory) × HasDrawn self.old self.new) }
     {
-        if selection.has_priority() {
-            return self.take_fresh(rt, port, selection);
-        }
-        for _ in rt.forever() {
-            match self.choose(selection) {
-                Taken::Nothing => {}
-                taken => return Ok(taken),
-            }
-            if !self.pull(rt, port)? {
-                return Ok(Taken::Nothing);
-            }
-        }
-        unreachable!()
+        let taken = self.drawer.take(rt, port, selection);
+        self.drawer.knows();
+        taken
     }
 
-    // Draws all that the queue holds, and takes then.
-    fn take_fresh<R: Wait>(
-        &mut self,
-        rt: &R,
-        port: &Port,
-        selection: &Selection,
-    ) -> Result<Taken, PortError>
+    /// Draws all that stands in the port, up to a fresh point: then all that the owner knows of is drawn. For want of memory it
+    /// stops before. That it is the owner's port is the caller's condition.
+    pub fn drain<R: Wait>(&mut self, rt: &R, port: &Port) -> Result<(), PortError>
         requires { self.old.port ≡ port.now.queue }
         ensures port { self.new.port ≡ self.old.port }
-        ensures take { MatchResult result (λ taken. TakesHere selection.now self.old self.new taken) (λ error. (error ≡ PortError.Memory) × HasDrawn self.old self.new) }
-    {
-        self.drain(rt, port)?;
-        Ok(self.choose(selection))
-    }
-
-    // Draws all that the queue holds, up to a fresh point.
-    fn drain<R: Wait>(&mut self, rt: &R, port: &Port) -> Result<(), PortError>
-        requires { self.old.port ≡ port.now.queue }
-        ensures port { self.new.port ≡ self.old.port }
+        ensures alive { self.new.state.alive ≡ true }
+        ensures knows { IsKnowing self.new }
         ensures drawn { HasDrawn self.old self.new }
         ensures fresh { MatchResult result (λ _. self.new.known ≡ self.new.drawn) (λ error. error ≡ PortError.Memory) }
     {
-        for _ in rt.forever() {
-            if !self.pull(rt, port)? {
-                return Ok(());
-            }
-        }
-        unreachable!()
-    }
-
-    // Takes from what is drawn.
-    fn choose(&mut self, selection: &Selection) -> Taken
-        ensures take { Takes selection.now self.old.state result self.new.state }
-        ensures same { self.new ≡ record self.old { state = self.new.state; armed = armed_left result self.old.armed } }
-    {
-        self.plain.take(selection)
-    }
-
-    // Draws one entry, if the queue has one. The room for it is made first, so that no entry is lost for want of memory.
-    fn pull<R: Wait>(&mut self, rt: &R, port: &Port) -> Result<bool, PortError>
-        requires { self.old.port ≡ port.now.queue }
-        ensures port { self.new.port ≡ self.old.port }
-        ensures pulled { MatchResult result (λ more. MatchBool more ((placed : Placed) × IsDrawn self.old self.new (placed ∷ [])) ((self.new ≡ self.old) × (self.new.known ≡ self.new.drawn))) (λ error. (error ≡ PortError.Memory) × (self.new ≡ self.old)) }
-    {
-        if let Err(_) = self.plain.reserve() {
-            return Err(PortError::Memory);
-        }
-        match steps::pop(rt, &port.queue, &mut self.pass) {
-            None => Ok(false),
-            Some(placed) => {
-                fused::draw(&mut self.plain, self.pid, placed);
-                Ok(true)
-            }
-        }
+        let drawn = self.drawer.drain(rt, port);
+        self.drawer.knows();
+        drawn
     }
 
     /// Takes a sender in: the owner then knows all that the sender had seen. For want of memory the sender comes back. That the
@@ -165,18 +114,13 @@ impl Owner {
         requires owner { self.old.port ≡ port.now.queue }
         requires sender { sender.port ≡ port.now.queue }
         ensures port { self.new.port ≡ self.old.port }
+        ensures alive { self.new.state.alive ≡ true }
+        ensures knows { IsKnowing self.new }
         ensures gather { MatchResult result (λ _. Gathers self.old self.new sender) (λ back. (back.0 ≡ PortError.Memory) × (back.1 ≡ sender) × (self.new ≡ self.old)) }
     {
-        if self.gathered == u64::MAX {
-            return Err((PortError::Memory, sender));
-        }
-        if let Err(_) = self.plain.reserve() {
-            return Err((PortError::Memory, sender));
-        }
-        let popped = take_in(rt, &port.queue, &mut self.pass, sender.into_pass());
-        draw_popped(&mut self.plain, self.pid, popped);
-        self.gathered += 1;
-        Ok(())
+        let gathered = self.drawer.gather(rt, port, sender);
+        self.drawer.knows();
+        gathered
     }
 
     /// Takes a sender in and gives it back: the owner then knows all that the sender had seen, and the sender has seen all that
@@ -191,16 +135,13 @@ impl Owner {
         requires owner { self.old.port ≡ port.now.queue }
         requires sender { sender.port ≡ port.now.queue }
         ensures port { self.new.port ≡ self.old.port }
+        ensures alive { self.new.state.alive ≡ true }
+        ensures knows { IsKnowing self.new }
         ensures meet { MatchResult result (λ back. Meets self.old self.new sender back) (λ back. (back.0 ≡ PortError.Memory) × (back.1 ≡ sender) × (self.new ≡ self.old)) }
     {
-        if let Err(_) = self.plain.reserve() {
-            return Err((PortError::Memory, sender));
-        }
-        let (number, count, signals) = sender.numbers();
-        let popped = take_in(rt, &port.queue, &mut self.pass, sender.into_pass());
-        draw_popped(&mut self.plain, self.pid, popped);
-        let pass = steps::split_again(&port.queue, &mut self.pass);
-        Ok(Sender::again(pass, number, count, signals))
+        let met = self.drawer.meet(rt, port, sender);
+        self.drawer.knows();
+        met
     }
 
     /// Sets a timer for the time `due`, after a reset. Refused with `SetsSpent` after 2^62 sets, and for want of memory; the
@@ -210,81 +151,56 @@ impl Owner {
         ensures set { MatchResult result (λ fuse. Sets self.old key due fuse self.new) (λ error. RefusesSet self.old error self.new) }
         ensures spent { IsErrOf result PortError.SetsSpent ↔ (self.old.state.sets ≡ MOST_SETS) }
     {
-        fused::set(&mut self.plain, self.pid, key, due)
+        self.drawer.set(key, due)
     }
 
     /// Resets a timer: it isn't active any more, and its signal doesn't wait.
     pub fn reset(&mut self, key: &TimerKey)
         ensures { self.new ≡ after_reset self.old key.now }
     {
-        self.plain.reset(key);
+        self.drawer.reset(key);
     }
 
     /// Whether a timer is active.
     pub fn active(&self, key: &TimerKey) -> bool
         ensures { result ≡ is_active key.now self.now.state.timers }
     {
-        self.plain.active(key)
+        self.drawer.active(key)
     }
 
     /// The least due time of a timer that is set and has not expired.
     pub fn next_due(&self) -> Option<u64>
         ensures { IsLeast (due_times self.now.state.timers) result }
     {
-        self.plain.next_due()
-    }
-
-    // Ends the port, as `stop`, where the owner can't be consumed.
-    pub(crate) fn halt(&mut self)
-        ensures { self.new ≡ after_stop self.old }
-    {
-        self.plain.stop();
+        self.drawer.next_due()
     }
 
     /// Ends the port (Z.101, stop): what waits is discarded, no timer is active, and later entries have no effect. There is no
     /// owner any more, and so no further take, set or reset. Takes no memory.
-    pub fn stop(mut self) -> Retired
-        ensures { result ≡ record { owner = after_stop self; since = [] } }
+    pub fn stop(self) -> Retired
+        ensures { result ≡ record { owner = after_stop self; since = []; before = signals_drawn self } }
     {
-        let since = self.nothing_since();
-        self.halt();
-        Retired::new(self, since)
+        let Owner { mut drawer } = self;
+        let since = drawer.nothing_since();
+        let before = drawer.signals();
+        drawer.stop();
+        Retired::new(drawer, since, before)
     }
 
-    // The list of what is drawn after the stop. Takes no memory.
-    pub(crate) fn nothing_since(&self) -> Vec<Entry>
-        ensures { result.items ≡ [] }
+    /// What waits in the port of the standard, in order: what was drawn and neither taken nor reset, each timer's signal with its
+    /// fuse. For want of memory the owner comes back as it was.
+    pub fn into_entries(self) -> Result<Vec<Entry>, (PortError, Owner)>
+        ensures { MatchResult result (λ list. AreWaiting self.state.waiting self.pid self.armed list.items) (λ back. (back.0 ≡ PortError.Memory) × (back.1 ≡ self)) }
     {
-        Vec::new(self.alloc)
+        let Owner { drawer } = self;
+        match drawer.into_entries() {
+            Ok(list) => Ok(list),
+            Err(drawer) => Err((PortError::Memory, Owner { drawer })),
+        }
     }
 
-    // An entry popped after the stop, which has no effect on the port.
-    pub(crate) fn pop<R: Wait>(&mut self, rt: &R, port: &Port) -> Option<Placed>
-        requires { self.old.port ≡ port.now.queue }
-        ensures port { self.new.port ≡ self.old.port }
-        ensures state { self.new.state ≡ self.old.state }
-        ensures popped { MatchOption result ((self.new ≡ self.old) × (self.new.known ≡ self.new.drawn)) (λ placed. IsDrawn self.old (record self.new { state = after_draw self.old.pid self.old.state placed }) (placed ∷ [])) }
-    {
-        steps::pop(rt, &port.queue, &mut self.pass)
-    }
-
-    // A gathering after the stop, with the entry popped on the way.
-    pub(crate) fn absorb<R: Wait>(&mut self, rt: &R, port: &Port, sender: Sender) -> Option<Placed>
-        requires owner { self.old.port ≡ port.now.queue }
-        requires sender { sender.port ≡ port.now.queue }
-        requires fewer { length self.old.gathered < 2 ^ 64 - 1 }
-        ensures port { self.new.port ≡ self.old.port }
-        ensures state { self.new.state ≡ self.old.state }
-        ensures gather { IsGathered self.old (record self.new { state = after_draws self.old.pid self.old.state (popped_list result) }) sender (popped_list result) }
-    {
-        let popped = take_in(rt, &port.queue, &mut self.pass, sender.into_pass());
-        self.gathered += 1;
-        popped
-    }
-
-    /// Draws what stands in the port, all that the owner knows among it, and gives what is left: what was put and neither
-    /// taken nor reset, in order. For want of memory the owner comes back, with what it has drawn in its port. That the
-    /// port is the owner's is the caller's condition.
+    /// `drain`, and then `into_entries`: what was put and neither taken nor reset, in order. For want of memory the owner comes
+    /// back, with what it has drawn in its port. That the port is the owner's is the caller's condition.
     pub fn finish<R: Wait>(mut self, rt: &R, port: &Port) -> Result<Vec<Entry>, (PortError, Owner)>
         requires { self.port ≡ port.now.queue }
         ensures { MatchResult result (λ list. Finishes self list.items) (λ back. (back.0 ≡ PortError.Memory) × HasDrawn self back.1) }
@@ -292,48 +208,6 @@ impl Owner {
         if let Err(error) = self.drain(rt, port) {
             return Err((error, self));
         }
-        let Owner {
-            alloc,
-            pid,
-            pass,
-            plain,
-            gathered,
-        } = self;
-        match fused::into_entries(alloc, pid, plain) {
-            Ok(list) => Ok(list),
-            Err(plain) => Err((
-                PortError::Memory,
-                Owner {
-                    alloc,
-                    pid,
-                    pass,
-                    plain,
-                    gathered,
-                },
-            )),
-        }
-    }
-}
-
-// Takes a sender's pass in, and pops one entry, if the queue has one: this pop tells that what the two had seen are both
-// beginnings of the put list.
-fn take_in<R: Wait>(rt: &R, queue: &Queue, pass: &mut Pass, other: Pass) -> Option<Placed>
-    requires queue { IsSegPassOf queue.now pass.old × IsSegPassOf queue.now other }
-    requires rights { (pass.old.me.view.client.takes ≡ true) × (other.me.view.client.sends ≡ true) }
-    ensures queue { IsSegPassOf queue.now pass.new }
-    ensures taken { TakesIn pass.old.me.view.client other.me.view.client pass.new.me.view.client (popped_list result) }
-{
-    steps::take_back(queue, pass, other);
-    steps::pop(rt, queue, pass)
-}
-
-// Puts what was popped into the owner's port, into the room that was made.
-fn draw_popped(plain: &mut PlainPort, pid: u32, popped: Option<Placed>)
-    requires { 0 < plain.old.room }
-    ensures state { plain.new.state ≡ after_draws pid plain.old.state (popped_list popped) }
-    ensures armed { plain.new.armed ≡ plain.old.armed }
-{
-    if let Some(placed) = popped {
-        fused::draw(plain, pid, placed);
+        self.into_entries()
     }
 }

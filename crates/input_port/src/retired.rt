@@ -1,9 +1,10 @@
-ghost use Rattle.std.specs.Prelude.{◌≡◌, ◌<◌, [], ◌∷◌, ◌++◌, length, map, vec_len, vec_capacity, MatchBool, MatchResult};
-ghost use Rattle.input_port.specs.declared.rule.Placed.{Placed};
-ghost use Rattle.input_port.specs.Calls.{entry_of, popped_list, FinishesSince, GathersSince, HasDrawnSince, IsDrawnSince};
+//! An owner after its stop.
+ghost use Rattle.std.specs.Prelude.{◌≡◌, length, MatchResult};
+ghost use Rattle.input_port.specs.Calls.{FinishesSince, GathersSince, HasDrawnSince};
+ghost use Rattle.input_port.specs.Ends.{signals_drawn, IsKnowing};
 
-use crate::rule::Placed;
-use crate::{Entry, Owner, Port, Sender};
+use crate::drawer::Drawer;
+use crate::{Entry, Port, Sender, since};
 use port_model::PortError;
 use std::marker::Model;
 use std::sync::Wait;
@@ -11,8 +12,9 @@ use std::sync::Wait;
 /// An owner after its stop, which takes nothing more. What is put from then on has no effect, and is handed out by `finish`.
 #[derive(Drop)]
 pub struct Retired {
-    owner: Owner,
+    drawer: Drawer,
     since: Vec<Entry>,
+    before: u64,
 }
 
 impl Model for Retired {
@@ -20,28 +22,39 @@ impl Model for Retired {
 
     ghost Value = { Retiring };
 
-    ghost view = { λ r. record { owner = r.owner; since = r.since.items } };
+    ghost view = { λ r. record { owner = r.drawer; since = r.since.items; before = r.before } };
 }
 
 impl Retired {
-    pub(crate) fn new(owner: Owner, since: Vec<Entry>) -> Self
-        ensures { result ≡ record { owner = owner; since = since.items } }
+    pub(crate) fn new(drawer: Drawer, since: Vec<Entry>, before: u64) -> Self
+        ensures { result ≡ record { owner = drawer; since = since.items; before = before } }
     {
-        Retired { owner, since }
-    }
-
-    pub(crate) fn into_parts(self) -> (Owner, Vec<Entry>)
-        ensures { (result.0 ≡ self.owner) × (result.1.items ≡ self.since) }
-    {
-        let Retired { owner, since } = self;
-        (owner, since)
+        Retired {
+            drawer,
+            since,
+            before,
+        }
     }
 
     /// How many senders have been gathered and not handed back.
     pub fn gathered(&self) -> u64
         ensures { result ≡ length self.now.owner.gathered }
     {
-        self.owner.gathered()
+        self.drawer.gathered()
+    }
+
+    /// How many signals have been drawn, before the stop and since.
+    pub fn signals(&self) -> u64
+        ensures { result ≡ signals_drawn self.now.owner }
+    {
+        self.drawer.signals()
+    }
+
+    /// How many signals had been drawn when it stopped.
+    pub fn drawn(&self) -> u64
+        ensures { result ≡ self.now.before }
+    {
+        self.before
     }
 
     /// Takes a sender in, as `Owner::gather` does. For want of memory the sender comes back. That the port is that of both is
@@ -55,76 +68,55 @@ impl Retired {
         requires owner { self.old.owner.port ≡ port.now.queue }
         requires sender { sender.port ≡ port.now.queue }
         ensures port { self.new.owner.port ≡ self.old.owner.port }
-        ensures gather { MatchResult result (λ _. GathersSince self.old self.new sender) (λ back. (back.0 ≡ PortError.Memory) × (back.1 ≡ sender) × (self.new ≡ self.old)) }
+        ensures knows { IsKnowing self.new.owner }
+        ensures before { self.new.before ≡ self.old.before }
+        ensures gather { MatchResult result (λ _. GathersSince self.old.owner self.new.owner self.old.since self.new.since sender) (λ back. (back.0 ≡ PortError.Memory) × (back.1 ≡ sender) × (self.new ≡ self.old)) }
     {
-        if self.owner.gathered() == u64::MAX {
-            return Err((PortError::Memory, sender));
-        }
-        if let Err(_) = self.since.reserve(1) {
-            return Err((PortError::Memory, sender));
-        }
-        let popped = self.owner.absorb(rt, port, sender);
-        keep(&mut self.since, popped);
-        Ok(())
+        let gathered = since::gather(&mut self.drawer, &mut self.since, rt, port, sender);
+        self.drawer.knows();
+        gathered
     }
 
-    /// What was put and not drawn before the stop, in order. For want of memory the value comes back, and keeps what it has
-    /// drawn. That the port is the owner's is the caller's condition.
+    /// Draws all that stands in the port, up to a fresh point, and keeps it. For want of memory it stops before. That the port is
+    /// the owner's is the caller's condition.
+    pub fn drain<R: Wait>(&mut self, rt: &R, port: &Port) -> Result<(), PortError>
+        requires { self.old.owner.port ≡ port.now.queue }
+        ensures port { self.new.owner.port ≡ self.old.owner.port }
+        ensures knows { IsKnowing self.new.owner }
+        ensures before { self.new.before ≡ self.old.before }
+        ensures drawn { HasDrawnSince self.old.owner self.new.owner self.old.since self.new.since }
+        ensures fresh { MatchResult result (λ _. self.new.owner.known ≡ self.new.owner.drawn) (λ error. error ≡ PortError.Memory) }
+    {
+        let drawn = since::drain(&mut self.drawer, &mut self.since, rt, port);
+        self.drawer.knows();
+        drawn
+    }
+
+    /// The entries drawn since the stop, in order. Takes no memory.
+    pub fn into_entries(self) -> Vec<Entry>
+        ensures { result.items ≡ self.since }
+    {
+        let Retired {
+            drawer: _,
+            since,
+            before: _,
+        } = self;
+        since
+    }
+
+    /// `drain`, and then `into_entries`: what was put and not drawn before the stop, in order. For want of memory the value comes
+    /// back, and keeps what it has drawn. That the port is the owner's is the caller's condition.
     pub fn finish<R: Wait>(
         mut self,
         rt: &R,
         port: &Port,
     ) -> Result<Vec<Entry>, (PortError, Retired)>
         requires { self.owner.port ≡ port.now.queue }
-        ensures { MatchResult result (λ list. FinishesSince self list.items) (λ back. (back.0 ≡ PortError.Memory) × HasDrawnSince self back.1) }
+        ensures { MatchResult result (λ list. FinishesSince self.owner self.since list.items) (λ back. (back.0 ≡ PortError.Memory) × HasDrawnSince self.owner back.1.owner self.since back.1.since) }
     {
         if let Err(error) = self.drain(rt, port) {
             return Err((error, self));
         }
-        let (_, since) = self.into_parts();
-        Ok(since)
-    }
-
-    // Draws all that the queue holds, up to a fresh point.
-    fn drain<R: Wait>(&mut self, rt: &R, port: &Port) -> Result<(), PortError>
-        requires { self.old.owner.port ≡ port.now.queue }
-        ensures port { self.new.owner.port ≡ self.old.owner.port }
-        ensures drawn { HasDrawnSince self.old self.new }
-        ensures fresh { MatchResult result (λ _. self.new.owner.known ≡ self.new.owner.drawn) (λ error. error ≡ PortError.Memory) }
-    {
-        for _ in rt.forever() {
-            if !self.pull(rt, port)? {
-                return Ok(());
-            }
-        }
-        unreachable!()
-    }
-
-    // Draws one entry, if the queue has one.
-    fn pull<R: Wait>(&mut self, rt: &R, port: &Port) -> Result<bool, PortError>
-        requires { self.old.owner.port ≡ port.now.queue }
-        ensures port { self.new.owner.port ≡ self.old.owner.port }
-        ensures pulled { MatchResult result (λ more. MatchBool more ((placed : Placed) × IsDrawnSince self.old self.new (placed ∷ [])) ((self.new ≡ self.old) × (self.new.owner.known ≡ self.new.owner.drawn))) (λ error. (error ≡ PortError.Memory) × (self.new ≡ self.old)) }
-    {
-        if let Err(_) = self.since.reserve(1) {
-            return Err(PortError::Memory);
-        }
-        match self.owner.pop(rt, port) {
-            None => Ok(false),
-            Some(placed) => {
-                self.since.push_reserved(placed.into_entry());
-                Ok(true)
-            }
-        }
-    }
-}
-
-// Puts what was popped into the list, into the room that was made.
-fn keep(since: &mut Vec<Entry>, popped: Option<Placed>)
-    requires { vec_len since.old < vec_capacity since.old }
-    ensures { since.new.items ≡ since.old.items ++ map entry_of (popped_list popped) }
-{
-    if let Some(placed) = popped {
-        since.push_reserved(placed.into_entry());
+        Ok(self.into_entries())
     }
 }

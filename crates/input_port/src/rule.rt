@@ -1,5 +1,6 @@
 //! The rule of a port, and what each atomic step tells.
-ghost use Rattle.std.specs.Prelude.{◌≡◌};
+ghost use Rattle.std.specs.Prelude.{◌≡◌, ◌≤◌, if◌then◌else◌};
+ghost use Rattle.input_port.specs.Ends.{is_signal_entry};
 
 use crate::Entry;
 use crossbeam_queue::protocol::{Join, Lesson, Outcome, Protocol, Split};
@@ -17,6 +18,14 @@ pub struct Placed {
 }
 
 impl Placed {
+    /// 1 for a signal, 0 for an expiry.
+    pub fn signals(&self) -> u64
+        ensures few { result ≤ 1 }
+        ensures count { result ≡ (if is_signal_entry self.now.entry then 1 else 0) }
+    {
+        u64::from(self.entry.is_signal())
+    }
+
     pub fn into_entry(self) -> Entry
         ensures { result ≡ self.entry }
     {

@@ -1,7 +1,10 @@
-use Rattle.std.proofs.Common.{◌∙◌}
-use Rattle.input_port.proofs.Drawing.{drawn-alive}
+use Rattle.std.proofs.Common.{◌≡◌, ◌∙◌, not, sym, ap}
+use Rattle.input_port.specs.Ends.{Retiring}
+use Rattle.input_port.proofs.Drawing.{leaves_stopped}
 use Rattle.input_port.proofs.held.Held.finish.Goals as goal
 
-pub invariant_of-result : goal.invariant_of-result
-invariant_of-result g c =
-    (c.in-Err.ensures.1.1.port ∙ c.self.invariant.0, drawn-alive _ _ c.in-Err.ensures.1 ∙ c.self.invariant.1)
+pub returns-then-stopped : goal.returns-then-stopped
+returns-then-stopped g c =
+    leaves_stopped c.args.self c.drain.new.self _ c.in_default.ensures.drawn c.in_default.ensures.fresh c.knows.ensures
+    (sym (ap (λ (r : Retiring). r.owner.state.alive) c.self.view_is) ∙ c.self.invariant.1 ∙ ap not c.if-stopped.true)
+    (sym (ap (λ (r : Retiring). r.since) c.self.view_is))

@@ -1,7 +1,9 @@
 use Rattle.std.proofs.Common.{◌∙◌}
-use Rattle.input_port.proofs.Drawing.{draws_more, pull_draws}
+use Rattle.input_port.proofs.Drawing.{drawn-alive}
 use Rattle.input_port.proofs.owner.Owner.drain.Goals as goal
 
-pub loop-preserved : goal.loop-preserved
-loop-preserved g c =
-    (c.pull.ensures.port ∙ c.loop.invariant.0, draws_more _ _ _ c.loop.invariant.1 (pull_draws _ _ c.pull.result c.pull.ensures.pulled))
+pub invariant_of-self : goal.invariant_of-self
+invariant_of-self g c = drawn-alive _ _ c.drain-drawn.ensures.drawn ∙ c.self.invariant
+
+pub returns-clause-alive : goal.returns-clause-alive
+returns-clause-alive g c = drawn-alive _ _ c.drain-drawn.ensures.drawn ∙ c.self.invariant

@@ -1,16 +1,9 @@
-use Rattle.std.proofs.Common.{◌∙◌, ap, rules}
-use Rattle.input_port.specs.Calls.{HasDrawn}
-use Rattle.input_port.proofs.Drawing.{goes_on}
+use Rattle.std.proofs.Common.{◌∙◌}
+use Rattle.input_port.proofs.Drawing.{take-alive}
 use Rattle.input_port.proofs.owner.Owner.take.Goals as goal
 
-pub returns-in_err-pull-clause-take : goal.returns-in_err-pull-clause-take
-returns-in_err-pull-clause-take g c =
-    let drawn : HasDrawn c.args.self.now c.pull.new.self =
-    goes_on _ _ _ _ _ c.pull.result c.loop.invariant.1 c.in-Nothing.ensures.take c.in-Nothing.ensures.same c.pull.ensures.pulled in
-    search rules
+pub invariant_of-self : goal.invariant_of-self
+invariant_of-self g c = take-alive _ _ _ c.take-taken.result c.take-taken.ensures.take ∙ c.self.invariant
 
-pub loop-preserved : goal.loop-preserved
-loop-preserved g c = (
-  c.pull.ensures.port ∙ ap (λ o. o.port) c.choose.ensures.same ∙ c.loop.invariant.0,
-  goes_on _ _ _ _ _ c.pull.result c.loop.invariant.1 c.in-Nothing.ensures.take c.in-Nothing.ensures.same c.pull.ensures.pulled,
-)
+pub returns-clause-alive : goal.returns-clause-alive
+returns-clause-alive g c = take-alive _ _ _ c.take-taken.result c.take-taken.ensures.take ∙ c.self.invariant

@@ -1,0 +1,383 @@
+//! What draws from a port, for an owner that lives and for one that has stopped. The atomic steps are those of `steps`.
+ghost use Rattle.std.specs.Prelude.{◌≡◌, ◌↔◌, ◌⊎◌, ◌<◌, ◌+◌, ◌-◌, ◌^◌, [], ◌∷◌, ◌++◌, ◌≤◌, true, None, length, count_by, IsErrOf, MatchBool, MatchOption, MatchResult};
+ghost use Rattle.port_model.specs.PlainPort.{armed_left};
+ghost use Rattle.port_model.specs.Port.{empty_port};
+ghost use Rattle.port_model.specs.Take.{Takes};
+ghost use Rattle.port_model.specs.Timers.{due_times, is_active, IsLeast};
+ghost use Rattle.port_model.specs.declared.plain_port.TheConstants.{MOST_SETS};
+ghost use Rattle.input_port.specs.Ends.{is_signal, signals_drawn, IsKnowing};
+ghost use Rattle.input_port.specs.Left.{AreWaiting};
+ghost use Rattle.input_port.specs.Views.{owner};
+ghost use Rattle.input_port.specs.declared.rule.Placed.{Placed};
+ghost use Rattle.input_port.specs.Calls.{after_draw, after_draws, after_reset, after_set, after_stop, popped_list, Gathers, HasDrawn, IsDrawn, IsGathered, Meets, RefusesSet, Sets, TakesHere, TakesIn};
+ghost use Rattle.crossbeam_queue.specs.SegTies.{IsSegPassOf};
+
+use crate::rule::{Pass, Placed, Queue};
+use crate::{Entry, Fuse, Port, Sender, fused, steps};
+use port_model::{PlainPort, PortError, Selection, Taken, TimerKey};
+use std::alloc::Global;
+use std::marker::Model;
+use std::sync::Wait;
+
+/// What an owner has: its pass, its own port of one thread, and the counts of the senders gathered and of the signals drawn.
+#[derive(Drop)]
+pub struct Drawer {
+    alloc: Global,
+    pid: u32,
+    pass: Pass,
+    plain: PlainPort,
+    gathered: u64,
+    signals: u64,
+}
+
+impl Model for Drawer {
+    ghost use Rattle.std.specs.Prelude.{◌≡◌, None};
+    ghost use Rattle.input_port.specs.Ends.{Owning, IsOwning};
+
+    ghost Value = { Owning };
+
+    ghost view = { λ o. record {
+      port = record { web = o.pass.web; heap = o.pass.heap };
+      pid = o.pid;
+      drawn = o.pass.me.view.client.drawn;
+      known = o.pass.me.view.client.seen;
+      gathered = o.pass.me.view.client.gathered;
+      state = o.plain.state;
+      armed = o.plain.armed;
+    } };
+
+    ghost invariant = { λ o. IsOwning o.pass.me.view.client o.gathered o.signals × (o.pass.me.hand ≡ None) × (o.pass.me.spare ≡ None) };
+}
+
+impl Drawer {
+    pub fn new(alloc: Global, pid: u32, pass: Pass) -> Self
+        requires view { pass.me.view.client ≡ owner [] [] [] [] }
+        requires free { (pass.me.hand ≡ None) × (pass.me.spare ≡ None) }
+        ensures { result ≡ record { port = record { web = pass.web; heap = pass.heap }; pid = pid; drawn = []; known = []; gathered = []; state = empty_port; armed = [] } }
+    {
+        Drawer {
+            alloc,
+            pid,
+            pass,
+            plain: PlainPort::new(alloc),
+            gathered: 0,
+            signals: 0,
+        }
+    }
+
+    /// How many senders have been gathered and not handed back.
+    pub fn gathered(&self) -> u64
+        ensures { result ≡ length self.now.gathered }
+    {
+        self.gathered
+    }
+
+    /// How many signals have been drawn.
+    pub fn signals(&self) -> u64
+        ensures { result ≡ signals_drawn self.now }
+    {
+        self.signals
+    }
+
+    /// What every owner knows, as a fact.
+    pub fn knows(&self)
+        ensures { IsKnowing self.now }
+    {
+        let _ = &self.gathered;
+    }
+
+    /// Takes from the port (Z.102, priority input, save): draws entries until the selection takes one, or until none is left.
+    /// After `Nothing` all that the owner knows of is drawn. In a state with a priority input everything is drawn first. For
+    /// want of memory nothing is taken, and what was drawn stays in the port. That it is the owner's port is the caller's
+    /// condition.
+    pub fn take<R: Wait>(
+        &mut self,
+        rt: &R,
+        port: &Port,
+        selection: &Selection,
+    ) -> Result<Taken, PortError>
+        requires { self.old.port ≡ port.now.queue }
+        ensures port { self.new.port ≡ self.old.port }
+        ensures take { MatchResult result (λ taken. TakesHere selection.now self.old self.new taken) (λ error. (error ≡ PortError.Memory) × HasDrawn self.old self.new) }
+    {
+        if selection.has_priority() {
+            return self.take_urgent(rt, port, selection);
+        }
+        for _ in rt.forever() {
+            match self.choose(selection) {
+                Taken::Nothing => {}
+                taken => return Ok(taken),
+            }
+            if !self.pull(rt, port)? {
+                return Ok(Taken::Nothing);
+            }
+        }
+        unreachable!()
+    }
+
+    // In a state with a priority input: where an entry of one is drawn already, takes it. Else draws all that the queue holds
+    // first.
+    fn take_urgent<R: Wait>(
+        &mut self,
+        rt: &R,
+        port: &Port,
+        selection: &Selection,
+    ) -> Result<Taken, PortError>
+        requires { self.old.port ≡ port.now.queue }
+        ensures port { self.new.port ≡ self.old.port }
+        ensures take { MatchResult result (λ taken. TakesHere selection.now self.old self.new taken) (λ error. (error ≡ PortError.Memory) × HasDrawn self.old self.new) }
+    {
+        match self.plain.take_priority(selection) {
+            Some(got) => Ok(Taken::Consumed(got)),
+            None => self.take_fresh(rt, port, selection),
+        }
+    }
+
+    // Draws all that the queue holds, and takes then.
+    fn take_fresh<R: Wait>(
+        &mut self,
+        rt: &R,
+        port: &Port,
+        selection: &Selection,
+    ) -> Result<Taken, PortError>
+        requires { self.old.port ≡ port.now.queue }
+        ensures port { self.new.port ≡ self.old.port }
+        ensures take { MatchResult result (λ taken. TakesHere selection.now self.old self.new taken) (λ error. (error ≡ PortError.Memory) × HasDrawn self.old self.new) }
+    {
+        self.drain(rt, port)?;
+        Ok(self.choose(selection))
+    }
+
+    // Draws all that the queue holds, up to a fresh point.
+    pub fn drain<R: Wait>(&mut self, rt: &R, port: &Port) -> Result<(), PortError>
+        requires { self.old.port ≡ port.now.queue }
+        ensures port { self.new.port ≡ self.old.port }
+        ensures drawn { HasDrawn self.old self.new }
+        ensures fresh { MatchResult result (λ _. self.new.known ≡ self.new.drawn) (λ error. error ≡ PortError.Memory) }
+    {
+        for _ in rt.forever() {
+            if !self.pull(rt, port)? {
+                return Ok(());
+            }
+        }
+        unreachable!()
+    }
+
+    // Takes from what is drawn.
+    fn choose(&mut self, selection: &Selection) -> Taken
+        ensures take { Takes selection.now self.old.state result self.new.state }
+        ensures same { self.new ≡ record self.old { state = self.new.state; armed = armed_left result self.old.armed } }
+    {
+        self.plain.take(selection)
+    }
+
+    // Draws one entry, if the queue has one. The room for it is made first, so that no entry is lost for want of memory.
+    fn pull<R: Wait>(&mut self, rt: &R, port: &Port) -> Result<bool, PortError>
+        requires { self.old.port ≡ port.now.queue }
+        ensures port { self.new.port ≡ self.old.port }
+        ensures pulled { MatchResult result (λ more. MatchBool more ((placed : Placed) × IsDrawn self.old self.new (placed ∷ [])) ((self.new ≡ self.old) × (self.new.known ≡ self.new.drawn))) (λ error. (error ≡ PortError.Memory) × (self.new ≡ self.old)) }
+    {
+        if self.signals == u64::MAX {
+            return Err(PortError::Memory);
+        }
+        if let Err(_) = self.plain.reserve() {
+            return Err(PortError::Memory);
+        }
+        match steps::pop(rt, &port.queue, &mut self.pass) {
+            None => Ok(false),
+            Some(placed) => {
+                self.signals += placed.signals();
+                fused::draw(&mut self.plain, self.pid, placed);
+                Ok(true)
+            }
+        }
+    }
+
+    /// Takes a sender in: the owner then knows all that the sender had seen. For want of memory the sender comes back. That the
+    /// port is that of both is the caller's condition.
+    pub fn gather<R: Wait>(
+        &mut self,
+        rt: &R,
+        port: &Port,
+        sender: Sender,
+    ) -> Result<(), (PortError, Sender)>
+        requires owner { self.old.port ≡ port.now.queue }
+        requires sender { sender.port ≡ port.now.queue }
+        ensures port { self.new.port ≡ self.old.port }
+        ensures gather { MatchResult result (λ _. Gathers self.old self.new sender) (λ back. (back.0 ≡ PortError.Memory) × (back.1 ≡ sender) × (self.new ≡ self.old)) }
+    {
+        if self.gathered == u64::MAX || self.signals == u64::MAX {
+            return Err((PortError::Memory, sender));
+        }
+        if let Err(_) = self.plain.reserve() {
+            return Err((PortError::Memory, sender));
+        }
+        let popped = take_in(rt, &port.queue, &mut self.pass, sender.into_pass());
+        self.signals += signals_in(&popped);
+        draw_popped(&mut self.plain, self.pid, popped);
+        self.gathered += 1;
+        Ok(())
+    }
+
+    /// Takes a sender in and gives it back: the owner then knows all that the sender had seen, and the sender has seen all that
+    /// the owner knows. For want of memory the sender comes back as it was. That the port is that of both is the caller's
+    /// condition.
+    pub fn meet<R: Wait>(
+        &mut self,
+        rt: &R,
+        port: &Port,
+        sender: Sender,
+    ) -> Result<Sender, (PortError, Sender)>
+        requires owner { self.old.port ≡ port.now.queue }
+        requires sender { sender.port ≡ port.now.queue }
+        ensures port { self.new.port ≡ self.old.port }
+        ensures meet { MatchResult result (λ back. Meets self.old self.new sender back) (λ back. (back.0 ≡ PortError.Memory) × (back.1 ≡ sender) × (self.new ≡ self.old)) }
+    {
+        if self.signals == u64::MAX {
+            return Err((PortError::Memory, sender));
+        }
+        if let Err(_) = self.plain.reserve() {
+            return Err((PortError::Memory, sender));
+        }
+        let (number, count, signals) = sender.numbers();
+        let popped = take_in(rt, &port.queue, &mut self.pass, sender.into_pass());
+        self.signals += signals_in(&popped);
+        draw_popped(&mut self.plain, self.pid, popped);
+        let pass = steps::split_again(&port.queue, &mut self.pass);
+        Ok(Sender::again(pass, number, count, signals))
+    }
+
+    /// Sets a timer for the time `due`, after a reset. Refused with `SetsSpent` after 2^62 sets, and for want of memory; the
+    /// key is dropped then, and nothing changes.
+    pub fn set(&mut self, key: TimerKey, due: u64) -> Result<Fuse, PortError>
+        ensures port { self.new.port ≡ self.old.port }
+        ensures set { MatchResult result (λ fuse. Sets self.old key due fuse self.new) (λ error. RefusesSet self.old error self.new) }
+        ensures spent { IsErrOf result PortError.SetsSpent ↔ (self.old.state.sets ≡ MOST_SETS) }
+    {
+        fused::set(&mut self.plain, self.pid, key, due)
+    }
+
+    /// Resets a timer: it isn't active any more, and its signal doesn't wait.
+    pub fn reset(&mut self, key: &TimerKey)
+        ensures { self.new ≡ after_reset self.old key.now }
+    {
+        self.plain.reset(key);
+    }
+
+    /// Whether a timer is active.
+    pub fn active(&self, key: &TimerKey) -> bool
+        ensures { result ≡ is_active key.now self.now.state.timers }
+    {
+        self.plain.active(key)
+    }
+
+    /// The least due time of a timer that is set and has not expired.
+    pub fn next_due(&self) -> Option<u64>
+        ensures { IsLeast (due_times self.now.state.timers) result }
+    {
+        self.plain.next_due()
+    }
+
+    /// Ends the port (Z.101, stop): what waits is discarded, no timer is active, and later entries have no effect. Takes no memory.
+    pub fn stop(&mut self)
+        ensures { self.new ≡ after_stop self.old }
+    {
+        self.plain.stop();
+    }
+
+    // The list of what is drawn after the stop. Takes no memory.
+    pub fn nothing_since(&self) -> Vec<Entry>
+        ensures { result.items ≡ [] }
+    {
+        Vec::new(self.alloc)
+    }
+
+    // An entry popped after the stop, which has no effect on the port.
+    pub fn pop<R: Wait>(&mut self, rt: &R, port: &Port) -> Option<Placed>
+        requires port { self.old.port ≡ port.now.queue }
+        requires fewer { signals_drawn self.old < 2 ^ 64 - 1 }
+        ensures port { self.new.port ≡ self.old.port }
+        ensures state { self.new.state ≡ self.old.state }
+        ensures popped { MatchOption result ((self.new ≡ self.old) × (self.new.known ≡ self.new.drawn)) (λ placed. IsDrawn self.old (record self.new { state = after_draw self.old.pid self.old.state placed }) (placed ∷ [])) }
+    {
+        let popped = steps::pop(rt, &port.queue, &mut self.pass);
+        self.signals += signals_in(&popped);
+        popped
+    }
+
+    // A gathering after the stop, with the entry popped on the way.
+    pub fn absorb<R: Wait>(&mut self, rt: &R, port: &Port, sender: Sender) -> Option<Placed>
+        requires owner { self.old.port ≡ port.now.queue }
+        requires sender { sender.port ≡ port.now.queue }
+        requires fewer { length self.old.gathered < 2 ^ 64 - 1 }
+        requires few { signals_drawn self.old < 2 ^ 64 - 1 }
+        ensures port { self.new.port ≡ self.old.port }
+        ensures state { self.new.state ≡ self.old.state }
+        ensures gather { IsGathered self.old (record self.new { state = after_draws self.old.pid self.old.state (popped_list result) }) sender (popped_list result) }
+    {
+        let popped = take_in(rt, &port.queue, &mut self.pass, sender.into_pass());
+        self.gathered += 1;
+        self.signals += signals_in(&popped);
+        popped
+    }
+
+    /// What waits in the port of the standard, in order, each timer's signal with its fuse. For want of memory it comes back as it
+    /// was.
+    pub fn into_entries(self) -> Result<Vec<Entry>, Drawer>
+        ensures { MatchResult result (λ list. AreWaiting self.state.waiting self.pid self.armed list.items) (λ back. back ≡ self) }
+    {
+        let Drawer {
+            alloc,
+            pid,
+            pass,
+            plain,
+            gathered,
+            signals,
+        } = self;
+        match fused::into_entries(alloc, pid, plain) {
+            Ok(list) => Ok(list),
+            Err(plain) => Err(Drawer {
+                alloc,
+                pid,
+                pass,
+                plain,
+                gathered,
+                signals,
+            }),
+        }
+    }
+}
+
+// How many signals were popped.
+fn signals_in(popped: &Option<Placed>) -> u64
+    ensures few { result ≤ 1 }
+    ensures count { result ≡ count_by is_signal (popped_list popped.now) }
+{
+    match popped {
+        None => 0,
+        Some(placed) => placed.signals(),
+    }
+}
+
+// Takes a sender's pass in, and pops one entry, if the queue has one: this pop tells that what the two had seen are both
+// beginnings of the put list.
+fn take_in<R: Wait>(rt: &R, queue: &Queue, pass: &mut Pass, other: Pass) -> Option<Placed>
+    requires queue { IsSegPassOf queue.now pass.old × IsSegPassOf queue.now other }
+    requires rights { (pass.old.me.view.client.takes ≡ true) × (other.me.view.client.sends ≡ true) }
+    ensures queue { IsSegPassOf queue.now pass.new }
+    ensures taken { TakesIn pass.old.me.view.client other.me.view.client pass.new.me.view.client (popped_list result) }
+{
+    steps::take_back(queue, pass, other);
+    steps::pop(rt, queue, pass)
+}
+
+// Puts what was popped into the owner's port, into the room that was made.
+fn draw_popped(plain: &mut PlainPort, pid: u32, popped: Option<Placed>)
+    requires { 0 < plain.old.room }
+    ensures state { plain.new.state ≡ after_draws pid plain.old.state (popped_list popped) }
+    ensures armed { plain.new.armed ≡ plain.old.armed }
+{
+    if let Some(placed) = popped {
+        fused::draw(plain, pid, placed);
+    }
+}

@@ -1,0 +1,91 @@
+//! What an owner draws after its stop: it has no effect on its port, and is kept in a list.
+ghost use Rattle.std.specs.Prelude.{◌≡◌, ◌<◌, ◌-◌, ◌^◌, ◌∷◌, [], ◌++◌, length, map, vec_len, vec_capacity, MatchBool, MatchResult};
+ghost use Rattle.input_port.specs.Ends.{signals_drawn};
+ghost use Rattle.input_port.specs.declared.rule.Placed.{Placed};
+ghost use Rattle.input_port.specs.Calls.{entry_of, popped_list, GathersSince, HasDrawnSince, IsDrawnSince};
+
+use crate::drawer::Drawer;
+use crate::rule::Placed;
+use crate::{Entry, Port, Sender};
+use port_model::PortError;
+use std::sync::Wait;
+
+// Takes a sender in. For want of memory it comes back, and nothing changes.
+pub fn gather<R: Wait>(
+    drawer: &mut Drawer,
+    since: &mut Vec<Entry>,
+    rt: &R,
+    port: &Port,
+    sender: Sender,
+) -> Result<(), (PortError, Sender)>
+    requires owner { drawer.old.port ≡ port.now.queue }
+    requires sender { sender.port ≡ port.now.queue }
+    ensures port { drawer.new.port ≡ drawer.old.port }
+    ensures gather { MatchResult result (λ _. GathersSince drawer.old drawer.new since.old.items since.new.items sender) (λ back. (back.0 ≡ PortError.Memory) × (back.1 ≡ sender) × (drawer.new ≡ drawer.old) × (since.new.items ≡ since.old.items)) }
+{
+    if drawer.gathered() == u64::MAX || drawer.signals() == u64::MAX {
+        return Err((PortError::Memory, sender));
+    }
+    if let Err(_) = since.reserve(1) {
+        return Err((PortError::Memory, sender));
+    }
+    let popped = drawer.absorb(rt, port, sender);
+    keep(since, popped);
+    Ok(())
+}
+
+// Draws all that the queue holds, up to a fresh point.
+pub fn drain<R: Wait>(
+    drawer: &mut Drawer,
+    since: &mut Vec<Entry>,
+    rt: &R,
+    port: &Port,
+) -> Result<(), PortError>
+    requires { drawer.old.port ≡ port.now.queue }
+    ensures port { drawer.new.port ≡ drawer.old.port }
+    ensures drawn { HasDrawnSince drawer.old drawer.new since.old.items since.new.items }
+    ensures fresh { MatchResult result (λ _. drawer.new.known ≡ drawer.new.drawn) (λ error. error ≡ PortError.Memory) }
+{
+    for _ in rt.forever() {
+        if !pull(drawer, since, rt, port)? {
+            return Ok(());
+        }
+    }
+    unreachable!()
+}
+
+// Draws one entry, if the queue has one.
+fn pull<R: Wait>(
+    drawer: &mut Drawer,
+    since: &mut Vec<Entry>,
+    rt: &R,
+    port: &Port,
+) -> Result<bool, PortError>
+    requires { drawer.old.port ≡ port.now.queue }
+    ensures port { drawer.new.port ≡ drawer.old.port }
+    ensures pulled { MatchResult result (λ more. MatchBool more ((placed : Placed) × IsDrawnSince drawer.old drawer.new since.old.items since.new.items (placed ∷ [])) ((drawer.new ≡ drawer.old) × (since.new.items ≡ since.old.items) × (drawer.new.known ≡ drawer.new.drawn))) (λ error. (error ≡ PortError.Memory) × (drawer.new ≡ drawer.old) × (since.new.items ≡ since.old.items)) }
+{
+    if drawer.signals() == u64::MAX {
+        return Err(PortError::Memory);
+    }
+    if let Err(_) = since.reserve(1) {
+        return Err(PortError::Memory);
+    }
+    match drawer.pop(rt, port) {
+        None => Ok(false),
+        Some(placed) => {
+            since.push_reserved(placed.into_entry());
+            Ok(true)
+        }
+    }
+}
+
+// Puts what was popped into the list, into the room that was made.
+fn keep(since: &mut Vec<Entry>, popped: Option<Placed>)
+    requires { vec_len since.old < vec_capacity since.old }
+    ensures { since.new.items ≡ since.old.items ++ map entry_of (popped_list popped) }
+{
+    if let Some(placed) = popped {
+        since.push_reserved(placed.into_entry());
+    }
+}
