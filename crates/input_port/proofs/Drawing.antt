@@ -36,7 +36,7 @@ known_after-append known drawn (x ∷ xs) ys =
 pub AreNext-append : (drawn xs ys : List Placed) → AreNext drawn xs → AreNext (drawn ++ xs) ys → AreNext drawn (xs ++ ys)
 AreNext-append drawn [] ys a b = subst (λ d. AreNext d ys) (append-nil drawn) b
 AreNext-append drawn (x ∷ xs) ys a b =
-    (a.0, a.1, AreNext-append (drawn ++ x ∷ []) xs ys a.2 (subst (λ d. AreNext d ys) (sym (append_assoc drawn (x ∷ []) xs)) b))
+    (a.0, a.1, a.2, AreNext-append (drawn ++ x ∷ []) xs ys a.3 (subst (λ d. AreNext d ys) (sym (append_assoc drawn (x ∷ []) xs)) b))
 
 -- nothing drawn
 pub draws_none : (old : Owning) → HasDrawn old old

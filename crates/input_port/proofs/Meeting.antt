@@ -23,7 +23,7 @@ takes_in_one v u m w x is draws =
     record {
       takes = ap (λ l. l.takes) d.0;
       drawn = ap (λ l. l.drawn) d.0;
-      next = (d.5, d.6, tt);
+      next = (d.5, d.6, d.8, tt);
       known = ap (λ l. l.seen) d.0;
       longest = d.1;
       kept = starts_through w.seen (longer v.seen u.seen) v.seen d.1 both.0;

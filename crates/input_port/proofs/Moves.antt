@@ -9,7 +9,7 @@ use Rattle.crossbeam_queue.proofs.Lists.{at_set}
 use Rattle.input_port.specs.declared.rule.Placed.{Placed}
 use Rattle.input_port.specs.declared.rule.Gone.{Gone}
 use Rattle.input_port.specs.declared.rule.View.{View}
-use Rattle.input_port.specs.Put.{StartsWith, of, one_to, longer, Apart}
+use Rattle.input_port.specs.Put.{StartsWith, of, one_to, longer, Apart, IsTimely}
 use Rattle.input_port.specs.Rule.{Book, FitsDesk, FitsSender, IsGone, FitsOwner, Fits, IsGiven, Kept}
 use Rattle.input_port.specs.Steps.{Adds, Draws, IsFresh}
 use Rattle.input_port.specs.Views.{whole, desk, sender, owner, spent, owner_of, gathers, without_first, without_last, sender_again, last_gathered}
@@ -42,6 +42,7 @@ begins =
       puts = refl;
       numbered = All-nil (IsGiven 0);
       counted = λ n. refl;
+      timely = All-nil IsTimely;
       fits = each_set (Fits b) (whole ∷ []) 0 whole first (λ j u other e. only_one j u other e);
     }
   where
@@ -108,8 +109,8 @@ counts_more b x next n counted =
     (cases_eq x.number n)
 
 -- A sender puts an entry behind all that it had seen.
-pub pushes : (n pass : ℕ) (v : View) (x : Placed) → v.sends ≡ true → x.number ≡ v.number → x.count ≡ v.count + 1 → Pushes Kept n pass v x (Adds v x)
-pushes n pass v x may num cnt items views room h at =
+pub pushes : (n pass : ℕ) (v : View) (x : Placed) → v.sends ≡ true → x.number ≡ v.number → x.count ≡ v.count + 1 → IsTimely x → Pushes Kept n pass v x (Adds v x)
+pushes n pass v x may num cnt timely items views room h at =
     let b = h.book in
     let f = (h.fits pass v at).1 may in
     let rest = f.seen.0 in
@@ -137,6 +138,7 @@ pushes n pass v x may num cnt items views room h at =
         puts = sym (append_assoc b.drawn items (x ∷ [])) ∙ ap (λ l. l ++ x ∷ []) h.puts;
         numbered = All-push (IsGiven b.given) b.puts x h.numbered here;
         counted = λ k. counts_more b x next k (h.counted k);
+        timely = All-push IsTimely b.puts x h.timely timely;
         fits = each_set (Fits (more b x)) views pass w ((λ e. no_right e), (λ _. mine), (λ e. no_right e))
             (λ j u other e. fits_more b pass x seat j u other (h.fits j u e));
       },
@@ -183,6 +185,7 @@ pops pass v may x items views h at =
         puts = all;
         numbered = h.numbered;
         counted = h.counted;
+        timely = h.timely;
         fits = each_set (Fits (drew b x)) views pass w ((λ e. no_right e), (λ e. no_right e), λ _. mine)
             (λ j u other e. let old = h.fits j u e in (
               (λ m. let o = old.0 m in record { only = o.only; given = o.given }),
@@ -199,6 +202,7 @@ pops pass v may x items views h at =
         number.0,
         count ∙ ap (λ d. length (of x.number d) + 1) (sym f.drawn),
         f.apart,
+        all_mid IsTimely b.drawn x items (subst (All IsTimely) (sym h.puts) h.timely),
       ),
     )
 
@@ -238,6 +242,7 @@ forks_ends pass v gives takes items views h at =
       puts = h.puts;
       numbered = h.numbered;
       counted = h.counted;
+      timely = h.timely;
       fits = each_split (Fits c) views pass (owner_of v) (desk v.number) ((λ e. no_right e), (λ e. no_right e), λ _. mine) ((λ _. new), (λ e. no_right e), λ e. no_right e)
           (λ j u other e. let old = h.fits j u e in (
             (λ m. absurd (other ((old.0 m).only ∙ sym fd.only))),
@@ -272,6 +277,7 @@ forks_next pass v gives items views h at =
       puts = h.puts;
       numbered = All-weaker (IsGiven b.given) (IsGiven (b.given + 1)) (λ p o. (o.0, (let le = o.1 in omega arith))) b.puts h.numbered;
       counted = h.counted;
+      timely = h.timely;
       fits = each_split (Fits c) views pass (desk n) (sender n 0 []) ((λ _. mine), (λ e. no_right e), λ e. no_right e) ((λ e. no_right e), (λ _. new), λ e. no_right e)
           (λ j u other e. let old = h.fits j u e in (
             (λ m. absurd (other ((old.0 m).only ∙ sym fd.only))),
@@ -340,6 +346,7 @@ merges pass v from u takes sends items views h at two at' =
       puts = h.puts;
       numbered = h.numbered;
       counted = h.counted;
+      timely = h.timely;
       fits = each_set (Fits c) (set views pass both) from spent ((λ e. no_right e), (λ e. no_right e), λ e. no_right e)
           (λ j y apart e. each_set (λ k w. k ≢ from → Fits c k w) views pass both (λ _. ((λ m. no_right m), (λ m. no_right m), λ _. now))
           (λ k w other q distinct. let old = h.fits k w q in (
@@ -396,6 +403,7 @@ forks_sender pass v g gs takes is items views h at =
       puts = h.puts;
       numbered = h.numbered;
       counted = h.counted;
+      timely = h.timely;
       fits = each_split (Fits c) views pass left (sender g.number g.count v.seen) ((λ e. no_right e), (λ e. no_right e), λ _. mine) ((λ e. no_right e), (λ _. new), λ e. no_right e)
           (λ j u other e. let old = h.fits j u e in (
             (λ m. let o = old.0 m in record { only = o.only; given = o.given }),

@@ -17,7 +17,7 @@ use Rattle.input_port.specs.declared.rule.Placed.{Placed}
 use Rattle.input_port.specs.declared.rule.View.{View}
 use Rattle.input_port.specs.Ends.{Sending, Owning, sent_by}
 use Rattle.input_port.specs.Left.{AreWaiting}
-use Rattle.input_port.specs.Put.{StartsWith, of, longer, AllThere, Apart}
+use Rattle.input_port.specs.Put.{StartsWith, of, longer, AllThere, Apart, IsTimely}
 
 -- A put or an expiry of a sender: behind all that it had seen came entries of others, and then just this one, as its next.
 pub record Puts (old new : Sending) (at : ℕ) (entry : Entry) : Type 0 where
@@ -68,11 +68,13 @@ abbrev pub known_after : List Placed → List Placed → List Placed → List Pl
 known_after known drawn [] = known
 known_after known drawn (placed ∷ more) = known_after (longer known (drawn ++ placed ∷ [])) (drawn ++ placed ∷ []) more
 
--- Of the entries that are drawn after some others each is the next of its number.
+-- Of the entries that are drawn after some others each is the next of its number, and an expiry was put at its due time or
+-- later.
 abbrev pub AreNext : List Placed → List Placed → Type 0
 AreNext drawn [] = Unit {0}
 AreNext drawn (placed ∷ more) =
-    (0 < placed.number) × (placed.count ≡ length (of placed.number drawn) + 1) × AreNext (drawn ++ placed ∷ []) more
+    (0 < placed.number) × (placed.count ≡ length (of placed.number drawn) + 1) × IsTimely placed
+    × AreNext (drawn ++ placed ∷ []) more
 
 -- The owner drew these entries, in their order, and each made of its port what a put or an expiry makes. What it knew it knows.
 -- No set or reset was made: what the sets gave is the same.

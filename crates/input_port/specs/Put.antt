@@ -1,4 +1,6 @@
-use Rattle.std.specs.Prelude.{◌≡◌, ◌≢◌, ℕ, zero, suc, nat_eq, nat_lt, List, [], ◌∷◌, ◌++◌, length, filter, All, if◌then◌else◌}
+use Rattle.std.specs.Prelude.{◌≡◌, ◌≢◌, ◌≤◌, ℕ, zero, suc, nat_eq, nat_lt, List, [], ◌∷◌, ◌++◌, length, filter, All, if◌then◌else◌}
+use Rattle.input_port.specs.declared.entry.Entry.{Entry}
+use Rattle.input_port.specs.declared.entry.Entry.TheVariants.{Signal, Timer}
 use Rattle.input_port.specs.declared.rule.Placed.{Placed}
 use Rattle.input_port.specs.declared.rule.Gone.{Gone}
 
@@ -12,6 +14,14 @@ StartsWith xs ys = (rest : List Placed) × (xs ≡ ys ++ rest)
 -- the entries of one number, in their order
 abbrev pub of : ℕ → List Placed → List Placed
 of n ps = filter (λ p. nat_eq p.number n) ps
+
+-- an expiry is put at its due time or later
+abbrev pub IsDueBy : ℕ → Entry → Type 0
+IsDueBy at (Signal item) = Unit {0}
+IsDueBy at (Timer fuse) = fuse.due ≤ at
+
+abbrev pub IsTimely : Placed → Type 0
+IsTimely placed = IsDueBy placed.at placed.entry
 
 -- 1, 2, .. n
 abbrev pub one_to : ℕ → List ℕ

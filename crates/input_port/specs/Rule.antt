@@ -4,7 +4,7 @@ use lib.ListN.{get_elem?}
 use Rattle.input_port.specs.declared.rule.Placed.{Placed}
 use Rattle.input_port.specs.declared.rule.Gone.{Gone}
 use Rattle.input_port.specs.declared.rule.View.{View}
-use Rattle.input_port.specs.Put.{StartsWith, of, one_to, Apart}
+use Rattle.input_port.specs.Put.{StartsWith, of, one_to, Apart, IsTimely}
 
 -- What the rule keeps of a port: its put list, what of it is drawn, how many numbers the desk has given out, which pass has
 -- which number (`seat n` is one more than the pass that puts under n, and 0 where none does), and which passes are the desk's
@@ -62,10 +62,12 @@ abbrev pub EachView : (ℕ → View → Type 0) → List View → Type 0
 EachView F views = (pass : ℕ) (v : View) → get_elem? views pass ≡ some v → F pass v
 
 -- The rule of a port. The drawn entries and what the queue holds are the put list. Each entry has a number that was given
--- out, and those of one number are counted 1, 2, .. in their order. What each pass knows is so.
+-- out, and those of one number are counted 1, 2, .. in their order. No expiry was put before its due time. What each pass
+-- knows is so.
 pub record Kept (items : List Placed) (views : List View) : Type 0 where
   pub book : Book
   pub puts : book.drawn ++ items ≡ book.puts
   pub numbered : All (IsGiven book.given) book.puts
   pub counted : (n : ℕ) → map (λ p. p.count) (of n book.puts) ≡ one_to (length (of n book.puts))
+  pub timely : All IsTimely book.puts
   pub fits : EachView (Fits book) views

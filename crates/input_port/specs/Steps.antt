@@ -1,7 +1,7 @@
 use Rattle.std.specs.Prelude.{◌≡◌, ◌+◌, ◌<◌, List, [], ◌∷◌, ◌++◌, length}
 use Rattle.input_port.specs.declared.rule.Placed.{Placed}
 use Rattle.input_port.specs.declared.rule.View.{View}
-use Rattle.input_port.specs.Put.{StartsWith, of, longer, AllThere, Apart}
+use Rattle.input_port.specs.Put.{StartsWith, of, longer, AllThere, Apart, IsTimely}
 use Rattle.input_port.specs.Views.{sender, owner}
 
 -- A push: behind what the sender had seen came entries of others, and then its own.
@@ -10,13 +10,13 @@ Adds v x w =
     (between : List Placed) × (of v.number between ≡ [])
     × (w ≡ sender v.number (v.count + 1) ((v.seen ++ between) ++ x ∷ []))
 
--- A pop with an entry: it is the next of the put list and is drawn. The known list goes on as far as before, or up to it.
--- It has all that was told at the last gathering, and all entries of the gathered senders, whose numbers differ.
+-- A pop with an entry: it is the next of the put list and is drawn; an expiry was put at its due time or later. The known
+-- list goes on as far as before, or up to the entry. It has all that was told at the last gathering, and all entries of the gathered senders, whose numbers differ.
 abbrev pub Draws : View → Placed → View → Type 0
 Draws v x w =
     (w ≡ owner (v.drawn ++ x ∷ []) (longer v.seen (v.drawn ++ x ∷ [])) v.told v.gathered)
     × StartsWith w.seen v.seen × StartsWith w.seen w.drawn × StartsWith v.seen v.told × AllThere w.seen w.gathered
-    × (0 < x.number) × (x.count ≡ length (of x.number v.drawn) + 1) × Apart w.gathered
+    × (0 < x.number) × (x.count ≡ length (of x.number v.drawn) + 1) × Apart w.gathered × IsTimely x
 
 -- A pop that finds none: all of the known list is drawn. The rest as at `Draws`.
 abbrev pub IsFresh : View → List Placed → Type 0

@@ -2,6 +2,7 @@ ghost use Rattle.std.specs.Prelude.{◌≡◌, ◌+◌, ◌≤◌, ◌^◌, [], 
 ghost use Rattle.input_port.specs.Views.{sender};
 ghost use Rattle.input_port.specs.Ends.{sent_by, signals_by, IsSending};
 ghost use Rattle.crossbeam_queue.specs.SegTies.{IsSegPassOf};
+ghost use Rattle.input_port.specs.Put.{IsDueBy};
 ghost use Rattle.input_port.specs.Calls.{Puts};
 ghost use Rattle.input_port.specs.declared.entry.Entry.TheVariants.{Signal, Timer};
 
@@ -132,7 +133,8 @@ impl Sender {
     }
 
     fn push<R: Wait>(&mut self, rt: &R, port: &Port, at: u64, entry: Entry) -> Result<(), Entry>
-        requires { self.old.port ≡ port.now.queue }
+        requires port { self.old.port ≡ port.now.queue }
+        requires timely { IsDueBy at entry }
         ensures port { self.new.port ≡ self.old.port }
         ensures put { MatchResult result (λ _. Puts self.old self.new at entry) (λ back. (back ≡ entry) × (self.new ≡ self.old)) }
     {

@@ -1,6 +1,7 @@
 //! The atomic steps of a port. Each changes what one pass knows and nothing else, and keeps the rule of `specs/Rule.antt`.
 ghost use Rattle.std.specs.Prelude.{◌≡◌, ◌+◌, [], ◌∷◌, true, MatchOption, MatchResult};
 ghost use Rattle.crossbeam_queue.specs.SegTies.{IsSegPassOf};
+ghost use Rattle.input_port.specs.Put.{IsTimely};
 ghost use Rattle.input_port.specs.Steps.{Adds, Draws, IsFresh};
 ghost use Rattle.input_port.specs.Views.{desk, gathers, last_gathered, owner_of, sender, whole, without_last, HasGathered};
 
@@ -46,6 +47,7 @@ pub fn push<R: Wait>(rt: &R, queue: &Queue, pass: &mut Pass, placed: Placed) -> 
     requires rights { pass.old.me.view.client.sends ≡ true }
     requires number { placed.number ≡ pass.old.me.view.client.number }
     requires count { placed.count ≡ pass.old.me.view.client.count + 1 }
+    requires timely { IsTimely placed }
     ensures queue { IsSegPassOf queue.now pass.new }
     ensures pushed { MatchResult result (λ _. Adds pass.old.me.view.client placed pass.new.me.view.client) (λ back. (back ≡ placed) × (pass.new.me.view.client ≡ pass.old.me.view.client)) }
 {

@@ -348,13 +348,52 @@ fn uses_held(rt: HostRuntime) -> Result<(), Fail> {
     let (port, owner, mut desk) = port(alloc, 7)?;
     let mut sender = desk.sender(&port)?;
     assert_eq!(rt; puts(&rt, alloc, &port, &mut sender, &[(0, 1)]), true);
-    let mut held = Held::new(&rt, &port, owner);
+    let mut held = Held::new(rt, &port, owner);
     assert_eq!(rt; uses_inbox(alloc, &mut held)?, (true, Some(5), true));
     assert_eq!(rt; puts(&rt, alloc, &port, &mut sender, &[(3, 1)]), true);
     let Ok(since) = held.finish() else {
         return Err(Fail::new("no memory to finish"));
     };
     assert_eq!(rt; (since.len(), left(&since, 0)), (1, Some((3, 1))));
+    Ok(())
+}
+
+/// A fuse of a set that is past, of another port, before its due time, and at it.
+#[test]
+fn alone_expires_its_own_sets(rt: HostRuntime) -> Result<(), Fail> {
+    let alloc = rt.alloc();
+    let inputs = selection(alloc, &[Class::Discard, Class::Discard, Class::Input])?;
+    let mut alone = Alone::new(alloc, 7);
+    let mut other = Alone::new(alloc, 8);
+    let past = alone.set(key(alloc, 2), 5)?;
+    let early = alone.set(key(alloc, 2), 5)?;
+    let foreign = other.set(key(alloc, 2), 5)?;
+    let _second = other.set(key(alloc, 2), 5)?;
+    let due = alone.set(key(alloc, 2), 6)?;
+    assert_eq!(rt; alone.expire(past, 9).ok(), Some(false));
+    assert_eq!(rt; alone.expire(foreign, 9).ok(), Some(false));
+    assert_eq!(rt; alone.expire(early, 9).ok(), Some(false));
+    assert_eq!(rt; consumed(alone.take(&inputs)), None);
+    assert_eq!(rt; alone.expire(due, 6).ok(), Some(true));
+    assert_eq!(rt; consumed(alone.take(&inputs)), Some((2, 0)));
+    Ok(())
+}
+
+/// A take that found a priority input's signal drawn draws nothing more; a drain draws all the same.
+#[test]
+fn drains(rt: HostRuntime) -> Result<(), Fail> {
+    let alloc = rt.alloc();
+    let classes = selection(alloc, &[Class::Input, Class::Priority])?;
+    let (port, mut owner, mut desk) = port(alloc, 1)?;
+    let mut sender = desk.sender(&port)?;
+    assert_eq!(rt; puts(&rt, alloc, &port, &mut sender, &[(1, 1), (1, 2), (0, 3)]), true);
+    assert_eq!(rt; takes(&rt, &port, &mut owner, &classes, &[(1, 1)]), true);
+    assert_eq!(rt; owner.drain(&rt, &port).is_ok(), true);
+    assert_eq!(rt; owner.signals(), 3);
+    let Ok(list) = owner.into_entries() else {
+        return Err(Fail::new("no memory for the entries"));
+    };
+    assert_eq!(rt; (list.len(), left(&list, 0), left(&list, 1)), (2, Some((1, 2)), Some((0, 3))));
     Ok(())
 }
 
@@ -369,7 +408,6 @@ fn puts_three<R: Wait>(
     requires owner { owner.old.port ≡ port.now.queue }
     requires sender { sender.old.port ≡ port.now.queue }
     ensures owner { owner.new.port ≡ owner.old.port }
-    ensures alive { owner.new.state.alive ≡ owner.old.state.alive }
     ensures sender { sender.new.port ≡ sender.old.port }
 {
     let expiring = owner.set(key(alloc, 2), 5)?;
@@ -433,7 +471,7 @@ fn held_finishes_what_was_not_stopped(rt: HostRuntime) -> Result<(), Fail> {
     let (port, mut owner, mut desk) = port(alloc, 7)?;
     let mut sender = desk.sender(&port)?;
     puts_three(&rt, alloc, &port, &mut owner, &mut sender)?;
-    let Ok(list) = Held::new(&rt, &port, owner).finish() else {
+    let Ok(list) = Held::new(rt, &port, owner).finish() else {
         return Err(Fail::new("no memory to finish"));
     };
     assert_eq!(rt; (list.len(), fuse(&list, 1)), (3, Some((7, 1, 5))));
