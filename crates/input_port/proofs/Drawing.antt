@@ -8,7 +8,7 @@ use Rattle.port_model.specs.declared.taken.Taken.{Taken}
 use Rattle.port_model.specs.Port.{PortState, expires, expire_in}
 use Rattle.port_model.specs.Take as take
 use Rattle.input_port.specs.declared.rule.Placed.{Placed}
-use Rattle.input_port.specs.Ends.{Owning, Retiring, Sending, IsKnowing}
+use Rattle.input_port.specs.Ends.{OwnerState, RetiredState, SenderState, IsKnowing}
 use Rattle.port_model.specs.PlainPort.{armed_left}
 use Rattle.input_port.specs.Held.{HasDrawnHere, Leaves}
 use Rattle.input_port.specs.Left.{AreWaiting}
@@ -39,7 +39,7 @@ AreNext-append drawn (x ∷ xs) ys a b =
     (a.0, a.1, a.2, AreNext-append (drawn ++ x ∷ []) xs ys a.3 (subst (λ d. AreNext d ys) (sym (append_assoc drawn (x ∷ []) xs)) b))
 
 -- nothing drawn
-pub draws_none : (old : Owning) → HasDrawn old old
+pub draws_none : (old : OwnerState) → HasDrawn old old
 draws_none old = (
   [],
   record {
@@ -56,7 +56,7 @@ draws_none old = (
 )
 
 -- some drawn, and then some more
-pub draws_more : (old mid new : Owning) → HasDrawn old mid → HasDrawn mid new → HasDrawn old new
+pub draws_more : (old mid new : OwnerState) → HasDrawn old mid → HasDrawn mid new → HasDrawn old new
 draws_more old mid new a b =
     let f = a.1 in
     let s = b.1 in (
@@ -76,7 +76,7 @@ draws_more old mid new a b =
     )
 
 -- a pull draws one entry or none
-pub pull_draws : (old new : Owning) (r : Result Bool PortError)
+pub pull_draws : (old new : OwnerState) (r : Result Bool PortError)
     → MatchResult r (λ more. MatchBool more ((placed : Placed) × IsDrawn old new (placed ∷ [])) ((new ≡ old) × (new.known ≡ new.drawn))) (λ error. (error ≡ PortError.Memory) × (new ≡ old))
     → HasDrawn old new
 pull_draws old new (Ok true) pulled = (pulled.0 ∷ [], pulled.1)
@@ -84,11 +84,11 @@ pull_draws old new (Ok false) pulled = subst (HasDrawn old) (sym pulled.0) (draw
 pull_draws old new (Err error) pulled = subst (HasDrawn old) (sym pulled.1) (draws_none old)
 
 -- a take that finds nothing in the port changes nothing
-pub nothing_taken : (classes : List Class) (old new : Owning) → take.Takes classes old.state Nothing new.state → new ≡ record old { state = new.state; armed = armed_left Nothing old.armed } → new ≡ old
+pub nothing_taken : (classes : List Class) (old new : OwnerState) → take.Takes classes old.state Nothing new.state → new ≡ record old { state = new.state; armed = armed_left Nothing old.armed } → new ≡ old
 nothing_taken classes old new takes same = same ∙ ap (λ s. record old { state = s }) takes.1
 
 -- what is known where a take goes on: the port found nothing, and one entry more was drawn, or none
-pub goes_on : (classes : List Class) (first old mid new : Owning) (r : Result Bool PortError) → HasDrawn first old
+pub goes_on : (classes : List Class) (first old mid new : OwnerState) (r : Result Bool PortError) → HasDrawn first old
     → take.Takes classes old.state Nothing mid.state → mid ≡ record old { state = mid.state; armed = armed_left Nothing old.armed }
     → MatchResult r (λ more. MatchBool more ((placed : Placed) × IsDrawn mid new (placed ∷ [])) ((new ≡ mid) × (new.known ≡ new.drawn))) (λ error. (error ≡ PortError.Memory) × (new ≡ mid))
     → HasDrawn first new
@@ -96,18 +96,18 @@ goes_on classes first old mid new r before takes same pulled =
     draws_more first old new before (subst (λ o. HasDrawn o new) (nothing_taken classes old mid takes same) (pull_draws mid new r pulled))
 
 -- The same after a stop: `grown` is what the owner would be, had its port not been stopped.
-abbrev grown : Owning → Owning → List Placed → Owning
+abbrev grown : OwnerState → OwnerState → List Placed → OwnerState
 grown old new news = record new { state = after_draws old.pid old.state news }
 
-since_some : (old new : Owning) (since kept : List Entry) (news : List Placed) → IsDrawn old (grown old new news) news → new.state ≡ old.state
+since_some : (old new : OwnerState) (since kept : List Entry) (news : List Placed) → IsDrawn old (grown old new news) news → new.state ≡ old.state
     → kept ≡ since ++ map entry_of news → HasDrawnSince old new since kept
 since_some old new since kept news draws state is = (news, record { draws = draws; state = state; since_is = is })
 
-pub since_none : (old : Owning) (since : List Entry) → HasDrawnSince old old since since
+pub since_none : (old : OwnerState) (since : List Entry) → HasDrawnSince old old since since
 unfolding draws_none
 since_none old since = since_some old old since since [] (draws_none old).1 refl (sym (append-nil since))
 
-pub since_more : (old mid new : Owning) (since more kept : List Entry) → HasDrawnSince old mid since more → HasDrawnSince mid new more kept
+pub since_more : (old mid new : OwnerState) (since more kept : List Entry) → HasDrawnSince old mid since more → HasDrawnSince mid new more kept
     → HasDrawnSince old new since kept
 since_more old mid new since more kept a b =
     let f = a.1 in
@@ -130,7 +130,7 @@ since_more old mid new since more kept a b =
     (s.since_is ∙ ap (λ l. l ++ map entry_of b.0) f.since_is ∙ append_assoc since (map entry_of a.0) (map entry_of b.0)
     ∙ ap (λ l. since ++ l) (sym (map-append entry_of a.0 b.0)))
 
-pub pull_since : (old new : Owning) (since kept : List Entry) (r : Result Bool PortError)
+pub pull_since : (old new : OwnerState) (since kept : List Entry) (r : Result Bool PortError)
     → MatchResult r (λ more. MatchBool more ((placed : Placed) × IsDrawnSince old new since kept (placed ∷ [])) ((new ≡ old) × (kept ≡ since) × (new.known ≡ new.drawn)))
       (λ error. (error ≡ PortError.Memory) × (new ≡ old) × (kept ≡ since))
     → HasDrawnSince old new since kept
@@ -160,11 +160,11 @@ taken-alive classes old new (Consumed g) takes = ⊎_elim (λ (t : take.TakesFir
 taken-alive classes old new (Discarded g) takes = ap (λ p. p.alive) takes.1.now
 taken-alive classes old new Nothing takes = ap (λ p. p.alive) takes.1
 
-pub drawn-alive : (old new : Owning) → HasDrawn old new → new.state.alive ≡ old.state.alive
+pub drawn-alive : (old new : OwnerState) → HasDrawn old new → new.state.alive ≡ old.state.alive
 drawn-alive old new a = ap (λ p. p.alive) a.1.state ∙ after_draws-alive old.pid old.state a.0
 
 -- all that was put is drawn, and so is all that the owner knew, and the answer is what waits then
-pub finishes : (old mid : Owning) (answer : List Entry) → HasDrawn old mid → mid.known ≡ mid.drawn → IsKnowing mid
+pub finishes : (old mid : OwnerState) (answer : List Entry) → HasDrawn old mid → mid.known ≡ mid.drawn → IsKnowing mid
     → AreWaiting mid.state.waiting mid.pid mid.armed answer → Finishes old answer
 finishes old mid answer a fresh knows list =
     let s = a.1 in
@@ -178,7 +178,7 @@ finishes old mid answer a fresh knows list =
     }
 
 -- the same after a stop
-pub finishes_since : (old mid : Owning) (since kept : List Entry) → HasDrawnSince old mid since kept → mid.known ≡ mid.drawn → IsKnowing mid → FinishesSince old since kept
+pub finishes_since : (old mid : OwnerState) (since kept : List Entry) → HasDrawnSince old mid since kept → mid.known ≡ mid.drawn → IsKnowing mid → FinishesSince old since kept
 finishes_since old mid since kept a fresh knows =
     let s = a.1 in
     let d : IsDrawn old (grown old mid a.0) a.0 = s.draws in
@@ -190,14 +190,14 @@ finishes_since old mid since kept a fresh knows =
       list = s.since_is;
     }
 
-pub take-alive : (classes : List Class) (old new : Owning) (r : Result Taken PortError)
+pub take-alive : (classes : List Class) (old new : OwnerState) (r : Result Taken PortError)
     → MatchResult r (λ taken. TakesHere classes old new taken) (λ error. (error ≡ PortError.Memory) × HasDrawn old new)
     → new.state.alive ≡ old.state.alive
 take-alive classes old new (Ok taken) is = taken-alive classes (after_draws old.pid old.state is.news) new.state taken is.take ∙ after_draws-alive old.pid old.state is.news
 take-alive classes old new (Err error) is = drawn-alive old new is.1
 
 -- an entry of a priority input that is drawn already
-pub taken_urgent : (classes : List Class) (old : Owning) (state : PortState) (armed : List Armed) (g : Got)
+pub taken_urgent : (classes : List Class) (old : OwnerState) (state : PortState) (armed : List Armed) (g : Got)
     → take.TakesFirst (take.IsOrdinary classes) old.state g state → take.HasClass class.Priority classes g → armed ≡ armed_after g old.armed
     → TakesHere classes old (record old { state = state; armed = armed }) (Consumed g)
 unfolding draws_none
@@ -211,18 +211,18 @@ taken_urgent classes old state armed g first urgent left = record {
 }
 
 -- a gathering and a meeting leave a living owner alive
-pub gather-alive : (old new : Owning) (sender : Sending) (r : Result (Unit {0}) (PortError × Sending))
+pub gather-alive : (old new : OwnerState) (sender : SenderState) (r : Result (Unit {0}) (PortError × SenderState))
     → MatchResult r (λ _. Gathers old new sender) (λ back. (back.0 ≡ PortError.Memory) × (back.1 ≡ sender) × (new ≡ old)) → new.state.alive ≡ old.state.alive
 gather-alive old new sender (Ok u) is = ap (λ p. p.alive) is.1.draws.state ∙ after_draws-alive old.pid old.state is.0
 gather-alive old new sender (Err e) is = ap (λ o. o.state.alive) is.2
 
-pub meet-alive : (old new : Owning) (sender : Sending) (r : Result Sending (PortError × Sending))
+pub meet-alive : (old new : OwnerState) (sender : SenderState) (r : Result SenderState (PortError × SenderState))
     → MatchResult r (λ back. Meets old new sender back) (λ back. (back.0 ≡ PortError.Memory) × (back.1 ≡ sender) × (new ≡ old)) → new.state.alive ≡ old.state.alive
 meet-alive old new sender (Ok back) is = ap (λ p. p.alive) is.draws.state ∙ after_draws-alive old.pid old.state is.news
 meet-alive old new sender (Err e) is = ap (λ o. o.state.alive) is.2
 
 -- what an inbox leaves that has stopped
-pub leaves_stopped : (old mid : Retiring) (answer : List Entry) → HasDrawnHere old mid → mid.owner.known ≡ mid.owner.drawn → IsKnowing mid.owner
+pub leaves_stopped : (old mid : RetiredState) (answer : List Entry) → HasDrawnHere old mid → mid.owner.known ≡ mid.owner.drawn → IsKnowing mid.owner
     → mid.owner.state.alive ≡ false → mid.since ≡ answer → Leaves old answer
 leaves_stopped old mid answer here fresh knows dead same = record {
   living = λ alive. let still = drawn-alive old.owner mid.owner (here.living alive).0 ∙ alive in absurd (let both : false ≡ true = sym dead ∙ still in cc);

@@ -1,6 +1,6 @@
-use Rattle.std.proofs.Common.{◌≡◌, ℕ, ◌+◌, ◌==◌, true, false, cond, List, [], ◌∷◌, ◌++◌, length, map, Option, Some, None, subst, sym, ap, ◌∙◌, refl, append_assoc, append-nil}
+use Rattle.std.proofs.Common.{◌≡◌, ℕ, ◌+◌, ◌==◌, true, false, cond, List, [], ◌∷◌, ◌++◌, length, map, All, Option, Some, None, subst, sym, ap, ◌∙◌, refl, append_assoc, append-nil}
 use Rattle.std.specs.List.{filter_map, flat_map}
-use Rattle.std.proofs.lemmas.List.Elements.{All-head, filter_map-append}
+use Rattle.std.proofs.lemmas.List.Elements.{All-nil, All-cons, All-append, All-head, filter_map-append}
 use Rattle.port_model.specs.declared.selection.Class.{Class}
 use Rattle.port_model.specs.declared.taken.Taken.TheVariants.{Nothing}
 use Rattle.port_model.specs.History.{PortEvent, Put, Expire, Take, Set, Reset, Stop, PortStep, IsLegal}
@@ -10,10 +10,10 @@ use Rattle.input_port.specs.declared.entry.Entry.{Entry}
 use Rattle.input_port.specs.declared.entry.Entry.TheVariants.{Signal, Timer}
 use Rattle.input_port.specs.declared.rule.Placed.{Placed}
 use Rattle.input_port.specs.declared.rule.Gone.{Gone}
-use Rattle.input_port.specs.Calls.{after_entry, after_draw, after_draws, Gathers, IsDrawn, TakesHere}
-use Rattle.input_port.specs.Ends.{Owning, Sending, IsKnowing, sent_by}
+use Rattle.input_port.specs.Calls.{AreNext, after_entry, after_draw, after_draws, Gathers, IsDrawn, TakesHere}
+use Rattle.input_port.specs.Ends.{OwnerState, SenderState, IsKnowing, sent_by}
 use Rattle.input_port.specs.Headline.{OwnerCall, Taking, Draining, Gathering, Meeting, Setting, Resetting, Stopping, IsCall, Step, Drawn, Called, AreCalls, entry_events, call_events, step_events, history_of, drawn_in, called_in, OwnersHaveHistories, NothingIsLeft}
-use Rattle.input_port.specs.Put.{of, StartsWith, AllThere}
+use Rattle.input_port.specs.Put.{of, StartsWith, AllThere, IsTimely}
 use Rattle.input_port.proofs.Drawing.{after_draws-alive}
 use Rattle.input_port.proofs.Meeting.{own_same}
 use Rattle.input_port.proofs.PutLists.{starts_through}
@@ -35,28 +35,36 @@ draws_legal pid port (x ∷ xs) =
     IsLegal-append port (after_draw pid port x) (after_draws pid (after_draw pid port x) xs) (entry_events pid x.at x.entry) (history_of pid (map Drawn xs))
     (entry_legal pid port x.at x.entry) (draws_legal pid (after_draw pid port x) xs)
 
+-- no expiry among the drawn entries came before its due time
+timely_next : (drawn news : List Placed) → AreNext drawn news → All IsTimely news
+timely_next drawn [] next = All-nil IsTimely
+timely_next drawn (x ∷ xs) next = All-cons IsTimely x xs next.2 (timely_next (drawn ++ x ∷ []) xs next.3)
+
 -- what a call makes of the port, what it draws, and that it leaves the port's number
-record Does (old : Owning) (call : OwnerCall) (news : List Placed) (new : Owning) : Type 0 where
+record Does (old : OwnerState) (call : OwnerCall) (news : List Placed) (new : OwnerState) : Type 0 where
   legal : IsLegal (after_draws old.pid old.state news) (call_events call) new.state
   drawn : new.drawn ≡ old.drawn ++ news
   pid : new.pid ≡ old.pid
+  timely : All IsTimely news
 
-only_draws : (old like new : Owning) (call : OwnerCall) (news : List Placed) → call_events call ≡ [] → IsDrawn like new news
+only_draws : (old like new : OwnerState) (call : OwnerCall) (news : List Placed) → call_events call ≡ [] → IsDrawn like new news
     → like.state ≡ old.state → like.drawn ≡ old.drawn → like.pid ≡ old.pid → Does old call news new
 only_draws old like new call news none d state drawn pid = record {
   legal = subst (λ l. IsLegal (after_draws old.pid old.state news) l new.state) (sym none)
       (d.state ∙ ap (λ n. after_draws n like.state news) pid ∙ ap (λ p. after_draws old.pid p news) state);
   drawn = d.drawn ∙ ap (λ l. l ++ news) drawn;
   pid = d.pid ∙ pid;
+  timely = timely_next like.drawn news d.next;
 }
 
-does : (old : Owning) (call : OwnerCall) (news : List Placed) (new : Owning) → old.state.alive ≡ true → IsCall old call news new → Does old call news new
+does : (old : OwnerState) (call : OwnerCall) (news : List Placed) (new : OwnerState) → old.state.alive ≡ true → IsCall old call news new → Does old call news new
 does old (Taking classes taken) news new alive is =
     let t = is.0 in
     subst (λ l. Does old (Taking classes taken) l new) (sym is.1) (record {
       legal = IsLegal-one (after_draws old.pid old.state t.news) new.state (Take classes taken) (after_draws-alive old.pid old.state t.news ∙ alive, t.take);
       drawn = t.draws.drawn;
       pid = t.draws.pid;
+      timely = timely_next old.drawn t.news t.draws.next;
     })
 does old Draining news new alive is = only_draws old old new Draining news refl is refl refl refl
 does old (Gathering sender) news new alive is = only_draws old _ new (Gathering sender) news refl is.draws refl refl refl
@@ -68,18 +76,21 @@ does old (Setting key due fuse) news new alive is =
       legal = IsLegal-one old.state new.state (Set key due fuse.arm) (alive, ap (λ f. f.arm) s.fuse_is, ap (λ o. o.state) s.owner);
       drawn = ap (λ o. o.drawn) s.owner ∙ sym (append-nil old.drawn);
       pid = ap (λ o. o.pid) s.owner;
+      timely = All-nil IsTimely;
     })
 does old (Resetting key) news new alive is =
     subst (λ l. Does old (Resetting key) l new) (sym is.1) (record {
       legal = IsLegal-one old.state new.state (Reset key) (alive, ap (λ o. o.state) is.0);
       drawn = ap (λ o. o.drawn) is.0 ∙ sym (append-nil old.drawn);
       pid = ap (λ o. o.pid) is.0;
+      timely = All-nil IsTimely;
     })
 does old Stopping news new alive is =
     subst (λ l. Does old Stopping l new) (sym is.1) (record {
       legal = IsLegal-one old.state new.state Stop (alive, ap (λ o. o.state) is.0);
       drawn = ap (λ o. o.drawn) is.0 ∙ sym (append-nil old.drawn);
       pid = ap (λ o. o.pid) is.0;
+      timely = All-nil IsTimely;
     })
 
 drawn_all : (news : List Placed) → filter_map drawn_in (map Drawn news) ≡ news
@@ -91,22 +102,22 @@ called_none [] = refl
 called_none (x ∷ xs) = called_none xs
 
 -- calls one after the other
-history : (pid : ℕ) (old new : Owning) (calls : List OwnerCall) (steps : List Step) → old.pid ≡ pid → AreCalls old calls steps new
-    → IsLegal old.state (history_of pid steps) new.state × (old.drawn ++ filter_map drawn_in steps ≡ new.drawn) × (filter_map called_in steps ≡ calls)
-history pid old new [] steps mine are =
-    subst (λ l. IsLegal old.state (history_of pid l) new.state × (old.drawn ++ filter_map drawn_in l ≡ new.drawn) × (filter_map called_in l ≡ [])) (sym are.1)
-    (ap (λ o. o.state) are.0, append-nil old.drawn ∙ sym (ap (λ o. o.drawn) are.0), refl)
-history pid old new (call ∷ calls) steps mine are =
+history : (pid : ℕ) (old new : OwnerState) (calls : List OwnerCall) (steps : List Step) → old.pid ≡ pid → All IsTimely old.drawn → AreCalls old calls steps new
+    → IsLegal old.state (history_of pid steps) new.state × (old.drawn ++ filter_map drawn_in steps ≡ new.drawn) × (filter_map called_in steps ≡ calls) × All IsTimely new.drawn
+history pid old new [] steps mine timely are =
+    subst (λ l. IsLegal old.state (history_of pid l) new.state × (old.drawn ++ filter_map drawn_in l ≡ new.drawn) × (filter_map called_in l ≡ []) × All IsTimely new.drawn) (sym are.1)
+    (ap (λ o. o.state) are.0, append-nil old.drawn ∙ sym (ap (λ o. o.drawn) are.0), refl, subst (λ o. All IsTimely o.drawn) (sym are.0) timely)
+history pid old new (call ∷ calls) steps mine timely are =
     let mid = are.0 in
     let news = are.1 in
     let rest = are.2 in
     let d = does old call news mid are.3 are.4 in
-    let later = history pid mid new calls rest (d.pid ∙ mine) are.5 in
+    let later = history pid mid new calls rest (d.pid ∙ mine) (subst (All IsTimely) (sym d.drawn) (All-append IsTimely old.drawn news timely d.timely)) are.5 in
     let split : history_of pid (map Drawn news ++ Called call ∷ rest) ≡ history_of pid (map Drawn news) ++ (call_events call ++ history_of pid rest) =
     flat_map-append (step_events pid) (map Drawn news) (Called call ∷ rest) in
     let drew : IsLegal old.state (history_of pid (map Drawn news)) (after_draws old.pid old.state news) =
     subst (λ n. IsLegal old.state (history_of n (map Drawn news)) (after_draws old.pid old.state news)) mine (draws_legal old.pid old.state news) in
-    subst (λ l. IsLegal old.state (history_of pid l) new.state × (old.drawn ++ filter_map drawn_in l ≡ new.drawn) × (filter_map called_in l ≡ call ∷ calls)) (sym are.6) (
+    subst (λ l. IsLegal old.state (history_of pid l) new.state × (old.drawn ++ filter_map drawn_in l ≡ new.drawn) × (filter_map called_in l ≡ call ∷ calls) × All IsTimely new.drawn) (sym are.6) (
       subst (λ l. IsLegal old.state l new.state) (sym split)
           (IsLegal-append old.state (after_draws old.pid old.state news) new.state (history_of pid (map Drawn news)) (call_events call ++ history_of pid rest) drew
           (IsLegal-append (after_draws old.pid old.state news) mid.state new.state (call_events call) (history_of pid rest) d.legal later.0)),
@@ -114,14 +125,16 @@ history pid old new (call ∷ calls) steps mine are =
           ∙ sym (append_assoc old.drawn news (filter_map drawn_in rest)) ∙ ap (λ l. l ++ filter_map drawn_in rest) (sym d.drawn) ∙ later.1,
       filter_map-append called_in (map Drawn news) (Called call ∷ rest) ∙ ap (λ l. l ++ call ∷ filter_map called_in rest) (called_none news)
           ∙ ap (λ l. call ∷ l) later.2,
+      later.3,
     )
 
 pub owners_have_histories : OwnersHaveHistories
 owners_have_histories first last calls steps born none are =
-    let h = history first.pid first last calls steps refl are in (
+    let h = history first.pid first last calls steps refl (subst (All IsTimely) (sym none) (All-nil IsTimely)) are in (
       subst (λ p. IsLegal p (history_of first.pid steps) last.state) born h.0,
       ap (λ l. l ++ filter_map drawn_in steps) (sym none) ∙ h.1,
       h.2,
+      h.3,
     )
 
 pub nothing_is_left : NothingIsLeft

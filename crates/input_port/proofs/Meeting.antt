@@ -5,7 +5,7 @@ use Rattle.input_port.specs.declared.rule.Placed.{Placed}
 use Rattle.input_port.specs.declared.rule.Gone.{Gone}
 use Rattle.input_port.specs.declared.rule.View.{View}
 use Rattle.input_port.specs.Calls.{popped_list, TakesIn}
-use Rattle.input_port.specs.Ends.{Sending, is_signal, sent_by, IsOwning}
+use Rattle.input_port.specs.Ends.{SenderState, is_signal, sent_by, IsOfOwner}
 use Rattle.input_port.specs.Put.{StartsWith, of, longer, AllThere, Apart}
 use Rattle.input_port.specs.Steps.{Draws, IsFresh}
 use Rattle.input_port.specs.Views.{gathers, without_first, without_last}
@@ -75,7 +75,7 @@ own_same n long seen s same =
     split ∙ ap (λ l. of n seen ++ l) none ∙ append-nil (of n seen)
 
 -- the sender that comes back has put what it had put
-pub comes_back : (sender back : Sending) (v u w : View) (news : List Placed) → TakesIn v u w news → u.number ≡ sender.number
+pub comes_back : (sender back : SenderState) (v u w : View) (news : List Placed) → TakesIn v u w news → u.number ≡ sender.number
     → u.seen ≡ sender.seen → u.count ≡ sent_by sender → back.number ≡ sender.number → back.seen ≡ w.seen
     → of back.number back.seen ≡ of sender.number sender.seen
 comes_back sender back v u w news takes number seen count same all =
@@ -85,11 +85,11 @@ comes_back sender back v u w news takes number seen count same all =
 
 -- what the owner knows without the sender that it gave back
 pub given_back : (v u w z : View) (news : List Placed) (n signals : ℕ) → TakesIn v u w news → z ≡ without_last w → length v.gathered ≡ n
-    → count_by is_signal w.drawn ≡ signals → IsOwning z n signals
+    → count_by is_signal w.drawn ≡ signals → IsOfOwner z n signals
 given_back v u w z news n signals t is len counted =
     let tail : without_first w.gathered ≡ v.gathered = ap without_first t.gathered in
     let apart = subst Apart t.gathered t.apart in
-    subst (λ l. IsOwning l n signals) (sym is) (record {
+    subst (λ l. IsOfOwner l n signals) (sym is) (record {
       takes = refl;
       gathered_is = ap length tail ∙ len;
       signals_are = counted;

@@ -15,12 +15,12 @@ use Rattle.input_port.specs.declared.entry.Entry.TheVariants.{Signal, Timer}
 use Rattle.input_port.specs.declared.entry.Fuse.{Fuse}
 use Rattle.input_port.specs.declared.rule.Placed.{Placed}
 use Rattle.input_port.specs.declared.rule.View.{View}
-use Rattle.input_port.specs.Ends.{Sending, Owning, sent_by}
+use Rattle.input_port.specs.Ends.{SenderState, OwnerState, sent_by}
 use Rattle.input_port.specs.Left.{AreWaiting}
 use Rattle.input_port.specs.Put.{StartsWith, of, longer, AllThere, Apart, IsTimely}
 
 -- A put or an expiry of a sender: behind all that it had seen came entries of others, and then just this one, as its next.
-pub record Puts (old new : Sending) (at : ℕ) (entry : Entry) : Type 0 where
+pub record Puts (old new : SenderState) (at : ℕ) (entry : Entry) : Type 0 where
   pub port : new.port ≡ old.port
   pub number : new.number ≡ old.number
   pub between : List Placed
@@ -41,24 +41,24 @@ after_draws pid port [] = port
 after_draws pid port (placed ∷ more) = after_draws pid (after_draw pid port placed) more
 
 -- what an owner becomes by a set, a reset and the stop
-abbrev pub after_set : Owning → TimerKey → ℕ → Owning
+abbrev pub after_set : OwnerState → TimerKey → ℕ → OwnerState
 after_set o key due = record o {
   state = set_in o.state key due;
   armed = without_armed key o.armed ++ record { key = key; arm = o.state.sets + 1; due = due } ∷ [];
 }
 
-abbrev pub after_reset : Owning → TimerKey → Owning
+abbrev pub after_reset : OwnerState → TimerKey → OwnerState
 after_reset o key = record o { state = remove_from o.state key; armed = without_armed key o.armed }
 
-abbrev pub after_stop : Owning → Owning
+abbrev pub after_stop : OwnerState → OwnerState
 after_stop o = record o { state = stopped o.state; armed = [] }
 
 -- A set of a timer: its fuse has the port's number, the key, the number of the set and the time. A refused one changes nothing.
-pub record Sets (old : Owning) (key : TimerKey) (due : ℕ) (fuse : Fuse) (new : Owning) : Type 0 where
+pub record Sets (old : OwnerState) (key : TimerKey) (due : ℕ) (fuse : Fuse) (new : OwnerState) : Type 0 where
   pub owner : new ≡ after_set old key due
   pub fuse_is : fuse ≡ record { pid = old.pid; key = key; arm = old.state.sets + 1; due = due }
 
-pub record RefusesSet (old : Owning) (error : PortError) (new : Owning) : Type 0 where
+pub record RefusesSet (old : OwnerState) (error : PortError) (new : OwnerState) : Type 0 where
   pub same : new ≡ old
   pub told : (error ≡ SetsSpent) ⊎ (error ≡ Memory)
 
@@ -78,7 +78,7 @@ AreNext drawn (placed ∷ more) =
 
 -- The owner drew these entries, in their order, and each made of its port what a put or an expiry makes. What it knew it knows.
 -- No set or reset was made: what the sets gave is the same.
-pub record IsDrawn (old new : Owning) (news : List Placed) : Type 0 where
+pub record IsDrawn (old new : OwnerState) (news : List Placed) : Type 0 where
   pub port : new.port ≡ old.port
   pub pid : new.pid ≡ old.pid
   pub gathered : new.gathered ≡ old.gathered
@@ -90,7 +90,7 @@ pub record IsDrawn (old new : Owning) (news : List Placed) : Type 0 where
   pub armed : new.armed ≡ old.armed
 
 -- it drew some entries, or none
-abbrev pub HasDrawn : Owning → Owning → Type 0
+abbrev pub HasDrawn : OwnerState → OwnerState → Type 0
 HasDrawn old new = (news : List Placed) × IsDrawn old new news
 
 -- the reply is not the signal or timer of a priority input
@@ -101,7 +101,7 @@ IsNoPriority classes taken = Unit {0}
 -- A take of the owner: it draws some entries, and then takes from its port as the standard says. After Nothing it was at a
 -- fresh point: all of its known list is drawn. In a state with a priority input so it was after each other reply than an entry
 -- of a priority input.
-pub record TakesHere (classes : List Class) (old new : Owning) (taken : Taken) : Type 0 where
+pub record TakesHere (classes : List Class) (old new : OwnerState) (taken : Taken) : Type 0 where
   pub news : List Placed
   pub draws : IsDrawn old (record new { state = after_draws old.pid old.state news; armed = old.armed }) news
   pub take : take.Takes classes (after_draws old.pid old.state news) taken new.state
@@ -132,18 +132,18 @@ pub record TakesIn (v u w : View) (news : List Placed) : Type 0 where
 
 -- A gathering: the owner knows all that it knew and all that the sender had seen, and all that the sender has put is among
 -- that. On the way it draws these entries: one, or none.
-pub record IsGathered (old new : Owning) (sender : Sending) (news : List Placed) : Type 0 where
+pub record IsGathered (old new : OwnerState) (sender : SenderState) (news : List Placed) : Type 0 where
   pub draws : IsDrawn (record old { known = longer old.known sender.seen; gathered = record { number = sender.number; count = sent_by sender } ∷ old.gathered }) new news
   pub kept : StartsWith new.known old.known
   pub told : StartsWith new.known sender.seen
   pub all : length (of sender.number new.known) ≡ sent_by sender
 
-abbrev pub Gathers : Owning → Owning → Sending → Type 0
+abbrev pub Gathers : OwnerState → OwnerState → SenderState → Type 0
 Gathers old new sender = (news : List Placed) × IsGathered old new sender news
 
 -- A meeting: the owner knows all that it knew and all that the sender had seen, and the sender comes back with its number and
 -- its entries, and has seen all that the owner knows. On the way the owner draws one entry, or none.
-pub record Meets (old new : Owning) (sender back : Sending) : Type 0 where
+pub record Meets (old new : OwnerState) (sender back : SenderState) : Type 0 where
   pub news : List Placed
   pub draws : IsDrawn (record old { known = longer old.known sender.seen }) new news
   pub kept : StartsWith new.known old.known
@@ -156,7 +156,7 @@ pub record Meets (old new : Owning) (sender back : Sending) : Type 0 where
 -- Entries are drawn until nothing is left of what the owner knew, nor of what the gathered senders put, and not one more of
 -- these. The answer is what waits in the port of the standard after that: what was put and neither taken nor reset, in its
 -- order, each timer's signal with the fuse that its set gave.
-pub record Finishes (old : Owning) (answer : List Entry) : Type 0 where
+pub record Finishes (old : OwnerState) (answer : List Entry) : Type 0 where
   pub news : List Placed
   pub next : AreNext old.drawn news
   pub known : StartsWith (old.drawn ++ news) old.known
@@ -167,16 +167,16 @@ abbrev pub entry_of : Placed → Entry
 entry_of placed = placed.entry
 
 -- After its stop the owner drew these entries, in their order, and keeps them. Its port is as the stop left it.
-pub record IsDrawnSince (old new : Owning) (since kept : List Entry) (news : List Placed) : Type 0 where
+pub record IsDrawnSince (old new : OwnerState) (since kept : List Entry) (news : List Placed) : Type 0 where
   pub draws : IsDrawn old (record new { state = after_draws old.pid old.state news }) news
   pub state : new.state ≡ old.state
   pub since_is : kept ≡ since ++ map entry_of news
 
-abbrev pub HasDrawnSince : Owning → Owning → List Entry → List Entry → Type 0
+abbrev pub HasDrawnSince : OwnerState → OwnerState → List Entry → List Entry → Type 0
 HasDrawnSince old new since kept = (news : List Placed) × IsDrawnSince old new since kept news
 
 -- A gathering after the stop: as before it, and what is drawn on the way is kept.
-pub record GathersSince (old new : Owning) (since kept : List Entry) (sender : Sending) : Type 0 where
+pub record GathersSince (old new : OwnerState) (since kept : List Entry) (sender : SenderState) : Type 0 where
   pub news : List Placed
   pub gathers : IsGathered old (record new { state = after_draws old.pid old.state news }) sender news
   pub state : new.state ≡ old.state
@@ -184,7 +184,7 @@ pub record GathersSince (old new : Owning) (since kept : List Entry) (sender : S
 
 -- After the stop entries are drawn until nothing is left of what the owner knew, nor of what the gathered senders put: these
 -- are the entries drawn since.
-pub record FinishesSince (old : Owning) (since answer : List Entry) : Type 0 where
+pub record FinishesSince (old : OwnerState) (since answer : List Entry) : Type 0 where
   pub news : List Placed
   pub next : AreNext old.drawn news
   pub known : StartsWith (old.drawn ++ news) old.known

@@ -1,4 +1,4 @@
-use Rattle.std.specs.Prelude.{◌≡◌, ℕ, ◌+◌, ◌==◌, true, List, [], ◌∷◌, ◌++◌, map, Option, Some, None, if◌then◌else◌}
+use Rattle.std.specs.Prelude.{◌≡◌, ℕ, ◌+◌, ◌==◌, true, List, [], ◌∷◌, ◌++◌, map, All, Option, Some, None, if◌then◌else◌}
 use Rattle.std.specs.List.{filter_map, flat_map}
 use Rattle.port_model.specs.declared.selection.Class.{Class}
 use Rattle.port_model.specs.declared.taken.Taken.{Taken}
@@ -11,8 +11,8 @@ use Rattle.input_port.specs.declared.entry.Entry.TheVariants.{Signal, Timer}
 use Rattle.input_port.specs.declared.entry.Fuse.{Fuse}
 use Rattle.input_port.specs.declared.rule.Placed.{Placed}
 use Rattle.input_port.specs.Calls.{after_reset, after_stop, Gathers, IsDrawn, IsGathered, Meets, Sets, TakesHere}
-use Rattle.input_port.specs.Ends.{Owning, Sending, IsKnowing}
-use Rattle.input_port.specs.Put.{of}
+use Rattle.input_port.specs.Ends.{OwnerState, SenderState, IsKnowing}
+use Rattle.input_port.specs.Put.{of, IsTimely}
 
 -- The headline, from the public contracts alone: each owner has a legal history of the standard's port of one thread, with just
 -- its own calls and what it drew.
@@ -21,14 +21,14 @@ use Rattle.input_port.specs.Put.{of}
 pub data OwnerCall : Type 0 where
   Taking : List Class → Taken → OwnerCall
   Draining : OwnerCall
-  Gathering : Sending → OwnerCall
-  Meeting : Sending → Sending → OwnerCall
+  Gathering : SenderState → OwnerCall
+  Meeting : SenderState → SenderState → OwnerCall
   Setting : TimerKey → ℕ → Fuse → OwnerCall
   Resetting : TimerKey → OwnerCall
   Stopping : OwnerCall
 
 -- what its contract says of the owner before and after it, and of the entries that it drew
-abbrev pub IsCall : Owning → OwnerCall → List Placed → Owning → Type 0
+abbrev pub IsCall : OwnerState → OwnerCall → List Placed → OwnerState → Type 0
 IsCall old (Taking classes taken) news new = (t : TakesHere classes old new taken) × (news ≡ t.news)
 IsCall old Draining news new = IsDrawn old new news
 IsCall old (Gathering sender) news new = IsGathered old new sender news
@@ -43,10 +43,10 @@ pub data Step : Type 0 where
   Called : OwnerCall → Step
 
 -- Calls one after the other, each of an owner that lives, with the entries that each drew before it.
-abbrev pub AreCalls : Owning → List OwnerCall → List Step → Owning → Type 0
+abbrev pub AreCalls : OwnerState → List OwnerCall → List Step → OwnerState → Type 0
 AreCalls old [] steps new = (new ≡ old) × (steps ≡ [])
 AreCalls old (call ∷ calls) steps new =
-    (mid : Owning) × (news : List Placed) × (rest : List Step) × (old.state.alive ≡ true) × IsCall old call news mid
+    (mid : OwnerState) × (news : List Placed) × (rest : List Step) × (old.state.alive ≡ true) × IsCall old call news mid
     × AreCalls mid calls rest new × (steps ≡ map Drawn news ++ Called call ∷ rest)
 
 -- the events of the standard's port: an expiry by the fuse of another port is none
@@ -78,17 +78,19 @@ called_in (Drawn placed) = None
 called_in (Called call) = Some call
 
 -- Whatever an owner was asked from its birth on: its port is what a legal history makes of the empty port; the history has just
--- the owner's calls, in order, and just the entries that it has drawn, each where it drew it.
+-- the owner's calls, in order, and just the entries that it has drawn, each where it drew it. No expiry among these came
+-- before its due time.
 abbrev pub OwnersHaveHistories : Type 0
 OwnersHaveHistories =
-    (first last : Owning) (calls : List OwnerCall) (steps : List Step) → first.state ≡ empty_port → first.drawn ≡ []
+    (first last : OwnerState) (calls : List OwnerCall) (steps : List Step) → first.state ≡ empty_port → first.drawn ≡ []
     → AreCalls first calls steps last
     → IsLegal empty_port (history_of first.pid steps) last.state
     × (filter_map drawn_in steps ≡ last.drawn)
     × (filter_map called_in steps ≡ calls)
+    × All IsTimely last.drawn
 
 -- After a sender was gathered, a take that finds nothing means that all which the sender put is drawn.
 abbrev pub NothingIsLeft : Type 0
 NothingIsLeft =
-    (classes : List Class) (old mid new : Owning) (sender : Sending) → Gathers old mid sender → TakesHere classes mid new Nothing
+    (classes : List Class) (old mid new : OwnerState) (sender : SenderState) → Gathers old mid sender → TakesHere classes mid new Nothing
     → IsKnowing new → of sender.number new.drawn ≡ of sender.number sender.seen

@@ -17,9 +17,9 @@ pub struct Alone {
 }
 
 impl Model for Alone {
-    ghost use Rattle.input_port.specs.Ends.{Solitary};
+    ghost use Rattle.input_port.specs.Ends.{AloneState};
 
-    ghost Value = { Solitary };
+    ghost Value = { AloneState };
 
     ghost view = { λ a. record { pid = a.pid; state = a.plain.state; armed = a.plain.armed } };
 }

@@ -18,13 +18,13 @@ pub struct Desk {
 
 impl Model for Desk {
     ghost use Rattle.std.specs.Prelude.{◌≡◌, None};
-    ghost use Rattle.input_port.specs.Ends.{Desking, IsDesking};
+    ghost use Rattle.input_port.specs.Ends.{DeskState, IsOfDesk};
 
-    ghost Value = { Desking };
+    ghost Value = { DeskState };
 
     ghost view = { λ d. record { port = record { web = d.pass.web; heap = d.pass.heap }; given = d.given } };
 
-    ghost invariant = { λ d. IsDesking d.pass.me.view.client d.given × (d.pass.me.hand ≡ None) × (d.pass.me.spare ≡ None) };
+    ghost invariant = { λ d. IsOfDesk d.pass.me.view.client d.given × (d.pass.me.hand ≡ None) × (d.pass.me.spare ≡ None) };
 }
 
 impl Desk {

@@ -32,9 +32,9 @@ pub struct Drawer {
 
 impl Model for Drawer {
     ghost use Rattle.std.specs.Prelude.{◌≡◌, None};
-    ghost use Rattle.input_port.specs.Ends.{Owning, IsOwning};
+    ghost use Rattle.input_port.specs.Ends.{OwnerState, IsOfOwner};
 
-    ghost Value = { Owning };
+    ghost Value = { OwnerState };
 
     ghost view = { λ o. record {
       port = record { web = o.pass.web; heap = o.pass.heap };
@@ -46,7 +46,7 @@ impl Model for Drawer {
       armed = o.plain.armed;
     } };
 
-    ghost invariant = { λ o. IsOwning o.pass.me.view.client o.gathered o.signals × (o.pass.me.hand ≡ None) × (o.pass.me.spare ≡ None) };
+    ghost invariant = { λ o. IsOfOwner o.pass.me.view.client o.gathered o.signals × (o.pass.me.hand ≡ None) × (o.pass.me.spare ≡ None) };
 }
 
 impl Drawer {

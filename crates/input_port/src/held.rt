@@ -22,9 +22,9 @@ pub struct Held<'a, R: Wait + Copy> {
 
 impl<'a, R: Wait + Copy> Model for Held<'a, R> {
     ghost use Rattle.std.specs.Prelude.{◌≡◌, not};
-    ghost use Rattle.input_port.specs.Ends.{Retiring};
+    ghost use Rattle.input_port.specs.Ends.{RetiredState};
 
-    ghost Value = { Retiring };
+    ghost Value = { RetiredState };
 
     ghost view = { λ h. record { owner = h.drawer; since = h.since.items; before = h.before } };
 

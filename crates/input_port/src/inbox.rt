@@ -3,7 +3,7 @@ ghost use Rattle.std.specs.Prelude.{◌≡◌, ◌↔◌, Bool, true, List, IsEr
 ghost use Rattle.port_model.specs.Timers.{due_times, is_active, IsLeast};
 ghost use Rattle.port_model.specs.declared.plain_port.TheConstants.{MOST_SETS};
 ghost use Rattle.input_port.specs.Calls.{after_reset, after_stop, HasDrawn, RefusesSet, Sets, TakesHere};
-ghost use Rattle.input_port.specs.Ends.{Owning};
+ghost use Rattle.input_port.specs.Ends.{OwnerState};
 ghost use Rattle.input_port.specs.declared.entry.Entry.{Entry};
 
 use crate::Fuse;
@@ -13,7 +13,7 @@ use port_model::{PortError, Selection, Taken, TimerKey};
 /// condition.
 pub trait Inbox {
     /// What the owner has drawn and knows, and its port.
-    ghost owning: { Self → Owning };
+    ghost owning: { Self → OwnerState };
 
     /// What it has drawn since its stop.
     ghost since: { Self → List Entry };

@@ -24,9 +24,9 @@ pub struct Owner {
 
 impl Model for Owner {
     ghost use Rattle.std.specs.Prelude.{◌≡◌, true};
-    ghost use Rattle.input_port.specs.Ends.{Owning};
+    ghost use Rattle.input_port.specs.Ends.{OwnerState};
 
-    ghost Value = { Owning };
+    ghost Value = { OwnerState };
 
     ghost view = { λ o. o.drawer };
 

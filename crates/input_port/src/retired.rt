@@ -18,9 +18,9 @@ pub struct Retired {
 }
 
 impl Model for Retired {
-    ghost use Rattle.input_port.specs.Ends.{Retiring};
+    ghost use Rattle.input_port.specs.Ends.{RetiredState};
 
-    ghost Value = { Retiring };
+    ghost Value = { RetiredState };
 
     ghost view = { λ r. record { owner = r.drawer; since = r.since.items; before = r.before } };
 }

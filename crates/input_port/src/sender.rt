@@ -1,6 +1,6 @@
 ghost use Rattle.std.specs.Prelude.{◌≡◌, ◌+◌, ◌≤◌, ◌^◌, [], true, None, MatchResult};
 ghost use Rattle.input_port.specs.Views.{sender};
-ghost use Rattle.input_port.specs.Ends.{sent_by, signals_by, IsSending};
+ghost use Rattle.input_port.specs.Ends.{sent_by, signals_by, IsOfSender};
 ghost use Rattle.crossbeam_queue.specs.SegTies.{IsSegPassOf};
 ghost use Rattle.input_port.specs.Put.{IsDueBy};
 ghost use Rattle.input_port.specs.Calls.{Puts};
@@ -26,13 +26,13 @@ pub struct Sender {
 
 impl Model for Sender {
     ghost use Rattle.std.specs.Prelude.{◌≡◌, None};
-    ghost use Rattle.input_port.specs.Ends.{Sending, IsSending};
+    ghost use Rattle.input_port.specs.Ends.{SenderState, IsOfSender};
 
-    ghost Value = { Sending };
+    ghost Value = { SenderState };
 
     ghost view = { λ s. record { port = record { web = s.pass.web; heap = s.pass.heap }; number = s.number; seen = s.pass.me.view.client.seen } };
 
-    ghost invariant = { λ s. IsSending s.pass.me.view.client s.number s.count s.signals × (s.pass.me.hand ≡ None) × (s.pass.me.spare ≡ None) };
+    ghost invariant = { λ s. IsOfSender s.pass.me.view.client s.number s.count s.signals × (s.pass.me.hand ≡ None) × (s.pass.me.spare ≡ None) };
 }
 
 impl Sender {
@@ -120,7 +120,7 @@ impl Sender {
 
     // A sender that the owner gives back.
     pub(crate) fn again(pass: Pass, number: u32, count: u64, signals: u64) -> Self
-        requires view { IsSending pass.me.view.client number count signals }
+        requires view { IsOfSender pass.me.view.client number count signals }
         requires free { (pass.me.hand ≡ None) × (pass.me.spare ≡ None) }
         ensures { result ≡ record { port = record { web = pass.web; heap = pass.heap }; number = number; seen = pass.me.view.client.seen } }
     {

@@ -5,12 +5,12 @@ use Rattle.sdl_instances.specs.declared.rule.View.{View}
 use Rattle.sdl_instances.specs.Steps.{Knows}
 
 -- what a caller sees of the table: which one it is
-pub record Numbering : Type 0 where
+pub record TableState : Type 0 where
   pub id : TableId
 
 -- What a caller sees of a seat: which table it is of; how many of the 64 parts of the right to draw it has; how many seats it
 -- can still split off; the numbers that it has drawn; and how many numbers it has seen drawn, by whatever seat.
-pub record Drawing : Type 0 where
+pub record SeatState : Type 0 where
   pub table : TableId
   pub parts : ℕ
   pub left : ℕ

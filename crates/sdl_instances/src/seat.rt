@@ -20,9 +20,9 @@ pub struct Seat {
 }
 
 impl Model for Seat {
-    ghost use Rattle.sdl_instances.specs.Ends.{Drawing, IsSeat};
+    ghost use Rattle.sdl_instances.specs.Ends.{SeatState, IsSeat};
 
-    ghost Value = { Drawing };
+    ghost Value = { SeatState };
 
     ghost view = { λ s. record { table = s.place.table_id; parts = s.place.me.0.parts; left = s.left; drawn = s.place.me.0.drawn; seen = s.place.me.0.seen } };
 

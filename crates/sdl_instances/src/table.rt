@@ -16,9 +16,9 @@ pub struct Table {
 }
 
 impl Model for Table {
-    ghost use Rattle.sdl_instances.specs.Ends.{Numbering, IsTable};
+    ghost use Rattle.sdl_instances.specs.Ends.{TableState, IsTable};
 
-    ghost Value = { Numbering };
+    ghost Value = { TableState };
 
     ghost view = { λ table. record { id = table.word.shared.table_id } };
 

@@ -4,13 +4,13 @@ use Rattle.port_model.specs.Take.{IsOrdinary, TakesFirst}
 use Rattle.port_model.specs.Timers.{armed_after}
 use Rattle.port_model.specs.declared.taken.Taken.TheVariants.{Consumed}
 use Rattle.input_port.specs.Calls.{TakesHere}
-use Rattle.input_port.specs.Ends.{Owning}
+use Rattle.input_port.specs.Ends.{OwnerState}
 use Rattle.input_port.proofs.Drawing.{taken_urgent}
 use Rattle.input_port.proofs.drawer.Drawer.take_urgent.Goals as goal
 
 pub returns-in-Some-clause-take : goal.returns-in-Some-clause-take
 returns-in-Some-clause-take g c =
-    subst (λ (o : Owning). TakesHere c.args.selection.now o (record {
+    subst (λ (o : OwnerState). TakesHere c.args.selection.now o (record {
       port = record { web = c.self.inside.pass.web; heap = c.self.inside.pass.heap };
       pid = c.self.inside.pid;
       drawn = c.self.inside.pass.me.view.client.drawn;
