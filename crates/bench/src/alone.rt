@@ -1,0 +1,97 @@
+//! The port of one thread with much in it.
+
+use port_model::{
+    Class, Got, Item, Pid, PlainPort, Selection, SignalId, Taken, TimerKey, Value, Values,
+};
+use std::alloc::Global;
+
+/// A signal of this name with one value.
+pub fn item(alloc: Global, name: u32, value: u64) -> Option<Item> {
+    Some(Item {
+        name: SignalId(name),
+        values: Values::new(vec![in alloc; Value::Int(value.cast_signed())].ok()?),
+        sender: Pid::Env,
+    })
+}
+
+/// The key of a timer with one value.
+pub fn key(alloc: Global, value: u64) -> Option<TimerKey> {
+    Some(TimerKey {
+        name: SignalId(2),
+        values: Values::new(vec![in alloc; Value::Int(value.cast_signed())].ok()?),
+    })
+}
+
+/// A state that has these classes of the signals 0, 1 and 2.
+pub fn selection(alloc: Global, classes: &[Class]) -> Option<Selection> {
+    Some(Selection::new(classes.to_vec(alloc).ok()?))
+}
+
+/// Puts this many signals of one name.
+fn fill(alloc: Global, port: &mut PlainPort, name: u32, times: u64) -> Option<()> {
+    for value in 0..times {
+        let item = item(alloc, name, value)?;
+        port.put(item).ok()?;
+    }
+    Some(())
+}
+
+/// How many of so many takes consume a signal, where one is put before each.
+fn puts_and_takes(
+    alloc: Global,
+    port: &mut PlainPort,
+    name: u32,
+    classes: &Selection,
+    times: u64,
+) -> Option<u64> {
+    let mut consumed: u64 = 0;
+    for value in 0..times {
+        let item = item(alloc, name, value)?;
+        port.put(item).ok()?;
+        if let Taken::Consumed(Got::Signal(_)) = port.take(classes) {
+            consumed = consumed.wrapping_add(1);
+        }
+    }
+    Some(consumed)
+}
+
+/// Ten takes behind each of so many saved signals.
+pub fn takes_past_saved(alloc: Global, times: u64) -> Option<u64> {
+    let classes = selection(alloc, &[Class::Saved, Class::Input, Class::Input])?;
+    let mut port = PlainPort::new(alloc);
+    fill(alloc, &mut port, 0, times)?;
+    puts_and_takes(alloc, &mut port, 1, &classes, times.saturating_mul(10))
+}
+
+/// Takes in a state with a priority input, among so many ordinary signals.
+pub fn takes_of_urgent(alloc: Global, times: u64) -> Option<u64> {
+    let classes = selection(alloc, &[Class::Input, Class::Priority, Class::Input])?;
+    let mut port = PlainPort::new(alloc);
+    fill(alloc, &mut port, 0, times)?;
+    puts_and_takes(alloc, &mut port, 1, &classes, times)
+}
+
+/// Sets so many timers, sets each again, asks of each whether it is active, lets each expire, and takes each signal.
+pub fn timers(alloc: Global, times: u64) -> Option<u64> {
+    let classes = selection(alloc, &[Class::Input, Class::Input, Class::Input])?;
+    let mut port = PlainPort::new(alloc);
+    let mut done: u64 = 0;
+    for value in 0..times {
+        port.set(key(alloc, value)?, value).ok()?;
+    }
+    for value in 0..times {
+        let key = key(alloc, value)?;
+        if port.active(&key) {
+            done = done.wrapping_add(1);
+        }
+        let arm = port.set(key, value).ok()?;
+        let due = port.next_due()?;
+        port.expire(self::key(alloc, value)?, arm, due, value).ok()?;
+    }
+    for _ in 0..times {
+        if let Taken::Consumed(Got::Timer(_)) = port.take(&classes) {
+            done = done.wrapping_add(1);
+        }
+    }
+    Some(done)
+}
