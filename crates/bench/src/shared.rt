@@ -159,6 +159,6 @@ pub fn finishes<R: Wait>(rt: &R, alloc: Global, times: u64) -> Option<u64> {
         let due = fuse.due();
         sender.expire(rt, &port, fuse, due).ok()?;
     }
-    let list = owner.finish(rt, &port).ok()?;
-    Some(list.len() as u64)
+    let end = owner.finish(rt, &port).ok()?;
+    Some(end.entries().len() as u64)
 }

@@ -1,5 +1,6 @@
-use Rattle.std.proofs.Common.{◌≡◌, ◌==◌, ℕ, cond, Bool, true, false, List, [], ◌∷◌, ◌++◌, map, Result, Ok, Err, MatchBool, MatchResult, refl, sym, ap, ◌∙◌, subst, append_assoc, append-nil, All, ⊎_elim, inl}
+use Rattle.std.proofs.Common.{◌≡◌, ◌==◌, ℕ, cond, Bool, true, false, List, [], ◌∷◌, ◌++◌, map, Result, Ok, Err, refl, sym, ap, ◌∙◌, subst, append_assoc, append-nil, All, ⊎_elim, inl}
 use Rattle.port_model.specs.declared.error.PortError.{PortError}
+use Rattle.inbox.specs.declared.refused.Refused.{Refused}
 use Rattle.port_model.specs.declared.taken.Taken.TheVariants.{Consumed, Discarded, Nothing}
 use Rattle.port_model.specs.declared.selection.Class.TheVariants as class
 use Rattle.std.proofs.lemmas.List.{map-append}
@@ -7,18 +8,20 @@ use Rattle.port_model.specs.declared.selection.Class.{Class}
 use Rattle.port_model.specs.declared.taken.Taken.{Taken}
 use Rattle.port_model.specs.Port.{PortState, expires, expire_in}
 use Rattle.port_model.specs.Take as take
-use Rattle.input_port.specs.declared.rule.Placed.{Placed}
-use Rattle.input_port.specs.Ends.{OwnerState, RetiredState, SenderState, IsKnowing}
+use Rattle.inbox.specs.declared.placed.Placed.{Placed}
+use Rattle.inbox.specs.Ends.{OwnerState}
+use Rattle.input_port.specs.Ends.{left_with, FinishedState, RetiredState, SenderState, IsKnowing}
 use Rattle.port_model.specs.PlainPort.{armed_left}
 use Rattle.input_port.specs.Held.{HasDrawnHere, Leaves}
-use Rattle.input_port.specs.Left.{AreWaiting}
+use Rattle.inbox.specs.Left.{AreWaiting}
 use Rattle.port_model.specs.declared.got.Got.TheVariants as got
 use Rattle.port_model.specs.declared.got.Got.{Got}
 use Rattle.port_model.specs.Timers.{with_waiting, armed_after, Armed}
-use Rattle.input_port.specs.declared.entry.Entry.{Entry}
-use Rattle.input_port.specs.declared.entry.Entry.TheVariants.{Signal, Timer}
-use Rattle.input_port.specs.Calls.{after_entry, after_draw, after_draws, known_after, entry_of, AreNext, Finishes, FinishesSince, Gathers, Meets, TakesHere, IsDrawn, HasDrawn, IsDrawnSince, HasDrawnSince}
-use Rattle.input_port.specs.Put.{longer, AllThere}
+use Rattle.inbox.specs.declared.entry.Entry.{Entry}
+use Rattle.inbox.specs.declared.entry.Entry.TheVariants.{Signal, Timer}
+use Rattle.inbox.specs.Calls.{after_entry, after_draw, after_draws, known_after, AreNext, TakeIs, TakesHere, IsDrawn, HasDrawn}
+use Rattle.input_port.specs.Calls.{entry_of, DrewAll, Finishes, FinishesSince, GatherIs, MeetIs, PullIs, PullSinceIs, HasDrawnSince}
+use Rattle.inbox.specs.Put.{longer}
 use Rattle.input_port.proofs.PutLists.{starts_all, starts_through}
 
 -- entries drawn one after the other
@@ -77,8 +80,7 @@ draws_more old mid new a b =
 
 -- a pull draws one entry or none
 pub pull_draws : (old new : OwnerState) (r : Result Bool PortError)
-    → MatchResult r (λ more. MatchBool more ((placed : Placed) × IsDrawn old new (placed ∷ [])) ((new ≡ old) × (new.known ≡ new.drawn))) (λ error. (error ≡ PortError.Memory) × (new ≡ old))
-    → HasDrawn old new
+    → PullIs old new r → HasDrawn old new
 pull_draws old new (Ok true) pulled = (pulled.0 ∷ [], pulled.1)
 pull_draws old new (Ok false) pulled = subst (HasDrawn old) (sym pulled.0) (draws_none old)
 pull_draws old new (Err error) pulled = subst (HasDrawn old) (sym pulled.1) (draws_none old)
@@ -90,8 +92,7 @@ nothing_taken classes old new takes same = same ∙ ap (λ s. record old { state
 -- what is known where a take goes on: the port found nothing, and one entry more was drawn, or none
 pub goes_on : (classes : List Class) (first old mid new : OwnerState) (r : Result Bool PortError) → HasDrawn first old
     → take.Takes classes old.state Nothing mid.state → mid ≡ record old { state = mid.state; armed = armed_left Nothing old.armed }
-    → MatchResult r (λ more. MatchBool more ((placed : Placed) × IsDrawn mid new (placed ∷ [])) ((new ≡ mid) × (new.known ≡ new.drawn))) (λ error. (error ≡ PortError.Memory) × (new ≡ mid))
-    → HasDrawn first new
+    → PullIs mid new r → HasDrawn first new
 goes_on classes first old mid new r before takes same pulled =
     draws_more first old new before (subst (λ o. HasDrawn o new) (nothing_taken classes old mid takes same) (pull_draws mid new r pulled))
 
@@ -131,9 +132,7 @@ since_more old mid new since more kept a b =
     ∙ ap (λ l. since ++ l) (sym (map-append entry_of a.0 b.0)))
 
 pub pull_since : (old new : OwnerState) (since kept : List Entry) (r : Result Bool PortError)
-    → MatchResult r (λ more. MatchBool more ((placed : Placed) × IsDrawnSince old new since kept (placed ∷ [])) ((new ≡ old) × (kept ≡ since) × (new.known ≡ new.drawn)))
-      (λ error. (error ≡ PortError.Memory) × (new ≡ old) × (kept ≡ since))
-    → HasDrawnSince old new since kept
+    → PullSinceIs old new since kept r → HasDrawnSince old new since kept
 pull_since old new since kept (Ok true) pulled = (pulled.0 ∷ [], pulled.1)
 pull_since old new since kept (Ok false) pulled = subst (λ n. HasDrawnSince old n since kept) (sym pulled.0) (subst (λ l. HasDrawnSince old old since l) (sym pulled.1) (since_none old since))
 pull_since old new since kept (Err error) pulled = subst (λ n. HasDrawnSince old n since kept) (sym pulled.1) (subst (λ l. HasDrawnSince old old since l) (sym pulled.2) (since_none old since))
@@ -163,36 +162,44 @@ taken-alive classes old new Nothing takes = ap (λ p. p.alive) takes.1
 pub drawn-alive : (old new : OwnerState) → HasDrawn old new → new.state.alive ≡ old.state.alive
 drawn-alive old new a = ap (λ p. p.alive) a.1.state ∙ after_draws-alive old.pid old.state a.0
 
--- all that was put is drawn, and so is all that the owner knew, and the answer is what waits then
-pub finishes : (old mid : OwnerState) (answer : List Entry) → HasDrawn old mid → mid.known ≡ mid.drawn → IsKnowing mid
-    → AreWaiting mid.state.waiting mid.pid mid.armed answer → Finishes old answer
-finishes old mid answer a fresh knows list =
+-- at a fresh point all is drawn
+drew_all : (old mid : OwnerState) (entries : List Entry) (news : List Placed) → IsDrawn old (grown old mid news) news
+    → mid.known ≡ mid.drawn → IsKnowing mid → DrewAll old (left_with mid entries) news
+drew_all old mid entries news d fresh knows =
+    record { drawn = d.drawn; next = d.next; fresh = fresh; kept = d.kept; gathered = d.gathered; there = knows.there }
+
+-- what is left is what waits then
+pub finishes : (old mid : OwnerState) (end : FinishedState) → HasDrawn old mid → mid.known ≡ mid.drawn → IsKnowing mid
+    → end ≡ left_with mid end.entries → AreWaiting mid.state.waiting mid.pid mid.armed end.entries → Finishes old end
+finishes old mid end a fresh knows left list =
     let s = a.1 in
+    let d : IsDrawn old (grown old mid a.0) a.0 = record {
+      port = s.port;
+      pid = s.pid;
+      gathered = s.gathered;
+      drawn = s.drawn;
+      next = s.next;
+      known = s.known;
+      kept = s.kept;
+      state = refl;
+      armed = s.armed;
+    } in
     record {
       news = a.0;
-      next = s.next;
-      known = (s.kept.0, sym (fresh ∙ s.drawn) ∙ s.kept.1);
-      there = subst (λ l. AllThere l old.gathered) (fresh ∙ s.drawn) (subst (AllThere mid.known) s.gathered knows.there);
-      list = subst (λ p. AreWaiting p.waiting old.pid old.armed answer) s.state
-          (subst (λ l. AreWaiting mid.state.waiting old.pid l answer) s.armed (subst (λ n. AreWaiting mid.state.waiting n mid.armed answer) s.pid list));
+      all = subst (λ e. DrewAll old e a.0) (sym left) (drew_all old mid end.entries a.0 d fresh knows);
+      list = subst (λ p. AreWaiting p.waiting old.pid old.armed end.entries) s.state
+          (subst (λ l. AreWaiting mid.state.waiting old.pid l end.entries) s.armed
+          (subst (λ n. AreWaiting mid.state.waiting n mid.armed end.entries) s.pid list));
     }
 
 -- the same after a stop
-pub finishes_since : (old mid : OwnerState) (since kept : List Entry) → HasDrawnSince old mid since kept → mid.known ≡ mid.drawn → IsKnowing mid → FinishesSince old since kept
+pub finishes_since : (old mid : OwnerState) (since kept : List Entry) → HasDrawnSince old mid since kept
+    → mid.known ≡ mid.drawn → IsKnowing mid → FinishesSince old since (left_with mid kept)
 finishes_since old mid since kept a fresh knows =
-    let s = a.1 in
-    let d : IsDrawn old (grown old mid a.0) a.0 = s.draws in
-    record {
-      news = a.0;
-      next = d.next;
-      known = (d.kept.0, sym (fresh ∙ d.drawn) ∙ d.kept.1);
-      there = subst (λ l. AllThere l old.gathered) (fresh ∙ d.drawn) (subst (AllThere mid.known) d.gathered knows.there);
-      list = s.since_is;
-    }
+    record { news = a.0; all = drew_all old mid kept a.0 a.1.draws fresh knows; list = a.1.since_is }
 
 pub take-alive : (classes : List Class) (old new : OwnerState) (r : Result Taken PortError)
-    → MatchResult r (λ taken. TakesHere classes old new taken) (λ error. (error ≡ PortError.Memory) × HasDrawn old new)
-    → new.state.alive ≡ old.state.alive
+    → TakeIs classes old new r → new.state.alive ≡ old.state.alive
 take-alive classes old new (Ok taken) is = taken-alive classes (after_draws old.pid old.state is.news) new.state taken is.take ∙ after_draws-alive old.pid old.state is.news
 take-alive classes old new (Err error) is = drawn-alive old new is.1
 
@@ -211,21 +218,20 @@ taken_urgent classes old state armed g first urgent left = record {
 }
 
 -- a gathering and a meeting leave a living owner alive
-pub gather-alive : (old new : OwnerState) (sender : SenderState) (r : Result (Unit {0}) (PortError × SenderState))
-    → MatchResult r (λ _. Gathers old new sender) (λ back. (back.0 ≡ PortError.Memory) × (back.1 ≡ sender) × (new ≡ old)) → new.state.alive ≡ old.state.alive
+pub gather-alive : (old new : OwnerState) (sender : SenderState) (r : Result (Unit {0}) (Refused SenderState)) → GatherIs old new sender r → new.state.alive ≡ old.state.alive
 gather-alive old new sender (Ok u) is = ap (λ p. p.alive) is.1.draws.state ∙ after_draws-alive old.pid old.state is.0
-gather-alive old new sender (Err e) is = ap (λ o. o.state.alive) is.2
+gather-alive old new sender (Err e) is = ap (λ o. o.state.alive) is.1
 
-pub meet-alive : (old new : OwnerState) (sender : SenderState) (r : Result SenderState (PortError × SenderState))
-    → MatchResult r (λ back. Meets old new sender back) (λ back. (back.0 ≡ PortError.Memory) × (back.1 ≡ sender) × (new ≡ old)) → new.state.alive ≡ old.state.alive
+pub meet-alive : (old new : OwnerState) (sender : SenderState) (r : Result SenderState (Refused SenderState)) → MeetIs old new sender r → new.state.alive ≡ old.state.alive
 meet-alive old new sender (Ok back) is = ap (λ p. p.alive) is.draws.state ∙ after_draws-alive old.pid old.state is.news
-meet-alive old new sender (Err e) is = ap (λ o. o.state.alive) is.2
+meet-alive old new sender (Err e) is = ap (λ o. o.state.alive) is.1
 
 -- what an inbox leaves that has stopped
-pub leaves_stopped : (old mid : RetiredState) (answer : List Entry) → HasDrawnHere old mid → mid.owner.known ≡ mid.owner.drawn → IsKnowing mid.owner
-    → mid.owner.state.alive ≡ false → mid.since ≡ answer → Leaves old answer
-leaves_stopped old mid answer here fresh knows dead same = record {
+pub leaves_stopped : (old mid : RetiredState) (kept : List Entry) → HasDrawnHere old mid
+    → mid.owner.known ≡ mid.owner.drawn → IsKnowing mid.owner → mid.owner.state.alive ≡ false → mid.since ≡ kept
+    → Leaves old (left_with mid.owner kept)
+leaves_stopped old mid kept here fresh knows dead same = record {
   living = λ alive. let still = drawn-alive old.owner mid.owner (here.living alive).0 ∙ alive in absurd (let both : false ≡ true = sym dead ∙ still in cc);
-  stopped = λ stop. finishes_since old.owner mid.owner old.since answer
+  stopped = λ stop. finishes_since old.owner mid.owner old.since kept
       (subst (λ l. HasDrawnSince old.owner mid.owner old.since l) same (here.stopped stop)) fresh knows;
 }

@@ -1,6 +1,5 @@
 pub mod Drawing
 pub mod Headline
-pub mod Leaving
 pub mod Meeting
 pub mod Moves
 pub mod Passes

@@ -1,12 +1,13 @@
 use Rattle.std.proofs.Common.{◌≡◌, ◌+◌, ℕ, count_by, List, [], ◌∷◌, ◌++◌, length, Option, Some, None, MatchOption, sym, refl, ap, ◌∙◌, subst, arith, length-append, append-nil}
 use Rattle.std.proofs.lemmas.Grind.{common_steps}
 use Rattle.std.proofs.lemmas.List.Elements.{All-head, All-same, All-tail}
-use Rattle.input_port.specs.declared.rule.Placed.{Placed}
-use Rattle.input_port.specs.declared.rule.Gone.{Gone}
+use Rattle.inbox.specs.declared.placed.Placed.{Placed}
+use Rattle.inbox.specs.declared.placed.Gone.{Gone}
 use Rattle.input_port.specs.declared.rule.View.{View}
 use Rattle.input_port.specs.Calls.{popped_list, TakesIn}
-use Rattle.input_port.specs.Ends.{SenderState, is_signal, sent_by, IsOfOwner}
-use Rattle.input_port.specs.Put.{StartsWith, of, longer, AllThere, Apart}
+use Rattle.inbox.specs.Ends.{is_signal}
+use Rattle.input_port.specs.Ends.{SenderState, sent_by, IsOfOwner}
+use Rattle.inbox.specs.Put.{StartsWith, of, longer, AllThere, Apart}
 use Rattle.input_port.specs.Steps.{Draws, IsFresh}
 use Rattle.input_port.specs.Views.{gathers, without_first, without_last}
 use Rattle.input_port.proofs.PutLists.{of-append, starts_all, starts_through, both_told}

@@ -6,10 +6,10 @@ use mathlib.Core.Option.{some, some-ne-none}
 use lib.ListN.{get_elem?}
 use Rattle.crossbeam_queue.specs.Fifo.{Pushes, Pops, Forks, Merges, Learns}
 use Rattle.crossbeam_queue.proofs.Lists.{at_set}
-use Rattle.input_port.specs.declared.rule.Placed.{Placed}
-use Rattle.input_port.specs.declared.rule.Gone.{Gone}
+use Rattle.inbox.specs.declared.placed.Placed.{Placed}
+use Rattle.inbox.specs.declared.placed.Gone.{Gone}
 use Rattle.input_port.specs.declared.rule.View.{View}
-use Rattle.input_port.specs.Put.{StartsWith, of, one_to, longer, Apart, IsTimely}
+use Rattle.inbox.specs.Put.{StartsWith, of, one_to, longer, Apart, IsTimely}
 use Rattle.input_port.specs.Rule.{Book, FitsDesk, FitsSender, IsGone, FitsOwner, Fits, IsGiven, Kept}
 use Rattle.input_port.specs.Steps.{Adds, Draws, IsFresh}
 use Rattle.input_port.specs.Views.{whole, desk, sender, owner, spent, owner_of, gathers, without_first, without_last, sender_again, last_gathered}

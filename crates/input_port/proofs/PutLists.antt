@@ -3,8 +3,8 @@ use Rattle.std.proofs.lemmas.Bool.{ltb-true, ltb-false, cases_eq}
 use Rattle.std.proofs.lemmas.List.{append_cancel_left, map-append, get_or_push}
 use Rattle.std.proofs.lemmas.List.Elements.{filter-append, All-head, All-tail}
 use mathlib.Core.List.{head-eq_of_cons-eq, tail-eq_of_cons-eq}
-use Rattle.input_port.specs.declared.rule.Placed.{Placed}
-use Rattle.input_port.specs.Put.{StartsWith, of, one_to, longer, shorter}
+use Rattle.inbox.specs.declared.placed.Placed.{Placed}
+use Rattle.inbox.specs.Put.{StartsWith, of, one_to, longer, shorter}
 
 -- the entries of one number in two lists, one after the other
 pub of-append : (n : ℕ) (xs ys : List Placed) → of n (xs ++ ys) ≡ of n xs ++ of n ys

@@ -1,14 +1,13 @@
-use Rattle.std.specs.Prelude.{◌≡◌, ℕ, ◌≤◌, ◌^◌, Bool, true, false, List, [], length, count_by}
+-- What callers see of the ends of a port: the desk, the senders, the owner.
+use Rattle.std.specs.Prelude.{◌≡◌, ℕ, ◌≤◌, ◌^◌, true, List, length, count_by}
 use Rattle.std.specs.declared.alloc.Global.{Global}
 use Rattle.crossbeam_queue.specs.SegTies.{SegId}
-use Rattle.port_model.specs.Port.{PortState}
-use Rattle.port_model.specs.Timers.{Armed}
-use Rattle.input_port.specs.declared.entry.Entry.{Entry}
-use Rattle.input_port.specs.declared.entry.Entry.TheVariants.{Signal, Timer}
-use Rattle.input_port.specs.declared.rule.Placed.{Placed}
-use Rattle.input_port.specs.declared.rule.Gone.{Gone}
+use Rattle.inbox.specs.declared.entry.Entry.{Entry}
+use Rattle.inbox.specs.declared.placed.Placed.{Placed}
+use Rattle.inbox.specs.declared.placed.Gone.{Gone}
 use Rattle.input_port.specs.declared.rule.View.{View}
-use Rattle.input_port.specs.Put.{of, StartsWith, AllThere, Apart}
+use Rattle.inbox.specs.Ends.{is_signal, OwnerState}
+use Rattle.inbox.specs.Put.{of, StartsWith, AllThere, Apart}
 
 -- what a caller sees of the desk: which port it is of, and how many numbers it has given out
 pub record DeskState : Type 0 where
@@ -21,30 +20,6 @@ pub record SenderState : Type 0 where
   pub number : ℕ
   pub seen : List Placed
 
--- the entry is a signal
-abbrev pub is_signal_entry : Entry → Bool
-is_signal_entry (Signal item) = true
-is_signal_entry (Timer fuse) = false
-
-abbrev pub is_signal : Placed → Bool
-is_signal placed = is_signal_entry placed.entry
-
--- What a caller sees of the owner: which port it is of, and its number; the entries that it has drawn; its known list; the
--- senders that are gathered with it, the last one first; the port of the standard that its calls and the drawn entries have
--- made; and what the sets of the active timers gave.
-pub record OwnerState : Type 0 where
-  pub port : SegId Global
-  pub pid : ℕ
-  pub drawn : List Placed
-  pub known : List Placed
-  pub gathered : List Gone
-  pub state : PortState
-  pub armed : List Armed
-
--- how many signals an owner has drawn
-abbrev pub signals_drawn : OwnerState → ℕ
-signals_drawn o = count_by is_signal o.drawn
-
 -- What every owner knows: the known list begins with what was drawn, and has all entries of the gathered senders, whose
 -- numbers differ.
 pub record IsKnowing (o : OwnerState) : Type 0 where
@@ -52,25 +27,23 @@ pub record IsKnowing (o : OwnerState) : Type 0 where
   pub there : AllThere o.known o.gathered
   pub apart : Apart o.gathered
 
--- a port that no queue stands behind, and the owner of a port for one thread, who draws nothing
-abbrev pub no_port : SegId Global
-no_port = record { web = (0, 0); heap = record { memory = record { seal = tt } } }
-
-abbrev pub single : ℕ → PortState → List Armed → OwnerState
-single pid state armed = record { port = no_port; pid = pid; drawn = []; known = []; gathered = []; state = state; armed = armed }
-
--- what a caller sees of a port for one thread
-pub record AloneState : Type 0 where
-  pub pid : ℕ
-  pub state : PortState
-  pub armed : List Armed
-
 -- what a caller sees of an owner after its stop: the owner, the entries that it has drawn since, which had no effect, and how
 -- many signals it had drawn before
 pub record RetiredState : Type 0 where
   pub owner : OwnerState
   pub since : List Entry
   pub before : ℕ
+
+-- What an owner leaves at its end: the entries that are left, and what it had drawn, knew and had gathered by then.
+pub record FinishedState : Type 0 where
+  pub entries : List Entry
+  pub drawn : List Placed
+  pub known : List Placed
+  pub gathered : List Gone
+
+-- what an owner leaves with these entries
+abbrev pub left_with : OwnerState → List Entry → FinishedState
+left_with o entries = record { entries = entries; drawn = o.drawn; known = o.known; gathered = o.gathered }
 
 -- how many entries a sender has put, and how many of them are signals
 abbrev pub sent_by : SenderState → ℕ

@@ -1,4 +1,4 @@
-use Rattle.std.specs.Prelude.{◌≡◌, ℕ, ◌+◌, ◌==◌, true, List, [], ◌∷◌, ◌++◌, map, All, Option, Some, None, if◌then◌else◌}
+use Rattle.std.specs.Prelude.{◌≡◌, ℕ, ◌==◌, true, List, [], ◌∷◌, ◌++◌, map, All, Option, Some, None, if◌then◌else◌}
 use Rattle.std.specs.List.{filter_map, flat_map}
 use Rattle.port_model.specs.declared.selection.Class.{Class}
 use Rattle.port_model.specs.declared.taken.Taken.{Taken}
@@ -6,13 +6,15 @@ use Rattle.port_model.specs.declared.taken.Taken.TheVariants.{Nothing}
 use Rattle.port_model.specs.declared.timer_key.TimerKey.{TimerKey}
 use Rattle.port_model.specs.History.{PortEvent, Put, Expire, Take, Set, Reset, Stop, IsLegal}
 use Rattle.port_model.specs.Port.{empty_port}
-use Rattle.input_port.specs.declared.entry.Entry.{Entry}
-use Rattle.input_port.specs.declared.entry.Entry.TheVariants.{Signal, Timer}
-use Rattle.input_port.specs.declared.entry.Fuse.{Fuse}
-use Rattle.input_port.specs.declared.rule.Placed.{Placed}
-use Rattle.input_port.specs.Calls.{after_reset, after_stop, Gathers, IsDrawn, IsGathered, Meets, Sets, TakesHere}
-use Rattle.input_port.specs.Ends.{OwnerState, SenderState, IsKnowing}
-use Rattle.input_port.specs.Put.{of, IsTimely}
+use Rattle.inbox.specs.declared.entry.Entry.{Entry}
+use Rattle.inbox.specs.declared.entry.Entry.TheVariants.{Signal, Timer}
+use Rattle.inbox.specs.declared.entry.Fuse.{Fuse}
+use Rattle.inbox.specs.declared.placed.Placed.{Placed}
+use Rattle.inbox.specs.Calls.{after_reset, after_stop, IsDrawn, Sets, TakesHere}
+use Rattle.input_port.specs.Calls.{Gathers, IsGathered, Meets}
+use Rattle.inbox.specs.Ends.{OwnerState}
+use Rattle.input_port.specs.Ends.{SenderState, IsKnowing}
+use Rattle.inbox.specs.Put.{of, IsTimely}
 
 -- The headline, from the public contracts alone: each owner has a legal history of the standard's port of one thread, with just
 -- its own calls and what it drew.

@@ -1,14 +1,15 @@
-use Rattle.std.specs.Prelude.{◌≡◌, true, false, List}
-use Rattle.input_port.specs.declared.entry.Entry.{Entry}
-use Rattle.input_port.specs.Ends.{RetiredState, SenderState}
-use Rattle.input_port.specs.Calls.{Finishes, FinishesSince, Gathers, GathersSince, HasDrawn, HasDrawnSince}
-
--- What an inbox does, before its stop and after it.
+-- What an inbox over a shared port does, before its stop and after it.
+use Rattle.std.specs.Prelude.{◌≡◌, true, false, Result, MatchResult}
+use Rattle.port_model.specs.declared.error.PortError.TheVariants.{Memory}
+use Rattle.inbox.specs.declared.refused.Refused.{Refused}
+use Rattle.input_port.specs.Ends.{FinishedState, RetiredState, SenderState}
+use Rattle.inbox.specs.Calls.{ComesBack, HasDrawn}
+use Rattle.input_port.specs.Calls.{Finishes, FinishesSince, Gathers, GathersSince, HasDrawnSince}
 
 -- It leaves what waits in the port of an owner that was not stopped, or the entries drawn since the stop.
-pub record Leaves (old : RetiredState) (answer : List Entry) : Type 0 where
-  pub living : old.owner.state.alive ≡ true → Finishes old.owner answer
-  pub stopped : old.owner.state.alive ≡ false → FinishesSince old.owner old.since answer
+pub record Leaves (old : RetiredState) (end : FinishedState) : Type 0 where
+  pub living : old.owner.state.alive ≡ true → Finishes old.owner end
+  pub stopped : old.owner.state.alive ≡ false → FinishesSince old.owner old.since end
 
 -- It drew some entries, or none.
 pub record HasDrawnHere (old new : RetiredState) : Type 0 where
@@ -19,3 +20,12 @@ pub record HasDrawnHere (old new : RetiredState) : Type 0 where
 pub record GathersHere (old new : RetiredState) (sender : SenderState) : Type 0 where
   pub living : old.owner.state.alive ≡ true → Gathers old.owner new.owner sender × (new.since ≡ old.since)
   pub stopped : old.owner.state.alive ≡ false → GathersSince old.owner new.owner old.since new.since sender
+
+-- the answer to a gathering
+abbrev pub GatherHereIs : RetiredState → RetiredState → SenderState → Result (Unit {0}) (Refused SenderState) → Type 0
+GatherHereIs old new sender result =
+    MatchResult result (λ _. GathersHere old new sender) (λ back. ComesBack back sender × (new ≡ old))
+
+-- what it leaves; for want of memory it comes back, and has drawn some entries
+abbrev pub LeaveIs : RetiredState → Result FinishedState (Refused RetiredState) → Type 0
+LeaveIs old result = MatchResult result (λ end. Leaves old end) (λ back. (back.error ≡ Memory) × HasDrawnHere old back.value)

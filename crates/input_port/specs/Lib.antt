@@ -2,8 +2,6 @@ pub mod Calls
 pub mod Ends
 pub mod Headline
 pub mod Held
-pub mod Left
-pub mod Put
 pub mod Rule
 pub mod Steps
 pub mod Views

@@ -1,7 +1,7 @@
 use Rattle.std.specs.Prelude.{◌≡◌, ◌+◌, ◌<◌, List, [], ◌∷◌, ◌++◌, length}
-use Rattle.input_port.specs.declared.rule.Placed.{Placed}
+use Rattle.inbox.specs.declared.placed.Placed.{Placed}
 use Rattle.input_port.specs.declared.rule.View.{View}
-use Rattle.input_port.specs.Put.{StartsWith, of, longer, AllThere, Apart, IsTimely}
+use Rattle.inbox.specs.Put.{StartsWith, of, longer, AllThere, Apart, IsTimely}
 use Rattle.input_port.specs.Views.{sender, owner}
 
 -- A push: behind what the sender had seen came entries of others, and then its own.

@@ -1,8 +1,8 @@
 use Rattle.std.specs.Prelude.{◌≡◌, ℕ, true, false, List, [], ◌∷◌}
-use Rattle.input_port.specs.declared.rule.Placed.{Placed}
-use Rattle.input_port.specs.declared.rule.Gone.{Gone}
+use Rattle.inbox.specs.declared.placed.Placed.{Placed}
+use Rattle.inbox.specs.declared.placed.Gone.{Gone}
 use Rattle.input_port.specs.declared.rule.View.{View}
-use Rattle.input_port.specs.Put.{longer, shorter}
+use Rattle.inbox.specs.Put.{longer, shorter}
 
 -- the first pass, which the port splits into the owner's and the desk's
 abbrev pub whole : View

@@ -1,19 +1,22 @@
 //! What draws from a port, for an owner that lives and for one that has stopped. The atomic steps are those of `steps`.
-ghost use Rattle.std.specs.Prelude.{◌≡◌, ◌↔◌, ◌⊎◌, ◌<◌, ◌+◌, ◌-◌, ◌^◌, [], ◌∷◌, ◌++◌, ◌≤◌, true, None, length, count_by, IsErrOf, MatchBool, MatchOption, MatchResult};
+ghost use Rattle.std.specs.Prelude.{◌≡◌, ◌↔◌, ◌⊎◌, ◌<◌, ◌+◌, ◌-◌, ◌^◌, [], ◌∷◌, ◌++◌, ◌≤◌, true, None, length, count_by, IfErr, IfOk, IsErrOf, MatchOption};
 ghost use Rattle.port_model.specs.PlainPort.{armed_left};
 ghost use Rattle.port_model.specs.Port.{empty_port};
 ghost use Rattle.port_model.specs.Take.{Takes};
 ghost use Rattle.port_model.specs.Timers.{due_times, is_active, IsLeast};
 ghost use Rattle.port_model.specs.declared.plain_port.TheConstants.{MOST_SETS};
-ghost use Rattle.input_port.specs.Ends.{is_signal, signals_drawn, IsKnowing};
-ghost use Rattle.input_port.specs.Left.{AreWaiting};
+ghost use Rattle.inbox.specs.Ends.{is_signal, signals_drawn};
+ghost use Rattle.input_port.specs.Ends.{left_with, IsKnowing};
+ghost use Rattle.inbox.specs.Left.{AreWaiting};
 ghost use Rattle.input_port.specs.Views.{owner};
-ghost use Rattle.input_port.specs.declared.rule.Placed.{Placed};
-ghost use Rattle.input_port.specs.Calls.{after_draw, after_draws, after_reset, after_set, after_stop, popped_list, Gathers, HasDrawn, IsDrawn, IsGathered, Meets, RefusesSet, Sets, TakesHere, TakesIn};
+ghost use Rattle.inbox.specs.declared.placed.Placed.{Placed};
+ghost use Rattle.inbox.specs.Calls.{after_draw, after_draws, after_reset, after_set, after_stop, ComesBack, HasDrawn, IsDrawn, SetIs, TakeIs};
+ghost use Rattle.input_port.specs.Calls.{popped_list, DrainIs, GatherIs, IsGathered, MeetIs, PullIs, TakesIn};
 ghost use Rattle.crossbeam_queue.specs.SegTies.{IsSegPassOf};
 
-use crate::rule::{Pass, Placed, Queue};
-use crate::{Entry, Fuse, Port, Sender, fused, steps};
+use crate::rule::{Pass, Queue};
+use crate::{Finished, Port, Sender, steps};
+use inbox::{Entry, Fuse, Placed, Refused, fused};
 use port_model::{PlainPort, PortError, Selection, Taken, TimerKey};
 use std::alloc::Global;
 use std::marker::Model;
@@ -32,7 +35,8 @@ pub struct Drawer {
 
 impl Model for Drawer {
     ghost use Rattle.std.specs.Prelude.{◌≡◌, None};
-    ghost use Rattle.input_port.specs.Ends.{OwnerState, IsOfOwner};
+    ghost use Rattle.inbox.specs.Ends.{OwnerState};
+    ghost use Rattle.input_port.specs.Ends.{IsOfOwner};
 
     ghost Value = { OwnerState };
 
@@ -98,7 +102,7 @@ impl Drawer {
     ) -> Result<Taken, PortError>
         requires { self.old.port ≡ port.now.queue }
         ensures port { self.new.port ≡ self.old.port }
-        ensures take { MatchResult result (λ taken. TakesHere selection.now self.old self.new taken) (λ error. (error ≡ PortError.Memory) × HasDrawn self.old self.new) }
+        ensures take { TakeIs selection.now self.old self.new result }
     {
         if selection.has_priority() {
             return self.take_urgent(rt, port, selection);
@@ -125,7 +129,7 @@ impl Drawer {
     ) -> Result<Taken, PortError>
         requires { self.old.port ≡ port.now.queue }
         ensures port { self.new.port ≡ self.old.port }
-        ensures take { MatchResult result (λ taken. TakesHere selection.now self.old self.new taken) (λ error. (error ≡ PortError.Memory) × HasDrawn self.old self.new) }
+        ensures take { TakeIs selection.now self.old self.new result }
     {
         match self.plain.take_priority(selection) {
             Some(got) => Ok(Taken::Consumed(got)),
@@ -142,7 +146,7 @@ impl Drawer {
     ) -> Result<Taken, PortError>
         requires { self.old.port ≡ port.now.queue }
         ensures port { self.new.port ≡ self.old.port }
-        ensures take { MatchResult result (λ taken. TakesHere selection.now self.old self.new taken) (λ error. (error ≡ PortError.Memory) × HasDrawn self.old self.new) }
+        ensures take { TakeIs selection.now self.old self.new result }
     {
         self.drain(rt, port)?;
         Ok(self.choose(selection))
@@ -153,7 +157,7 @@ impl Drawer {
         requires { self.old.port ≡ port.now.queue }
         ensures port { self.new.port ≡ self.old.port }
         ensures drawn { HasDrawn self.old self.new }
-        ensures fresh { MatchResult result (λ _. self.new.known ≡ self.new.drawn) (λ error. error ≡ PortError.Memory) }
+        ensures fresh { DrainIs self.new result }
     {
         for _ in rt.forever() {
             if !self.pull(rt, port)? {
@@ -175,7 +179,7 @@ impl Drawer {
     fn pull<R: Wait>(&mut self, rt: &R, port: &Port) -> Result<bool, PortError>
         requires { self.old.port ≡ port.now.queue }
         ensures port { self.new.port ≡ self.old.port }
-        ensures pulled { MatchResult result (λ more. MatchBool more ((placed : Placed) × IsDrawn self.old self.new (placed ∷ [])) ((self.new ≡ self.old) × (self.new.known ≡ self.new.drawn))) (λ error. (error ≡ PortError.Memory) × (self.new ≡ self.old)) }
+        ensures pulled { PullIs self.old self.new result }
     {
         if self.signals == u64::MAX {
             return Err(PortError::Memory);
@@ -200,17 +204,17 @@ impl Drawer {
         rt: &R,
         port: &Port,
         sender: Sender,
-    ) -> Result<(), (PortError, Sender)>
+    ) -> Result<(), Refused<Sender>>
         requires owner { self.old.port ≡ port.now.queue }
         requires sender { sender.port ≡ port.now.queue }
         ensures port { self.new.port ≡ self.old.port }
-        ensures gather { MatchResult result (λ _. Gathers self.old self.new sender) (λ back. (back.0 ≡ PortError.Memory) × (back.1 ≡ sender) × (self.new ≡ self.old)) }
+        ensures gather { GatherIs self.old self.new sender result }
     {
         if self.gathered == u64::MAX || self.signals == u64::MAX {
-            return Err((PortError::Memory, sender));
+            return Err(refused(sender));
         }
         if let Err(_) = self.plain.reserve() {
-            return Err((PortError::Memory, sender));
+            return Err(refused(sender));
         }
         let popped = take_in(rt, &port.queue, &mut self.pass, sender.into_pass());
         self.signals += signals_in(&popped);
@@ -227,17 +231,17 @@ impl Drawer {
         rt: &R,
         port: &Port,
         sender: Sender,
-    ) -> Result<Sender, (PortError, Sender)>
+    ) -> Result<Sender, Refused<Sender>>
         requires owner { self.old.port ≡ port.now.queue }
         requires sender { sender.port ≡ port.now.queue }
         ensures port { self.new.port ≡ self.old.port }
-        ensures meet { MatchResult result (λ back. Meets self.old self.new sender back) (λ back. (back.0 ≡ PortError.Memory) × (back.1 ≡ sender) × (self.new ≡ self.old)) }
+        ensures meet { MeetIs self.old self.new sender result }
     {
         if self.signals == u64::MAX {
-            return Err((PortError::Memory, sender));
+            return Err(refused(sender));
         }
         if let Err(_) = self.plain.reserve() {
-            return Err((PortError::Memory, sender));
+            return Err(refused(sender));
         }
         let (number, count, signals) = sender.numbers();
         let popped = take_in(rt, &port.queue, &mut self.pass, sender.into_pass());
@@ -251,7 +255,7 @@ impl Drawer {
     /// key is dropped then, and nothing changes.
     pub fn set(&mut self, key: TimerKey, due: u64) -> Result<Fuse, PortError>
         ensures port { self.new.port ≡ self.old.port }
-        ensures set { MatchResult result (λ fuse. Sets self.old key due fuse self.new) (λ error. RefusesSet self.old error self.new) }
+        ensures set { SetIs self.old self.new key due result }
         ensures spent { IsErrOf result PortError.SetsSpent ↔ (self.old.state.sets ≡ MOST_SETS) }
     {
         fused::set(&mut self.plain, self.pid, key, due)
@@ -321,10 +325,27 @@ impl Drawer {
         popped
     }
 
-    /// What waits in the port of the standard, in order, each timer's signal with its fuse. For want of memory it comes back as it
-    /// was.
-    pub fn into_entries(self) -> Result<Vec<Entry>, Drawer>
-        ensures { MatchResult result (λ list. AreWaiting self.state.waiting self.pid self.armed list.items) (λ back. back ≡ self) }
+    /// The end: these entries are left.
+    pub fn leave(self, entries: Vec<Entry>) -> Finished
+        ensures { result ≡ left_with self entries.items }
+    {
+        let Drawer {
+            alloc: _,
+            pid: _,
+            pass,
+            plain: _,
+            gathered: _,
+            signals: _,
+        } = self;
+        Finished::new(entries, pass)
+    }
+
+    /// The end: what waits in the port of the standard is left, in order, each timer's signal with its fuse. For want of memory
+    /// it comes back as it was.
+    pub fn leave_waiting(self) -> Result<Finished, Drawer>
+        ensures left { IfOk result (λ end. end ≡ left_with self end.entries) }
+        ensures waiting { IfOk result (λ end. AreWaiting self.state.waiting self.pid self.armed end.entries) }
+        ensures back { IfErr result (λ back. back ≡ self) }
     {
         let Drawer {
             alloc,
@@ -335,7 +356,7 @@ impl Drawer {
             signals,
         } = self;
         match fused::into_entries(alloc, pid, plain) {
-            Ok(list) => Ok(list),
+            Ok(list) => Ok(Finished::new(list, pass)),
             Err(plain) => Err(Drawer {
                 alloc,
                 pid,
@@ -345,6 +366,16 @@ impl Drawer {
                 signals,
             }),
         }
+    }
+}
+
+// The refusal of a call for want of memory.
+fn refused(sender: Sender) -> Refused<Sender>
+    ensures { ComesBack result sender }
+{
+    Refused {
+        error: PortError::Memory,
+        value: sender,
     }
 }
 

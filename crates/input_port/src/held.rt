@@ -1,10 +1,13 @@
 //! The owner of a shared port, with the port, as an inbox.
 ghost use Rattle.std.specs.Prelude.{◌≡◌, [], true, length, MatchResult};
-ghost use Rattle.input_port.specs.Ends.{signals_drawn, IsKnowing};
-ghost use Rattle.input_port.specs.Held.{GathersHere, HasDrawnHere, Leaves};
+ghost use Rattle.inbox.specs.Ends.{signals_drawn};
+ghost use Rattle.input_port.specs.Ends.{IsKnowing};
+ghost use Rattle.input_port.specs.Calls.{DrainIs};
+ghost use Rattle.input_port.specs.Held.{GatherHereIs, HasDrawnHere, LeaveIs};
 
 use crate::drawer::Drawer;
-use crate::{Entry, Fuse, Inbox, Owner, Port, Sender, since};
+use crate::{Finished, Owner, Port, Sender, since};
+use inbox::{Entry, Fuse, Inbox, Refused};
 use port_model::{PortError, Selection, Taken, TimerKey};
 use std::marker::Model;
 use std::sync::Wait;
@@ -73,11 +76,11 @@ impl<'a, R: Wait + Copy> Held<'a, R> {
 
     /// Takes a sender in, before a stop and after it. For want of memory the sender comes back. That the port is the sender's is
     /// the caller's condition.
-    pub fn gather(&mut self, sender: Sender) -> Result<(), (PortError, Sender)>
+    pub fn gather(&mut self, sender: Sender) -> Result<(), Refused<Sender>>
         requires { sender.port ≡ self.old.owner.port }
         ensures port { self.new.owner.port ≡ self.old.owner.port }
         ensures before { self.new.before ≡ self.old.before }
-        ensures gather { MatchResult result (λ _. GathersHere self.old self.new sender) (λ back. (back.0 ≡ PortError.Memory) × (back.1 ≡ sender) × (self.new ≡ self.old)) }
+        ensures gather { GatherHereIs self.old self.new sender result }
     {
         if self.stopped {
             return since::gather(
@@ -96,7 +99,7 @@ impl<'a, R: Wait + Copy> Held<'a, R> {
         ensures port { self.new.owner.port ≡ self.old.owner.port }
         ensures before { self.new.before ≡ self.old.before }
         ensures drawn { HasDrawnHere self.old self.new }
-        ensures fresh { MatchResult result (λ _. self.new.owner.known ≡ self.new.owner.drawn) (λ error. error ≡ PortError.Memory) }
+        ensures fresh { DrainIs self.new.owner result }
     {
         if self.stopped {
             return since::drain(&mut self.drawer, &mut self.since, &self.rt, self.port);
@@ -113,11 +116,11 @@ impl<'a, R: Wait + Copy> Held<'a, R> {
 
     /// Draws what stands in the port, and gives what is left: as `Owner::finish`, or after a stop as `Retired::finish`. For want of
     /// memory the inbox comes back, and keeps what it has drawn.
-    pub fn finish(mut self) -> Result<Vec<Entry>, (PortError, Self)>
-        ensures { MatchResult result (λ list. Leaves self.entry list.items) (λ back. (back.0 ≡ PortError.Memory) × HasDrawnHere self.entry back.1) }
+    pub fn finish(mut self) -> Result<Finished, Refused<Self>>
+        ensures { LeaveIs self.entry result }
     {
         if let Err(error) = self.drain() {
-            return Err((error, self));
+            return Err(Refused { error, value: self });
         }
         self.knows();
         let Held {
@@ -129,13 +132,13 @@ impl<'a, R: Wait + Copy> Held<'a, R> {
             stopped,
         } = self;
         if stopped {
-            return Ok(since);
+            return Ok(drawer.leave(since));
         }
-        match drawer.into_entries() {
-            Ok(list) => Ok(list),
-            Err(drawer) => Err((
-                PortError::Memory,
-                Held {
+        match drawer.leave_waiting() {
+            Ok(end) => Ok(end),
+            Err(drawer) => Err(Refused {
+                error: PortError::Memory,
+                value: Held {
                     rt,
                     port,
                     drawer,
@@ -143,7 +146,7 @@ impl<'a, R: Wait + Copy> Held<'a, R> {
                     before,
                     stopped,
                 },
-            )),
+            }),
         }
     }
 }

@@ -8,14 +8,11 @@
 //! reset after it is a use of a moved value, and does not compile.
 #![tactic(auto)]
 
-mod alone;
 pub mod birth;
 mod desk;
 mod drawer;
-mod entry;
-mod fused;
+mod finished;
 mod held;
-mod inbox;
 pub mod laws;
 mod owner;
 mod retired;
@@ -24,15 +21,11 @@ mod sender;
 mod shared;
 mod since;
 mod steps;
-mod unput;
 
-pub use alone::Alone;
 pub use desk::Desk;
-pub use entry::{Entry, Fuse};
+pub use finished::Finished;
 pub use held::Held;
-pub use inbox::Inbox;
 pub use owner::Owner;
 pub use retired::Retired;
 pub use sender::Sender;
 pub use shared::Port;
-pub use unput::Unput;

@@ -1,16 +1,19 @@
 //! The owner of a port: the instance, as long as it lives.
-ghost use Rattle.std.specs.Prelude.{◌≡◌, ◌↔◌, [], true, None, length, IsErrOf, MatchResult};
+ghost use Rattle.std.specs.Prelude.{◌≡◌, ◌↔◌, [], true, None, length, IfErr, IfOk, IsErrOf};
 ghost use Rattle.port_model.specs.Port.{empty_port};
 ghost use Rattle.port_model.specs.Timers.{due_times, is_active, IsLeast};
 ghost use Rattle.port_model.specs.declared.plain_port.TheConstants.{MOST_SETS};
-ghost use Rattle.input_port.specs.Calls.{after_reset, after_stop, Finishes, Gathers, HasDrawn, Meets, RefusesSet, Sets, TakesHere};
-ghost use Rattle.input_port.specs.Ends.{signals_drawn, IsKnowing};
-ghost use Rattle.input_port.specs.Left.{AreWaiting};
+ghost use Rattle.inbox.specs.Calls.{after_reset, after_stop, ComesBack, HasDrawn, SetIs, TakeIs};
+ghost use Rattle.input_port.specs.Calls.{DrainIs, FinishIs, GatherIs, MeetIs};
+ghost use Rattle.inbox.specs.Ends.{signals_drawn};
+ghost use Rattle.input_port.specs.Ends.{left_with, IsKnowing};
+ghost use Rattle.inbox.specs.Left.{AreWaiting};
 ghost use Rattle.input_port.specs.Views.{owner};
 
 use crate::drawer::Drawer;
 use crate::rule::Pass;
-use crate::{Entry, Fuse, Port, Retired, Sender};
+use crate::{Finished, Port, Retired, Sender};
+use inbox::{Entry, Fuse, Refused};
 use port_model::{PortError, Selection, Taken, TimerKey};
 use std::alloc::Global;
 use std::marker::Model;
@@ -24,7 +27,7 @@ pub struct Owner {
 
 impl Model for Owner {
     ghost use Rattle.std.specs.Prelude.{◌≡◌, true};
-    ghost use Rattle.input_port.specs.Ends.{OwnerState};
+    ghost use Rattle.inbox.specs.Ends.{OwnerState};
 
     ghost Value = { OwnerState };
 
@@ -81,7 +84,7 @@ impl Owner {
         ensures port { self.new.port ≡ self.old.port }
         ensures alive { self.new.state.alive ≡ true }
         ensures knows { IsKnowing self.new }
-        ensures take { MatchResult result (λ taken. TakesHere selection.now self.old self.new taken) (λ error. (error ≡ PortError.Memory) × HasDrawn self.old self.new) }
+        ensures take { TakeIs selection.now self.old self.new result }
     {
         let taken = self.drawer.take(rt, port, selection);
         self.drawer.knows();
@@ -96,7 +99,7 @@ impl Owner {
         ensures alive { self.new.state.alive ≡ true }
         ensures knows { IsKnowing self.new }
         ensures drawn { HasDrawn self.old self.new }
-        ensures fresh { MatchResult result (λ _. self.new.known ≡ self.new.drawn) (λ error. error ≡ PortError.Memory) }
+        ensures fresh { DrainIs self.new result }
     {
         let drawn = self.drawer.drain(rt, port);
         self.drawer.knows();
@@ -110,13 +113,13 @@ impl Owner {
         rt: &R,
         port: &Port,
         sender: Sender,
-    ) -> Result<(), (PortError, Sender)>
+    ) -> Result<(), Refused<Sender>>
         requires owner { self.old.port ≡ port.now.queue }
         requires sender { sender.port ≡ port.now.queue }
         ensures port { self.new.port ≡ self.old.port }
         ensures alive { self.new.state.alive ≡ true }
         ensures knows { IsKnowing self.new }
-        ensures gather { MatchResult result (λ _. Gathers self.old self.new sender) (λ back. (back.0 ≡ PortError.Memory) × (back.1 ≡ sender) × (self.new ≡ self.old)) }
+        ensures gather { GatherIs self.old self.new sender result }
     {
         let gathered = self.drawer.gather(rt, port, sender);
         self.drawer.knows();
@@ -131,13 +134,13 @@ impl Owner {
         rt: &R,
         port: &Port,
         sender: Sender,
-    ) -> Result<Sender, (PortError, Sender)>
+    ) -> Result<Sender, Refused<Sender>>
         requires owner { self.old.port ≡ port.now.queue }
         requires sender { sender.port ≡ port.now.queue }
         ensures port { self.new.port ≡ self.old.port }
         ensures alive { self.new.state.alive ≡ true }
         ensures knows { IsKnowing self.new }
-        ensures meet { MatchResult result (λ back. Meets self.old self.new sender back) (λ back. (back.0 ≡ PortError.Memory) × (back.1 ≡ sender) × (self.new ≡ self.old)) }
+        ensures meet { MeetIs self.old self.new sender result }
     {
         let met = self.drawer.meet(rt, port, sender);
         self.drawer.knows();
@@ -148,7 +151,7 @@ impl Owner {
     /// key is dropped then, and nothing changes.
     pub fn set(&mut self, key: TimerKey, due: u64) -> Result<Fuse, PortError>
         ensures port { self.new.port ≡ self.old.port }
-        ensures set { MatchResult result (λ fuse. Sets self.old key due fuse self.new) (λ error. RefusesSet self.old error self.new) }
+        ensures set { SetIs self.old self.new key due result }
         ensures spent { IsErrOf result PortError.SetsSpent ↔ (self.old.state.sets ≡ MOST_SETS) }
     {
         self.drawer.set(key, due)
@@ -189,25 +192,38 @@ impl Owner {
 
     /// What waits in the port of the standard, in order: what was drawn and neither taken nor reset, each timer's signal with its
     /// fuse. For want of memory the owner comes back as it was.
-    pub fn into_entries(self) -> Result<Vec<Entry>, (PortError, Owner)>
-        ensures { MatchResult result (λ list. AreWaiting self.state.waiting self.pid self.armed list.items) (λ back. (back.0 ≡ PortError.Memory) × (back.1 ≡ self)) }
+    pub fn into_entries(self) -> Result<Vec<Entry>, Refused<Owner>>
+        ensures waiting { IfOk result (λ list. AreWaiting self.state.waiting self.pid self.armed list.items) }
+        ensures back { IfErr result (λ back. ComesBack back self) }
+    {
+        Ok(self.leave_waiting()?.into_entries())
+    }
+
+    // The end, with what waits in the port of the standard.
+    fn leave_waiting(self) -> Result<Finished, Refused<Owner>>
+        ensures left { IfOk result (λ end. end ≡ left_with self end.entries) }
+        ensures waiting { IfOk result (λ end. AreWaiting self.state.waiting self.pid self.armed end.entries) }
+        ensures back { IfErr result (λ back. ComesBack back self) }
     {
         let Owner { drawer } = self;
-        match drawer.into_entries() {
-            Ok(list) => Ok(list),
-            Err(drawer) => Err((PortError::Memory, Owner { drawer })),
+        match drawer.leave_waiting() {
+            Ok(end) => Ok(end),
+            Err(drawer) => Err(Refused {
+                error: PortError::Memory,
+                value: Owner { drawer },
+            }),
         }
     }
 
     /// `drain`, and then `into_entries`: what was put and neither taken nor reset, in order. For want of memory the owner comes
     /// back, with what it has drawn in its port. That the port is the owner's is the caller's condition.
-    pub fn finish<R: Wait>(mut self, rt: &R, port: &Port) -> Result<Vec<Entry>, (PortError, Owner)>
+    pub fn finish<R: Wait>(mut self, rt: &R, port: &Port) -> Result<Finished, Refused<Owner>>
         requires { self.port ≡ port.now.queue }
-        ensures { MatchResult result (λ list. Finishes self list.items) (λ back. (back.0 ≡ PortError.Memory) × HasDrawn self back.1) }
+        ensures { FinishIs self result }
     {
         if let Err(error) = self.drain(rt, port) {
-            return Err((error, self));
+            return Err(Refused { error, value: self });
         }
-        self.into_entries()
+        self.leave_waiting()
     }
 }

@@ -1,10 +1,13 @@
 //! An owner after its stop.
-ghost use Rattle.std.specs.Prelude.{◌≡◌, length, MatchResult};
-ghost use Rattle.input_port.specs.Calls.{FinishesSince, GathersSince, HasDrawnSince};
-ghost use Rattle.input_port.specs.Ends.{signals_drawn, IsKnowing};
+ghost use Rattle.std.specs.Prelude.{◌≡◌, length, IfErr, IfOk, MatchResult};
+ghost use Rattle.inbox.specs.Calls.{ComesBack};
+ghost use Rattle.input_port.specs.Calls.{DrainIs, FinishesSince, GathersSince, HasDrawnSince};
+ghost use Rattle.inbox.specs.Ends.{signals_drawn};
+ghost use Rattle.input_port.specs.Ends.{IsKnowing};
 
 use crate::drawer::Drawer;
-use crate::{Entry, Port, Sender, since};
+use crate::{Finished, Port, Sender, since};
+use inbox::{Entry, Refused};
 use port_model::PortError;
 use std::marker::Model;
 use std::sync::Wait;
@@ -64,13 +67,15 @@ impl Retired {
         rt: &R,
         port: &Port,
         sender: Sender,
-    ) -> Result<(), (PortError, Sender)>
+    ) -> Result<(), Refused<Sender>>
         requires owner { self.old.owner.port ≡ port.now.queue }
         requires sender { sender.port ≡ port.now.queue }
         ensures port { self.new.owner.port ≡ self.old.owner.port }
         ensures knows { IsKnowing self.new.owner }
         ensures before { self.new.before ≡ self.old.before }
-        ensures gather { MatchResult result (λ _. GathersSince self.old.owner self.new.owner self.old.since self.new.since sender) (λ back. (back.0 ≡ PortError.Memory) × (back.1 ≡ sender) × (self.new ≡ self.old)) }
+        ensures gather { MatchResult result
+            (λ _. GathersSince self.old.owner self.new.owner self.old.since self.new.since sender)
+            (λ back. ComesBack back sender × (self.new ≡ self.old)) }
     {
         let gathered = since::gather(&mut self.drawer, &mut self.since, rt, port, sender);
         self.drawer.knows();
@@ -85,7 +90,7 @@ impl Retired {
         ensures knows { IsKnowing self.new.owner }
         ensures before { self.new.before ≡ self.old.before }
         ensures drawn { HasDrawnSince self.old.owner self.new.owner self.old.since self.new.since }
-        ensures fresh { MatchResult result (λ _. self.new.owner.known ≡ self.new.owner.drawn) (λ error. error ≡ PortError.Memory) }
+        ensures fresh { DrainIs self.new.owner result }
     {
         let drawn = since::drain(&mut self.drawer, &mut self.since, rt, port);
         self.drawer.knows();
@@ -106,17 +111,20 @@ impl Retired {
 
     /// `drain`, and then `into_entries`: what was put and not drawn before the stop, in order. For want of memory the value comes
     /// back, and keeps what it has drawn. That the port is the owner's is the caller's condition.
-    pub fn finish<R: Wait>(
-        mut self,
-        rt: &R,
-        port: &Port,
-    ) -> Result<Vec<Entry>, (PortError, Retired)>
+    pub fn finish<R: Wait>(mut self, rt: &R, port: &Port) -> Result<Finished, Refused<Retired>>
         requires { self.owner.port ≡ port.now.queue }
-        ensures { MatchResult result (λ list. FinishesSince self.owner self.since list.items) (λ back. (back.0 ≡ PortError.Memory) × HasDrawnSince self.owner back.1.owner self.since back.1.since) }
+        ensures ok { IfOk result (FinishesSince self.owner self.since) }
+        ensures err { IfErr result (λ back. back.error ≡ PortError.Memory) }
+        ensures drawn { IfErr result (λ back. HasDrawnSince self.owner back.value.owner self.since back.value.since) }
     {
         if let Err(error) = self.drain(rt, port) {
-            return Err((error, self));
+            return Err(Refused { error, value: self });
         }
-        Ok(self.into_entries())
+        let Retired {
+            drawer,
+            since,
+            before: _,
+        } = self;
+        Ok(drawer.leave(since))
     }
 }

@@ -1,49 +1,9 @@
 //! The rule of a port, and what each atomic step tells.
-ghost use Rattle.std.specs.Prelude.{◌≡◌, ◌≤◌, if◌then◌else◌};
-ghost use Rattle.input_port.specs.Ends.{is_signal_entry};
 
-use crate::Entry;
 use crossbeam_queue::protocol::{Join, Lesson, Outcome, Protocol, Split};
 use crossbeam_queue::{RuledSegQueue, SegPass};
+use inbox::{Gone, Placed};
 use std::collections::LinkedList;
-
-/// What the queue holds: an entry, with its sender's number and its place among the entries of that sender, from 1. `at` is
-/// the time of an expiry, and 0 for a signal.
-#[derive(Drop)]
-pub struct Placed {
-    pub number: u64,
-    pub count: u64,
-    pub at: u64,
-    pub entry: Entry,
-}
-
-impl Placed {
-    /// 1 for a signal, 0 for an expiry.
-    pub fn signals(&self) -> u64
-        ensures few { result ≤ 1 }
-        ensures count { result ≡ (if is_signal_entry self.now.entry then 1 else 0) }
-    {
-        u64::from(self.entry.is_signal())
-    }
-
-    pub fn into_entry(self) -> Entry
-        ensures { result ≡ self.entry }
-    {
-        let Placed {
-            number: _,
-            count: _,
-            at: _,
-            entry,
-        } = self;
-        entry
-    }
-}
-
-/// A sender that was gathered: its number, and how many entries it put. No value of it is made.
-pub struct Gone {
-    pub number: u64,
-    pub count: u64,
-}
 
 /// What a pass may do, and what it knows. No value of it is made.
 pub struct View {

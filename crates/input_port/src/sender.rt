@@ -2,13 +2,14 @@ ghost use Rattle.std.specs.Prelude.{◌≡◌, ◌+◌, ◌≤◌, ◌^◌, [], 
 ghost use Rattle.input_port.specs.Views.{sender};
 ghost use Rattle.input_port.specs.Ends.{sent_by, signals_by, IsOfSender};
 ghost use Rattle.crossbeam_queue.specs.SegTies.{IsSegPassOf};
-ghost use Rattle.input_port.specs.Put.{IsDueBy};
-ghost use Rattle.input_port.specs.Calls.{Puts};
-ghost use Rattle.input_port.specs.declared.entry.Entry.TheVariants.{Signal, Timer};
+ghost use Rattle.inbox.specs.Put.{IsDueBy};
+ghost use Rattle.input_port.specs.Calls.{PutIs, Puts};
+ghost use Rattle.inbox.specs.declared.entry.Entry.TheVariants.{Signal, Timer};
 
-use crate::rule::{Pass, Placed};
-use crate::{Entry, Fuse, Port, Unput, steps};
-use port_model::Item;
+use crate::rule::Pass;
+use crate::{Port, steps};
+use inbox::{Entry, Fuse, Placed, Refused};
+use port_model::{Item, PortError};
 use std::marker::Model;
 use std::sync::Wait;
 
@@ -65,14 +66,17 @@ impl Sender {
 
     /// Puts a signal behind all that this sender has seen. For want of memory, and after 2^61 entries, it comes back. That the
     /// port is the sender's is the caller's condition.
-    pub fn put<R: Wait>(&mut self, rt: &R, port: &Port, item: Item) -> Result<(), Unput<Item>>
+    pub fn put<R: Wait>(&mut self, rt: &R, port: &Port, item: Item) -> Result<(), Refused<Item>>
         requires { self.old.port ≡ port.now.queue }
         ensures port { self.new.port ≡ self.old.port }
-        ensures put { MatchResult result (λ _. Puts self.old self.new 0 (Signal item)) (λ back. (back.value ≡ item) × (self.new ≡ self.old)) }
+        ensures put { PutIs self.old self.new 0 (Signal item) item result }
     {
         match self.push(rt, port, 0, Entry::Signal(item)) {
             Ok(()) => Ok(()),
-            Err(Entry::Signal(value)) => Err(Unput { value }),
+            Err(Entry::Signal(value)) => Err(Refused {
+                error: PortError::Memory,
+                value,
+            }),
             Err(Entry::Timer(_)) => unreachable!(),
         }
     }
@@ -84,15 +88,18 @@ impl Sender {
         port: &Port,
         fuse: Fuse,
         at: u64,
-    ) -> Result<(), Unput<Fuse>>
+    ) -> Result<(), Refused<Fuse>>
         requires port { self.old.port ≡ port.now.queue }
         requires due { fuse.due ≤ at }
         ensures port { self.new.port ≡ self.old.port }
-        ensures put { MatchResult result (λ _. Puts self.old self.new at (Timer fuse)) (λ back. (back.value ≡ fuse) × (self.new ≡ self.old)) }
+        ensures put { PutIs self.old self.new at (Timer fuse) fuse result }
     {
         match self.push(rt, port, at, Entry::Timer(fuse)) {
             Ok(()) => Ok(()),
-            Err(Entry::Timer(value)) => Err(Unput { value }),
+            Err(Entry::Timer(value)) => Err(Refused {
+                error: PortError::Memory,
+                value,
+            }),
             Err(Entry::Signal(_)) => unreachable!(),
         }
     }

@@ -1,12 +1,12 @@
 //! What an owner draws after its stop: it has no effect on its port, and is kept in a list.
-ghost use Rattle.std.specs.Prelude.{◌≡◌, ◌<◌, ◌-◌, ◌^◌, ◌∷◌, [], ◌++◌, length, map, vec_len, vec_capacity, MatchBool, MatchResult};
-ghost use Rattle.input_port.specs.Ends.{signals_drawn};
-ghost use Rattle.input_port.specs.declared.rule.Placed.{Placed};
-ghost use Rattle.input_port.specs.Calls.{entry_of, popped_list, GathersSince, HasDrawnSince, IsDrawnSince};
+ghost use Rattle.std.specs.Prelude.{◌≡◌, ◌<◌, ◌-◌, ◌^◌, ◌∷◌, [], ◌++◌, length, map, vec_len, vec_capacity};
+ghost use Rattle.inbox.specs.Ends.{signals_drawn};
+ghost use Rattle.inbox.specs.declared.placed.Placed.{Placed};
+ghost use Rattle.input_port.specs.Calls.{entry_of, popped_list, DrainIs, GatherSinceIs, HasDrawnSince, PullSinceIs};
 
 use crate::drawer::Drawer;
-use crate::rule::Placed;
-use crate::{Entry, Port, Sender};
+use crate::{Port, Sender};
+use inbox::{Entry, Placed, Refused};
 use port_model::PortError;
 use std::sync::Wait;
 
@@ -17,17 +17,23 @@ pub fn gather<R: Wait>(
     rt: &R,
     port: &Port,
     sender: Sender,
-) -> Result<(), (PortError, Sender)>
+) -> Result<(), Refused<Sender>>
     requires owner { drawer.old.port ≡ port.now.queue }
     requires sender { sender.port ≡ port.now.queue }
     ensures port { drawer.new.port ≡ drawer.old.port }
-    ensures gather { MatchResult result (λ _. GathersSince drawer.old drawer.new since.old.items since.new.items sender) (λ back. (back.0 ≡ PortError.Memory) × (back.1 ≡ sender) × (drawer.new ≡ drawer.old) × (since.new.items ≡ since.old.items)) }
+    ensures gather { GatherSinceIs drawer.old drawer.new since.old.items since.new.items sender result }
 {
     if drawer.gathered() == u64::MAX || drawer.signals() == u64::MAX {
-        return Err((PortError::Memory, sender));
+        return Err(Refused {
+            error: PortError::Memory,
+            value: sender,
+        });
     }
     if let Err(_) = since.reserve(1) {
-        return Err((PortError::Memory, sender));
+        return Err(Refused {
+            error: PortError::Memory,
+            value: sender,
+        });
     }
     let popped = drawer.absorb(rt, port, sender);
     keep(since, popped);
@@ -44,7 +50,7 @@ pub fn drain<R: Wait>(
     requires { drawer.old.port ≡ port.now.queue }
     ensures port { drawer.new.port ≡ drawer.old.port }
     ensures drawn { HasDrawnSince drawer.old drawer.new since.old.items since.new.items }
-    ensures fresh { MatchResult result (λ _. drawer.new.known ≡ drawer.new.drawn) (λ error. error ≡ PortError.Memory) }
+    ensures fresh { DrainIs drawer.new result }
 {
     for _ in rt.forever() {
         if !pull(drawer, since, rt, port)? {
@@ -63,7 +69,7 @@ fn pull<R: Wait>(
 ) -> Result<bool, PortError>
     requires { drawer.old.port ≡ port.now.queue }
     ensures port { drawer.new.port ≡ drawer.old.port }
-    ensures pulled { MatchResult result (λ more. MatchBool more ((placed : Placed) × IsDrawnSince drawer.old drawer.new since.old.items since.new.items (placed ∷ [])) ((drawer.new ≡ drawer.old) × (since.new.items ≡ since.old.items) × (drawer.new.known ≡ drawer.new.drawn))) (λ error. (error ≡ PortError.Memory) × (drawer.new ≡ drawer.old) × (since.new.items ≡ since.old.items)) }
+    ensures pulled { PullSinceIs drawer.old drawer.new since.old.items since.new.items result }
 {
     if drawer.signals() == u64::MAX {
         return Err(PortError::Memory);

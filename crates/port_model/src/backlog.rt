@@ -1,6 +1,6 @@
 //! What waits in a port. It remembers what it has looked at, as long as the names that it saw there keep their classes: so a
 //! take looks at no entry twice, however many wait.
-ghost use Rattle.std.specs.Prelude.{◌≡◌, ◌⊎◌, ◌+◌, ◌<◌, ◌≤◌, [], ◌∷◌, ◌++◌, length, remove, slice_index_or, All, Contains, MatchOption, IsTrue, OnOk, OnErr};
+ghost use Rattle.std.specs.Prelude.{◌≡◌, ◌⊎◌, ◌==◌, ◌+◌, ◌<◌, ◌≤◌, [], ◌∷◌, ◌++◌, length, remove, slice_index_or, All, Contains, MatchOption, IsTrue, OnOk, OnErr};
 ghost use Rattle.std.specs.VecDeque.{deque_capacity};
 ghost use Rattle.port_model.specs.Backlog.{looked_after, waiting_in, IsOrdinaryName, IsSavedName, Leaves};
 ghost use Rattle.port_model.specs.Take.{HasClass, IsOrdinary, IsSaved};
@@ -60,6 +60,13 @@ impl Backlog {
         ensures { result ≡ length (waiting_in self.now) }
     {
         self.passed.len() + self.rest.len()
+    }
+
+    /// Whether nothing waits.
+    pub fn is_empty(&self) -> bool
+        ensures { result ≡ (length (waiting_in self.now) == 0) }
+    {
+        self.len() == 0
     }
 
     /// Makes room for one entry more. Nothing else changes; and it is refused only where no room was left.
@@ -183,7 +190,7 @@ impl Backlog {
             return false;
         }
         self.looked = looked_after(self.looked, 0);
-        let got = self.rest.remove(0).unwrap();
+        let got = take_at(&mut self.rest, 0);
         self.passed.push_back_reserved(got);
         true
     }
@@ -261,7 +268,21 @@ impl Backlog {
         ensures room { self.old.room < self.new.room }
     {
         self.looked = looked_after(self.looked, place);
-        self.rest.remove(place).unwrap()
+        take_at(&mut self.rest, place)
+    }
+}
+
+// Takes the entry at `place` out. The first one leaves without moving the others.
+fn take_at(list: &mut VecDeque<Got>, place: usize) -> Got
+    requires { place < length list.old.items }
+    ensures entry { result ≡ slice_index_or list.old.items place result }
+    ensures items { list.new.items ≡ remove list.old.items place }
+    ensures capacity { deque_capacity list.new ≡ deque_capacity list.old }
+{
+    if place == 0 {
+        list.pop_front().unwrap()
+    } else {
+        list.remove(place).unwrap()
     }
 }
 

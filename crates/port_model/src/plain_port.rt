@@ -207,6 +207,9 @@ impl PlainPort {
         ensures take { Takes selection.now self.old.state result self.new.state }
         ensures armed { self.new.armed ≡ armed_left result self.old.armed }
     {
+        if self.waiting.is_empty() {
+            return Taken::Nothing;
+        }
         if let Some(got) = self.take_priority(selection) {
             return Taken::Consumed(got);
         }

@@ -279,7 +279,9 @@ fn what_waits_comes_out_in_order(rt: HostRuntime) -> Result<(), Fail> {
     let (waiting, timers) = port.into_parts();
     assert_eq!(rt; waiting.len(), 3);
     assert_eq!(rt; name_and_value(&waiting[0]), (1, Some(Value::Int(2))));
-    let armed = timers.get(&timer).map(|kept| (kept.arm, kept.due, kept.waits));
+    let armed = timers
+        .get(&timer)
+        .map(|kept| (kept.arm, kept.due, kept.waits));
     assert_eq!(rt; armed, Some((arm, 10, true)));
     assert_eq!(rt; waiting[1], Got::Timer(timer));
     assert_eq!(rt; name_and_value(&waiting[2]), (1, Some(Value::Int(3))));

@@ -2,8 +2,9 @@
 
 ghost use Rattle.std.specs.Prelude.{◌≡◌, true};
 
+use inbox::{Alone, Entry, Inbox};
 use input_port::birth::port;
-use input_port::{Alone, Entry, Held, Inbox, Owner, Port, Sender};
+use input_port::{Held, Owner, Port, Sender};
 use port_model::{
     Class, Got, Item, Pid, PortError, Selection, SignalId, Taken, TimerKey, Value, Values,
 };
@@ -178,7 +179,7 @@ fn two_senders(rt: HostRuntime) -> Result<(), Fail> {
     assert_eq!(rt; takes_ten(&rt, &port, &mut owner, &inputs), true);
     assert_eq!(rt; takes_nothing(&rt, &port, &mut owner, &inputs), true);
     assert_eq!(rt;
-        owner.finish(&rt, &port).map(|list| list.len()).ok(),
+        owner.finish(&rt, &port).map(|end| end.entries().len()).ok(),
         Some(0)
     );
     Ok(())
@@ -208,7 +209,7 @@ fn meet(rt: HostRuntime) -> Result<(), Fail> {
     );
     assert_eq!(rt; takes_nothing(&rt, &port, &mut owner, &inputs), true);
     assert_eq!(rt;
-        owner.finish(&rt, &port).map(|list| list.len()).ok(),
+        owner.finish(&rt, &port).map(|end| end.entries().len()).ok(),
         Some(0)
     );
     Ok(())
@@ -276,9 +277,10 @@ fn stop_and_workers(rt: HostRuntime) -> Result<(), Fail> {
     assert_eq!(rt; puts(&rt, alloc, &port, &mut second, &[(7, 3)]), true);
     assert_eq!(rt; retired.gather(&rt, &port, first).is_ok(), true);
     assert_eq!(rt; retired.gathered(), 1);
-    let Ok(since) = retired.finish(&rt, &port) else {
+    let Ok(end) = retired.finish(&rt, &port) else {
         return Err(Fail::new("no memory to finish"));
     };
+    let since = end.into_entries();
     assert_eq!(rt; (since.len(), left(&since, 0)), (3, Some((5, 1))));
     assert_eq!(rt;
         (left(&since, 1), left(&since, 2)),
@@ -351,9 +353,10 @@ fn uses_held(rt: HostRuntime) -> Result<(), Fail> {
     let mut held = Held::new(rt, &port, owner);
     assert_eq!(rt; uses_inbox(alloc, &mut held)?, (true, Some(5), true));
     assert_eq!(rt; puts(&rt, alloc, &port, &mut sender, &[(3, 1)]), true);
-    let Ok(since) = held.finish() else {
+    let Ok(end) = held.finish() else {
         return Err(Fail::new("no memory to finish"));
     };
+    let since = end.into_entries();
     assert_eq!(rt; (since.len(), left(&since, 0)), (1, Some((3, 1))));
     Ok(())
 }
@@ -386,14 +389,20 @@ fn drains(rt: HostRuntime) -> Result<(), Fail> {
     let classes = selection(alloc, &[Class::Input, Class::Priority])?;
     let (port, mut owner, mut desk) = port(alloc, 1)?;
     let mut sender = desk.sender(&port)?;
-    assert_eq!(rt; puts(&rt, alloc, &port, &mut sender, &[(1, 1), (1, 2), (0, 3)]), true);
+    assert_eq!(rt;
+        puts(&rt, alloc, &port, &mut sender, &[(1, 1), (1, 2), (0, 3)]),
+        true
+    );
     assert_eq!(rt; takes(&rt, &port, &mut owner, &classes, &[(1, 1)]), true);
     assert_eq!(rt; owner.drain(&rt, &port).is_ok(), true);
     assert_eq!(rt; owner.signals(), 3);
     let Ok(list) = owner.into_entries() else {
         return Err(Fail::new("no memory for the entries"));
     };
-    assert_eq!(rt; (list.len(), left(&list, 0), left(&list, 1)), (2, Some((1, 2)), Some((0, 3))));
+    assert_eq!(rt;
+        (list.len(), left(&list, 0), left(&list, 1)),
+        (2, Some((1, 2)), Some((0, 3)))
+    );
     Ok(())
 }
 
@@ -431,9 +440,10 @@ fn finish_gives_what_waits(rt: HostRuntime) -> Result<(), Fail> {
     puts_three(&rt, alloc, &port, &mut owner, &mut sender)?;
     assert_eq!(rt; takes_nothing(&rt, &port, &mut owner, &saves), true);
     assert_eq!(rt; puts(&rt, alloc, &port, &mut sender, &[(0, 3)]), true);
-    let Ok(list) = owner.finish(&rt, &port) else {
+    let Ok(end) = owner.finish(&rt, &port) else {
         return Err(Fail::new("no memory to finish"));
     };
+    let list = end.into_entries();
     assert_eq!(rt; list.len(), 4);
     assert_eq!(rt;
         (left(&list, 0), left(&list, 1)),
@@ -458,9 +468,10 @@ fn finish_leaves_out_what_is_gone(rt: HostRuntime) -> Result<(), Fail> {
     assert_eq!(rt; takes(&rt, &port, &mut owner, &some, &[(0, 1)]), true);
     assert_eq!(rt; takes_nothing(&rt, &port, &mut owner, &some), true);
     owner.reset(&key(alloc, 2));
-    let Ok(list) = owner.finish(&rt, &port) else {
+    let Ok(end) = owner.finish(&rt, &port) else {
         return Err(Fail::new("no memory to finish"));
     };
+    let list = end.into_entries();
     assert_eq!(rt; (list.len(), left(&list, 0)), (1, Some((1, 2))));
     Ok(())
 }
@@ -471,9 +482,10 @@ fn held_finishes_what_was_not_stopped(rt: HostRuntime) -> Result<(), Fail> {
     let (port, mut owner, mut desk) = port(alloc, 7)?;
     let mut sender = desk.sender(&port)?;
     puts_three(&rt, alloc, &port, &mut owner, &mut sender)?;
-    let Ok(list) = Held::new(rt, &port, owner).finish() else {
+    let Ok(end) = Held::new(rt, &port, owner).finish() else {
         return Err(Fail::new("no memory to finish"));
     };
+    let list = end.into_entries();
     assert_eq!(rt; (list.len(), fuse(&list, 1)), (3, Some((7, 1, 5))));
     assert_eq!(rt;
         (left(&list, 0), left(&list, 2)),

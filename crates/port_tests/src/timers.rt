@@ -2,7 +2,7 @@
 
 ghost use Rattle.std.specs.Prelude.{◌≡◌, ◌≤◌, true, IfOk};
 
-use input_port::{Alone, Fuse, Inbox};
+use inbox::{Alone, Fuse, Inbox};
 use port_model::{PortError, SignalId, TimerKey, Values};
 use sdl_timers::{Reader, Ticker, Wheel, clock};
 use std::alloc::{AllocError, Global};

@@ -3,7 +3,7 @@ use Rattle.std.proofs.Common.{◌≡◌, sym, subst, refl, inl, inr, ℕ, List, 
 use Rattle.std.specs.Io.KnownBytes.{Appends}
 use Rattle.sdl_report.specs.ReportText.{report_text}
 use Rattle.sdl_report.specs.declared.record.Report.{Report}
-use Rattle.sdl_system.specs.declared.system.System.{System}
+use Rattle.sdl_thin.specs.declared.system.System.{System}
 use Rattle.sdl_engine.specs.Answer.{Allows, BreaksOff, FailsToTell, Faulted, Fails, IsRunOfInput, PrintsInput, Refuses, Says, SaysCut, SaysWhole, Tells, Written, outcome_by, outcome_of}
 use Rattle.sdl_engine.specs.Input.{IsRead}
 use Rattle.sdl_engine.specs.RefusalText.{refusal_line}

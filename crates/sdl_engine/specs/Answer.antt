@@ -15,8 +15,8 @@ use Rattle.sdl_source.specs.Source.{IsSystemOf}
 use Rattle.sdl_source.specs.Source as sources
 use Rattle.sdl_source.specs.declared.error.SourceError.{SourceError}
 use Rattle.sdl_source.specs.declared.error.SourceError.TheVariants as source
-use Rattle.sdl_system.specs.Behaviour.{Behaviour}
-use Rattle.sdl_system.specs.declared.system.System.{System}
+use Rattle.sdl_thin.specs.Behaviour.{Behaviour}
+use Rattle.sdl_thin.specs.declared.system.System.{System}
 use Rattle.sdl_workers.specs.Global.{AreBehaviours}
 use Rattle.sdl_workers.specs.Report.{IsSerialReport}
 use Rattle.sdl_engine.specs.Input.{IsParted, IsRead}

@@ -12,7 +12,7 @@ use sdl_parse::ParseError;
 use sdl_print::canonicalize;
 use sdl_report::{Report, read_script};
 use sdl_source::{SourceError, system_of};
-use sdl_system::System;
+use sdl_thin::System;
 use sdl_workers::run_serial;
 use std::alloc::Global;
 

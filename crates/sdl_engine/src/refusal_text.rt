@@ -7,7 +7,7 @@ ghost use Rattle.sdl_lex.specs.ErrorText.{lex_text};
 ghost use Rattle.sdl_parse.specs.ErrorText.{parse_text};
 ghost use Rattle.sdl_report.specs.ErrorText.{script_text};
 ghost use Rattle.sdl_source.specs.ErrorText.{source_text};
-ghost use Rattle.sdl_system.specs.ErrorText.{build_text};
+ghost use Rattle.sdl_thin.specs.ErrorText.{build_text};
 ghost use Rattle.sdl_engine.specs.RefusalText.{line_of, refusal_line};
 
 use crate::refusal::Refusal;
@@ -16,7 +16,7 @@ use sdl_lex::LexError;
 use sdl_parse::ParseError;
 use sdl_report::ScriptError;
 use sdl_source::SourceError;
-use sdl_system::BuildError;
+use sdl_thin::BuildError;
 use std::alloc::{AllocError, Global};
 
 /// The line of a refusal by want of memory, and of a text that is too long. It needs no memory.

@@ -3,13 +3,13 @@ use Rattle.std.proofs.Common.{◌≡◌, ◌∙◌, ap, subst, ℕ, List, Option
 use Rattle.std.proofs.lemmas.Option.{slice_get-map, slice_get_within, get_or_from_slice_get}
 use Rattle.std.specs.List.{All, slice_get}
 use Rattle.std.specs.Option.{option_map}
-use Rattle.sdl_system.specs.Behaviour.{Behaviour, IsBehaviour, reception_by, reception_of, state_of}
-use Rattle.sdl_system.specs.Body.{body_of}
-use Rattle.sdl_system.specs.Soundness.{IsEndBelow, EndsBelow}
-use Rattle.sdl_system.specs.declared.process.Input.{Input}
-use Rattle.sdl_system.specs.declared.process.Process.{Process}
-use Rattle.sdl_system.specs.declared.process.State.{State}
-use Rattle.sdl_system.specs.declared.process.Transition.{Transition}
+use Rattle.sdl_thin.specs.Behaviour.{Behaviour, IsBehaviour, reception_by, reception_of, state_of}
+use Rattle.sdl_thin.specs.Body.{body_of}
+use Rattle.sdl_thin.specs.Soundness.{IsEndBelow, EndsBelow}
+use Rattle.sdl_thin.specs.declared.process.Input.{Input}
+use Rattle.sdl_thin.specs.declared.process.Process.{Process}
+use Rattle.sdl_thin.specs.declared.process.State.{State}
+use Rattle.sdl_thin.specs.declared.process.Transition.{Transition}
 
 pub state_at : (process : Process) (p : Behaviour) (n : ℕ) (state : State) → IsBehaviour process p → slice_get process.states.items n ≡ Some state → slice_get p.states n ≡ Some (state_of process.transitions.items state)
 state_at process p n state is found =

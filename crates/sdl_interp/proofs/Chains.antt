@@ -4,10 +4,10 @@ use Rattle.std.proofs.lemmas.List.{at_drop_more}
 use Rattle.port_model.specs.declared.value.Value.{Value}
 use Rattle.sdl_core.specs.declared.expressions.Operator.{Operator}
 use Rattle.sdl_core.specs.declared.expressions.Operator.TheVariants.{Plus, Minus}
-use Rattle.sdl_system.specs.Term.{Term, Operand, joined, chained, expression_step, chain_step, link_step, term_of, term_of_chain, operand_of}
-use Rattle.sdl_system.specs.declared.process.Chain.{Chain, out-Chain}
-use Rattle.sdl_system.specs.declared.process.Link.{Link}
-use Rattle.sdl_system.specs.declared.process.Expression.TheFolds.{fold_out-Chain}
+use Rattle.sdl_thin.specs.Term.{Term, Operand, joined, chained, expression_step, chain_step, link_step, term_of, term_of_chain, operand_of}
+use Rattle.sdl_thin.specs.declared.process.Chain.{Chain, out-Chain}
+use Rattle.sdl_thin.specs.declared.process.Link.{Link}
+use Rattle.sdl_thin.specs.declared.process.Expression.TheFolds.{fold_out-Chain}
 use Rattle.sdl_report.specs.declared.event.Failure.{Failure}
 use Rattle.sdl_interp.specs.Evaluation.{Variables, Answer, combined, operated, value_of}
 

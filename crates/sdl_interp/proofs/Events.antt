@@ -22,12 +22,12 @@ use Rattle.sdl_report.specs.declared.event.Event.{Event}
 use Rattle.sdl_report.specs.declared.event.Event.TheVariants as event
 use Rattle.sdl_report.specs.declared.event.Failure.{Failure}
 use Rattle.sdl_report.specs.declared.event.Failure.TheVariants.{Memory}
-use Rattle.sdl_system.specs.Behaviour.{Behaviour, StateBehaviour, Reception}
-use Rattle.sdl_system.specs.Body.{Body, statement, assign, send, to_state, to_same, to_stop}
-use Rattle.sdl_system.specs.Term.{Term}
-use Rattle.sdl_system.specs.declared.id.StateId.{StateId}
-use Rattle.sdl_system.specs.declared.id.VariableId.{VariableId}
-use Rattle.sdl_system.specs.declared.route.Target.{Target}
+use Rattle.sdl_thin.specs.Behaviour.{Behaviour, StateBehaviour, Reception}
+use Rattle.sdl_thin.specs.Body.{Body, statement, assign, send, to_state, to_same, to_stop}
+use Rattle.sdl_thin.specs.Term.{Term}
+use Rattle.sdl_thin.specs.declared.id.StateId.{StateId}
+use Rattle.sdl_thin.specs.declared.id.VariableId.{VariableId}
+use Rattle.sdl_thin.specs.declared.route.Target.{Target}
 
 module _ (p : Behaviour) where
   leads_entered : (who : Identity) (port : PortState) (from : Option StateId) (rest : Body) (state : StateId) (s : Store) → Enters from rest state → Leads p who port (Doing from rest) s (event.NextState state) [] (In state) s

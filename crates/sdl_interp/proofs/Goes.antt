@@ -14,9 +14,9 @@ use Rattle.sdl_interp.specs.Runs.{Runs, still, acts, turns}
 use Rattle.sdl_interp.specs.World.{WorldValue, after_events, time_after, time_after_one, IsTrueOfOne}
 use Rattle.sdl_report.specs.declared.event.Event.{Event}
 use Rattle.sdl_report.specs.declared.event.Failure.{Failure}
-use Rattle.sdl_system.specs.Behaviour.{Behaviour}
-use Rattle.sdl_system.specs.Body.{Body}
-use Rattle.sdl_system.specs.declared.id.StateId.{StateId}
+use Rattle.sdl_thin.specs.Behaviour.{Behaviour}
+use Rattle.sdl_thin.specs.Body.{Body}
+use Rattle.sdl_thin.specs.declared.id.StateId.{StateId}
 
 pub All-one : {X : Type 0} (P : X → Type 0) (x : X) → P x → All P (x ∷ [])
 All-one P x holds = All-cons P x [] holds (All-nil P)

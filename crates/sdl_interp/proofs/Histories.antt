@@ -18,8 +18,8 @@ use Rattle.sdl_interp.specs.declared.machine.Position.{Position}
 use Rattle.sdl_interp.specs.declared.machine.Position.TheVariants as position
 use Rattle.sdl_report.specs.declared.event.Event.{Event}
 use Rattle.sdl_report.specs.declared.event.Event.TheVariants.{Rest, Cut}
-use Rattle.sdl_system.specs.Behaviour.{Behaviour}
-use Rattle.sdl_system.specs.declared.id.StateId.{StateId}
+use Rattle.sdl_thin.specs.Behaviour.{Behaviour}
+use Rattle.sdl_thin.specs.declared.id.StateId.{StateId}
 
 -- a put leaves a port with the signal or, where it was refused, as it was
 abbrev pub IsPut : PortState → Item → PortState → Type 0

@@ -1,6 +1,6 @@
 use Rattle.std.proofs.Common.{◌≡◌, List, [], ◌∷◌, Option, length, refl}
 use Rattle.port_model.specs.declared.value.Value.{Value}
-use Rattle.sdl_system.specs.declared.id.VariableId.{VariableId}
+use Rattle.sdl_thin.specs.declared.id.VariableId.{VariableId}
 use Rattle.sdl_interp.specs.Evaluation.{Variables}
 use Rattle.sdl_interp.specs.Reception.{received}
 

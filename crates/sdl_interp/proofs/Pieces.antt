@@ -6,9 +6,9 @@ use Rattle.sdl_interp.specs.Goes.{MachineValue, Goes, GoesWrong, AreInner, Does,
 use Rattle.sdl_interp.specs.Place.{Doing}
 use Rattle.sdl_interp.specs.World.{WorldValue}
 use Rattle.sdl_report.specs.declared.event.Failure.{Failure}
-use Rattle.sdl_system.specs.Behaviour.{Behaviour}
-use Rattle.sdl_system.specs.Body.{Body}
-use Rattle.sdl_system.specs.declared.id.StateId.{StateId}
+use Rattle.sdl_thin.specs.Behaviour.{Behaviour}
+use Rattle.sdl_thin.specs.Body.{Body}
+use Rattle.sdl_thin.specs.declared.id.StateId.{StateId}
 
 module _ {X : Type 0} (piece : X → Body → Body) (pieces : List X → Body → Body) (nil : (rest : Body) → pieces [] rest ≡ rest) (cons : (x : X) (xs : List X) (rest : Body) → pieces (x ∷ xs) rest ≡ piece x (pieces xs rest)) where
   -- the list is done up to the entry `i`

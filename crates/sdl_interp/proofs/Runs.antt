@@ -6,7 +6,7 @@ use Rattle.port_model.specs.declared.taken.Taken.TheVariants.{Nothing}
 use Rattle.sdl_interp.specs.Place.{Identity, Place, Store}
 use Rattle.sdl_interp.specs.Runs.{Runs, still, acts, turns, hears, waits}
 use Rattle.sdl_report.specs.declared.event.Event.{Event}
-use Rattle.sdl_system.specs.Behaviour.{Behaviour}
+use Rattle.sdl_thin.specs.Behaviour.{Behaviour}
 
 module _ (p : Behaviour) (who : Identity) (from : Place) (s : Store) (q : PortState) (events : List Event) (history : List PortEvent) (mid : Place) (t : Store) (r : PortState) where
   pub Runs-append : {later : List Event} {calls : List PortEvent} {to : Place} {u : Store} {end : PortState} → Runs p who from s q events history mid t r → Runs p who mid t r later calls to u end → Runs p who from s q (events ++ later) (history ++ calls) to u end

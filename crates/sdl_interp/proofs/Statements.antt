@@ -6,12 +6,12 @@ use Rattle.sdl_interp.specs.Leads.{Fails}
 use Rattle.sdl_interp.specs.Place.{Doing, Store}
 use Rattle.sdl_interp.specs.World.{WorldValue}
 use Rattle.sdl_report.specs.declared.event.Failure.{Failure}
-use Rattle.sdl_system.specs.Body.{Body, statement, assign, send, before}
-use Rattle.sdl_system.specs.Term.{term_of}
-use Rattle.sdl_system.specs.declared.process.Assignment.{Assignment}
-use Rattle.sdl_system.specs.declared.process.Output.{Output}
-use Rattle.sdl_system.specs.declared.process.Statement.{Statement}
-use Rattle.sdl_system.specs.declared.process.Statement.TheVariants.{Task as tasks, Output as outputs}
+use Rattle.sdl_thin.specs.Body.{Body, statement, assign, send, before}
+use Rattle.sdl_thin.specs.Term.{term_of}
+use Rattle.sdl_thin.specs.declared.process.Assignment.{Assignment}
+use Rattle.sdl_thin.specs.declared.process.Output.{Output}
+use Rattle.sdl_thin.specs.declared.process.Statement.{Statement}
+use Rattle.sdl_thin.specs.declared.process.Statement.TheVariants.{Task as tasks, Output as outputs}
 
 -- one entry of a task, and one of an output
 abbrev pub assigning_one : Assignment → Body → Body

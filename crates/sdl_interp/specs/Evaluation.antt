@@ -6,8 +6,8 @@ use Rattle.sdl_core.specs.declared.expressions.Operator.{Operator}
 use Rattle.sdl_core.specs.declared.expressions.Operator.TheVariants.{Plus, Minus}
 use Rattle.sdl_report.specs.declared.event.Failure.{Failure}
 use Rattle.sdl_report.specs.declared.event.Failure.TheVariants.{Overflow, Undefined}
-use Rattle.sdl_system.specs.Term.{Term, number, variable, negative, sum, difference}
-use Rattle.sdl_system.specs.declared.id.VariableId.{VariableId}
+use Rattle.sdl_thin.specs.Term.{Term, number, variable, negative, sum, difference}
+use Rattle.sdl_thin.specs.declared.id.VariableId.{VariableId}
 
 -- the variables of an instance, by number: each has a value once it was assigned
 abbrev pub Variables : Type 0

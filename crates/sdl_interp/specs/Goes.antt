@@ -11,9 +11,9 @@ use Rattle.sdl_interp.specs.World.{WorldValue, after_events, time_after, IsTrueO
 use Rattle.sdl_report.specs.declared.event.Event.{Event}
 use Rattle.sdl_report.specs.declared.event.Event.TheVariants as event
 use Rattle.sdl_report.specs.declared.event.Failure.{Failure}
-use Rattle.sdl_system.specs.Behaviour.{Behaviour}
-use Rattle.sdl_system.specs.Body.{Body, to_state, to_same}
-use Rattle.sdl_system.specs.declared.id.StateId.{StateId}
+use Rattle.sdl_thin.specs.Behaviour.{Behaviour}
+use Rattle.sdl_thin.specs.Body.{Body, to_state, to_same}
+use Rattle.sdl_thin.specs.declared.id.StateId.{StateId}
 
 -- what an instance works on: who it is, what it knows, its port, and what it did so far
 pub record MachineValue : Type 0 where

@@ -4,8 +4,8 @@ use Rattle.sdl_interp.specs.Instance.{InstanceValue, HasRunOf}
 use Rattle.sdl_interp.specs.Machine.{identity_of, store_of, IsReady, IsPositionBelow}
 use Rattle.sdl_interp.specs.declared.machine.Machine.{Machine}
 use Rattle.sdl_interp.specs.declared.machine.Position.{Position}
-use Rattle.sdl_system.specs.Behaviour.{Behaviour, IsBehaviour}
-use Rattle.sdl_system.specs.declared.process.Process.{Process}
+use Rattle.sdl_thin.specs.Behaviour.{Behaviour, IsBehaviour}
+use Rattle.sdl_thin.specs.declared.process.Process.{Process}
 
 abbrev pub instance_of : Process → Position → Machine → InstanceValue
 instance_of definition position m = record {

@@ -14,8 +14,8 @@ use Rattle.sdl_interp.specs.declared.machine.Position.TheVariants.{BeforeStart, 
 use Rattle.sdl_report.specs.declared.event.Event.{Event}
 use Rattle.sdl_report.specs.declared.event.Event.TheVariants.{Rest, Cut}
 use Rattle.sdl_report.specs.declared.record.Record.{Record}
-use Rattle.sdl_system.specs.Behaviour.{Behaviour, StateBehaviour, behaviour_of}
-use Rattle.sdl_system.specs.declared.process.Process.{Process}
+use Rattle.sdl_thin.specs.Behaviour.{Behaviour, StateBehaviour, behaviour_of}
+use Rattle.sdl_thin.specs.declared.process.Process.{Process}
 
 -- its process, by number and by definition; where it is between two steps, what it knows, its port, and what it did so far
 pub record InstanceValue : Type 0 where

@@ -12,8 +12,8 @@ use Rattle.sdl_report.specs.declared.event.Event.{Event}
 use Rattle.sdl_report.specs.declared.event.Event.TheVariants as event
 use Rattle.sdl_report.specs.declared.event.Failure.{Failure}
 use Rattle.sdl_report.specs.declared.event.Failure.TheVariants.{Memory, TooLong}
-use Rattle.sdl_system.specs.Behaviour.{Behaviour, StateBehaviour, Reception}
-use Rattle.sdl_system.specs.Body.{Body, statement, assign, send, to_state, to_same, to_stop}
+use Rattle.sdl_thin.specs.Behaviour.{Behaviour, StateBehaviour, Reception}
+use Rattle.sdl_thin.specs.Body.{Body, statement, assign, send, to_state, to_same, to_stop}
 
 -- the statements that a transition may have
 abbrev pub most_statements : ℕ

@@ -5,10 +5,10 @@ use Rattle.port_model.specs.declared.pid.Pid.TheVariants.{Null}
 use Rattle.sdl_interp.specs.Evaluation.{Variables}
 use Rattle.sdl_interp.specs.declared.machine.Position.{Position}
 use Rattle.sdl_interp.specs.declared.machine.Position.TheVariants as position
-use Rattle.sdl_system.specs.Behaviour.{Behaviour}
-use Rattle.sdl_system.specs.Body.{Body}
-use Rattle.sdl_system.specs.declared.id.ProcessId.{ProcessId}
-use Rattle.sdl_system.specs.declared.id.StateId.{StateId}
+use Rattle.sdl_thin.specs.Behaviour.{Behaviour}
+use Rattle.sdl_thin.specs.Body.{Body}
+use Rattle.sdl_thin.specs.declared.id.ProcessId.{ProcessId}
+use Rattle.sdl_thin.specs.declared.id.StateId.{StateId}
 
 -- who an instance is: its process, its own number, and its creator
 pub record Identity : Type 0 where

@@ -6,7 +6,7 @@ use Rattle.port_model.specs.declared.pid.Pid.{Pid}
 use Rattle.port_model.specs.declared.pid.Pid.TheVariants.{Of}
 use Rattle.port_model.specs.declared.value.Value.{Value}
 use Rattle.sdl_interp.specs.Evaluation.{Variables}
-use Rattle.sdl_system.specs.declared.id.VariableId.{VariableId}
+use Rattle.sdl_thin.specs.declared.id.VariableId.{VariableId}
 
 -- the sender of a timer's signal is the instance itself
 abbrev pub sender_of : Got → ℕ → Pid

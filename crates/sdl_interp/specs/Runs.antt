@@ -7,9 +7,9 @@ use Rattle.port_model.specs.declared.taken.Taken.TheVariants.{Nothing}
 use Rattle.sdl_interp.specs.Leads.{Leads, Turns}
 use Rattle.sdl_interp.specs.Place.{Identity, Place, AtStart, In, Doing, Store, initial_store}
 use Rattle.sdl_report.specs.declared.event.Event.{Event}
-use Rattle.sdl_system.specs.Behaviour.{Behaviour, StateBehaviour}
-use Rattle.sdl_system.specs.Body.{Body}
-use Rattle.sdl_system.specs.declared.id.StateId.{StateId}
+use Rattle.sdl_thin.specs.Behaviour.{Behaviour, StateBehaviour}
+use Rattle.sdl_thin.specs.Body.{Body}
+use Rattle.sdl_thin.specs.declared.id.StateId.{StateId}
 
 -- From a place, what is known there and a port, by these events and this history of the port. An event leads on with its calls
 -- of the port; a step may have no event; a signal may be put at any moment; and in a state a take may find nothing.

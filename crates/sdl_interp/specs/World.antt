@@ -6,11 +6,11 @@ use Rattle.port_model.specs.declared.pid.Pid.TheVariants.{Of}
 use Rattle.sdl_interp.specs.Place.{Identity}
 use Rattle.sdl_report.specs.declared.event.Event.{Event}
 use Rattle.sdl_report.specs.declared.event.Event.TheVariants as event
-use Rattle.sdl_system.specs.Route.{Routes}
-use Rattle.sdl_system.specs.declared.id.ProcessId.{ProcessId}
-use Rattle.sdl_system.specs.declared.route.Agent.TheVariants as agent
-use Rattle.sdl_system.specs.declared.route.Target.{Target}
-use Rattle.sdl_system.specs.declared.system.System.{System}
+use Rattle.sdl_thin.specs.Route.{Routes}
+use Rattle.sdl_thin.specs.declared.id.ProcessId.{ProcessId}
+use Rattle.sdl_thin.specs.declared.route.Agent.TheVariants as agent
+use Rattle.sdl_thin.specs.declared.route.Target.{Target}
+use Rattle.sdl_thin.specs.declared.system.System.{System}
 
 -- a signal on its way: whom it reaches, and the signal
 pub record Sent : Type 0 where

@@ -2,12 +2,12 @@
 
 ghost use Rattle.std.specs.Prelude.{◌≡◌, ◌⊎◌, Ok, Err, IfOk, IfErr, map};
 ghost use Rattle.sdl_interp.specs.Evaluation.{value_of, value_at, values_of, negated, combined, operated};
-ghost use Rattle.sdl_system.specs.Term.{term_of, term_of_chain, operand_of};
+ghost use Rattle.sdl_thin.specs.Term.{term_of, term_of_chain, operand_of};
 
 use port_model::Value;
 use sdl_core::Operator;
 use sdl_report::Failure;
-use sdl_system::{Chain, Expression, Link, VariableId};
+use sdl_thin::{Chain, Expression, Link, VariableId};
 use std::alloc::Global;
 
 /// The value of an expression under these variables, or how its evaluation fails.

@@ -3,14 +3,14 @@
 ghost use Rattle.std.specs.Prelude.{◌≡◌, ◌≢◌, ◌<◌, ◌↔◌, ◌++◌, length, map, slice_get, Some, IsTrue, IfOk, IfErr, OnOk, OnErr};
 ghost use Rattle.port_model.specs.Port.{empty_port, put_into};
 ghost use Rattle.sdl_interp.specs.Instance.{closed, closing, created, HasRun, HasRunOf, IsAtRest, IsQuiet, IsRecordOf, Moves};
-ghost use Rattle.sdl_system.specs.Behaviour.{Behaviour, IsBehaviour};
+ghost use Rattle.sdl_thin.specs.Behaviour.{Behaviour, IsBehaviour};
 
 use crate::machine::{Machine, Position, note};
 use crate::stimulus::respond;
 use crate::world::World;
 use port_model::{Item, Pid, PlainPort, Value};
 use sdl_report::{Event, Record};
-use sdl_system::{Process, ProcessId, System, Variable};
+use sdl_thin::{Process, ProcessId, System, Variable};
 use std::alloc::{AllocError, Global};
 use std::marker::Model;
 
@@ -36,7 +36,7 @@ pub struct Instance<'a> {
 impl<'a> Model for Instance<'a> {
     ghost use Rattle.sdl_interp.specs.Instance.{InstanceValue};
     ghost use Rattle.sdl_interp.specs.Inside.{instance_of, IsInstance};
-    ghost use Rattle.sdl_system.specs.contracts.process.Expression as expression;
+    ghost use Rattle.sdl_thin.specs.contracts.process.Expression as expression;
     ghost use Rattle.std.specs.Coded.{codes};
 
     ghost Value = { InstanceValue };

@@ -7,7 +7,7 @@ ghost use Rattle.sdl_interp.specs.World.{IsReading};
 use crate::world::World;
 use port_model::{Pid, PlainPort, Value};
 use sdl_report::{Event, Failure, Record};
-use sdl_system::StateId;
+use sdl_thin::StateId;
 
 /// Where an instance is between two steps.
 #[derive(Clone, Copy, Debug, PartialEq, Eq)]

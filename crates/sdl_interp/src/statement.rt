@@ -5,15 +5,15 @@ ghost use Rattle.sdl_interp.specs.Goes.{Does, DoesWrong};
 ghost use Rattle.sdl_interp.specs.Leads.{Fails};
 ghost use Rattle.sdl_interp.specs.Machine.{store_of, value_of, IsGoing};
 ghost use Rattle.sdl_interp.specs.World.{WorldValue};
-ghost use Rattle.sdl_system.specs.Body.{Body, assigning, before, sending, statement as mark, assign as assignment_body, send as send_body};
-ghost use Rattle.sdl_system.specs.Term.{term_of};
+ghost use Rattle.sdl_thin.specs.Body.{Body, assigning, before, sending, statement as mark, assign as assignment_body, send as send_body};
+ghost use Rattle.sdl_thin.specs.Term.{term_of};
 
 use crate::evaluation::{evaluate, evaluate_all};
 use crate::machine::{Machine, make_room, note};
 use crate::world::World;
 use port_model::{Item, Pid, Value, Values};
 use sdl_report::{Event, Failure};
-use sdl_system::{Assignment, Output, Statement, VariableId};
+use sdl_thin::{Assignment, Output, Statement, VariableId};
 use std::alloc::Global;
 
 /// The statements that a transition may have.

@@ -9,10 +9,10 @@ ghost use Rattle.sdl_interp.specs.Instance.{IsQuiet};
 ghost use Rattle.sdl_interp.specs.Machine.{value_of, HasRoom, IsGoing, IsPositionBelow, IsReady};
 ghost use Rattle.sdl_interp.specs.Place as place;
 ghost use Rattle.sdl_interp.specs.Reception.{received, sender_of, values_of};
-ghost use Rattle.sdl_system.specs.Behaviour.{Behaviour, IsBehaviour, Reception, StateBehaviour};
-ghost use Rattle.sdl_system.specs.Body.{body_of};
-ghost use Rattle.sdl_system.specs.Selection.{SelectsInputs};
-ghost use Rattle.sdl_system.specs.Soundness.{IsEndBelow};
+ghost use Rattle.sdl_thin.specs.Behaviour.{Behaviour, IsBehaviour, Reception, StateBehaviour};
+ghost use Rattle.sdl_thin.specs.Body.{body_of};
+ghost use Rattle.sdl_thin.specs.Selection.{SelectsInputs};
+ghost use Rattle.sdl_thin.specs.Soundness.{IsEndBelow};
 
 use crate::machine::{Machine, Position, make_room, note, read_clock};
 use crate::statement::set;
@@ -20,7 +20,7 @@ use crate::transition;
 use crate::world::World;
 use port_model::{Class, Got, Pid, SignalId, Taken, Value};
 use sdl_report::{Event, Failure};
-use sdl_system::{End, Input, Process, State, StateId, Transition, VariableId};
+use sdl_thin::{End, Input, Process, State, StateId, Transition, VariableId};
 use std::alloc::Global;
 
 /// One step from this position, and the position that it leads to. None: there was nothing to take, and nothing changes.

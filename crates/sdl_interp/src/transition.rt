@@ -7,15 +7,15 @@ ghost use Rattle.sdl_interp.specs.Leads.{Fails};
 ghost use Rattle.sdl_interp.specs.Machine.{store_of, value_of, IsGoing, IsPositionBelow, IsReady};
 ghost use Rattle.sdl_interp.specs.Place as place;
 ghost use Rattle.sdl_interp.specs.World.{WorldValue};
-ghost use Rattle.sdl_system.specs.Behaviour.{Behaviour};
-ghost use Rattle.sdl_system.specs.Body.{Body, all_before, body_of, end_of, to_stop};
-ghost use Rattle.sdl_system.specs.Soundness.{IsEndBelow};
+ghost use Rattle.sdl_thin.specs.Behaviour.{Behaviour};
+ghost use Rattle.sdl_thin.specs.Body.{Body, all_before, body_of, end_of, to_stop};
+ghost use Rattle.sdl_thin.specs.Soundness.{IsEndBelow};
 
 use crate::machine::{Machine, Position, make_room, note};
 use crate::statement::perform;
 use crate::world::World;
 use sdl_report::{Event, Failure};
-use sdl_system::{End, StateId, Statement, Transition};
+use sdl_thin::{End, StateId, Statement, Transition};
 use std::alloc::Global;
 
 /// Makes a transition that began in the state `from`, or with the start where there is none.

@@ -3,7 +3,7 @@
 ghost use Rattle.std.specs.Prelude.{◌≡◌, OnOk, OnErr};
 
 use port_model::{Item, SignalId};
-use sdl_system::{ProcessId, Target};
+use sdl_thin::{ProcessId, Target};
 use std::alloc::AllocError;
 
 /// What lies outside of an instance, as it makes a step.

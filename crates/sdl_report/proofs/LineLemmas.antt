@@ -3,7 +3,7 @@ use Rattle.std.proofs.Common.{◌≡◌, ◌≢◌, ℕ, ◌-◌, ◌^◌, ◌�
 use Rattle.std.specs.Prelude.{min}
 use Rattle.std.proofs.lemmas.Bool.{both_ways}
 use Rattle.port_model.specs.declared.value.Value.{Value}
-use Rattle.sdl_system.specs.Reserved.{is_reserved}
+use Rattle.sdl_thin.specs.Reserved.{is_reserved}
 use Rattle.sdl_report.specs.declared.fault.Fault.{Fault}
 use Rattle.sdl_report.specs.declared.fault.Fault.TheVariants.{Syntax, BackInTime, UnknownSignal, Arguments, Memory}
 use Rattle.sdl_report.specs.Part.{past_spaces, SpellsNumber}

@@ -5,9 +5,9 @@ use Rattle.std.proofs.lemmas.Grind.{take_at_read}
 use Rattle.std.proofs.lemmas.List.{map-append}
 use Rattle.std.proofs.lemmas.Slice.Zip.{all_zipped_more, AllZip-long}
 use Rattle.port_model.specs.declared.value.Value.{Value}
-use Rattle.sdl_system.specs.declared.system.Sort.{Sort}
-use Rattle.sdl_system.specs.declared.system.Sort.TheVariants.{Integer}
-use Rattle.sdl_system.specs.declared.system.System.{System}
+use Rattle.sdl_thin.specs.declared.system.Sort.{Sort}
+use Rattle.sdl_thin.specs.declared.system.Sort.TheVariants.{Integer}
+use Rattle.sdl_thin.specs.declared.system.System.{System}
 use Rattle.sdl_report.specs.declared.fault.Fault.{Fault}
 use Rattle.sdl_report.specs.declared.fault.Fault.TheVariants.{Syntax, BackInTime, UnknownSignal, Arguments, Memory}
 use Rattle.sdl_report.specs.ScriptText.{IsOfSort, AreArguments, HasBadArguments, HasSignalFault}

@@ -5,7 +5,7 @@ use Rattle.std.specs.Option.{option_map_or, option_to_list}
 use Rattle.std.proofs.lemmas.Option.{slice_get-get_or}
 use Rattle.std.proofs.lemmas.List.Elements.{All-push, filter_map-append}
 use Rattle.std.proofs.lemmas.List.Sorted.{IsNonDecreasingBy-push}
-use Rattle.sdl_system.specs.declared.system.System.{System}
+use Rattle.sdl_thin.specs.declared.system.System.{System}
 use Rattle.sdl_report.specs.declared.fault.Fault.{Fault}
 use Rattle.sdl_report.specs.declared.fault.Fault.TheVariants as fault
 use Rattle.sdl_report.specs.declared.script.ScriptLine.{ScriptLine}

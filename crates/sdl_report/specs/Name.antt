@@ -3,11 +3,11 @@ use Rattle.std.specs.Prelude.{ℕ, List, [], slice_get}
 use Rattle.std.specs.Option.{option_map_or}
 use Rattle.std.specs.String.{string_bytes}
 use Rattle.port_model.specs.declared.item.SignalId.{SignalId}
-use Rattle.sdl_system.specs.declared.id.ProcessId.{ProcessId}
-use Rattle.sdl_system.specs.declared.id.StateId.{StateId}
-use Rattle.sdl_system.specs.declared.id.VariableId.{VariableId}
-use Rattle.sdl_system.specs.declared.process.Process.{Process}
-use Rattle.sdl_system.specs.declared.system.System.{System}
+use Rattle.sdl_thin.specs.declared.id.ProcessId.{ProcessId}
+use Rattle.sdl_thin.specs.declared.id.StateId.{StateId}
+use Rattle.sdl_thin.specs.declared.id.VariableId.{VariableId}
+use Rattle.sdl_thin.specs.declared.process.Process.{Process}
+use Rattle.sdl_thin.specs.declared.system.System.{System}
 
 -- each name is empty where the system has nothing of that number
 

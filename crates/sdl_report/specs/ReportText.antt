@@ -6,9 +6,9 @@ use Rattle.port_model.specs.Text.{pid_text, value_text, values_text}
 use Rattle.port_model.specs.declared.got.Got.{Got}
 use Rattle.port_model.specs.declared.got.Got.TheVariants as got
 use Rattle.port_model.specs.declared.pid.Pid.TheVariants as pid
-use Rattle.sdl_system.specs.declared.route.Target.{Target}
-use Rattle.sdl_system.specs.declared.route.Target.TheVariants as target
-use Rattle.sdl_system.specs.declared.system.System.{System}
+use Rattle.sdl_thin.specs.declared.route.Target.{Target}
+use Rattle.sdl_thin.specs.declared.route.Target.TheVariants as target
+use Rattle.sdl_thin.specs.declared.system.System.{System}
 use Rattle.sdl_report.specs.declared.event.Event.{Event}
 use Rattle.sdl_report.specs.declared.event.Event.TheVariants as event
 use Rattle.sdl_report.specs.declared.event.Failure.{Failure}

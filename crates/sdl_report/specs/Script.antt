@@ -4,8 +4,8 @@ use Rattle.std.specs.Option.{option_map_or}
 use Rattle.std.specs.List.Sorted.{IsNonDecreasingBy}
 use Rattle.port_model.specs.declared.pid.Pid.TheVariants.{Env}
 use Rattle.port_model.specs.declared.item.Item.{Item}
-use Rattle.sdl_system.specs.Route.{is_input_somewhere}
-use Rattle.sdl_system.specs.declared.system.System.{System}
+use Rattle.sdl_thin.specs.Route.{is_input_somewhere}
+use Rattle.sdl_thin.specs.declared.system.System.{System}
 use Rattle.sdl_report.specs.declared.script.ScriptLine.{ScriptLine}
 use Rattle.sdl_report.specs.Spelling.{latest_time}
 

@@ -7,12 +7,12 @@ use Rattle.port_model.specs.declared.item.Item.{Item}
 use Rattle.port_model.specs.declared.item.SignalId.{SignalId}
 use Rattle.port_model.specs.declared.value.Value.{Value}
 use Rattle.port_model.specs.declared.value.Value.TheVariants as value
-use Rattle.sdl_system.specs.Route.{is_input_somewhere}
-use Rattle.sdl_system.specs.System.{signal_of_name}
-use Rattle.sdl_system.specs.declared.system.Signal.{Signal}
-use Rattle.sdl_system.specs.declared.system.Sort.{Sort}
-use Rattle.sdl_system.specs.declared.system.Sort.TheVariants.{Integer}
-use Rattle.sdl_system.specs.declared.system.System.{System}
+use Rattle.sdl_thin.specs.Route.{is_input_somewhere}
+use Rattle.sdl_thin.specs.System.{signal_of_name}
+use Rattle.sdl_thin.specs.declared.system.Signal.{Signal}
+use Rattle.sdl_thin.specs.declared.system.Sort.{Sort}
+use Rattle.sdl_thin.specs.declared.system.Sort.TheVariants.{Integer}
+use Rattle.sdl_thin.specs.declared.system.System.{System}
 use Rattle.sdl_report.specs.declared.fault.Fault.{Fault}
 use Rattle.sdl_report.specs.declared.fault.Fault.TheVariants as fault
 use Rattle.sdl_report.specs.declared.script.ScriptError.{ScriptError}

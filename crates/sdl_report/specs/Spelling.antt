@@ -5,7 +5,7 @@ use Rattle.std.specs.Str.{bytes_eq}
 use Rattle.port_model.specs.declared.pid.Pid.TheVariants.{Null, Env, Of}
 use Rattle.port_model.specs.declared.value.Value.{Value}
 use Rattle.port_model.specs.declared.value.Value.TheVariants as value
-use Rattle.sdl_system.specs.Reserved.{is_reserved}
+use Rattle.sdl_thin.specs.Reserved.{is_reserved}
 use Rattle.sdl_report.specs.Part.{past_spaces, SpellsMark, SpellsNumber, SpellsWord}
 
 -- the value of a number, a negative number and the number of an instance; none where no sort holds it: an Integer has 64

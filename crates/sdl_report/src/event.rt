@@ -1,7 +1,7 @@
 //! What an instance does, one event after the other.
 
 use port_model::{Got, SignalId, Value, Values};
-use sdl_system::{StateId, Target, VariableId};
+use sdl_thin::{StateId, Target, VariableId};
 use std::fmt;
 
 /// What fails an instance.

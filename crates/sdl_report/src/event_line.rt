@@ -7,7 +7,7 @@ ghost use Rattle.sdl_report.specs.ReportText.{event_line, event_text, stimulus_t
 use crate::names::{signal_name, state_name, variable_name};
 use crate::{Event, Record};
 use port_model::{Got, Pid};
-use sdl_system::{System, Target};
+use sdl_thin::{System, Target};
 use std::alloc::AllocError;
 use std::fmt;
 

@@ -9,7 +9,7 @@ ghost use Rattle.sdl_report.specs.Spelled.{IsArgumentFault, plain};
 use crate::fault::Fault;
 use crate::spelling::SpelledSignal;
 use port_model::{Item, Pid, Value, Values};
-use sdl_system::{Sort, System};
+use sdl_thin::{Sort, System};
 use std::alloc::Global;
 
 /// The signal that the environment sends by this spelling.

@@ -4,7 +4,7 @@ ghost use Rattle.std.specs.Prelude.{◌≡◌};
 ghost use Rattle.sdl_report.specs.Name.{process_name, signal_name, state_name, variable_name, name_of_state, name_of_variable};
 
 use port_model::SignalId;
-use sdl_system::{Process, ProcessId, StateId, System, VariableId};
+use sdl_thin::{Process, ProcessId, StateId, System, VariableId};
 
 pub fn signal_name(system: &System, signal: SignalId) -> &str
     ensures { result.now ≡ signal_name system.now signal }

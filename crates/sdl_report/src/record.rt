@@ -2,7 +2,7 @@
 
 use crate::Event;
 use port_model::Pid;
-use sdl_system::ProcessId;
+use sdl_thin::ProcessId;
 
 /// What one instance did, one event after the other.
 #[derive(Debug, Drop)]

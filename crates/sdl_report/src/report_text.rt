@@ -10,7 +10,7 @@ use crate::event_line::push_event;
 use crate::names::process_name;
 use crate::write_whole::{WriteFault, write_text};
 use crate::{Event, Record, Report};
-use sdl_system::System;
+use sdl_thin::System;
 use std::alloc::{AllocError, Global};
 use std::io::Write;
 

@@ -13,7 +13,7 @@ use crate::line::split_line;
 use crate::meaning::item_of;
 use crate::spelling::Spelling;
 use port_model::Item;
-use sdl_system::System;
+use sdl_thin::System;
 use std::alloc::Global;
 use std::error::Error;
 use std::fmt;

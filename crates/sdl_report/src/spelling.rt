@@ -9,7 +9,7 @@ ghost use Rattle.sdl_report.specs.Spelling.{IsNoSpelling, SpellsLine, SpellsValu
 use crate::cursor::Cursor;
 use crate::fault::Fault;
 use port_model::{Pid, Value};
-use sdl_system::is_reserved;
+use sdl_thin::is_reserved;
 use std::alloc::Global;
 
 /// The latest time of a script, in ticks.

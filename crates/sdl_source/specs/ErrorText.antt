@@ -2,7 +2,7 @@
 use Rattle.std.specs.Prelude.{ℕ, List}
 use Rattle.sdl_core.specs.ErrorText.{not_run_text}
 use Rattle.sdl_parse.specs.ErrorText.{parse_text}
-use Rattle.sdl_system.specs.ErrorText.{build_text}
+use Rattle.sdl_thin.specs.ErrorText.{build_text}
 use Rattle.sdl_source.specs.declared.error.SourceError.{SourceError}
 use Rattle.sdl_source.specs.declared.error.SourceError.TheVariants as source
 

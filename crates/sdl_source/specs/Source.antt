@@ -12,14 +12,14 @@ use Rattle.sdl_parse.specs.Parser as parser
 use Rattle.sdl_parse.specs.Parser.{SpellsText}
 use Rattle.sdl_source.specs.declared.error.SourceError.{SourceError}
 use Rattle.sdl_source.specs.declared.error.SourceError.TheVariants as source
-use Rattle.sdl_system.specs.Checks.{Holds}
-use Rattle.sdl_system.specs.Declarations.{all_signals, defined_in, defined_of}
-use Rattle.sdl_system.specs.Meaning.{MeansAll}
-use Rattle.sdl_system.specs.Route.{RoutesByInputs}
-use Rattle.sdl_system.specs.System.{DeclaresAs, NamesSignals, SelectsItsInputs, process_count, process_definitions}
-use Rattle.sdl_system.specs.declared.error.BuildError.{BuildError}
-use Rattle.sdl_system.specs.declared.error.BuildError.TheVariants as build
-use Rattle.sdl_system.specs.declared.system.System.{System}
+use Rattle.sdl_thin.specs.Checks.{Holds}
+use Rattle.sdl_thin.specs.Declarations.{all_signals, defined_in, defined_of}
+use Rattle.sdl_thin.specs.Meaning.{MeansAll}
+use Rattle.sdl_thin.specs.Route.{RoutesByInputs}
+use Rattle.sdl_thin.specs.System.{DeclaresAs, NamesSignals, SelectsItsInputs, process_count, process_definitions}
+use Rattle.sdl_thin.specs.declared.error.BuildError.{BuildError}
+use Rattle.sdl_thin.specs.declared.error.BuildError.TheVariants as build
+use Rattle.sdl_thin.specs.declared.system.System.{System}
 use Rattle.sdl_tree.specs.Tree as tree
 
 -- The system is that of a tree whose checks hold: it has its signals and processes by number, and each process does what its

@@ -2,7 +2,7 @@
 
 use sdl_core::NotRun;
 use sdl_parse::ParseError;
-use sdl_system::BuildError;
+use sdl_thin::BuildError;
 use std::error::Error;
 use std::fmt;
 

@@ -6,7 +6,7 @@ ghost use Rattle.sdl_source.specs.Source.{IsSystemOf, Refuses};
 use crate::error::SourceError;
 use sdl_core::narrow;
 use sdl_parse::parse;
-use sdl_system::{System, build};
+use sdl_thin::{System, build};
 use std::alloc::Global;
 
 /// The system of the specification that a text spells, or the first layer's refusal: of the tokens or the tree, of what

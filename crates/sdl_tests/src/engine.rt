@@ -8,7 +8,7 @@ use sdl_lex::LexError;
 use sdl_parse::ParseError;
 use sdl_report::ScriptError;
 use sdl_source::SourceError;
-use sdl_system::BuildError;
+use sdl_thin::BuildError;
 use sdl_workers::RunError;
 use std::io::{self, ErrorKind, Read, Write};
 use std::test::Fail;

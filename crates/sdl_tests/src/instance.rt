@@ -7,7 +7,7 @@ use port_model::{Item, Pid, PlainPort, SignalId, Value, Values};
 use sdl_interp::{Instance, Stepped, World};
 use sdl_report::{Record, Report, write_report};
 use sdl_source::system_of;
-use sdl_system::{Agent, ProcessId, System, Target};
+use sdl_thin::{Agent, ProcessId, System, Target};
 use std::alloc::{AllocError, Global};
 use std::marker::Model;
 use std::process::Abort;

@@ -2,7 +2,7 @@
 
 use port_model::{Class, SignalId};
 use sdl_source::system_of;
-use sdl_system::{Agent, ProcessId, StateId, System, Target};
+use sdl_thin::{Agent, ProcessId, StateId, System, Target};
 use std::alloc::Global;
 use std::test::Fail;
 

@@ -3,7 +3,7 @@ use mathlib.Core.Bool.{true≢false}
 use Rattle.std.specs.List.{flat_map, All}
 use Rattle.std.proofs.lemmas.Bool.Decides.{nat_tests}
 use Rattle.std.proofs.lemmas.List.Elements.{All-nil, All-cons, All-head, All-tail, All-append, All-weaker}
-use Rattle.input_port.specs.declared.entry.Fuse.{Fuse}
+use Rattle.inbox.specs.declared.entry.Fuse.{Fuse}
 use Rattle.sdl_timers.specs.DueOrder.{is_before, with_fuse, IsInOrder}
 use Rattle.sdl_timers.specs.Slots.{armed, AreSorted}
 use Rattle.sdl_timers.proofs.Orders.{before_order, tested}

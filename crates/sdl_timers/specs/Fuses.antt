@@ -1,5 +1,5 @@
 use Rattle.std.specs.Prelude.{List}
-use Rattle.input_port.specs.declared.entry.Fuse.{Fuse}
+use Rattle.inbox.specs.declared.entry.Fuse.{Fuse}
 
 -- fuses, in an order
 abbrev pub FuseList : Type 0

@@ -1,6 +1,6 @@
 use Rattle.std.specs.Prelude.{◌≡◌, ℕ, ◌+◌, ◌%◌, List, [], ◌∷◌, Option, map, length, All}
 use Rattle.std.specs.List.{flat_map}
-use Rattle.input_port.specs.declared.entry.Fuse.{Fuse}
+use Rattle.inbox.specs.declared.entry.Fuse.{Fuse}
 use Rattle.sdl_timers.specs.declared.due.Due.{Due}
 use Rattle.sdl_timers.specs.DueOrder.{first_of, with_fuse, IsInOrder}
 

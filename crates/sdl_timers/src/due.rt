@@ -1,7 +1,7 @@
 ghost use Rattle.std.specs.Prelude.{◌≡◌, ◌%◌};
 ghost use Rattle.sdl_timers.specs.DueOrder.{due_of, earlier};
 
-use input_port::Fuse;
+use inbox::Fuse;
 
 /// Where a fuse stands in due order: by its time, then by the number of its port, then by that of its set.
 #[derive(Clone, Copy, Debug, PartialEq, Eq, PartialOrd, Ord)]

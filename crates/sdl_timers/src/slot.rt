@@ -2,7 +2,7 @@ ghost use Rattle.std.specs.Prelude.{◌≡◌, [], ◌∷◌, length, IfErr, Mat
 ghost use Rattle.sdl_timers.specs.DueOrder.{first_of, with_fuse, IsInOrder};
 
 use crate::due::Due;
-use input_port::Fuse;
+use inbox::Fuse;
 use std::alloc::{AllocError, Global};
 use std::collections::VecDeque;
 use std::marker::Model;

@@ -5,7 +5,7 @@ ghost use Rattle.sdl_timers.specs.DueOrder.{is_before, with_fuse, Fires};
 use crate::due::Due;
 use crate::slot::Slot;
 use crate::tournament::Tournament;
-use input_port::Fuse;
+use inbox::Fuse;
 use std::alloc::{AllocError, Global};
 use std::array;
 use std::marker::Model;

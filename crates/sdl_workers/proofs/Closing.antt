@@ -7,9 +7,9 @@ use Rattle.sdl_report.specs.Script.{end_of}
 use Rattle.sdl_report.specs.declared.record.Record.{Record}
 use Rattle.sdl_report.specs.declared.record.Report.{Report}
 use Rattle.sdl_report.specs.declared.script.ScriptLine.{ScriptLine}
-use Rattle.sdl_system.specs.Behaviour.{Behaviour, IsBehaviour}
-use Rattle.sdl_system.specs.declared.process.Process.{Process}
-use Rattle.sdl_system.specs.declared.system.System.{System}
+use Rattle.sdl_thin.specs.Behaviour.{Behaviour, IsBehaviour}
+use Rattle.sdl_thin.specs.declared.process.Process.{Process}
+use Rattle.sdl_thin.specs.declared.system.System.{System}
 use Rattle.sdl_workers.specs.Course.{Happening, Course, transitions_of, EndsInTransition}
 use Rattle.sdl_workers.specs.Global.{AreBehaviours, beginning, first_instances}
 use Rattle.sdl_workers.specs.Report.{Closes, AreClosed, Ends, IsSerialReport}

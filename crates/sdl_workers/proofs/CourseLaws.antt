@@ -1,6 +1,6 @@
 -- Courses join, and so does how far a run goes.
 use Rattle.std.proofs.Common.{◌≡◌, ◌+◌, List, [], ◌∷◌, ◌++◌, refl, inl, inr, ap, ◌∙◌, sym, subst, append_assoc, append-nil, arith}
-use Rattle.sdl_system.specs.Behaviour.{Behaviour}
+use Rattle.sdl_thin.specs.Behaviour.{Behaviour}
 use Rattle.sdl_workers.specs.Course.{Happening, Course, begins, goes, Follows, transitions_of, transitions_of_one, IsTransition, EndsInTransition}
 use Rattle.sdl_workers.specs.Global.{Global, AreBehaviours, IsNoneDue}
 use Rattle.sdl_workers.specs.Serial.{Advances, Reaches, state_of}

@@ -2,8 +2,8 @@
 use Rattle.std.proofs.Common.{◌≡◌, ℕ, zero, suc, ◌+◌, ◌<◌, Bool, true, false, List, [], ◌∷◌, map, length, None, Some, refl, ap, ◌∙◌, arith, add-zero, slice_get, if◌then◌else◌, nat_eq, ◌&&◌, not}
 use Rattle.std.specs.List.{range_with_len}
 use Rattle.sdl_interp.specs.Instance.{InstanceValue}
-use Rattle.sdl_system.specs.declared.process.Process.{Process}
-use Rattle.sdl_system.specs.declared.system.System.{System}
+use Rattle.sdl_thin.specs.declared.process.Process.{Process}
+use Rattle.sdl_thin.specs.declared.system.System.{System}
 use Rattle.sdl_workers.specs.Global.{is_ended, least_living, living_of, first_instances}
 use Rattle.sdl_workers.specs.Serial.{IsMember, AreMembers, living_number}
 

@@ -10,10 +10,10 @@ use Rattle.sdl_interp.specs.World.{Sent, sends_of, sends_of_one}
 use Rattle.sdl_report.specs.declared.event.Event.{Event}
 use Rattle.sdl_report.specs.declared.event.Event.TheVariants as event
 use Rattle.sdl_report.specs.declared.script.ScriptLine.{ScriptLine}
-use Rattle.sdl_system.specs.Behaviour.{Behaviour}
-use Rattle.sdl_system.specs.declared.route.Target.{Target}
-use Rattle.sdl_system.specs.declared.route.Target.TheVariants.{Instance, Env, Null, Nobody}
-use Rattle.sdl_system.specs.declared.system.System.{System}
+use Rattle.sdl_thin.specs.Behaviour.{Behaviour}
+use Rattle.sdl_thin.specs.declared.route.Target.{Target}
+use Rattle.sdl_thin.specs.declared.route.Target.TheVariants.{Instance, Env, Null, Nobody}
+use Rattle.sdl_thin.specs.declared.system.System.{System}
 use Rattle.sdl_workers.specs.Course.{Happening, Moved, Heard, Ticked, Follows, Course, begins, goes, IsSentBy}
 use Rattle.sdl_workers.specs.Global.{Global, beginning}
 use Rattle.sdl_workers.specs.Records.{record_of_one, record_of, sent_to_one, sent_to, puts, history_of_one, history_of, puts_of, is_of, from, heard_of_one, heard_of, lines_of_one, lines_of, AreMatched, AreFromEnv}

@@ -8,9 +8,9 @@ use Rattle.port_model.specs.Port.{PortState, put_into}
 use Rattle.port_model.specs.declared.item.Item.{Item}
 use Rattle.sdl_interp.specs.Instance.{InstanceValue}
 use Rattle.sdl_interp.specs.World.{Sent}
-use Rattle.sdl_system.specs.declared.process.Process.{Process}
-use Rattle.sdl_system.specs.declared.route.Target.{Target}
-use Rattle.sdl_system.specs.declared.route.Target.TheVariants.{Instance}
+use Rattle.sdl_thin.specs.declared.process.Process.{Process}
+use Rattle.sdl_thin.specs.declared.route.Target.{Target}
+use Rattle.sdl_thin.specs.declared.route.Target.TheVariants.{Instance}
 use Rattle.sdl_workers.specs.Global.{put_found, put_to, delivered, delivered_all}
 use Rattle.sdl_workers.specs.Serial.{IsMember, instances_of, AreMembers, IsMarked, IsSerial, living_number}
 use Rattle.sdl_workers.specs.declared.member.Member.{Member}

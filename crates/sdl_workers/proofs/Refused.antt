@@ -13,8 +13,8 @@ use Rattle.sdl_interp.specs.declared.machine.Position.TheVariants as position
 use Rattle.sdl_report.specs.declared.event.Event.{Event}
 use Rattle.sdl_report.specs.declared.event.Event.TheVariants as event
 use Rattle.sdl_report.specs.declared.event.Failure.{Failure}
-use Rattle.sdl_system.specs.Behaviour.{Behaviour}
-use Rattle.sdl_system.specs.Body.{statement, assign, send, to_state, to_same, to_stop}
+use Rattle.sdl_thin.specs.Behaviour.{Behaviour}
+use Rattle.sdl_thin.specs.Body.{statement, assign, send, to_state, to_same, to_stop}
 use Rattle.sdl_workers.specs.Course.{is_transition}
 
 last_of : (events : List Event) (happened refusal : Event) (rest : List Event) → events ++ happened ∷ [] ≡ refusal ∷ rest → ((events ≡ []) × (happened ≡ refusal) × (rest ≡ [])) ⊎ ((more : List Event) × (events ≡ refusal ∷ more))

@@ -5,7 +5,7 @@ use Rattle.std.proofs.lemmas.List.{take_all}
 use Rattle.std.proofs.lemmas.Option.{get_or_from_slice_get, slice_get_within}
 use Rattle.sdl_interp.specs.World.{Sent}
 use Rattle.sdl_report.specs.declared.script.ScriptLine.{ScriptLine}
-use Rattle.sdl_system.specs.Behaviour.{Behaviour}
+use Rattle.sdl_thin.specs.Behaviour.{Behaviour}
 use Rattle.sdl_workers.specs.Course.{Heard, Ticked, Hears, Ticks, IsSentBy}
 use Rattle.sdl_workers.specs.Global.{AreBehaviours, IsNoneDue, Rests, delivered_all}
 use Rattle.sdl_workers.specs.Serial.{instances_of, state_of, until_of, IsMarked, IsSerial, IsResting, Reaches}

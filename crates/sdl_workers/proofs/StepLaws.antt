@@ -11,7 +11,7 @@ use Rattle.sdl_interp.specs.declared.machine.Position.{Position}
 use Rattle.sdl_interp.specs.declared.machine.Position.TheVariants as position
 use Rattle.sdl_report.specs.Event.{is_beginning}
 use Rattle.sdl_report.specs.declared.event.Event.{Event}
-use Rattle.sdl_system.specs.Behaviour.{Behaviour, IsBehaviour}
+use Rattle.sdl_thin.specs.Behaviour.{Behaviour, IsBehaviour}
 use Rattle.sdl_workers.specs.Course.{is_transition}
 use Rattle.sdl_workers.specs.Global.{is_ended}
 use Rattle.sdl_workers.specs.Serial.{Reacts, IsStill, HasMoved}

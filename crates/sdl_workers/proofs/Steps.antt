@@ -6,8 +6,8 @@ use Rattle.std.proofs.lemmas.Option.{slice_get_within}
 use mir.Val.{bool_byte}
 use Rattle.sdl_interp.specs.Instance.{InstanceValue}
 use Rattle.sdl_interp.specs.World.{WorldValue, Sent, sends_of}
-use Rattle.sdl_system.specs.Behaviour.{Behaviour, IsBehaviour, behaviour_of}
-use Rattle.sdl_system.specs.declared.system.System.{System}
+use Rattle.sdl_thin.specs.Behaviour.{Behaviour, IsBehaviour, behaviour_of}
+use Rattle.sdl_thin.specs.declared.system.System.{System}
 use Rattle.sdl_workers.specs.Course.{Moved, Steps, is_transition}
 use Rattle.sdl_workers.specs.Global.{Global, AreBehaviours, around, delivered_all, instance_at, with_instance, is_ended, living_of, IsNoneDue}
 use Rattle.sdl_workers.specs.Serial.{instances_of, state_of, IsSerial, IsResting, Reacts, IsStill, HasMoved, Reaches}

@@ -9,11 +9,11 @@ use Rattle.sdl_interp.specs.Runs.{Runs, still, acts, turns, hears, waits, IsRun}
 use Rattle.sdl_interp.specs.World.{Sent, sends_of}
 use Rattle.sdl_report.specs.declared.event.Event.{Event}
 use Rattle.sdl_report.specs.declared.script.ScriptLine.{ScriptLine}
-use Rattle.sdl_system.specs.Behaviour.{Behaviour, behaviour_of}
-use Rattle.sdl_system.specs.declared.process.Process.{Process}
-use Rattle.sdl_system.specs.declared.route.Target.{Target}
-use Rattle.sdl_system.specs.declared.route.Target.TheVariants.{Instance, Env, Null, Nobody}
-use Rattle.sdl_system.specs.declared.system.System.{System}
+use Rattle.sdl_thin.specs.Behaviour.{Behaviour, behaviour_of}
+use Rattle.sdl_thin.specs.declared.process.Process.{Process}
+use Rattle.sdl_thin.specs.declared.route.Target.{Target}
+use Rattle.sdl_thin.specs.declared.route.Target.TheVariants.{Instance, Env, Null, Nobody}
+use Rattle.sdl_thin.specs.declared.system.System.{System}
 use Rattle.sdl_workers.specs.Course.{Happening, Moved, Heard, Ticked, Steps, Follows, Course, begins, goes}
 use Rattle.sdl_workers.specs.Global.{Global, AreBehaviours, beginning, first_instances, instance_at, with_instance, put_found, put_to, delivered, delivered_all}
 use Rattle.sdl_workers.specs.Records.{record_of_one, record_of, sent_to_one, sent_to, puts, history_of_one, history_of, IsTold, AreTold}

@@ -9,10 +9,10 @@ use Rattle.sdl_interp.specs.declared.machine.Position.TheVariants.{Ended}
 use Rattle.sdl_report.specs.Event.{is_beginning}
 use Rattle.sdl_report.specs.declared.event.Event.{Event}
 use Rattle.sdl_report.specs.declared.script.ScriptLine.{ScriptLine}
-use Rattle.sdl_system.specs.Behaviour.{Behaviour}
-use Rattle.sdl_system.specs.Route.{Routes}
-use Rattle.sdl_system.specs.declared.route.Agent.TheVariants.{Env}
-use Rattle.sdl_system.specs.declared.route.Target.{Target}
+use Rattle.sdl_thin.specs.Behaviour.{Behaviour}
+use Rattle.sdl_thin.specs.Route.{Routes}
+use Rattle.sdl_thin.specs.declared.route.Agent.TheVariants.{Env}
+use Rattle.sdl_thin.specs.declared.route.Target.{Target}
 use Rattle.sdl_workers.specs.Global.{Global, around, delivered_all, instance_at, with_instance, living_of, IsNoneDue, Rests}
 
 -- An instance made a step, with these events and calls of its own port; a line of the script was heard, and sent this; or the

@@ -9,11 +9,11 @@ use Rattle.sdl_interp.specs.World.{WorldValue, Sent}
 use Rattle.sdl_interp.specs.declared.machine.Position.{Position}
 use Rattle.sdl_interp.specs.declared.machine.Position.TheVariants.{Ended}
 use Rattle.sdl_report.specs.declared.script.ScriptLine.{ScriptLine}
-use Rattle.sdl_system.specs.Behaviour.{Behaviour, IsBehaviour}
-use Rattle.sdl_system.specs.declared.process.Process.{Process}
-use Rattle.sdl_system.specs.declared.route.Target.{Target}
-use Rattle.sdl_system.specs.declared.route.Target.TheVariants.{Instance}
-use Rattle.sdl_system.specs.declared.system.System.{System}
+use Rattle.sdl_thin.specs.Behaviour.{Behaviour, IsBehaviour}
+use Rattle.sdl_thin.specs.declared.process.Process.{Process}
+use Rattle.sdl_thin.specs.declared.route.Target.{Target}
+use Rattle.sdl_thin.specs.declared.route.Target.TheVariants.{Instance}
+use Rattle.sdl_thin.specs.declared.system.System.{System}
 
 -- The system that is run, the clock in ticks, the instances by ascending number, and what is left of the script. Lines of a
 -- time before `until` are to be put now.

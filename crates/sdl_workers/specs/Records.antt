@@ -10,9 +10,9 @@ use Rattle.sdl_interp.specs.Runs.{IsRun}
 use Rattle.sdl_interp.specs.World.{Sent, sends_of}
 use Rattle.sdl_report.specs.declared.event.Event.{Event}
 use Rattle.sdl_report.specs.declared.script.ScriptLine.{ScriptLine}
-use Rattle.sdl_system.specs.Behaviour.{Behaviour}
-use Rattle.sdl_system.specs.declared.route.Target.{Target}
-use Rattle.sdl_system.specs.declared.route.Target.TheVariants.{Instance}
+use Rattle.sdl_thin.specs.Behaviour.{Behaviour}
+use Rattle.sdl_thin.specs.declared.route.Target.{Target}
+use Rattle.sdl_thin.specs.declared.route.Target.TheVariants.{Instance}
 use Rattle.sdl_workers.specs.Course.{Happening, Moved, Heard, Ticked}
 use Rattle.sdl_workers.specs.Global.{Global, instance_at}
 

@@ -5,8 +5,8 @@ use Rattle.sdl_report.specs.Script.{end_of}
 use Rattle.sdl_report.specs.declared.record.Record.{Record}
 use Rattle.sdl_report.specs.declared.record.Report.{Report}
 use Rattle.sdl_report.specs.declared.script.ScriptLine.{ScriptLine}
-use Rattle.sdl_system.specs.Behaviour.{Behaviour}
-use Rattle.sdl_system.specs.declared.system.System.{System}
+use Rattle.sdl_thin.specs.Behaviour.{Behaviour}
+use Rattle.sdl_thin.specs.declared.system.System.{System}
 use Rattle.sdl_workers.specs.Global.{Global, Rests, beginning}
 use Rattle.sdl_workers.specs.Course.{Happening, Course, transitions_of, EndsInTransition}
 use Rattle.sdl_workers.specs.Records.{AreTold, AreMatched, AreFromEnv, lines_of}

@@ -3,8 +3,8 @@ use Rattle.std.specs.Prelude.{◌≡◌, ◌≢◌, ◌⊎◌, ℕ, ◌+◌, Boo
 use Rattle.sdl_interp.specs.Instance.{InstanceValue, Moves, IsAtRest}
 use Rattle.sdl_interp.specs.World.{WorldValue}
 use Rattle.sdl_interp.specs.declared.machine.Position.TheVariants.{Ended}
-use Rattle.sdl_system.specs.Behaviour.{Behaviour, IsBehaviour}
-use Rattle.sdl_system.specs.declared.process.Process.{Process}
+use Rattle.sdl_thin.specs.Behaviour.{Behaviour, IsBehaviour}
+use Rattle.sdl_thin.specs.declared.process.Process.{Process}
 use Rattle.sdl_workers.specs.Course.{Happening, Course, transitions_of, is_transition, EndsInTransition}
 use Rattle.sdl_workers.specs.Global.{Global, AreBehaviours, is_ended}
 use Rattle.sdl_workers.specs.declared.member.Member.{Member}

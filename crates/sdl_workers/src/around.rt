@@ -2,7 +2,7 @@
 
 use port_model::{Item, SignalId};
 use sdl_interp::World;
-use sdl_system::{Agent, ProcessId, System, Target};
+use sdl_thin::{Agent, ProcessId, System, Target};
 use std::alloc::AllocError;
 use std::marker::Model;
 

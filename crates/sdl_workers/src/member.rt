@@ -13,7 +13,7 @@ use crate::error::RunError;
 use port_model::{Item, Pid, PlainPort};
 use sdl_interp::{Instance, Stepped};
 use sdl_report::Event;
-use sdl_system::{ProcessId, System};
+use sdl_thin::{ProcessId, System};
 use std::alloc::Global;
 
 /// An instance of the run. While it rests it needs no step: its last step was idle or ended it, and

@@ -1,14 +1,14 @@
 //! A serial run of all initial instances.
 
 ghost use Rattle.std.specs.Prelude.{◌≡◌, IfOk, IfErr, List};
-ghost use Rattle.sdl_system.specs.Behaviour.{Behaviour};
+ghost use Rattle.sdl_thin.specs.Behaviour.{Behaviour};
 ghost use Rattle.sdl_workers.specs.Global.{AreBehaviours};
 ghost use Rattle.sdl_workers.specs.Report.{IsSerialReport};
 
 use crate::error::RunError;
 use crate::serial::Serial;
 use sdl_report::{Report, Script};
-use sdl_system::System;
+use sdl_thin::System;
 use std::alloc::Global;
 
 /// Runs the initial instances of a system serially, until all rest and the script is at its end, or until

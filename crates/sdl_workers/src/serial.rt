@@ -1,7 +1,7 @@
 //! The state of a serial run.
 
 ghost use Rattle.std.specs.Prelude.{◌≡◌, ◌+◌, ◌<◌, ◌≤◌, ◌⊎◌, ◌∷◌, [], All, IfOk, OnOk, IsTrue, List, vec_len, length, take};
-ghost use Rattle.sdl_system.specs.Behaviour.{Behaviour};
+ghost use Rattle.sdl_thin.specs.Behaviour.{Behaviour};
 ghost use Rattle.sdl_workers.specs.Global.{AreBehaviours, IsNoneDue, beginning, delivered_all, put_to};
 ghost use Rattle.sdl_workers.specs.Report.{AreClosed};
 ghost use Rattle.sdl_workers.specs.Serial.{IsResting, IsSerial, Reaches, instances_of, state_of};
@@ -11,7 +11,7 @@ use crate::error::RunError;
 use crate::member::Member;
 use port_model::Item;
 use sdl_report::{Record, ScriptLine};
-use sdl_system::{Agent, System, Target};
+use sdl_thin::{Agent, System, Target};
 use std::alloc::Global;
 
 /// A run that goes on: the system, what is left of the script, the instances by ascending number from 1, the least living

@@ -7,7 +7,7 @@ mod trees;
 use super::*;
 use Act::{Put, Step};
 use port_model::{SignalId, Values};
-use sdl_system::{Agent, Target, build};
+use sdl_thin::{Agent, Target, build};
 use std::process::Abort;
 use std::test::Fail;
 

@@ -1,7 +1,7 @@
 use Rattle.std.proofs.Common.{◌∙◌, sym, ap, drop, map, ◌+◌}
 use Rattle.std.proofs.lemmas.Result.{err_from_is_err_and}
 use Rattle.sdl_interp.proofs.Chains.{chain_begins, chain_fails, continued, continued_fails, continued_on}
-use Rattle.sdl_system.specs.Term.{operand_of}
+use Rattle.sdl_thin.specs.Term.{operand_of}
 use Rattle.sdl_interp.proofs.evaluation.+evaluation.Goals as goal
 
 pub evaluate_chain-returns-in_err-value : goal.evaluate_chain-returns-in_err-value

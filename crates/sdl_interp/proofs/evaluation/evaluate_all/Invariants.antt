@@ -1,7 +1,7 @@
 use Rattle.std.proofs.Common.{◌≡◌, drop, map}
 use Rattle.sdl_interp.specs.Evaluation.{values_of}
 use Rattle.sdl_interp.proofs.Chains.{preceded}
-use Rattle.sdl_system.specs.Term.{term_of}
+use Rattle.sdl_thin.specs.Term.{term_of}
 use Rattle.sdl_interp.proofs.evaluation.evaluate_all.Given as goal
 
 abbrev pub invariant-loop-expression : goal.invariant-loop-expression

@@ -7,8 +7,8 @@ use Rattle.sdl_interp.specs.Goes.{MachineValue, AreInner}
 use Rattle.sdl_interp.specs.Machine.{value_of, noted}
 use Rattle.sdl_interp.specs.Place.{Doing}
 use Rattle.sdl_report.specs.declared.event.Event.TheVariants as event
-use Rattle.sdl_system.specs.Body.{assign}
-use Rattle.sdl_system.specs.Term.{term_of}
+use Rattle.sdl_thin.specs.Body.{assign}
+use Rattle.sdl_thin.specs.Term.{term_of}
 use Rattle.sdl_interp.proofs.statement.assign.Goals as goal
 
 pub returns-clause-ok : goal.returns-clause-ok

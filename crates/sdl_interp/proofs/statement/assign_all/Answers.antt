@@ -5,7 +5,7 @@ use Rattle.sdl_interp.proofs.Pieces.{pieces_on, pieces_wrong, pieces_done}
 use Rattle.sdl_interp.proofs.Statements.{assigning_one}
 use Rattle.sdl_interp.specs.Machine.{value_of}
 use Rattle.sdl_interp.specs.Place.{Doing}
-use Rattle.sdl_system.specs.Body.{assigning}
+use Rattle.sdl_thin.specs.Body.{assigning}
 use Rattle.sdl_interp.proofs.statement.assign_all.Goals as goal
 
 pub loop-assignment-init : goal.loop-assignment-init

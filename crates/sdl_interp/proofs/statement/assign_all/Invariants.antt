@@ -3,9 +3,9 @@ use Rattle.sdl_interp.specs.Goes.{Goes, AreInner}
 use Rattle.sdl_interp.specs.Machine.{value_of, IsGoing}
 use Rattle.sdl_interp.specs.Place.{Doing}
 use Rattle.sdl_interp.specs.World.{WorldValue}
-use Rattle.sdl_system.specs.Behaviour.{Behaviour}
-use Rattle.sdl_system.specs.Body.{Body, assigning}
-use Rattle.sdl_system.specs.declared.id.StateId.{StateId}
+use Rattle.sdl_thin.specs.Behaviour.{Behaviour}
+use Rattle.sdl_thin.specs.Body.{Body, assigning}
+use Rattle.sdl_thin.specs.declared.id.StateId.{StateId}
 use Rattle.sdl_interp.proofs.statement.assign_all.Given as goal
 
 abbrev pub invariant-loop-assignment : goal.invariant-loop-assignment

@@ -1,7 +1,7 @@
 use Rattle.std.proofs.Common.{◌+◌, arith, refl}
 use Rattle.sdl_interp.proofs.Goes.{goes_turn}
 use Rattle.sdl_interp.specs.Machine.{value_of}
-use Rattle.sdl_system.specs.Body.{statement}
+use Rattle.sdl_thin.specs.Body.{statement}
 use Rattle.sdl_interp.proofs.statement.count.Goals as goal
 
 pub returns-clause-ok : goal.returns-clause-ok

@@ -6,10 +6,10 @@ use Rattle.sdl_interp.specs.Goes.{DoesWrong}
 use Rattle.sdl_interp.specs.Machine.{value_of, store_of}
 use Rattle.sdl_interp.specs.World.{WorldValue}
 use Rattle.sdl_interp.specs.declared.machine.Machine.{Machine}
-use Rattle.sdl_system.specs.Body.{assigning, before, sending, statement}
-use Rattle.sdl_system.specs.declared.process.Assignment.{Assignment}
-use Rattle.sdl_system.specs.declared.process.Output.{Output}
-use Rattle.sdl_system.specs.declared.process.Statement.{Statement}
+use Rattle.sdl_thin.specs.Body.{assigning, before, sending, statement}
+use Rattle.sdl_thin.specs.declared.process.Assignment.{Assignment}
+use Rattle.sdl_thin.specs.declared.process.Output.{Output}
+use Rattle.sdl_thin.specs.declared.process.Statement.{Statement}
 use Rattle.sdl_interp.proofs.statement.perform.Goals as goal
 
 pub returns-in_err-count-clause-err : goal.returns-in_err-count-clause-err

@@ -8,9 +8,9 @@ use Rattle.sdl_interp.specs.Goes.{MachineValue, AreInner}
 use Rattle.sdl_interp.specs.Machine.{value_of}
 use Rattle.sdl_interp.specs.Place.{Doing}
 use Rattle.sdl_interp.specs.World.{WorldValue, after_send}
-use Rattle.sdl_system.specs.Body.{send}
-use Rattle.sdl_system.specs.Term.{term_of}
-use Rattle.sdl_system.specs.declared.process.Expression.{Expression}
+use Rattle.sdl_thin.specs.Body.{send}
+use Rattle.sdl_thin.specs.Term.{term_of}
+use Rattle.sdl_thin.specs.declared.process.Expression.{Expression}
 use Rattle.sdl_interp.proofs.statement.send.Goals as goal
 
 pub returns-clause-ok : goal.returns-clause-ok

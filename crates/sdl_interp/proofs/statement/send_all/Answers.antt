@@ -5,7 +5,7 @@ use Rattle.sdl_interp.proofs.Pieces.{pieces_on, pieces_wrong, pieces_done}
 use Rattle.sdl_interp.proofs.Statements.{sending_one}
 use Rattle.sdl_interp.specs.Machine.{value_of}
 use Rattle.sdl_interp.specs.Place.{Doing}
-use Rattle.sdl_system.specs.Body.{sending}
+use Rattle.sdl_thin.specs.Body.{sending}
 use Rattle.sdl_interp.proofs.statement.send_all.Goals as goal
 
 pub loop-output-init : goal.loop-output-init

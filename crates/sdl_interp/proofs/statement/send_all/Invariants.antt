@@ -2,9 +2,9 @@ use Rattle.std.proofs.Common.{drop, Option}
 use Rattle.sdl_interp.specs.Goes.{Goes, AreInner}
 use Rattle.sdl_interp.specs.Machine.{value_of, IsGoing}
 use Rattle.sdl_interp.specs.Place.{Doing}
-use Rattle.sdl_system.specs.Behaviour.{Behaviour}
-use Rattle.sdl_system.specs.Body.{Body, sending}
-use Rattle.sdl_system.specs.declared.id.StateId.{StateId}
+use Rattle.sdl_thin.specs.Behaviour.{Behaviour}
+use Rattle.sdl_thin.specs.Body.{Body, sending}
+use Rattle.sdl_thin.specs.declared.id.StateId.{StateId}
 use Rattle.sdl_interp.proofs.statement.send_all.Given as goal
 
 abbrev pub invariant-loop-output : goal.invariant-loop-output

@@ -10,8 +10,8 @@ use Rattle.sdl_interp.specs.Machine.{identity_of, store_of, value_of, noted}
 use Rattle.sdl_interp.specs.Reception.{received, sender_of, values_of}
 use Rattle.sdl_interp.specs.declared.machine.Machine.{Machine}
 use Rattle.sdl_report.specs.declared.event.Event.TheVariants.{Consumed}
-use Rattle.sdl_system.specs.Behaviour.{Reception}
-use Rattle.sdl_system.specs.declared.id.VariableId.{VariableId}
+use Rattle.sdl_thin.specs.Behaviour.{Reception}
+use Rattle.sdl_thin.specs.declared.id.VariableId.{VariableId}
 use Rattle.sdl_interp.proofs.stimulus.consume.Goals as goal
 
 -- the work of a machine, once it has recorded the input with this sender and these variables

@@ -8,8 +8,8 @@ use Rattle.sdl_interp.proofs.Goes.{goes_since, step_on}
 use Rattle.sdl_interp.specs.Goes.{IsOneStep}
 use Rattle.sdl_interp.specs.Machine.{value_of}
 use Rattle.sdl_interp.specs.Place.{In, Doing, place_of}
-use Rattle.sdl_system.specs.Behaviour.{state_of}
-use Rattle.sdl_system.specs.Body.{body_of}
+use Rattle.sdl_thin.specs.Behaviour.{state_of}
+use Rattle.sdl_thin.specs.Body.{body_of}
 use Rattle.sdl_interp.proofs.stimulus.receive.Goals as goal
 
 pub returns-in-Nothing-clause-quiet : goal.returns-in-Nothing-clause-quiet

@@ -3,7 +3,7 @@ use Rattle.sdl_interp.proofs.Goes.{step_on}
 use Rattle.sdl_interp.specs.Goes.{Goes, AreInner}
 use Rattle.sdl_interp.specs.Machine.{value_of}
 use Rattle.sdl_interp.specs.Place.{AtStart, Doing, place_of}
-use Rattle.sdl_system.specs.Body.{Body}
+use Rattle.sdl_thin.specs.Body.{Body}
 use Rattle.sdl_interp.proofs.stimulus.start.Goals as goal
 
 pub returns-clause-goes : goal.returns-clause-goes

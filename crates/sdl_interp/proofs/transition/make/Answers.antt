@@ -4,8 +4,8 @@ use Rattle.sdl_interp.specs.Goes.{Goes, AreInner, Does, DoesWrong}
 use Rattle.sdl_interp.specs.Machine.{value_of}
 use Rattle.sdl_interp.specs.Place.{Doing, place_of}
 use Rattle.sdl_interp.specs.declared.machine.Position.{Position}
-use Rattle.sdl_system.specs.Body.{all_before, body_of, end_of}
-use Rattle.sdl_system.specs.declared.process.Statement.{Statement}
+use Rattle.sdl_thin.specs.Body.{all_before, body_of, end_of}
+use Rattle.sdl_thin.specs.declared.process.Statement.{Statement}
 use Rattle.sdl_interp.proofs.transition.make.Goals as goal
 
 pub returns-in-Ok-clause-goes : goal.returns-in-Ok-clause-goes

@@ -4,7 +4,7 @@ use Rattle.sdl_interp.proofs.Goes.{goes_still}
 use Rattle.sdl_interp.proofs.Pieces.{pieces_on, pieces_wrong, pieces_done}
 use Rattle.sdl_interp.specs.Machine.{value_of}
 use Rattle.sdl_interp.specs.Place.{Doing}
-use Rattle.sdl_system.specs.Body.{before, all_before}
+use Rattle.sdl_thin.specs.Body.{before, all_before}
 use Rattle.sdl_interp.proofs.transition.perform_all.Goals as goal
 
 pub loop-statement-init : goal.loop-statement-init

@@ -2,9 +2,9 @@ use Rattle.std.proofs.Common.{drop, Option}
 use Rattle.sdl_interp.specs.Goes.{Goes, AreInner}
 use Rattle.sdl_interp.specs.Machine.{value_of, IsGoing}
 use Rattle.sdl_interp.specs.Place.{Doing}
-use Rattle.sdl_system.specs.Behaviour.{Behaviour}
-use Rattle.sdl_system.specs.Body.{Body, all_before}
-use Rattle.sdl_system.specs.declared.id.StateId.{StateId}
+use Rattle.sdl_thin.specs.Behaviour.{Behaviour}
+use Rattle.sdl_thin.specs.Body.{Body, all_before}
+use Rattle.sdl_thin.specs.declared.id.StateId.{StateId}
 use Rattle.sdl_interp.proofs.transition.perform_all.Given as goal
 
 abbrev pub invariant-loop-statement : goal.invariant-loop-statement

@@ -1,5 +1,5 @@
 use Rattle.std.proofs.Common.{◌≡◌}
-use Rattle.input_port.specs.Calls.{HasDrawn}
+use Rattle.inbox.specs.Calls.{HasDrawn}
 use Rattle.input_port.proofs.drawer.Drawer.drain.Given as goal
 
 abbrev pub invariant-loop : goal.invariant-loop

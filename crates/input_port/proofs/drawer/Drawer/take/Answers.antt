@@ -1,5 +1,5 @@
 use Rattle.std.proofs.Common.{◌∙◌, ap, rules}
-use Rattle.input_port.specs.Calls.{HasDrawn}
+use Rattle.inbox.specs.Calls.{HasDrawn}
 use Rattle.input_port.proofs.Drawing.{goes_on}
 use Rattle.input_port.proofs.drawer.Drawer.take.Goals as goal
 

@@ -1,10 +1,7 @@
-use Rattle.std.proofs.Common.{◌∙◌, ap, sym, subst}
-use Rattle.port_model.specs.Port.{PortState}
-use Rattle.port_model.specs.Take.{IsOrdinary, TakesFirst}
-use Rattle.port_model.specs.Timers.{armed_after}
+use Rattle.std.proofs.Common.{subst}
 use Rattle.port_model.specs.declared.taken.Taken.TheVariants.{Consumed}
-use Rattle.input_port.specs.Calls.{TakesHere}
-use Rattle.input_port.specs.Ends.{OwnerState}
+use Rattle.inbox.specs.Calls.{TakesHere}
+use Rattle.inbox.specs.Ends.{OwnerState}
 use Rattle.input_port.proofs.Drawing.{taken_urgent}
 use Rattle.input_port.proofs.drawer.Drawer.take_urgent.Goals as goal
 

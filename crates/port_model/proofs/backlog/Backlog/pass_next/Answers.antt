@@ -12,8 +12,8 @@ returns-then-not-note-clause-agreed c =
 
 pub invariant_of-self-2 : goal.invariant_of-self-2
 invariant_of-self-2 c =
-    rw c.looked_after-self-inside.ensures (passed_over _ _ _ _ _ _ _ _ _ _ _ c.unwrap-got.result c.self.invariant c.note.ensures.grown
-    (search rules) (search rules) (search rules) c.remove.ensures.capacity (search rules))
+    rw c.looked_after-self-inside.ensures (passed_over _ _ _ _ _ _ _ _ _ _ _ c.take_at-got.result c.self.invariant c.note.ensures.grown
+    (search rules) (search rules) (search rules) c.take_at-got.ensures.capacity (search rules))
 
 pub returns-clause-agreed : goal.returns-clause-agreed
 returns-clause-agreed c =

@@ -5,7 +5,7 @@ use Rattle.sdl_interp.specs.Instance.{InstanceValue, HasRun, IsQuiet, closed, cl
 use Rattle.sdl_interp.specs.declared.machine.Machine.{Machine}
 use Rattle.sdl_interp.specs.declared.machine.Position.{Position}
 use Rattle.sdl_interp.specs.declared.machine.Position.TheVariants.{In}
-use Rattle.sdl_system.specs.Behaviour.{behaviour_of}
+use Rattle.sdl_thin.specs.Behaviour.{behaviour_of}
 use Rattle.sdl_interp.proofs.instance.Instance.close.Goals as goal
 use Rattle.sdl_interp.proofs.instance.Instance.close.Goals.{in-BeforeStart, in-In, in-In-2, in-Ended}
 

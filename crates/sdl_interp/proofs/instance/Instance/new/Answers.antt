@@ -5,8 +5,8 @@ use Rattle.port_model.specs.declared.pid.Pid.TheVariants.{Null}
 use Rattle.sdl_interp.proofs.Histories.{run_begins}
 use Rattle.sdl_interp.specs.Evaluation.{Variables}
 use Rattle.sdl_interp.specs.Place.{Store}
-use Rattle.sdl_system.specs.Behaviour.{Behaviour}
-use Rattle.sdl_system.specs.declared.process.Variable.{Variable}
+use Rattle.sdl_thin.specs.Behaviour.{Behaviour}
+use Rattle.sdl_thin.specs.declared.process.Variable.{Variable}
 use Rattle.sdl_interp.proofs.instance.Instance.new.Goals as goal
 
 pub invariant_of-result : goal.invariant_of-result

@@ -1,7 +1,7 @@
 use Rattle.std.proofs.Common.{sym, refl, ap, ◌∙◌, subst}
 use Rattle.std.proofs.lemmas.Bool.{false≢true}
 use Rattle.std.proofs.lemmas.Result.{err_from_is_err_and}
-use Rattle.sdl_system.specs.Reserved.{is_reserved}
+use Rattle.sdl_thin.specs.Reserved.{is_reserved}
 use Rattle.sdl_report.specs.Reading.{number, HasNoTime}
 use Rattle.sdl_report.proofs.LineLemmas.{no_time, line_alone, line_whole, no_name, reserved_name, bad_values, syntax_weaker}
 use Rattle.sdl_report.proofs.spelling.Spelling.read.Goals as goal

@@ -2,7 +2,7 @@ use Rattle.std.proofs.Common.{◌≡◌, ◌≤◌, ◌∙◌, ap, length, rules
 use Rattle.std.specs.List.{insert}
 use Rattle.std.specs.List.Sorted.{IsPartitionedBy, IsPartitionPoint}
 use Rattle.std.proofs.lemmas.List.Sorted.{IsPartitionPoint-from_clause}
-use Rattle.input_port.specs.declared.entry.Fuse.{Fuse}
+use Rattle.inbox.specs.declared.entry.Fuse.{Fuse}
 use Rattle.sdl_timers.specs.DueOrder.{with_fuse}
 use Rattle.sdl_timers.proofs.Placing.{parted, placed, stands_before}
 use Rattle.sdl_timers.proofs.slot.Slot.arm.Goals as goal

@@ -1,5 +1,5 @@
 use Rattle.std.proofs.Common.{List}
-use Rattle.sdl_system.specs.Behaviour.{Behaviour}
+use Rattle.sdl_thin.specs.Behaviour.{Behaviour}
 use Rattle.sdl_workers.specs.Global.{AreBehaviours}
 use Rattle.sdl_workers.specs.Report.{AreClosed}
 use Rattle.sdl_workers.specs.Serial.{instances_of}

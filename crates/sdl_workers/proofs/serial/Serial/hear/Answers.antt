@@ -1,7 +1,7 @@
 use Rattle.std.proofs.Common.{◌≡◌, refl, [], ◌∷◌, List, ap, ◌∙◌, sym, subst}
 use Rattle.sdl_interp.specs.World.{Sent}
-use Rattle.sdl_system.specs.Route.{Routes}
-use Rattle.sdl_system.specs.declared.route.Agent.TheVariants.{Env}
+use Rattle.sdl_thin.specs.Route.{Routes}
+use Rattle.sdl_thin.specs.declared.route.Agent.TheVariants.{Env}
 use Rattle.sdl_workers.specs.Course.{IsSentBy}
 use Rattle.sdl_workers.specs.Global.{delivered_all, living_of, put_to}
 use Rattle.sdl_workers.specs.Serial.{instances_of, state_of}

@@ -1,0 +1,25 @@
+use Rattle.std.proofs.Common.{ap, length, rules, arith}
+use Rattle.std.proofs.lemmas.List.Elements.{All-same, All-nil}
+use Rattle.inbox.specs.Left.{HasItsFuse}
+use Rattle.inbox.proofs.Leaving.{all_fused, entries_more}
+use Rattle.inbox.proofs.fused.entries.Goals as goal
+
+pub loop-got-init : goal.loop-got-init
+loop-got-init c = (
+  search rules,
+  All-same (HasItsFuse c.args.pid c.args.timers.now.armed) _ _ c.requires.empty (All-nil (HasItsFuse c.args.pid c.args.timers.now.armed)),
+  all_fused _ _ c.requires.coherent,
+  search rules,
+)
+
+pub loop-got-preserved : goal.loop-got-preserved
+loop-got-preserved c =
+    let more = entries_more c.args.pid c.args.timers.now.timers c.args.timers.now.armed c.args.waiting.items c.loop-got.waiting.items c.pop_front.new.self.items c.loop-got.list.items
+    c.push_reserved.new.self.items c.in-Some.got c.entry.result c.loop-got.invariant.0 c.loop-got.invariant.1 c.loop-got.invariant.2
+    c.in-Some.ensures.items c.entry.ensures.got c.entry.ensures.fuse c.push_reserved.ensures.items in
+    let fewer = ap length c.in-Some.ensures.items in (
+      more.0,
+      more.1,
+      more.2,
+      omega (arith, c.loop-got.invariant.3, c.push_reserved.ensures.len, c.push_reserved.ensures.capacity, fewer),
+    )

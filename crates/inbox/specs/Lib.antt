@@ -1,0 +1,4 @@
+pub mod Calls
+pub mod Ends
+pub mod Left
+pub mod Put

@@ -1,0 +1,110 @@
+//! The port of one thread as an inbox.
+ghost use Rattle.std.specs.Prelude.{◌≡◌, ◌==◌, ◌&&◌, [], MatchResult};
+ghost use Rattle.port_model.specs.Port.{empty_port, expires, put_into};
+ghost use Rattle.inbox.specs.Calls.{after_entry, ComesBack};
+ghost use Rattle.inbox.specs.declared.entry.Entry.TheVariants.{Timer};
+
+use crate::{Fuse, Inbox, Refused, fused};
+use port_model::{Item, PlainPort, PortError, Selection, Taken, TimerKey};
+use std::alloc::Global;
+use std::marker::Model;
+
+/// An input port for one thread, which is its own sender: what is put stands in the port at once.
+#[derive(Drop)]
+pub struct Alone {
+    pid: u32,
+    plain: PlainPort,
+}
+
+impl Model for Alone {
+    ghost use Rattle.inbox.specs.Ends.{AloneState};
+
+    ghost Value = { AloneState };
+
+    ghost view = { λ a. record { pid = a.pid; state = a.plain.state; armed = a.plain.armed } };
+}
+
+impl Alone {
+    /// An empty port of the instance `pid`. Takes no memory.
+    pub fn new(alloc: Global, pid: u32) -> Self
+        ensures { result ≡ record { pid = pid; state = empty_port; armed = [] } }
+    {
+        Alone {
+            pid,
+            plain: PlainPort::new(alloc),
+        }
+    }
+
+    /// Puts a signal behind all that waits. A stopped port drops it. For want of memory the signal comes back.
+    pub fn put(&mut self, item: Item) -> Result<(), Refused<Item>>
+        ensures { MatchResult result
+            (λ _. self.new ≡ record self.old { state = put_into self.old.state item })
+            (λ back. ComesBack back item × (self.new ≡ self.old)) }
+    {
+        match self.plain.put(item) {
+            Ok(()) => Ok(()),
+            Err((_, value)) => Err(Refused {
+                error: PortError::Memory,
+                value,
+            }),
+        }
+    }
+
+    /// Expires a timer, and says whether its signal was put: before its time, after another set or a reset, and by the fuse of
+    /// another port, nothing changes. For want of memory the fuse comes back.
+    pub fn expire(&mut self, fuse: Fuse, at: u64) -> Result<bool, Refused<Fuse>>
+        ensures expired { MatchResult result
+            (λ expired. expired ≡ ((fuse.pid == self.old.pid) && expires self.old.state fuse.key fuse.arm fuse.due at))
+            (λ back. ComesBack back fuse) }
+        ensures state { MatchResult result
+            (λ _. self.new ≡ record self.old { state = after_entry self.old.pid self.old.state at (Timer fuse) })
+            (λ _. self.new ≡ self.old) }
+    {
+        if fuse.pid() != self.pid {
+            return Ok(false);
+        }
+        let (key, arm, due) = fuse.into_parts();
+        match self.plain.expire(key, arm, due, at) {
+            Ok(expired) => Ok(expired),
+            Err((_, key)) => Err(Refused {
+                error: PortError::Memory,
+                value: Fuse::new(self.pid, key, arm, due),
+            }),
+        }
+    }
+}
+
+impl Inbox for Alone {
+    ghost use Rattle.std.specs.Prelude.{false, []};
+    ghost use Rattle.inbox.specs.Ends.{single};
+
+    ghost owning = { λ a. single a.pid a.state a.armed };
+
+    ghost since = { λ a. [] };
+
+    ghost shared = { false };
+
+    fn take(&mut self, selection: &Selection) -> Result<Taken, PortError> {
+        Ok(self.plain.take(selection))
+    }
+
+    fn set(&mut self, key: TimerKey, due: u64) -> Result<Fuse, PortError> {
+        fused::set(&mut self.plain, self.pid, key, due)
+    }
+
+    fn reset(&mut self, key: &TimerKey) {
+        self.plain.reset(key);
+    }
+
+    fn active(&self, key: &TimerKey) -> bool {
+        self.plain.active(key)
+    }
+
+    fn next_due(&self) -> Option<u64> {
+        self.plain.next_due()
+    }
+
+    fn stop(&mut self) {
+        self.plain.stop();
+    }
+}

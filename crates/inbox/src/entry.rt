@@ -1,0 +1,84 @@
+ghost use Rattle.std.specs.Prelude.{◌≡◌};
+ghost use Rattle.inbox.specs.Ends.{is_signal_entry};
+
+use port_model::{Item, TimerKey};
+
+/// A timer that was set: which port set it, its key, the number of the set among the sets of that port, from 1, and the time
+/// at which it expires. `Owner::set` makes it.
+#[derive(Debug, PartialEq, Eq, Drop)]
+pub struct Fuse {
+    pid: u32,
+    key: TimerKey,
+    arm: u64,
+    due: u64,
+}
+
+impl Fuse {
+    pub(crate) fn new(pid: u32, key: TimerKey, arm: u64, due: u64) -> Self
+        ensures pid { result.pid ≡ pid }
+        ensures key { result.key ≡ key }
+        ensures arm { result.arm ≡ arm }
+        ensures due { result.due ≡ due }
+    {
+        Fuse { pid, key, arm, due }
+    }
+
+    pub(crate) fn into_parts(self) -> (TimerKey, u64, u64)
+        ensures { (result.0 ≡ self.key) × (result.1 ≡ self.arm) × (result.2 ≡ self.due) }
+    {
+        let Fuse {
+            pid: _,
+            key,
+            arm,
+            due,
+        } = self;
+        (key, arm, due)
+    }
+
+    /// The number of the port that set the timer.
+    pub fn pid(&self) -> u32
+        ensures { result ≡ self.now.pid }
+    {
+        self.pid
+    }
+
+    /// The timer.
+    pub fn key(&self) -> &TimerKey
+        ensures { result.now ≡ self.now.key }
+    {
+        &self.key
+    }
+
+    /// The number of the set.
+    pub fn arm(&self) -> u64
+        ensures { result ≡ self.now.arm }
+    {
+        self.arm
+    }
+
+    /// The time at which the timer expires.
+    pub fn due(&self) -> u64
+        ensures { result ≡ self.now.due }
+    {
+        self.due
+    }
+}
+
+/// What goes into a port: a signal, or a timer that has expired.
+#[derive(Debug, PartialEq, Eq, Drop)]
+pub enum Entry {
+    Signal(Item),
+    Timer(Fuse),
+}
+
+impl Entry {
+    /// Whether it is a signal.
+    pub fn is_signal(&self) -> bool
+        ensures { result ≡ is_signal_entry self.now }
+    {
+        match self {
+            Entry::Signal(_) => true,
+            Entry::Timer(_) => false,
+        }
+    }
+}

@@ -1,0 +1,45 @@
+//! Entries on their way into a port.
+
+ghost use Rattle.std.specs.Prelude.{◌≡◌, ◌≤◌, if◌then◌else◌};
+ghost use Rattle.inbox.specs.Ends.{is_signal_entry};
+
+use crate::Entry;
+
+/// An entry on its way into a port, with its sender's number and its place among the entries of that sender, from 1. `at` is
+/// the time of an expiry in ticks, and 0 for a signal.
+#[derive(Drop)]
+pub struct Placed {
+    pub number: u64,
+    pub count: u64,
+    pub at: u64,
+    pub entry: Entry,
+}
+
+impl Placed {
+    /// 1 for a signal, 0 for an expiry.
+    pub fn signals(&self) -> u64
+        ensures few { result ≤ 1 }
+        ensures count { result ≡ (if is_signal_entry self.now.entry then 1 else 0) }
+    {
+        u64::from(self.entry.is_signal())
+    }
+
+    /// The entry alone.
+    pub fn into_entry(self) -> Entry
+        ensures { result ≡ self.entry }
+    {
+        let Placed {
+            number: _,
+            count: _,
+            at: _,
+            entry,
+        } = self;
+        entry
+    }
+}
+
+/// A sender that was gathered: its number, and how many entries it put. No value of it is made.
+pub struct Gone {
+    pub number: u64,
+    pub count: u64,
+}
