@@ -1,0 +1,8 @@
+pub mod BehaviourLemmas
+pub mod BodyLemmas
+pub mod GrowLemmas
+pub mod NameLemmas
+pub mod OperationLemmas
+pub mod RouteLemmas
+pub mod SoundnessLemmas
+pub mod WalkLemmas
