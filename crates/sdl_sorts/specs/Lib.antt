@@ -1,0 +1,11 @@
+pub mod Answers
+pub mod Broken
+pub mod Constants
+pub mod Contexts
+pub mod Kinds
+pub mod Misused
+pub mod Partial
+pub mod Resolved
+pub mod Scope
+pub mod Typing
+pub mod Words
