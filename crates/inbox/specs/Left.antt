@@ -1,3 +1,4 @@
+-- What is left in a port at its end, as entries.
 use Rattle.std.specs.Prelude.{◌≡◌, ℕ, true, List, [], ◌∷◌, map, All}
 use Rattle.port_model.specs.declared.got.Got.{Got}
 use Rattle.port_model.specs.declared.got.Got.TheVariants as got
@@ -5,8 +6,6 @@ use Rattle.port_model.specs.declared.timer.ActiveTimer.{ActiveTimer}
 use Rattle.port_model.specs.Timers.{armed_for, is_active, Armed}
 use Rattle.inbox.specs.declared.entry.Entry.{Entry}
 use Rattle.inbox.specs.declared.entry.Entry.TheVariants.{Signal, Timer}
-
--- What is left in a port at its end.
 
 -- what an entry is while it waits in a port
 abbrev pub got_of : Entry → Got

@@ -1,3 +1,4 @@
+-- Put lists: what was put into a port, in the order of the pushes.
 use Rattle.std.specs.Prelude.{◌≡◌, ◌≢◌, ◌≤◌, ℕ, zero, suc, nat_eq, nat_lt, List, [], ◌∷◌, ◌++◌, length, filter, All, if◌then◌else◌}
 use Rattle.inbox.specs.declared.entry.Entry.{Entry}
 use Rattle.inbox.specs.declared.entry.Entry.TheVariants.{Signal, Timer}

@@ -50,8 +50,8 @@ impl Alone {
         }
     }
 
-    /// Expires a timer, and says whether its signal was put: before its time, after another set or a reset, and by the fuse of
-    /// another port, nothing changes. For want of memory the fuse comes back.
+    /// Expires a timer, and says whether its signal was put: before its time, after another set or a reset, and by the
+    /// fuse of another port, nothing changes. For want of memory the fuse comes back.
     pub fn expire(&mut self, fuse: Fuse, at: u64) -> Result<bool, Refused<Fuse>>
         ensures expired { MatchResult result
             (λ expired. expired ≡ ((fuse.pid == self.old.pid) && expires self.old.state fuse.key fuse.arm fuse.due at))

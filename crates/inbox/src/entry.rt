@@ -1,10 +1,12 @@
+//! What goes into a port: signals, and the expiries of timers with their fuses.
+
 ghost use Rattle.std.specs.Prelude.{◌≡◌};
 ghost use Rattle.inbox.specs.Ends.{is_signal_entry};
 
 use port_model::{Item, TimerKey};
 
-/// A timer that was set: which port set it, its key, the number of the set among the sets of that port, from 1, and the time
-/// at which it expires. `Owner::set` makes it.
+/// A timer that was set: which port set it, its key, the number of the set among the sets of that port, from 1, and
+/// the time at which it expires. `Owner::set` makes it.
 #[derive(Debug, PartialEq, Eq, Drop)]
 pub struct Fuse {
     pid: u32,

@@ -1,5 +1,5 @@
-//! What fuses are to the port of one thread: a set makes one, an expiry spends one, and at the end each timer's signal that
-//! waits gets its own back.
+//! What fuses are to the port of one thread: a set makes one, an expiry spends one, and at the end each timer's signal
+//! that waits gets its own back.
 ghost use Rattle.std.specs.Prelude.{◌≡◌, ◌↔◌, ◌⊎◌, ◌+◌, ◌<◌, ◌≤◌, ◌++◌, ◌∷◌, [], length, All, vec_capacity, IsErrOf, MatchResult};
 ghost use Rattle.port_model.specs.Coherence.{IsCoherent};
 ghost use Rattle.port_model.specs.Port.{set_in};
@@ -14,10 +14,13 @@ use port_model::{Got, PlainPort, PortError, TimerKey, Timers};
 use std::alloc::Global;
 use std::collections::VecDeque;
 
-/// Sets a timer of the port `pid`, and gives its fuse. Refused with `SetsSpent` after 2^62 sets, before all else, and for want
-/// of memory.
+/// Sets a timer of the port `pid`, and gives its fuse. Refused with `SetsSpent` after 2^62 sets, before all else, and
+/// for want of memory.
 pub fn set(plain: &mut PlainPort, pid: u32, key: TimerKey, due: u64) -> Result<Fuse, PortError>
-    ensures set { MatchResult result (λ fuse. (plain.new.state ≡ set_in plain.old.state key due) × (fuse ≡ record { pid = pid; key = key; arm = plain.old.state.sets + 1; due = due })) (λ error. (plain.new.state ≡ plain.old.state) × ((error ≡ PortError.SetsSpent) ⊎ (error ≡ PortError.Memory))) }
+    ensures set { MatchResult result (λ fuse. (plain.new.state ≡ set_in plain.old.state key due)
+        × (fuse ≡ record { pid = pid; key = key; arm = plain.old.state.sets + 1; due = due }))
+        (λ error. (plain.new.state ≡ plain.old.state)
+        × ((error ≡ PortError.SetsSpent) ⊎ (error ≡ PortError.Memory))) }
     ensures armed { MatchResult result (λ fuse. plain.new.armed ≡ without_armed key plain.old.armed ++ record { key = key; arm = plain.old.state.sets + 1; due = due } ∷ []) (λ _. plain.new.armed ≡ plain.old.armed) }
     ensures spent { IsErrOf result PortError.SetsSpent ↔ (plain.old.state.sets ≡ MOST_SETS) }
 {
@@ -51,10 +54,11 @@ pub fn draw(plain: &mut PlainPort, pid: u32, placed: Placed)
     }
 }
 
-/// What waits in the port of the instance `pid`, in order, each timer's signal with its fuse. For want of memory the port comes
-/// back.
+/// What waits in the port of the instance `pid`, in order, each timer's signal with its fuse. For want of memory the
+/// port comes back.
 pub fn into_entries(alloc: Global, pid: u32, plain: PlainPort) -> Result<Vec<Entry>, PlainPort>
-    ensures { MatchResult result (λ list. AreWaiting plain.state.waiting pid plain.armed list.items) (λ back. back ≡ plain) }
+    ensures { MatchResult result (λ list. AreWaiting plain.state.waiting pid plain.armed list.items)
+        (λ back. back ≡ plain) }
 {
     let mut list = Vec::new(alloc);
     if let Err(_) = list.reserve(plain.waiting_len()) {

@@ -9,8 +9,8 @@ ghost use Rattle.inbox.specs.declared.entry.Entry.{Entry};
 use crate::Fuse;
 use port_model::{PortError, Selection, Taken, TimerKey};
 
-/// The owner's calls of an input port, whatever stands behind it. After `stop` none of them is called: that is the caller's
-/// condition.
+/// The owner's calls of an input port, whatever stands behind it. After `stop` none of them is called: that is the
+/// caller's condition.
 pub trait Inbox {
     /// What the owner has drawn and knows, and its port.
     ghost owning: { Self → OwnerState };

@@ -5,8 +5,8 @@ ghost use Rattle.inbox.specs.Ends.{is_signal_entry};
 
 use crate::Entry;
 
-/// An entry on its way into a port, with its sender's number and its place among the entries of that sender, from 1. `at` is
-/// the time of an expiry in ticks, and 0 for a signal.
+/// An entry on its way into a port, with its sender's number and its place among the entries of that sender, from 1.
+/// `at` is the time of an expiry in ticks, and 0 for a signal.
 #[derive(Drop)]
 pub struct Placed {
     pub number: u64,

@@ -1,3 +1,4 @@
+-- The headline: what holds of the whole life of an owner.
 use Rattle.std.specs.Prelude.{◌≡◌, ℕ, ◌==◌, true, List, [], ◌∷◌, ◌++◌, map, All, Option, Some, None, if◌then◌else◌}
 use Rattle.std.specs.List.{filter_map, flat_map}
 use Rattle.port_model.specs.declared.selection.Class.{Class}

@@ -1,3 +1,4 @@
+-- The rule of a port, which holds at every moment of every schedule.
 use Rattle.std.specs.Prelude.{◌≡◌, ℕ, suc, ◌<◌, ◌≤◌, true, List, ◌++◌, length, map, All}
 use mathlib.Core.Option.{some}
 use lib.ListN.{get_elem?}

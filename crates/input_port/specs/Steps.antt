@@ -1,3 +1,4 @@
+-- What each kind of atomic step tells the one that makes it.
 use Rattle.std.specs.Prelude.{◌≡◌, ◌+◌, ◌<◌, List, [], ◌∷◌, ◌++◌, length}
 use Rattle.inbox.specs.declared.placed.Placed.{Placed}
 use Rattle.input_port.specs.declared.rule.View.{View}

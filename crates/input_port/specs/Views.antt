@@ -1,3 +1,4 @@
+-- What each pass knows as it is made, and as others come and go.
 use Rattle.std.specs.Prelude.{◌≡◌, ℕ, true, false, List, [], ◌∷◌}
 use Rattle.inbox.specs.declared.placed.Placed.{Placed}
 use Rattle.inbox.specs.declared.placed.Gone.{Gone}

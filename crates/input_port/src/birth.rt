@@ -1,3 +1,5 @@
+//! How a port is made.
+
 ghost use Rattle.std.specs.Prelude.{◌≡◌, [], MatchResult};
 ghost use Rattle.port_model.specs.Port.{empty_port};
 
@@ -5,11 +7,13 @@ use crate::{Desk, Owner, Port, steps};
 use port_model::PortError;
 use std::alloc::Global;
 
-/// An empty port of the instance `pid`, with its owner, and the desk that gives out its senders. Refused for want of memory.
+/// An empty port of the instance `pid`, with its owner, and the desk that gives out its senders. Refused for want of
+/// memory.
 pub fn port(alloc: Global, pid: u32) -> Result<(Port, Owner, Desk), PortError>
     ensures error { MatchResult result (λ _. Unit {0}) (λ error. error ≡ PortError.Memory) }
     ensures port { MatchResult result (λ made. made.0.pid ≡ pid) (λ _. Unit {0}) }
-    ensures owner { MatchResult result (λ made. made.1 ≡ record { port = made.0.queue; pid = pid; drawn = []; known = []; gathered = []; state = empty_port; armed = [] }) (λ _. Unit {0}) }
+    ensures owner { MatchResult result (λ made. made.1 ≡ record { port = made.0.queue; pid = pid; drawn = [];
+        known = []; gathered = []; state = empty_port; armed = [] }) (λ _. Unit {0}) }
     ensures desk { MatchResult result (λ made. made.2 ≡ record { port = made.0.queue; given = 0 }) (λ _. Unit {0}) }
 {
     let Ok((queue, mut pass)) = steps::open(alloc) else {

@@ -1,3 +1,5 @@
+//! What gives out the senders of a port.
+
 ghost use Rattle.std.specs.Prelude.{◌≡◌, ◌+◌, ◌<◌, ◌≤◌, [], true, None, MatchResult};
 ghost use Rattle.input_port.specs.Views.{desk};
 
@@ -24,7 +26,8 @@ impl Model for Desk {
 
     ghost view = { λ d. record { port = record { web = d.pass.web; heap = d.pass.heap }; given = d.given } };
 
-    ghost invariant = { λ d. IsOfDesk d.pass.me.view.client d.given × (d.pass.me.hand ≡ None) × (d.pass.me.spare ≡ None) };
+    ghost invariant = { λ d. IsOfDesk d.pass.me.view.client d.given × (d.pass.me.hand ≡ None)
+        × (d.pass.me.spare ≡ None) };
 }
 
 impl Desk {
@@ -43,12 +46,14 @@ impl Desk {
         self.given
     }
 
-    /// A sender with the next number, which has put nothing. Refused with `TooManySenders` after 1,001 of them. That the port
-    /// is the desk's is the caller's condition.
+    /// A sender with the next number, which has put nothing. Refused with `TooManySenders` after 1,001 of them. That
+    /// the port is the desk's is the caller's condition.
     pub fn sender(&mut self, port: &Port) -> Result<Sender, PortError>
         requires { self.old.port ≡ port.now.queue }
         ensures port { self.new.port ≡ self.old.port }
-        ensures sender { MatchResult result (λ s. (s ≡ record { port = self.old.port; number = self.old.given + 1; seen = [] }) × (self.new.given ≡ self.old.given + 1) × (self.old.given < 1001)) (λ error. (error ≡ PortError.TooManySenders) × (self.new ≡ self.old) × (1001 ≤ self.old.given)) }
+        ensures sender { MatchResult result (λ s. (s ≡ record { port = self.old.port; number = self.old.given + 1;
+            seen = [] }) × (self.new.given ≡ self.old.given + 1) × (self.old.given < 1001))
+            (λ error. (error ≡ PortError.TooManySenders) × (self.new ≡ self.old) × (1001 ≤ self.old.given)) }
     {
         if self.given >= MOST_SENDERS {
             return Err(PortError::TooManySenders);

@@ -22,7 +22,8 @@ use std::alloc::Global;
 use std::marker::Model;
 use std::sync::Wait;
 
-/// What an owner has: its pass, its own port of one thread, and the counts of the senders gathered and of the signals drawn.
+/// What an owner has: its pass, its own port of one thread, and the counts of the senders gathered and of the signals
+/// drawn.
 #[derive(Drop)]
 pub struct Drawer {
     alloc: Global,
@@ -50,14 +51,16 @@ impl Model for Drawer {
       armed = o.plain.armed;
     } };
 
-    ghost invariant = { λ o. IsOfOwner o.pass.me.view.client o.gathered o.signals × (o.pass.me.hand ≡ None) × (o.pass.me.spare ≡ None) };
+    ghost invariant = { λ o. IsOfOwner o.pass.me.view.client o.gathered o.signals × (o.pass.me.hand ≡ None)
+        × (o.pass.me.spare ≡ None) };
 }
 
 impl Drawer {
     pub fn new(alloc: Global, pid: u32, pass: Pass) -> Self
         requires view { pass.me.view.client ≡ owner [] [] [] [] }
         requires free { (pass.me.hand ≡ None) × (pass.me.spare ≡ None) }
-        ensures { result ≡ record { port = record { web = pass.web; heap = pass.heap }; pid = pid; drawn = []; known = []; gathered = []; state = empty_port; armed = [] } }
+        ensures { result ≡ record { port = record { web = pass.web; heap = pass.heap }; pid = pid; drawn = [];
+            known = []; gathered = []; state = empty_port; armed = [] } }
     {
         Drawer {
             alloc,
@@ -90,10 +93,10 @@ impl Drawer {
         let _ = &self.gathered;
     }
 
-    /// Takes from the port (Z.102, priority input, save): draws entries until the selection takes one, or until none is left.
-    /// After `Nothing` all that the owner knows of is drawn. In a state with a priority input everything is drawn first. For
-    /// want of memory nothing is taken, and what was drawn stays in the port. That it is the owner's port is the caller's
-    /// condition.
+    /// Takes from the port (Z.102, priority input, save): draws entries until the selection takes one, or until none
+    /// is left. After `Nothing` all that the owner knows of is drawn. In a state with a priority input everything is
+    /// drawn first. For want of memory nothing is taken, and what was drawn stays in the port. That it is the owner's
+    /// port is the caller's condition.
     pub fn take<R: Wait>(
         &mut self,
         rt: &R,
@@ -119,8 +122,8 @@ impl Drawer {
         unreachable!()
     }
 
-    // In a state with a priority input: where an entry of one is drawn already, takes it. Else draws all that the queue holds
-    // first.
+    // In a state with a priority input: where an entry of one is drawn already, takes it. Else draws all that the
+    // queue holds first.
     fn take_urgent<R: Wait>(
         &mut self,
         rt: &R,
@@ -175,7 +178,8 @@ impl Drawer {
         self.plain.take(selection)
     }
 
-    // Draws one entry, if the queue has one. The room for it is made first, so that no entry is lost for want of memory.
+    // Draws one entry, if the queue has one. The room for it is made first, so that no entry is lost for want of
+    // memory.
     fn pull<R: Wait>(&mut self, rt: &R, port: &Port) -> Result<bool, PortError>
         requires { self.old.port ≡ port.now.queue }
         ensures port { self.new.port ≡ self.old.port }
@@ -197,8 +201,8 @@ impl Drawer {
         }
     }
 
-    /// Takes a sender in: the owner then knows all that the sender had seen. For want of memory the sender comes back. That the
-    /// port is that of both is the caller's condition.
+    /// Takes a sender in: the owner then knows all that the sender had seen. For want of memory the sender comes back.
+    /// That the port is that of both is the caller's condition.
     pub fn gather<R: Wait>(
         &mut self,
         rt: &R,
@@ -223,9 +227,9 @@ impl Drawer {
         Ok(())
     }
 
-    /// Takes a sender in and gives it back: the owner then knows all that the sender had seen, and the sender has seen all that
-    /// the owner knows. For want of memory the sender comes back as it was. That the port is that of both is the caller's
-    /// condition.
+    /// Takes a sender in and gives it back: the owner then knows all that the sender had seen, and the sender has seen
+    /// all that the owner knows. For want of memory the sender comes back as it was. That the port is that of both is
+    /// the caller's condition.
     pub fn meet<R: Wait>(
         &mut self,
         rt: &R,
@@ -251,8 +255,8 @@ impl Drawer {
         Ok(Sender::again(pass, number, count, signals))
     }
 
-    /// Sets a timer for the time `due`, after a reset. Refused with `SetsSpent` after 2^62 sets, and for want of memory; the
-    /// key is dropped then, and nothing changes.
+    /// Sets a timer for the time `due`, after a reset. Refused with `SetsSpent` after 2^62 sets, and for want of
+    /// memory; the key is dropped then, and nothing changes.
     pub fn set(&mut self, key: TimerKey, due: u64) -> Result<Fuse, PortError>
         ensures port { self.new.port ≡ self.old.port }
         ensures set { SetIs self.old self.new key due result }
@@ -282,7 +286,8 @@ impl Drawer {
         self.plain.next_due()
     }
 
-    /// Ends the port (Z.101, stop): what waits is discarded, no timer is active, and later entries have no effect. Takes no memory.
+    /// Ends the port (Z.101, stop): what waits is discarded, no timer is active, and later entries have no effect.
+    /// Takes no memory.
     pub fn stop(&mut self)
         ensures { self.new ≡ after_stop self.old }
     {
@@ -302,7 +307,8 @@ impl Drawer {
         requires fewer { signals_drawn self.old < 2 ^ 64 - 1 }
         ensures port { self.new.port ≡ self.old.port }
         ensures state { self.new.state ≡ self.old.state }
-        ensures popped { MatchOption result ((self.new ≡ self.old) × (self.new.known ≡ self.new.drawn)) (λ placed. IsDrawn self.old (record self.new { state = after_draw self.old.pid self.old.state placed }) (placed ∷ [])) }
+        ensures popped { MatchOption result ((self.new ≡ self.old) × (self.new.known ≡ self.new.drawn))
+            (λ placed. IsDrawn self.old (record self.new { state = after_draw self.old.pid self.old.state placed }) (placed ∷ [])) }
     {
         let popped = steps::pop(rt, &port.queue, &mut self.pass);
         self.signals += signals_in(&popped);
@@ -340,8 +346,8 @@ impl Drawer {
         Finished::new(entries, pass)
     }
 
-    /// The end: what waits in the port of the standard is left, in order, each timer's signal with its fuse. For want of memory
-    /// it comes back as it was.
+    /// The end: what waits in the port of the standard is left, in order, each timer's signal with its fuse. For want
+    /// of memory it comes back as it was.
     pub fn leave_waiting(self) -> Result<Finished, Drawer>
         ensures left { IfOk result (λ end. end ≡ left_with self end.entries) }
         ensures waiting { IfOk result (λ end. AreWaiting self.state.waiting self.pid self.armed end.entries) }
@@ -390,8 +396,8 @@ fn signals_in(popped: &Option<Placed>) -> u64
     }
 }
 
-// Takes a sender's pass in, and pops one entry, if the queue has one: this pop tells that what the two had seen are both
-// beginnings of the put list.
+// Takes a sender's pass in, and pops one entry, if the queue has one: this pop tells that what the two had seen are
+// both beginnings of the put list.
 fn take_in<R: Wait>(rt: &R, queue: &Queue, pass: &mut Pass, other: Pass) -> Option<Placed>
     requires queue { IsSegPassOf queue.now pass.old × IsSegPassOf queue.now other }
     requires rights { (pass.old.me.view.client.takes ≡ true) × (other.me.view.client.sends ≡ true) }

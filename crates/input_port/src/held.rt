@@ -74,8 +74,8 @@ impl<'a, R: Wait + Copy> Held<'a, R> {
         self.before
     }
 
-    /// Takes a sender in, before a stop and after it. For want of memory the sender comes back. That the port is the sender's is
-    /// the caller's condition.
+    /// Takes a sender in, before a stop and after it. For want of memory the sender comes back. That the port is the
+    /// sender's is the caller's condition.
     pub fn gather(&mut self, sender: Sender) -> Result<(), Refused<Sender>>
         requires { sender.port ≡ self.old.owner.port }
         ensures port { self.new.owner.port ≡ self.old.owner.port }
@@ -94,7 +94,8 @@ impl<'a, R: Wait + Copy> Held<'a, R> {
         self.drawer.gather(&self.rt, self.port, sender)
     }
 
-    /// Draws all that stands in the port, up to a fresh point, before a stop and after it. For want of memory it stops before.
+    /// Draws all that stands in the port, up to a fresh point, before a stop and after it. For want of memory it stops
+    /// before.
     pub fn drain(&mut self) -> Result<(), PortError>
         ensures port { self.new.owner.port ≡ self.old.owner.port }
         ensures before { self.new.before ≡ self.old.before }
@@ -114,8 +115,8 @@ impl<'a, R: Wait + Copy> Held<'a, R> {
         self.drawer.knows();
     }
 
-    /// Draws what stands in the port, and gives what is left: as `Owner::finish`, or after a stop as `Retired::finish`. For want of
-    /// memory the inbox comes back, and keeps what it has drawn.
+    /// Draws what stands in the port, and gives what is left: as `Owner::finish`, or after a stop as
+    /// `Retired::finish`. For want of memory the inbox comes back, and keeps what it has drawn.
     pub fn finish(mut self) -> Result<Finished, Refused<Self>>
         ensures { LeaveIs self.entry result }
     {

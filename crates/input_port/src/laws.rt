@@ -1,8 +1,9 @@
 //! The headline: what follows from the contracts of an owner's calls alone, as functions that do nothing.
 ghost use Rattle.input_port.specs.Headline.{NothingIsLeft, OwnersHaveHistories};
 
-/// Each owner's port is what a legal history of the standard's port makes of the empty one. It has just the owner's own calls,
-/// in order, and the entries that it drew, each where it drew it. No expiry among these came before its due time.
+/// Each owner's port is what a legal history of the standard's port makes of the empty one. It has just the owner's
+/// own calls, in order, and the entries that it drew, each where it drew it. No expiry among these came before its due
+/// time.
 pub fn owners_have_histories()
     ensures { OwnersHaveHistories }
 {}

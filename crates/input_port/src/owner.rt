@@ -40,7 +40,8 @@ impl Owner {
     pub(crate) fn new(alloc: Global, pid: u32, pass: Pass) -> Self
         requires view { pass.me.view.client ≡ owner [] [] [] [] }
         requires free { (pass.me.hand ≡ None) × (pass.me.spare ≡ None) }
-        ensures { result ≡ record { port = record { web = pass.web; heap = pass.heap }; pid = pid; drawn = []; known = []; gathered = []; state = empty_port; armed = [] } }
+        ensures { result ≡ record { port = record { web = pass.web; heap = pass.heap }; pid = pid; drawn = [];
+            known = []; gathered = []; state = empty_port; armed = [] } }
     {
         Owner {
             drawer: Drawer::new(alloc, pid, pass),
@@ -70,10 +71,10 @@ impl Owner {
         self.drawer.signals()
     }
 
-    /// Takes from the port (Z.102, priority input, save): draws entries until the selection takes one, or until none is left.
-    /// After `Nothing` all that the owner knows of is drawn. In a state with a priority input an entry of one that is drawn is
-    /// taken at once; else everything is drawn first. For want of memory nothing is taken, and what was drawn stays in the port.
-    /// That it is the owner's port is the caller's condition.
+    /// Takes from the port (Z.102, priority input, save): draws entries until the selection takes one, or until none
+    /// is left. After `Nothing` all that the owner knows of is drawn. In a state with a priority input an entry of one
+    /// that is drawn is taken at once; else everything is drawn first. For want of memory nothing is taken, and what
+    /// was drawn stays in the port. That it is the owner's port is the caller's condition.
     pub fn take<R: Wait>(
         &mut self,
         rt: &R,
@@ -91,8 +92,8 @@ impl Owner {
         taken
     }
 
-    /// Draws all that stands in the port, up to a fresh point: then all that the owner knows of is drawn. For want of memory it
-    /// stops before. That it is the owner's port is the caller's condition.
+    /// Draws all that stands in the port, up to a fresh point: then all that the owner knows of is drawn. For want of
+    /// memory it stops before. That it is the owner's port is the caller's condition.
     pub fn drain<R: Wait>(&mut self, rt: &R, port: &Port) -> Result<(), PortError>
         requires { self.old.port ≡ port.now.queue }
         ensures port { self.new.port ≡ self.old.port }
@@ -106,8 +107,8 @@ impl Owner {
         drawn
     }
 
-    /// Takes a sender in: the owner then knows all that the sender had seen. For want of memory the sender comes back. That the
-    /// port is that of both is the caller's condition.
+    /// Takes a sender in: the owner then knows all that the sender had seen. For want of memory the sender comes back.
+    /// That the port is that of both is the caller's condition.
     pub fn gather<R: Wait>(
         &mut self,
         rt: &R,
@@ -126,9 +127,9 @@ impl Owner {
         gathered
     }
 
-    /// Takes a sender in and gives it back: the owner then knows all that the sender had seen, and the sender has seen all that
-    /// the owner knows. For want of memory the sender comes back as it was. That the port is that of both is the caller's
-    /// condition.
+    /// Takes a sender in and gives it back: the owner then knows all that the sender had seen, and the sender has seen
+    /// all that the owner knows. For want of memory the sender comes back as it was. That the port is that of both is
+    /// the caller's condition.
     pub fn meet<R: Wait>(
         &mut self,
         rt: &R,
@@ -147,8 +148,8 @@ impl Owner {
         met
     }
 
-    /// Sets a timer for the time `due`, after a reset. Refused with `SetsSpent` after 2^62 sets, and for want of memory; the
-    /// key is dropped then, and nothing changes.
+    /// Sets a timer for the time `due`, after a reset. Refused with `SetsSpent` after 2^62 sets, and for want of
+    /// memory; the key is dropped then, and nothing changes.
     pub fn set(&mut self, key: TimerKey, due: u64) -> Result<Fuse, PortError>
         ensures port { self.new.port ≡ self.old.port }
         ensures set { SetIs self.old self.new key due result }
@@ -178,8 +179,8 @@ impl Owner {
         self.drawer.next_due()
     }
 
-    /// Ends the port (Z.101, stop): what waits is discarded, no timer is active, and later entries have no effect. There is no
-    /// owner any more, and so no further take, set or reset. Takes no memory.
+    /// Ends the port (Z.101, stop): what waits is discarded, no timer is active, and later entries have no effect.
+    /// There is no owner any more, and so no further take, set or reset. Takes no memory.
     pub fn stop(self) -> Retired
         ensures { result ≡ record { owner = after_stop self; since = []; before = signals_drawn self } }
     {
@@ -190,8 +191,8 @@ impl Owner {
         Retired::new(drawer, since, before)
     }
 
-    /// What waits in the port of the standard, in order: what was drawn and neither taken nor reset, each timer's signal with its
-    /// fuse. For want of memory the owner comes back as it was.
+    /// What waits in the port of the standard, in order: what was drawn and neither taken nor reset, each timer's
+    /// signal with its fuse. For want of memory the owner comes back as it was.
     pub fn into_entries(self) -> Result<Vec<Entry>, Refused<Owner>>
         ensures waiting { IfOk result (λ list. AreWaiting self.state.waiting self.pid self.armed list.items) }
         ensures back { IfErr result (λ back. ComesBack back self) }
@@ -215,8 +216,8 @@ impl Owner {
         }
     }
 
-    /// `drain`, and then `into_entries`: what was put and neither taken nor reset, in order. For want of memory the owner comes
-    /// back, with what it has drawn in its port. That the port is the owner's is the caller's condition.
+    /// `drain`, and then `into_entries`: what was put and neither taken nor reset, in order. For want of memory the
+    /// owner comes back, with what it has drawn in its port. That the port is the owner's is the caller's condition.
     pub fn finish<R: Wait>(mut self, rt: &R, port: &Port) -> Result<Finished, Refused<Owner>>
         requires { self.port ≡ port.now.queue }
         ensures { FinishIs self result }

@@ -12,7 +12,8 @@ use port_model::PortError;
 use std::marker::Model;
 use std::sync::Wait;
 
-/// An owner after its stop, which takes nothing more. What is put from then on has no effect, and is handed out by `finish`.
+/// An owner after its stop, which takes nothing more. What is put from then on has no effect, and is handed out by
+/// `finish`.
 #[derive(Drop)]
 pub struct Retired {
     drawer: Drawer,
@@ -60,8 +61,8 @@ impl Retired {
         self.before
     }
 
-    /// Takes a sender in, as `Owner::gather` does. For want of memory the sender comes back. That the port is that of both is
-    /// the caller's condition.
+    /// Takes a sender in, as `Owner::gather` does. For want of memory the sender comes back. That the port is that of
+    /// both is the caller's condition.
     pub fn gather<R: Wait>(
         &mut self,
         rt: &R,
@@ -82,8 +83,8 @@ impl Retired {
         gathered
     }
 
-    /// Draws all that stands in the port, up to a fresh point, and keeps it. For want of memory it stops before. That the port is
-    /// the owner's is the caller's condition.
+    /// Draws all that stands in the port, up to a fresh point, and keeps it. For want of memory it stops before. That
+    /// the port is the owner's is the caller's condition.
     pub fn drain<R: Wait>(&mut self, rt: &R, port: &Port) -> Result<(), PortError>
         requires { self.old.owner.port ≡ port.now.queue }
         ensures port { self.new.owner.port ≡ self.old.owner.port }
@@ -109,8 +110,8 @@ impl Retired {
         since
     }
 
-    /// `drain`, and then `into_entries`: what was put and not drawn before the stop, in order. For want of memory the value comes
-    /// back, and keeps what it has drawn. That the port is the owner's is the caller's condition.
+    /// `drain`, and then `into_entries`: what was put and not drawn before the stop, in order. For want of memory the
+    /// value comes back, and keeps what it has drawn. That the port is the owner's is the caller's condition.
     pub fn finish<R: Wait>(mut self, rt: &R, port: &Port) -> Result<Finished, Refused<Retired>>
         requires { self.owner.port ≡ port.now.queue }
         ensures ok { IfOk result (FinishesSince self.owner self.since) }

@@ -1,3 +1,5 @@
+//! What puts signals and expiries into a port.
+
 ghost use Rattle.std.specs.Prelude.{◌≡◌, ◌+◌, ◌≤◌, ◌^◌, [], true, None, MatchResult};
 ghost use Rattle.input_port.specs.Views.{sender};
 ghost use Rattle.input_port.specs.Ends.{sent_by, signals_by, IsOfSender};
@@ -31,9 +33,11 @@ impl Model for Sender {
 
     ghost Value = { SenderState };
 
-    ghost view = { λ s. record { port = record { web = s.pass.web; heap = s.pass.heap }; number = s.number; seen = s.pass.me.view.client.seen } };
+    ghost view = { λ s. record { port = record { web = s.pass.web; heap = s.pass.heap }; number = s.number;
+        seen = s.pass.me.view.client.seen } };
 
-    ghost invariant = { λ s. IsOfSender s.pass.me.view.client s.number s.count s.signals × (s.pass.me.hand ≡ None) × (s.pass.me.spare ≡ None) };
+    ghost invariant = { λ s. IsOfSender s.pass.me.view.client s.number s.count s.signals × (s.pass.me.hand ≡ None)
+        × (s.pass.me.spare ≡ None) };
 }
 
 impl Sender {
@@ -64,8 +68,8 @@ impl Sender {
         self.signals
     }
 
-    /// Puts a signal behind all that this sender has seen. For want of memory, and after 2^61 entries, it comes back. That the
-    /// port is the sender's is the caller's condition.
+    /// Puts a signal behind all that this sender has seen. For want of memory, and after 2^61 entries, it comes back.
+    /// That the port is the sender's is the caller's condition.
     pub fn put<R: Wait>(&mut self, rt: &R, port: &Port, item: Item) -> Result<(), Refused<Item>>
         requires { self.old.port ≡ port.now.queue }
         ensures port { self.new.port ≡ self.old.port }
@@ -81,7 +85,8 @@ impl Sender {
         }
     }
 
-    /// Puts the expiry of a timer, at the time `at`, as `put` does a signal. That its time has come is the caller's condition.
+    /// Puts the expiry of a timer, at the time `at`, as `put` does a signal. That its time has come is the caller's
+    /// condition.
     pub fn expire<R: Wait>(
         &mut self,
         rt: &R,
@@ -106,7 +111,8 @@ impl Sender {
 
     // What `again` needs beside the pass.
     pub(crate) fn numbers(&self) -> (u32, u64, u64)
-        ensures { (result.0 ≡ self.now.number) × (result.1 ≡ sent_by self.now) × (result.2 ≡ signals_by self.now) × (result.2 ≤ result.1) × (result.1 ≤ 2 ^ 61) }
+        ensures { (result.0 ≡ self.now.number) × (result.1 ≡ sent_by self.now) × (result.2 ≡ signals_by self.now)
+            × (result.2 ≤ result.1) × (result.1 ≤ 2 ^ 61) }
     {
         (self.number, self.count, self.signals)
     }
@@ -114,7 +120,8 @@ impl Sender {
     // The pass alone, which the owner takes in.
     pub(crate) fn into_pass(self) -> Pass
         ensures pass { IsSegPassOf self.port result }
-        ensures view { (result.me.view.client.sends ≡ true) × (result.me.view.client.number ≡ self.number) × (result.me.view.client.seen ≡ self.seen) × (result.me.view.client.count ≡ sent_by self) }
+        ensures view { (result.me.view.client.sends ≡ true) × (result.me.view.client.number ≡ self.number)
+            × (result.me.view.client.seen ≡ self.seen) × (result.me.view.client.count ≡ sent_by self) }
     {
         let Sender {
             pass,
@@ -129,7 +136,8 @@ impl Sender {
     pub(crate) fn again(pass: Pass, number: u32, count: u64, signals: u64) -> Self
         requires view { IsOfSender pass.me.view.client number count signals }
         requires free { (pass.me.hand ≡ None) × (pass.me.spare ≡ None) }
-        ensures { result ≡ record { port = record { web = pass.web; heap = pass.heap }; number = number; seen = pass.me.view.client.seen } }
+        ensures { result ≡ record { port = record { web = pass.web; heap = pass.heap }; number = number;
+            seen = pass.me.view.client.seen } }
     {
         Sender {
             pass,
@@ -143,7 +151,8 @@ impl Sender {
         requires port { self.old.port ≡ port.now.queue }
         requires timely { IsDueBy at entry }
         ensures port { self.new.port ≡ self.old.port }
-        ensures put { MatchResult result (λ _. Puts self.old self.new at entry) (λ back. (back ≡ entry) × (self.new ≡ self.old)) }
+        ensures put { MatchResult result (λ _. Puts self.old self.new at entry) (λ back. (back ≡ entry)
+            × (self.new ≡ self.old)) }
     {
         if self.count >= MOST_PUTS {
             return Err(entry);

@@ -1,3 +1,5 @@
+//! The part of a port that all threads share.
+
 ghost use Rattle.std.specs.Prelude.{◌≡◌};
 
 use crate::rule::Queue;

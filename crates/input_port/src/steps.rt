@@ -1,4 +1,5 @@
-//! The atomic steps of a port. Each changes what one pass knows and nothing else, and keeps the rule of `specs/Rule.antt`.
+//! The atomic steps of a port. Each changes what one pass knows and nothing else, and keeps the rule of
+//! `specs/Rule.antt`.
 ghost use Rattle.std.specs.Prelude.{◌≡◌, ◌+◌, [], ◌∷◌, true, MatchOption, MatchResult};
 ghost use Rattle.crossbeam_queue.specs.SegTies.{IsSegPassOf};
 ghost use Rattle.inbox.specs.Put.{IsTimely};
@@ -17,7 +18,8 @@ pub fn open(alloc: Global) -> Result<(Queue, Pass), AllocError>
     Queue::with_rule(alloc)
 }
 
-// Split of the first pass, the desk's. Before: it gives and takes. After: the pass is the owner's, and the new one the desk's.
+// Split of the first pass, the desk's. Before: it gives and takes. After: the pass is the owner's, and the new one the
+// desk's.
 pub fn split_ends(queue: &Queue, pass: &mut Pass) -> Pass
     requires queue { IsSegPassOf queue.now pass.old }
     requires rights { (pass.old.me.view.client.gives ≡ true) × (pass.old.me.view.client.takes ≡ true) }
@@ -28,8 +30,8 @@ pub fn split_ends(queue: &Queue, pass: &mut Pass) -> Pass
     queue.another::<Ends>(pass)
 }
 
-// Split of the desk's pass. Before: the desk has given the numbers up to some n. After: n + 1 is given too, and the new pass
-// puts under it and has put nothing.
+// Split of the desk's pass. Before: the desk has given the numbers up to some n. After: n + 1 is given too, and the
+// new pass puts under it and has put nothing.
 pub fn split_sender(queue: &Queue, pass: &mut Pass) -> Pass
     requires queue { IsSegPassOf queue.now pass.old }
     requires rights { pass.old.me.view.client.gives ≡ true }
@@ -40,9 +42,9 @@ pub fn split_sender(queue: &Queue, pass: &mut Pass) -> Pass
     queue.another::<NewSender>(pass)
 }
 
-// Push, by a sender's pass: the core's put or expiry. Before: the sender has seen a beginning of the put list, in which all
-// its entries stand. After: the entry stands behind all that it had seen, and is the next of its number. Where the push is
-// refused, nothing has changed.
+// Push, by a sender's pass: the core's put or expiry. Before: the sender has seen a beginning of the put list, in
+// which all its entries stand. After: the entry stands behind all that it had seen, and is the next of its number.
+// Where the push is refused, nothing has changed.
 pub fn push<R: Wait>(rt: &R, queue: &Queue, pass: &mut Pass, placed: Placed) -> Result<(), Placed>
     requires queue { IsSegPassOf queue.now pass.old }
     requires rights { pass.old.me.view.client.sends ≡ true }
@@ -50,25 +52,28 @@ pub fn push<R: Wait>(rt: &R, queue: &Queue, pass: &mut Pass, placed: Placed) -> 
     requires count { placed.count ≡ pass.old.me.view.client.count + 1 }
     requires timely { IsTimely placed }
     ensures queue { IsSegPassOf queue.now pass.new }
-    ensures pushed { MatchResult result (λ _. Adds pass.old.me.view.client placed pass.new.me.view.client) (λ back. (back ≡ placed) × (pass.new.me.view.client ≡ pass.old.me.view.client)) }
+    ensures pushed { MatchResult result (λ _. Adds pass.old.me.view.client placed pass.new.me.view.client)
+        (λ back. (back ≡ placed) × (pass.new.me.view.client ≡ pass.old.me.view.client)) }
 {
     queue.push_as::<Pushed, R>(rt, pass, placed)
 }
 
-// Pop, by the owner's pass. Before: the drawn entries begin the put list, and the known list. With an entry: it is the next of
-// the put list, and is drawn. With none, a fresh point: the drawn entries are the whole put list, and so all of the known list;
-// no pass has changed.
+// Pop, by the owner's pass. Before: the drawn entries begin the put list, and the known list. With an entry: it is the
+// next of the put list, and is drawn. With none, a fresh point: the drawn entries are the whole put list, and so all
+// of the known list; no pass has changed.
 pub fn pop<R: Wait>(rt: &R, queue: &Queue, pass: &mut Pass) -> Option<Placed>
     requires queue { IsSegPassOf queue.now pass.old }
     requires rights { pass.old.me.view.client.takes ≡ true }
     ensures queue { IsSegPassOf queue.now pass.new }
-    ensures popped { MatchOption result ((pass.new.me.view.client ≡ pass.old.me.view.client) × IsFresh pass.old.me.view.client []) (λ placed. Draws pass.old.me.view.client placed pass.new.me.view.client) }
+    ensures popped { MatchOption result ((pass.new.me.view.client ≡ pass.old.me.view.client)
+        × IsFresh pass.old.me.view.client [])
+        (λ placed. Draws pass.old.me.view.client placed pass.new.me.view.client) }
 {
     queue.pop_as::<Popped, R>(rt, pass)
 }
 
-// Taking a sender's pass back, by the owner's. Before: each has seen a beginning of the put list. After: the owner knows the
-// longer of the two, and the sender's number and count stand among the gathered; its pass is spent.
+// Taking a sender's pass back, by the owner's. Before: each has seen a beginning of the put list. After: the owner
+// knows the longer of the two, and the sender's number and count stand among the gathered; its pass is spent.
 pub fn take_back(queue: &Queue, pass: &mut Pass, other: Pass)
     requires queue { IsSegPassOf queue.now pass.old × IsSegPassOf queue.now other }
     requires rights { (pass.old.me.view.client.takes ≡ true) × (other.me.view.client.sends ≡ true) }
@@ -78,8 +83,8 @@ pub fn take_back(queue: &Queue, pass: &mut Pass, other: Pass)
     queue.absorb::<Gathers>(pass, other);
 }
 
-// Split of the owner's pass. Before: a sender has been gathered. After: it is gathered no more, and the new pass puts under its
-// number, with its count, and has seen all that the owner knows.
+// Split of the owner's pass. Before: a sender has been gathered. After: it is gathered no more, and the new pass puts
+// under its number, with its count, and has seen all that the owner knows.
 pub fn split_again(queue: &Queue, pass: &mut Pass) -> Pass
     requires queue { IsSegPassOf queue.now pass.old }
     requires rights { pass.old.me.view.client.takes ≡ true }

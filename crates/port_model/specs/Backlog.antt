@@ -1,3 +1,4 @@
+-- What waits in a port, as the port keeps it.
 use Rattle.std.specs.Prelude.{◌≡◌, ◌≢◌, ◌+◌, ◌≤◌, ◌-◌, ◌==◌, min, ℕ, List, ◌∷◌, ◌++◌, length, take, All, Contains, if◌then◌else◌}
 use Rattle.port_model.specs.declared.selection.Class.{Class}
 use Rattle.port_model.specs.declared.selection.Class.TheVariants as class

@@ -1,3 +1,4 @@
+-- Lists of classes, one for each name.
 use Rattle.std.specs.Prelude.{List}
 use Rattle.port_model.specs.declared.selection.Class.{Class}
 

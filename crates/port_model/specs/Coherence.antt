@@ -1,3 +1,4 @@
+-- What is so of each port: one timer of a key, which runs or whose signal waits once.
 use Rattle.std.specs.Prelude.{◌≡◌, ◌+◌, ◌≤◌, ◌&&◌, Bool, List, length, filter}
 use Rattle.port_model.specs.declared.got.Got.{Got}
 use Rattle.port_model.specs.declared.timer_key.TimerKey.{TimerKey}

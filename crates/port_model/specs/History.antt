@@ -1,3 +1,4 @@
+-- Legal histories of a port.
 use Rattle.std.specs.Prelude.{◌≡◌, ℕ, ◌+◌, true, List, [], ◌∷◌}
 use Rattle.port_model.specs.declared.item.Item.{Item}
 use Rattle.port_model.specs.declared.timer_key.TimerKey.{TimerKey}

@@ -1,3 +1,4 @@
+-- What holds of every legal history.
 use Rattle.std.specs.Prelude.{◌≡◌, ◌≢◌, ◌⊎◌, Bool, true, false, List, [], ◌∷◌, ◌++◌, Option, Some, None, All, filter, if◌then◌else◌}
 use Rattle.std.specs.List.{filter_map}
 use Rattle.port_model.specs.declared.pid.Pid.{Pid}

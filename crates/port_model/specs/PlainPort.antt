@@ -1,3 +1,4 @@
+-- What callers see of the port of one thread.
 use Rattle.std.specs.Prelude.{ℕ, ◌≤◌, List, All}
 use Rattle.port_model.specs.declared.taken.Taken.{Taken}
 use Rattle.port_model.specs.declared.taken.Taken.TheVariants.{Consumed, Discarded, Nothing}

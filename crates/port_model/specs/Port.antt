@@ -1,3 +1,4 @@
+-- The input port of the standard, and its steps.
 use Rattle.std.specs.Prelude.{ℕ, ◌+◌, nat_le, ◌&&◌, Bool, true, false, List, [], ◌∷◌, ◌++◌, if◌then◌else◌}
 use Rattle.port_model.specs.declared.item.Item.{Item}
 use Rattle.port_model.specs.declared.got.Got.{Got}

@@ -1,3 +1,4 @@
+-- When Pids, values and keys are the same, and their order.
 use Rattle.std.specs.Prelude.{◌≡◌, Bool, List, refl}
 use Rattle.std.proofs.Common.{ap}
 use Rattle.std.specs.Bool.{Decides}

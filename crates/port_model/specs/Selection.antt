@@ -1,3 +1,4 @@
+-- What a state does with a name.
 use Rattle.std.specs.Prelude.{List, slice_index_or}
 use Rattle.port_model.specs.declared.selection.Class.{Class}
 use Rattle.port_model.specs.declared.selection.Class.TheVariants.{Discard}

@@ -1,3 +1,4 @@
+-- The table of the active timers.
 use Rattle.std.specs.Prelude.{◌≡◌, ◌≤◌, ℕ, nat_lt, ◌==◌, ◌&&◌, Bool, not, List, [], ◌∷◌, length, filter, if◌then◌else◌}
 use Rattle.std.specs.List.{list_any}
 use Rattle.std.specs.Ordering.{nat_cmp, ordering_then}
@@ -9,8 +10,6 @@ use Rattle.port_model.specs.declared.timer.Phase.TheVariants.{Running, Waiting}
 use Rattle.port_model.specs.declared.timer_key.TimerKey.{TimerKey}
 use Rattle.port_model.specs.declared.timers.Timer.{Timer}
 use Rattle.port_model.specs.Timers.{same_key, Armed}
-
--- The table in which a port keeps its active timers, and the lists that callers see of it.
 
 -- what a caller sees of a table: the active timers, and what each of their sets gave, in the order of the sets
 pub record TimersValue : Type 0 where

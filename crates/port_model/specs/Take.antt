@@ -1,3 +1,4 @@
+-- What a take gives, and what it leaves.
 use Rattle.std.specs.Prelude.{◌≡◌, ◌≢◌, ◌⊎◌, List, ◌∷◌, ◌++◌, All}
 use Rattle.port_model.specs.declared.selection.Class.{Class}
 use Rattle.port_model.specs.declared.selection.Class.TheVariants as class

@@ -1,3 +1,4 @@
+-- Active timers: keys, due times, and what their sets gave.
 use Rattle.std.specs.Prelude.{◌≡◌, ℕ, ◌≤◌, min, ◌&&◌, Bool, true, false, not, List, [], Option, Some, None, filter, map, All, Contains, MatchOption, if◌then◌else◌}
 use Rattle.std.specs.List.{list_any, filter_map}
 use Rattle.std.specs.declared.cmp.Ordering.{Ordering}

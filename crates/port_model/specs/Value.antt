@@ -1,3 +1,4 @@
+-- The values that a signal or a timer carries.
 use Rattle.std.specs.Prelude.{List}
 use Rattle.port_model.specs.declared.value.Value.{Value}
 

@@ -1,5 +1,5 @@
-//! What waits in a port. It remembers what it has looked at, as long as the names that it saw there keep their classes: so a
-//! take looks at no entry twice, however many wait.
+//! What waits in a port. It remembers what it has looked at, as long as the names that it saw there keep their
+//! classes: so a take looks at no entry twice, however many wait.
 ghost use Rattle.std.specs.Prelude.{◌≡◌, ◌⊎◌, ◌==◌, ◌+◌, ◌<◌, ◌≤◌, [], ◌∷◌, ◌++◌, length, remove, slice_index_or, All, Contains, MatchOption, IsTrue, OnOk, OnErr};
 ghost use Rattle.std.specs.VecDeque.{deque_capacity};
 ghost use Rattle.port_model.specs.Backlog.{looked_after, waiting_in, IsOrdinaryName, IsSavedName, Leaves};
@@ -88,7 +88,10 @@ impl Backlog {
 
     /// Takes the first entry of a priority input out, if there is one. Needs no memory.
     pub fn take_priority(&mut self, selection: &Selection) -> Option<Got>
-        ensures { MatchOption result ((waiting_in self.new ≡ waiting_in self.old) × All (IsOrdinary selection.now) (waiting_in self.new)) (λ got. Leaves (IsOrdinary selection.now) (waiting_in self.old) got (waiting_in self.new) × HasClass class.Priority selection.now got) }
+        ensures { MatchOption result ((waiting_in self.new ≡ waiting_in self.old)
+            × All (IsOrdinary selection.now) (waiting_in self.new))
+            (λ got. Leaves (IsOrdinary selection.now) (waiting_in self.old) got (waiting_in self.new)
+            × HasClass class.Priority selection.now got) }
     {
         if !selection.has_priority() {
             return None;
@@ -103,7 +106,10 @@ impl Backlog {
 
     /// Takes the first entry that isn't saved out, if there is one, with its class. Needs no memory.
     pub fn take_unsaved(&mut self, selection: &Selection) -> Option<(Got, Class)>
-        ensures { MatchOption result ((waiting_in self.new ≡ waiting_in self.old) × All (IsSaved selection.now) (waiting_in self.new)) (λ taken. Leaves (IsSaved selection.now) (waiting_in self.old) taken.0 (waiting_in self.new) × HasClass taken.1 selection.now taken.0 × (taken.1 ≡ class.Saved → ⊥)) }
+        ensures { MatchOption result ((waiting_in self.new ≡ waiting_in self.old)
+            × All (IsSaved selection.now) (waiting_in self.new))
+            (λ taken. Leaves (IsSaved selection.now) (waiting_in self.old) taken.0 (waiting_in self.new)
+            × HasClass taken.1 selection.now taken.0 × (taken.1 ≡ class.Saved → ⊥)) }
     {
         self.pass_saved(selection);
         match search::first_unsaved(&self.rest, selection) {
@@ -221,7 +227,8 @@ impl Backlog {
         }
     }
 
-    // Looks at the entries of the rest up to the first of a priority input, as far as there is memory to note their names.
+    // Looks at the entries of the rest up to the first of a priority input, as far as there is memory to note their
+    // names.
     fn look_on(&mut self, selection: &Selection)
         ensures passed { self.new.passed ≡ self.old.passed }
         ensures rest { self.new.rest ≡ self.old.rest }

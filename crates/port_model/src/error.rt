@@ -1,3 +1,5 @@
+//! Why a port refuses a call.
+
 use thiserror::Error;
 
 /// Why a port refused a call.

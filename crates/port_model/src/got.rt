@@ -1,3 +1,5 @@
+//! What waits in a port.
+
 ghost use Rattle.std.specs.Prelude.{◌≡◌};
 ghost use Rattle.port_model.specs.Take.{name_of};
 ghost use Rattle.port_model.specs.Timers.{is_signal_of};

@@ -1,3 +1,5 @@
+//! Signals, and their names as numbers.
+
 use crate::{Pid, Values};
 
 /// The name of a signal or of a timer, as its number in the system. Signals and timers share these numbers.

@@ -1,3 +1,5 @@
+//! The identities of instances.
+
 ghost use Rattle.std.specs.Prelude.{Some};
 ghost use Rattle.port_model.specs.Text.{pid_text};
 

@@ -60,8 +60,8 @@ impl PlainPort {
         }
     }
 
-    /// Makes room for one entry more. Nothing else changes, also where memory is refused; and it is refused only where no room
-    /// was left.
+    /// Makes room for one entry more. Nothing else changes, also where memory is refused; and it is refused only where
+    /// no room was left.
     pub fn reserve(&mut self) -> Result<(), AllocError>
         ensures ok { OnOk result (0 < self.new.room) }
         ensures state { self.new.state ≡ self.old.state }
@@ -102,9 +102,9 @@ impl PlainPort {
         }
     }
 
-    /// Expires a timer (Z.102, timer): where it is Running by the set number `arm` for the time `due`, and `at` is `due` or
-    /// later, its signal goes behind all that waits. The reply is whether that was so. In every other case nothing changes.
-    /// The key comes back for want of memory, and nothing changes.
+    /// Expires a timer (Z.102, timer): where it is Running by the set number `arm` for the time `due`, and `at` is
+    /// `due` or later, its signal goes behind all that waits. The reply is whether that was so. In every other case
+    /// nothing changes. The key comes back for want of memory, and nothing changes.
     pub fn expire(
         &mut self,
         key: TimerKey,
@@ -156,8 +156,8 @@ impl PlainPort {
         self.sets == MOST_SETS
     }
 
-    /// Sets a timer for the time `due`, after a reset. The reply is the number of the set, from 1. Refused with `SetsSpent`
-    /// after 2^62 sets, and for want of memory; the key is dropped then, and nothing changes.
+    /// Sets a timer for the time `due`, after a reset. The reply is the number of the set, from 1. Refused with
+    /// `SetsSpent` after 2^62 sets, and for want of memory; the key is dropped then, and nothing changes.
     pub fn set(&mut self, key: TimerKey, due: u64) -> Result<u64, PortError>
         ensures ok { OnOk result (self.new.state ≡ set_in self.old.state key due) }
         ensures arm { IfOk result (λ arm. arm ≡ self.old.state.sets + 1) }
@@ -201,8 +201,8 @@ impl PlainPort {
         self.timers.next_due()
     }
 
-    /// Takes the first entry of a priority input, else the first that isn't saved (Z.102, priority input, save). Takes no
-    /// memory.
+    /// Takes the first entry of a priority input, else the first that isn't saved (Z.102, priority input, save). Takes
+    /// no memory.
     pub fn take(&mut self, selection: &Selection) -> Taken
         ensures take { Takes selection.now self.old.state result self.new.state }
         ensures armed { self.new.armed ≡ armed_left result self.old.armed }
@@ -224,8 +224,12 @@ impl PlainPort {
 
     /// Takes the first entry of a priority input, if there is one (Z.102, priority input). Takes no memory.
     pub fn take_priority(&mut self, selection: &Selection) -> Option<Got>
-        ensures state { MatchOption result ((self.new.state ≡ self.old.state) × All (IsOrdinary selection.now) self.old.state.waiting) (λ got. TakesFirst (IsOrdinary selection.now) self.old.state got self.new.state × HasClass class.Priority selection.now got) }
-        ensures armed { MatchOption result (self.new.armed ≡ self.old.armed) (λ got. self.new.armed ≡ armed_after got self.old.armed) }
+        ensures state { MatchOption result ((self.new.state ≡ self.old.state)
+            × All (IsOrdinary selection.now) self.old.state.waiting)
+            (λ got. TakesFirst (IsOrdinary selection.now) self.old.state got self.new.state
+            × HasClass class.Priority selection.now got) }
+        ensures armed { MatchOption result (self.new.armed ≡ self.old.armed)
+            (λ got. self.new.armed ≡ armed_after got self.old.armed) }
     {
         match self.waiting.take_priority(selection) {
             None => None,
@@ -253,8 +257,8 @@ impl PlainPort {
         self.waiting.len()
     }
 
-    /// What waits, in order, and the table of the active timers. Each timer's signal among it is that of the one active timer of
-    /// its key, and stands there once. Takes no memory.
+    /// What waits, in order, and the table of the active timers. Each timer's signal among it is that of the one
+    /// active timer of its key, and stands there once. Takes no memory.
     pub fn into_parts(self) -> (VecDeque<Got>, Timers)
         ensures waiting { result.0.items ≡ self.state.waiting }
         ensures timers { result.1 ≡ record { timers = self.state.timers; armed = self.armed } }
@@ -282,7 +286,8 @@ fn taken_as(class: Class, got: Got) -> Taken
 
 // Takes the signal of this timer out, if there is one.
 fn forget_signal(waiting: &mut Backlog, waited: Option<TimerKey>)
-    ensures { MatchOption waited (waiting_in waiting.new ≡ waiting_in waiting.old) (λ key. waiting_in waiting.new ≡ without_signal key (waiting_in waiting.old)) }
+    ensures { MatchOption waited (waiting_in waiting.new ≡ waiting_in waiting.old)
+        (λ key. waiting_in waiting.new ≡ without_signal key (waiting_in waiting.old)) }
 {
     if let Some(key) = waited {
         waiting.forget(&key);

@@ -1,3 +1,5 @@
+//! What a take gives.
+
 use crate::Got;
 
 /// What a take gave.

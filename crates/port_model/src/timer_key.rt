@@ -1,3 +1,5 @@
+//! What tells timers apart.
+
 ghost use Rattle.std.specs.Prelude.{◌≡◌, IfOk};
 
 use crate::{SignalId, Values};

@@ -10,8 +10,8 @@ use std::alloc::{AllocError, Global};
 use std::collections::{BTreeMap, BTreeSet};
 use std::marker::Model;
 
-/// What a table keeps of an active timer: the number of its set among the sets of the port, from 1, its due time in ticks,
-/// and whether it has expired, so that its signal waits.
+/// What a table keeps of an active timer: the number of its set among the sets of the port, from 1, its due time in
+/// ticks, and whether it has expired, so that its signal waits.
 #[derive(Clone, Copy, Debug)]
 pub struct Timer {
     pub arm: u64,
@@ -79,8 +79,11 @@ impl Timers {
 
     /// What the table keeps of the timer of this key, if it is active.
     pub fn get(&self, key: &TimerKey) -> Option<Timer>
-        ensures active { MatchOption result (is_active key.now self.now.timers ≡ false) (λ _. is_active key.now self.now.timers ≡ true) }
-        ensures armed { MatchOption result (armed_for key.now self.now.armed ≡ []) (λ timer. armed_for key.now self.now.armed ≡ record { key = key.now; arm = timer.arm; due = timer.due } ∷ []) }
+        ensures active { MatchOption result (is_active key.now self.now.timers ≡ false)
+            (λ _. is_active key.now self.now.timers ≡ true) }
+        ensures armed { MatchOption result (armed_for key.now self.now.armed ≡ [])
+            (λ timer. armed_for key.now self.now.armed ≡ record { key = key.now; arm = timer.arm;
+            due = timer.due } ∷ []) }
     {
         match self.table.get(key) {
             None => None,
@@ -98,14 +101,17 @@ impl Timers {
         }
     }
 
-    /// Sets the timer of this key, which runs from then on by the set `arm` until `due`. That `arm` is past all sets in the
-    /// table is the caller's condition. The key comes back where the signal of an older set waits; that is over now. Where
-    /// memory is wanting, nothing changes.
+    /// Sets the timer of this key, which runs from then on by the set `arm` until `due`. That `arm` is past all sets
+    /// in the table is the caller's condition. The key comes back where the signal of an older set waits; that is over
+    /// now. Where memory is wanting, nothing changes.
     pub fn set(&mut self, key: TimerKey, arm: u64, due: u64) -> Result<Option<TimerKey>, AllocError>
         requires { All (λ (armed : Armed). armed.arm < arm) self.old.armed }
-        ensures timers { MatchResult result (λ _. self.new.timers ≡ without_key key self.old.timers ++ record { key = key; phase = Running arm due } ∷ []) (λ _. self.new ≡ self.old) }
+        ensures timers { MatchResult result
+            (λ _. self.new.timers ≡ without_key key self.old.timers ++ record { key = key;
+            phase = Running arm due } ∷ []) (λ _. self.new ≡ self.old) }
         ensures armed { MatchResult result (λ _. self.new.armed ≡ without_armed key self.old.armed ++ record { key = key; arm = arm; due = due } ∷ []) (λ _. self.new ≡ self.old) }
-        ensures waited { MatchResult result (λ back. MatchOption back (waits key self.old.timers ≡ false) (λ k. (k ≡ key) × (waits key self.old.timers ≡ true))) (λ _. Unit {0}) }
+        ensures waited { MatchResult result (λ back. MatchOption back (waits key self.old.timers ≡ false)
+            (λ k. (k ≡ key) × (waits key self.old.timers ≡ true))) (λ _. Unit {0}) }
     {
         if self.active(&key) {
             let waited = self.renew(&key, arm, due)?;
@@ -119,7 +125,9 @@ impl Timers {
     fn add(&mut self, key: TimerKey, arm: u64, due: u64) -> Result<(), AllocError>
         requires inactive { is_active key self.old.timers ≡ false }
         requires later { All (λ (armed : Armed). armed.arm < arm) self.old.armed }
-        ensures timers { MatchResult result (λ _. self.new.timers ≡ without_key key self.old.timers ++ record { key = key; phase = Running arm due } ∷ []) (λ _. self.new ≡ self.old) }
+        ensures timers { MatchResult result
+            (λ _. self.new.timers ≡ without_key key self.old.timers ++ record { key = key;
+            phase = Running arm due } ∷ []) (λ _. self.new ≡ self.old) }
         ensures armed { MatchResult result (λ _. self.new.armed ≡ without_armed key self.old.armed ++ record { key = key; arm = arm; due = due } ∷ []) (λ _. self.new ≡ self.old) }
     {
         if let Err(_) = self.deadlines.insert((due, arm)) {
@@ -141,7 +149,9 @@ impl Timers {
     fn renew(&mut self, key: &TimerKey, arm: u64, due: u64) -> Result<bool, AllocError>
         requires active { is_active key.now self.old.timers ≡ true }
         requires later { All (λ (armed : Armed). armed.arm < arm) self.old.armed }
-        ensures timers { MatchResult result (λ _. self.new.timers ≡ without_key key.now self.old.timers ++ record { key = key.now; phase = Running arm due } ∷ []) (λ _. self.new ≡ self.old) }
+        ensures timers { MatchResult result
+            (λ _. self.new.timers ≡ without_key key.now self.old.timers ++ record { key = key.now;
+            phase = Running arm due } ∷ []) (λ _. self.new ≡ self.old) }
         ensures armed { MatchResult result (λ _. self.new.armed ≡ without_armed key.now self.old.armed ++ record { key = key.now; arm = arm; due = due } ∷ []) (λ _. self.new ≡ self.old) }
         ensures waited { IfOk result (λ waited. waited ≡ waits key.now self.old.timers) }
     {

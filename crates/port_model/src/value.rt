@@ -1,3 +1,5 @@
+//! The values of the predefined sorts (Z.104).
+
 ghost use Rattle.std.specs.Prelude.{Some};
 ghost use Rattle.port_model.specs.Text.{value_text};
 

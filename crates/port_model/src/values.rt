@@ -1,3 +1,5 @@
+//! Lists of values.
+
 ghost use Rattle.std.specs.Prelude.{◌≡◌, ◌↔◌, [], length, slice_get, IfOk, IsTrue};
 
 use crate::Value;

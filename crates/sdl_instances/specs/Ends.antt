@@ -1,3 +1,4 @@
+-- What callers see of a table of numbers and of a seat.
 use Rattle.std.specs.Prelude.{◌≡◌, ℕ, ◌<◌, List, []}
 use Rattle.atomic_table.specs.Table.{Me}
 use Rattle.atomic_table.specs.Seated.{TableId}

@@ -1,3 +1,4 @@
+-- Lists in which no number stands twice, and those that have 1 to n.
 use Rattle.std.specs.Prelude.{◌≡◌, ℕ, zero, suc, ◌≤◌, nat_eq, List, [], ◌∷◌, ◌++◌, count_by}
 
 -- how often x stands in the list

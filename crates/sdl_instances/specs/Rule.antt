@@ -1,3 +1,4 @@
+-- The rule of the numbers, which holds at every moment of every schedule.
 use Rattle.std.specs.Prelude.{◌≡◌, ℕ, ◌+◌, ◌≤◌, nat_le, min, List, [], ◌∷◌, sum_by, if◌then◌else◌}
 use mathlib.Core.Option.{some}
 use lib.ListN.{get_elem?}

@@ -1,3 +1,4 @@
+-- What each kind of atomic step tells the seat that makes it.
 use Rattle.std.specs.Prelude.{◌≡◌, ℕ, suc, ◌<◌, ◌≤◌, [], ◌∷◌, ◌++◌}
 use Rattle.sdl_instances.specs.declared.rule.View.{View}
 use Rattle.sdl_instances.specs.Numbers.{times, EachOnce, AreOneTo}

@@ -1,3 +1,4 @@
+-- What each seat knows as it is made, and as others come back.
 use Rattle.std.specs.Prelude.{ℕ, ◌+◌, ◌-◌, max, List, [], ◌++◌}
 use Rattle.sdl_instances.specs.declared.rule.View.{View}
 

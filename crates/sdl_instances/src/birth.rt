@@ -1,3 +1,5 @@
+//! How a table of numbers is made.
+
 ghost use Rattle.std.specs.Prelude.{◌≡◌, [], IfOk};
 
 use crate::seat::MOST_SPLITS;

@@ -1,3 +1,5 @@
+//! The one reason why no number is drawn.
+
 use thiserror::Error;
 
 /// All 1,000 numbers are drawn.

@@ -1,3 +1,5 @@
+//! What a thread draws numbers with.
+
 ghost use Rattle.std.specs.Prelude.{◌≡◌, ◌+◌, ◌≤◌, nat_le, [], ◌++◌, IfSome, MatchOption};
 ghost use Rattle.sdl_instances.specs.Ends.{IsSeat};
 ghost use Rattle.sdl_instances.specs.Numbers.{EachOnce, AreOneTo};
@@ -10,8 +12,8 @@ use std::marker::Model;
 /// How many seats the first one can split off.
 pub(crate) const MOST_SPLITS: u32 = 63;
 
-/// What a thread draws numbers with. The right to draw has 64 parts: the first seat has all of them, and each seat that it splits
-/// off has one.
+/// What a thread draws numbers with. The right to draw has 64 parts: the first seat has all of them, and each seat
+/// that it splits off has one.
 #[derive(Drop)]
 pub struct Seat {
     pub(crate) place: Place,
@@ -24,7 +26,8 @@ impl Model for Seat {
 
     ghost Value = { SeatState };
 
-    ghost view = { λ s. record { table = s.place.table_id; parts = s.place.me.0.parts; left = s.left; drawn = s.place.me.0.drawn; seen = s.place.me.0.seen } };
+    ghost view = { λ s. record { table = s.place.table_id; parts = s.place.me.0.parts; left = s.left;
+        drawn = s.place.me.0.drawn; seen = s.place.me.0.seen } };
 
     ghost invariant = { λ s. IsSeat s.place.table_id s.place.me s.left s.seen };
 }
@@ -32,7 +35,8 @@ impl Model for Seat {
 impl Seat {
     pub(crate) fn new(place: Place, left: u32, seen: u32) -> Self
         requires { IsSeat place.table_id place.me left seen }
-        ensures { result ≡ record { table = place.table_id; parts = place.me.0.parts; left = left; drawn = place.me.0.drawn; seen = seen } }
+        ensures { result ≡ record { table = place.table_id; parts = place.me.0.parts; left = left;
+            drawn = place.me.0.drawn; seen = seen } }
     {
         Seat { place, left, seen }
     }
@@ -46,14 +50,17 @@ impl Seat {
         self.seen >= MOST_NUMBERS
     }
 
-    /// A new seat, for another thread: it has drawn nothing, and has seen as many numbers drawn as this one. 63 times for the
-    /// first seat of a table, `None` from then on; always `None` for the others. That the table is the seat's is the caller's
-    /// condition.
+    /// A new seat, for another thread: it has drawn nothing, and has seen as many numbers drawn as this one. 63 times
+    /// for the first seat of a table, `None` from then on; always `None` for the others. That the table is the seat's
+    /// is the caller's condition.
     pub fn again(&mut self, table: &Table) -> Option<Seat>
         requires { self.old.table ≡ table.now.id }
-        ensures same { (self.new.table ≡ self.old.table) × (self.new.drawn ≡ self.old.drawn) × (self.new.seen ≡ self.old.seen) }
-        ensures rights { MatchOption result ((self.old.left ≡ 0) × (self.new ≡ self.old)) (λ _. (self.old.left ≡ self.new.left + 1) × (self.old.parts ≡ self.new.parts + 1)) }
-        ensures seat { IfSome result (λ seat. seat ≡ record { table = self.old.table; parts = 1; left = 0; drawn = []; seen = self.old.seen }) }
+        ensures same { (self.new.table ≡ self.old.table) × (self.new.drawn ≡ self.old.drawn)
+            × (self.new.seen ≡ self.old.seen) }
+        ensures rights { MatchOption result ((self.old.left ≡ 0) × (self.new ≡ self.old))
+            (λ _. (self.old.left ≡ self.new.left + 1) × (self.old.parts ≡ self.new.parts + 1)) }
+        ensures seat { IfSome result (λ seat. seat ≡ record { table = self.old.table; parts = 1; left = 0;
+            drawn = []; seen = self.old.seen }) }
     {
         if self.left == 0 {
             return None;
@@ -63,8 +70,8 @@ impl Seat {
         Some(Seat::new(place, 0, self.seen))
     }
 
-    /// Takes a seat back, with its parts of the right and all that it drew. That the table is that of both seats is the caller's
-    /// condition.
+    /// Takes a seat back, with its parts of the right and all that it drew. That the table is that of both seats is
+    /// the caller's condition.
     pub fn gather(&mut self, table: &Table, seat: Seat)
         requires { (self.old.table ≡ table.now.id) × (seat.table ≡ table.now.id) }
         ensures table { self.new.table ≡ self.old.table }
@@ -81,7 +88,8 @@ impl Seat {
 
     fn into_place(self) -> Place
         ensures table { (result.table_id ≡ self.table) × (result.me.1 ≡ []) }
-        ensures rights { (result.me.0.parts ≡ self.parts) × (result.me.0.drawn ≡ self.drawn) × (result.me.0.seen ≡ self.seen) }
+        ensures rights { (result.me.0.parts ≡ self.parts) × (result.me.0.drawn ≡ self.drawn)
+            × (result.me.0.seen ≡ self.seen) }
     {
         let Seat {
             place,

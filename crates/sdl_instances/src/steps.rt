@@ -16,8 +16,8 @@ pub fn open(alloc: Global) -> Result<(Word, Place), AllocError>
     Word::of_words(alloc, &[0], &())
 }
 
-// Addition of one, which is a draw. Before: the seat has a part of the right, and hasn't seen all numbers drawn. After: it has
-// drawn the next number, or, where none was left, has seen that all are drawn.
+// Addition of one, which is a draw. Before: the seat has a part of the right, and hasn't seen all numbers drawn.
+// After: it has drawn the next number, or, where none was left, has seen that all are drawn.
 pub fn add(word: &Word, place: &mut Place) -> u64
     requires table { IsTable word.now.shared.table_id × (place.old.table_id ≡ word.now.shared.table_id) }
     requires rights { (0 < place.old.me.0.parts) × (place.old.me.0.seen < 1000) }
@@ -38,7 +38,8 @@ pub fn look(word: &Word, place: &mut Place) -> u64
     word.shared.load::<Looked>(place, 0)
 }
 
-// Split of a seat. Before: it has two parts or more. After: the new seat has one of them, has drawn nothing, and has seen as much.
+// Split of a seat. Before: it has two parts or more. After: the new seat has one of them, has drawn nothing, and has
+// seen as much.
 pub fn split(word: &Word, place: &mut Place) -> Place
     requires table { IsTable word.now.shared.table_id × (place.old.table_id ≡ word.now.shared.table_id) }
     requires rights { 1 < place.old.me.0.parts }
@@ -49,10 +50,11 @@ pub fn split(word: &Word, place: &mut Place) -> Place
     word.shared.split_seat::<OnePart>(place)
 }
 
-// Taking a seat back. After: the seat has the parts of both, all that both have drawn, and has seen what either has; the other
-// is spent.
+// Taking a seat back. After: the seat has the parts of both, all that both have drawn, and has seen what either has;
+// the other is spent.
 pub fn take_back(word: &Word, place: &mut Place, other: Place)
-    requires table { IsTable word.now.shared.table_id × (place.old.table_id ≡ word.now.shared.table_id) × (other.table_id ≡ word.now.shared.table_id) }
+    requires table { IsTable word.now.shared.table_id × (place.old.table_id ≡ word.now.shared.table_id)
+        × (other.table_id ≡ word.now.shared.table_id) }
     requires empty { other.me.1 ≡ [] }
     ensures table { place.new.table_id ≡ place.old.table_id }
     ensures seat { place.new.me ≡ (together place.old.me.0 other.me.0, place.old.me.1) }

@@ -1,3 +1,5 @@
+//! The table from which numbers are drawn.
+
 ghost use Rattle.std.specs.Prelude.{◌≡◌, ◌<◌, ◌≤◌, [], ◌∷◌, ◌++◌, IfOk, OnErr};
 ghost use Rattle.sdl_instances.specs.Ends.{IsTable};
 ghost use Rattle.sdl_instances.specs.Numbers.{times, EachOnce, AreOneTo};
@@ -39,8 +41,9 @@ impl Table {
         &self.word
     }
 
-    /// Draws the next number: 1, 2, .. 1,000, each once over all seats of the table. `Full` comes only where all of them are
-    /// drawn; the seat has seen that then, and draws no more. That the table is the seat's is the caller's condition.
+    /// Draws the next number: 1, 2, .. 1,000, each once over all seats of the table. `Full` comes only where all of
+    /// them are drawn; the seat has seen that then, and draws no more. That the table is the seat's is the caller's
+    /// condition.
     pub fn draw(&self, seat: &mut Seat) -> Result<u32, Full>
         requires { seat.old.table ≡ self.now.id }
         ensures table { seat.new.table ≡ seat.old.table }

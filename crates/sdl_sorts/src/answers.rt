@@ -30,7 +30,7 @@ use std::alloc::{AllocError, Global};
 /// first token of a range; and `BadCount` at the first token of a value that there isn't.
 pub fn resolve_answer<'t>(
     alloc: Global,
-    scope: &Scope<'_, 't>,
+    scope: &Scope<'_, '_, 't>,
     question: Option<Kind>,
     answer: &'t Answer,
     faults: &mut Faults<'t>,
@@ -84,7 +84,7 @@ pub fn resolve_answer<'t>(
 /// The value of an answer, where it has one that can be compared with the question's.
 fn resolve_value<'t>(
     alloc: Global,
-    scope: &Scope<'_, 't>,
+    scope: &Scope<'_, '_, 't>,
     question: Option<Kind>,
     value: &'t Expression,
     faults: &mut Faults<'t>,

@@ -29,7 +29,7 @@ use std::alloc::{AllocError, Global};
 /// asked for. A negative value for a Natural is answered as it stands.
 pub fn constant<'t>(
     alloc: Global,
-    scope: &Scope<'_, 't>,
+    scope: &Scope<'_, '_, 't>,
     expression: &'t Expression,
     sort: Option<Sort>,
     faults: &mut Faults<'t>,

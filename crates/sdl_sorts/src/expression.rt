@@ -29,7 +29,7 @@ use std::alloc::{AllocError, Global};
 /// of values, and at the first token of a value that doesn't fit the timer's.
 pub fn resolve<'t>(
     alloc: Global,
-    scope: &Scope<'_, 't>,
+    scope: &Scope<'_, '_, 't>,
     expression: &'t Expression,
     faults: &mut Faults<'t>,
 ) -> Result<Option<Typed>, AllocError>
@@ -46,7 +46,7 @@ pub fn resolve<'t>(
 /// unknown, each kind fits.
 pub fn resolve_for<'t>(
     alloc: Global,
-    scope: &Scope<'_, 't>,
+    scope: &Scope<'_, '_, 't>,
     expression: &'t Expression,
     sort: Option<Sort>,
     faults: &mut Faults<'t>,
@@ -62,7 +62,7 @@ pub fn resolve_for<'t>(
 /// The condition behind `provided`: a Boolean expression without `now`, at which `Sort` is noted.
 pub fn resolve_condition<'t>(
     alloc: Global,
-    scope: &Scope<'_, 't>,
+    scope: &Scope<'_, '_, 't>,
     expression: &'t Expression,
     faults: &mut Faults<'t>,
 ) -> Result<Option<sdl_system::Expression>, AllocError>
@@ -85,7 +85,7 @@ pub fn resolve_condition<'t>(
 fn resolve_at<'t>(
     alloc: Global,
     context: Context,
-    scope: &Scope<'_, 't>,
+    scope: &Scope<'_, '_, 't>,
     written: &'t Expression,
     sort: Option<Sort>,
     faults: &mut Faults<'t>,
@@ -106,7 +106,7 @@ fn resolve_at<'t>(
 /// value has no kind, or where a synonym in one has no value.
 pub fn resolve_values<'t>(
     alloc: Global,
-    scope: &Scope<'_, 't>,
+    scope: &Scope<'_, '_, 't>,
     name: &'t Name,
     values: &'t [Expression],
     sorts: &[Option<Sort>],

@@ -78,14 +78,14 @@ pub enum ValueMeaning {
 /// What the name of a signal or of a timer stands for, with the sorts of its parameters. A sort is None where the name
 /// of the sort is no sort's.
 #[derive(Clone, Copy, Debug)]
-pub enum SignalMeaning<'a> {
+pub enum SignalMeaning<'s> {
     Signal {
         number: SignalId,
-        sorts: &'a [Option<Sort>],
+        sorts: &'s [Option<Sort>],
     },
     Timer {
         number: SignalId,
-        sorts: &'a [Option<Sort>],
+        sorts: &'s [Option<Sort>],
         /// Whether it can be set without a time.
         has_default: bool,
     },
@@ -93,28 +93,28 @@ pub enum SignalMeaning<'a> {
 
 /// What the name of a process or of a block stands for. A process has the sorts of its formal parameters.
 #[derive(Clone, Copy, Debug)]
-pub enum AgentMeaning<'a> {
+pub enum AgentMeaning<'s> {
     Process {
         number: ProcessId,
-        sorts: &'a [Option<Sort>],
+        sorts: &'s [Option<Sort>],
     },
     Block,
 }
 
 /// What names stand for at a place of the text: what they do in the innermost scope round it that has them.
 #[derive(Clone, Copy)]
-pub struct Scope<'a, 't> {
+pub struct Scope<'a, 's, 't> {
     /// Variables, formal parameters and synonyms.
     pub values: Outward<'a, 't, ValueEntry>,
     /// What each synonym of the specification comes to, by its number.
     pub constants: &'a [Constant],
     /// Signals and timers.
-    pub signals: Outward<'a, 't, SignalMeaning<'a>>,
+    pub signals: Outward<'a, 't, SignalMeaning<'s>>,
     /// Processes and blocks.
-    pub agents: Outward<'a, 't, AgentMeaning<'a>>,
+    pub agents: Outward<'a, 't, AgentMeaning<'s>>,
 }
 
-impl<'a, 't> Scope<'a, 't> {
+impl<'a, 's, 't> Scope<'a, 's, 't> {
     ghost use Rattle.sdl_sorts.specs.Scope.{agent_in, agent_meaning, scope_of, signal_in, signal_meaning, value_in};
 
     /// What a name in an expression stands for.
@@ -125,14 +125,14 @@ impl<'a, 't> Scope<'a, 't> {
     }
 
     /// What the name of a signal or of a timer stands for.
-    pub fn signal(&self, text: &str) -> Option<SignalMeaning<'a>>
+    pub fn signal(&self, text: &str) -> Option<SignalMeaning<'s>>
         ensures { option_map signal_meaning result ≡ signal_in (scope_of self.now) text.now }
     {
         self.signals.get(text)
     }
 
     /// What the name of a process or of a block stands for.
-    pub fn agent(&self, text: &str) -> Option<AgentMeaning<'a>>
+    pub fn agent(&self, text: &str) -> Option<AgentMeaning<'s>>
         ensures { option_map agent_meaning result ≡ agent_in (scope_of self.now) text.now }
     {
         self.agents.get(text)

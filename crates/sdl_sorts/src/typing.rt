@@ -29,7 +29,7 @@ use std::alloc::{AllocError, Global};
 pub fn resolve_in<'t>(
     alloc: Global,
     context: Context,
-    scope: &Scope<'_, 't>,
+    scope: &Scope<'_, '_, 't>,
     expression: &'t Expression,
     faults: &mut Faults<'t>,
 ) -> Result<Option<Typed>, AllocError>
@@ -73,7 +73,7 @@ pub fn resolve_in<'t>(
 fn resolve_chain<'t>(
     alloc: Global,
     context: Context,
-    scope: &Scope<'_, 't>,
+    scope: &Scope<'_, '_, 't>,
     chain: &'t Chain,
     faults: &mut Faults<'t>,
 ) -> Result<Option<Typed>, AllocError>
@@ -96,7 +96,7 @@ fn resolve_chain<'t>(
 fn resolve_link<'t>(
     alloc: Global,
     context: Context,
-    scope: &Scope<'_, 't>,
+    scope: &Scope<'_, '_, 't>,
     left: Option<Left>,
     link: &'t Link,
     faults: &mut Faults<'t>,
@@ -117,7 +117,7 @@ fn resolve_link<'t>(
 pub fn resolve_each<'t>(
     alloc: Global,
     context: Context,
-    scope: &Scope<'_, 't>,
+    scope: &Scope<'_, '_, 't>,
     values: &'t [Expression],
     faults: &mut Faults<'t>,
 ) -> Result<Vec<Argument<'t>>, AllocError>
@@ -162,7 +162,7 @@ fn first_of_chain(chain: &Chain) -> Token<'_>
 
 fn resolve_name<'t>(
     context: Context,
-    scope: &Scope<'_, 't>,
+    scope: &Scope<'_, '_, 't>,
     name: &'t Name,
     faults: &mut Faults<'t>,
 ) -> Option<Typed>
@@ -276,7 +276,7 @@ fn note_active<'t>(context: Context, word: Spelling, faults: &mut Faults<'t>)
 fn resolve_timer<'t>(
     alloc: Global,
     context: Context,
-    scope: &Scope<'_, 't>,
+    scope: &Scope<'_, '_, 't>,
     timer: &'t Name,
     arguments: Vec<Argument<'t>>,
     faults: &mut Faults<'t>,

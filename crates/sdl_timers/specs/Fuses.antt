@@ -1,3 +1,4 @@
+-- What callers see of a wheel.
 use Rattle.std.specs.Prelude.{List}
 use Rattle.inbox.specs.declared.entry.Fuse.{Fuse}
 

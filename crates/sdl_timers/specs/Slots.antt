@@ -1,3 +1,4 @@
+-- How a wheel keeps its fuses.
 use Rattle.std.specs.Prelude.{◌≡◌, ℕ, ◌+◌, ◌%◌, List, [], ◌∷◌, Option, map, length, All}
 use Rattle.std.specs.List.{flat_map}
 use Rattle.inbox.specs.declared.entry.Fuse.{Fuse}

@@ -1,3 +1,4 @@
+-- The tree that knows which slot is due first.
 use Rattle.std.specs.Prelude.{◌≡◌, ℕ, ◌+◌, ◌*◌, ◌<◌, ◌≤◌, List, Option, None, length, slice_index_or}
 use Rattle.sdl_timers.specs.declared.due.Due.{Due}
 use Rattle.sdl_timers.specs.DueOrder.{earlier, IsUpTo}

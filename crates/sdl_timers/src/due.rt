@@ -1,3 +1,5 @@
+//! The order in which fuses are due.
+
 ghost use Rattle.std.specs.Prelude.{◌≡◌, ◌%◌};
 ghost use Rattle.sdl_timers.specs.DueOrder.{due_of, earlier};
 

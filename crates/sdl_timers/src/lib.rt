@@ -1,9 +1,9 @@
 //! The clock of a run and the timers that wait for it (Z.102, timers; Z.104, time).
 //!
-//! A clock is one word that never goes down: one ticker moves it on, and readers in any thread read it. No reader reads back,
-//! and one that the ticker makes has seen the ticker's time.
-//! A wheel holds the fuses of the timers that are set, and gives them out in due order: by their time, then by the number of
-//! their port, then by that of their set.
+//! A clock is one word that never goes down: one ticker moves it on, and readers in any thread read it. No reader
+//! reads back, and one that the ticker makes has seen the ticker's time. A wheel holds the fuses of the timers that
+//! are set, and gives them out in due order: by their time, then by the number of their port, then by that of their
+//! set.
 #![tactic(auto)]
 
 mod due;

@@ -1,3 +1,5 @@
+//! What reads a clock.
+
 ghost use Rattle.std.specs.Prelude.{◌≡◌, ◌≤◌, false, IfOk};
 ghost use Rattle.std.specs.Arc.{arc_value};
 

@@ -1,3 +1,5 @@
+//! The fuses of one slot of a wheel.
+
 ghost use Rattle.std.specs.Prelude.{◌≡◌, [], ◌∷◌, length, IfErr, MatchOption, OnErr, OnOk};
 ghost use Rattle.sdl_timers.specs.DueOrder.{first_of, with_fuse, IsInOrder};
 

@@ -1,3 +1,5 @@
+//! What moves a clock on.
+
 ghost use Rattle.std.specs.Prelude.{◌≡◌, max, IfOk};
 
 use crate::Reader;
@@ -41,7 +43,8 @@ impl Ticker {
     pub fn advance(&mut self, to: u64)
         ensures { self.new ≡ max self.old to }
     {
-        // Before: the word is what the ticker has seen. After: it is the greater of that and `to`, and the ticker has seen it.
+        // Before: the word is what the ticker has seen. After: it is the greater of that and `to`, and the ticker has
+        // seen it.
         self.word.shared.fetch_max::<Raise>(&mut self.seat, 0, to);
     }
 

@@ -1,11 +1,13 @@
+//! Which slot of a wheel is due first.
+
 ghost use Rattle.std.specs.Prelude.{◌≡◌, None, replicate, slice_set};
 ghost use Rattle.sdl_timers.specs.Tournament.{IsLeastOf};
 
 use crate::due::{Due, earlier};
 use std::marker::Model;
 
-/// Which of 256 entrants is due first. Node 1 is the root of a tree; below the node n stand the nodes 2n and 2n + 1, and each
-/// node has the earlier of these two. The entrants are the leaves, from node 256 on.
+/// Which of 256 entrants is due first. Node 1 is the root of a tree; below the node n stand the nodes 2n and 2n + 1,
+/// and each node has the earlier of these two. The entrants are the leaves, from node 256 on.
 #[derive(Drop)]
 pub struct Tournament {
     nodes: [Option<Due>; 512],

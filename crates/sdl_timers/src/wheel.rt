@@ -1,3 +1,5 @@
+//! The timers that are set, in due order.
+
 ghost use Rattle.std.specs.Prelude.{◌≡◌, ◌%◌, [], nat_eq, count_by, map, All, IfErr, IfSome, OnErr, OnOk, false};
 ghost use Rattle.port_model.specs.Timers.{IsLeast};
 ghost use Rattle.sdl_timers.specs.DueOrder.{is_before, with_fuse, Fires};
@@ -10,8 +12,8 @@ use std::alloc::{AllocError, Global};
 use std::array;
 use std::marker::Model;
 
-/// The fuses of the timers that are set. A fuse waits in the slot `due mod 256`, in due order among the others there, and a
-/// tournament of the slots' first fuses tells which of all fuses is due first.
+/// The fuses of the timers that are set. A fuse waits in the slot `due mod 256`, in due order among the others there,
+/// and a tournament of the slots' first fuses tells which of all fuses is due first.
 #[derive(Drop)]
 pub struct Wheel {
     slots: [Slot; 256],
@@ -40,7 +42,8 @@ impl Wheel {
         }
     }
 
-    /// Arms a fuse: it waits behind all that it isn't due before. For want of memory the fuse comes back, and nothing changes.
+    /// Arms a fuse: it waits behind all that it isn't due before. For want of memory the fuse comes back, and nothing
+    /// changes.
     pub fn arm(&mut self, fuse: Fuse) -> Result<(), (AllocError, Fuse)>
         ensures ok { OnOk result (self.new ≡ with_fuse fuse self.old) }
         ensures err { OnErr result (self.new ≡ self.old) }

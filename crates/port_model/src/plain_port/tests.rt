@@ -1,5 +1,5 @@
-//! The number of sets, which the contracts take from the code: a test alone says that it is 2^62. It stands here since no
-//! other crate can bring a port near to it.
+//! The number of sets, which the contracts take from the code: a test alone says that it is 2^62. It stands here since
+//! no other crate can bring a port near to it.
 
 use super::{MOST_SETS, PlainPort};
 use crate::{PortError, SignalId, TimerKey, Value, Values};

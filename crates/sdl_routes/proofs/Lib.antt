@@ -1,0 +1,12 @@
+pub mod AddLemmas
+pub mod Bits
+pub mod Complete
+pub mod EachLemmas
+pub mod FlowLemmas
+pub mod GraphLemmas
+pub mod LinkLemmas
+pub mod ListLemmas
+pub mod NodeLemmas
+pub mod PassLemmas
+pub mod PathLemmas
+pub mod Sound

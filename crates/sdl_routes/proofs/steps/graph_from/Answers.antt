@@ -1,0 +1,26 @@
+use Rattle.std.proofs.Common.{◌≡◌, ℕ, ◌⊎◌, get_or, false, subst, inl, inr}
+use Rattle.sdl_routes.specs.Each.{ForSome}
+use Rattle.sdl_routes.specs.Graph.{Adds}
+use Rattle.sdl_routes.specs.Steps.{AllSteps, ConnectSteps, PathSteps, ProcessSteps}
+use Rattle.sdl_routes.proofs.AddLemmas.{adds_either, just_added}
+use Rattle.sdl_routes.proofs.steps.graph_from.Goals as goal
+
+pub returns : goal.returns
+returns c =
+    let rows0 = c.new-graph.result.rows.items in
+    let rows1 = c.add_paths.new.graph.rows.items in
+    let rows2 = c.add_connects.new.graph.rows.items in
+    let rows3 = c.add_processes.new.graph.rows.items in
+    just_added (AllSteps c.args.network.now c.args.named.now c.args.source) rows0 c.add_scope.new.graph.rows.items c.new-graph.ensures
+    (adds_either _ _ _ _ _
+    (subst (λ x. Adds (λ from step. ForSome x (λ n path. PathSteps c.args.source (get_or c.args.named.now n false) n path from step)) rows0 rows1)
+    c.deref.ensures.value c.in_ok-add_paths.ensures)
+    (adds_either _ _ _ _ _
+    (subst (λ x. Adds (λ from step. ForSome c.args.network.now.connects.items (λ k connect. ConnectSteps x k connect from step)) rows1 rows2)
+    c.deref-2.ensures.value
+    (subst (λ x. Adds (λ from step. ForSome x (λ k connect. ConnectSteps c.deref-2.result.now k connect from step)) rows1 rows2)
+    c.deref-3.ensures.value c.in_ok-add_connects.ensures))
+    (adds_either _ _ _ _ _
+    (subst (λ x. Adds (λ from step. ForSome x (λ q process. ProcessSteps c.args.network.now c.args.source q process from step)) rows2 rows3)
+    c.deref-4.ensures.value c.in_ok-add_processes.ensures)
+    (adds_either _ _ _ _ _ c.in_ok-add_blocks.ensures c.in_ok-add_scope.ensures))))

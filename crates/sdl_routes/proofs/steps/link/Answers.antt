@@ -1,0 +1,14 @@
+use Rattle.std.proofs.Common.{◌≡◌, ℕ, ◌⊎◌, ◌<◌, ◌&&◌, not, Bool, false, List, Option, None, Some, OnOk, slice_get, get_or, length, ap, ◌∙◌, sym, subst, arith, refl, inl, inr}
+use Rattle.sdl_routes.specs.Nodes.{number}
+use Rattle.sdl_routes.specs.Graph.{Adds}
+use Rattle.sdl_routes.specs.Steps.{Link}
+use Rattle.sdl_routes.proofs.steps.link.Goals as goal
+
+pub returns-in-Some-to : goal.returns-in-Some-to
+returns-in-Some-to c =
+    let old = c.args.graph.now.rows.items in
+    let new = c.add.new.self.rows.items in
+    subst (λ f. OnOk c.add.result (Adds (Link f c.args.to c.args.only) old new)) (sym c.in-Some.is)
+    (subst (λ t. OnOk c.add.result (Adds (Link (Some c.in-Some.before) t c.args.only) old new)) (sym c.in-Some-to.is)
+    (subst (λ x. OnOk c.add.result (Adds (λ n step. (n ≡ x) × (step ≡ record { to = number c.in-Some-to.after; only = c.args.only })) old new)) c.number-begin.ensures
+    (subst (λ y. OnOk c.add.result (Adds (λ n step. (n ≡ c.number-begin.result) × (step ≡ record { to = y; only = c.args.only })) old new)) c.number-end.ensures c.add.ensures)))

@@ -1,0 +1,9 @@
+pub mod Each
+pub mod Graph
+pub mod Mask
+pub mod Nodes
+pub mod Passing
+pub mod Paths
+pub mod Reached
+pub mod SignalLists
+pub mod Steps
