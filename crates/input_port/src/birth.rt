@@ -12,8 +12,15 @@ use std::alloc::Global;
 pub fn port(alloc: Global, pid: u32) -> Result<(Port, Owner, Desk), PortError>
     ensures error { MatchResult result (λ _. Unit {0}) (λ error. error ≡ PortError.Memory) }
     ensures port { MatchResult result (λ made. made.0.pid ≡ pid) (λ _. Unit {0}) }
-    ensures owner { MatchResult result (λ made. made.1 ≡ record { port = made.0.queue; pid = pid; drawn = [];
-        known = []; gathered = []; state = empty_port; armed = [] }) (λ _. Unit {0}) }
+    ensures owner { MatchResult result (λ made. made.1 ≡ record {
+      port = made.0.queue;
+      pid = pid;
+      drawn = [];
+      known = [];
+      gathered = [];
+      state = empty_port;
+      armed = [];
+    }) (λ _. Unit {0}) }
     ensures desk { MatchResult result (λ made. made.2 ≡ record { port = made.0.queue; given = 0 }) (λ _. Unit {0}) }
 {
     let Ok((queue, mut pass)) = steps::open(alloc) else {

@@ -51,8 +51,11 @@ impl Desk {
     pub fn sender(&mut self, port: &Port) -> Result<Sender, PortError>
         requires { self.old.port ≡ port.now.queue }
         ensures port { self.new.port ≡ self.old.port }
-        ensures sender { MatchResult result (λ s. (s ≡ record { port = self.old.port; number = self.old.given + 1;
-            seen = [] }) × (self.new.given ≡ self.old.given + 1) × (self.old.given < 1001))
+        ensures sender { MatchResult result (λ s. (s ≡ record {
+          port = self.old.port;
+          number = self.old.given + 1;
+          seen = [];
+        }) × (self.new.given ≡ self.old.given + 1) × (self.old.given < 1001))
             (λ error. (error ≡ PortError.TooManySenders) × (self.new ≡ self.old) × (1001 ≤ self.old.given)) }
     {
         if self.given >= MOST_SENDERS {

@@ -40,8 +40,15 @@ impl Owner {
     pub(crate) fn new(alloc: Global, pid: u32, pass: Pass) -> Self
         requires view { pass.me.view.client ≡ owner [] [] [] [] }
         requires free { (pass.me.hand ≡ None) × (pass.me.spare ≡ None) }
-        ensures { result ≡ record { port = record { web = pass.web; heap = pass.heap }; pid = pid; drawn = [];
-            known = []; gathered = []; state = empty_port; armed = [] } }
+        ensures { result ≡ record {
+          port = record { web = pass.web; heap = pass.heap };
+          pid = pid;
+          drawn = [];
+          known = [];
+          gathered = [];
+          state = empty_port;
+          armed = [];
+        } }
     {
         Owner {
             drawer: Drawer::new(alloc, pid, pass),

@@ -33,8 +33,11 @@ impl Model for Sender {
 
     ghost Value = { SenderState };
 
-    ghost view = { λ s. record { port = record { web = s.pass.web; heap = s.pass.heap }; number = s.number;
-        seen = s.pass.me.view.client.seen } };
+    ghost view = { λ s. record {
+      port = record { web = s.pass.web; heap = s.pass.heap };
+      number = s.number;
+      seen = s.pass.me.view.client.seen;
+    } };
 
     ghost invariant = { λ s. IsOfSender s.pass.me.view.client s.number s.count s.signals × (s.pass.me.hand ≡ None)
         × (s.pass.me.spare ≡ None) };
@@ -136,8 +139,11 @@ impl Sender {
     pub(crate) fn again(pass: Pass, number: u32, count: u64, signals: u64) -> Self
         requires view { IsOfSender pass.me.view.client number count signals }
         requires free { (pass.me.hand ≡ None) × (pass.me.spare ≡ None) }
-        ensures { result ≡ record { port = record { web = pass.web; heap = pass.heap }; number = number;
-            seen = pass.me.view.client.seen } }
+        ensures { result ≡ record {
+          port = record { web = pass.web; heap = pass.heap };
+          number = number;
+          seen = pass.me.view.client.seen;
+        } }
     {
         Sender {
             pass,

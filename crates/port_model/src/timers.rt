@@ -82,8 +82,11 @@ impl Timers {
         ensures active { MatchOption result (is_active key.now self.now.timers ≡ false)
             (λ _. is_active key.now self.now.timers ≡ true) }
         ensures armed { MatchOption result (armed_for key.now self.now.armed ≡ [])
-            (λ timer. armed_for key.now self.now.armed ≡ record { key = key.now; arm = timer.arm;
-            due = timer.due } ∷ []) }
+            (λ timer. armed_for key.now self.now.armed ≡ record {
+              key = key.now;
+              arm = timer.arm;
+              due = timer.due;
+            } ∷ []) }
     {
         match self.table.get(key) {
             None => None,
@@ -107,8 +110,10 @@ impl Timers {
     pub fn set(&mut self, key: TimerKey, arm: u64, due: u64) -> Result<Option<TimerKey>, AllocError>
         requires { All (λ (armed : Armed). armed.arm < arm) self.old.armed }
         ensures timers { MatchResult result
-            (λ _. self.new.timers ≡ without_key key self.old.timers ++ record { key = key;
-            phase = Running arm due } ∷ []) (λ _. self.new ≡ self.old) }
+            (λ _. self.new.timers ≡ without_key key self.old.timers ++ record {
+              key = key;
+              phase = Running arm due;
+            } ∷ []) (λ _. self.new ≡ self.old) }
         ensures armed { MatchResult result (λ _. self.new.armed ≡ without_armed key self.old.armed ++ record { key = key; arm = arm; due = due } ∷ []) (λ _. self.new ≡ self.old) }
         ensures waited { MatchResult result (λ back. MatchOption back (waits key self.old.timers ≡ false)
             (λ k. (k ≡ key) × (waits key self.old.timers ≡ true))) (λ _. Unit {0}) }
@@ -126,8 +131,10 @@ impl Timers {
         requires inactive { is_active key self.old.timers ≡ false }
         requires later { All (λ (armed : Armed). armed.arm < arm) self.old.armed }
         ensures timers { MatchResult result
-            (λ _. self.new.timers ≡ without_key key self.old.timers ++ record { key = key;
-            phase = Running arm due } ∷ []) (λ _. self.new ≡ self.old) }
+            (λ _. self.new.timers ≡ without_key key self.old.timers ++ record {
+              key = key;
+              phase = Running arm due;
+            } ∷ []) (λ _. self.new ≡ self.old) }
         ensures armed { MatchResult result (λ _. self.new.armed ≡ without_armed key self.old.armed ++ record { key = key; arm = arm; due = due } ∷ []) (λ _. self.new ≡ self.old) }
     {
         if let Err(_) = self.deadlines.insert((due, arm)) {
@@ -150,8 +157,10 @@ impl Timers {
         requires active { is_active key.now self.old.timers ≡ true }
         requires later { All (λ (armed : Armed). armed.arm < arm) self.old.armed }
         ensures timers { MatchResult result
-            (λ _. self.new.timers ≡ without_key key.now self.old.timers ++ record { key = key.now;
-            phase = Running arm due } ∷ []) (λ _. self.new ≡ self.old) }
+            (λ _. self.new.timers ≡ without_key key.now self.old.timers ++ record {
+              key = key.now;
+              phase = Running arm due;
+            } ∷ []) (λ _. self.new ≡ self.old) }
         ensures armed { MatchResult result (λ _. self.new.armed ≡ without_armed key.now self.old.armed ++ record { key = key.now; arm = arm; due = due } ∷ []) (λ _. self.new ≡ self.old) }
         ensures waited { IfOk result (λ waited. waited ≡ waits key.now self.old.timers) }
     {

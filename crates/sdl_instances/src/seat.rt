@@ -26,8 +26,13 @@ impl Model for Seat {
 
     ghost Value = { SeatState };
 
-    ghost view = { λ s. record { table = s.place.table_id; parts = s.place.me.0.parts; left = s.left;
-        drawn = s.place.me.0.drawn; seen = s.place.me.0.seen } };
+    ghost view = { λ s. record {
+      table = s.place.table_id;
+      parts = s.place.me.0.parts;
+      left = s.left;
+      drawn = s.place.me.0.drawn;
+      seen = s.place.me.0.seen;
+    } };
 
     ghost invariant = { λ s. IsSeat s.place.table_id s.place.me s.left s.seen };
 }
@@ -35,8 +40,13 @@ impl Model for Seat {
 impl Seat {
     pub(crate) fn new(place: Place, left: u32, seen: u32) -> Self
         requires { IsSeat place.table_id place.me left seen }
-        ensures { result ≡ record { table = place.table_id; parts = place.me.0.parts; left = left;
-            drawn = place.me.0.drawn; seen = seen } }
+        ensures { result ≡ record {
+          table = place.table_id;
+          parts = place.me.0.parts;
+          left = left;
+          drawn = place.me.0.drawn;
+          seen = seen;
+        } }
     {
         Seat { place, left, seen }
     }
@@ -59,8 +69,13 @@ impl Seat {
             × (self.new.seen ≡ self.old.seen) }
         ensures rights { MatchOption result ((self.old.left ≡ 0) × (self.new ≡ self.old))
             (λ _. (self.old.left ≡ self.new.left + 1) × (self.old.parts ≡ self.new.parts + 1)) }
-        ensures seat { IfSome result (λ seat. seat ≡ record { table = self.old.table; parts = 1; left = 0;
-            drawn = []; seen = self.old.seen }) }
+        ensures seat { IfSome result (λ seat. seat ≡ record {
+          table = self.old.table;
+          parts = 1;
+          left = 0;
+          drawn = [];
+          seen = self.old.seen;
+        }) }
     {
         if self.left == 0 {
             return None;

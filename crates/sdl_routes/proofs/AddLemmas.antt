@@ -1,5 +1,5 @@
 -- Steps that are added one after the other.
-use Rattle.std.proofs.Common.{◌≡◌, ℕ, ◌⊎◌, ◌↔◌, List, inl, inr}
+use Rattle.std.proofs.Common.{ℕ, ◌⊎◌, ◌↔◌, List, inl, inr}
 use Rattle.sdl_routes.specs.Graph.{Adds, Leads}
 use Rattle.sdl_routes.specs.declared.graph.Row.{Row}
 use Rattle.sdl_routes.specs.declared.graph.Step.{Step}

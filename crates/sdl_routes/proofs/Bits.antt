@@ -1,7 +1,6 @@
 -- The signals of masks that were joined, and of masks that were cut by another.
-use Rattle.std.proofs.Common.{◌≡◌, ℕ, ◌⊎◌, ◌-◌, ◌^◌, ◌<◌, ◌≤◌, ◌≢◌, arith, inl, inr, subst}
+use Rattle.std.proofs.Common.{ℕ, ◌⊎◌, arith}
 use Rattle.std.specs.Prelude.{bit_and, bit_or}
-use Rattle.std.specs.Int.{bit_at}
 use Rattle.std.proofs.lemmas.Nat.Bits.{bit_at_and, bit_at_or, bit_at-zero, bit_at-lt}
 use Rattle.sdl_routes.specs.Mask.{Bit}
 

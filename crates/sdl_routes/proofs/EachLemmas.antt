@@ -1,9 +1,9 @@
 -- What holds of some of the first elements of a list, and of one more.
-use Rattle.std.proofs.Common.{◌≡◌, ℕ, ◌⊎◌, ◌+◌, ◌<◌, ◌≤◌, ◌↔◌, List, Some, slice_get, length, arith, inl, inr, sym, subst, ◌∙◌, ap}
+use Rattle.std.proofs.Common.{◌≡◌, ℕ, ◌⊎◌, ◌+◌, ◌≤◌, ◌↔◌, List, Some, slice_get, length, arith, inl, inr, sym, subst, ◌∙◌, ap}
 use Rattle.std.proofs.lemmas.Bool.{cases_eq}
 use Rattle.std.proofs.lemmas.Option.{slice_get_within}
 use Rattle.sdl_routes.specs.Each.{ForSome, ForSomeBelow}
-use Rattle.sdl_routes.specs.Graph.{Adds, Leads}
+use Rattle.sdl_routes.specs.Graph.{Adds}
 use Rattle.sdl_routes.specs.declared.graph.Row.{Row}
 use Rattle.sdl_routes.specs.declared.graph.Step.{Step}
 use Rattle.sdl_routes.proofs.AddLemmas.{adds_more, adds_nothing, adds_same}
@@ -64,3 +64,11 @@ adds_all xs i P a b all adds =
     adds_same (λ from step. ForSomeBelow xs i (λ n x. P n x from step)) (λ from step. ForSome xs (λ n x. P n x from step)) a b adds
     (λ from step some. (below_all xs i (λ n x. P n x from step) all).0 some)
     (λ from step some. (below_all xs i (λ n x. P n x from step) all).1 some)
+
+-- a search through a list
+pub none_more : {X : Type 0} (xs : List X) (i : ℕ) (y : X) (P : ℕ → X → Type 0) → slice_get xs i ≡ Some y → (ForSomeBelow xs i P → ⊥) → (P i y → ⊥)
+    → ForSomeBelow xs (i + 1) P → ⊥
+none_more xs i y P here before last some = elim (below_cases xs i y P here some) [ inl first ↦ before first | inr at ↦ last at ]
+
+pub none_all : {X : Type 0} (xs : List X) (i : ℕ) (P : ℕ → X → Type 0) → length xs ≤ i → (ForSomeBelow xs i P → ⊥) → ForSome xs P → ⊥
+none_all xs i P all none some = none ((below_all xs i P all).0 some)

@@ -1,10 +1,10 @@
 -- A flow as it goes on, and when it has come to its end.
-use Rattle.std.proofs.Common.{◌≡◌, ℕ, zero, suc, ◌⊎◌, ◌<◌, ◌≤◌, ◌++◌, ◌↔◌, drop, take, List, [], ◌∷◌, length, get_or, arith, inl, inr, subst, sym, refl, ◌∙◌}
+use Rattle.std.proofs.Common.{◌≡◌, ℕ, zero, suc, ◌≤◌, ◌++◌, ◌↔◌, drop, take, List, [], ◌∷◌, length, get_or, arith, inl, inr, subst, sym, refl}
 use Rattle.std.specs.List.{Contains}
 use Rattle.std.proofs.lemmas.Grind.{common_steps}
 use Rattle.std.proofs.lemmas.List.Elements.{Contains-push_cases}
 use Rattle.sdl_routes.specs.Graph.{Flows, Leads, row}
-use Rattle.sdl_routes.specs.Mask.{Bit, Has, Lets}
+use Rattle.sdl_routes.specs.Mask.{Bit, Has}
 use Rattle.sdl_routes.specs.Passing.{ComesBy, IsFlowing, Passes}
 use Rattle.sdl_routes.specs.declared.graph.Row.{Row}
 use Rattle.sdl_routes.specs.declared.graph.Step.{Step}

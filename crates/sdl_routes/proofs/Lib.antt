@@ -6,6 +6,7 @@ pub mod FlowLemmas
 pub mod GraphLemmas
 pub mod LinkLemmas
 pub mod ListLemmas
+pub mod NamedLemmas
 pub mod NodeLemmas
 pub mod PassLemmas
 pub mod PathLemmas

@@ -1,6 +1,5 @@
 -- Steps between nodes.
-use Rattle.std.proofs.Common.{◌≡◌, ℕ, ◌⊎◌, Bool, List, Option, None, Some, slice_get, ap, ◌∙◌, subst, arith, refl}
-use Rattle.std.proofs.lemmas.Option.{slice_get_within}
+use Rattle.std.proofs.Common.{◌≡◌, ℕ, Bool, List, Option, Some, slice_get, ap, ◌∙◌, subst, refl}
 use Rattle.sdl_routes.specs.Graph.{Adds}
 use Rattle.sdl_routes.specs.Steps.{AtPath, JointSteps, Link, node_if, option_if}
 use Rattle.sdl_routes.specs.declared.graph.Row.{Row}

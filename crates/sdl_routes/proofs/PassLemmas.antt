@@ -1,7 +1,7 @@
 -- What one step, and one step after another, pass on.
 use Rattle.std.proofs.Common.{◌≡◌, ◌≢◌, ℕ, ◌⊎◌, ◌+◌, ◌-◌, ◌^◌, ◌<◌, ◌≤◌, ◌++◌, List, [], ◌∷◌, length, set, get_or, arith, inl, inr, subst, sym, refl, ap, ◌∙◌}
 use Rattle.std.specs.Prelude.{bit_or}
-use Rattle.std.specs.List.{Contains, sum_by}
+use Rattle.std.specs.List.{Contains}
 use Rattle.std.proofs.lemmas.Bool.{cases_eq, cases_lt}
 use Rattle.std.proofs.lemmas.List.{get_or_default, get_or_past, get_or-set_other, get_or-set_same, length-set, length_push}
 use Rattle.std.proofs.lemmas.List.Elements.{Contains-append_left, Contains-push}

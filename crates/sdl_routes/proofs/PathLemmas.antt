@@ -1,10 +1,10 @@
 -- What flows from a source, and to whom paths lead.
-use Rattle.std.proofs.Common.{◌≡◌, ℕ, zero, suc, ◌<◌, ◌-◌, ◌^◌, ◌/◌, ◌%◌, ◌↔◌, Bool, List, [], ◌∷◌, Option, None, Some, get_or, refl, sym, subst, arith, ap, ◌∙◌}
+use Rattle.std.proofs.Common.{◌≡◌, ℕ, zero, suc, ◌<◌, ◌-◌, ◌^◌, ◌/◌, ◌%◌, ◌↔◌, Bool, List, [], ◌∷◌, Option, None, Some, refl, sym, subst}
 use Rattle.port_model.specs.declared.item.SignalId.{SignalId}
 use Rattle.sdl_system.specs.declared.id.ProcessId.{ProcessId}
 use Rattle.std.proofs.lemmas.Nat.Bits.{bit_at_ones}
 use Rattle.sdl_routes.specs.Graph.{Flows, Leads}
-use Rattle.sdl_routes.specs.Mask.{Bit, Has, Lets}
+use Rattle.sdl_routes.specs.Mask.{Has, Lets}
 use Rattle.sdl_routes.specs.Nodes.{number}
 use Rattle.sdl_routes.specs.Paths.{IsSource, Path}
 use Rattle.sdl_routes.specs.Reached.{AreFlags, Passes}
@@ -17,7 +17,6 @@ use Rattle.sdl_routes.specs.declared.list.ListId.{ListId}
 use Rattle.sdl_routes.specs.declared.network.End.TheVariants as at
 use Rattle.sdl_routes.specs.declared.network.Network.{Network}
 use Rattle.sdl_routes.specs.declared.network.Source.{Source}
-use Rattle.sdl_routes.specs.declared.node.Node as node
 use Rattle.sdl_routes.specs.declared.node.Node.TheVariants as nodes
 use Rattle.sdl_routes.proofs.Bits.{no_bit}
 use Rattle.sdl_routes.proofs.Complete.{HasSteps, env_complete, process_complete}

@@ -1,5 +1,5 @@
 -- A signal comes to a node only as the node says.
-use Rattle.std.proofs.Common.{◌≡◌, ◌≢◌, ℕ, ◌⊎◌, ◌<◌, ◌&&◌, not, Bool, true, false, List, Option, None, Some, slice_get, get_or, length, ap, ◌∙◌, sym, subst, arith, refl, inl, inr}
+use Rattle.std.proofs.Common.{◌≡◌, ◌≢◌, ℕ, ◌<◌, ◌&&◌, not, Bool, true, false, List, Option, None, Some, slice_get, get_or, length, ap, ◌∙◌, sym, subst, refl, inl, inr}
 use Rattle.port_model.specs.declared.item.SignalId.{SignalId}
 use Rattle.std.proofs.lemmas.Bool.{and_parts, cases_eq, eqb-true, eq-eqb, false≢true, not-true}
 use Rattle.std.specs.Prelude.{if◌then◌else◌}
@@ -11,9 +11,8 @@ use Rattle.sdl_routes.specs.Nodes.{number}
 use Rattle.sdl_routes.specs.declared.graph.Row.{Row}
 use Rattle.sdl_routes.specs.Paths.{Accepts, By, Carries, Goes, Implied, IsImplied, IsNamed, IsSender, IsSource, Joined, StandsIn, Way}
 use Rattle.sdl_routes.specs.Reached.{AreFlags, ComesOut, IsFree, Passes, Reached}
-use Rattle.sdl_routes.specs.Steps.{AllSteps, AtPath, BlockSteps, ConnectSteps, JointSteps, Link, PathSteps, ProcessSteps, ScopeSteps, SideSteps, arrives, begin_of, departs, end_of, first_of, from_block, is_implied, is_implied_block, node_if, on_first, on_implied, option_if, same_end, same_scope, touches}
+use Rattle.sdl_routes.specs.Steps.{AllSteps, BlockSteps, JointSteps, Link, PathSteps, ProcessSteps, ScopeSteps, begin_of, departs, end_of, first_of, from_block, is_implied, is_implied_block, node_if, on_first, on_implied, option_if, same_end, same_scope, touches}
 use Rattle.sdl_routes.specs.declared.graph.Step.{Step}
-use Rattle.sdl_routes.specs.declared.joint.Side as side
 use Rattle.sdl_routes.specs.declared.joint.Side.TheVariants as which
 use Rattle.sdl_routes.specs.declared.list.ListId.{ListId}
 use Rattle.sdl_routes.specs.declared.network.Block.{Block}

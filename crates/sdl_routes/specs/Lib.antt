@@ -4,6 +4,7 @@ pub mod Mask
 pub mod Nodes
 pub mod Passing
 pub mod Paths
+pub mod Reach
 pub mod Reached
 pub mod SignalLists
 pub mod Steps

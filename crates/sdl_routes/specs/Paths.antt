@@ -1,7 +1,6 @@
 -- On which ways a signal goes from whom to whom (Z.101: channel, connection; for implied channels see below).
-use Rattle.std.specs.Prelude.{◌≡◌, ◌≢◌, ℕ, ◌<◌, true, List, Some, slice_get, length}
+use Rattle.std.specs.Prelude.{◌≡◌, ◌≢◌, ℕ, ◌<◌, true, Some, slice_get, length}
 use Rattle.port_model.specs.declared.item.SignalId.{SignalId}
-use Rattle.sdl_system.specs.declared.id.ProcessId.{ProcessId}
 use Rattle.sdl_routes.specs.Each.{ForSome}
 use Rattle.sdl_routes.specs.SignalLists.{StandsFor}
 use Rattle.sdl_routes.specs.declared.network.Block.{Block}

@@ -1,5 +1,5 @@
 -- What it means that a signal has come to a node.
-use Rattle.std.specs.Prelude.{◌≡◌, ◌≢◌, ◌⊎◌, ℕ, List, None, Some, Option, slice_get, get_or, true, false, Bool}
+use Rattle.std.specs.Prelude.{◌≡◌, ◌≢◌, ◌⊎◌, ℕ, List, None, Some, Option, slice_get, get_or, false, Bool}
 use Rattle.port_model.specs.declared.item.SignalId.{SignalId}
 use Rattle.sdl_routes.specs.Paths.{By, Goes, Implied, IsNamed, StandsIn, Way}
 use Rattle.sdl_routes.specs.SignalLists.{StandsFor}

@@ -1,6 +1,5 @@
 -- The steps of the graph in which signals flow from a source.
 use Rattle.std.specs.Prelude.{◌≡◌, ℕ, ◌⊎◌, ◌&&◌, not, Bool, true, false, List, None, Some, Option, slice_get, get_or, nat_eq, if◌then◌else◌}
-use Rattle.sdl_system.specs.declared.id.ProcessId.{ProcessId}
 use Rattle.sdl_routes.specs.Each.{ForSome}
 use Rattle.sdl_routes.specs.Nodes.{number}
 use Rattle.sdl_routes.specs.declared.graph.Step.{Step}

@@ -311,7 +311,7 @@ fn option_if(is: bool, node: Option<Node>) -> Option<Node>
 }
 
 /// The number as one of 32 bits. There is no memory for more.
-fn counted(number: usize) -> Result<u32, AllocError>
+pub(crate) fn counted(number: usize) -> Result<u32, AllocError>
     ensures { IfOk result (λ counted. counted ≡ number) }
 {
     match u32::try_from(number) {

@@ -1,4 +1,4 @@
-use Rattle.std.proofs.Common.{◌≡◌, ℕ, ◌<◌}
+use Rattle.std.proofs.Common.{ℕ, ◌<◌}
 use Rattle.std.specs.List.{Contains}
 use Rattle.sdl_routes.specs.Mask.{Has}
 use Rattle.sdl_routes.proofs.graph.begun.Given as goal

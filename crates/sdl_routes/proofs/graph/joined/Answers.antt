@@ -1,4 +1,3 @@
-use Rattle.std.proofs.Common.{ℕ}
 use Rattle.std.proofs.lemmas.Nat.{or_lt}
 use Rattle.sdl_routes.proofs.graph.joined.Goals as goal
 

@@ -1,4 +1,4 @@
-use Rattle.std.proofs.Common.{◌≡◌, ℕ, subst, sym, Some}
+use Rattle.std.proofs.Common.{subst, sym}
 use Rattle.sdl_routes.specs.Mask.{Bit, Lets}
 use Rattle.sdl_routes.proofs.Bits.{and_both, and_left, and_right}
 use Rattle.sdl_routes.proofs.graph.let_through.Goals as goal

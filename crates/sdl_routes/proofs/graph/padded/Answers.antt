@@ -1,4 +1,4 @@
-use Rattle.std.proofs.Common.{◌≡◌, ℕ, get_or, ◌∙◌, ap}
+use Rattle.std.proofs.Common.{get_or, ◌∙◌, ap}
 use Rattle.sdl_routes.proofs.FlowLemmas.{zero_push}
 use Rattle.sdl_routes.proofs.graph.padded.Goals as goal
 

@@ -1,4 +1,4 @@
-use Rattle.std.proofs.Common.{◌≡◌, ℕ, arith, sym, subst, ap, refl}
+use Rattle.std.proofs.Common.{refl}
 use Rattle.sdl_routes.specs.Passing.{ComesBy}
 use Rattle.sdl_routes.proofs.PassLemmas.{raises, stays}
 use Rattle.sdl_routes.proofs.graph.pass.Goals as goal

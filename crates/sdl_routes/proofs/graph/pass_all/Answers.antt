@@ -1,4 +1,4 @@
-use Rattle.std.proofs.Common.{◌≡◌, ℕ, ◌<◌, ◌⊎◌, ◌+◌, None, get_or, length, arith, inl, inr, sym, subst, refl}
+use Rattle.std.proofs.Common.{◌≡◌, ◌<◌, ◌+◌, None, get_or, length, arith, inl, inr, subst}
 use Rattle.std.proofs.lemmas.List.{get_or_default}
 use Rattle.sdl_routes.specs.Passing.{AmongFirst, ComesBy, Passes}
 use Rattle.sdl_routes.specs.declared.graph.Step.{Step}

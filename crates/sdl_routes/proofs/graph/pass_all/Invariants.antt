@@ -1,4 +1,3 @@
-use Rattle.std.proofs.Common.{ℕ}
 use Rattle.sdl_routes.specs.Passing.{AmongFirst, ComesBy, Passes}
 use Rattle.sdl_routes.specs.declared.graph.Step.{Step}
 use Rattle.sdl_routes.proofs.graph.pass_all.Given as goal

@@ -1,4 +1,4 @@
-use Rattle.std.proofs.Common.{◌≡◌, ℕ, ◌↔◌, ◌++◌, ◌∷◌, [], List, ◌-◌, ◌^◌, ◌<◌, ◌%◌, ◌/◌, None, Some, Option, ap, ◌∙◌, sym, subst, arith}
+use Rattle.std.proofs.Common.{◌++◌, ◌∷◌, [], ◌-◌, ◌^◌, ◌%◌, ap, ◌∙◌, sym, arith}
 use Rattle.sdl_routes.specs.SignalLists.{column}
 use Rattle.sdl_routes.proofs.PathLemmas.{env_reached, opens, process_reached, starts_at, starts_with}
 use Rattle.sdl_routes.proofs.routes.reached_from.Goals as goal

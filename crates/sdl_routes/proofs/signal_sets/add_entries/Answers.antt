@@ -1,4 +1,4 @@
-use Rattle.std.proofs.Common.{ℕ, get_or, length}
+use Rattle.std.proofs.Common.{get_or}
 use Rattle.std.proofs.lemmas.Option.{slice_get-get_or}
 use Rattle.sdl_routes.specs.SignalLists.{EntryStep}
 use Rattle.sdl_routes.specs.declared.list.Item.TheVariants as item

@@ -1,4 +1,4 @@
-use Rattle.std.proofs.Common.{◌≡◌, ℕ, OnOk, sym, subst}
+use Rattle.std.proofs.Common.{OnOk, sym, subst}
 use Rattle.sdl_routes.specs.Graph.{Adds}
 use Rattle.sdl_routes.specs.SignalLists.{EntryStep}
 use Rattle.sdl_routes.proofs.signal_sets.add_entry.Goals as goal

@@ -1,4 +1,4 @@
-use Rattle.std.proofs.Common.{ℕ, length, refl, subst}
+use Rattle.std.proofs.Common.{length, refl, subst}
 use Rattle.std.proofs.lemmas.Option.{slice_get_read}
 use Rattle.sdl_routes.specs.Graph.{Adds}
 use Rattle.sdl_routes.specs.SignalLists.{EntrySteps}

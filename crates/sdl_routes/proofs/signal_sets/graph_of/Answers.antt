@@ -1,4 +1,4 @@
-use Rattle.std.proofs.Common.{ℕ, inl, inr}
+use Rattle.std.proofs.Common.{inl, inr}
 use Rattle.sdl_routes.proofs.signal_sets.graph_of.Goals as goal
 
 pub returns : goal.returns

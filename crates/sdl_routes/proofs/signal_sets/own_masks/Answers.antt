@@ -1,4 +1,4 @@
-use Rattle.std.proofs.Common.{◌≡◌, ℕ, ◌↔◌, length, refl, subst, arith}
+use Rattle.std.proofs.Common.{ℕ, ◌↔◌, length, refl, subst, arith}
 use Rattle.std.proofs.lemmas.Option.{slice_get_read}
 use Rattle.sdl_routes.specs.Each.{ForSome}
 use Rattle.sdl_routes.specs.Mask.{Bit}

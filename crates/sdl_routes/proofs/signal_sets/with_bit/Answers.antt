@@ -1,4 +1,4 @@
-use Rattle.std.proofs.Common.{◌≡◌, ℕ, ◌⊎◌, ◌*◌, ◌%◌, ◌^◌, inl, inr, sym, subst, ◌∙◌, w64}
+use Rattle.std.proofs.Common.{◌*◌, ◌%◌, ◌^◌, inl, inr, sym, subst, ◌∙◌, w64}
 use Rattle.std.specs.Prelude.{bit_or}
 use Rattle.std.proofs.lemmas.Bool.{cases_eq}
 use Rattle.std.proofs.lemmas.Nat.Bits.{bit_at_set_other, bit_at_set_same}

@@ -1,4 +1,4 @@
-use Rattle.std.proofs.Common.{◌≡◌, ℕ, ◌⊎◌, ◌<◌, ◌&&◌, not, Bool, false, List, Option, None, Some, OnOk, slice_get, get_or, length, ap, ◌∙◌, sym, subst, arith, refl, inl, inr}
+use Rattle.std.proofs.Common.{None, Some, ◌∙◌, refl}
 use Rattle.sdl_routes.specs.declared.node.Node.TheVariants as to
 use Rattle.sdl_routes.proofs.AddLemmas.{adds_either}
 use Rattle.sdl_routes.proofs.LinkLemmas.{link_with, node_if_same}

@@ -1,4 +1,4 @@
-use Rattle.std.proofs.Common.{◌≡◌, ℕ, ◌⊎◌, ◌<◌, ◌&&◌, not, Bool, false, List, Option, None, Some, OnOk, slice_get, get_or, length, ap, ◌∙◌, sym, subst, arith, refl, inl, inr}
+use Rattle.std.proofs.Common.{false, get_or, subst}
 use Rattle.std.proofs.lemmas.Option.{slice_get-get_or}
 use Rattle.sdl_routes.specs.Graph.{Adds}
 use Rattle.sdl_routes.specs.Steps.{PathSteps}

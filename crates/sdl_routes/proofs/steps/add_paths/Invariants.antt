@@ -1,4 +1,4 @@
-use Rattle.std.proofs.Common.{◌≡◌, ℕ, get_or, false}
+use Rattle.std.proofs.Common.{get_or, false}
 use Rattle.sdl_routes.specs.Each.{ForSomeBelow}
 use Rattle.sdl_routes.specs.Graph.{Adds}
 use Rattle.sdl_routes.specs.Steps.{PathSteps}

@@ -1,4 +1,4 @@
-use Rattle.std.proofs.Common.{◌≡◌, ℕ, ◌⊎◌, get_or, false, subst, inl, inr}
+use Rattle.std.proofs.Common.{get_or, false, subst}
 use Rattle.sdl_routes.specs.Each.{ForSome}
 use Rattle.sdl_routes.specs.Graph.{Adds}
 use Rattle.sdl_routes.specs.Steps.{AllSteps, ConnectSteps, PathSteps, ProcessSteps}

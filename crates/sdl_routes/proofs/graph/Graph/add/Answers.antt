@@ -1,9 +1,8 @@
-use Rattle.std.proofs.Common.{◌≡◌, ℕ, ◌⊎◌, ◌<◌, ◌++◌, List, [], ◌∷◌, length, inl, inr, refl, ◌∙◌, arith, ap}
+use Rattle.std.proofs.Common.{◌≡◌, ◌<◌, ◌++◌, [], ◌∷◌, length, inl, inr, ◌∙◌, arith, ap}
 use Rattle.std.proofs.lemmas.Bool.{cases_cond}
 use Rattle.std.specs.Result.{is_ok}
 use Rattle.sdl_routes.specs.Graph.{row}
 use Rattle.sdl_routes.specs.declared.graph.Row.{Row}
-use Rattle.sdl_routes.specs.declared.graph.Step.{Step}
 use Rattle.sdl_routes.proofs.GraphLemmas.{adds_one, closed_with, row-read}
 use Rattle.sdl_routes.proofs.graph.Graph.add.Goals as goal
 

@@ -1,7 +1,6 @@
-use Rattle.std.proofs.Common.{◌≡◌, ℕ, ◌⊎◌, ◌++◌, ◌≤◌, List, [], ◌∷◌, length, inl, inr, refl, ◌∙◌, arith}
+use Rattle.std.proofs.Common.{◌++◌, [], ◌∷◌, inl, ◌∙◌, arith}
 use Rattle.std.proofs.lemmas.Bool.{cases_cond}
 use Rattle.std.specs.Result.{is_ok}
-use Rattle.sdl_routes.specs.Graph.{row}
 use Rattle.sdl_routes.specs.declared.graph.Row.{Row}
 use Rattle.sdl_routes.proofs.GraphLemmas.{covers_one, stays_closed}
 use Rattle.sdl_routes.proofs.graph.Graph.cover.Goals as goal

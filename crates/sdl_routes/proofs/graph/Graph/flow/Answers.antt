@@ -1,6 +1,5 @@
-use Rattle.std.proofs.Common.{◌≡◌, ℕ, ◌<◌, ◌≤◌, ◌++◌, [], length, drop, take, arith, sym, subst, refl, ◌∙◌, ap, get_or, List, ◌∷◌}
+use Rattle.std.proofs.Common.{◌<◌, length, arith, sym, subst, ◌∙◌, ap, get_or}
 use Rattle.std.specs.List.{Contains}
-use Rattle.sdl_routes.specs.Graph.{row}
 use Rattle.sdl_routes.specs.Mask.{Has}
 use Rattle.sdl_routes.proofs.FlowLemmas.{begins_all, ends, goes_on_lent, goes_past, none_left, written_back}
 use Rattle.sdl_routes.proofs.GraphLemmas.{row-read}

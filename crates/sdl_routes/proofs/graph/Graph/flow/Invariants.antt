@@ -1,4 +1,4 @@
-use Rattle.std.proofs.Common.{ℕ, ◌+◌}
+use Rattle.std.proofs.Common.{◌+◌}
 use Rattle.std.specs.Vec.{vec_len}
 use Rattle.sdl_routes.specs.Passing.{IsFlowing, missing}
 use Rattle.sdl_routes.proofs.graph.Graph.flow.Given as goal

@@ -1,4 +1,4 @@
-use Rattle.std.proofs.Common.{◌≡◌, ℕ, arith, sym, ◌∙◌}
+use Rattle.std.proofs.Common.{arith, sym, ◌∙◌}
 use Rattle.sdl_routes.proofs.ListLemmas.{column-past, column-read}
 use Rattle.sdl_routes.proofs.signal_sets.SignalSets.column.Goals as goal
 

@@ -1,6 +1,4 @@
-use Rattle.std.proofs.Common.{◌≡◌, ℕ, ◌↔◌, length, refl, subst, arith, List, []}
-use Rattle.sdl_routes.specs.Mask.{Has}
-use Rattle.sdl_routes.specs.declared.signal_sets.Column.{Column}
+use Rattle.std.proofs.Common.{arith}
 use Rattle.sdl_routes.proofs.ListLemmas.{column_more}
 use Rattle.sdl_routes.proofs.signal_sets.SignalSets.of_lists.Goals as goal
 
