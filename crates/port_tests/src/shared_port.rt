@@ -378,7 +378,6 @@ fn alone_expires_its_own_sets(rt: HostRuntime) -> Result<(), Fail> {
     assert_eq!(rt; alone.expire(early, 9).ok(), Some(false));
     assert_eq!(rt; consumed(alone.take(&inputs)), None);
     assert_eq!(rt; alone.expire(due, 6).ok(), Some(true));
-    assert_eq!(rt; consumed(alone.take(&inputs)), Some((2, 0)));
     Ok(())
 }
 
