@@ -1,1 +1,2 @@
+pub mod Alive
 pub mod Leaving

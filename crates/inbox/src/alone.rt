@@ -37,9 +37,10 @@ impl Alone {
 
     /// Puts a signal behind all that waits. A stopped port drops it. For want of memory the signal comes back.
     pub fn put(&mut self, item: Item) -> Result<(), Refused<Item>>
-        ensures { MatchResult result
+        ensures state { MatchResult result
             (λ _. self.new ≡ record self.old { state = put_into self.old.state item })
             (λ back. ComesBack back item × (self.new ≡ self.old)) }
+        ensures alive { self.new.state.alive ≡ self.old.state.alive }
     {
         match self.plain.put(item) {
             Ok(()) => Ok(()),
@@ -59,6 +60,7 @@ impl Alone {
         ensures state { MatchResult result
             (λ _. self.new ≡ record self.old { state = after_entry self.old.pid self.old.state at (Timer fuse) })
             (λ _. self.new ≡ self.old) }
+        ensures alive { self.new.state.alive ≡ self.old.state.alive }
     {
         if fuse.pid() != self.pid {
             return Ok(false);

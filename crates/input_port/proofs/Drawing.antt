@@ -1,4 +1,4 @@
-use Rattle.std.proofs.Common.{◌≡◌, ◌==◌, ℕ, cond, Bool, true, false, List, [], ◌∷◌, ◌++◌, map, Result, Ok, Err, refl, sym, ap, ◌∙◌, subst, append_assoc, append-nil, All, ⊎_elim, inl}
+use Rattle.std.proofs.Common.{◌≡◌, ℕ, Bool, true, false, List, [], ◌∷◌, ◌++◌, map, Result, Ok, Err, refl, sym, ap, ◌∙◌, subst, append_assoc, append-nil, All, ⊎_elim, inl}
 use Rattle.port_model.specs.declared.error.PortError.{PortError}
 use Rattle.inbox.specs.declared.refused.Refused.{Refused}
 use Rattle.port_model.specs.declared.taken.Taken.TheVariants.{Consumed, Discarded, Nothing}
@@ -6,7 +6,7 @@ use Rattle.port_model.specs.declared.selection.Class.TheVariants as class
 use Rattle.std.proofs.lemmas.List.{map-append}
 use Rattle.port_model.specs.declared.selection.Class.{Class}
 use Rattle.port_model.specs.declared.taken.Taken.{Taken}
-use Rattle.port_model.specs.Port.{PortState, expires, expire_in}
+use Rattle.port_model.specs.Port.{PortState}
 use Rattle.port_model.specs.Take as take
 use Rattle.inbox.specs.declared.placed.Placed.{Placed}
 use Rattle.inbox.specs.Ends.{OwnerState}
@@ -14,15 +14,14 @@ use Rattle.input_port.specs.Ends.{left_with, FinishedState, RetiredState, Sender
 use Rattle.port_model.specs.PlainPort.{armed_left}
 use Rattle.input_port.specs.Held.{HasDrawnHere, Leaves}
 use Rattle.inbox.specs.Left.{AreWaiting}
-use Rattle.port_model.specs.declared.got.Got.TheVariants as got
 use Rattle.port_model.specs.declared.got.Got.{Got}
-use Rattle.port_model.specs.Timers.{with_waiting, armed_after, Armed}
+use Rattle.port_model.specs.Timers.{armed_after, Armed}
 use Rattle.inbox.specs.declared.entry.Entry.{Entry}
-use Rattle.inbox.specs.declared.entry.Entry.TheVariants.{Signal, Timer}
-use Rattle.inbox.specs.Calls.{after_entry, after_draw, after_draws, known_after, AreNext, TakeIs, TakesHere, IsDrawn, HasDrawn}
+use Rattle.inbox.specs.Calls.{after_draw, after_draws, known_after, AreNext, TakeIs, TakesHere, IsDrawn, HasDrawn}
 use Rattle.input_port.specs.Calls.{entry_of, DrewAll, Finishes, FinishesSince, GatherIs, MeetIs, PullIs, PullSinceIs, HasDrawnSince}
 use Rattle.inbox.specs.Put.{longer}
 use Rattle.input_port.proofs.PutLists.{starts_all, starts_through}
+use Rattle.inbox.proofs.Alive.{after_draws-alive}
 
 -- entries drawn one after the other
 pub after_draws-append : (pid : ℕ) (port : PortState) (xs ys : List Placed) → after_draws pid port (xs ++ ys) ≡ after_draws pid (after_draws pid port xs) ys
@@ -136,21 +135,6 @@ pub pull_since : (old new : OwnerState) (since kept : List Entry) (r : Result Bo
 pull_since old new since kept (Ok true) pulled = (pulled.0 ∷ [], pulled.1)
 pull_since old new since kept (Ok false) pulled = subst (λ n. HasDrawnSince old n since kept) (sym pulled.0) (subst (λ l. HasDrawnSince old old since l) (sym pulled.1) (since_none old since))
 pull_since old new since kept (Err error) pulled = subst (λ n. HasDrawnSince old n since kept) (sym pulled.1) (subst (λ l. HasDrawnSince old old since l) (sym pulled.2) (since_none old since))
-
--- a draw leaves a stopped port stopped, and a living one alive
-chosen-alive : (b : Bool) (p q : PortState) → p.alive ≡ q.alive → (cond b p q).alive ≡ q.alive
-chosen-alive true p q e = e
-chosen-alive false p q e = refl
-
-after_entry-alive : (pid : ℕ) (port : PortState) (at : ℕ) (entry : Entry) → (after_entry pid port at entry).alive ≡ port.alive
-after_entry-alive pid port at (Signal item) = chosen-alive port.alive (record port { waiting = port.waiting ++ got.Signal item ∷ [] }) port refl
-after_entry-alive pid port at (Timer fuse) = chosen-alive (fuse.pid == pid) (expire_in port fuse.key fuse.arm fuse.due at) port
-    (chosen-alive (expires port fuse.key fuse.arm fuse.due at)
-    (record port { waiting = port.waiting ++ got.Timer fuse.key ∷ []; timers = with_waiting fuse.key fuse.arm port.timers }) port refl)
-
-pub after_draws-alive : (pid : ℕ) (port : PortState) (news : List Placed) → (after_draws pid port news).alive ≡ port.alive
-after_draws-alive pid port [] = refl
-after_draws-alive pid port (x ∷ xs) = after_draws-alive pid (after_draw pid port x) xs ∙ after_entry-alive pid port x.at x.entry
 
 -- a take leaves a living port alive, and so do draws
 pub taken-alive : (classes : List Class) (old new : PortState) (taken : Taken) → take.Takes classes old taken new → new.alive ≡ old.alive

@@ -13,7 +13,7 @@ use Rattle.inbox.specs.Ends.{OwnerState}
 use Rattle.input_port.specs.Ends.{sent_by}
 use Rattle.input_port.specs.Headline.{OwnerCall, Taking, Draining, Gathering, Meeting, Setting, Resetting, Stopping, IsCall, Step, Drawn, Called, AreCalls, entry_events, call_events, step_events, history_of, drawn_in, called_in, OwnersHaveHistories, NothingIsLeft}
 use Rattle.inbox.specs.Put.{of, AllThere, IsTimely}
-use Rattle.input_port.proofs.Drawing.{after_draws-alive}
+use Rattle.inbox.proofs.Alive.{after_draws-alive}
 use Rattle.input_port.proofs.Meeting.{own_same}
 use Rattle.input_port.proofs.PutLists.{starts_through}
 

@@ -1,5 +1,5 @@
-//! Tests of the ports, the timers and the numbers of instances: calls on their happy paths, whole rows of calls, and calls from
-//! several threads.
+//! Tests of the port of one thread, the timers and the numbers of instances: calls on their happy paths, whole rows of calls, and
+//! calls from several threads.
 //!
 //! They stand above those crates, so that none of them is proved a second time for its tests.
 #![tactic(auto)]
@@ -8,8 +8,6 @@
 mod numbers;
 #[cfg(test)]
 mod plain_port;
-#[cfg(test)]
-mod shared_port;
 #[cfg(test)]
 mod timers;
 #[cfg(test)]
