@@ -1,4 +1,5 @@
 pub mod Calls
+pub mod Counts
 pub mod Ends
 pub mod Headline
 pub mod Held
