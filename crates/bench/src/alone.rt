@@ -71,6 +71,20 @@ pub fn takes_of_urgent(alloc: Global, times: u64) -> Option<u64> {
     puts_and_takes(alloc, &mut port, 1, &classes, times)
 }
 
+/// Ten sets and resets of a timer beside each of so many waiting signals.
+pub fn sets_beside_waiting(alloc: Global, times: u64) -> Option<u64> {
+    let mut port = PlainPort::new(alloc);
+    let timer = key(alloc, 0)?;
+    let mut done: u64 = 0;
+    fill(alloc, &mut port, 0, times)?;
+    for value in 0..times.saturating_mul(10) {
+        port.set(key(alloc, 0)?, value).ok()?;
+        port.reset(&timer);
+        done = done.wrapping_add(1);
+    }
+    Some(done)
+}
+
 /// Sets so many timers, sets each again, asks of each whether it is active, lets each expire, and takes each signal.
 pub fn timers(alloc: Global, times: u64) -> Option<u64> {
     let classes = selection(alloc, &[Class::Input, Class::Input, Class::Input])?;

@@ -13,6 +13,7 @@ const HELP: &str = "What there is:
   four    four senders put N signals together, each in a thread of its own, and a fifth thread takes them
   saved   10 N takes behind N saved signals
   urgent  N takes of a priority input among N ordinary signals
+  sets    10 N sets and resets of a timer beside N waiting signals
   timers  N timers are set, set again, asked for, expire and are taken
   finish  N timers expire, and the port ends";
 
@@ -23,17 +24,19 @@ pub enum Measure {
     Four,
     Saved,
     Urgent,
+    Sets,
     Timers,
     Finish,
 }
 
 impl Measure {
     /// All of them.
-    const ALL: [Measure; 6] = [
+    const ALL: [Measure; 7] = [
         Measure::Puts,
         Measure::Four,
         Measure::Saved,
         Measure::Urgent,
+        Measure::Sets,
         Measure::Timers,
         Measure::Finish,
     ];
@@ -45,6 +48,7 @@ impl Measure {
             Measure::Four => "four",
             Measure::Saved => "saved",
             Measure::Urgent => "urgent",
+            Measure::Sets => "sets",
             Measure::Timers => "timers",
             Measure::Finish => "finish",
         }

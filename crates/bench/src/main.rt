@@ -65,6 +65,7 @@ fn done<R: Threads + Wait + Sync>(
         Measure::Four => shared::puts_by_four(rt, alloc, times),
         Measure::Saved => alone::takes_past_saved(alloc, times),
         Measure::Urgent => alone::takes_of_urgent(alloc, times),
+        Measure::Sets => alone::sets_beside_waiting(alloc, times),
         Measure::Timers => alone::timers(alloc, times),
         Measure::Finish => shared::finishes(rt, alloc, times),
     }
