@@ -29,6 +29,3 @@ pub use scope::{
     AgentMeaning, Constant, Scope, SignalMeaning, SynonymId, ValueEntry, ValueMeaning,
 };
 pub use typed::Typed;
-
-#[cfg(test)]
-mod tests;

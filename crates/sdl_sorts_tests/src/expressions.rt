@@ -1,12 +1,12 @@
-//! Each public function, where there is memory.
+//! Resolved expressions and constants.
 
-use crate::{
-    AgentMeaning, Constant, Kind, Scope, SignalMeaning, Typed, ValueEntry, constant, resolve,
-    resolve_answer, resolve_condition, resolve_for, resolve_values,
-};
 use port_model::{SignalId, Value};
 use sdl_lex::Place;
 use sdl_scope::{Fault, Faults, Names, Outward};
+use sdl_sorts::{
+    AgentMeaning, Constant, Kind, Scope, SignalMeaning, Typed, ValueEntry, constant, resolve,
+    resolve_answer, resolve_condition, resolve_for, resolve_values,
+};
 use sdl_system::{Comparison, Sort, VariableId};
 use sdl_tree::{
     Answer, Case, Chain, Expression, KeywordValue, Link, Name, Number, Operator, Spelling,

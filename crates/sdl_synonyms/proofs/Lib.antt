@@ -1,0 +1,4 @@
+pub mod BrokenLaws
+pub mod KnownLemmas
+pub mod NamedLemmas
+pub mod UnvaluedLaws

@@ -1,0 +1,5 @@
+use Rattle.sdl_synonyms.proofs.BrokenLaws.{circle-unsettled}
+use Rattle.sdl_synonyms.proofs.laws.circle_is_unsettled.Goals as goal
+
+pub returns : goal.returns
+returns c = circle-unsettled

@@ -1,0 +1,5 @@
+pub mod Broken
+pub mod Known
+pub mod Laws
+pub mod Named
+pub mod Synonyms
