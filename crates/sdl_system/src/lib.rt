@@ -20,13 +20,13 @@ mod system;
 
 pub use answer::Answer;
 pub use expression::{Chain, Expression, Link, PidExpression};
-pub use id::{ConditionId, LabelId, NodeId, ProcessId, StateId, TableId, VariableId};
+pub use id::{BlockId, ConditionId, LabelId, NodeId, ProcessId, StateId, TableId, VariableId};
 pub use operation::{
     Arithmetic, Comparison, Failure, Logic, NumberSort, Operation, UnaryOperation, compare,
     number_of, truth_of,
 };
 pub use process::{Process, State, Variable};
-pub use route::{Dest, ListId, Reach, Routes, Source, Target};
+pub use route::{Dest, Reach, ReceiversId, Routes, Source, Target};
 pub use signal::{Signal, SignalSet, Timer};
 pub use sort::{Sort, in_sort};
 pub use state::{

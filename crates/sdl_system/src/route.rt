@@ -2,7 +2,7 @@
 
 ghost use Rattle.std.specs.Prelude.{◌≡◌, filter};
 ghost use Rattle.std.specs.List.{list_any};
-ghost use Rattle.sdl_system.specs.Route.{first_living, is_receiver, list_of, living_in, pid_target, reach_of, reaches_process, target_in};
+ghost use Rattle.sdl_system.specs.Route.{first_living, is_receiver, list_of, living_in, pid_target, reach_of, reaches_env, reaches_process, target_in};
 
 use crate::id::ProcessId;
 use port_model::{Pid, SignalId};
@@ -36,13 +36,13 @@ pub enum Target {
 
 /// A list of receivers, by its number.
 #[derive(Clone, Copy, Debug, PartialEq, Eq)]
-pub struct ListId(pub u32);
+pub struct ReceiversId(pub u32);
 
 /// Where paths lead a signal from one source.
 #[derive(Clone, Copy, Debug, PartialEq, Eq)]
 pub struct Reach {
     /// The processes.
-    pub receivers: ListId,
+    pub receivers: ReceiversId,
     /// Whether the source itself is one of them, where it stands in the list.
     pub itself: bool,
     /// Whether a path leads to the environment.
@@ -99,6 +99,16 @@ impl Routes {
     {
         match self.reach(signal, from) {
             Some(reach) => has_receiver(self.list(reach), reach.itself, from),
+            None => false,
+        }
+    }
+
+    /// Whether a path leads the signal from the source to the environment.
+    pub fn reaches_env(&self, signal: SignalId, from: Source) -> bool
+        ensures { result ≡ reaches_env self.now from signal }
+    {
+        match self.reach(signal, from) {
+            Some(reach) => reach.env,
             None => false,
         }
     }

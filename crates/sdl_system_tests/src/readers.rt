@@ -4,8 +4,8 @@
 use indexmap::IndexMap;
 use port_model::{Class, Pid, Selection, SignalId, Value};
 use sdl_system::{
-    Choice, ConditionId, Dest, Enabled, Enabling, Expression, ListId, Node, NodeId, Process,
-    ProcessId, Reach, Reaction, Reactions, Reception, Routes, Signal, SignalSet, Source, State,
+    Choice, ConditionId, Dest, Enabled, Enabling, Expression, Node, NodeId, Process, ProcessId,
+    Reach, Reaction, Reactions, ReceiversId, Reception, Routes, Signal, SignalSet, Source, State,
     StateId, StateTable, Statement, System, TableId, Target,
 };
 use std::alloc::Global;
@@ -80,7 +80,7 @@ fn process(alloc: Global, name: &str) -> Result<Process, Fail> {
 
 fn routes(alloc: Global) -> Result<Routes, Fail> {
     let reach = Reach {
-        receivers: ListId(0),
+        receivers: ReceiversId(0),
         itself: false,
         env: true,
     };
