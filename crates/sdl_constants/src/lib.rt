@@ -1,0 +1,15 @@
+//! Constants that a process has at places of its text: the numbers of its instances, what its variables begin with, and
+//! the default durations of its timers (Z.101: process; Z.102: variable definition, timer).
+//!
+//! Each is a constant expression in the sort of its place, so it has the faults and the value that `sdl_sorts` says;
+//! `specs/Counts` has the conditions on the numbers of instances besides. Each function answers exactly what its
+//! definition says, and notes exactly the faults of its list.
+#![tactic(auto)]
+
+mod counts;
+mod timers;
+mod variables;
+
+pub use counts::{InstanceCounts, instance_counts};
+pub use timers::{default_duration, default_durations};
+pub use variables::{SortedGroup, initial_value, initial_values};
