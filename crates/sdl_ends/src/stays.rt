@@ -1,0 +1,54 @@
+//! `nextstate -` that the start can reach.
+
+ghost use Rattle.std.specs.Prelude.{◌≡◌, flat_map, OnOk};
+ghost use Rattle.sdl_ends.specs.Listed.{terminators_listed};
+ghost use Rattle.sdl_ends.specs.Stays.{NotesStays, stay_fault};
+ghost use Rattle.sdl_scope.specs.Faults.{least_of, told};
+ghost use Rattle.sdl_tree.specs.Views.{process_value, terminator_value};
+
+use crate::beginnings::beginnings_of;
+use crate::mentions::{labels_of, mentions_in};
+use crate::quick::quick_names;
+use crate::reach::reach;
+use crate::walk::Found;
+use sdl_scope::{Faults, Kind, Token};
+use sdl_tree::{Mark, NextState, ProcessDefinition, Terminator};
+use std::alloc::{AllocError, Global};
+
+/// Notes `NoState` at the `-` of each `nextstate -` that the start of a process can reach by any branch and join: there
+/// is no state to stay in (Z.101: nextstate). A join leads to the first label of its name.
+pub fn note_stays<'t>(
+    alloc: Global,
+    process: &'t ProcessDefinition,
+    faults: &mut Faults<'t>,
+) -> Result<(), AllocError>
+    ensures { OnOk result (NotesStays (process_value process.now) (told faults.old) (told faults.new)) }
+{
+    let beginnings = beginnings_of(alloc, process)?;
+    let mentions = mentions_in(alloc, &beginnings)?;
+    let labels = labels_of(alloc, &mentions)?;
+    let names = quick_names(alloc, &beginnings, &labels)?;
+    let found = reach(alloc, &beginnings, &labels, names)?;
+    note_found(&found, faults);
+    Ok(())
+}
+
+fn note_found<'t>(found: &[Found<'t>], faults: &mut Faults<'t>)
+    ensures { told faults.new ≡ least_of (told faults.old) (flat_map stay_fault (terminators_listed found.now)) }
+{
+    for one in found {
+        note_stay(one.terminator, faults);
+    }
+}
+
+fn note_stay<'t>(terminator: &'t Terminator, faults: &mut Faults<'t>)
+    ensures { told faults.new ≡ least_of (told faults.old) (stay_fault (terminator_value terminator.now)) }
+{
+    if let Terminator::NextState {
+        state: NextState::Same(dash),
+        ..
+    } = terminator
+    {
+        faults.note(Kind::NoState, Token::of_mark(Mark::Minus, *dash));
+    }
+}
