@@ -1,0 +1,4 @@
+pub mod Broken
+pub mod Entries
+pub mod Meanings
+pub mod Spaces
