@@ -1,0 +1,28 @@
+-- What the stimuli of a process can name.
+use Rattle.std.specs.Prelude.{ℕ, List, Option}
+use Rattle.std.specs.Borrow.{Bor}
+use Rattle.port_model.specs.declared.item.SignalId.{SignalId}
+use Rattle.sdl_scope.specs.Names.{first_of}
+use Rattle.sdl_sorts.specs.Scope.{Scope, meaning, scope_of, visible}
+use Rattle.sdl_stimuli.specs.declared.context.Context as contexts
+
+pub record Context : Type 0 where
+  -- variables, formal parameters and synonyms; signals and timers
+  pub scope : Scope
+  -- signal lists, each with the signals that it stands for, also through lists within it
+  pub lists : List (List ℕ × List SignalId)
+
+-- the signals for which the list of this name stands
+abbrev pub list_in : Context → List ℕ → Option (List SignalId)
+list_in context text = first_of context.lists text
+
+-- ---- what the code keeps
+
+abbrev pub signals_listed : Bor (List SignalId) → List SignalId
+signals_listed signals = signals.now
+
+abbrev pub context_of : contexts.Context → Context
+context_of context = record {
+  scope = scope_of context.scope;
+  lists = meaning signals_listed (visible context.lists);
+}

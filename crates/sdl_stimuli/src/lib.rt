@@ -1,0 +1,24 @@
+//! What the stimuli of a process say of signals (Z.101: input, save; Z.102: priority input, enabling condition,
+//! continuous signal).
+//!
+//! A stimulus speaks of signals at words of its own: at the name of a signal, at that of a list, or at an asterisk.
+//! Transitions are named by their numbers in the order of the text, and no statement of theirs is read here; so are
+//! conditions, which are resolved. `specs/Mentions` has what a stimulus says, `specs/Faulty` the rules that it breaks,
+//! and `specs/Reading` a whole process. What its states say by them stands above, in `sdl_states`.
+#![tactic(auto)]
+
+mod context;
+mod inputs;
+mod mention;
+mod reading;
+mod saves;
+mod signals;
+mod subject;
+mod transition;
+mod variables;
+
+pub use context::Context;
+pub use mention::{Manner, Mention, Response};
+pub use reading::{ContinuousSignal, Numbering, Part, Reading, read_body};
+pub use subject::Subject;
+pub use transition::TransitionId;

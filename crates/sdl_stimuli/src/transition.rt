@@ -1,0 +1,20 @@
+//! The numbers of transitions.
+
+ghost use Rattle.std.specs.Prelude.{◌≡◌, ◌+◌, IfOk};
+
+use std::alloc::AllocError;
+
+/// A transition of a process, counted from 0 in the order of the text: the start, then each stimulus that begins one
+/// and each connection.
+#[derive(Clone, Copy, Debug, PartialEq, Eq, PartialOrd, Ord, Hash)]
+pub struct TransitionId(pub u32);
+
+impl TransitionId {
+    /// The next transition. More transitions than have numbers take more memory than there is.
+    pub(crate) fn next(self) -> Result<TransitionId, AllocError>
+        ensures { IfOk result (λ next. next ≡ record { 0 = self.0 + 1 }) }
+    {
+        let number = self.0.checked_add(1).ok_or(AllocError)?;
+        Ok(TransitionId(number))
+    }
+}
