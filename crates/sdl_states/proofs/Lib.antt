@@ -1,0 +1,10 @@
+pub mod AgainLaws
+pub mod AnswerLemmas
+pub mod BrokenLaws
+pub mod ChosenLaws
+pub mod FirstLemmas
+pub mod OrderLemmas
+pub mod PartLemmas
+pub mod ProcessLemmas
+pub mod ShareLemmas
+pub mod TwiceLemmas

@@ -1,0 +1,263 @@
+-- Tables that states share.
+use Rattle.std.proofs.Common.{◌≡◌, ◌∙◌, ◌+◌, ◌&&◌, ◌<◌, ◌⊎◌, inl, inr, ℕ, zero, suc, ◌++◌, Bool, true, false, cond, List, [], ◌∷◌, Option, None, Some, ap, arith, flat_map, get_or, if◌then◌else◌, length, map, option_map, refl, slice_get, subst, sym, take, unwrap_or}
+use Rattle.std.specs.Borrow.{Bor}
+use Rattle.std.specs.Global.{Vec}
+use Rattle.std.specs.Map.{lookup}
+use Rattle.std.specs.Option.{option_or}
+use Rattle.std.specs.Str.{bytes_eq}
+use Rattle.std.proofs.lemmas.Grind.{flat_map-append}
+use Rattle.std.proofs.lemmas.List.{map-append, take_more}
+use Rattle.std.proofs.lemmas.Slice.Eq.{bytes_eq-Decides}
+use Rattle.sdl_scope.proofs.FaultLemmas.{both_noted}
+use Rattle.sdl_scope.proofs.NameLemmas.{lookup-append}
+use Rattle.sdl_scope.specs.Faults.{Told, least_of}
+use Rattle.sdl_system.specs.declared.id.TableId.{TableId}
+use Rattle.sdl_tree.specs.Words.{Spot}
+use Rattle.sdl_stimuli.specs.Reading.{Part}
+use Rattle.sdl_states.specs.Outlined.{chosen, listed_part, parts_at, seen_in, with_turn}
+use Rattle.sdl_states.specs.Shared.{IsKnown, Keeps, faults_by, known_in, same_turn, same_turns, states_listed, table_at, table_by}
+use Rattle.sdl_states.specs.States.{Table, mentions_in, named_faults, parts_of, state_faults, table_named, table_of, tables_of, twice_faults, with_parts}
+use Rattle.sdl_states.specs.Turned.{entry_kept, turns_found, turns_of}
+use Rattle.sdl_states.specs.declared.outline.Turn.{Turn}
+use Rattle.sdl_states.proofs.AgainLaws.{noted-again, noted-before}
+use Rattle.sdl_states.proofs.AnswerLemmas.{mapped}
+use Rattle.sdl_states.proofs.ChosenLaws.{chosen-parts, get-behind}
+use Rattle.sdl_states.proofs.PartLemmas.{state_faults-append, with_parts-append}
+
+-- ---- look-ups
+
+pub same-mapped : {K X : Type 0} (test : K → Bool) (entries : List (Bor K × X)) →
+    lookup test (map (λ entry. (entry.0.now, entry.1)) entries) ≡ lookup (λ key. test key.now) entries
+same-mapped test [] = refl
+same-mapped test (entry ∷ entries) =
+    ap (λ rest. cond (test entry.0.now) (Some entry.1) rest) (same-mapped test entries)
+
+kept-mapped : (text : List ℕ) (entries : List (Bor (List ℕ) × Vec Turn)) →
+    lookup (bytes_eq text) (map entry_kept entries)
+    ≡ option_map (λ turns. turns.items) (lookup (λ key. bytes_eq text key.now) entries)
+kept-mapped text [] = refl
+kept-mapped text (entry ∷ entries) =
+    mapped (λ turns. turns.items) (bytes_eq text entry.0.now) entry.1 (lookup (λ key. bytes_eq text key.now) entries)
+    (lookup (bytes_eq text) (map entry_kept entries)) (kept-mapped text entries)
+
+abbrev pub turns_kept : Option (Vec Turn) → List Turn
+turns_kept kept = turns_found (option_map (λ turns. turns.items) kept)
+
+-- where a name stands, by what the code finds
+pub turns-kept : (entries : List (Bor (List ℕ) × Vec Turn)) (text : List ℕ) →
+    turns_kept (lookup (λ key. bytes_eq text key.now) entries) ≡ turns_of (map entry_kept entries) text
+turns-kept entries text = ap turns_found (sym (kept-mapped text entries))
+
+pub unwrapped : (kept : Option (Vec Turn)) (none : Vec Turn) → none.items ≡ [] →
+    (unwrap_or kept none).items ≡ turns_kept kept
+unwrapped None none is = is
+unwrapped (Some turns) none is = refl
+
+bytes-turned : (xs ys : List ℕ) (b : Bool) → bytes_eq xs ys ≡ b → bytes_eq ys xs ≡ b
+bytes-turned xs ys true is =
+    (bytes_eq-Decides ys xs).1 (sym ((bytes_eq-Decides xs ys).0 is))
+bytes-turned xs ys false is = by (bytes_eq ys xs) refl
+  where
+    by : (b : Bool) → bytes_eq ys xs ≡ b → bytes_eq ys xs ≡ false
+    by true turned =
+        let same : bytes_eq xs ys ≡ true = (bytes_eq-Decides xs ys).1 (sym ((bytes_eq-Decides ys xs).0 turned)) in
+        let never : false ≡ true = sym is ∙ same in
+        cc
+    by false turned = turned
+
+-- one more place where a name stands
+pub turn-added : (name text : List ℕ) (pushed : Vec Turn) (turn : Turn) (before : Option (Vec Turn))
+    (old : List ℕ → List Turn) → turns_kept before ≡ old text → pushed.items ≡ with_turn (old name) turn →
+    turns_kept (cond (bytes_eq name text) (Some pushed) (cond (bytes_eq name text) None before))
+    ≡ (if bytes_eq text name then with_turn (old text) turn else old text)
+turn-added name text pushed turn before old is new = by (bytes_eq name text) refl
+  where
+    by : (b : Bool) → bytes_eq name text ≡ b → turns_kept (cond b (Some pushed) (cond b None before))
+        ≡ (if bytes_eq text name then with_turn (old text) turn else old text)
+    by true same =
+        new ∙ ap (λ t. with_turn (old t) turn) ((bytes_eq-Decides name text).0 same)
+        ∙ ap (λ b. if b then with_turn (old text) turn else old text) (sym (bytes-turned name text true same))
+    by false other =
+        is ∙ ap (λ b. if b then with_turn (old text) turn else old text) (sym (bytes-turned name text false other))
+
+-- ---- the parts of a table
+
+pub part-mapped : {A B : Type 0} (f : A → B) (xs : List A) (n : ℕ) → slice_get (map f xs) n ≡ option_map f (slice_get xs n)
+part-mapped f [] n = refl
+part-mapped f (x ∷ xs) zero = refl
+part-mapped f (x ∷ xs) (suc n) = part-mapped f xs n
+
+module _ (all : List Part) (numbers : List ℕ) (i : ℕ) (d : ℕ) (below : i < length numbers)
+    (found : Option Part) (is : found ≡ slice_get all (get_or numbers i d))
+    (table : Table) (before : table ≡ table_of (parts_at all (take i numbers))) where
+  one-more : parts_at all (take (i + 1) numbers) ≡ parts_at all (take i numbers) ++ listed_part found
+  one-more =
+      ap (parts_at all) (take_more numbers i d below)
+      ∙ flat_map-append (λ number. listed_part (slice_get all number)) (take i numbers) (get_or numbers i d ∷ [])
+      ∙ ap (λ here. parts_at all (take i numbers) ++ (listed_part here ++ [])) (sym is)
+      ∙ ap (λ here. parts_at all (take i numbers) ++ here) (alone found)
+    where
+      alone : (part : Option Part) → listed_part part ++ [] ≡ listed_part part
+      alone None = refl
+      alone (Some part) = refl
+
+  pub listed-added : (new : Table) → new ≡ with_parts table (listed_part found) →
+      new ≡ table_of (parts_at all (take (i + 1) numbers))
+  listed-added new added =
+      added ∙ ap (λ t. with_parts t (listed_part found)) before
+      ∙ with_parts-append (parts_at all (take i numbers)) (listed_part found)
+      ∙ ap table_of (sym one-more)
+
+  pub listed-noted : (old now new : Option Told) →
+      now ≡ least_of old (state_faults (parts_at all (take i numbers))) →
+      new ≡ least_of now (twice_faults table.answers (mentions_in (listed_part found))) →
+      new ≡ least_of old (state_faults (parts_at all (take (i + 1) numbers)))
+  listed-noted old now new noted added =
+      let done = parts_at all (take i numbers) in
+      let here = listed_part found in
+      added
+      ∙ ap (λ t. least_of now (twice_faults t.answers (mentions_in here))) before
+      ∙ ap (λ told. least_of told (twice_faults (table_of done).answers (mentions_in here))) noted
+      ∙ both_noted old (state_faults done) (twice_faults (table_of done).answers (mentions_in here))
+      ∙ ap (least_of old) (sym (ap state_faults one-more ∙ state_faults-append done here))
+
+-- ---- what is known
+
+turn-made : (a : Turn) (part : ℕ) (goes : Bool) (until from : ℕ) → a.part ≡ part → a.is_left_out ≡ goes →
+    a.until ≡ until → a.from ≡ from → a ≡ record { part = part; is_left_out = goes; until = until; from = from }
+turn-made a part goes until from parts out up on =
+    ap (λ n. record { part = n; is_left_out = a.is_left_out; until = a.until; from = a.from }) parts
+    ∙ ap (λ g. record { part = part; is_left_out = g; until = a.until; from = a.from }) out
+    ∙ ap (λ u. record { part = part; is_left_out = goes; until = u; from = a.from }) up
+    ∙ ap (λ f. record { part = part; is_left_out = goes; until = until; from = f }) on
+
+turn-same : (a b : Turn) → same_turn a b ≡ true → a ≡ b
+turn-same a b same =
+    let parts : a.part ≡ b.part = grind arith in
+    let goes : a.is_left_out ≡ b.is_left_out = grind arith in
+    let until : a.until ≡ b.until = grind arith in
+    let from : a.from ≡ b.from = grind arith in
+    turn-made a b.part b.is_left_out b.until b.from parts goes until from
+
+both-true : (a b : Bool) → (a && b) ≡ true → (a ≡ true) × (b ≡ true)
+both-true true b h = (refl, h)
+both-true false b h = let never : false ≡ true = h in cc
+
+turns-same : (xs ys : List Turn) → same_turns xs ys ≡ true → xs ≡ ys
+turns-same [] [] same = refl
+turns-same [] (y ∷ ys) same = cc
+turns-same (x ∷ xs) [] same = cc
+turns-same (x ∷ xs) (y ∷ ys) same =
+    let both = both-true (same_turn x y) (same_turns xs ys) same in
+    ap (λ z. z ∷ xs) (turn-same x y both.0) ∙ ap (λ zs. y ∷ zs) (turns-same xs ys both.1)
+
+get-kept : {A : Type 0} (xs ys : List A) (n : ℕ) (x : A) → slice_get xs n ≡ Some x → slice_get (xs ++ ys) n ≡ Some x
+get-kept [] ys n x h = cc
+get-kept (y ∷ xs) ys zero x h = h
+get-kept (y ∷ xs) ys (suc n) x h = get-kept xs ys n x h
+
+-- a table that comes behind others
+pub tables-kept : (tables : List Table) (table : Table) → Keeps tables (tables ++ table ∷ [])
+tables-kept tables table number other h = get-kept tables (table ∷ []) number.0 other h
+
+found-either : {A : Type 0} (found : Option A) (same : Bool) (x y : A) →
+    option_or found (cond same (Some x) None) ≡ Some y → (found ≡ Some y) ⊎ ((same ≡ true) × (x ≡ y))
+found-either None true x y h = let e : x ≡ y = cc in inr (refl, e)
+found-either None false x y h = cc
+found-either (Some z) same x y h = inl h
+
+module _ (parts : List Part) (stars : List ℕ) (turns : List Turn) (known : List (List Turn × TableId))
+    (tables : List Table) (old : Option Told) (number : TableId) (at : number.0 ≡ length tables)
+    (before : IsKnown parts stars known tables old) where
+  pub added-read : (table : Table) → table ≡ table_by parts stars turns →
+      table_at (tables ++ table ∷ []) number ≡ Some (table_by parts stars turns)
+  added-read table is =
+      ap (slice_get (tables ++ table ∷ [])) at ∙ get-behind tables table [] ∙ ap (λ t. Some t) is
+
+  known-either : (other : List Turn) (found : TableId) → known_in (known ++ (turns, number) ∷ []) other ≡ Some found →
+      (known_in known other ≡ Some found) ⊎ ((same_turns other turns ≡ true) × (number ≡ found))
+  known-either other found h =
+      found-either (known_in known other) (same_turns other turns) number found
+      (sym (lookup-append (same_turns other) known ((turns, number) ∷ [])) ∙ h)
+
+  pub known-more : (table : Table) (new : Option Told) → table ≡ table_by parts stars turns →
+      new ≡ least_of old (faults_by parts stars turns) →
+      IsKnown parts stars (known ++ (turns, number) ∷ []) (tables ++ table ∷ []) new
+  known-more table new is told = record {
+    right = λ other found h. elim (known-either other found h) [
+      | inl e ↦ tables-kept tables table found (table_by parts stars other) (before.right other found e)
+      | inr e ↦ subst (λ n. table_at (tables ++ table ∷ []) n ≡ Some (table_by parts stars other)) e.1
+          (subst (λ ts. table_at (tables ++ table ∷ []) number ≡ Some (table_by parts stars ts))
+          (sym (turns-same other turns e.0)) (added-read table is))
+    ];
+    noted = λ other found h. elim (known-either other found h) [
+      | inl e ↦ subst (λ t. least_of t (faults_by parts stars other) ≡ t) (sym told)
+          (noted-before old (faults_by parts stars other) (faults_by parts stars turns) (before.noted other found e))
+      | inr e ↦ subst (λ t. least_of t (faults_by parts stars other) ≡ t) (sym told)
+          (subst (λ ts. least_of (least_of old (faults_by parts stars turns)) (faults_by parts stars ts)
+          ≡ least_of old (faults_by parts stars turns)) (sym (turns-same other turns e.0))
+          (noted-again old (faults_by parts stars turns)))
+    ];
+  }
+
+-- nothing is known yet
+pub nothing-known : (parts : List Part) (stars : List ℕ) (told : Option Told) → IsKnown parts stars [] [] told
+nothing-known parts stars told =
+    record { right = λ turns number h. never h; noted = λ turns number h. absurd (never-at h) }
+  where
+    never-at : {n : TableId} → None ≡ Some n → ⊥
+    never-at h = cc
+
+    never : {n : TableId} {P : Type 0} → None ≡ Some n → P
+    never h = cc
+
+-- ---- one more state
+
+numbers-kept : (old new : List Table) → Keeps old new → (numbers : List TableId) (tables : List Table) →
+    map (table_at old) numbers ≡ map (λ t. Some t) tables → map (table_at new) numbers ≡ map (λ t. Some t) tables
+numbers-kept old new keeps [] [] h = refl
+numbers-kept old new keeps [] (table ∷ tables) h = cc
+numbers-kept old new keeps (number ∷ numbers) [] h = cc
+numbers-kept old new keeps (number ∷ numbers) (table ∷ tables) h =
+    let here : table_at old number ≡ Some table = cc in
+    let there : map (table_at old) numbers ≡ map (λ t. Some t) tables = cc in
+    ap (λ found. found ∷ map (table_at new) numbers) (keeps number table here)
+    ∙ ap (λ rest. Some table ∷ rest) (numbers-kept old new keeps numbers tables there)
+
+module _ (parts : List Part) (stars : List ℕ) (turns : List Turn) (name : Spot)
+    (seen : record { stars = stars; turns = turns } ≡ seen_in name.text (states_listed parts)) where
+  own-parts : parts_at parts (chosen (record { stars = stars; turns = turns })) ≡ parts_of name.text parts
+  own-parts = ap (λ s. parts_at parts (chosen s)) seen ∙ chosen-parts name.text parts
+
+  pub own-table : table_by parts stars turns ≡ table_named parts name
+  own-table = ap table_of own-parts
+
+  pub own-faults : faults_by parts stars turns ≡ named_faults parts name
+  own-faults = ap state_faults own-parts
+
+-- the table of one more state, behind those of others
+pub states-more : (parts : List Part) (done : List Spot) (name : Spot) (old new : List Table)
+    (numbers : List TableId) (number : TableId) → Keeps old new →
+    map (table_at old) numbers ≡ map (λ t. Some t) (tables_of parts done) →
+    table_at new number ≡ Some (table_named parts name) →
+    map (table_at new) (numbers ++ number ∷ []) ≡ map (λ t. Some t) (tables_of parts (done ++ name ∷ []))
+states-more parts done name old new numbers number keeps before here =
+    map-append (table_at new) numbers (number ∷ [])
+    ∙ ap (λ list. list ++ table_at new number ∷ []) (numbers-kept old new keeps numbers (tables_of parts done) before)
+    ∙ ap (λ found. map (λ t. Some t) (tables_of parts done) ++ found ∷ []) here
+    ∙ sym (ap (map (λ t. Some t)) (map-append (table_named parts) done (name ∷ []))
+    ∙ map-append (λ t. Some t) (tables_of parts done) (table_named parts name ∷ []))
+
+pub states-noted : (parts : List Part) (done : List Spot) (name : Spot) (old now new : Option Told) →
+    now ≡ least_of old (flat_map (named_faults parts) done) →
+    new ≡ least_of now (named_faults parts name) →
+    new ≡ least_of old (flat_map (named_faults parts) (done ++ name ∷ []))
+states-noted parts done name old now new before here =
+    here ∙ ap (λ t. least_of t (named_faults parts name)) before
+    ∙ both_noted old (flat_map (named_faults parts) done) (named_faults parts name)
+    ∙ ap (λ list. least_of old (flat_map (named_faults parts) done ++ list)) (sym (alone (named_faults parts name)))
+    ∙ ap (least_of old) (sym (flat_map-append (named_faults parts) done (name ∷ [])))
+  where
+    alone : (xs : List Told) → xs ++ [] ≡ xs
+    alone [] = refl
+    alone (x ∷ xs) = ap (λ ys. x ∷ ys) (alone xs)

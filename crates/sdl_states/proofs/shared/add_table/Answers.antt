@@ -1,0 +1,57 @@
+use Rattle.std.proofs.Common.{◌≡◌, ◌∙◌, ◌++◌, ◌∷◌, [], ap, length, map, subst, sym}
+use Rattle.std.proofs.lemmas.List.{length-map, map-append}
+use Rattle.sdl_scope.specs.Faults.{least_of, told}
+use Rattle.sdl_stimuli.specs.Listed.{part_value}
+use Rattle.sdl_states.specs.Outlined.{parts_at}
+use Rattle.sdl_states.specs.Shared.{IsKnown, Keeps, faults_by, table_at, table_by}
+use Rattle.sdl_states.specs.States.{state_faults, table_of}
+use Rattle.sdl_states.specs.Tabled.{table_value}
+use Rattle.sdl_states.proofs.ShareLemmas.{added-read, known-more, tables-kept}
+use Rattle.sdl_states.proofs.shared.add_table.Goals as goal
+
+pub returns-clause-read : goal.returns-clause-read
+returns-clause-read c =
+    let parts = map part_value c.args.parts.now in
+    let tables = map table_value c.args.tables.now.items in
+    let table = table_value c.in_ok-table.table in
+    let at : c.in_ok-number.number.0 ≡ length tables =
+    ap (λ number. number.0) c.in_ok-number.ensures ∙ ap (λ list. length list) c.deref-2.ensures.value
+    ∙ sym (length-map c.args.tables.now.items table_value) in
+    let is : table ≡ table_by parts c.args.stars.now c.args.turns.now =
+    c.in_ok-table.ensures.read
+    ∙ ap (λ numbers. table_of (parts_at parts numbers)) (c.deref.ensures.value ∙ c.in_ok-numbers.ensures) in
+    ap (λ list. table_at list c.in_ok-number.number)
+    (ap (map table_value) c.in_ok-push.ensures.items ∙ map-append table_value c.args.tables.now.items (c.in_ok-table.table ∷ []))
+    ∙ added-read parts c.args.stars.now c.args.turns.now c.args.known.now tables (told c.args.faults.now)
+    c.in_ok-number.number at c.requires.before table is
+
+pub returns-clause-known : goal.returns-clause-known
+returns-clause-known c =
+    let parts = map part_value c.args.parts.now in
+    let stars = c.args.stars.now in
+    let turns = c.args.turns.now in
+    let tables = map table_value c.args.tables.now.items in
+    let table = table_value c.in_ok-table.table in
+    let numbers = c.deref.ensures.value ∙ c.in_ok-numbers.ensures in
+    let at : c.in_ok-number.number.0 ≡ length tables =
+    ap (λ number. number.0) c.in_ok-number.ensures ∙ ap (λ list. length list) c.deref-2.ensures.value
+    ∙ sym (length-map c.args.tables.now.items table_value) in
+    let is : table ≡ table_by parts stars turns =
+    c.in_ok-table.ensures.read ∙ ap (λ list. table_of (parts_at parts list)) numbers in
+    let noted : told c.read_table.new.faults ≡ least_of (told c.args.faults.now) (faults_by parts stars turns) =
+    c.in_ok-table.ensures.noted
+    ∙ ap (λ list. least_of (told c.args.faults.now) (state_faults (parts_at parts list))) numbers in
+    subst (λ list. IsKnown parts stars c.add.new.self list (told c.read_table.new.faults))
+    (sym (ap (map table_value) c.in_ok-push.ensures.items ∙ map-append table_value c.args.tables.now.items (c.in_ok-table.table ∷ [])))
+    (subst (λ known. IsKnown parts stars known (tables ++ table ∷ []) (told c.read_table.new.faults))
+    (sym c.in_ok-add.ensures)
+    (known-more parts stars turns c.args.known.now tables (told c.args.faults.now) c.in_ok-number.number at
+    c.requires.before table (told c.read_table.new.faults) is noted))
+
+pub returns-clause-kept : goal.returns-clause-kept
+returns-clause-kept c =
+    let tables = map table_value c.args.tables.now.items in
+    let table = table_value c.in_ok-table.table in
+    subst (Keeps tables)
+    (sym (ap (map table_value) c.in_ok-push.ensures.items ∙ map-append table_value c.args.tables.now.items (c.in_ok-table.table ∷ [])))
+    (tables-kept tables table)

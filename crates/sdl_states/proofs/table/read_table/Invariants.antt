@@ -1,0 +1,14 @@
+use Rattle.std.proofs.Common.{◌≡◌, map, take}
+use Rattle.sdl_scope.specs.Faults.{least_of, told}
+use Rattle.sdl_stimuli.specs.Listed.{part_value}
+use Rattle.sdl_states.specs.Outlined.{parts_at}
+use Rattle.sdl_states.specs.States.{state_faults, table_of}
+use Rattle.sdl_states.specs.Tabled.{table_value}
+use Rattle.sdl_states.proofs.table.read_table.Given as goal
+
+abbrev pub invariant-loop-number : goal.invariant-loop-number
+invariant-loop-number l = record {
+  read : table_value l.table ≡ table_of (parts_at (map part_value l.parts) (take l.number-index l.numbers));
+  noted : told l.faults ≡ least_of (told l.initial.faults)
+      (state_faults (parts_at (map part_value l.parts) (take l.number-index l.numbers)));
+}

@@ -1,0 +1,9 @@
+pub mod Answered
+pub mod Broken
+pub mod FirstMention
+pub mod Ordered
+pub mod Outlined
+pub mod Shared
+pub mod States
+pub mod Tabled
+pub mod Turned

@@ -1,0 +1,65 @@
+-- What the tables of a process stand for, where states with the same parts share one.
+use Rattle.std.specs.Prelude.{◌≡◌, ℕ, Bool, List, Option, Some, map, slice_get}
+use Rattle.std.specs.Map.{lookup}
+use Rattle.std.specs.Cmp.Lexicographic.{pointwise}
+use Rattle.sdl_scope.specs.Faults.{Told, least_of}
+use Rattle.sdl_system.specs.declared.id.TableId.{TableId}
+use Rattle.sdl_tree.specs.Tree.{States}
+use Rattle.sdl_stimuli.specs.Reading.{Part}
+use Rattle.sdl_states.specs.Outlined.{Seen, chosen, parts_at}
+use Rattle.sdl_states.specs.States.{Table, state_faults, table_of}
+use Rattle.sdl_states.specs.Tabled.{table_value}
+use Rattle.sdl_states.specs.Turned.{turns_of}
+use Rattle.sdl_states.specs.contracts.outline.TurnPartialEq.TheImpl as turns
+use Rattle.sdl_states.specs.declared.outline.Outline.{Outline}
+use Rattle.sdl_states.specs.declared.outline.Turn.{Turn}
+use Rattle.sdl_states.specs.declared.shared.StateTables.{StateTables}
+
+-- ---- where names stand
+
+abbrev pub seen_of : Outline → List ℕ → Seen
+seen_of outline text = record { stars = outline.stars.items; turns = turns_of outline.turns text }
+
+abbrev pub states_listed : List Part → List States
+states_listed parts = map (λ part. part.states) parts
+
+abbrev pub same_turn : Turn → Turn → Bool
+same_turn = turns.ghosts.eq
+
+abbrev pub same_turns : List Turn → List Turn → Bool
+same_turns = pointwise same_turn
+
+-- ---- tables
+
+-- the table of the states whose names stand there, if it is known
+abbrev pub known_in : List (List Turn × TableId) → List Turn → Option TableId
+known_in known turns = lookup (same_turns turns) known
+
+abbrev pub table_at : List Table → TableId → Option Table
+table_at tables number = slice_get tables number.0
+
+-- the table of each state
+abbrev pub state_tables : StateTables → List (Option Table)
+state_tables states = map (table_at (map table_value states.tables.items)) states.of_states.items
+
+-- the parts of the states whose names stand there
+abbrev pub parts_by : List Part → List ℕ → List Turn → List Part
+parts_by parts stars turns = parts_at parts (chosen (record { stars = stars; turns = turns }))
+
+abbrev pub table_by : List Part → List ℕ → List Turn → Table
+table_by parts stars turns = table_of (parts_by parts stars turns)
+
+abbrev pub faults_by : List Part → List ℕ → List Turn → List Told
+faults_by parts stars turns = state_faults (parts_by parts stars turns)
+
+-- each table that is known is there, and its faults are noted
+pub record IsKnown (parts : List Part) (stars : List ℕ) (known : List (List Turn × TableId)) (tables : List Table)
+    (told : Option Told) : Type 0 where
+  pub right : (turns : List Turn) (number : TableId) → known_in known turns ≡ Some number →
+      table_at tables number ≡ Some (table_by parts stars turns)
+  pub noted : (turns : List Turn) (number : TableId) → known_in known turns ≡ Some number →
+      least_of told (faults_by parts stars turns) ≡ told
+
+-- each table that was there stays where it is
+abbrev pub Keeps : List Table → List Table → Type 0
+Keeps old new = (number : TableId) (table : Table) → table_at old number ≡ Some table → table_at new number ≡ Some table
