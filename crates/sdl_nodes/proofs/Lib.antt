@@ -1,0 +1,10 @@
+pub mod BuiltLemmas
+pub mod CountLemmas
+pub mod LaterLemmas
+pub mod LinkLemmas
+pub mod ListLemmas
+pub mod MadeLemmas
+pub mod NamedLemmas
+pub mod PartLemmas
+pub mod TransitionLemmas
+pub mod TreeLemmas

@@ -1,0 +1,13 @@
+use Rattle.std.proofs.Common.{◌≡◌, flat_map, map, take}
+use Rattle.sdl_nodes.specs.Contexts.{context_of}
+use Rattle.sdl_sorts.specs.Answers.{answer_faults, answer_in}
+use Rattle.sdl_scope.specs.Faults.{least_of, told}
+use Rattle.sdl_tree.specs.Views.{answer_value}
+use Rattle.sdl_nodes.proofs.decision.resolve_answers.Given as goal
+
+abbrev pub invariant-loop-answer : goal.invariant-loop-answer
+invariant-loop-answer l = record {
+  answers : l.found.items ≡ map (answer_in (context_of l.context).scope l.question) (map answer_value (take l.answer-index l.answers));
+  noted : told l.faults ≡ least_of (told l.initial.faults)
+      (flat_map (answer_faults (context_of l.context).scope l.question) (map answer_value (take l.answer-index l.answers)));
+}

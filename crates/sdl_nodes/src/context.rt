@@ -1,0 +1,59 @@
+//! What a transition can name.
+
+use port_model::SignalId;
+use sdl_scope::Names;
+use sdl_sorts::Scope;
+use sdl_system::{LabelId, StateId};
+
+/// What the names in the transitions of a process stand for.
+#[derive(Clone, Copy)]
+pub struct Context<'a, 's, 't> {
+    /// Variables and synonyms, signals and timers, processes and blocks.
+    pub scope: Scope<'a, 's, 't>,
+    pub states: &'a Names<'t, StateId>,
+    pub labels: &'a Names<'t, LabelId>,
+    /// Whether a path leads a signal from the process to a receiver, by the signal's number.
+    pub reaches: &'a [bool],
+    /// The default duration of a timer in ticks, by the timer's number; None where it has none, or none that has a
+    /// value.
+    pub durations: &'a [Option<i64>],
+}
+
+impl<'a, 's, 't> Context<'a, 's, 't> {
+    ghost use Rattle.std.specs.Prelude.{◌≡◌};
+    ghost use Rattle.sdl_nodes.specs.Contexts.{context_of, duration_of, is_reaching, label_in, state_in};
+
+    /// The state of this name.
+    pub(crate) fn state(&self, text: &str) -> Option<StateId>
+        ensures { result ≡ state_in (context_of self.now) text.now }
+    {
+        self.states.get(text)
+    }
+
+    /// The label of this name.
+    pub(crate) fn label(&self, text: &str) -> Option<LabelId>
+        ensures { result ≡ label_in (context_of self.now) text.now }
+    {
+        self.labels.get(text)
+    }
+
+    /// Whether a path leads the signal to a receiver.
+    pub(crate) fn is_reaching(&self, signal: SignalId) -> bool
+        ensures { result ≡ is_reaching (context_of self.now) signal }
+    {
+        self.reaches
+            .get(signal.0 as usize)
+            .copied()
+            .unwrap_or(false)
+    }
+
+    /// The default duration of a timer.
+    pub(crate) fn duration(&self, timer: SignalId) -> Option<i64>
+        ensures { result ≡ duration_of (context_of self.now) timer }
+    {
+        self.durations
+            .get(timer.0 as usize)
+            .copied()
+            .unwrap_or(None)
+    }
+}

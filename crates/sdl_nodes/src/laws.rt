@@ -1,0 +1,24 @@
+//! What holds of the definitions, as functions that do nothing.
+
+ghost use Rattle.sdl_nodes.specs.Later.{LaterNoted};
+ghost use Rattle.sdl_nodes.specs.Made.{BodyMade, JoinsAreNamed, LabelsStand};
+
+/// The fault that is told of a later part stands for all of them.
+pub fn later_noted()
+    ensures { LaterNoted }
+{}
+
+/// A table that is made of bodies, and to which one more is added, is made of them all.
+pub fn body_made()
+    ensures { BodyMade }
+{}
+
+/// Each label of the bodies has statements that stand behind it in one of them.
+pub fn labels_stand()
+    ensures { LabelsStand }
+{}
+
+/// Each join of the body of a transition leads to a label that some name stands for.
+pub fn joins_are_named()
+    ensures { JoinsAreNamed }
+{}
