@@ -1,0 +1,17 @@
+use Rattle.std.proofs.Common.{◌≡◌, ◌++◌, List, Option, flat_map, map, take}
+use Rattle.sdl_bodies.specs.Added.{Holds}
+use Rattle.sdl_bodies.specs.Bodies.{bodies_among, faults_among}
+use Rattle.sdl_ends.specs.Beginnings.{part_beginnings}
+use Rattle.sdl_nodes.specs.Contexts.{context_of}
+use Rattle.sdl_scope.specs.Faults.{least_of, told}
+use Rattle.sdl_system.specs.Body.{Body}
+use Rattle.sdl_tree.specs.Views.{body_part_value}
+use Rattle.sdl_bodies.proofs.added.add_parts.Given as goal
+
+abbrev pub invariant-loop-part : goal.invariant-loop-part
+invariant-loop-part l = record {
+  added : (found : List (Option Body)) → Holds l.initial.added found → Holds l.added (found ++ bodies_among
+      (context_of l.context) (flat_map part_beginnings (map body_part_value (take l.part-index l.parts))));
+  noted : told l.faults ≡ least_of (told l.initial.faults) (faults_among (context_of l.context)
+      (flat_map part_beginnings (map body_part_value (take l.part-index l.parts))));
+}
