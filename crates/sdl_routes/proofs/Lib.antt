@@ -4,10 +4,16 @@ pub mod Complete
 pub mod EachLemmas
 pub mod FlowLemmas
 pub mod GraphLemmas
+pub mod KnownLemmas
 pub mod LinkLemmas
 pub mod ListLemmas
 pub mod NamedLemmas
 pub mod NodeLemmas
 pub mod PassLemmas
 pub mod PathLemmas
+pub mod ReceiverLemmas
+pub mod ReturnLemmas
+pub mod SharedLemmas
 pub mod Sound
+pub mod TableLemmas
+pub mod ValidLemmas

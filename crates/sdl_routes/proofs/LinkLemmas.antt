@@ -5,7 +5,7 @@ use Rattle.sdl_routes.specs.Steps.{AtPath, JointSteps, Link, node_if, option_if}
 use Rattle.sdl_routes.specs.declared.graph.Row.{Row}
 use Rattle.sdl_routes.specs.declared.joint.Side as side
 use Rattle.sdl_routes.specs.declared.list.ListId.{ListId}
-use Rattle.sdl_routes.specs.declared.network.BlockId.{BlockId}
+use Rattle.sdl_system.specs.declared.id.BlockId.{BlockId}
 use Rattle.sdl_routes.specs.declared.network.ChannelPath.{ChannelPath}
 use Rattle.sdl_routes.specs.declared.network.PathId.{PathId}
 use Rattle.sdl_routes.specs.declared.node.Node as node

@@ -16,7 +16,7 @@ use Rattle.sdl_routes.specs.declared.graph.Step.{Step}
 use Rattle.sdl_routes.specs.declared.joint.Side.TheVariants as which
 use Rattle.sdl_routes.specs.declared.list.ListId.{ListId}
 use Rattle.sdl_routes.specs.declared.network.Block.{Block}
-use Rattle.sdl_routes.specs.declared.network.BlockId.{BlockId}
+use Rattle.sdl_system.specs.declared.id.BlockId.{BlockId}
 use Rattle.sdl_routes.specs.declared.network.ChannelPath.{ChannelPath}
 use Rattle.sdl_routes.specs.declared.network.Connect.{Connect}
 use Rattle.sdl_routes.specs.declared.network.End as end

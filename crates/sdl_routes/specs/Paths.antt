@@ -4,7 +4,7 @@ use Rattle.port_model.specs.declared.item.SignalId.{SignalId}
 use Rattle.sdl_routes.specs.Each.{ForSome}
 use Rattle.sdl_routes.specs.SignalLists.{StandsFor}
 use Rattle.sdl_routes.specs.declared.network.Block.{Block}
-use Rattle.sdl_routes.specs.declared.network.BlockId.{BlockId}
+use Rattle.sdl_system.specs.declared.id.BlockId.{BlockId}
 use Rattle.sdl_routes.specs.declared.network.ChannelPath.{ChannelPath}
 use Rattle.sdl_routes.specs.declared.network.Connect.{Connect}
 use Rattle.sdl_routes.specs.declared.network.End as end

@@ -4,7 +4,7 @@ use Rattle.port_model.specs.declared.item.SignalId.{SignalId}
 use Rattle.sdl_routes.specs.Paths.{By, Goes, Implied, IsNamed, StandsIn, Way}
 use Rattle.sdl_routes.specs.SignalLists.{StandsFor}
 use Rattle.sdl_routes.specs.declared.list.ListId.{ListId}
-use Rattle.sdl_routes.specs.declared.network.BlockId.{BlockId}
+use Rattle.sdl_system.specs.declared.id.BlockId.{BlockId}
 use Rattle.sdl_routes.specs.declared.network.ChannelPath.{ChannelPath}
 use Rattle.sdl_routes.specs.declared.network.Connect.{Connect}
 use Rattle.sdl_routes.specs.declared.network.End.TheVariants as at

@@ -1,5 +1,5 @@
 -- Which signals a list stands for.
-use Rattle.std.specs.Prelude.{◌≡◌, ℕ, zero, suc, ◌/◌, ◌%◌, List, [], ◌∷◌, None, Some, slice_get}
+use Rattle.std.specs.Prelude.{◌≡◌, ℕ, zero, suc, ◌/◌, ◌%◌, ◌<◌, ◌↔◌, List, [], ◌∷◌, None, Some, slice_get}
 use Rattle.port_model.specs.declared.item.SignalId.{SignalId}
 use Rattle.sdl_routes.specs.Each.{ForSome}
 use Rattle.sdl_routes.specs.Mask.{Has}
@@ -28,6 +28,10 @@ column (first ∷ columns) (suc n) = column columns n
 -- the sets have the signal in the set of the list
 abbrev pub HasSignal : SignalSets → ListId → SignalId → Type 0
 HasSignal sets list signal = Has (column sets.columns.items (signal.0 / 64)) list.0 (signal.0 % 64)
+
+-- the sets are those of the lists, of the signals with a number below this one
+abbrev pub AreSets : List SignalList → ℕ → SignalSets → Type 0
+AreSets lists signals sets = (list : ListId) (signal : SignalId) → signal.0 < signals → HasSignal sets list signal ↔ StandsFor lists signal list
 
 -- the entry is a signal that stands at place k of the n-th 64
 abbrev pub IsSignalAt : ℕ → ℕ → entry.Item → Type 0

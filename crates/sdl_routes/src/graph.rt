@@ -156,7 +156,7 @@ fn pass(
 }
 
 /// The signals of both masks.
-fn joined(left: u64, right: u64) -> u64
+pub(crate) fn joined(left: u64, right: u64) -> u64
     ensures value { result ≡ bit_or left right }
     ensures fits { result < 2 ^ 64 }
 {

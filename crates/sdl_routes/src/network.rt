@@ -1,11 +1,7 @@
 //! What joins the agents of a system: its processes, blocks, channels and connects (Z.101: agent, channel, connection).
 
 use crate::list::{ListId, SignalList};
-use sdl_system::ProcessId;
-
-/// A block, counted from 0 in the order of the text.
-#[derive(Clone, Copy, Debug, PartialEq, Eq, PartialOrd, Ord, Hash)]
-pub struct BlockId(pub u32);
+use sdl_system::{BlockId, ProcessId};
 
 /// A path of a channel, counted from 0 over the whole text. A channel with two paths has two numbers.
 #[derive(Clone, Copy, Debug, PartialEq, Eq, PartialOrd, Ord, Hash)]

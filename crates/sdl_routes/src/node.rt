@@ -3,8 +3,8 @@
 ghost use Rattle.std.specs.Prelude.{◌≡◌};
 ghost use Rattle.sdl_routes.specs.Nodes.{number};
 
-use crate::network::{BlockId, PathId};
-use sdl_system::ProcessId;
+use crate::network::PathId;
+use sdl_system::{BlockId, ProcessId};
 
 /// Where a signal may be on its way.
 #[derive(Clone, Copy, Debug, PartialEq, Eq)]

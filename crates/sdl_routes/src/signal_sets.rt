@@ -8,7 +8,7 @@ ghost use Rattle.port_model.specs.declared.item.SignalId.{SignalId};
 ghost use Rattle.sdl_routes.specs.Each.{ForSome};
 ghost use Rattle.sdl_routes.specs.Graph.{Adds, Leads};
 ghost use Rattle.sdl_routes.specs.Mask.{Bit, Has};
-ghost use Rattle.sdl_routes.specs.SignalLists.{EntryStep, EntrySteps, HasSignal, IsSignalAt, ListSteps, NamesIn, StandsFor, column};
+ghost use Rattle.sdl_routes.specs.SignalLists.{AreSets, EntryStep, EntrySteps, HasSignal, IsSignalAt, ListSteps, NamesIn, StandsFor, column};
 ghost use Rattle.sdl_routes.specs.declared.list.ListId.{ListId};
 ghost use Rattle.sdl_routes.specs.declared.graph.Step.{Step};
 
@@ -36,8 +36,7 @@ impl SignalSets {
         lists: &[SignalList],
         signals: u32,
     ) -> Result<SignalSets, AllocError>
-        ensures { IfOk result (λ sets. (list : ListId) (signal : SignalId) → signal.0 < signals
-            → HasSignal sets list signal ↔ StandsFor lists.now signal list) }
+        ensures { IfOk result (AreSets lists.now signals) }
     {
         let graph = graph_of(alloc, lists)?;
         let mut columns = Vec::new(alloc);

@@ -12,13 +12,13 @@ ghost use Rattle.sdl_routes.specs.Steps.{AllSteps, BlockSteps, AtPath, ConnectSt
 use crate::graph::{Graph, Step};
 use crate::joint::Side;
 use crate::list::ListId;
-use crate::network::{BlockId, ChannelPath, Connect, End, Network, PathId, Process, Scope, Source};
+use crate::network::{ChannelPath, Connect, End, Network, PathId, Process, Scope, Source};
 use crate::node::Node;
 use crate::place::{
     begin_of, end_of, first_of, from_block, is_implied, node_if, on_first, on_implied, same_end,
     same_scope, start_of,
 };
-use sdl_system::ProcessId;
+use sdl_system::{BlockId, ProcessId};
 use std::alloc::{AllocError, Global};
 
 /// A connect by its number, and its block.
