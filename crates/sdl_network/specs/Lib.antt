@@ -1,0 +1,7 @@
+pub mod Agents
+pub mod Connects
+pub mod Network
+pub mod Numbered
+pub mod Paths
+pub mod Processes
+pub mod Seen
