@@ -8,6 +8,8 @@
 #[cfg(test)]
 mod again;
 #[cfg(test)]
+mod ends;
+#[cfg(test)]
 mod limits;
 #[cfg(test)]
 mod prefixes;
