@@ -1,7 +1,10 @@
+pub mod AnswerLaws
+pub mod BrokenLaws
 pub mod BuiltLemmas
 pub mod CountLemmas
 pub mod LaterLemmas
 pub mod LinkLemmas
+pub mod ListedLaws
 pub mod ListLemmas
 pub mod MadeLemmas
 pub mod NamedLemmas

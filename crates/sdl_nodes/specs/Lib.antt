@@ -1,3 +1,5 @@
+pub mod Broken
+pub mod BrokenAnswers
 pub mod Built
 pub mod Contexts
 pub mod Decided
@@ -6,5 +8,6 @@ pub mod Labels
 pub mod Later
 pub mod Linked
 pub mod Made
+pub mod Standing
 pub mod Statements
 pub mod Transitions

@@ -1,5 +1,7 @@
 //! What holds of the definitions, as functions that do nothing.
 
+ghost use Rattle.sdl_nodes.specs.Broken.{BrokenListed, ListedBroken};
+ghost use Rattle.sdl_nodes.specs.BrokenAnswers.{BrokenListedAnswer, ListedBrokenAnswer};
 ghost use Rattle.sdl_nodes.specs.Later.{LaterNoted};
 ghost use Rattle.sdl_nodes.specs.Made.{BodyMade, JoinsAreNamed, LabelsStand};
 
@@ -21,4 +23,24 @@ pub fn labels_stand()
 /// Each join of the body of a transition leads to a label that some name stands for.
 pub fn joins_are_named()
     ensures { JoinsAreNamed }
+{}
+
+/// Each fault of an answer is a rule that is broken in it.
+pub fn listed_is_broken_answer()
+    ensures { ListedBrokenAnswer }
+{}
+
+/// Each rule that is broken in an answer is among its faults.
+pub fn broken_is_listed_answer()
+    ensures { BrokenListedAnswer }
+{}
+
+/// Each fault of a transition is a rule that is broken in it.
+pub fn listed_is_broken()
+    ensures { ListedBroken }
+{}
+
+/// Each rule that is broken in a transition is among its faults.
+pub fn broken_is_listed()
+    ensures { BrokenListed }
 {}

@@ -4,6 +4,8 @@
 //! `specs/Statements` says what each statement does, `specs/Faulty` which rules it breaks, and `specs/Transitions` both
 //! for whole transitions. `add` notes exactly the faults of a transition, and where nothing in it is refused its body
 //! stands in the table. `NodeTable::finish` links the joins: the nodes are then a table of the bodies of the process.
+//! `specs/Broken` says of the statements that stand in a transition when a rule is broken, and at which word; `laws`
+//! says that these are exactly the faults that are noted.
 #![tactic(auto)]
 
 mod applied;
