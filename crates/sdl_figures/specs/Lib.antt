@@ -1,0 +1,4 @@
+pub mod Figures
+pub mod Limit
+pub mod Scopes
+pub mod Synonyms
