@@ -1,3 +1,4 @@
+pub mod Broken
 pub mod Context
 pub mod Faulty
 pub mod Listed

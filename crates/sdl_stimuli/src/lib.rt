@@ -9,6 +9,7 @@
 
 mod context;
 mod inputs;
+pub mod laws;
 mod mention;
 mod reading;
 mod saves;
