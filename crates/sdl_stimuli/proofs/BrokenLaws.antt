@@ -144,7 +144,8 @@ is-less m n h = grind (arith, nat_tests)
 
 module _ (context : Context) where
   name-broken : (input : Input) (meaning : Option SignalMeaning) →
-      signal_in context.scope input.signal.text ≡ meaning → Each (BreaksInput context input) (named_faults input meaning)
+      signal_in context.scope input.signal.text ≡ meaning →
+      Each (BreaksInput context input) (named_faults input meaning)
   name-broken input None is = (unknown_signal is, tt)
   name-broken input (Some meaning) is =
       each-if (BreaksInput context input) (nat_lt (length (sorts_of meaning)) (length input.variables)) kind.Sort
@@ -160,7 +161,8 @@ module _ (context : Context) where
       (variables_faults context.scope (parameters_of meaning) input.variables) (λ fault h. at_place fault h)
       (each-places context.scope (parameters_of meaning) input.variables [] input.variables refl))
 
-  listed-input : (input : Input) (fault : Told) → BreaksInput context input fault → In fault (input_faults context input)
+  listed-input : (input : Input) (fault : Told) → BreaksInput context input fault →
+      In fault (input_faults context input)
   listed-input input fault (unknown_signal is) =
       let meaning = signal_in context.scope input.signal.text in
       in-left (told_at kind.Unknown input.signal) (named_faults input meaning)
