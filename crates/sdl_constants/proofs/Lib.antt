@@ -1,1 +1,2 @@
+pub mod BrokenLaws
 mod CountLemmas

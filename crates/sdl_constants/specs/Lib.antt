@@ -1,3 +1,4 @@
+pub mod Broken
 pub mod Counts
 pub mod Timers
 pub mod Variables

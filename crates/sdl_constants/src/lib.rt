@@ -3,10 +3,12 @@
 //!
 //! Each is a constant expression in the sort of its place, so it has the faults and the value that `sdl_sorts` says;
 //! `specs/Counts` has the conditions on the numbers of instances besides. Each function answers exactly what its
-//! definition says, and notes exactly the faults of its list.
+//! definition says, and notes exactly the faults of its list. `specs/Broken` says of the words of the text which rules
+//! are broken, and `laws` that the lists say the same.
 #![tactic(auto)]
 
 mod counts;
+pub mod laws;
 mod timers;
 mod variables;
 
