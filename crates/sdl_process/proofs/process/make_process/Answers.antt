@@ -1,0 +1,70 @@
+use Rattle.std.proofs.Common.{◌≡◌, ◌∙◌, Some, ap, map, subst}
+use Rattle.std.proofs.lemmas.Result.{IfOk-weaker}
+use Rattle.sdl_bodies.specs.Sound.{AreTransitionsOf}
+use Rattle.sdl_scope.specs.Faults.{told}
+use Rattle.sdl_states.specs.States.{state_of, tables_of}
+use Rattle.sdl_states.specs.Tabled.{is_state, meanings_at, names_listed, table_value}
+use Rattle.sdl_states.proofs.ProcessLemmas.{meanings-read}
+use Rattle.sdl_stimuli.specs.Listed.{part_value}
+use Rattle.sdl_stimuli.specs.Reading.{process_read}
+use Rattle.sdl_tree.specs.Views.{process_value}
+use Rattle.sdl_process.specs.Made.{Said}
+use Rattle.sdl_process.specs.Surroundings.{for_stimuli, for_transitions, surroundings_of}
+use Rattle.sdl_process.proofs.FaultLemmas.{body-noted, on-ok, states-noted}
+use Rattle.sdl_process.proofs.MeaningLemmas.{made-means}
+use Rattle.sdl_process.proofs.process.make_process.Goals as goal
+
+pub returns-in_default-clause-noted : goal.returns-in_default-clause-noted
+returns-in_default-clause-noted c =
+    let around = surroundings_of c.args.around.now in
+    let process = process_value c.args.definition.now in
+    let context = for_stimuli around in
+    let old = told c.args.faults.now in
+    let second = told c.read_states.new.faults in
+    let are : map part_value c.deref.result.now ≡ (process_read context process).parts =
+    ap (map part_value) c.deref.ensures.value
+    ∙ ap (λ reading. reading.parts) c.in_ok-numbering.ensures.read in
+    body-noted around process old second (told c.read_flow.new.faults)
+    (states-noted context process (is_state c.args.around.now.states.table.now) (map part_value c.deref.result.now)
+    (names_listed c.args.around.now.states.names.now) old (told c.read_parts.new.faults) second c.requires.table are
+    c.requires.names c.in_ok-numbering.ensures.noted c.in_ok-said.ensures.noted) c.in_ok-transitions.ensures.noted
+
+pub returns-clause-noted : goal.returns-clause-noted
+returns-clause-noted c =
+    let around = surroundings_of c.args.around.now in
+    let process = process_value c.args.definition.now in
+    let context = for_stimuli around in
+    let old = told c.args.faults.now in
+    let second = told c.read_states.new.faults in
+    let are : map part_value c.deref.result.now ≡ (process_read context process).parts =
+    ap (map part_value) c.deref.ensures.value
+    ∙ ap (λ reading. reading.parts) c.in_ok-numbering.ensures.read in
+    on-ok c.process_of.result
+    (body-noted around process old second (told c.read_flow.new.faults)
+    (states-noted context process (is_state c.args.around.now.states.table.now) (map part_value c.deref.result.now)
+    (names_listed c.args.around.now.states.names.now) old (told c.read_parts.new.faults) second c.requires.table are
+    c.requires.names c.in_ok-numbering.ensures.noted c.in_ok-said.ensures.noted) c.in_ok-transitions.ensures.noted)
+
+pub returns-clause-means : goal.returns-clause-means
+returns-clause-means c =
+    let around = surroundings_of c.args.around.now in
+    let process = process_value c.args.definition.now in
+    let context = for_stimuli around in
+    let parts = (process_read context process).parts in
+    let names = names_listed c.args.around.now.states.names.now in
+    let said : Said = record {
+      names = names;
+      tables = map table_value c.in_ok-said.said.tables.items;
+      numbers = c.in_ok-said.said.of_states.items;
+      conditions = c.in_ok-numbering.field-0.numbering.conditions.items;
+    } in
+    let are : map part_value c.deref.result.now ≡ parts =
+    ap (map part_value) c.deref.ensures.value
+    ∙ ap (λ reading. reading.parts) c.in_ok-numbering.ensures.read in
+    IfOk-weaker c.process_of.result _ _
+    (made-means around process c.args.heading said c.in-Some.transitions
+    (subst (AreTransitionsOf (for_transitions around) process) c.in-Some.is c.in_ok-transitions.ensures.table)
+    (ap (λ reading. reading.numbering.conditions) c.in_ok-numbering.ensures.read)
+    (ap (meanings_at names) (c.in_ok-said.ensures.read ∙ ap (λ list. map (λ t. Some t) (tables_of list names)) are)
+    ∙ meanings-read parts names
+    ∙ ap (λ list. map (λ m. Some m) (map (state_of parts) list)) c.requires.names)) c.process_of.ensures

@@ -1,0 +1,35 @@
+-- The rules that are broken in the states and transitions of a process.
+use Rattle.std.specs.Prelude.{◌≡◌, ◌++◌, ℕ, List, Option}
+use Rattle.sdl_bodies.specs.Bodies.{bodies_faults}
+use Rattle.sdl_ends.specs.Beginnings.{beginnings}
+use Rattle.sdl_ends.specs.Ends.{ends_faults}
+use Rattle.sdl_ends.specs.Reach.{AreReached}
+use Rattle.sdl_ends.specs.Stays.{stay_faults}
+use Rattle.sdl_scope.specs.Faults.{Told, least_of}
+use Rattle.sdl_states.specs.States.{process_faults}
+use Rattle.sdl_tree.specs.Tree.{ProcessDefinition}
+use Rattle.sdl_process.specs.Surroundings.{Surroundings, for_stimuli, for_transitions}
+
+-- those of its transitions: of their statements, NoEnd at a path without an end, and NoState at a `-` that the start
+-- reaches, where the joins that it reaches have these names
+abbrev pub flow_faults : Surroundings → ProcessDefinition → List (List ℕ) → List Told
+flow_faults around process names =
+    bodies_faults (for_transitions around) process
+    ++ (ends_faults process ++ stay_faults (beginnings process) names)
+
+-- and those of what its states say
+abbrev pub body_faults : Surroundings → ProcessDefinition → List (List ℕ) → List Told
+body_faults around process names =
+    process_faults (for_stimuli around) process ++ flow_faults around process names
+
+-- each fault of its transitions is noted in between
+pub record NotesFlow (around : Surroundings) (process : ProcessDefinition) (old new : Option Told) : Type 0 where
+  pub names : List (List ℕ)
+  pub are_reached : AreReached (beginnings process) names
+  pub noted : new ≡ least_of old (flow_faults around process names)
+
+-- Each fault of its states and transitions is noted in between.
+pub record NotesBody (around : Surroundings) (process : ProcessDefinition) (old new : Option Told) : Type 0 where
+  pub names : List (List ℕ)
+  pub are_reached : AreReached (beginnings process) names
+  pub noted : new ≡ least_of old (body_faults around process names)

@@ -1,0 +1,5 @@
+pub mod Conditions
+pub mod Faulty
+pub mod Made
+pub mod Meant
+pub mod Surroundings
