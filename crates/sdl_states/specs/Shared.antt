@@ -5,9 +5,10 @@ use Rattle.std.specs.Cmp.Lexicographic.{pointwise}
 use Rattle.sdl_scope.specs.Faults.{Told, least_of}
 use Rattle.sdl_system.specs.declared.id.TableId.{TableId}
 use Rattle.sdl_tree.specs.Tree.{States}
+use Rattle.sdl_tree.specs.Words.{Spot}
 use Rattle.sdl_stimuli.specs.Reading.{Part}
 use Rattle.sdl_states.specs.Outlined.{Seen, chosen, parts_at}
-use Rattle.sdl_states.specs.States.{Table, state_faults, table_of}
+use Rattle.sdl_states.specs.States.{Table, state_faults, table_named, table_of}
 use Rattle.sdl_states.specs.Tabled.{table_value}
 use Rattle.sdl_states.specs.Turned.{turns_of}
 use Rattle.sdl_states.specs.contracts.outline.TurnPartialEq.TheImpl as turns
@@ -63,3 +64,8 @@ pub record IsKnown (parts : List Part) (stars : List ℕ) (known : List (List Tu
 -- each table that was there stays where it is
 abbrev pub Keeps : List Table → List Table → Type 0
 Keeps old new = (number : TableId) (table : Table) → table_at old number ≡ Some table → table_at new number ≡ Some table
+
+-- the table is that of a state of some name
+pub record IsOfName (parts : List Part) (table : Table) : Type 0 where
+  pub name : Spot
+  pub is : table ≡ table_named parts name

@@ -1,10 +1,10 @@
 //! What the states of a process say. States with the same parts share a table.
 
-ghost use Rattle.std.specs.Prelude.{◌≡◌, ℕ, List, None, Some, IfOk, OnOk, flat_map, length, map};
+ghost use Rattle.std.specs.Prelude.{◌≡◌, ℕ, All, List, None, Some, IfOk, OnOk, flat_map, length, map};
 ghost use Rattle.sdl_scope.specs.Faults.{least_of, told};
 ghost use Rattle.sdl_stimuli.specs.Listed.{part_value};
 ghost use Rattle.sdl_states.specs.Outlined.{seen_in};
-ghost use Rattle.sdl_states.specs.Shared.{IsKnown, Keeps, faults_by, known_in, seen_of, state_tables, states_listed, table_at, table_by};
+ghost use Rattle.sdl_states.specs.Shared.{IsKnown, IsOfName, Keeps, faults_by, known_in, seen_of, state_tables, states_listed, table_at, table_by};
 ghost use Rattle.sdl_states.specs.States.{named_faults, tables_of};
 ghost use Rattle.sdl_states.specs.Tabled.{names_listed, table_value};
 
@@ -40,6 +40,8 @@ pub fn read_states<'m, 't>(
 ) -> Result<StateTables<'m>, AllocError>
     ensures read { IfOk result (λ states. state_tables states
         ≡ map Some (tables_of (map part_value parts.now) (names_listed names.now))) }
+    ensures each { IfOk result (λ states. All (IsOfName (map part_value parts.now))
+        (map table_value states.tables.items)) }
     ensures noted { OnOk result (told faults.new ≡ least_of (told faults.old)
         (flat_map (named_faults (map part_value parts.now)) (names_listed names.now))) }
 {
@@ -57,6 +59,8 @@ fn share<'m, 't>(
     requires { (text : List ℕ) → seen_of outline.now text ≡ seen_in text (states_listed (map part_value parts.now)) }
     ensures read { IfOk result (λ states. state_tables states
         ≡ map Some (tables_of (map part_value parts.now) (names_listed names.now))) }
+    ensures each { IfOk result (λ states. All (IsOfName (map part_value parts.now))
+        (map table_value states.tables.items)) }
     ensures noted { OnOk result (told faults.new ≡ least_of (told faults.old)
         (flat_map (named_faults (map part_value parts.now)) (names_listed names.now))) }
 {
@@ -89,6 +93,9 @@ fn table_of<'l, 'm, 't>(
     ensures known { OnOk result (IsKnown (map part_value parts.now) stars.now known.new
         (map table_value tables.new.items) (told faults.new)) }
     ensures kept { OnOk result (Keeps (map table_value tables.old.items) (map table_value tables.new.items)) }
+    ensures each { OnOk result (IsOfName (map part_value parts.now) (table_by (map part_value parts.now) stars.now turns.now)
+        → All (IsOfName (map part_value parts.now)) (map table_value tables.old.items)
+        → All (IsOfName (map part_value parts.now)) (map table_value tables.new.items)) }
     ensures noted { OnOk result (told faults.new ≡ least_of (told faults.old)
         (faults_by (map part_value parts.now) stars.now turns.now)) }
 {
@@ -115,6 +122,9 @@ fn add_table<'l, 'm, 't>(
     ensures known { OnOk result (IsKnown (map part_value parts.now) stars.now known.new
         (map table_value tables.new.items) (told faults.new)) }
     ensures kept { OnOk result (Keeps (map table_value tables.old.items) (map table_value tables.new.items)) }
+    ensures each { OnOk result (IsOfName (map part_value parts.now) (table_by (map part_value parts.now) stars.now turns.now)
+        → All (IsOfName (map part_value parts.now)) (map table_value tables.old.items)
+        → All (IsOfName (map part_value parts.now)) (map table_value tables.new.items)) }
     ensures noted { OnOk result (told faults.new ≡ least_of (told faults.old)
         (faults_by (map part_value parts.now) stars.now turns.now)) }
 {

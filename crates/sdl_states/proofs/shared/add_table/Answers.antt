@@ -1,9 +1,10 @@
-use Rattle.std.proofs.Common.{◌≡◌, ◌∙◌, ◌++◌, ◌∷◌, [], ap, length, map, subst, sym}
+use Rattle.std.proofs.Common.{◌≡◌, ◌∙◌, ◌++◌, ◌∷◌, All, [], ap, length, map, subst, sym}
 use Rattle.std.proofs.lemmas.List.{length-map, map-append}
+use Rattle.std.proofs.lemmas.List.Elements.{All-push}
 use Rattle.sdl_scope.specs.Faults.{least_of, told}
 use Rattle.sdl_stimuli.specs.Listed.{part_value}
 use Rattle.sdl_states.specs.Outlined.{parts_at}
-use Rattle.sdl_states.specs.Shared.{IsKnown, Keeps, faults_by, table_at, table_by}
+use Rattle.sdl_states.specs.Shared.{IsKnown, IsOfName, Keeps, faults_by, table_at, table_by}
 use Rattle.sdl_states.specs.States.{state_faults, table_of}
 use Rattle.sdl_states.specs.Tabled.{table_value}
 use Rattle.sdl_states.proofs.ShareLemmas.{added-read, known-more, tables-kept}
@@ -55,3 +56,16 @@ returns-clause-kept c =
     subst (Keeps tables)
     (sym (ap (map table_value) c.in_ok-push.ensures.items ∙ map-append table_value c.args.tables.now.items (c.in_ok-table.table ∷ [])))
     (tables-kept tables table)
+
+pub returns-clause-each : goal.returns-clause-each
+returns-clause-each c =
+    let parts = map part_value c.args.parts.now in
+    let tables = map table_value c.args.tables.now.items in
+    let table = table_value c.in_ok-table.table in
+    let is : table ≡ table_by parts c.args.stars.now c.args.turns.now =
+    c.in_ok-table.ensures.read
+    ∙ ap (λ numbers. table_of (parts_at parts numbers)) (c.deref.ensures.value ∙ c.in_ok-numbers.ensures) in
+    λ one each.
+    subst (All (IsOfName parts))
+    (sym (ap (map table_value) c.in_ok-push.ensures.items ∙ map-append table_value c.args.tables.now.items (c.in_ok-table.table ∷ [])))
+    (All-push (IsOfName parts) tables table each (subst (IsOfName parts) (sym is) one))

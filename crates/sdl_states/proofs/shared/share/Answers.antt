@@ -39,6 +39,11 @@ loop-name-preserved c =
           (c.in_ok-table.ensures.read ∙ ap (λ list. Some (table_by parts list turns)) lent
           ∙ ap (λ t. Some t) (own-table parts stars turns name seen))
           ∙ ap (λ list. map (λ t. Some t) (tables_of parts list)) (sym next);
+      each =
+          c.in_ok-table.ensures.each (record {
+            name = name;
+            is = ap (λ list. table_by parts list turns) lent ∙ own-table parts stars turns name seen;
+          }) c.loop-name.invariant.each;
       noted =
           states-noted parts done name (told c.args.faults.now) (told c.loop-name.faults) (told c.table_of.new.faults)
           c.loop-name.invariant.noted

@@ -1,7 +1,7 @@
-use Rattle.std.proofs.Common.{◌≡◌, Some, flat_map, map, take}
+use Rattle.std.proofs.Common.{◌≡◌, All, Some, flat_map, map, take}
 use Rattle.sdl_scope.specs.Faults.{least_of, told}
 use Rattle.sdl_stimuli.specs.Listed.{part_value}
-use Rattle.sdl_states.specs.Shared.{IsKnown, table_at}
+use Rattle.sdl_states.specs.Shared.{IsKnown, IsOfName, table_at}
 use Rattle.sdl_states.specs.States.{named_faults, tables_of}
 use Rattle.sdl_states.specs.Tabled.{names_listed, table_value}
 use Rattle.sdl_states.proofs.shared.share.Given as goal
@@ -11,6 +11,7 @@ invariant-loop-name l = record {
   known : IsKnown (map part_value l.parts) l.outline.stars.items l.known (map table_value l.tables.items) (told l.faults);
   read : map (table_at (map table_value l.tables.items)) l.of_states.items
       ≡ map Some (tables_of (map part_value l.parts) (names_listed (take l.name-index l.names)));
+  each : All (IsOfName (map part_value l.parts)) (map table_value l.tables.items);
   noted : told l.faults ≡ least_of (told l.initial.faults)
       (flat_map (named_faults (map part_value l.parts)) (names_listed (take l.name-index l.names)));
 }
