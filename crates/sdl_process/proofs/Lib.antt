@@ -1,3 +1,4 @@
 mod FaultLemmas
 mod MeaningLemmas
+mod RefusedLemmas
 mod WithinLemmas

@@ -1,8 +1,9 @@
 //! What the text of a process says, whole.
 
-ghost use Rattle.std.specs.Prelude.{◌≡◌, ◌++◌, ℕ, List, IfOk, IfSome, OnOk, flat_map};
+ghost use Rattle.std.specs.Prelude.{◌≡◌, ◌++◌, ℕ, List, IfNone, IfOk, IfSome, OnOk, flat_map, length};
 ghost use Rattle.sdl_bodies.specs.Added.{HasEach};
 ghost use Rattle.sdl_bodies.specs.Sound.{AreTransitionsOf};
+ghost use Rattle.sdl_ends.specs.Beginnings.{beginnings};
 ghost use Rattle.sdl_scope.specs.Faults.{least_of, told};
 ghost use Rattle.sdl_scope.specs.Limits.{different};
 ghost use Rattle.sdl_states.specs.States.{is_named, left_out_faults, names_in};
@@ -14,6 +15,7 @@ ghost use Rattle.sdl_tree.specs.Views.{process_value};
 ghost use Rattle.sdl_process.specs.Faulty.{NotesBody, NotesFlow};
 ghost use Rattle.sdl_process.specs.Made.{IsHeaded};
 ghost use Rattle.sdl_process.specs.Meant.{IsBehaviour};
+ghost use Rattle.sdl_process.specs.Refused.{IsRefused};
 ghost use Rattle.sdl_process.specs.Surroundings.{for_stimuli, for_transitions, surroundings_of};
 
 use crate::heading::Heading;
@@ -48,6 +50,8 @@ pub fn make_process<'t>(
         ≡ is_named (names_in (process_value definition.now).body) text }
     ensures noted { OnOk result (NotesBody (surroundings_of around.now) (process_value definition.now)
         (told faults.old) (told faults.new)) }
+    ensures there { IfOk result (λ made. IfNone made
+        (IsRefused (surroundings_of around.now) (process_value definition.now))) }
     ensures headed { IfOk result (λ made. IfSome made (IsHeaded heading)) }
     ensures means { IfOk result (λ made. IfSome made (λ process. (behaviour : Behaviour)
         → IsBehaviour (surroundings_of around.now) (process_value definition.now) heading behaviour
@@ -96,6 +100,8 @@ fn read_flow<'t>(
 ) -> Result<Option<Transitions>, AllocError>
     ensures table { IfOk result (λ transitions. AreTransitionsOf (for_transitions (surroundings_of around.now))
         (process_value definition.now) transitions) }
+    ensures entries { IfOk result (λ transitions.
+        HasEach (length (beginnings (process_value definition.now))) transitions) }
     ensures noted { OnOk result (NotesFlow (surroundings_of around.now) (process_value definition.now)
         (told faults.old) (told faults.new)) }
 {

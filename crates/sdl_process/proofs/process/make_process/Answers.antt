@@ -1,5 +1,8 @@
-use Rattle.std.proofs.Common.{◌≡◌, ◌∙◌, Some, ap, map, subst}
+use Rattle.std.proofs.Common.{All, length, ◌≡◌, ◌∙◌, Some, ap, map, subst}
 use Rattle.std.proofs.lemmas.Result.{IfOk-weaker}
+use Rattle.sdl_bodies.specs.Added.{HasEach}
+use Rattle.sdl_ends.specs.Beginnings.{beginnings}
+use Rattle.sdl_states.specs.Shared.{IsOfName}
 use Rattle.sdl_bodies.specs.Sound.{AreTransitionsOf}
 use Rattle.sdl_scope.specs.Faults.{told}
 use Rattle.sdl_states.specs.States.{state_of, tables_of}
@@ -12,6 +15,7 @@ use Rattle.sdl_process.specs.Made.{Said}
 use Rattle.sdl_process.specs.Surroundings.{for_stimuli, for_transitions, surroundings_of}
 use Rattle.sdl_process.proofs.FaultLemmas.{body-noted, on-ok, states-noted}
 use Rattle.sdl_process.proofs.MeaningLemmas.{made-means}
+use Rattle.sdl_process.proofs.RefusedLemmas.{made-unless, no-flow}
 use Rattle.sdl_process.proofs.process.make_process.Goals as goal
 
 pub returns-in_default-clause-noted : goal.returns-in_default-clause-noted
@@ -68,3 +72,28 @@ returns-clause-means c =
     (ap (meanings_at names) (c.in_ok-said.ensures.read ∙ ap (λ list. map (λ t. Some t) (tables_of list names)) are)
     ∙ meanings-read parts names
     ∙ ap (λ list. map (λ m. Some m) (map (state_of parts) list)) c.requires.names)) c.process_of.ensures
+
+pub returns-in_default-clause-there : goal.returns-in_default-clause-there
+returns-in_default-clause-there c =
+    let around = surroundings_of c.args.around.now in
+    no-flow around (process_value c.args.definition.now) c.in_ok-transitions.field-0 c.in_default.is
+    c.in_ok-transitions.ensures.table
+
+pub returns-clause-there : goal.returns-clause-there
+returns-clause-there c =
+    let around = surroundings_of c.args.around.now in
+    let process = process_value c.args.definition.now in
+    let parts = (process_read (for_stimuli around) process).parts in
+    let said : Said = record {
+      names = names_listed c.args.around.now.states.names.now;
+      tables = map table_value c.in_ok-said.said.tables.items;
+      numbers = c.in_ok-said.said.of_states.items;
+      conditions = c.in_ok-numbering.field-0.numbering.conditions.items;
+    } in
+    let are : map part_value c.deref.result.now ≡ parts =
+    ap (map part_value) c.deref.ensures.value ∙ ap (λ reading. reading.parts) c.in_ok-numbering.ensures.read in
+    IfOk-weaker c.process_of.result _ _
+    (made-unless around process said c.in-Some.transitions
+    (subst (HasEach (length (beginnings process))) c.in-Some.is c.in_ok-transitions.ensures.entries)
+    (ap (λ reading. reading.numbering.conditions) c.in_ok-numbering.ensures.read)
+    (subst (λ list. All (IsOfName list) said.tables) are c.in_ok-said.ensures.each) c.args.heading) c.process_of.ensures
