@@ -93,7 +93,8 @@ fn table_of<'l, 'm, 't>(
     ensures known { OnOk result (IsKnown (map part_value parts.now) stars.now known.new
         (map table_value tables.new.items) (told faults.new)) }
     ensures kept { OnOk result (Keeps (map table_value tables.old.items) (map table_value tables.new.items)) }
-    ensures each { OnOk result (IsOfName (map part_value parts.now) (table_by (map part_value parts.now) stars.now turns.now)
+    ensures each { OnOk result (IsOfName (map part_value parts.now)
+        (table_by (map part_value parts.now) stars.now turns.now)
         → All (IsOfName (map part_value parts.now)) (map table_value tables.old.items)
         → All (IsOfName (map part_value parts.now)) (map table_value tables.new.items)) }
     ensures noted { OnOk result (told faults.new ≡ least_of (told faults.old)
@@ -122,7 +123,8 @@ fn add_table<'l, 'm, 't>(
     ensures known { OnOk result (IsKnown (map part_value parts.now) stars.now known.new
         (map table_value tables.new.items) (told faults.new)) }
     ensures kept { OnOk result (Keeps (map table_value tables.old.items) (map table_value tables.new.items)) }
-    ensures each { OnOk result (IsOfName (map part_value parts.now) (table_by (map part_value parts.now) stars.now turns.now)
+    ensures each { OnOk result (IsOfName (map part_value parts.now)
+        (table_by (map part_value parts.now) stars.now turns.now)
         → All (IsOfName (map part_value parts.now)) (map table_value tables.old.items)
         → All (IsOfName (map part_value parts.now)) (map table_value tables.new.items)) }
     ensures noted { OnOk result (told faults.new ≡ least_of (told faults.old)
