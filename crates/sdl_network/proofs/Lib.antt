@@ -1,1 +1,3 @@
+pub mod BrokenLaws
+pub mod ListedLaws
 pub mod NumberLemmas

@@ -1,4 +1,5 @@
 pub mod Agents
+pub mod Broken
 pub mod Connects
 pub mod Network
 pub mod Numbered

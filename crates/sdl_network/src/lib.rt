@@ -7,6 +7,7 @@
 
 mod agents;
 mod connects;
+pub mod laws;
 mod lists;
 mod mentions;
 mod network;
