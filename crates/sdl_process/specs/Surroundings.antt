@@ -4,7 +4,7 @@ use Rattle.port_model.specs.declared.item.SignalId.{SignalId}
 use Rattle.sdl_nodes.specs.Contexts as nodes
 use Rattle.sdl_sorts.specs.Scope.{Scope, meaning, scope_of, visible}
 use Rattle.sdl_stimuli.specs.Context as stimuli
-use Rattle.sdl_stimuli.specs.Context.{signals_listed}
+use Rattle.sdl_stimuli.specs.Context.{listed_members, members_of}
 use Rattle.sdl_system.specs.declared.id.LabelId.{LabelId}
 use Rattle.sdl_system.specs.declared.id.StateId.{StateId}
 use Rattle.sdl_process.specs.declared.surroundings.Surroundings as declared
@@ -43,7 +43,7 @@ for_transitions around = record {
 abbrev pub surroundings_of : declared.Surroundings → Surroundings
 surroundings_of around = record {
   scope = scope_of around.scope;
-  lists = meaning signals_listed (visible around.lists);
+  lists = meaning (members_of (listed_members around.members.now)) (visible around.lists);
   states = around.states.table.now;
   labels = around.labels.now;
   reaches = around.reaches.now;

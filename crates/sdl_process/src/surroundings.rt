@@ -3,6 +3,7 @@
 ghost use Rattle.std.specs.Prelude.{◌≡◌};
 
 use port_model::SignalId;
+use sdl_declared::SignalListId;
 use sdl_scope::{Names, Outward};
 use sdl_sorts::Scope;
 use sdl_states::NamedStates;
@@ -13,8 +14,9 @@ use sdl_system::LabelId;
 pub struct Surroundings<'a, 's, 't> {
     /// Variables, formal parameters and synonyms; signals and timers; processes and blocks.
     pub scope: Scope<'a, 's, 't>,
-    /// Signal lists, each with the signals that it stands for, also through lists within it.
-    pub lists: Outward<'a, 't, &'s [SignalId]>,
+    pub lists: Outward<'a, 't, SignalListId>,
+    /// The signals that each signal list stands for, also through lists within it, by its number.
+    pub members: &'a [Vec<SignalId>],
     pub states: NamedStates<'a, 't>,
     pub labels: &'a Names<'t, LabelId>,
     /// Whether a path leads a signal from the process to a receiver, by the signal's number.
@@ -38,6 +40,7 @@ impl<'a, 's, 't> Surroundings<'a, 's, 't> {
         sdl_stimuli::Context {
             scope: self.scope,
             lists: self.lists,
+            members: self.members,
         }
     }
 

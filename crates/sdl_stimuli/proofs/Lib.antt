@@ -1,2 +1,3 @@
 pub mod BrokenLaws
+pub mod ContextLemmas
 pub mod PlaceLemmas

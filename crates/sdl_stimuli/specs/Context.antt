@@ -1,7 +1,9 @@
 -- What the stimuli of a process can name.
-use Rattle.std.specs.Prelude.{ℕ, List, Option}
+use Rattle.std.specs.Prelude.{ℕ, List, [], Option, map, slice_get, unwrap_or}
 use Rattle.std.specs.Borrow.{Bor}
+use Rattle.std.specs.Global.{Vec}
 use Rattle.port_model.specs.declared.item.SignalId.{SignalId}
+use Rattle.sdl_declared.specs.declared.entries.SignalListId.{SignalListId}
 use Rattle.sdl_scope.specs.Names.{first_of}
 use Rattle.sdl_sorts.specs.Scope.{Scope, meaning, scope_of, visible}
 use Rattle.sdl_stimuli.specs.declared.context.Context as contexts
@@ -21,8 +23,18 @@ list_in context text = first_of context.lists text
 abbrev pub signals_listed : Bor (List SignalId) → List SignalId
 signals_listed signals = signals.now
 
+abbrev pub items_of : Vec SignalId → List SignalId
+items_of own = own.items
+
+abbrev pub listed_members : List (Vec SignalId) → List (List SignalId)
+listed_members members = map items_of members
+
+-- the signals that the list of this number stands for
+abbrev pub members_of : List (List SignalId) → SignalListId → List SignalId
+members_of members list = unwrap_or (slice_get members list.0) []
+
 abbrev pub context_of : contexts.Context → Context
 context_of context = record {
   scope = scope_of context.scope;
-  lists = meaning signals_listed (visible context.lists);
+  lists = meaning (members_of (listed_members context.members.now)) (visible context.lists);
 }

@@ -1,13 +1,18 @@
-use Rattle.std.proofs.Common.{◌∙◌, ap, option_map, sym}
+use Rattle.std.proofs.Common.{◌∙◌, None, Some, ap, sym}
 use Rattle.sdl_scope.specs.Names.{names_in}
-use Rattle.sdl_sorts.specs.Scope.{visible}
-use Rattle.sdl_sorts.proofs.ScopeLemmas.{meaning-first, outward-first}
-use Rattle.sdl_stimuli.specs.Context.{signals_listed}
+use Rattle.sdl_stimuli.proofs.ContextLemmas.{found-list}
+use Rattle.sdl_stimuli.specs.Context.{listed_members, members_of}
 use Rattle.sdl_stimuli.proofs.context.Context.list.Goals as goal
 
-pub returns : goal.returns
-returns c =
+pub returns-in-None : goal.returns-in-None
+returns-in-None c =
     let names = c.args.self.now.lists in
-    ap (option_map signals_listed) (c.get.ensures
-    ∙ outward-first (names_in names.process) (names_in names.block) names.system.now c.args.text.now)
-    ∙ sym (meaning-first signals_listed (visible names) c.args.text.now)
+    found-list (members_of (listed_members c.args.self.now.members.now)) (names_in names.process)
+    (names_in names.block) names.system.now c.args.text.now None (sym c.in-None.is ∙ c.get.ensures)
+
+pub returns-in-Some : goal.returns-in-Some
+returns-in-Some c =
+    let names = c.args.self.now.lists in
+    ap Some c.members_at.ensures
+    ∙ found-list (members_of (listed_members c.args.self.now.members.now)) (names_in names.process)
+    (names_in names.block) names.system.now c.args.text.now _ (sym c.in-Some.is ∙ c.get.ensures)

@@ -1,0 +1,15 @@
+-- The signals of a list by its name.
+use Rattle.std.proofs.Common.{◌≡◌, ◌∙◌, ◌++◌, ℕ, List, Option, ap, option_map, sym}
+use Rattle.sdl_declared.specs.declared.entries.SignalListId.{SignalListId}
+use Rattle.port_model.specs.declared.item.SignalId.{SignalId}
+use Rattle.sdl_scope.specs.Names.{first_of, first_outward}
+use Rattle.sdl_sorts.proofs.ScopeLemmas.{meaning-first, outward-first}
+use Rattle.sdl_sorts.specs.Scope.{meaning}
+
+-- what a name of a list stands for, by what is found of it
+pub found-list : (f : SignalListId → List SignalId) (process block system : List (List ℕ × SignalListId))
+    (text : List ℕ) (found : Option SignalListId) → found ≡ first_outward process block system text →
+    option_map f found ≡ first_of (meaning f (process ++ (block ++ system))) text
+found-list f process block system text found is =
+    ap (option_map f) (is ∙ outward-first process block system text)
+    ∙ sym (meaning-first f (process ++ (block ++ system)) text)
