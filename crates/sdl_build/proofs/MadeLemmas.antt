@@ -1,0 +1,165 @@
+-- The processes of a specification, one after the other.
+use Rattle.std.proofs.Common.{◌≡◌, ◌∙◌, ◌+◌, ◌++◌, ℕ, Bool, zero, suc, Contains, List, [], ◌∷◌, Option, None, Some, IfNone, IfOk, IfSome, Result, Ok, Err, ap, arith, inl, inr, length, map, refl, slice_get, subst, sym}
+use Rattle.std.proofs.lemmas.Option.{slice_get-get_or}
+use Rattle.std.specs.Global.{Vec}
+use Rattle.sdl_build.specs.Built.{IsMadeFrom}
+use Rattle.sdl_build.specs.Made.{AreMade, AreProcessesOr, WholeList}
+use Rattle.sdl_build.specs.Faulty.{NotesBodies}
+use Rattle.sdl_build.specs.Faulty as notes
+use Rattle.sdl_build.specs.Headings.{IsHeading}
+use Rattle.sdl_build.specs.Surroundings.{surroundings}
+use Rattle.sdl_build.specs.Survey.{IsNetwork, Survey}
+use Rattle.sdl_declared.specs.Rows.{ProcessRow}
+use Rattle.sdl_declared.specs.Tables.{Rows}
+use Rattle.sdl_names.specs.declared.declared.Declared.{Declared}
+use Rattle.sdl_network.specs.Numbered.{numbered}
+use Rattle.sdl_process.specs.Faulty.{NotesBody}
+use Rattle.sdl_process.specs.Made.{IsHeaded}
+use Rattle.sdl_process.specs.Meant.{IsBehaviour}
+use Rattle.sdl_process.specs.Refused.{IsRefused}
+use Rattle.sdl_process.specs.Surroundings.{Surroundings}
+use Rattle.sdl_process.specs.declared.heading.Heading.{Heading}
+use Rattle.sdl_scope.specs.Faults.{Told}
+use Rattle.sdl_system.specs.Behaviour.{Behaviour, Means}
+use Rattle.sdl_routes.proofs.TableLemmas.{get_push}
+use Rattle.sdl_routes.specs.Valid.{AreValid}
+use Rattle.sdl_routes.specs.declared.network.Network.{Network}
+use Rattle.std.proofs.lemmas.Option.{none-some}
+use Rattle.sdl_system.specs.declared.id.ProcessId.{ProcessId}
+use Rattle.sdl_system.specs.declared.process.Process.{Process}
+
+pub same-one : {A : Type 0} (x y : A) → Some x ≡ Some y → x ≡ y
+same-one x y is = ap (λ o. pick o x) is
+  where
+    pick : {A : Type 0} → Option A → A → A
+    pick None other = other
+    pick (Some it) other = it
+
+pub made-more : (survey : Survey) (old new : List (Option Process)) (number : ProcessId) (row : ProcessRow)
+    (process : Option Process) → AreMade survey old → new ≡ old ++ process ∷ [] → number.0 ≡ length old →
+    slice_get survey.rows.processes number.0 ≡ Some row → IsMadeFrom survey number row process → AreMade survey new
+made-more survey old new number row process known is at listed made n other found there stands =
+    elim (get_push old process n.0 found (subst (λ list. slice_get list n.0 ≡ Some found) is stands)) [
+      | inl was ↦ known n other found there was
+      | inr last ↦
+          let same : number ≡ n = ap (λ k. record { 0 = k }) (at ∙ sym last.0) in
+          let rows : row ≡ other = same-one row other
+          (sym listed ∙ ap (λ k. slice_get survey.rows.processes k) (at ∙ sym last.0) ∙ there) in
+          subst (IsMadeFrom survey n other) last.1
+          (subst (λ r. IsMadeFrom survey n r process) rows
+          (subst (λ k. IsMadeFrom survey k row process) same made))
+    ]
+
+-- the place of one that isn't there
+missing-at : (made : List (Option Process)) → Contains made None → (n : ℕ) × (slice_get made n ≡ Some None)
+missing-at made has = (has.0, slice_get-get_or made has.0 None has.1 ∙ ap Some has.2)
+
+pub length-map : {A B : Type 0} (f : A → B) (xs : List A) → length (map f xs) ≡ length xs
+length-map f [] = refl
+length-map f (x ∷ xs) = ap suc (length-map f xs)
+
+get-map : {A : Type 0} (xs : List A) (n : ℕ) (x : A) → slice_get xs n ≡ Some x → slice_get (map Some xs) n ≡ Some (Some x)
+get-map [] zero x is = absurd (none-some x is)
+get-map [] (suc n) x is = absurd (none-some x is)
+get-map (y ∷ ys) zero x is = ap Some is
+get-map (y ∷ ys) (suc n) x is = get-map ys n x is
+
+pub mapped-get : {A B : Type 0} (f : A → B) (xs : List A) (n : ℕ) (x : A) → slice_get xs n ≡ Some x →
+    slice_get (map f xs) n ≡ Some (f x)
+mapped-get f [] zero x is = absurd (none-some x is)
+mapped-get f [] (suc n) x is = absurd (none-some x is)
+mapped-get f (y ∷ ys) zero x is = ap (λ z. Some (f z)) (same-one y x is)
+mapped-get f (y ∷ ys) (suc n) x is = mapped-get f ys n x is
+
+get-below : {A B : Type 0} (xs : List A) (ys : List B) (n : ℕ) (y : B) → length ys ≡ length xs →
+    slice_get ys n ≡ Some y → (x : A) × (slice_get xs n ≡ Some x)
+get-below [] [] zero y same is = absurd (none-some y is)
+get-below [] [] (suc n) y same is = absurd (none-some y is)
+get-below [] (z ∷ zs) n y same is = absurd (omega (arith, same))
+get-below (x ∷ xs) [] zero y same is = absurd (none-some y is)
+get-below (x ∷ xs) [] (suc n) y same is = absurd (none-some y is)
+get-below (x ∷ xs) (z ∷ zs) zero y same is = (x, refl)
+get-below (x ∷ xs) (z ∷ zs) (suc n) y same is = get-below xs zs n y (omega (arith, same)) is
+
+pub all-or : (survey : Survey) (made : List (Option Process)) (result : Option (Vec Process)) →
+    length made ≡ length survey.rows.processes → AreMade survey made → WholeList made result →
+    AreProcessesOr survey result
+all-or survey made None size known lacks =
+    let at = missing-at made lacks in
+    let row = get-below survey.rows.processes made at.0 None size at.1 in
+    record {
+      number = record { 0 = at.0 };
+      row = row.0;
+      listed = row.1;
+      refused = known (record { 0 = at.0 }) row.0 None row.1 at.1;
+    }
+all-or survey made (Some list) size known whole = record {
+  size = sym (length-map Some list.items) ∙ ap length whole ∙ size;
+  each = λ number row process listed stands.
+      known number row (Some process) listed
+      (subst (λ all. slice_get all number.0 ≡ Some (Some process)) whole (get-map list.items number.0 process stands));
+}
+
+-- ---- how many there are
+
+length-numbered : {A B : Type 0} (make : ℕ → A → B) (n : ℕ) (xs : List A) → length (numbered make n xs) ≡ length xs
+length-numbered make n [] = refl
+length-numbered make n (x ∷ xs) = ap suc (length-numbered make (n + 1) xs)
+
+-- as many valid input sets as rows of processes
+pub as-many : (rows : Rows) (declared : Declared) (network : Network) (valid : List (List Bool)) →
+    IsNetwork rows declared network → AreValid network (length network.processes.items) valid →
+    length valid ≡ length rows.processes
+as-many rows declared network valid is are =
+    are.size ∙ ap length is.processes ∙ length-numbered _ 0 rows.processes
+
+-- ---- one of them
+
+pub made-from : (survey : Survey) (number : ProcessId) (row : ProcessRow) (around : Surroundings) (heading : Heading)
+    (result : Option Process) → around ≡ surroundings survey number row.definition →
+    IsHeading survey number row heading → IfNone result (IsRefused around row.definition) →
+    IfSome result (IsHeaded heading) →
+    IfSome result (λ process. (behaviour : Behaviour) → IsBehaviour around row.definition heading behaviour
+    → Means process behaviour) → IsMadeFrom survey number row result
+made-from survey number row around heading None same said refused headed means =
+    subst (λ a. IsRefused a row.definition) same refused
+made-from survey number row around heading (Some process) same said refused headed means = record {
+  heading = heading;
+  said = said;
+  headed = headed;
+  means = subst (λ a. (behaviour : Behaviour) → IsBehaviour a row.definition heading behaviour
+      → Means process behaviour) same means;
+}
+
+pub made-if : {E : Type 0} (survey : Survey) (number : ProcessId) (row : ProcessRow) (around : Surroundings)
+    (heading : Heading) (result : Result (Option Process) E) → around ≡ surroundings survey number row.definition →
+    IsHeading survey number row heading →
+    IfOk result (λ made. IfNone made (IsRefused around row.definition)) →
+    IfOk result (λ made. IfSome made (IsHeaded heading)) →
+    IfOk result (λ made. IfSome made (λ process. (behaviour : Behaviour)
+    → IsBehaviour around row.definition heading behaviour → Means process behaviour)) →
+    IfOk result (IsMadeFrom survey number row)
+made-if survey number row around heading (Ok made) same said refused headed means =
+    made-from survey number row around heading made same said refused headed means
+made-if survey number row around heading (Err why) same said refused headed means = tt
+
+-- ---- one more is noted
+
+suc-is : (n : ℕ) → suc n ≡ n + 1
+suc-is n = omega arith
+
+pub bodies-more : (survey : Survey) (old mid new : Option Told) (number : ProcessId) (row : ProcessRow) (count : ℕ) →
+    NotesBodies survey old count mid → number.0 ≡ count → slice_get survey.rows.processes number.0 ≡ Some row →
+    NotesBody (surroundings survey number row.definition) row.definition mid new → NotesBodies survey old (count + 1) new
+bodies-more survey old mid new number row count known at listed body =
+    subst (λ n. NotesBodies survey old n new) (suc-is count)
+    (notes.more count mid new row known (ap (slice_get survey.rows.processes) (sym at) ∙ listed)
+    (subst (λ n. NotesBody (surroundings survey (record { 0 = n }) row.definition) row.definition mid new) at body))
+
+-- ---- all of them
+
+pub all-if : {E : Type 0} (survey : Survey) (made : List (Option Process)) (result : Result (Option (Vec Process)) E) →
+    length made ≡ length survey.rows.processes → AreMade survey made → IfOk result (WholeList made) →
+    IfOk result (AreProcessesOr survey)
+all-if survey made (Ok list) size known whole = all-or survey made list size known whole
+all-if survey made (Err why) size known whole = tt

@@ -1,0 +1,176 @@
+-- From what is noted and made to what is answered.
+use Rattle.std.proofs.Common.{◌≡◌, ◌∙◌, ◌++◌, ℤ, Bool, true, false, List, Option, None, Some, IfOk, IsErrAnd, Result, Ok, Err, ap, refl, subst, sym, true≢false}
+use Rattle.std.specs.Global.{Vec}
+use Rattle.sdl_build.specs.Built.{AreProcesses, IsBroken, IsBuilt, IsSystem, IsSystemOr}
+use Rattle.sdl_build.specs.Built as is_broken
+use Rattle.sdl_build.specs.Faulty.{NotesRest}
+use Rattle.sdl_build.specs.Made.{AreProcessesOr, IsComposedIf}
+use Rattle.sdl_build.specs.Outcome.{IsMadeOf, IsMadeWith, IsRefusedAs, Tells, is_limit, is_past_limit}
+use Rattle.sdl_build.specs.Outcome as outcome
+use Rattle.sdl_build.specs.Signals.{signals_from}
+use Rattle.sdl_build.specs.Survey.{IsJoined, Survey}
+use Rattle.sdl_build.specs.declared.error.BuildError.{BuildError}
+use Rattle.sdl_build.specs.declared.error.BuildError.TheVariants as error
+use Rattle.sdl_build.proofs.MadeLemmas.{same-one}
+use Rattle.sdl_build.proofs.WholeLemmas.{none-missing}
+use Rattle.sdl_declared.specs.Parts.{all_sort_faults, parts_in}
+use Rattle.sdl_declared.specs.Tables.{Rows, rows_in}
+use Rattle.sdl_figures.specs.Figures.{all_durations, figures_faults}
+use Rattle.sdl_figures.specs.Synonyms.{AreSynonymConstants}
+use Rattle.sdl_names.specs.Meanings.{duplicate_faults}
+use Rattle.sdl_names.specs.Spaces.{AreNamesOf}
+use Rattle.sdl_scope.proofs.FaultLemmas.{both_noted}
+use Rattle.sdl_scope.specs.Faults.{Told, least_of}
+use Rattle.sdl_scope.specs.Limits.{limit_faults}
+use Rattle.sdl_scope.specs.declared.fault.Kind.{Kind}
+use Rattle.sdl_scope.specs.declared.fault.Kind.TheVariants as kind
+use Rattle.sdl_system.specs.System.{SystemValue}
+use Rattle.sdl_system.specs.declared.process.Process.{Process}
+use Rattle.sdl_tree.specs.Tree.{Tree}
+
+-- ---- nothing is made
+
+pub not-made : {T E : Type 0} (result : Result T E) (P : T → Type 0) (Q : E → Type 0) → IsErrAnd result Q → IfOk result P
+not-made (Ok made) P Q is = absurd is
+not-made (Err why) P Q is = tt
+
+-- ---- the system
+
+pub composed : (survey : Survey) (durations : List (Option ℤ)) (processes : Option (Vec Process))
+    (system : Option SystemValue) → AreProcessesOr survey processes →
+    durations ≡ all_durations survey.rows survey.declared survey.constants →
+    IsComposedIf survey.rows durations processes survey.routes system → IsSystemOr survey system
+composed survey durations None system are same is = subst (IsSystemOr survey) (sym is) are
+composed survey durations (Some list) None are same is = absurd is
+composed survey durations (Some list) (Some system) are same is = record {
+  signals = is.signals ∙ ap (signals_from survey.rows.signals) same;
+  processes = subst (AreProcesses survey) (sym is.processes_are) are;
+  routes = is.routes_are;
+  own_signals = is.own_signals;
+  process_names = is.process_names;
+}
+
+-- what is made of definitions that are looked at to the end
+pub to-the-end-if : {E : Type 0} (survey : Survey) (old new : Option Told) (durations : List (Option ℤ))
+    (processes : Option (Vec Process)) (result : Result (Option SystemValue) E) →
+    AreNamesOf survey.rows survey.declared → AreSynonymConstants survey.rows survey.declared survey.constants →
+    IsJoined survey →
+    NotesRest survey (least_of (least_of old (duplicate_faults survey.rows))
+    (figures_faults survey.rows survey.declared survey.constants)) new →
+    AreProcessesOr survey processes → durations ≡ all_durations survey.rows survey.declared survey.constants →
+    IfOk result (IsComposedIf survey.rows durations processes survey.routes) → IfOk result (IsMadeWith survey.rows old new)
+to-the-end-if survey old new durations processes (Ok system) names synonyms joined rest are same is =
+    outcome.to_the_end survey refl names synonyms joined rest
+    (composed survey durations processes system are same is)
+to-the-end-if survey old new durations processes (Err why) names synonyms joined rest are same is = tt
+
+-- ---- what is told
+
+all-noted : (old : Option Told) (limits sorts twice figures : List Told) →
+    old ≡ least_of (least_of None limits) sorts →
+    least_of (least_of old twice) figures ≡ least_of None (limits ++ (sorts ++ (twice ++ figures)))
+all-noted old limits sorts twice figures is =
+    both_noted old twice figures
+    ∙ ap (λ before. least_of before (twice ++ figures)) is
+    ∙ both_noted (least_of None limits) sorts (twice ++ figures)
+    ∙ both_noted None limits (sorts ++ (twice ++ figures))
+
+the-limit : (which : Kind) → is_limit which ≡ true → which ≡ kind.Limit
+the-limit kind.Limit is = refl
+the-limit kind.Unknown is = absurd (true≢false (sym is))
+the-limit kind.Duplicate is = absurd (true≢false (sym is))
+the-limit kind.Sort is = absurd (true≢false (sym is))
+the-limit kind.TwiceInState is = absurd (true≢false (sym is))
+the-limit kind.NoState is = absurd (true≢false (sym is))
+the-limit kind.NoLabel is = absurd (true≢false (sym is))
+the-limit kind.NoRoute is = absurd (true≢false (sym is))
+the-limit kind.BadCount is = absurd (true≢false (sym is))
+the-limit kind.NoEnd is = absurd (true≢false (sym is))
+
+past-one : (fault : Option Told) → is_past_limit fault ≡ true →
+    (past : Told) × (fault ≡ Some past) × (past.kind ≡ kind.Limit)
+past-one None is = absurd (true≢false (sym is))
+past-one (Some past) is = (past, refl, the-limit past.kind is)
+
+-- ---- the whole
+
+pub looked-at : (tree : Tree) (rows : Rows) (old new : Option Told) (system : Option SystemValue) →
+    rows ≡ rows_in (parts_in tree) → old ≡ least_of (least_of None (limit_faults tree)) (all_sort_faults tree) →
+    IsMadeWith rows old new system → IsMadeOf tree new system
+looked-at tree rows old new system are is (outcome.up_to_limit declared constants names synonyms noted limit) =
+    let past = past-one new limit in
+    outcome.past_limit (record {
+      past = past.0;
+      is = past.1;
+      broken = is_broken.past_limit (record { rows = rows; declared = declared; constants = constants })
+          (record { rows = are; names = names; constants = synonyms })
+          (sym (all-noted old (limit_faults tree) (all_sort_faults tree) (duplicate_faults rows)
+          (figures_faults rows declared constants) is) ∙ sym noted ∙ past.1)
+          past.2;
+    })
+looked-at tree rows old new system are is (outcome.to_the_end survey same names synonyms joined rest made) =
+    outcome.looked_at (record {
+      survey = survey;
+      defined = record {
+        rows = same ∙ are;
+        names = subst (λ r. AreNamesOf r survey.declared) (sym same) names;
+        constants = subst (λ r. AreSynonymConstants r survey.declared survey.constants) (sym same) synonyms;
+      };
+      joined = joined;
+      noted = record {
+        mid = least_of (least_of old (duplicate_faults rows))
+            (figures_faults rows survey.declared survey.constants);
+        of_definitions =
+            ap (λ r. least_of (least_of old (duplicate_faults r))
+            (figures_faults r survey.declared survey.constants)) (sym same)
+            ∙ all-noted old (limit_faults tree) (all_sort_faults tree) (duplicate_faults survey.rows)
+            (figures_faults survey.rows survey.declared survey.constants) is;
+        of_rest = rest;
+      };
+      made = made;
+    })
+
+pub looked-at-if : {E : Type 0} (tree : Tree) (rows : Rows) (old new : Option Told)
+    (result : Result (Option SystemValue) E) → rows ≡ rows_in (parts_in tree) →
+    old ≡ least_of (least_of None (limit_faults tree)) (all_sort_faults tree) →
+    IfOk result (IsMadeWith rows old new) → IfOk result (IsMadeOf tree new)
+looked-at-if tree rows old new (Ok system) are is made = looked-at tree rows old new system are is made
+looked-at-if tree rows old new (Err why) are is made = tt
+
+none-some : {A : Type 0} (x : A) → None ≡ Some x → ⊥
+none-some x is = true≢false (sym (ap (λ o. there o) is))
+  where
+    there : {A : Type 0} → Option A → Bool
+    there None = false
+    there (Some it) = true
+
+-- no rule is broken, and there is a system
+pub is-built : (tree : Tree) (system : SystemValue) → IsMadeOf tree None (Some system) → IsBuilt tree system
+is-built tree system (outcome.past_limit limit) = absurd (none-some limit.past limit.is)
+is-built tree system (outcome.looked_at looked) = record {
+  survey = looked.survey;
+  defined = looked.defined;
+  joined = looked.joined;
+  unbroken = looked.noted;
+  built = looked.made;
+}
+
+-- no rule is broken, so there is one
+pub not-none : (tree : Tree) → IsMadeOf tree None None → ⊥
+not-none tree (outcome.past_limit limit) = none-some limit.past limit.is
+not-none tree (outcome.looked_at looked) =
+    none-missing tree looked.survey looked.defined looked.noted looked.made
+
+is-refused : (tree : Tree) (fault : Told) (system : Option SystemValue) → IsMadeOf tree (Some fault) system →
+    IsBroken tree fault
+is-refused tree fault system (outcome.past_limit limit) =
+    subst (IsBroken tree) (sym (same-one fault limit.past limit.is)) limit.broken
+is-refused tree fault system (outcome.looked_at looked) =
+    is_broken.broken looked.survey looked.defined looked.joined looked.noted
+
+-- a rule is broken, and it is told
+pub refused-as : (tree : Tree) (fault : Told) (system : Option SystemValue) (refused : BuildError) →
+    IsMadeOf tree (Some fault) system → Tells fault refused → IsRefusedAs tree refused
+refused-as tree fault system (error.Broken kind word) made tells =
+    subst (IsBroken tree) tells (is-refused tree fault system made)
+refused-as tree fault system error.Memory made tells = absurd tells

@@ -1,0 +1,148 @@
+-- Where no rule is broken, no process is missing.
+use Rattle.std.proofs.Common.{◌≡◌, ◌∙◌, ◌⊎◌, ◌<◌, ◌++◌, ◌==◌, ℕ, Bool, true, false, suc, List, [], ◌∷◌, Option, None, Some, ap, arith, inl, inr, length, refl, slice_get, subst, sym}
+use Rattle.std.proofs.lemmas.Bool.{eqb-true, eqb-false}
+use Rattle.std.proofs.lemmas.Option.{slice_get_within}
+use Rattle.sdl_build.specs.Built.{IsMissing, IsTold}
+use Rattle.sdl_build.specs.Faulty.{NotesBodies, definition_faults}
+use Rattle.sdl_build.specs.Faulty as notes
+use Rattle.sdl_build.specs.Surroundings.{surroundings}
+use Rattle.sdl_build.specs.Survey.{AreDefinitions, Survey, definitions_of}
+use Rattle.sdl_build.proofs.MadeLemmas.{same-one}
+use Rattle.sdl_complete.proofs.LabelLemmas.{labels-given}
+use Rattle.sdl_complete.proofs.ProcessLemmas.{process-given}
+use Rattle.sdl_complete.proofs.SeenLemmas.{durations-given, scopes-complete}
+use Rattle.sdl_complete.specs.Complete.{IsComplete}
+use Rattle.sdl_complete.specs.Names.{IsFaultless}
+use Rattle.sdl_complete.specs.Processes.{IsGiven}
+use Rattle.sdl_declared.specs.Parts.{all_sort_faults}
+use Rattle.sdl_declared.specs.Rows.{ProcessRow}
+use Rattle.sdl_declared.specs.Tables.{Rows}
+use Rattle.sdl_figures.specs.Figures.{all_durations, figures_faults}
+use Rattle.sdl_figures.specs.Scopes.{scope_in}
+use Rattle.sdl_figures.specs.Synonyms.{AreSynonymConstants}
+use Rattle.sdl_names.specs.Meanings.{duplicate_faults}
+use Rattle.sdl_names.specs.Spaces.{AreNamesOf}
+use Rattle.sdl_network.specs.Network.{network_faults}
+use Rattle.sdl_process.specs.Faulty.{body_faults}
+use Rattle.sdl_process.specs.Surroundings.{for_transitions}
+use Rattle.sdl_scope.proofs.FaultLemmas.{none_noted}
+use Rattle.sdl_scope.specs.Faults.{Told, least_of}
+use Rattle.sdl_scope.specs.Limits.{limit_faults}
+use Rattle.sdl_spaces.specs.declared.scope.ScopeId.TheVariants as scope
+use Rattle.sdl_tree.specs.Tree.{Tree}
+
+-- ---- nothing is told
+
+pub told-none : (old : Option Told) (faults : List Told) → least_of old faults ≡ None → (old ≡ None) × (faults ≡ [])
+told-none None faults is = (refl, none_noted faults is)
+told-none (Some fault) faults is = absurd (omega (arith, ap length (none_noted (fault ∷ faults) is)))
+
+pub none-left : {A : Type 0} (xs ys : List A) → xs ++ ys ≡ [] → xs ≡ []
+none-left [] ys is = refl
+none-left (x ∷ xs) ys is = absurd (omega (arith, ap length is))
+
+pub none-right : {A : Type 0} (xs ys : List A) → xs ++ ys ≡ [] → ys ≡ []
+none-right [] ys is = is
+none-right (x ∷ xs) ys is = absurd (omega (arith, ap length is))
+
+-- ---- of the processes
+
+-- no rule is broken in the body of the process
+record Unbroken (survey : Survey) (number : ℕ) (row : ProcessRow) : Type 0 where
+  names : List (List ℕ)
+  none : body_faults (surroundings survey (record { 0 = number }) row.definition) row.definition names ≡ []
+
+below-or-last : (n count : ℕ) → n < suc count → (n < count) ⊎ (n ≡ count)
+below-or-last n count below = by (n == count) refl
+  where
+    by : (same : Bool) → (n == count) ≡ same → (n < count) ⊎ (n ≡ count)
+    by true is = inr (eqb-true n count is)
+    by false is = inl (omega (arith, below, eqb-false n count is))
+
+unbroken-at : (survey : Survey) (old : Option Told) (count : ℕ) (new : Option Told) → NotesBodies survey old count new →
+    new ≡ None → (number : ℕ) (row : ProcessRow) → number < count →
+    slice_get survey.rows.processes number ≡ Some row → Unbroken survey number row
+unbroken-at survey old count new notes.none is number row below listed = absurd (omega (arith, below))
+unbroken-at survey old count new (notes.more before mid last other stands there body) is number row below listed =
+    let both = told-none mid (body_faults (surroundings survey (record { 0 = before }) other.definition)
+    other.definition body.names) (sym body.noted ∙ is) in
+    elim (below-or-last number before below) [
+      | inl less ↦ unbroken-at survey old before mid stands both.0 number row less listed
+      | inr same ↦
+          let rows : other ≡ row =
+          same-one other row (sym there ∙ ap (slice_get survey.rows.processes) (sym same) ∙ listed) in
+          subst (Unbroken survey number) rows
+          (subst (λ n. Unbroken survey n other) (sym same) (record { names = body.names; none = both.1 }))
+    ]
+
+old-none : (survey : Survey) (old : Option Told) (count : ℕ) (new : Option Told) → NotesBodies survey old count new →
+    new ≡ None → old ≡ None
+old-none survey old count new notes.none is = is
+old-none survey old count new (notes.more before mid last other stands there body) is =
+    old-none survey old before mid stands
+    (told-none mid (body_faults (surroundings survey (record { 0 = before }) other.definition)
+    other.definition body.names) (sym body.noted ∙ is)).0
+
+-- ---- of the whole
+
+module _ (tree : Tree) (survey : Survey) (defined : AreDefinitions tree (definitions_of survey))
+    (unbroken : IsTold tree survey None) where
+  mid-none : unbroken.mid ≡ None
+  mid-none =
+      (told-none unbroken.mid (network_faults survey.rows survey.declared)
+      (sym unbroken.of_rest.joined ∙ old-none survey unbroken.of_rest.mid _ None unbroken.of_rest.bodies refl)).0
+
+  no-definition : definition_faults tree (definitions_of survey) ≡ []
+  no-definition = none_noted _ (sym unbroken.of_definitions ∙ mid-none)
+
+  behind-limits : all_sort_faults tree
+      ++ (duplicate_faults survey.rows ++ figures_faults survey.rows survey.declared survey.constants) ≡ []
+  behind-limits = none-right (limit_faults tree) _ no-definition
+
+  behind-sorts : duplicate_faults survey.rows ++ figures_faults survey.rows survey.declared survey.constants ≡ []
+  behind-sorts = none-right (all_sort_faults tree) _ behind-limits
+
+  faultless : IsFaultless tree survey.declared survey.constants
+  faultless = record {
+    named = subst (λ rows. AreNamesOf rows survey.declared) defined.rows defined.names;
+    valued = subst (λ rows. AreSynonymConstants rows survey.declared survey.constants) defined.rows defined.constants;
+    sorts = none-left (all_sort_faults tree) _ behind-limits;
+    figures = subst (λ rows. figures_faults rows survey.declared survey.constants ≡ []) defined.rows
+        (none-right (duplicate_faults survey.rows) _ behind-sorts);
+    duplicates = subst (λ rows. duplicate_faults rows ≡ []) defined.rows
+        (none-left (duplicate_faults survey.rows) _ behind-sorts);
+  }
+
+  -- what stands around a process lacks nothing
+  pub is-given : (number : ℕ) (row : ProcessRow) → slice_get survey.rows.processes number ≡ Some row →
+      (names : List (List ℕ)) × IsGiven (surroundings survey (record { 0 = number }) row.definition) row.definition names
+  is-given number row listed =
+      let own = unbroken-at survey unbroken.of_rest.mid _ None unbroken.of_rest.bodies refl number row
+      (slice_get_within survey.rows.processes number row listed) listed in (
+        own.names,
+        record {
+          complete = subst (λ rows. IsComplete (scope_in rows survey.declared survey.constants
+              (scope.Process (record { 0 = number })))) (sym defined.rows)
+              (scopes-complete tree survey.declared survey.constants faultless
+              (scope.Process (record { 0 = number })));
+          durations = durations-given tree survey.declared survey.constants faultless
+              (scope.Process (record { 0 = number }))
+              (for_transitions (surroundings survey (record { 0 = number }) row.definition))
+              (ap (λ rows. scope_in rows survey.declared survey.constants (scope.Process (record { 0 = number })))
+              defined.rows)
+              (ap (λ rows. all_durations rows survey.declared survey.constants) defined.rows);
+          labels = record {
+            numbers = refl;
+            different = (labels-given tree survey.declared survey.constants faultless number row
+                (subst (λ (rows : Rows). slice_get rows.processes number ≡ Some row) defined.rows listed)).different;
+          };
+          no_fault = own.none;
+        },
+      )
+
+  -- so each is there
+  pub none-missing : IsMissing survey → ⊥
+  none-missing missing =
+      let given = is-given missing.number.0 missing.row missing.listed in
+      process-given (surroundings survey missing.number missing.row.definition) missing.row.definition given.0 given.1
+      missing.refused

@@ -1,0 +1,13 @@
+use Rattle.std.proofs.Common.{◌≡◌, length}
+use Rattle.sdl_build.specs.Around.{survey_of}
+use Rattle.sdl_build.specs.Faulty.{NotesBodies}
+use Rattle.sdl_build.specs.Made.{AreMade}
+use Rattle.sdl_scope.specs.Faults.{told}
+use Rattle.sdl_build.proofs.system.each_process.Given as goal
+
+abbrev pub invariant-loop-set : goal.invariant-loop-set
+invariant-loop-set l = record {
+  size : length l.made.items ≡ length l.yielded;
+  made : AreMade (survey_of l.tables l.declared l.figures l.joined) l.made.items;
+  noted : NotesBodies (survey_of l.tables l.declared l.figures l.joined) (told l.initial.faults) (length l.made.items) (told l.faults);
+}

@@ -1,0 +1,110 @@
+-- When a system is what a specification says.
+use Rattle.std.specs.Prelude.{◌≡◌, ℕ, ◌+◌, ◌++◌, List, [], ◌∷◌, Option, None, Some, length, map, slice_get}
+use Rattle.port_model.specs.declared.item.SignalId.{SignalId}
+use Rattle.sdl_build.specs.Faulty.{NotesRest, definition_faults}
+use Rattle.sdl_build.specs.Headings.{IsHeading}
+use Rattle.sdl_build.specs.Signals.{signal_of, signals_from}
+use Rattle.sdl_build.specs.Surroundings.{surroundings}
+use Rattle.sdl_build.specs.Survey.{AreDefinitions, Definitions, IsJoined, Survey, definitions_of}
+use Rattle.sdl_declared.specs.Rows.{ProcessRow, SignalRow}
+use Rattle.sdl_figures.specs.Figures.{all_durations}
+use Rattle.sdl_process.specs.Made.{IsHeaded}
+use Rattle.sdl_process.specs.Meant.{IsBehaviour}
+use Rattle.sdl_process.specs.Refused.{IsRefused}
+use Rattle.sdl_process.specs.declared.heading.Heading.{Heading}
+use Rattle.sdl_scope.specs.Faults.{Told, least_of}
+use Rattle.sdl_scope.specs.Names.{first_of}
+use Rattle.sdl_scope.specs.declared.fault.Kind.TheVariants.{Limit}
+use Rattle.sdl_spaces.specs.Spaces.{entry_if, is_same_scope}
+use Rattle.sdl_spaces.specs.declared.scope.ScopeId.TheVariants as scope
+use Rattle.sdl_system.specs.Behaviour.{Behaviour, Means}
+use Rattle.sdl_system.specs.System.{SystemValue, meaning_of}
+use Rattle.sdl_system.specs.declared.id.ProcessId.{ProcessId}
+use Rattle.sdl_system.specs.declared.process.Process.{Process}
+use Rattle.sdl_tree.specs.Tree.{Tree}
+
+-- The process of this number does what its text says: it has what its heading says, and means each behaviour that the
+-- text has.
+pub record IsProcess (survey : Survey) (number : ProcessId) (row : ProcessRow) (process : Process) : Type 0 where
+  pub heading : Heading
+  pub said : IsHeading survey number row heading
+  pub headed : IsHeaded heading process
+  pub means : (behaviour : Behaviour)
+      → IsBehaviour (surroundings survey number row.definition) row.definition heading behaviour
+      → Means process behaviour
+
+-- it, or why there is none
+abbrev pub IsMadeFrom : Survey → ProcessId → ProcessRow → Option Process → Type 0
+IsMadeFrom survey number row None = IsRefused (surroundings survey number row.definition) row.definition
+IsMadeFrom survey number row (Some process) = IsProcess survey number row process
+
+-- there is one for each row, by its number
+pub record AreProcesses (survey : Survey) (processes : List Process) : Type 0 where
+  pub size : length processes ≡ length survey.rows.processes
+  pub each : (number : ProcessId) (row : ProcessRow) (process : Process)
+      → slice_get survey.rows.processes number.0 ≡ Some row → slice_get processes number.0 ≡ Some process
+      → IsProcess survey number row process
+
+-- why one isn't there
+pub record IsMissing (survey : Survey) : Type 0 where
+  pub number : ProcessId
+  pub row : ProcessRow
+  pub listed : slice_get survey.rows.processes number.0 ≡ Some row
+  pub refused : IsRefused (surroundings survey number row.definition) row.definition
+
+-- ---- names that the environment uses
+
+-- the signals of the system's own scope by their names, where these are numbered from this number on
+abbrev pub own_from : ℕ → List SignalRow → List (List ℕ × SignalId)
+own_from number [] = []
+own_from number (row ∷ rows) =
+    entry_if (is_same_scope row.scope scope.System) row.name.text (record { 0 = number }) ++ own_from (number + 1) rows
+
+-- processes by their names, numbered from this number on
+abbrev pub named_processes : ℕ → List ProcessRow → List (List ℕ × ProcessId)
+named_processes number [] = []
+named_processes number (row ∷ rows) =
+    (row.definition.name.text, record { 0 = number }) ∷ named_processes (number + 1) rows
+
+-- ---- the whole
+
+pub record IsSystem (survey : Survey) (system : SystemValue) : Type 0 where
+  pub signals : map signal_of system.signals
+      ≡ signals_from survey.rows.signals (all_durations survey.rows survey.declared survey.constants)
+  pub processes : AreProcesses survey system.processes
+  pub routes : system.routes ≡ survey.routes
+  -- the signals that the system itself defines
+  pub own_signals : (text : List ℕ) → meaning_of system.own_signals text ≡ first_of (own_from 0 survey.rows.signals) text
+  -- the first process of the name in the text, in whatever block
+  pub process_names : (text : List ℕ)
+      → meaning_of system.process_names text ≡ first_of (named_processes 0 survey.rows.processes) text
+
+-- it, or why there is none
+abbrev pub IsSystemOr : Survey → Option SystemValue → Type 0
+IsSystemOr survey None = IsMissing survey
+IsSystemOr survey (Some system) = IsSystem survey system
+
+-- ---- what is told
+
+-- Of all rules that are broken this is told: None where none is.
+pub record IsTold (tree : Tree) (survey : Survey) (fault : Option Told) : Type 0 where
+  pub mid : Option Told
+  pub of_definitions : mid ≡ least_of None (definition_faults tree (definitions_of survey))
+  pub of_rest : NotesRest survey mid fault
+
+-- The system is what the specification says, and no rule is broken in it.
+pub record IsBuilt (tree : Tree) (system : SystemValue) : Type 0 where
+  pub survey : Survey
+  pub defined : AreDefinitions tree (definitions_of survey)
+  pub joined : IsJoined survey
+  pub unbroken : IsTold tree survey None
+  pub built : IsSystem survey system
+
+-- The fault is the one that is told. Where it is a limit, it is the least of those in the definitions.
+pub data IsBroken (tree : Tree) (fault : Told) : Type 0 where
+  past_limit :
+      (definitions : Definitions) → AreDefinitions tree definitions
+      → least_of None (definition_faults tree definitions) ≡ Some fault → fault.kind ≡ Limit → IsBroken tree fault
+  broken :
+      (survey : Survey) → AreDefinitions tree (definitions_of survey) → IsJoined survey
+      → IsTold tree survey (Some fault) → IsBroken tree fault

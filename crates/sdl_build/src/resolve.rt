@@ -1,0 +1,84 @@
+//! The system of a specification, or why there is none.
+
+ghost use Rattle.std.specs.Prelude.{◌≡◌, None, IfErr, IfOk};
+ghost use Rattle.sdl_build.specs.Built.{IsBuilt};
+ghost use Rattle.sdl_build.specs.Outcome.{IsMadeOf, IsMadeWith, IsRefusedAs, is_past_limit};
+ghost use Rattle.sdl_declared.specs.Tables.{rows_of};
+ghost use Rattle.sdl_scope.specs.Faults.{told};
+ghost use Rattle.sdl_tree.specs.Views.{tree_value};
+
+use crate::error::BuildError;
+use crate::joined::Joined;
+use crate::system::{processes_in, system_with};
+use sdl_declared::Tables;
+use sdl_figures::Figures;
+use sdl_names::Declared;
+use sdl_scope::{Faults, Kind, note_limits};
+use sdl_system::System;
+use sdl_tree::Tree;
+use std::alloc::{AllocError, Global};
+
+/// The system of a specification, where no rule is broken in it.
+///
+/// # Errors
+///
+/// `Broken` with the rule that is broken and the token at which it is: of all that are broken a limit before all else,
+/// then the first in the text, at one place the kind that comes first among the kinds. `Memory` where a growth was
+/// refused.
+pub fn build(alloc: Global, tree: &Tree) -> Result<System, BuildError>
+    ensures built { IfOk result (IsBuilt (tree_value tree.now)) }
+    ensures refused { IfErr result (IsRefusedAs (tree_value tree.now)) }
+{
+    let mut faults = Faults::new();
+    let system = resolve(alloc, tree, &mut faults)?;
+    if let Some(fault) = faults.least() {
+        return Err(BuildError::of(alloc, fault)?);
+    }
+    match system {
+        Some(system) => Ok(system),
+        // Where no rule is broken, each process means something.
+        None => unreachable!(),
+    }
+}
+
+/// The system of a specification; None behind a limit, and where a process means nothing. Noted is what is broken.
+fn resolve<'t>(
+    alloc: Global,
+    tree: &'t Tree,
+    faults: &mut Faults<'t>,
+) -> Result<Option<System>, AllocError>
+    requires { told faults.old ≡ None }
+    ensures { IfOk result (IsMadeOf (tree_value tree.now) (told faults.new)) }
+{
+    note_limits(alloc, tree, faults)?;
+    let tables = Tables::of(alloc, tree, faults)?;
+    look(alloc, &tables, faults)
+}
+
+/// The system with these tables; None behind a limit, and where a process means nothing.
+fn look<'t>(
+    alloc: Global,
+    tables: &Tables<'t>,
+    faults: &mut Faults<'t>,
+) -> Result<Option<System>, AllocError>
+    ensures { IfOk result (IsMadeWith (rows_of tables.now) (told faults.old) (told faults.new)) }
+{
+    let declared = Declared::of(alloc, tables, faults)?;
+    let figures = Figures::of(alloc, tables, &declared, faults)?;
+    if is_past_limit(faults) {
+        return Ok(None);
+    }
+    let joined = Joined::of(alloc, tables, &declared, faults)?;
+    let processes = processes_in(alloc, tables, &declared, &figures, &joined, faults)?;
+    system_with(alloc, tables, &figures, processes, joined.routes)
+}
+
+/// Whether a limit is passed. It is told before all that isn't one.
+fn is_past_limit(faults: &Faults<'_>) -> bool
+    ensures { result ≡ is_past_limit (told faults.now) }
+{
+    match faults.least() {
+        Some(fault) => fault.kind == Kind::Limit,
+        None => false,
+    }
+}

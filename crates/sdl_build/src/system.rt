@@ -1,0 +1,126 @@
+//! The system of a specification, from its definitions on.
+
+ghost use Rattle.std.specs.Prelude.{◌≡◌, length, IfOk, OnOk};
+ghost use Rattle.sdl_build.specs.Around.{AreKnown, survey_of};
+ghost use Rattle.sdl_build.specs.Faulty.{NotesBodies};
+ghost use Rattle.sdl_build.specs.Made.{AreMade, AreProcessesOr, IsComposed, IsComposedIf, WholeList};
+ghost use Rattle.sdl_declared.specs.Tables.{rows_of};
+ghost use Rattle.sdl_routes.specs.SignalLists.{AreSets};
+ghost use Rattle.sdl_routes.specs.Valid.{AreValid};
+ghost use Rattle.sdl_scope.specs.Faults.{told};
+
+use crate::joined::Joined;
+use crate::own::{own_signals, process_names};
+use crate::process::{counted, process_at};
+use crate::signals::signals_of;
+use sdl_declared::Tables;
+use sdl_figures::Figures;
+use sdl_names::Declared;
+use sdl_routes::valid_sets;
+use sdl_scope::Faults;
+use sdl_system::{Process, ProcessId, Routes, SignalSet, System};
+use std::alloc::{AllocError, Global};
+
+/// The system of these definitions, with these processes and routes, where the processes are there.
+pub fn system_with(
+    alloc: Global,
+    tables: &Tables<'_>,
+    figures: &Figures,
+    processes: Option<Vec<Process>>,
+    routes: Routes,
+) -> Result<Option<System>, AllocError>
+    ensures { IfOk result (IsComposedIf (rows_of tables.now) figures.now.durations.items processes routes) }
+{
+    match processes {
+        None => Ok(None),
+        Some(processes) => Ok(Some(system_of(alloc, tables, figures, processes, routes)?)),
+    }
+}
+
+fn system_of(
+    alloc: Global,
+    tables: &Tables<'_>,
+    figures: &Figures,
+    processes: Vec<Process>,
+    routes: Routes,
+) -> Result<System, AllocError>
+    ensures { IfOk result (IsComposed (rows_of tables.now) figures.now.durations.items processes routes) }
+{
+    let signals = signals_of(alloc, &tables.signals, &figures.durations)?;
+    let own = own_signals(alloc, &tables.signals)?;
+    let names = process_names(alloc, &tables.processes)?;
+    Ok(System::new(signals, processes, routes, own, names))
+}
+
+/// The processes; None where one means nothing. Noted is what is broken in their bodies.
+pub fn processes_in<'t>(
+    alloc: Global,
+    tables: &Tables<'t>,
+    declared: &Declared<'_, 't>,
+    figures: &Figures,
+    joined: &Joined,
+    faults: &mut Faults<'t>,
+) -> Result<Option<Vec<Process>>, AllocError>
+    requires known { AreKnown tables.now declared.now figures.now joined.now }
+    requires sets { AreSets joined.now.network.lists.items joined.now.network.signals
+        joined.now.sets }
+    ensures made { IfOk result (AreProcessesOr (survey_of tables.now declared.now figures.now joined.now)) }
+    ensures noted { OnOk result (NotesBodies (survey_of tables.now declared.now figures.now joined.now) (told faults.old)
+        (length (rows_of tables.now).processes) (told faults.new)) }
+{
+    let valid = valid_sets(alloc, &joined.network, &joined.sets)?;
+    let made = each_process(alloc, tables, declared, figures, joined, valid, faults)?;
+    all_made(alloc, made)
+}
+
+/// What each process is made of, or None where it means nothing.
+fn each_process<'t>(
+    alloc: Global,
+    tables: &Tables<'t>,
+    declared: &Declared<'_, 't>,
+    figures: &Figures,
+    joined: &Joined,
+    valid: Vec<SignalSet>,
+    faults: &mut Faults<'t>,
+) -> Result<Vec<Option<Process>>, AllocError>
+    requires known { AreKnown tables.now declared.now figures.now joined.now }
+    requires valid { AreValid joined.now.network
+        (length joined.now.network.processes.items) valid.items }
+    ensures size { IfOk result (λ made. length made.items ≡ length (rows_of tables.now).processes) }
+    ensures made { IfOk result (λ made. AreMade (survey_of tables.now declared.now figures.now joined.now) made.items) }
+    ensures noted { OnOk result (NotesBodies (survey_of tables.now declared.now figures.now joined.now) (told faults.old)
+        (length (rows_of tables.now).processes) (told faults.new)) }
+{
+    let mut made = Vec::new(alloc);
+    for set in valid {
+        let number = counted(made.len())?;
+        let entry = &tables.processes[made.len()];
+        let process = process_at(
+            alloc,
+            tables,
+            declared,
+            figures,
+            joined,
+            ProcessId(number),
+            entry,
+            set,
+            faults,
+        )?;
+        made.push(process)?;
+    }
+    Ok(made)
+}
+
+/// All of them, where each is there.
+fn all_made(alloc: Global, made: Vec<Option<Process>>) -> Result<Option<Vec<Process>>, AllocError>
+    ensures { IfOk result (WholeList made.items) }
+{
+    let mut list = Vec::new(alloc);
+    for process in made {
+        let Some(process) = process else {
+            return Ok(None);
+        };
+        list.push(process)?;
+    }
+    Ok(Some(list))
+}
