@@ -7,7 +7,7 @@ use Rattle.std.specs.Global.{Vec}
 use Rattle.port_model.specs.declared.item.SignalId.{SignalId}
 use Rattle.sdl_stimuli.specs.Context.{items_of, listed_members}
 use Rattle.sdl_build.specs.Lists.{AreMembers, AreSignalsOf}
-use Rattle.sdl_routes.specs.declared.network.Network.{Network}
+use Rattle.sdl_channels.specs.declared.network.Network.{Network}
 use Rattle.sdl_routes.proofs.TableLemmas.{get_push}
 
 abbrev the_signal : ℕ → SignalId

@@ -12,7 +12,7 @@ use Rattle.sdl_build.specs.Survey.{IsNetwork, Survey}
 use Rattle.sdl_declared.specs.Rows.{ProcessRow}
 use Rattle.sdl_declared.specs.Tables.{Rows}
 use Rattle.sdl_names.specs.declared.declared.Declared.{Declared}
-use Rattle.sdl_network.specs.Numbered.{numbered}
+use Rattle.sdl_signal_lists.specs.Numbered.{numbered}
 use Rattle.sdl_process.specs.Faulty.{NotesBody}
 use Rattle.sdl_process.specs.Made.{IsHeaded}
 use Rattle.sdl_process.specs.Meant.{IsBehaviour}
@@ -23,7 +23,7 @@ use Rattle.sdl_scope.specs.Faults.{Told}
 use Rattle.sdl_system.specs.Behaviour.{Behaviour, Means}
 use Rattle.sdl_routes.proofs.TableLemmas.{get_push}
 use Rattle.sdl_routes.specs.Valid.{AreValid}
-use Rattle.sdl_routes.specs.declared.network.Network.{Network}
+use Rattle.sdl_channels.specs.declared.network.Network.{Network}
 use Rattle.std.proofs.lemmas.Option.{none-some}
 use Rattle.sdl_system.specs.declared.id.ProcessId.{ProcessId}
 use Rattle.sdl_system.specs.declared.process.Process.{Process}

@@ -9,7 +9,7 @@ use Rattle.sdl_declared.specs.Rows.{ProcessRow, ValueRow}
 use Rattle.sdl_figures.specs.Figures.{all_initials, counts_at}
 use Rattle.sdl_process.specs.declared.heading.Heading.{Heading}
 use Rattle.sdl_routes.specs.Valid.{IsValid}
-use Rattle.sdl_routes.specs.declared.network.Process as network
+use Rattle.sdl_channels.specs.declared.network.Process as network
 use Rattle.sdl_sorts.specs.declared.scope.Constant.{Constant}
 use Rattle.sdl_sorts.specs.declared.scope.Constant.TheVariants as constants
 use Rattle.sdl_sorts.specs.declared.scope.ValueEntry.{ValueEntry}

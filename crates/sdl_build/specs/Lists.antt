@@ -2,9 +2,9 @@
 use Rattle.std.specs.Prelude.{◌≡◌, ◌<◌, ◌↔◌, ℕ, List, Some, length, slice_get}
 use Rattle.std.specs.List.{Contains}
 use Rattle.port_model.specs.declared.item.SignalId.{SignalId}
-use Rattle.sdl_routes.specs.SignalLists.{StandsFor}
-use Rattle.sdl_routes.specs.declared.list.ListId.{ListId}
-use Rattle.sdl_routes.specs.declared.network.Network.{Network}
+use Rattle.sdl_channels.specs.SignalLists.{StandsFor}
+use Rattle.sdl_channels.specs.declared.list.ListId.{ListId}
+use Rattle.sdl_channels.specs.declared.network.Network.{Network}
 
 -- just the signals of the network for which the list stands
 abbrev pub AreSignalsOf : Network → ListId → List SignalId → Type 0

@@ -10,9 +10,9 @@ use Rattle.sdl_names.specs.Spaces.{AreNamesOf}
 use Rattle.sdl_names.specs.declared.declared.Declared.{Declared}
 use Rattle.sdl_network.specs.Connects.{connect_value}
 use Rattle.sdl_network.specs.Network.{blocks_in, has_no_channel, network_connects, network_lists, network_paths, network_processes}
-use Rattle.sdl_network.specs.Seen.{list_items}
+use Rattle.sdl_signal_lists.specs.Seen.{list_items}
 use Rattle.sdl_routes.specs.Table.{AreRoutes}
-use Rattle.sdl_routes.specs.declared.network.Network.{Network}
+use Rattle.sdl_channels.specs.declared.network.Network.{Network}
 use Rattle.sdl_sorts.specs.declared.scope.Constant.{Constant}
 use Rattle.sdl_spaces.specs.declared.scope.ScopeId.TheVariants as scope
 use Rattle.sdl_system.specs.declared.route.Routes.{Routes}

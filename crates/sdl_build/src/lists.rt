@@ -2,12 +2,12 @@
 
 ghost use Rattle.std.specs.Prelude.{IfOk};
 ghost use Rattle.sdl_build.specs.Lists.{AreMembers, AreSignalsOf};
-ghost use Rattle.sdl_routes.specs.SignalLists.{AreSets};
+ghost use Rattle.sdl_channels.specs.SignalLists.{AreSets};
 ghost use Rattle.sdl_stimuli.specs.Context.{listed_members};
 
 use port_model::SignalId;
+use sdl_channels::{ListId, Network, SignalSets};
 use sdl_declared::SignalListEntry;
-use sdl_routes::{ListId, Network, SignalSets};
 use std::alloc::{AllocError, Global};
 
 /// The signals that each of the first so many lists stands for.

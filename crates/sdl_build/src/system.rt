@@ -5,7 +5,7 @@ ghost use Rattle.sdl_build.specs.Around.{AreKnown, survey_of};
 ghost use Rattle.sdl_build.specs.Faulty.{NotesBodies};
 ghost use Rattle.sdl_build.specs.Made.{AreMade, AreProcessesOr, IsComposed, IsComposedIf, WholeList};
 ghost use Rattle.sdl_declared.specs.Tables.{rows_of};
-ghost use Rattle.sdl_routes.specs.SignalLists.{AreSets};
+ghost use Rattle.sdl_channels.specs.SignalLists.{AreSets};
 ghost use Rattle.sdl_routes.specs.Valid.{AreValid};
 ghost use Rattle.sdl_scope.specs.Faults.{told};
 

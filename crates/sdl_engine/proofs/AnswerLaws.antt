@@ -1,8 +1,8 @@
 -- What the calls of a command give, put together into what is said of the input.
 use Rattle.std.proofs.Common.{◌≡◌, sym, subst, refl, inl, inr, ℕ, List, Option, Bool, true, false, Result, Ok, Err, IfOk, IfErr, OnOk}
 use Rattle.std.specs.Io.KnownBytes.{Appends}
-use Rattle.sdl_report.specs.ReportText.{report_text}
-use Rattle.sdl_report.specs.declared.record.Report.{Report}
+use Rattle.sdl_thin_report.specs.ReportText.{report_text}
+use Rattle.sdl_thin_report.specs.declared.record.Report.{Report}
 use Rattle.sdl_thin.specs.declared.system.System.{System}
 use Rattle.sdl_engine.specs.Answer.{Allows, BreaksOff, FailsToTell, Faulted, Fails, IsRunOfInput, PrintsInput, Refuses, Says, SaysCut, SaysWhole, Tells, Written, outcome_by, outcome_of}
 use Rattle.sdl_engine.specs.Input.{IsRead}
@@ -38,9 +38,11 @@ refuses asked input why allowed = record { refused = why; allowed = allowed; kin
 
 says_refused : (input : Input) (options : Options) (why : Refusal) (line : List ℕ) → Refuses options.command input (outcome_of why) line → Says input options (outcome_of why) line
 says_refused (Bytes bytes) options (refusal.Source error) line r = r
+says_refused (Bytes bytes) options (refusal.Build error) line r = r
 says_refused (Bytes bytes) options (refusal.Script error) line r = r
 says_refused (Bytes bytes) options (refusal.Run error) line r = r
 says_refused TooLong options (refusal.Source error) line r = r
+says_refused TooLong options (refusal.Build error) line r = r
 says_refused TooLong options (refusal.Script error) line r = r
 says_refused TooLong options (refusal.Run error) line r = r
 

@@ -1,24 +1,30 @@
 -- What the program answers to its input.
 use Rattle.std.specs.Prelude.{◌≡◌, ◌⊎◌, ℕ, Bool, true, false, List, Option, take}
 use Rattle.std.specs.Io.KnownBytes.{Appends, Keeps}
+use Rattle.sdl_build.specs.Built.{IsBuilt}
+use Rattle.sdl_build.specs.Outcome.{IsRefusedAs}
+use Rattle.sdl_build.specs.declared.error.BuildError.{BuildError}
 use Rattle.sdl_lex.specs.declared.error.LexError.TheVariants as lex
+use Rattle.sdl_parse.specs.Parser.{SpellsText}
 use Rattle.sdl_parse.specs.declared.error.ParseError.TheVariants as parse
 use Rattle.sdl_print.specs.RoundTrip.{IsCanonicalOf}
-use Rattle.sdl_report.specs.ReportText.{report_text}
-use Rattle.sdl_report.specs.Script.{IsScript}
-use Rattle.sdl_report.specs.ScriptText.{SaysScript}
-use Rattle.sdl_report.specs.ScriptText as faults
-use Rattle.sdl_report.specs.declared.record.Report.{Report}
-use Rattle.sdl_report.specs.declared.script.Script.{Script}
-use Rattle.sdl_report.specs.declared.script.ScriptError.{ScriptError}
+use Rattle.sdl_thin_report.specs.ReportText.{report_text}
+use Rattle.sdl_thin_report.specs.Script.{IsScript}
+use Rattle.sdl_thin_report.specs.ScriptText.{SaysScript}
+use Rattle.sdl_thin_report.specs.ScriptText as faults
+use Rattle.sdl_thin_report.specs.declared.record.Report.{Report}
+use Rattle.sdl_thin_report.specs.declared.script.Script.{Script}
+use Rattle.sdl_thin_report.specs.declared.script.ScriptError.{ScriptError}
 use Rattle.sdl_source.specs.Source.{IsSystemOf}
 use Rattle.sdl_source.specs.Source as sources
 use Rattle.sdl_source.specs.declared.error.SourceError.{SourceError}
 use Rattle.sdl_source.specs.declared.error.SourceError.TheVariants as source
+use Rattle.sdl_system.specs.System.{SystemValue}
 use Rattle.sdl_thin.specs.Behaviour.{Behaviour}
 use Rattle.sdl_thin.specs.declared.system.System.{System}
-use Rattle.sdl_workers.specs.Global.{AreBehaviours}
-use Rattle.sdl_workers.specs.Report.{IsSerialReport}
+use Rattle.sdl_thin_workers.specs.Global.{AreBehaviours}
+use Rattle.sdl_tree.specs.Tree.{Tree}
+use Rattle.sdl_thin_workers.specs.Report.{IsSerialReport}
 use Rattle.sdl_engine.specs.Input.{IsParted, IsRead}
 use Rattle.sdl_engine.specs.RefusalText.{refusal_line}
 use Rattle.sdl_engine.specs.declared.input.Input.{Input}
@@ -75,6 +81,15 @@ IsOfText (source.Parse error) = Unit {0}
 IsOfText (source.NotRun error) = ⊥
 IsOfText (source.Build error) = ⊥
 
+-- a specification spells a tree in which the rule that is told is broken, or there was no memory to build its system
+pub record IsBuildRefused (input : List ℕ) (error : BuildError) : Type 0 where
+  pub specification : List ℕ
+  pub script : List ℕ
+  pub parted : IsParted input specification script
+  pub tree : Tree
+  pub spelled : SpellsText tree specification
+  pub refused : IsRefusedAs tree error
+
 -- a script is refused at the line, and for the fault, that is told
 pub record IsScriptRefused (input : List ℕ) (error : ScriptError) : Type 0 where
   pub script : List ℕ
@@ -91,12 +106,15 @@ pub record IsRunRefused (input : List ℕ) : Type 0 where
   pub is_script : IsScript system read.lines.items
   pub says : SaysScript system script read.lines.items
 
--- what a command may tell of these bytes: a check only of tokens and tree
+-- What a command may tell of these bytes. A check tells of tokens, the tree, and what is broken in the tree; the build of the
+-- whole language's system is that of a check alone.
 abbrev pub AllowsOf : Command → List ℕ → Refusal → Type 0
 AllowsOf command.Check bytes (refusal.Source error) = IsOfText error × IsSourceRefused bytes error
+AllowsOf command.Check bytes (refusal.Build error) = IsBuildRefused bytes error
 AllowsOf command.Check bytes (refusal.Script error) = ⊥
 AllowsOf command.Check bytes (refusal.Run error) = ⊥
 AllowsOf command.Run bytes (refusal.Source error) = IsSourceRefused bytes error
+AllowsOf command.Run bytes (refusal.Build error) = ⊥
 AllowsOf command.Run bytes (refusal.Script error) = IsScriptRefused bytes error
 AllowsOf command.Run bytes (refusal.Run error) = IsRunRefused bytes
 
@@ -112,12 +130,14 @@ pub record Refuses (asked : Command) (input : Input) (refused_as : Outcome) (tex
   pub kind : outcome_of refused ≡ refused_as
   pub line : text ≡ refusal_line refused
 
--- the canonical text of the tree that the specification spells
+-- the canonical text of the tree that the specification spells, and of which a system is built
 pub record Prints (input : List ℕ) (text : List ℕ) : Type 0 where
   pub specification : List ℕ
   pub script : List ℕ
   pub parted : IsParted input specification script
   pub canonical : IsCanonicalOf text specification
+  pub system : SystemValue
+  pub built : IsBuilt canonical.0 system
 
 -- what is written of these bytes where they are accepted: of a check the canonical text, of a run its report
 abbrev pub SaysWhole : Command → List ℕ → ℕ → List ℕ → Type 0

@@ -5,7 +5,7 @@ use thiserror::Error;
 /// What is asked for.
 #[derive(Clone, Copy, Debug, PartialEq, Eq)]
 pub enum Command {
-    /// The canonical text of the specification.
+    /// The canonical text of the specification, where its system can be built.
     Check,
     /// The report of a run of the specification on the script.
     Run,

@@ -7,16 +7,17 @@ ghost use Rattle.sdl_engine.specs.Answer.{Allows, AllowsOf, IsRunOf, IsRunOfInpu
 use crate::input::{Input, parts};
 use crate::options::Command;
 use crate::refusal::Refusal;
+use sdl_build::build;
 use sdl_lex::LexError;
-use sdl_parse::ParseError;
-use sdl_print::canonicalize;
-use sdl_report::{Report, read_script};
+use sdl_parse::{ParseError, parse};
+use sdl_print::print;
 use sdl_source::{SourceError, system_of};
 use sdl_thin::System;
-use sdl_workers::run_serial;
+use sdl_thin_report::{Report, read_script};
+use sdl_thin_workers::run_serial;
 use std::alloc::Global;
 
-/// The canonical text of an input's specification, or why there is none.
+/// The canonical text of an input's specification whose system can be built, or why there is none.
 pub fn check_input(alloc: Global, input: &Input) -> Result<String, Refusal>
     ensures ok { IfOk result (λ text. PrintsInput input.now (string_bytes text)) }
     ensures err { IfErr result (Allows Command.Check input.now) }
@@ -34,9 +35,17 @@ fn check_bytes(alloc: Global, bytes: &[u8]) -> Result<String, Refusal>
     ensures err { IfErr result (AllowsOf Command.Check bytes.now) }
 {
     let (specification, _) = parts(bytes);
-    match canonicalize(alloc, specification) {
+    let tree = match parse(alloc, specification) {
+        Ok(tree) => tree,
+        Err(error) => return Err(Refusal::Source(SourceError::Parse(error))),
+    };
+    let _system = match build(alloc, &tree) {
+        Ok(system) => system,
+        Err(error) => return Err(Refusal::Build(error)),
+    };
+    match print(alloc, &tree) {
         Ok(text) => Ok(text),
-        Err(error) => Err(Refusal::Source(SourceError::Parse(error))),
+        Err(_) => Err(Refusal::Source(SourceError::Parse(ParseError::Memory))),
     }
 }
 

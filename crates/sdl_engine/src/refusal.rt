@@ -1,9 +1,10 @@
 //! Refusals of a text or of its run.
 
 use crate::options::Outcome;
-use sdl_report::ScriptError;
+use sdl_build::BuildError;
 use sdl_source::SourceError;
-use sdl_workers::RunError;
+use sdl_thin_report::ScriptError;
+use sdl_thin_workers::RunError;
 use std::error::Error;
 use std::fmt;
 
@@ -11,6 +12,7 @@ use std::fmt;
 #[derive(Debug, Drop)]
 pub enum Refusal {
     Source(SourceError),
+    Build(BuildError),
     Script(ScriptError),
     Run(RunError),
 }
@@ -25,6 +27,7 @@ impl fmt::Display for Refusal {
     fn fmt<W: fmt::Write>(&self, f: &mut fmt::Formatter<W>) -> fmt::Result {
         match self {
             Refusal::Source(error) => write!(f, "{error}"),
+            Refusal::Build(error) => write!(f, "{error}"),
             Refusal::Script(error) => write!(f, "{error}"),
             Refusal::Run(error) => write!(f, "{error}"),
         }

@@ -8,11 +8,12 @@ use Rattle.sdl_network.specs.Agents.{agent_end, block_names, end_faults}
 use Rattle.sdl_network.specs.Broken.{HasNumber, IsBroken, IsNoAgent, IsNoItem, IsPathOf}
 use Rattle.sdl_network.specs.Broken as broken
 use Rattle.sdl_network.specs.Connects.{channel_faults, connect_faults}
-use Rattle.sdl_network.specs.Network.{all_paths, list_faults, network_faults}
-use Rattle.sdl_network.specs.Numbered.{joined, numbered}
+use Rattle.sdl_network.specs.Network.{all_paths, network_faults}
+use Rattle.sdl_signal_lists.specs.Lists.{list_faults}
+use Rattle.sdl_signal_lists.specs.Numbered.{joined, numbered}
 use Rattle.sdl_network.specs.Paths.{channel_paths, path_faults, second_path, seen_from}
-use Rattle.sdl_network.specs.Processes.{faults_of, processes_faults, seen_within, set_faults}
-use Rattle.sdl_network.specs.Seen.{Seen, item_faults, item_in, item_name, items_faults, list_item, seen_at, signal_item}
+use Rattle.sdl_signal_lists.specs.Processes.{faults_of, processes_faults, seen_within, set_faults}
+use Rattle.sdl_signal_lists.specs.Seen.{Seen, item_faults, item_in, item_name, items_faults, list_item, seen_at, signal_item}
 use Rattle.sdl_scope.proofs.FaultLemmas.{in-each, in-if, in-left, in-right}
 use Rattle.sdl_scope.specs.FaultLaws.{In}
 use Rattle.sdl_scope.specs.Faults.{Told, fault_if, told_at}

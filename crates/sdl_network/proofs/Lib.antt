@@ -1,3 +1,3 @@
 pub mod BrokenLaws
 pub mod ListedLaws
-pub mod NumberLemmas
+pub mod PathLemmas

@@ -1,8 +1,8 @@
 -- What the ends of channels are (Z.101: channel): the environment, or a process or a block of the same scope.
 use Rattle.std.specs.Prelude.{ℕ, List, [], Option, None, Some, is_none}
-use Rattle.sdl_network.specs.Numbered.{numbered}
-use Rattle.sdl_routes.specs.declared.network.End.{End}
-use Rattle.sdl_routes.specs.declared.network.End.TheVariants as at
+use Rattle.sdl_signal_lists.specs.Numbered.{numbered}
+use Rattle.sdl_channels.specs.declared.network.End.{End}
+use Rattle.sdl_channels.specs.declared.network.End.TheVariants as at
 use Rattle.sdl_scope.specs.Faults.{Told, fault_if}
 use Rattle.sdl_scope.specs.Names.{first_of}
 use Rattle.sdl_scope.specs.declared.fault.Kind.TheVariants.{Unknown}

@@ -7,8 +7,8 @@ use Rattle.sdl_names.specs.declared.declared.Declared.{Declared}
 use Rattle.sdl_network.specs.Agents.{block_names}
 use Rattle.sdl_network.specs.Network.{network_faults}
 use Rattle.sdl_network.specs.Paths.{seen_from}
-use Rattle.sdl_network.specs.Processes.{seen_within}
-use Rattle.sdl_network.specs.Seen.{Seen, item_name, seen_at}
+use Rattle.sdl_signal_lists.specs.Processes.{seen_within}
+use Rattle.sdl_signal_lists.specs.Seen.{Seen, item_name, seen_at}
 use Rattle.sdl_scope.specs.FaultLaws.{Each, In}
 use Rattle.sdl_scope.specs.Faults.{Told, told_at}
 use Rattle.sdl_scope.specs.Names.{first_of}

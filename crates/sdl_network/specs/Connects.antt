@@ -3,10 +3,10 @@ use Rattle.std.specs.Prelude.{◌++◌, ℕ, List, [], ◌∷◌, Option, None, 
 use Rattle.sdl_declared.specs.Rows.{ConnectionRow}
 use Rattle.sdl_declared.specs.declared.entries.ChannelId.{ChannelId}
 use Rattle.sdl_names.specs.declared.declared.Declared.{Declared}
-use Rattle.sdl_network.specs.Seen.{listed}
+use Rattle.sdl_signal_lists.specs.Seen.{listed}
 use Rattle.sdl_network.specs.declared.paths.ChannelPaths.{ChannelPaths}
-use Rattle.sdl_routes.specs.declared.network.Connect as routes
-use Rattle.sdl_routes.specs.declared.network.PathId.{PathId}
+use Rattle.sdl_channels.specs.declared.network.Connect as routes
+use Rattle.sdl_channels.specs.declared.network.PathId.{PathId}
 use Rattle.sdl_scope.specs.Faults.{Told, fault_if}
 use Rattle.sdl_scope.specs.Names.{first_of}
 use Rattle.sdl_scope.specs.declared.fault.Kind.TheVariants.{Unknown}

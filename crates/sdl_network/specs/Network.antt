@@ -1,34 +1,23 @@
 -- What joins the agents of a specification. All its signal lists are numbered: first the `signallist`s in the order of the
 -- text, then what each path of a channel carries, then two of each process, what it names and its timers.
 use Rattle.std.specs.Prelude.{◌++◌, ◌==◌, ℕ, ◌+◌, Bool, List, flat_map, length, map}
-use Rattle.sdl_declared.specs.Rows.{ProcessRow, SignalListRow}
-use Rattle.sdl_declared.specs.Tables.{Rows, path_of}
+use Rattle.sdl_declared.specs.Tables.{Rows}
 use Rattle.sdl_names.specs.declared.declared.Declared.{Declared}
 use Rattle.sdl_network.specs.Agents.{block_names}
 use Rattle.sdl_network.specs.Connects.{Connect, connect_faults, connects_of}
-use Rattle.sdl_network.specs.Numbered.{numbered}
+use Rattle.sdl_signal_lists.specs.Lists.{list_at, list_faults}
+use Rattle.sdl_signal_lists.specs.Numbered.{numbered}
 use Rattle.sdl_network.specs.Paths.{Placed, carried, channel_paths, numbers_from, path_faults, paths_from}
-use Rattle.sdl_network.specs.Processes.{process_lists, processes_faults, processes_from}
-use Rattle.sdl_network.specs.Seen.{items_faults, items_in, seen_at}
-use Rattle.sdl_routes.specs.declared.list.Item.{Item}
-use Rattle.sdl_routes.specs.declared.network.Block.{Block}
-use Rattle.sdl_routes.specs.declared.network.ChannelPath.{ChannelPath}
-use Rattle.sdl_routes.specs.declared.network.Process.{Process}
+use Rattle.sdl_signal_lists.specs.Processes.{process_lists, processes_faults, processes_from}
+use Rattle.sdl_channels.specs.declared.list.Item.{Item}
+use Rattle.sdl_channels.specs.declared.network.Block.{Block}
+use Rattle.sdl_channels.specs.declared.network.ChannelPath.{ChannelPath}
+use Rattle.sdl_channels.specs.declared.network.Process.{Process}
 use Rattle.sdl_scope.specs.Faults.{Told}
 use Rattle.sdl_spaces.specs.Spaces.{names_of}
 use Rattle.sdl_spaces.specs.declared.scope.ScopeId.{ScopeId}
 use Rattle.sdl_spaces.specs.declared.scope.ScopeId.TheVariants as scope
 use Rattle.sdl_tree.specs.Tree.{BlockDefinition}
-
--- ---- signal lists
-
-abbrev pub list_at : Declared → List ProcessRow → SignalListRow → List Item
-list_at declared processes list =
-    items_in (seen_at declared (path_of processes list.scope)) list.definition.items
-
-abbrev pub list_faults : Declared → List ProcessRow → SignalListRow → List Told
-list_faults declared processes list =
-    items_faults (seen_at declared (path_of processes list.scope)) list.definition.items
 
 -- ---- scopes without any channel
 

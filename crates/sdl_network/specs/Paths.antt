@@ -5,16 +5,16 @@ use Rattle.sdl_declared.specs.Rows.{ChannelRow}
 use Rattle.sdl_declared.specs.Tables.{path_of as scopes_round}
 use Rattle.sdl_names.specs.declared.declared.Declared.{Declared}
 use Rattle.sdl_network.specs.Agents.{end_faults, end_in}
-use Rattle.sdl_network.specs.Numbered.{numbered}
-use Rattle.sdl_network.specs.Processes.{scope_of}
-use Rattle.sdl_network.specs.Seen.{Seen, items_faults, items_in, seen_at}
+use Rattle.sdl_signal_lists.specs.Numbered.{numbered}
+use Rattle.sdl_signal_lists.specs.Processes.{scope_of}
+use Rattle.sdl_signal_lists.specs.Seen.{Seen, items_faults, items_in, seen_at}
 use Rattle.sdl_network.specs.declared.paths.ChannelPaths.{ChannelPaths}
 use Rattle.sdl_network.specs.declared.paths.PathEntry.{PathEntry}
-use Rattle.sdl_routes.specs.declared.list.Item.{Item}
-use Rattle.sdl_routes.specs.declared.network.ChannelPath as routes
-use Rattle.sdl_routes.specs.declared.network.End.{End}
-use Rattle.sdl_routes.specs.declared.network.End.TheVariants as at
-use Rattle.sdl_routes.specs.declared.network.PathId.{PathId}
+use Rattle.sdl_channels.specs.declared.list.Item.{Item}
+use Rattle.sdl_channels.specs.declared.network.ChannelPath as routes
+use Rattle.sdl_channels.specs.declared.network.End.{End}
+use Rattle.sdl_channels.specs.declared.network.End.TheVariants as at
+use Rattle.sdl_channels.specs.declared.network.PathId.{PathId}
 use Rattle.sdl_scope.specs.Faults.{Told}
 use Rattle.sdl_spaces.specs.Spaces.{names_of}
 use Rattle.sdl_spaces.specs.declared.scope.ScopeId.{ScopeId}

@@ -8,10 +8,10 @@ ghost use Rattle.sdl_scope.specs.Names.{first_of, names_in};
 ghost use Rattle.sdl_spaces.specs.Spaces.{names_of};
 ghost use Rattle.sdl_tree.specs.Views.{end_value};
 
-use crate::seen::{note_unknown, path_at};
+use sdl_channels::End;
 use sdl_declared::BlockEntry;
-use sdl_routes::End;
 use sdl_scope::{Faults, Names, Token};
+use sdl_signal_lists::{counted, note_unknown, path_at};
 use sdl_sorts::AgentMeaning;
 use sdl_spaces::{ScopeId, Spaces};
 use sdl_system::BlockId;
@@ -31,16 +31,6 @@ pub fn block_names<'t>(
         names.declare(&entry.definition.name, BlockId(number), &mut Faults::new())?;
     }
     Ok(names)
-}
-
-/// The number as one of 32 bits. There is no memory for more.
-pub fn counted(number: usize) -> Result<u32, AllocError>
-    ensures { IfOk result (λ counted. counted ≡ number) }
-{
-    match u32::try_from(number) {
-        Ok(counted) => Ok(counted),
-        Err(_) => Err(AllocError),
-    }
 }
 
 /// What a name stands for in just this scope.

@@ -9,11 +9,11 @@ ghost use Rattle.sdl_tree.specs.Views.{connection_value, name_value, names_value
 
 use crate::agents::get_at;
 use crate::paths::ChannelPaths;
-use crate::seen::note_unknown;
+use sdl_channels::{Connect, PathId};
 use sdl_declared::{ChannelId, ConnectionEntry};
 use sdl_names::Declared;
-use sdl_routes::{Connect, PathId};
 use sdl_scope::{Faults, Token};
+use sdl_signal_lists::note_unknown;
 use sdl_spaces::{ScopeId, Spaces};
 use sdl_system::BlockId;
 use sdl_tree::{ChannelConnection, Name};

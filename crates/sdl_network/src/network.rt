@@ -1,26 +1,35 @@
 //! The network of a specification.
 
-ghost use Rattle.std.specs.Prelude.{◌≡◌, length, map, IfOk, OnOk};
-ghost use Rattle.sdl_declared.specs.Seen.{block_seen};
+ghost use Rattle.std.specs.Prelude.{◌≡◌, ◌++◌, ◌+◌, flat_map, length, map, IfOk, OnOk};
+ghost use Rattle.sdl_declared.specs.Seen.{block_seen, channel_seen};
 ghost use Rattle.sdl_declared.specs.Tables.{rows_of};
+ghost use Rattle.sdl_network.specs.Agents.{block_names};
 ghost use Rattle.sdl_network.specs.Connects.{connect_value};
-ghost use Rattle.sdl_network.specs.Network.{blocks_in, has_no_channel, network_connects, network_faults, network_lists, network_paths, network_processes};
-ghost use Rattle.sdl_network.specs.Seen.{list_items};
+ghost use Rattle.sdl_network.specs.Network.{all_paths, blocks_in, has_no_channel, network_connects, network_faults, network_lists, network_paths, network_processes};
+ghost use Rattle.sdl_signal_lists.specs.Seen.{list_items};
+ghost use Rattle.sdl_network.specs.Paths.{carried, channel_paths, path_faults, paths_from};
 ghost use Rattle.sdl_scope.specs.Faults.{least_of, told};
 ghost use Rattle.sdl_spaces.specs.declared.scope.ScopeId.TheVariants as scope;
 
-use crate::agents::{block_names, counted, is_empty_at};
+use crate::agents::{block_names, is_empty_at};
 use crate::connects::{all_connects, note_connects};
-use crate::lists::{named_lists, note_lists};
 use crate::paths::{add_paths, all_paths, note_paths};
-use crate::processes::{add_processes, note_processes};
-use sdl_declared::{BlockEntry, Tables};
+use sdl_channels::{Block, ChannelPath, Connect, Network, Process, SignalList};
+use sdl_declared::{BlockEntry, ChannelEntry, Tables};
 use sdl_names::Declared;
-use sdl_routes::{Block, Network};
-use sdl_scope::Faults;
+use sdl_scope::{Faults, Names};
+use sdl_signal_lists::{add_processes, counted, named_lists, note_lists, note_processes};
 use sdl_spaces::ScopeId;
 use sdl_system::BlockId;
 use std::alloc::{AllocError, Global};
+
+/// The lists of a network, and what has numbers of these.
+#[derive(Drop)]
+struct Listed {
+    lists: Vec<SignalList>,
+    paths: Vec<ChannelPath>,
+    processes: Vec<Process>,
+}
 
 /// What joins the agents of a specification with these tables and names.
 ///
@@ -41,21 +50,92 @@ pub fn network_of<'t>(
     ensures connects { IfOk result (λ network. map connect_value network.connects.items
         ≡ network_connects (rows_of tables.now) declared.now) }
 {
-    let names = block_names(alloc, &tables.blocks)?;
-    let entries = all_paths(alloc, &tables.channels)?;
-    let mut lists = named_lists(alloc, declared, tables)?;
-    let paths = add_paths(alloc, declared, &names, &entries.entries, &mut lists)?;
-    let processes = add_processes(alloc, declared, &tables.processes, &mut lists)?;
-    let connects = all_connects(alloc, declared, &entries.numbers, &tables.connections)?;
-    Ok(Network {
-        signals: counted(tables.signals.len())?,
+    let signals = counted(tables.signals.len())?;
+    let is_implied = is_empty_at(&declared.channels, ScopeId::System);
+    let blocks = blocks_in(alloc, declared, &tables.blocks)?;
+    let connects = connects_in(alloc, tables, declared)?;
+    let Listed {
         lists,
-        is_implied: is_empty_at(&declared.channels, ScopeId::System),
+        paths,
         processes,
-        blocks: blocks_in(alloc, declared, &tables.blocks)?,
+    } = listed_in(alloc, tables, declared)?;
+    Ok(Network {
+        signals,
+        lists,
+        is_implied,
+        processes,
+        blocks,
         paths,
         connects,
     })
+}
+
+/// The connects, by the numbers of the paths that they name.
+fn connects_in<'t>(
+    alloc: Global,
+    tables: &Tables<'t>,
+    declared: &Declared<'_, 't>,
+) -> Result<Vec<Connect>, AllocError>
+    ensures { IfOk result (λ connects. map connect_value connects.items ≡ network_connects (rows_of tables.now) declared.now) }
+{
+    let paths = all_paths(alloc, &tables.channels)?;
+    all_connects(alloc, declared, &paths.numbers, &tables.connections)
+}
+
+/// The lists, with the paths and the processes, each of which has numbers of lists.
+fn listed_in<'t>(
+    alloc: Global,
+    tables: &Tables<'t>,
+    declared: &Declared<'_, 't>,
+) -> Result<Listed, AllocError>
+    ensures lists { IfOk result (λ listed. map list_items listed.lists.items ≡ network_lists (rows_of tables.now) declared.now) }
+    ensures paths { IfOk result (λ listed. listed.paths.items ≡ network_paths (rows_of tables.now) declared.now) }
+    ensures processes { IfOk result (λ listed. listed.processes.items ≡ network_processes (rows_of tables.now)) }
+{
+    let mut lists = named_lists(alloc, declared, tables)?;
+    let paths = paths_in(alloc, tables, declared, &mut lists)?;
+    let processes = add_processes(alloc, declared, &tables.processes, &mut lists)?;
+    Ok(Listed {
+        lists,
+        paths,
+        processes,
+    })
+}
+
+/// Adds what the paths carry to the lists, and answers the paths.
+fn paths_in<'t>(
+    alloc: Global,
+    tables: &Tables<'t>,
+    declared: &Declared<'_, 't>,
+    lists: &mut Vec<SignalList>,
+) -> Result<Vec<ChannelPath>, AllocError>
+    ensures paths { IfOk result (λ paths. paths.items
+        ≡ paths_from declared.now (block_names (rows_of tables.now).blocks) (length lists.old.items) (all_paths (rows_of tables.now))) }
+    ensures lists { OnOk result (map list_items lists.new.items ≡ map list_items lists.old.items
+        ++ map (carried declared.now (block_names (rows_of tables.now).blocks)) (all_paths (rows_of tables.now))) }
+    ensures count { OnOk result (length lists.new.items ≡ length lists.old.items + length (all_paths (rows_of tables.now))) }
+{
+    let names = block_names(alloc, &tables.blocks)?;
+    paths_of(alloc, declared, &names, &tables.channels, lists)
+}
+
+/// Adds what the paths of these channels carry to the lists, and answers the paths.
+fn paths_of<'t>(
+    alloc: Global,
+    declared: &Declared<'_, 't>,
+    blocks: &Names<'_, BlockId>,
+    channels: &[ChannelEntry<'t>],
+    lists: &mut Vec<SignalList>,
+) -> Result<Vec<ChannelPath>, AllocError>
+    ensures paths { IfOk result (λ paths. paths.items
+        ≡ paths_from declared.now blocks.now (length lists.old.items) (flat_map channel_paths (map channel_seen channels.now))) }
+    ensures lists { OnOk result (map list_items lists.new.items ≡ map list_items lists.old.items
+        ++ map (carried declared.now blocks.now) (flat_map channel_paths (map channel_seen channels.now))) }
+    ensures count { OnOk result (length lists.new.items
+        ≡ length lists.old.items + length (flat_map channel_paths (map channel_seen channels.now))) }
+{
+    let paths = all_paths(alloc, channels)?;
+    add_paths(alloc, declared, blocks, &paths.entries, lists)
 }
 
 fn blocks_in<'t>(
@@ -84,11 +164,25 @@ pub fn note_network<'t>(
 ) -> Result<(), AllocError>
     ensures { OnOk result (told faults.new ≡ least_of (told faults.old) (network_faults (rows_of tables.now) declared.now)) }
 {
-    let names = block_names(alloc, &tables.blocks)?;
-    let paths = all_paths(alloc, &tables.channels)?;
     note_lists(declared, tables, faults);
-    note_paths(declared, &names, &paths.entries, faults);
+    note_channels(alloc, tables, declared, faults)?;
     note_processes(declared, &tables.processes, faults)?;
     note_connects(declared, &tables.connections, faults);
+    Ok(())
+}
+
+/// Notes each name that stands for nothing at an end of a channel or among its signals.
+fn note_channels<'t>(
+    alloc: Global,
+    tables: &Tables<'t>,
+    declared: &Declared<'_, 't>,
+    faults: &mut Faults<'t>,
+) -> Result<(), AllocError>
+    ensures { OnOk result (told faults.new ≡ least_of (told faults.old)
+        (flat_map (path_faults declared.now (block_names (rows_of tables.now).blocks)) (all_paths (rows_of tables.now)))) }
+{
+    let names = block_names(alloc, &tables.blocks)?;
+    let paths = all_paths(alloc, &tables.channels)?;
+    note_paths(declared, &names, &paths.entries, faults);
     Ok(())
 }

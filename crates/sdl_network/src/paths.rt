@@ -3,17 +3,16 @@
 ghost use Rattle.std.specs.Prelude.{◌≡◌, ◌++◌, ◌+◌, ◌∷◌, [], flat_map, length, map, option_map, IfOk, OnOk};
 ghost use Rattle.sdl_declared.specs.Seen.{channel_seen};
 ghost use Rattle.sdl_network.specs.Paths.{carried, channel_paths, items_if, numbers_from, numbers_of, path_faults, path_of, paths_from, placed_value, second_number, second_path, seen_from};
-ghost use Rattle.sdl_network.specs.Processes.{scope_of};
-ghost use Rattle.sdl_network.specs.Seen.{items_faults, list_items};
+ghost use Rattle.sdl_signal_lists.specs.Seen.{items_faults, list_items};
 ghost use Rattle.sdl_scope.specs.Faults.{least_of, told};
 ghost use Rattle.sdl_tree.specs.Views.{path_value};
 
-use crate::agents::{counted, end_in, note_end};
-use crate::seen::{path_at, seen_at};
+use crate::agents::{end_in, note_end};
+use sdl_channels::{ChannelPath, End, Item, ListId, PathId, SignalList};
 use sdl_declared::ChannelEntry;
 use sdl_names::Declared;
-use sdl_routes::{ChannelPath, End, Item, ListId, PathId, Scope, SignalList};
 use sdl_scope::{Faults, Names};
+use sdl_signal_lists::{counted, path_at, scope_of, seen_at};
 use sdl_spaces::ScopeId;
 use sdl_system::BlockId;
 use sdl_tree::ChannelPath as PathDefinition;
@@ -209,14 +208,4 @@ fn note_signals<'t>(
 {
     let seen = seen_at(declared, path_at(scope));
     seen.note_items(&path.signals, faults);
-}
-
-/// Channels and agents stand in the system or in a block, and never in a process.
-pub fn scope_of(scope: ScopeId) -> Scope
-    ensures { result ≡ scope_of scope }
-{
-    match scope {
-        ScopeId::System | ScopeId::Process(_) => Scope::System,
-        ScopeId::Block(block) => Scope::Block(block),
-    }
 }

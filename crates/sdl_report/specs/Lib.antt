@@ -1,11 +1,7 @@
-pub mod ErrorText
+pub mod Entry
 pub mod Event
+pub mod Failure
 pub mod Gathered
 pub mod Name
-pub mod Part
-pub mod Reading
+pub mod Record
 pub mod ReportText
-pub mod Script
-pub mod ScriptText
-pub mod Spelled
-pub mod Spelling

@@ -1,103 +1,170 @@
 //! The lines of events.
 
-ghost use Rattle.std.specs.Prelude.{◌≡◌, ◌++◌, OnOk};
+ghost use Rattle.std.specs.Prelude.{◌≡◌, ◌++◌, codes, OnOk};
 ghost use Rattle.std.specs.String.{string_bytes};
-ghost use Rattle.sdl_report.specs.ReportText.{event_line, event_text, stimulus_text, line};
+ghost use Rattle.port_model.specs.Text.{values_text};
+ghost use Rattle.sdl_report.specs.Entry.{event_of, got_of};
+ghost use Rattle.sdl_report.specs.Name.{process_name};
+ghost use Rattle.sdl_report.specs.ReportText.{created_text, event_line, line, signal_text, stimulus_text, target_text};
 
-use crate::names::{signal_name, state_name, variable_name};
-use crate::{Event, Record};
-use port_model::{Got, Pid};
-use sdl_thin::{System, Target};
+use crate::Record;
+use crate::entry::{Entry, Stimulus};
+use crate::names::{process_name, signal_name, state_name, variable_name};
+use port_model::{SignalId, Value};
+use sdl_system::{ProcessId, System, Target};
 use std::alloc::AllocError;
 use std::fmt;
 
-/// Appends the line of an event of the record.
+/// Appends the line of an event of the record, which is an entry with its values.
 pub fn push_event(
     text: &mut String,
-    event: &Event,
+    entry: Entry,
+    values: &[Value],
     record: &Record,
     system: &System,
 ) -> Result<(), AllocError>
     ensures { OnOk result (string_bytes text.new ≡ string_bytes text.old
-        ++ event_line system.now «record».now event.now) }
+        ++ event_line system.now «record».now (event_of entry values.now)) }
 {
-    match event {
-        Event::Start { at } => writeln!(text, "{at} start"),
-        Event::Consumed { at, got } => {
+    match entry {
+        Entry::Start { at } => writeln!(text, "{at} start"),
+        Entry::Consumed { at, got } => {
             write!(text, "{at} input ")?;
-            push_stimulus(text, got, record, system)
+            push_stimulus(text, got, values, record, system)
         }
-        Event::Discarded { at, got } => {
+        Entry::Prior { at, got } => {
+            write!(text, "{at} priority ")?;
+            push_stimulus(text, got, values, record, system)
+        }
+        Entry::Discarded { at, got } => {
             write!(text, "{at} discard ")?;
-            push_stimulus(text, got, record, system)
+            push_stimulus(text, got, values, record, system)
         }
-        Event::FailedAt { at, why } => writeln!(text, "{at} failed {why}"),
-        Event::Task { variable, value } => {
-            let name = variable_name(system, record.process, *variable);
+        Entry::Provided { at, number } => writeln!(text, "{at} provided {number}"),
+        Entry::FailedAt { at, why } => writeln!(text, "{at} failed {why}"),
+        Entry::Task { variable, value } => {
+            let name = variable_name(system, record.process(), variable);
             writeln!(text, "  task {name} := {value}")
         }
-        Event::Output {
-            signal,
-            values,
-            target,
-        } => {
-            let name = signal_name(system, *signal);
-            let receiver = Receiver(*target);
-            writeln!(text, "  output {name}{values} to {receiver}")
+        Entry::OutputOnPath { signal, target, .. }
+        | Entry::OutputToProcess { signal, target, .. }
+        | Entry::OutputToPid { signal, target, .. } => {
+            push_output(text, signal, values, target, system)
         }
-        Event::NextState { state } => {
-            push_state_line(
-                text,
-                "  nextstate ",
-                state_name(system, record.process, *state),
-            )
+        Entry::Set { timer, due, .. } => {
+            text.push_str("  set ")?;
+            push_signal(text, timer, values, system)?;
+            writeln!(text, " {due}")
         }
-        Event::Stop => writeln!(text, "  stop"),
-        Event::Failed { why } => writeln!(text, "  failed {why}"),
-        Event::Rest { state } => {
-            push_state_line(text, "rest ", state_name(system, record.process, *state))
+        Entry::Reset { timer, .. } => {
+            text.push_str("  reset ")?;
+            push_signal(text, timer, values, system)?;
+            text.push('\n')
         }
-        Event::Cut { state: Some(state) } => {
-            push_state_line(text, "cut ", state_name(system, record.process, *state))
+        Entry::Create { process, pid } => push_create(text, process, pid, system),
+        Entry::NextState { state } => push_name(
+            text,
+            "  nextstate ",
+            state_name(system, record.process(), state),
+        ),
+        Entry::Stop => text.push_str("  stop\n"),
+        Entry::Failed { why } => writeln!(text, "  failed {why}"),
+        Entry::Rest { state } => {
+            push_name(text, "rest ", state_name(system, record.process(), state))
         }
-        Event::Cut { state: None } => writeln!(text, "cut start"),
+        Entry::Cut { state: Some(state) } => {
+            push_name(text, "cut ", state_name(system, record.process(), state))
+        }
+        Entry::Cut { state: None } => text.push_str("cut start\n"),
     }
 }
 
-// Appends the line of a state.
-fn push_state_line(text: &mut String, beginning: &str, state: &str) -> Result<(), AllocError>
+// Appends the line of a name.
+fn push_name(text: &mut String, beginning: &str, name: &str) -> Result<(), AllocError>
     ensures { OnOk result (string_bytes text.new ≡ string_bytes text.old
-        ++ line (beginning.now ++ state.now)) }
+        ++ line (beginning.now ++ name.now)) }
 {
     text.push_str(beginning)?;
-    text.push_str(state)?;
+    text.push_str(name)?;
     text.push('\n')
 }
 
-// Appends `S from X` and ends the line. A timer's signal comes from the instance itself.
+// Appends `S from X` and ends the line.
 fn push_stimulus(
     text: &mut String,
-    got: &Got,
+    got: Stimulus,
+    values: &[Value],
     record: &Record,
     system: &System,
 ) -> Result<(), AllocError>
     ensures { OnOk result (string_bytes text.new ≡ string_bytes text.old
-        ++ line (stimulus_text system.now «record».now got.now)) }
+        ++ line (stimulus_text system.now «record».now (got_of got values.now))) }
 {
-    match got {
-        Got::Signal(item) => {
-            let name = signal_name(system, item.name);
-            let values = &item.values;
-            let sender = item.sender;
-            writeln!(text, "{name}{values} from {sender}")
-        }
-        Got::Timer(key) => {
-            let name = signal_name(system, key.name);
-            let values = &key.values;
-            let sender = Pid::Of(record.pid);
-            writeln!(text, "{name}{values} from {sender}")
-        }
+    push_signal(text, got.name, values, system)?;
+    let sender = got.origin.sender(record.pid());
+    writeln!(text, " from {sender}")
+}
+
+// Appends the line of an output.
+fn push_output(
+    text: &mut String,
+    signal: SignalId,
+    values: &[Value],
+    target: Target,
+    system: &System,
+) -> Result<(), AllocError>
+    ensures { OnOk result (string_bytes text.new ≡ string_bytes text.old
+        ++ line (codes "  output " ++ signal_text system.now signal values.now ++ codes " to " ++ target_text target)) }
+{
+    text.push_str("  output ")?;
+    push_signal(text, signal, values, system)?;
+    let receiver = Receiver(target);
+    writeln!(text, " to {receiver}")
+}
+
+// Appends the line of a create.
+fn push_create(
+    text: &mut String,
+    process: ProcessId,
+    pid: Option<u32>,
+    system: &System,
+) -> Result<(), AllocError>
+    ensures { OnOk result (string_bytes text.new ≡ string_bytes text.old
+        ++ line (codes "  create " ++ process_name system.now process ++ codes " " ++ created_text pid)) }
+{
+    let name = process_name(system, process);
+    match pid {
+        Some(number) => writeln!(text, "  create {name} #{number}"),
+        None => writeln!(text, "  create {name} null"),
     }
+}
+
+// Appends a signal or a timer with its values.
+fn push_signal(
+    text: &mut String,
+    signal: SignalId,
+    values: &[Value],
+    system: &System,
+) -> Result<(), AllocError>
+    ensures { OnOk result (string_bytes text.new ≡ string_bytes text.old
+        ++ signal_text system.now signal values.now) }
+{
+    text.push_str(signal_name(system, signal))?;
+    push_values(text, values)
+}
+
+// Appends values in parentheses, or nothing where there are none.
+fn push_values(text: &mut String, values: &[Value]) -> Result<(), AllocError>
+    ensures { OnOk result (string_bytes text.new ≡ string_bytes text.old ++ values_text values.now) }
+{
+    let Some((first, more)) = values.split_first() else {
+        return Ok(());
+    };
+    write!(text, "({first}")?;
+    for value in more {
+        write!(text, ",{value}")?;
+    }
+    text.push(')')
 }
 
 // Whom an output reached: `#7`, `env`, `null` or `nobody`.
@@ -106,6 +173,7 @@ struct Receiver(Target);
 
 impl fmt::Display for Receiver {
     ghost use Rattle.std.specs.Prelude.{Some};
+    ghost use Rattle.sdl_report.specs.Name.{process_name};
     ghost use Rattle.sdl_report.specs.ReportText.{target_text};
 
     ghost output = { λ receiver. Some (target_text receiver.0) };

@@ -1,10 +1,11 @@
 //! The names that the numbers of an event stand for. A number that the system doesn't have gives the empty name.
 
 ghost use Rattle.std.specs.Prelude.{◌≡◌};
-ghost use Rattle.sdl_report.specs.Name.{process_name, signal_name, state_name, variable_name, name_of_state, name_of_variable};
+ghost use Rattle.sdl_report.specs.Name.{name_of_state, name_of_variable};
+ghost use Rattle.sdl_report.specs.Name.{process_name, signal_name, state_name, variable_name};
 
 use port_model::SignalId;
-use sdl_thin::{Process, ProcessId, StateId, System, VariableId};
+use sdl_system::{Process, ProcessId, StateId, System, VariableId};
 
 pub fn signal_name(system: &System, signal: SignalId) -> &str
     ensures { result.now ≡ signal_name system.now signal }

@@ -1,18 +1,49 @@
 //! Records of instances and the report of a run.
 
-use crate::Event;
-use port_model::Pid;
-use sdl_thin::ProcessId;
+ghost use Rattle.std.specs.Prelude.{◌≡◌, ◌+◌, ◌<◌, ◌≤◌, ◌++◌, [], length, vec_len, vec_capacity, IsOk, OnOk};
+ghost use Rattle.sdl_report.specs.Event as event;
+ghost use Rattle.sdl_report.specs.Event.{values_got};
+ghost use Rattle.sdl_report.specs.Entry.{count_of, counted, event_of, told};
+ghost use Rattle.sdl_report.specs.Record.{noted, with_room};
 
-/// What one instance did, one event after the other.
+use crate::Failure;
+use crate::entry::{Entry, Stimulus, values_got};
+use port_model::{Got, Pid, SignalId, TimerKey, Value};
+use sdl_system::{Dest, ProcessId, StateId, Target, VariableId};
+use std::alloc::{AllocError, Global};
+use std::marker::Model;
+
+/// What one instance did, one event after the other. It takes an event into room that `reserve` made, and needs no
+/// memory for it then.
 #[derive(Debug, Drop)]
 pub struct Record {
-    /// The number of the instance.
-    pub pid: u32,
-    pub process: ProcessId,
-    /// The creator, null for an instance that the system begins with.
-    pub parent: Pid,
-    pub events: Vec<Event>,
+    process: ProcessId,
+    pid: u32,
+    parent: Pid,
+    entries: Vec<Entry>,
+    // the values of all entries, in their order
+    values: Vec<Value>,
+    // so many values may come without memory
+    values_room: u16,
+}
+
+impl Model for Record {
+    ghost use Rattle.std.specs.Prelude.{◌-◌, vec_len, vec_capacity};
+    ghost use Rattle.sdl_report.specs.Entry.{told, IsKept};
+    ghost use Rattle.sdl_report.specs.Record.{RecordValue};
+
+    ghost Value = { RecordValue };
+
+    ghost view = { λ r. record {
+      process = r.process;
+      pid = r.pid;
+      parent = r.parent;
+      events = told r.entries.items r.values.items;
+      room = vec_capacity r.entries - vec_len r.entries;
+      values_room = r.values_room;
+    } };
+
+    ghost invariant = { λ r. IsKept r.entries.items r.values.items r.values_room (vec_capacity r.values) };
 }
 
 /// What a run did: the records by ascending number, the time at its end in ticks, and whether it is whole or was cut at
@@ -22,4 +53,272 @@ pub struct Report {
     pub records: Vec<Record>,
     pub end: u64,
     pub whole: bool,
+}
+
+impl Record {
+    /// The record of an instance that has done nothing so far; `parent` is its creator, null for an instance that the
+    /// system begins with. Takes no memory, and has no room.
+    pub fn new(alloc: Global, process: ProcessId, pid: u32, parent: Pid) -> Self
+        ensures { result ≡ record {
+          process = process;
+          pid = pid;
+          parent = parent;
+          events = [];
+          room = 0;
+          values_room = 0;
+        } }
+    {
+        Record {
+            process,
+            pid,
+            parent,
+            entries: Vec::new(alloc),
+            values: Vec::new(alloc),
+            values_room: 0,
+        }
+    }
+
+    /// The process of the instance.
+    pub fn process(&self) -> ProcessId
+        ensures { result ≡ self.now.process }
+    {
+        self.process
+    }
+
+    /// The number of the instance.
+    pub fn pid(&self) -> u32
+        ensures { result ≡ self.now.pid }
+    {
+        self.pid
+    }
+
+    /// The creator, null for an instance that the system begins with.
+    pub fn parent(&self) -> Pid
+        ensures { result ≡ self.now.parent }
+    {
+        self.parent
+    }
+
+    /// How many events there are.
+    pub fn len(&self) -> usize
+        ensures { result ≡ length self.now.events }
+    {
+        self.entries.len()
+    }
+
+    /// Makes room for so many events and, with them, so many values. Nothing else changes, and there is never less room
+    /// than before. Refused for want of memory, and for more than 65,535 values; but never where there is that room
+    /// already.
+    pub fn reserve(&mut self, events: usize, values: usize) -> Result<(), AllocError>
+        ensures same { self.new ≡ with_room self.old self.new.room self.new.values_room }
+        ensures ok { OnOk result ((events ≤ self.new.room) × (values ≤ self.new.values_room)) }
+        ensures room { self.old.room ≤ self.new.room }
+        ensures values_room { self.old.values_room ≤ self.new.values_room }
+        ensures enough { events ≤ self.old.room → values ≤ self.old.values_room → IsOk result }
+    {
+        self.entries.reserve(events)?;
+        if values > self.values_room as usize {
+            let room = u16::try_from(values).map_err(|_| AllocError)?;
+            self.values.reserve(values)?;
+            self.values_room = room;
+        }
+        Ok(())
+    }
+
+    /// Notes that the start transition begins.
+    pub fn start(&mut self, at: u64)
+        requires { 0 < self.old.room }
+        ensures { self.new ≡ noted self.old (event.Start at) }
+    {
+        self.note(Entry::Start { at });
+    }
+
+    /// Notes that an input begins.
+    pub fn consumed(&mut self, at: u64, got: &Got)
+        requires room { 0 < self.old.room }
+        requires values_room { length (values_got got.now) ≤ self.old.values_room }
+        ensures { self.new ≡ noted self.old (event.Consumed at got.now) }
+    {
+        let values = values_got(got);
+        let got = Stimulus::of(got, self.count(values));
+        self.note_with(Entry::Consumed { at, got }, values);
+    }
+
+    /// Notes that a priority input begins.
+    pub fn prior(&mut self, at: u64, got: &Got)
+        requires room { 0 < self.old.room }
+        requires values_room { length (values_got got.now) ≤ self.old.values_room }
+        ensures { self.new ≡ noted self.old (event.Prior at got.now) }
+    {
+        let values = values_got(got);
+        let got = Stimulus::of(got, self.count(values));
+        self.note_with(Entry::Prior { at, got }, values);
+    }
+
+    /// Notes that what the state neither inputs nor saves is gone.
+    pub fn discarded(&mut self, at: u64, got: &Got)
+        requires room { 0 < self.old.room }
+        requires values_room { length (values_got got.now) ≤ self.old.values_room }
+        ensures { self.new ≡ noted self.old (event.Discarded at got.now) }
+    {
+        let values = values_got(got);
+        let got = Stimulus::of(got, self.count(values));
+        self.note_with(Entry::Discarded { at, got }, values);
+    }
+
+    /// Notes that the transition of a continuous signal begins, by its number among those of the state, from 1 in the
+    /// order of the text.
+    pub fn provided(&mut self, at: u64, number: u32)
+        requires { 0 < self.old.room }
+        ensures { self.new ≡ noted self.old (event.Provided at number) }
+    {
+        self.note(Entry::Provided { at, number });
+    }
+
+    /// Notes that a condition or a take fails the instance.
+    pub fn failed_at(&mut self, at: u64, why: Failure)
+        requires { 0 < self.old.room }
+        ensures { self.new ≡ noted self.old (event.FailedAt at why) }
+    {
+        self.note(Entry::FailedAt { at, why });
+    }
+
+    /// Notes an assignment of a task.
+    pub fn task(&mut self, variable: VariableId, value: Value)
+        requires { 0 < self.old.room }
+        ensures { self.new ≡ noted self.old (event.Task variable value) }
+    {
+        self.note(Entry::Task { variable, value });
+    }
+
+    /// Notes that a signal is sent to the destination that the output names, and whom it reached.
+    pub fn output(&mut self, signal: SignalId, to: Dest, values: &[Value], target: Target)
+        requires room { 0 < self.old.room }
+        requires values_room { length values.now ≤ self.old.values_room }
+        ensures { self.new ≡ noted self.old (event.Output signal to values.now target) }
+    {
+        let count = self.count(values);
+        self.note_with(Entry::output(signal, to, count, target), values);
+    }
+
+    /// Notes that a timer is set for the time `due`.
+    pub fn set(&mut self, key: &TimerKey, due: u64)
+        requires room { 0 < self.old.room }
+        requires values_room { length key.now.values ≤ self.old.values_room }
+        ensures { self.new ≡ noted self.old (event.Set key.now due) }
+    {
+        let values = key.values.as_slice();
+        let timer = key.name;
+        let count = self.count(values);
+        self.note_with(Entry::Set { timer, count, due }, values);
+    }
+
+    /// Notes that a timer is reset.
+    pub fn reset(&mut self, key: &TimerKey)
+        requires room { 0 < self.old.room }
+        requires values_room { length key.now.values ≤ self.old.values_room }
+        ensures { self.new ≡ noted self.old (event.Reset key.now) }
+    {
+        let values = key.values.as_slice();
+        let timer = key.name;
+        let count = self.count(values);
+        self.note_with(Entry::Reset { timer, count }, values);
+    }
+
+    /// Notes that a create made the instance of this number, or none.
+    pub fn create(&mut self, process: ProcessId, pid: Option<u32>)
+        requires { 0 < self.old.room }
+        ensures { self.new ≡ noted self.old (event.Create process pid) }
+    {
+        self.note(Entry::Create { process, pid });
+    }
+
+    /// Notes that the transition ends in this state.
+    pub fn next_state(&mut self, state: StateId)
+        requires { 0 < self.old.room }
+        ensures { self.new ≡ noted self.old (event.NextState state) }
+    {
+        self.note(Entry::NextState { state });
+    }
+
+    /// Notes that the instance ends by itself.
+    pub fn stop(&mut self)
+        requires { 0 < self.old.room }
+        ensures { self.new ≡ noted self.old event.Stop }
+    {
+        self.note(Entry::Stop);
+    }
+
+    /// Notes that a transition fails the instance.
+    pub fn failed(&mut self, why: Failure)
+        requires { 0 < self.old.room }
+        ensures { self.new ≡ noted self.old (event.Failed why) }
+    {
+        self.note(Entry::Failed { why });
+    }
+
+    /// Notes that the run is whole, and the instance waits in this state.
+    pub fn rest(&mut self, state: StateId)
+        requires { 0 < self.old.room }
+        ensures { self.new ≡ noted self.old (event.Rest state) }
+    {
+        self.note(Entry::Rest { state });
+    }
+
+    /// Notes that the run was cut, in this state, or before the start.
+    pub fn cut(&mut self, state: Option<StateId>)
+        requires { 0 < self.old.room }
+        ensures { self.new ≡ noted self.old (event.Cut state) }
+    {
+        self.note(Entry::Cut { state });
+    }
+
+    /// The entries, and the values of all of them in their order.
+    pub(crate) fn kept(&self) -> (&[Entry], &[Value])
+        ensures events { self.now.events ≡ told result.0.now result.1.now }
+        ensures counts { counted result.0.now ≡ length result.1.now }
+    {
+        (&self.entries, &self.values)
+    }
+
+    // How many values these are.
+    fn count(&self, values: &[Value]) -> u16
+        requires { length values.now ≤ self.now.values_room }
+        ensures { result ≡ length values.now }
+    {
+        let _room: u16 = self.values_room;
+        values.len() as u16
+    }
+
+    // Puts an entry without values behind all others.
+    fn note(&mut self, entry: Entry)
+        requires room { 0 < self.old.room }
+        requires counts { count_of entry ≡ 0 }
+        ensures { self.new ≡ noted self.old (event_of entry []) }
+    {
+        self.note_with(entry, &[]);
+    }
+
+    // Puts an entry with these values behind all others.
+    fn note_with(&mut self, entry: Entry, values: &[Value])
+        requires room { 0 < self.old.room }
+        requires values_room { length values.now ≤ self.old.values_room }
+        requires counts { count_of entry ≡ length values.now }
+        ensures { self.new ≡ noted self.old (event_of entry values.now) }
+    {
+        push_all(&mut self.values, values);
+        self.values_room -= values.len() as u16;
+        self.entries.push_reserved(entry);
+    }
+}
+
+// Puts the values behind those of the table.
+fn push_all(table: &mut Vec<Value>, values: &[Value])
+    requires { vec_len table.old + length values.now ≤ vec_capacity table.old }
+    ensures items { table.new.items ≡ table.old.items ++ values.now }
+    ensures capacity { vec_capacity table.new ≡ vec_capacity table.old }
+{
+    for value in values {
+        table.push_reserved(*value);
+    }
 }

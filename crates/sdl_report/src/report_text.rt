@@ -3,14 +3,17 @@
 ghost use Rattle.std.specs.Prelude.{◌≡◌, ℕ, [], ◌++◌, take, OnErr, OnOk};
 ghost use Rattle.std.specs.String.{string_bytes};
 ghost use Rattle.std.specs.Io.KnownBytes.{Appends};
+ghost use Rattle.sdl_report.specs.Entry.{event_of};
 ghost use Rattle.sdl_report.specs.Gathered.{Breaks, Grows};
 ghost use Rattle.sdl_report.specs.ReportText.{end_text, event_line, heading_text, line, record_text, report_text};
 
+use crate::entry::Entry;
 use crate::event_line::push_event;
 use crate::names::process_name;
 use crate::write_whole::{WriteFault, write_text};
-use crate::{Event, Record, Report};
-use sdl_thin::System;
+use crate::{Record, Report};
+use port_model::Value;
+use sdl_system::System;
 use std::alloc::{AllocError, Global};
 use std::io::Write;
 
@@ -52,26 +55,31 @@ fn write_record<W: Write>(
         (W.contents writer.new) (record_text system.now «record».now)) }
 {
     push_heading(text, record, system)?;
-    for event in &record.events {
-        write_event(text, event, record, system, writer)?;
+    let (entries, values) = record.kept();
+    let mut rest = values;
+    for entry in entries {
+        let (own, more) = rest.split_at(entry.count());
+        rest = more;
+        write_event(text, *entry, own, record, system, writer)?;
     }
     Ok(())
 }
 
-// Appends the line of an event to the gathered text, which goes out where it is a piece.
+// Appends the line of an event, an entry with its values, to the gathered text, which goes out where it is a piece.
 fn write_event<W: Write>(
     text: &mut String,
-    event: &Event,
+    entry: Entry,
+    values: &[Value],
     record: &Record,
     system: &System,
     writer: &mut W,
 ) -> Result<(), WriteFault>
     ensures ok { OnOk result (Grows (W.contents writer.old) (string_bytes text.old)
-        (W.contents writer.new) (string_bytes text.new) (event_line system.now «record».now event.now)) }
+        (W.contents writer.new) (string_bytes text.new) (event_line system.now «record».now (event_of entry values.now))) }
     ensures err { OnErr result (Breaks (W.contents writer.old) (string_bytes text.old)
-        (W.contents writer.new) (event_line system.now «record».now event.now)) }
+        (W.contents writer.new) (event_line system.now «record».now (event_of entry values.now))) }
 {
-    push_event(text, event, record, system)?;
+    push_event(text, entry, values, record, system)?;
     if text.len() >= PIECE {
         send(text, writer)?;
     }
@@ -83,9 +91,9 @@ fn push_heading(text: &mut String, record: &Record, system: &System) -> Result<(
     ensures { OnOk result (string_bytes text.new ≡ string_bytes text.old
         ++ line (heading_text system.now «record».now)) }
 {
-    let number = record.pid;
-    let process = process_name(system, record.process);
-    let parent = record.parent;
+    let number = record.pid();
+    let process = process_name(system, record.process());
+    let parent = record.parent();
     writeln!(text, "instance #{number} {process} parent {parent}")
 }
 

@@ -24,8 +24,8 @@ impl From<AllocError> for WriteFault {
     }
 }
 
-/// Writes all of a text, in as many pieces as the writer takes it. A call that was interrupted is made again, and a writer
-/// that takes no byte is at fault.
+/// Writes all of a text, in as many pieces as the writer takes it. A call that was interrupted is made again, and a
+/// writer that takes no byte is at fault.
 pub fn write_text<W: Write>(writer: &mut W, text: &[u8]) -> Result<(), WriteFault>
     ensures ok { OnOk result (Appends (W.contents writer.old) (W.contents writer.new) text.now) }
     ensures err { OnErr result ((k : ℕ) × Appends (W.contents writer.old) (W.contents writer.new)

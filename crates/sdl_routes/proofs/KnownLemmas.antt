@@ -8,11 +8,11 @@ use Rattle.sdl_system.specs.declared.id.ProcessId.{ProcessId}
 use Rattle.sdl_system.specs.declared.route.ReceiversId.{ReceiversId}
 use Rattle.sdl_routes.specs.Arrivals.{ArrivesAt}
 use Rattle.sdl_routes.specs.Entries.{AreKnown, AreNumbers, IsListed, Keeps, listed_at}
-use Rattle.sdl_routes.specs.Mask.{Bit}
+use Rattle.sdl_channels.specs.Mask.{Bit}
 use Rattle.sdl_routes.specs.declared.arrivals.Arrivals.{Arrivals}
 use Rattle.sdl_routes.specs.declared.known.Known.{Known}
-use Rattle.sdl_routes.specs.declared.network.End.TheVariants as at
-use Rattle.sdl_routes.specs.declared.network.Source.{Source}
+use Rattle.sdl_channels.specs.declared.network.End.TheVariants as at
+use Rattle.sdl_channels.specs.declared.network.Source.{Source}
 use Rattle.sdl_routes.specs.declared.receiver.Receiver.{Receiver}
 use Rattle.sdl_routes.proofs.ReceiverLemmas.{listed_with, listed_without}
 use Rattle.sdl_routes.proofs.TableLemmas.{get_kept, get_last}

@@ -1,15 +1,8 @@
-pub mod AddLemmas
-pub mod Bits
 pub mod Complete
-pub mod EachLemmas
-pub mod FlowLemmas
-pub mod GraphLemmas
 pub mod KnownLemmas
 pub mod LinkLemmas
-pub mod ListLemmas
 pub mod NamedLemmas
 pub mod NodeLemmas
-pub mod PassLemmas
 pub mod PathLemmas
 pub mod ReceiverLemmas
 pub mod ReturnLemmas

@@ -1,16 +1,16 @@
 -- Steps between nodes.
 use Rattle.std.proofs.Common.{◌≡◌, ℕ, Bool, List, Option, Some, slice_get, ap, ◌∙◌, subst, refl}
-use Rattle.sdl_routes.specs.Graph.{Adds}
+use Rattle.sdl_channels.specs.Graph.{Adds}
 use Rattle.sdl_routes.specs.Steps.{AtPath, JointSteps, Link, node_if, option_if}
-use Rattle.sdl_routes.specs.declared.graph.Row.{Row}
+use Rattle.sdl_channels.specs.declared.graph.Row.{Row}
 use Rattle.sdl_routes.specs.declared.joint.Side as side
-use Rattle.sdl_routes.specs.declared.list.ListId.{ListId}
+use Rattle.sdl_channels.specs.declared.list.ListId.{ListId}
 use Rattle.sdl_system.specs.declared.id.BlockId.{BlockId}
-use Rattle.sdl_routes.specs.declared.network.ChannelPath.{ChannelPath}
-use Rattle.sdl_routes.specs.declared.network.PathId.{PathId}
+use Rattle.sdl_channels.specs.declared.network.ChannelPath.{ChannelPath}
+use Rattle.sdl_channels.specs.declared.network.PathId.{PathId}
 use Rattle.sdl_routes.specs.declared.node.Node as node
-use Rattle.sdl_routes.proofs.AddLemmas.{adds_same}
-use Rattle.sdl_routes.proofs.EachLemmas.{same_element}
+use Rattle.sdl_channels.proofs.AddLemmas.{adds_same}
+use Rattle.sdl_channels.proofs.EachLemmas.{same_element}
 
 pub link_with : (o p : Option node.Node) (from to : Option node.Node) (only : Option ListId) (a b : List Row) → Adds (Link o p only) a b
     → o ≡ from → p ≡ to → Adds (Link from to only) a b

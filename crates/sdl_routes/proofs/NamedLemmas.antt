@@ -5,7 +5,7 @@ use Rattle.std.proofs.lemmas.List.{get_or_append_left, get_or_push}
 use Rattle.std.proofs.lemmas.Option.{slice_get_within}
 use Rattle.sdl_routes.specs.Paths.{IsNamed}
 use Rattle.sdl_routes.specs.Reached.{AreFlags}
-use Rattle.sdl_routes.specs.declared.network.Network.{Network}
+use Rattle.sdl_channels.specs.declared.network.Network.{Network}
 
 pub flags_more : (network : Network) (flags new : List Bool) (i : ℕ) (flag : Bool) → length flags ≡ i → (flag ≡ true) ↔ IsNamed network i
     → ((n : ℕ) → n < i → (get_or flags n false ≡ true) ↔ IsNamed network n) → new ≡ flags ++ flag ∷ []

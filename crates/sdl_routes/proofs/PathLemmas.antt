@@ -3,22 +3,22 @@ use Rattle.std.proofs.Common.{◌≡◌, ℕ, zero, suc, ◌<◌, ◌-◌, ◌^�
 use Rattle.port_model.specs.declared.item.SignalId.{SignalId}
 use Rattle.sdl_system.specs.declared.id.ProcessId.{ProcessId}
 use Rattle.std.proofs.lemmas.Nat.Bits.{bit_at_ones}
-use Rattle.sdl_routes.specs.Graph.{Flows, Leads}
-use Rattle.sdl_routes.specs.Mask.{Has, Lets}
+use Rattle.sdl_channels.specs.Graph.{Flows, Leads}
+use Rattle.sdl_channels.specs.Mask.{Has, Lets}
 use Rattle.sdl_routes.specs.Nodes.{number}
 use Rattle.sdl_routes.specs.Paths.{IsSource, Path}
 use Rattle.sdl_routes.specs.Reached.{AreFlags, Passes}
-use Rattle.sdl_routes.specs.SignalLists.{HasSignal, StandsFor, column}
+use Rattle.sdl_channels.specs.SignalLists.{HasSignal, StandsFor, column_of}
 use Rattle.sdl_routes.specs.Steps.{AllSteps}
-use Rattle.sdl_routes.specs.declared.signal_sets.SignalSets.{SignalSets}
-use Rattle.sdl_routes.specs.declared.graph.Row.{Row}
-use Rattle.sdl_routes.specs.declared.graph.Step.{Step}
-use Rattle.sdl_routes.specs.declared.list.ListId.{ListId}
-use Rattle.sdl_routes.specs.declared.network.End.TheVariants as at
-use Rattle.sdl_routes.specs.declared.network.Network.{Network}
-use Rattle.sdl_routes.specs.declared.network.Source.{Source}
+use Rattle.sdl_channels.specs.declared.signal_sets.SignalSets.{SignalSets}
+use Rattle.sdl_channels.specs.declared.graph.Row.{Row}
+use Rattle.sdl_channels.specs.declared.graph.Step.{Step}
+use Rattle.sdl_channels.specs.declared.list.ListId.{ListId}
+use Rattle.sdl_channels.specs.declared.network.End.TheVariants as at
+use Rattle.sdl_channels.specs.declared.network.Network.{Network}
+use Rattle.sdl_channels.specs.declared.network.Source.{Source}
 use Rattle.sdl_routes.specs.declared.node.Node.TheVariants as nodes
-use Rattle.sdl_routes.proofs.Bits.{no_bit}
+use Rattle.sdl_channels.proofs.Bits.{no_bit}
 use Rattle.sdl_routes.proofs.Complete.{HasSteps, env_complete, process_complete}
 use Rattle.sdl_routes.proofs.Sound.{flow_sound}
 
@@ -73,7 +73,7 @@ pub starts_with : (start : List ℕ) → start ≡ (2 ^ 64 - 1) ∷ [] → (k : 
 starts_with start is k small = subst (λ x. Has x 0 k) (sym is) (starts_with_all k small)
 
 -- the sets tell what may pass
-pub opens : (network : Network) (signal : SignalId) (sets : SignalSets) (masks : List ℕ) → masks ≡ column sets.columns.items (signal.0 / 64)
+pub opens : (network : Network) (signal : SignalId) (sets : SignalSets) (masks : List ℕ) → masks ≡ column_of sets (signal.0 / 64)
     → ((list : ListId) → HasSignal sets list signal ↔ StandsFor network.lists.items signal list)
     → (only : Option ListId) → Lets masks only (signal.0 % 64) ↔ Passes network signal only
 opens network signal sets masks is each None = (λ x. tt, λ x. tt)

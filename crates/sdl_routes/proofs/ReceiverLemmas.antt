@@ -13,10 +13,10 @@ use Rattle.sdl_routes.specs.Entries.{IsEntry, IsListed, WordTells, sender_at}
 use Rattle.sdl_routes.specs.Paths.{Path}
 use Rattle.sdl_routes.specs.Table.{IsAscending}
 use Rattle.sdl_routes.specs.declared.arrivals.Arrivals.{Arrivals}
-use Rattle.sdl_routes.specs.declared.network.End as end
-use Rattle.sdl_routes.specs.declared.network.End.TheVariants as at
-use Rattle.sdl_routes.specs.declared.network.Network.{Network}
-use Rattle.sdl_routes.specs.declared.network.Source.{Source}
+use Rattle.sdl_channels.specs.declared.network.End as end
+use Rattle.sdl_channels.specs.declared.network.End.TheVariants as at
+use Rattle.sdl_channels.specs.declared.network.Network.{Network}
+use Rattle.sdl_channels.specs.declared.network.Source.{Source}
 use Rattle.sdl_routes.specs.declared.word.Word.{Word}
 
 pub same_process : (p q : ProcessId) → p.0 ≡ q.0 → p ≡ q

@@ -11,13 +11,13 @@ use Rattle.sdl_system.specs.declared.route.Source.TheVariants as from
 use Rattle.sdl_routes.specs.Laws.{IsCarried}
 use Rattle.sdl_routes.specs.Paths.{Carries, Goes, IsSender, IsSource, Path, StandsIn, Way}
 use Rattle.sdl_routes.specs.Table.{AreRoutes}
-use Rattle.sdl_routes.specs.declared.network.End as end
-use Rattle.sdl_routes.specs.declared.network.End.TheVariants as at
-use Rattle.sdl_routes.specs.declared.network.Network.{Network}
-use Rattle.sdl_routes.specs.declared.network.Process.{Process}
-use Rattle.sdl_routes.specs.declared.network.Scope as scope
-use Rattle.sdl_routes.specs.declared.network.Scope.TheVariants as its
-use Rattle.sdl_routes.specs.declared.network.Source.{Source}
+use Rattle.sdl_channels.specs.declared.network.End as end
+use Rattle.sdl_channels.specs.declared.network.End.TheVariants as at
+use Rattle.sdl_channels.specs.declared.network.Network.{Network}
+use Rattle.sdl_channels.specs.declared.network.Process.{Process}
+use Rattle.sdl_channels.specs.declared.network.Scope as scope
+use Rattle.sdl_channels.specs.declared.network.Scope.TheVariants as its
+use Rattle.sdl_channels.specs.declared.network.Source.{Source}
 
 -- where a signal may be that went by implied channels alone: not back at its source, nor at the block that it came from, nor
 -- at the border over which it came into another block

@@ -5,31 +5,31 @@ use Rattle.std.proofs.lemmas.Bool.{and_parts, cases_eq, eqb-true, eq-eqb, false�
 use Rattle.std.specs.Prelude.{if◌then◌else◌}
 use Rattle.sdl_system.specs.declared.id.ProcessId.{ProcessId}
 use Rattle.std.proofs.lemmas.Option.{slice_get_within}
-use Rattle.sdl_routes.specs.Graph.{Flows, Leads}
-use Rattle.sdl_routes.specs.Mask.{Has, Lets}
+use Rattle.sdl_channels.specs.Graph.{Flows, Leads}
+use Rattle.sdl_channels.specs.Mask.{Has, Lets}
 use Rattle.sdl_routes.specs.Nodes.{number}
-use Rattle.sdl_routes.specs.declared.graph.Row.{Row}
+use Rattle.sdl_channels.specs.declared.graph.Row.{Row}
 use Rattle.sdl_routes.specs.Paths.{Accepts, By, Carries, Goes, Implied, IsImplied, IsNamed, IsSender, IsSource, Joined, StandsIn, Way}
 use Rattle.sdl_routes.specs.Reached.{AreFlags, ComesOut, IsFree, Passes, Reached}
 use Rattle.sdl_routes.specs.Steps.{AllSteps, BlockSteps, JointSteps, Link, PathSteps, ProcessSteps, ScopeSteps, begin_of, departs, end_of, first_of, from_block, is_implied, is_implied_block, node_if, on_first, on_implied, option_if, same_end, same_scope, touches}
-use Rattle.sdl_routes.specs.declared.graph.Step.{Step}
+use Rattle.sdl_channels.specs.declared.graph.Step.{Step}
 use Rattle.sdl_routes.specs.declared.joint.Side.TheVariants as which
-use Rattle.sdl_routes.specs.declared.list.ListId.{ListId}
-use Rattle.sdl_routes.specs.declared.network.Block.{Block}
+use Rattle.sdl_channels.specs.declared.list.ListId.{ListId}
+use Rattle.sdl_channels.specs.declared.network.Block.{Block}
 use Rattle.sdl_system.specs.declared.id.BlockId.{BlockId}
-use Rattle.sdl_routes.specs.declared.network.ChannelPath.{ChannelPath}
-use Rattle.sdl_routes.specs.declared.network.Connect.{Connect}
-use Rattle.sdl_routes.specs.declared.network.End as end
-use Rattle.sdl_routes.specs.declared.network.End.TheVariants as at
-use Rattle.sdl_routes.specs.declared.network.Network.{Network}
-use Rattle.sdl_routes.specs.declared.network.PathId.{PathId}
-use Rattle.sdl_routes.specs.declared.network.Process.{Process}
-use Rattle.sdl_routes.specs.declared.network.Scope as scope
-use Rattle.sdl_routes.specs.declared.network.Scope.TheVariants as its
-use Rattle.sdl_routes.specs.declared.network.Source.{Source}
+use Rattle.sdl_channels.specs.declared.network.ChannelPath.{ChannelPath}
+use Rattle.sdl_channels.specs.declared.network.Connect.{Connect}
+use Rattle.sdl_channels.specs.declared.network.End as end
+use Rattle.sdl_channels.specs.declared.network.End.TheVariants as at
+use Rattle.sdl_channels.specs.declared.network.Network.{Network}
+use Rattle.sdl_channels.specs.declared.network.PathId.{PathId}
+use Rattle.sdl_channels.specs.declared.network.Process.{Process}
+use Rattle.sdl_channels.specs.declared.network.Scope as scope
+use Rattle.sdl_channels.specs.declared.network.Scope.TheVariants as its
+use Rattle.sdl_channels.specs.declared.network.Source.{Source}
 use Rattle.sdl_routes.specs.declared.node.Node as node
 use Rattle.sdl_routes.specs.declared.node.Node.TheVariants as nodes
-use Rattle.sdl_routes.proofs.EachLemmas.{same_element}
+use Rattle.sdl_channels.proofs.EachLemmas.{same_element}
 use Rattle.sdl_routes.proofs.NodeLemmas.{number-same}
 
 block_same : (a b : BlockId) → a.0 ≡ b.0 → a ≡ b

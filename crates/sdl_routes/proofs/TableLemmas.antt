@@ -12,12 +12,12 @@ use Rattle.sdl_system.specs.declared.route.Source.TheVariants as from
 use Rattle.sdl_routes.specs.Entries.{AreRows, IsEntry, IsRow, Keeps, sender_at}
 use Rattle.sdl_routes.specs.Paths.{Path}
 use Rattle.sdl_routes.specs.Table.{AreDistinct, AreReceivers, AreRoutes, SendsFrom}
-use Rattle.sdl_routes.specs.declared.network.End.TheVariants as at
-use Rattle.sdl_routes.specs.declared.network.Network.{Network}
-use Rattle.sdl_routes.specs.declared.network.Process.{Process}
-use Rattle.sdl_routes.specs.declared.network.Scope.TheVariants as its
-use Rattle.sdl_routes.specs.declared.network.Source.{Source}
-use Rattle.sdl_routes.proofs.EachLemmas.{same_element}
+use Rattle.sdl_channels.specs.declared.network.End.TheVariants as at
+use Rattle.sdl_channels.specs.declared.network.Network.{Network}
+use Rattle.sdl_channels.specs.declared.network.Process.{Process}
+use Rattle.sdl_channels.specs.declared.network.Scope.TheVariants as its
+use Rattle.sdl_channels.specs.declared.network.Source.{Source}
+use Rattle.sdl_channels.proofs.EachLemmas.{same_element}
 
 -- what stands in a list with one element more
 pub get_push : {X : Type 0} (xs : List X) (x : X) (n : ℕ) (y : X) → slice_get (xs ++ x ∷ []) n ≡ Some y

@@ -7,15 +7,15 @@ use Rattle.std.proofs.lemmas.Option.{get_or_from_slice_get, slice_get-get_or, sl
 use Rattle.port_model.specs.declared.item.SignalId.{SignalId}
 use Rattle.sdl_system.specs.Signal.{is_member}
 use Rattle.sdl_system.specs.declared.id.ProcessId.{ProcessId}
-use Rattle.sdl_routes.specs.Each.{ForSome, ForSomeBelow}
-use Rattle.sdl_routes.specs.SignalLists.{AreSets, HasSignal, StandsFor}
+use Rattle.sdl_channels.specs.Each.{ForSome, ForSomeBelow}
+use Rattle.sdl_channels.specs.SignalLists.{AreSets, HasSignal, StandsFor}
 use Rattle.sdl_routes.specs.Valid.{AreValid, IsHeard, IsHeardFrom, IsValid}
-use Rattle.sdl_routes.specs.declared.list.ListId.{ListId}
-use Rattle.sdl_routes.specs.declared.network.ChannelPath.{ChannelPath}
-use Rattle.sdl_routes.specs.declared.network.Network.{Network}
-use Rattle.sdl_routes.specs.declared.network.Process.{Process}
-use Rattle.sdl_routes.specs.declared.signal_sets.SignalSets.{SignalSets}
-use Rattle.sdl_routes.proofs.EachLemmas.{below_cases, below_last, below_more, below_none, same_element}
+use Rattle.sdl_channels.specs.declared.list.ListId.{ListId}
+use Rattle.sdl_channels.specs.declared.network.ChannelPath.{ChannelPath}
+use Rattle.sdl_channels.specs.declared.network.Network.{Network}
+use Rattle.sdl_channels.specs.declared.network.Process.{Process}
+use Rattle.sdl_channels.specs.declared.signal_sets.SignalSets.{SignalSets}
+use Rattle.sdl_channels.proofs.EachLemmas.{below_cases, below_last, below_more, below_none, same_element}
 use Rattle.sdl_routes.proofs.ReceiverLemmas.{contains_cases, contains_here, contains_later, contains_none, same_process}
 use Rattle.sdl_routes.proofs.TableLemmas.{get_push}
 

@@ -13,11 +13,11 @@ use Rattle.sdl_routes.specs.Arrivals.{ArrivesAt, Tells}
 use Rattle.sdl_routes.specs.Paths.{Path}
 use Rattle.sdl_routes.specs.Table.{AreReceivers, IsAscending}
 use Rattle.sdl_routes.specs.declared.arrivals.Arrivals.{Arrivals}
-use Rattle.sdl_routes.specs.declared.network.End as end
-use Rattle.sdl_routes.specs.declared.network.End.TheVariants as at
-use Rattle.sdl_routes.specs.declared.network.Network.{Network}
-use Rattle.sdl_routes.specs.declared.network.Process.{Process}
-use Rattle.sdl_routes.specs.declared.network.Source.{Source}
+use Rattle.sdl_channels.specs.declared.network.End as end
+use Rattle.sdl_channels.specs.declared.network.End.TheVariants as at
+use Rattle.sdl_channels.specs.declared.network.Network.{Network}
+use Rattle.sdl_channels.specs.declared.network.Process.{Process}
+use Rattle.sdl_channels.specs.declared.network.Source.{Source}
 use Rattle.sdl_routes.specs.declared.known.Known.{Known}
 use Rattle.sdl_routes.specs.declared.receiver.Receiver.{Receiver}
 use Rattle.sdl_routes.specs.declared.word.Word.{Word}

@@ -7,12 +7,12 @@ use Rattle.sdl_system.specs.declared.id.ProcessId.{ProcessId}
 use Rattle.sdl_system.specs.declared.route.Routes.{Routes}
 use Rattle.sdl_system.specs.declared.route.Source.TheVariants as from
 use Rattle.sdl_routes.specs.Paths.{IsSource, Path}
-use Rattle.sdl_routes.specs.SignalLists.{StandsFor}
+use Rattle.sdl_channels.specs.SignalLists.{StandsFor}
 use Rattle.sdl_routes.specs.Table.{AreRoutes}
-use Rattle.sdl_routes.specs.declared.network.ChannelPath.{ChannelPath}
-use Rattle.sdl_routes.specs.declared.network.Network.{Network}
-use Rattle.sdl_routes.specs.declared.network.Process.{Process}
-use Rattle.sdl_routes.specs.declared.network.Source.{Source}
+use Rattle.sdl_channels.specs.declared.network.ChannelPath.{ChannelPath}
+use Rattle.sdl_channels.specs.declared.network.Network.{Network}
+use Rattle.sdl_channels.specs.declared.network.Process.{Process}
+use Rattle.sdl_channels.specs.declared.network.Source.{Source}
 
 -- some channel of the text carries the signal
 pub record IsCarried (network : Network) (signal : SignalId) : Type 0 where

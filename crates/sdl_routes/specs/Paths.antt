@@ -1,20 +1,20 @@
 -- On which ways a signal goes from whom to whom (Z.101: channel, connection; for implied channels see below).
 use Rattle.std.specs.Prelude.{◌≡◌, ◌≢◌, ℕ, ◌<◌, true, Some, slice_get, length}
 use Rattle.port_model.specs.declared.item.SignalId.{SignalId}
-use Rattle.sdl_routes.specs.Each.{ForSome}
-use Rattle.sdl_routes.specs.SignalLists.{StandsFor}
-use Rattle.sdl_routes.specs.declared.network.Block.{Block}
+use Rattle.sdl_channels.specs.Each.{ForSome}
+use Rattle.sdl_channels.specs.SignalLists.{StandsFor}
+use Rattle.sdl_channels.specs.declared.network.Block.{Block}
 use Rattle.sdl_system.specs.declared.id.BlockId.{BlockId}
-use Rattle.sdl_routes.specs.declared.network.ChannelPath.{ChannelPath}
-use Rattle.sdl_routes.specs.declared.network.Connect.{Connect}
-use Rattle.sdl_routes.specs.declared.network.End as end
-use Rattle.sdl_routes.specs.declared.network.End.TheVariants as at
-use Rattle.sdl_routes.specs.declared.network.Network.{Network}
-use Rattle.sdl_routes.specs.declared.network.PathId.{PathId}
-use Rattle.sdl_routes.specs.declared.network.Process.{Process}
-use Rattle.sdl_routes.specs.declared.network.Scope as scope
-use Rattle.sdl_routes.specs.declared.network.Scope.TheVariants as its
-use Rattle.sdl_routes.specs.declared.network.Source.{Source}
+use Rattle.sdl_channels.specs.declared.network.ChannelPath.{ChannelPath}
+use Rattle.sdl_channels.specs.declared.network.Connect.{Connect}
+use Rattle.sdl_channels.specs.declared.network.End as end
+use Rattle.sdl_channels.specs.declared.network.End.TheVariants as at
+use Rattle.sdl_channels.specs.declared.network.Network.{Network}
+use Rattle.sdl_channels.specs.declared.network.PathId.{PathId}
+use Rattle.sdl_channels.specs.declared.network.Process.{Process}
+use Rattle.sdl_channels.specs.declared.network.Scope as scope
+use Rattle.sdl_channels.specs.declared.network.Scope.TheVariants as its
+use Rattle.sdl_channels.specs.declared.network.Source.{Source}
 
 -- how a signal goes from one end to another: by a path of a channel, or by an implied channel
 pub data Way : Type 0 where

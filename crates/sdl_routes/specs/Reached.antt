@@ -2,17 +2,17 @@
 use Rattle.std.specs.Prelude.{◌≡◌, ◌≢◌, ◌⊎◌, ℕ, List, None, Some, Option, slice_get, get_or, false, Bool}
 use Rattle.port_model.specs.declared.item.SignalId.{SignalId}
 use Rattle.sdl_routes.specs.Paths.{By, Goes, Implied, IsNamed, StandsIn, Way}
-use Rattle.sdl_routes.specs.SignalLists.{StandsFor}
-use Rattle.sdl_routes.specs.declared.list.ListId.{ListId}
+use Rattle.sdl_channels.specs.SignalLists.{StandsFor}
+use Rattle.sdl_channels.specs.declared.list.ListId.{ListId}
 use Rattle.sdl_system.specs.declared.id.BlockId.{BlockId}
-use Rattle.sdl_routes.specs.declared.network.ChannelPath.{ChannelPath}
-use Rattle.sdl_routes.specs.declared.network.Connect.{Connect}
-use Rattle.sdl_routes.specs.declared.network.End.TheVariants as at
-use Rattle.sdl_routes.specs.declared.network.Network.{Network}
-use Rattle.sdl_routes.specs.declared.network.PathId.{PathId}
-use Rattle.sdl_routes.specs.declared.network.Scope as scope
-use Rattle.sdl_routes.specs.declared.network.Scope.TheVariants as its
-use Rattle.sdl_routes.specs.declared.network.Source.{Source}
+use Rattle.sdl_channels.specs.declared.network.ChannelPath.{ChannelPath}
+use Rattle.sdl_channels.specs.declared.network.Connect.{Connect}
+use Rattle.sdl_channels.specs.declared.network.End.TheVariants as at
+use Rattle.sdl_channels.specs.declared.network.Network.{Network}
+use Rattle.sdl_channels.specs.declared.network.PathId.{PathId}
+use Rattle.sdl_channels.specs.declared.network.Scope as scope
+use Rattle.sdl_channels.specs.declared.network.Scope.TheVariants as its
+use Rattle.sdl_channels.specs.declared.network.Source.{Source}
 use Rattle.sdl_routes.specs.declared.node.Node as node
 use Rattle.sdl_routes.specs.declared.node.Node.TheVariants as to
 

@@ -1,21 +1,21 @@
 -- The steps of the graph in which signals flow from a source.
 use Rattle.std.specs.Prelude.{◌≡◌, ℕ, ◌⊎◌, ◌&&◌, not, Bool, true, false, List, None, Some, Option, slice_get, get_or, nat_eq, if◌then◌else◌}
-use Rattle.sdl_routes.specs.Each.{ForSome}
+use Rattle.sdl_channels.specs.Each.{ForSome}
 use Rattle.sdl_routes.specs.Nodes.{number}
-use Rattle.sdl_routes.specs.declared.graph.Step.{Step}
-use Rattle.sdl_routes.specs.declared.list.ListId.{ListId}
-use Rattle.sdl_routes.specs.declared.network.Block.{Block}
+use Rattle.sdl_channels.specs.declared.graph.Step.{Step}
+use Rattle.sdl_channels.specs.declared.list.ListId.{ListId}
+use Rattle.sdl_channels.specs.declared.network.Block.{Block}
 use Rattle.sdl_system.specs.declared.id.BlockId.{BlockId}
-use Rattle.sdl_routes.specs.declared.network.ChannelPath.{ChannelPath}
-use Rattle.sdl_routes.specs.declared.network.Connect.{Connect}
-use Rattle.sdl_routes.specs.declared.network.End as end
-use Rattle.sdl_routes.specs.declared.network.End.TheVariants as at
-use Rattle.sdl_routes.specs.declared.network.Network.{Network}
-use Rattle.sdl_routes.specs.declared.network.PathId.{PathId}
-use Rattle.sdl_routes.specs.declared.network.Process.{Process}
-use Rattle.sdl_routes.specs.declared.network.Scope as scope
-use Rattle.sdl_routes.specs.declared.network.Scope.TheVariants as its
-use Rattle.sdl_routes.specs.declared.network.Source.{Source}
+use Rattle.sdl_channels.specs.declared.network.ChannelPath.{ChannelPath}
+use Rattle.sdl_channels.specs.declared.network.Connect.{Connect}
+use Rattle.sdl_channels.specs.declared.network.End as end
+use Rattle.sdl_channels.specs.declared.network.End.TheVariants as at
+use Rattle.sdl_channels.specs.declared.network.Network.{Network}
+use Rattle.sdl_channels.specs.declared.network.PathId.{PathId}
+use Rattle.sdl_channels.specs.declared.network.Process.{Process}
+use Rattle.sdl_channels.specs.declared.network.Scope as scope
+use Rattle.sdl_channels.specs.declared.network.Scope.TheVariants as its
+use Rattle.sdl_channels.specs.declared.network.Source.{Source}
 use Rattle.sdl_routes.specs.declared.node.Node as node
 use Rattle.sdl_routes.specs.declared.joint.Side as side
 use Rattle.sdl_routes.specs.declared.joint.Side.TheVariants as which

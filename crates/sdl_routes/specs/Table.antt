@@ -8,11 +8,11 @@ use Rattle.sdl_system.specs.declared.route.Routes.{Routes}
 use Rattle.sdl_system.specs.declared.route.Source as sender
 use Rattle.sdl_system.specs.declared.route.Source.TheVariants as from
 use Rattle.sdl_routes.specs.Paths.{Path}
-use Rattle.sdl_routes.specs.declared.network.End.TheVariants as at
-use Rattle.sdl_routes.specs.declared.network.Network.{Network}
-use Rattle.sdl_routes.specs.declared.network.Process.{Process}
-use Rattle.sdl_routes.specs.declared.network.Scope.TheVariants as its
-use Rattle.sdl_routes.specs.declared.network.Source.{Source}
+use Rattle.sdl_channels.specs.declared.network.End.TheVariants as at
+use Rattle.sdl_channels.specs.declared.network.Network.{Network}
+use Rattle.sdl_channels.specs.declared.network.Process.{Process}
+use Rattle.sdl_channels.specs.declared.network.Scope.TheVariants as its
+use Rattle.sdl_channels.specs.declared.network.Source.{Source}
 
 -- where in the network the sender's signals come from
 abbrev pub SendsFrom : Network → sender.Source → Source → Type 0

@@ -3,13 +3,13 @@ use Rattle.std.specs.Prelude.{◌≡◌, ◌<◌, ◌↔◌, ℕ, Bool, true, Li
 use Rattle.port_model.specs.declared.item.SignalId.{SignalId}
 use Rattle.sdl_system.specs.Signal.{is_member}
 use Rattle.sdl_system.specs.declared.id.ProcessId.{ProcessId}
-use Rattle.sdl_routes.specs.Each.{ForSome}
-use Rattle.sdl_routes.specs.SignalLists.{StandsFor}
-use Rattle.sdl_routes.specs.declared.list.ListId.{ListId}
-use Rattle.sdl_routes.specs.declared.network.ChannelPath.{ChannelPath}
-use Rattle.sdl_routes.specs.declared.network.End.TheVariants as at
-use Rattle.sdl_routes.specs.declared.network.Network.{Network}
-use Rattle.sdl_routes.specs.declared.network.Process.{Process}
+use Rattle.sdl_channels.specs.Each.{ForSome}
+use Rattle.sdl_channels.specs.SignalLists.{StandsFor}
+use Rattle.sdl_channels.specs.declared.list.ListId.{ListId}
+use Rattle.sdl_channels.specs.declared.network.ChannelPath.{ChannelPath}
+use Rattle.sdl_channels.specs.declared.network.End.TheVariants as at
+use Rattle.sdl_channels.specs.declared.network.Network.{Network}
+use Rattle.sdl_channels.specs.declared.network.Process.{Process}
 
 -- the path leads to the process, in its scope
 abbrev pub IsHeard : ProcessId → Process → ChannelPath → Type 0

@@ -4,13 +4,12 @@
 //! process and each block, for each 64 signals, and at most 64 times as many.
 
 ghost use Rattle.std.specs.Prelude.{◌≡◌, ◌↔◌, ℕ, IfOk, IsTrue};
-ghost use Rattle.sdl_routes.specs.SignalLists.{AreSets};
+ghost use Rattle.sdl_channels.specs.SignalLists.{AreSets};
 
-use crate::graph::{Graph, mask_at};
-use crate::network::{Network, Source};
 use crate::node::Node;
-use crate::signal_sets::{SignalSets, has_bit};
 use port_model::SignalId;
+use sdl_channels::mask::{has_bit, mask_at};
+use sdl_channels::{Graph, Network, SignalSets, Source};
 use sdl_system::ProcessId;
 use std::alloc::{AllocError, Global};
 
@@ -22,7 +21,8 @@ pub(crate) struct Arrivals {
 
 impl Arrivals {
     ghost use Rattle.sdl_routes.specs.Arrivals.{ArrivesAt, IsGraph, ReachesEnv, ReachesProcess, Tells};
-    ghost use Rattle.sdl_routes.specs.Mask.{Bit};
+    ghost use Rattle.sdl_channels.specs.Mask.{Bit};
+    ghost use Rattle.sdl_channels.specs.Rows.{rows_of};
     ghost use Rattle.sdl_routes.specs.Paths.{IsSource};
 
     /// Nobody yet.
@@ -43,7 +43,7 @@ impl Arrivals {
     ) -> Result<Arrivals, AllocError>
         requires is_source { IsSource network.now source }
         requires sets { AreSets network.now.lists.items network.now.signals sets.now }
-        requires graph { IsGraph network.now source graph.now.rows.items }
+        requires graph { IsGraph network.now source (rows_of graph.now) }
         ensures { IfOk result (Tells network.now source word) }
     {
         let mut start = Vec::new(alloc);

@@ -3,9 +3,9 @@
 ghost use Rattle.std.specs.Prelude.{◌≡◌};
 ghost use Rattle.sdl_routes.specs.Steps.{arrives, departs, touches};
 
-use crate::network::{End, Scope};
 use crate::node::Node;
 use crate::place::{same_end, same_scope};
+use sdl_channels::{End, Scope};
 use sdl_system::BlockId;
 
 /// Which of the two lists of a connect.

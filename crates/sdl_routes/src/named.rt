@@ -1,12 +1,12 @@
 //! Which paths of channels in blocks a connect names.
 
 ghost use Rattle.std.specs.Prelude.{◌≡◌, ◌↔◌, ℕ, IfOk, IsTrue};
-ghost use Rattle.sdl_routes.specs.Each.{ForSome};
+ghost use Rattle.sdl_channels.specs.Each.{ForSome};
 ghost use Rattle.sdl_routes.specs.Paths.{IsNamed};
 ghost use Rattle.sdl_routes.specs.Reached.{AreFlags};
 
-use crate::network::{Connect, Network, PathId};
 use crate::steps::counted;
+use sdl_channels::{Connect, Network, PathId};
 use std::alloc::{AllocError, Global};
 
 /// For each path whether a connect names it among those in its block. The cost is that of the names in all connects for each path.

@@ -3,7 +3,7 @@
 ghost use Rattle.std.specs.Prelude.{◌≡◌};
 ghost use Rattle.sdl_routes.specs.Nodes.{number};
 
-use crate::network::PathId;
+use sdl_channels::PathId;
 use sdl_system::{BlockId, ProcessId};
 
 /// Where a signal may be on its way.

@@ -4,8 +4,8 @@ ghost use Rattle.std.specs.Prelude.{◌≡◌, ◌&&◌, slice_get};
 ghost use Rattle.sdl_routes.specs.Steps.{begin_of, end_of, first_of, from_block, is_implied, node_if, on_first, on_implied, same_end, same_scope};
 ghost use Rattle.sdl_routes.specs.declared.node.Node.TheVariants.{Source as AtSource};
 
-use crate::network::{End, Network, Scope, Source};
 use crate::node::Node;
+use sdl_channels::{End, Network, Scope, Source};
 use sdl_system::BlockId;
 
 pub(crate) fn same_scope(left: Scope, right: Scope) -> bool

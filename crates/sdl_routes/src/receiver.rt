@@ -3,15 +3,14 @@
 ghost use Rattle.std.specs.Prelude.{◌≡◌, ◌<◌, ◌⊎◌, ℕ, length, IfOk, IsTrue};
 ghost use Rattle.sdl_routes.specs.Arrivals.{ArrivesAt};
 ghost use Rattle.sdl_routes.specs.Entries.{IsListed, listed_at};
-ghost use Rattle.sdl_routes.specs.Mask.{Bit};
-ghost use Rattle.sdl_routes.specs.declared.network.End.TheVariants as at;
+ghost use Rattle.sdl_channels.specs.Mask.{Bit};
+ghost use Rattle.sdl_channels.specs.declared.network.End.TheVariants as at;
 
 use crate::arrivals::Arrivals;
-use crate::graph::{joined, mask_at};
-use crate::network::{End, Network, Process, Source};
 use crate::place::{is_implied, same_end};
-use crate::signal_sets::{SignalSets, has_bit};
 use crate::steps::counted;
+use sdl_channels::mask::{has_bit, joined, mask_at};
+use sdl_channels::{End, Network, Process, SignalSets, Source};
 use sdl_system::ProcessId;
 use std::alloc::{AllocError, Global};
 

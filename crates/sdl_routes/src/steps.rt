@@ -4,19 +4,20 @@
 //! the text and not with the pairs of joined channels. What is joined without a connect meets at the nodes of its block.
 
 ghost use Rattle.std.specs.Prelude.{◌≡◌, ◌↔◌, ℕ, get_or, IfOk, OnOk, false, not, ◌&&◌};
-ghost use Rattle.sdl_routes.specs.Each.{ForSome};
-ghost use Rattle.sdl_routes.specs.Graph.{Adds, Leads};
-ghost use Rattle.sdl_routes.specs.declared.graph.Step.{Step};
+ghost use Rattle.sdl_channels.specs.Each.{ForSome};
+ghost use Rattle.sdl_channels.specs.Graph.{Adds, Leads};
+ghost use Rattle.sdl_channels.specs.Rows.{rows_of};
+ghost use Rattle.sdl_channels.specs.declared.graph.Step.{Step};
 ghost use Rattle.sdl_routes.specs.Steps.{AllSteps, BlockSteps, AtPath, ConnectSteps, JointSteps, Link, PathSteps, SideSteps, ProcessSteps, ScopeSteps, option_if};
 
-use crate::graph::{Graph, Step};
 use crate::joint::Side;
-use crate::list::ListId;
-use crate::network::{ChannelPath, Connect, End, Network, PathId, Process, Scope, Source};
 use crate::node::Node;
 use crate::place::{
     begin_of, end_of, first_of, from_block, is_implied, node_if, on_first, on_implied, same_end,
     same_scope, start_of,
+};
+use sdl_channels::{
+    ChannelPath, Connect, End, Graph, ListId, Network, PathId, Process, Scope, Source, Step,
 };
 use sdl_system::{BlockId, ProcessId};
 use std::alloc::{AllocError, Global};
@@ -35,7 +36,7 @@ pub(crate) fn graph_from(
     named: &[bool],
     source: Source,
 ) -> Result<Graph, AllocError>
-    ensures { IfOk result (λ graph. (n : ℕ) (step : Step) → Leads graph.rows.items n step ↔ AllSteps network.now named.now source n step) }
+    ensures { IfOk result (λ graph. (n : ℕ) (step : Step) → Leads (rows_of graph) n step ↔ AllSteps network.now named.now source n step) }
 {
     let mut graph = Graph::new(alloc);
     add_paths(alloc, &mut graph, &network.paths, named, source)?;
@@ -54,7 +55,7 @@ fn add_paths(
     source: Source,
 ) -> Result<(), AllocError>
     ensures { OnOk result (Adds (λ from step. ForSome paths.now (λ n path. PathSteps source (get_or named.now n false) n path from step))
-        graph.old.rows.items graph.new.rows.items) }
+        (rows_of graph.old) (rows_of graph.new)) }
 {
     for (number, path) in paths.iter().enumerate() {
         let id = PathId(counted(number)?);
@@ -71,7 +72,7 @@ fn add_path(
     id: PathId,
     path: ChannelPath,
 ) -> Result<(), AllocError>
-    ensures { OnOk result (Adds (PathSteps source named id.0 path) graph.old.rows.items graph.new.rows.items) }
+    ensures { OnOk result (Adds (PathSteps source named id.0 path) (rows_of graph.old) (rows_of graph.new)) }
 {
     let node = Some(Node::Path(id));
     let only = Some(path.signals);
@@ -100,7 +101,7 @@ fn add_connects(
     connects: &[Connect],
 ) -> Result<(), AllocError>
     ensures { OnOk result (Adds (λ from step. ForSome connects.now (λ k connect. ConnectSteps paths.now k connect from step))
-        graph.old.rows.items graph.new.rows.items) }
+        (rows_of graph.old) (rows_of graph.new)) }
 {
     for (number, connect) in connects.iter().enumerate() {
         add_connect(alloc, graph, paths, counted(number)?, connect)?;
@@ -115,7 +116,7 @@ fn add_connect(
     number: u32,
     connect: &Connect,
 ) -> Result<(), AllocError>
-    ensures { OnOk result (Adds (ConnectSteps paths.now number connect.now) graph.old.rows.items graph.new.rows.items) }
+    ensures { OnOk result (Adds (ConnectSteps paths.now number connect.now) (rows_of graph.old) (rows_of graph.new)) }
 {
     let joint = Joint {
         connect: number,
@@ -134,7 +135,7 @@ fn add_side(
     side: Side,
     ids: &[PathId],
 ) -> Result<(), AllocError>
-    ensures { OnOk result (Adds (SideSteps paths.now side joint.connect joint.block ids.now) graph.old.rows.items graph.new.rows.items) }
+    ensures { OnOk result (Adds (SideSteps paths.now side joint.connect joint.block ids.now) (rows_of graph.old) (rows_of graph.new)) }
 {
     for id in ids {
         add_at(alloc, graph, paths, joint, side, *id)?;
@@ -150,7 +151,7 @@ fn add_at(
     side: Side,
     id: PathId,
 ) -> Result<(), AllocError>
-    ensures { OnOk result (Adds (AtPath paths.now side joint.connect joint.block id) graph.old.rows.items graph.new.rows.items) }
+    ensures { OnOk result (Adds (AtPath paths.now side joint.connect joint.block id) (rows_of graph.old) (rows_of graph.new)) }
 {
     let number = id.0 as usize;
     if number < paths.len() {
@@ -167,7 +168,7 @@ fn add_joint(
     id: PathId,
     path: ChannelPath,
 ) -> Result<(), AllocError>
-    ensures { OnOk result (Adds (JointSteps side joint.connect joint.block id path) graph.old.rows.items graph.new.rows.items) }
+    ensures { OnOk result (Adds (JointSteps side joint.connect joint.block id path) (rows_of graph.old) (rows_of graph.new)) }
 {
     let node = Some(Node::Path(id));
     let comes = node_if(
@@ -191,7 +192,7 @@ fn add_processes(
     source: Source,
 ) -> Result<(), AllocError>
     ensures { OnOk result (Adds (λ from step. ForSome processes.now (λ q process. ProcessSteps network.now source q process from step))
-        graph.old.rows.items graph.new.rows.items) }
+        (rows_of graph.old) (rows_of graph.new)) }
 {
     for (number, process) in processes.iter().enumerate() {
         let id = ProcessId(counted(number)?);
@@ -208,7 +209,7 @@ fn add_process(
     id: ProcessId,
     process: Process,
 ) -> Result<(), AllocError>
-    ensures { OnOk result (Adds (ProcessSteps network.now source id.0 process) graph.old.rows.items graph.new.rows.items) }
+    ensures { OnOk result (Adds (ProcessSteps network.now source id.0 process) (rows_of graph.old) (rows_of graph.new)) }
 {
     let node = Some(Node::Process(id));
     let only = Some(process.named);
@@ -228,7 +229,7 @@ fn add_blocks(
     source: Source,
 ) -> Result<(), AllocError>
     ensures { OnOk result (Adds (λ from step. ForSome network.now.blocks.items (λ b block. BlockSteps network.now.is_implied source b from step))
-        graph.old.rows.items graph.new.rows.items) }
+        (rows_of graph.old) (rows_of graph.new)) }
 {
     for number in 0..network.blocks.len() {
         let id = BlockId(counted(number)?);
@@ -244,7 +245,7 @@ fn add_block(
     source: Source,
     id: BlockId,
 ) -> Result<(), AllocError>
-    ensures { OnOk result (Adds (BlockSteps implied source id.0) graph.old.rows.items graph.new.rows.items) }
+    ensures { OnOk result (Adds (BlockSteps implied source id.0) (rows_of graph.old) (rows_of graph.new)) }
 {
     let into = Some(Node::Into(id));
     let is_own = same_scope(Scope::Block(id), source.scope);
@@ -263,7 +264,7 @@ fn add_scope(
     network: &Network,
     source: Source,
 ) -> Result<(), AllocError>
-    ensures { OnOk result (Adds (ScopeSteps network.now source) graph.old.rows.items graph.new.rows.items) }
+    ensures { OnOk result (Adds (ScopeSteps network.now source) (rows_of graph.old) (rows_of graph.new)) }
 {
     let is_outside = same_end(source.end, End::Env);
     let start = node_if(is_implied(network, source.scope), Node::Source);
@@ -283,7 +284,7 @@ fn link(
     to: Option<Node>,
     only: Option<ListId>,
 ) -> Result<(), AllocError>
-    ensures { OnOk result (Adds (Link from to only) graph.old.rows.items graph.new.rows.items) }
+    ensures { OnOk result (Adds (Link from to only) (rows_of graph.old) (rows_of graph.new)) }
 {
     match from {
         None => Ok(()),

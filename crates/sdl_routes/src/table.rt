@@ -1,24 +1,23 @@
 //! The table of routes: for each source and each signal whom it reaches.
 
 ghost use Rattle.std.specs.Prelude.{◌≢◌, ◌/◌, ◌%◌, length, map, IfOk};
+ghost use Rattle.sdl_channels.specs.Rows.{rows_of};
 ghost use Rattle.sdl_routes.specs.Arrivals.{IsGraph};
 ghost use Rattle.sdl_routes.specs.Entries.{AreKnown, AreRows, IsRow, Keeps, WordTells};
 ghost use Rattle.sdl_routes.specs.Paths.{IsSource};
 ghost use Rattle.sdl_routes.specs.Reached.{AreFlags};
-ghost use Rattle.sdl_routes.specs.SignalLists.{AreSets};
+ghost use Rattle.sdl_channels.specs.SignalLists.{AreSets};
 ghost use Rattle.sdl_routes.specs.Table.{AreRoutes};
 
 use crate::arrivals::Arrivals;
-use crate::graph::Graph;
 use crate::known::{Known, numbers_of};
 use crate::lists::Lists;
 use crate::named::named_flags;
-use crate::network::{End, Network, Scope, Source};
 use crate::receiver::receivers_of;
-use crate::signal_sets::SignalSets;
 use crate::steps::{counted, graph_from};
 use crate::word::Word;
 use port_model::SignalId;
+use sdl_channels::{End, Graph, Network, Scope, SignalSets, Source};
 use sdl_system::{ProcessId, Reach, Routes};
 use std::alloc::{AllocError, Global};
 
@@ -122,7 +121,7 @@ fn word_at(
 ) -> Result<Word, AllocError>
     requires is_source { IsSource network.now source }
     requires sets { AreSets network.now.lists.items network.now.signals sets.now }
-    requires graph { IsGraph network.now source graph.now.rows.items }
+    requires graph { IsGraph network.now source (rows_of graph.now) }
     requires known { AreKnown lists.old known.old.items }
     requires before { number % 64 ≢ 0 → WordTells network.now source (number / 64) lists.old before }
     ensures kept { Keeps lists.old lists.new }
@@ -157,7 +156,7 @@ fn word_from(
 ) -> Result<Word, AllocError>
     requires is_source { IsSource network.now source }
     requires sets { AreSets network.now.lists.items network.now.signals sets.now }
-    requires graph { IsGraph network.now source graph.now.rows.items }
+    requires graph { IsGraph network.now source (rows_of graph.now) }
     requires known { AreKnown lists.old known.old.items }
     ensures kept { Keeps lists.old lists.new }
     ensures known { AreKnown lists.new known.new.items }

@@ -4,18 +4,16 @@ ghost use Rattle.std.specs.Prelude.{◌≡◌, ◌<◌, ◌↔◌, ◌⊎◌, tr
 ghost use Rattle.std.specs.List.{Contains};
 ghost use Rattle.port_model.specs.declared.item.SignalId.{SignalId};
 ghost use Rattle.sdl_system.specs.Signal.{is_member};
-ghost use Rattle.sdl_routes.specs.Each.{ForSome};
-ghost use Rattle.sdl_routes.specs.SignalLists.{AreSets, HasSignal};
+ghost use Rattle.sdl_channels.specs.Each.{ForSome};
+ghost use Rattle.sdl_channels.specs.SignalLists.{AreSets, HasSignal};
 ghost use Rattle.sdl_routes.specs.Valid.{AreValid, IsHeard, IsHeardFrom, IsValid};
-ghost use Rattle.sdl_routes.specs.declared.list.ListId.{ListId};
-ghost use Rattle.sdl_routes.specs.declared.network.End.TheVariants as at;
+ghost use Rattle.sdl_channels.specs.declared.list.ListId.{ListId};
+ghost use Rattle.sdl_channels.specs.declared.network.End.TheVariants as at;
 
-use crate::list::ListId;
-use crate::network::{ChannelPath, End, Network, Process};
 use crate::place::{same_end, same_scope};
-use crate::signal_sets::SignalSets;
 use crate::steps::counted;
 use port_model::SignalId;
+use sdl_channels::{ChannelPath, End, ListId, Network, Process, SignalSets};
 use sdl_system::{ProcessId, SignalSet};
 use std::alloc::{AllocError, Global};
 

@@ -3,11 +3,11 @@
 ghost use Rattle.std.specs.Prelude.{◌≡◌, ◌<◌, ◌%◌, ◌↔◌, IsTrue, Some, slice_get, vec_len};
 ghost use Rattle.sdl_system.specs.declared.id.ProcessId.{ProcessId};
 ghost use Rattle.sdl_routes.specs.Arrivals.{ReachesEnv, ReachesProcess};
-ghost use Rattle.sdl_routes.specs.declared.network.End.TheVariants as at;
+ghost use Rattle.sdl_channels.specs.declared.network.End.TheVariants as at;
 
 use crate::arrivals::Arrivals;
-use crate::network::{End, Source};
 use port_model::SignalId;
+use sdl_channels::{End, Source};
 use sdl_system::{Reach, ReceiversId};
 use std::alloc::Global;
 

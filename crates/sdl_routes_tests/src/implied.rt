@@ -1,9 +1,8 @@
 //! A system of three processes without any channel. P and Q input the signal `a`, R inputs `b` and has the timer `t`.
 
 use port_model::SignalId;
-use sdl_routes::{
-    Item, ListId, Network, Process, Scope, SignalList, SignalSets, routes_of, valid_sets,
-};
+use sdl_channels::{Item, ListId, Network, Process, Scope, SignalList, SignalSets};
+use sdl_routes::{routes_of, valid_sets};
 use sdl_system::{ProcessId, Routes, SignalSet, Source};
 use std::alloc::{AllocError, Global};
 use std::test::Fail;

@@ -3,10 +3,11 @@
 //! connect names S. All channels carry `a`; C and D carry it and `b`.
 
 use port_model::SignalId;
-use sdl_routes::{
+use sdl_channels::{
     Block, ChannelPath, Connect, End, Item, ListId, Network, PathId, Process, Scope, SignalList,
-    SignalSets, routes_of, valid_sets,
+    SignalSets,
 };
+use sdl_routes::{routes_of, valid_sets};
 use sdl_system::{BlockId, Dest, ProcessId, Routes, Source, Target};
 use std::alloc::{AllocError, Global};
 use std::test::Fail;

@@ -1,6 +1,6 @@
 //! Tests of routes and valid input sets on small networks.
 //!
-//! They stand above `sdl_routes`, so that it isn't proved a second time for its tests.
+//! They stand above `sdl_channels` and `sdl_routes`, so that these aren't proved a second time for their tests.
 #![tactic(auto)]
 
 #[cfg(test)]

@@ -1,7 +1,7 @@
 //! What lists of signals stand for.
 
 use port_model::SignalId;
-use sdl_routes::{Item, ListId, SignalList, SignalSets};
+use sdl_channels::{Item, ListId, SignalList, SignalSets};
 use std::alloc::Global;
 use std::test::Fail;
 

@@ -6,10 +6,10 @@ use sdl_engine::{
 };
 use sdl_lex::LexError;
 use sdl_parse::ParseError;
-use sdl_report::ScriptError;
 use sdl_source::SourceError;
 use sdl_thin::BuildError;
-use sdl_workers::RunError;
+use sdl_thin_report::ScriptError;
+use sdl_thin_workers::RunError;
 use std::io::{self, ErrorKind, Read, Write};
 use std::test::Fail;
 
@@ -189,6 +189,10 @@ fn tells_want_of_memory(rt: HostRuntime) -> Result<(), Fail> {
         ),
         (
             source(SourceError::Build(BuildError::Memory)),
+            "build Memory\n",
+        ),
+        (
+            Refusal::Build(sdl_build::BuildError::Memory),
             "build Memory\n",
         ),
         (Refusal::Script(ScriptError::Memory), "script Memory\n"),

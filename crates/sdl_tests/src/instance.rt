@@ -4,10 +4,10 @@ ghost use Rattle.std.specs.Prelude.{Some};
 
 use Act::{Put, Step};
 use port_model::{Item, Pid, PlainPort, SignalId, Value, Values};
-use sdl_interp::{Instance, Stepped, World};
-use sdl_report::{Record, Report, write_report};
 use sdl_source::system_of;
 use sdl_thin::{Agent, ProcessId, System, Target};
+use sdl_thin_interp::{Instance, Stepped, World};
+use sdl_thin_report::{Record, Report, write_report};
 use std::alloc::{AllocError, Global};
 use std::marker::Model;
 use std::process::Abort;
@@ -45,7 +45,7 @@ struct Sent {
 }
 
 impl Model for Sent {
-    ghost use Rattle.sdl_interp.specs.World.{Sent as Sending};
+    ghost use Rattle.sdl_thin_interp.specs.World.{Sent as Sending};
 
     ghost Value = { Sending };
 

@@ -2,8 +2,8 @@
 
 use super::systems::test_system;
 use port_model::{Got, Item, Pid, SignalId, TimerKey, Value, Values};
-use sdl_report::{Event, Failure, Record, Report, WriteFault, write_report, write_text};
 use sdl_thin::{ProcessId, StateId, Target, VariableId};
+use sdl_thin_report::{Event, Failure, Record, Report, WriteFault, write_report, write_text};
 use std::alloc::{AllocError, Global};
 use std::io::{self, Write};
 use std::test::Fail;

@@ -9,7 +9,7 @@ use std::env;
 use std::rt::Env;
 
 /// The program's version, and the toolchain that it is proved with. The gate compares the latter with the toolchain's own.
-const VERSION: &str = "0.1.0 (rattle-kit-13b logic dac8208d650f15bf)";
+const VERSION: &str = "0.1.0 (rattle-kit-13f logic dac8208d650f15bf)";
 
 /// What follows the help of the program.
 const HELP: &str =

@@ -1,6 +1,6 @@
 use Rattle.std.proofs.Common.{◌+◌, ◌∙◌, arith, subst, sym, true≢false}
 use Rattle.sdl_build.proofs.ListLemmas.{AreBelow, with-signal, without-signal}
-use Rattle.sdl_routes.specs.SignalLists.{StandsFor}
+use Rattle.sdl_channels.specs.SignalLists.{StandsFor}
 use Rattle.sdl_build.proofs.lists.signals_of.Goals as goal
 use Rattle.sdl_build.proofs.lists.signals_of.Goals.{then-has+in_ok-push, else-has}
 

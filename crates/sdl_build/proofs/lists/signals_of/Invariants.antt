@@ -1,6 +1,6 @@
 use Rattle.std.proofs.Common.{◌<◌, ◌↔◌, Contains}
 use Rattle.port_model.specs.declared.item.SignalId.{SignalId}
-use Rattle.sdl_routes.specs.SignalLists.{StandsFor}
+use Rattle.sdl_channels.specs.SignalLists.{StandsFor}
 use Rattle.sdl_build.proofs.lists.signals_of.Given as goal
 
 abbrev pub invariant-loop-number : goal.invariant-loop-number

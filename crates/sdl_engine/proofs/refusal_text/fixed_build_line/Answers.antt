@@ -1,5 +1,5 @@
 use Rattle.std.proofs.Common.{◌≡◌, codes, refl, subst, sym}
-use Rattle.sdl_thin.specs.ErrorText.{build_text}
+use Rattle.sdl_build.specs.ErrorText.{build_text}
 use Rattle.sdl_engine.specs.RefusalText.{line_of}
 use Rattle.sdl_engine.proofs.refusal_text.fixed_build_line.Goals as goal
 

@@ -1,5 +1,5 @@
 use Rattle.std.proofs.Common.{refl}
-use Rattle.sdl_report.specs.ReportText.{report_text}
+use Rattle.sdl_thin_report.specs.ReportText.{report_text}
 use Rattle.sdl_engine.specs.Answer.{outcome_by}
 use Rattle.sdl_engine.specs.declared.options.Command.TheVariants as command
 use Rattle.sdl_engine.proofs.AnswerLaws.{failed_by, fails_by, refused_by, report_says, tells_by}

@@ -1,6 +1,6 @@
 use Rattle.std.proofs.Common.{◌∙◌, ◌++◌, ◌∷◌, [], ap, arith, sym}
 use Rattle.sdl_declared.specs.Seen.{block_seen}
-use Rattle.sdl_network.proofs.NumberLemmas.{numbered-map-step}
+use Rattle.sdl_signal_lists.proofs.NumberLemmas.{numbered-map-step}
 use Rattle.sdl_network.specs.Agents.{block_name}
 use Rattle.sdl_network.proofs.agents.block_names.Goals as goal
 

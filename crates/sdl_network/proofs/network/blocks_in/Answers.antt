@@ -1,6 +1,6 @@
 use Rattle.std.proofs.Common.{◌∙◌, ◌++◌, ◌∷◌, [], ap, arith, sym}
 use Rattle.sdl_declared.specs.Seen.{block_seen}
-use Rattle.sdl_network.proofs.NumberLemmas.{numbered-map-step}
+use Rattle.sdl_signal_lists.proofs.NumberLemmas.{numbered-map-step}
 use Rattle.sdl_network.specs.Network.{block_at}
 use Rattle.sdl_network.proofs.network.blocks_in.Goals as goal
 

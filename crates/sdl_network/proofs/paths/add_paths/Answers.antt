@@ -1,8 +1,8 @@
 use Rattle.std.proofs.Common.{◌∙◌, ◌++◌, ◌+◌, ◌∷◌, [], ap, arith, length, map, sym, take}
 use Rattle.std.proofs.lemmas.List.{append_assoc, map-append}
-use Rattle.sdl_network.proofs.NumberLemmas.{mapped-step, numbered-map-step}
+use Rattle.sdl_signal_lists.proofs.NumberLemmas.{mapped-step, numbered-map-step}
 use Rattle.sdl_network.specs.Paths.{carried, path_of, placed_value}
-use Rattle.sdl_network.specs.Seen.{list_items}
+use Rattle.sdl_signal_lists.specs.Seen.{list_items}
 use Rattle.sdl_network.proofs.paths.add_paths.Goals as goal
 
 pub loop-entry-preserved : goal.loop-entry-preserved

@@ -1,6 +1,6 @@
 use Rattle.std.proofs.Common.{◌≡◌, ◌++◌, ◌+◌, length, map, take}
 use Rattle.sdl_network.specs.Paths.{carried, paths_from, placed_value}
-use Rattle.sdl_network.specs.Seen.{list_items}
+use Rattle.sdl_signal_lists.specs.Seen.{list_items}
 use Rattle.sdl_network.proofs.paths.add_paths.Given as goal
 
 abbrev pub invariant-loop-entry : goal.invariant-loop-entry

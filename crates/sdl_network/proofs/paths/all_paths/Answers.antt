@@ -2,7 +2,8 @@ use Rattle.std.proofs.Common.{◌∙◌, ◌++◌, ◌∷◌, [], ap, flat_map, 
 use Rattle.std.proofs.lemmas.List.{append-nil, length-map}
 use Rattle.std.proofs.lemmas.List.Concat.{flat_map-append}
 use Rattle.sdl_declared.specs.Seen.{channel_seen}
-use Rattle.sdl_network.proofs.NumberLemmas.{mapped-step, numbers-step}
+use Rattle.sdl_network.proofs.PathLemmas.{numbers-step}
+use Rattle.sdl_signal_lists.proofs.NumberLemmas.{mapped-step}
 use Rattle.sdl_network.specs.Paths.{channel_paths, numbers_from, numbers_of, placed_value}
 use Rattle.sdl_network.proofs.paths.all_paths.Goals as goal
 

@@ -1,5 +1,5 @@
 use Rattle.std.proofs.Common.{◌≡◌}
-use Rattle.sdl_routes.specs.Each.{ForSomeBelow}
+use Rattle.sdl_channels.specs.Each.{ForSomeBelow}
 use Rattle.sdl_routes.proofs.named.is_among.Given as goal
 
 abbrev pub invariant-loop-id : goal.invariant-loop-id

@@ -1,8 +1,8 @@
 use Rattle.std.proofs.Common.{◌≡◌, length, refl, sym, subst, ◌∙◌}
 use Rattle.std.proofs.lemmas.Bool.{false≢true}
 use Rattle.std.proofs.lemmas.Option.{slice_get_read}
-use Rattle.sdl_routes.specs.Each.{ForSome}
-use Rattle.sdl_routes.proofs.EachLemmas.{none_all, none_more}
+use Rattle.sdl_channels.specs.Each.{ForSome}
+use Rattle.sdl_channels.proofs.EachLemmas.{none_all, none_more}
 use Rattle.sdl_routes.proofs.named.is_named.Goals as goal
 
 pub returns-then-is_among : goal.returns-then-is_among

@@ -1,5 +1,5 @@
 use Rattle.std.proofs.Common.{◌≡◌}
-use Rattle.sdl_routes.specs.Each.{ForSome, ForSomeBelow}
+use Rattle.sdl_channels.specs.Each.{ForSome, ForSomeBelow}
 use Rattle.sdl_routes.proofs.named.is_named.Given as goal
 
 abbrev pub invariant-loop-connect : goal.invariant-loop-connect

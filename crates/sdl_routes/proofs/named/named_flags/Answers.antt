@@ -1,5 +1,5 @@
 use Rattle.std.proofs.Common.{◌≡◌, ◌↔◌, true, subst, arith}
-use Rattle.sdl_routes.specs.Each.{ForSome}
+use Rattle.sdl_channels.specs.Each.{ForSome}
 use Rattle.sdl_routes.proofs.NamedLemmas.{flags_all, flags_more}
 use Rattle.sdl_routes.proofs.named.named_flags.Goals as goal
 

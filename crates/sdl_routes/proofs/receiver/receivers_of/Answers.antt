@@ -2,10 +2,10 @@ use Rattle.std.proofs.Common.{◌≡◌, ◌⊎◌, ◌+◌, ap, inl, inr, subst
 use Rattle.sdl_system.specs.declared.id.ProcessId.{ProcessId}
 use Rattle.sdl_routes.specs.Arrivals.{ArrivesAt}
 use Rattle.sdl_routes.specs.Entries.{IsListed, listed_at}
-use Rattle.sdl_routes.specs.Mask.{Bit}
-use Rattle.sdl_routes.specs.declared.network.End.TheVariants as at
+use Rattle.sdl_channels.specs.Mask.{Bit}
+use Rattle.sdl_channels.specs.declared.network.End.TheVariants as at
 use Rattle.sdl_routes.specs.declared.receiver.Receiver.{Receiver}
-use Rattle.sdl_routes.proofs.Bits.{no_bit, or_cases, or_left}
+use Rattle.sdl_channels.proofs.Bits.{no_bit, or_cases, or_left}
 use Rattle.sdl_routes.proofs.KnownLemmas.{receiver_more}
 use Rattle.sdl_routes.proofs.ReceiverLemmas.{listed_without}
 use Rattle.sdl_routes.proofs.receiver.receivers_of.Goals as goal

@@ -1,6 +1,6 @@
 use Rattle.std.proofs.Common.{None, Some, ◌∙◌, refl}
 use Rattle.sdl_routes.specs.declared.node.Node.TheVariants as to
-use Rattle.sdl_routes.proofs.AddLemmas.{adds_either}
+use Rattle.sdl_channels.proofs.AddLemmas.{adds_either}
 use Rattle.sdl_routes.proofs.LinkLemmas.{link_with, node_if_same}
 use Rattle.sdl_routes.proofs.steps.add_joint.Goals as goal
 

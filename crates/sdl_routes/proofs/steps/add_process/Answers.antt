@@ -1,6 +1,6 @@
 use Rattle.std.proofs.Common.{◌&&◌, not, ap, ◌∙◌, refl}
 use Rattle.sdl_routes.specs.Steps.{is_implied}
-use Rattle.sdl_routes.proofs.AddLemmas.{adds_either}
+use Rattle.sdl_channels.proofs.AddLemmas.{adds_either}
 use Rattle.sdl_routes.proofs.LinkLemmas.{link_with, node_if_same, option_if_same}
 use Rattle.sdl_routes.proofs.steps.add_process.Goals as goal
 

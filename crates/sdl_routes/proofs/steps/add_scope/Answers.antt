@@ -1,5 +1,5 @@
 use Rattle.std.proofs.Common.{◌&&◌, not, Some, ap, ◌∙◌, refl}
-use Rattle.sdl_routes.proofs.AddLemmas.{adds_either}
+use Rattle.sdl_channels.proofs.AddLemmas.{adds_either}
 use Rattle.sdl_routes.proofs.LinkLemmas.{link_with, node_if_same}
 use Rattle.sdl_routes.proofs.steps.add_scope.Goals as goal
 

@@ -1,17 +1,18 @@
 use Rattle.std.proofs.Common.{get_or, false, subst}
-use Rattle.sdl_routes.specs.Each.{ForSome}
-use Rattle.sdl_routes.specs.Graph.{Adds}
+use Rattle.sdl_channels.specs.Each.{ForSome}
+use Rattle.sdl_channels.specs.Graph.{Adds}
+use Rattle.sdl_channels.specs.Rows.{rows_of}
 use Rattle.sdl_routes.specs.Steps.{AllSteps, ConnectSteps, PathSteps, ProcessSteps}
-use Rattle.sdl_routes.proofs.AddLemmas.{adds_either, just_added}
+use Rattle.sdl_channels.proofs.AddLemmas.{adds_either, just_added}
 use Rattle.sdl_routes.proofs.steps.graph_from.Goals as goal
 
 pub returns : goal.returns
 returns c =
-    let rows0 = c.new-graph.result.rows.items in
-    let rows1 = c.add_paths.new.graph.rows.items in
-    let rows2 = c.add_connects.new.graph.rows.items in
-    let rows3 = c.add_processes.new.graph.rows.items in
-    just_added (AllSteps c.args.network.now c.args.named.now c.args.source) rows0 c.add_scope.new.graph.rows.items c.new-graph.ensures
+    let rows0 = rows_of c.new-graph.result in
+    let rows1 = rows_of c.add_paths.new.graph in
+    let rows2 = rows_of c.add_connects.new.graph in
+    let rows3 = rows_of c.add_processes.new.graph in
+    just_added (AllSteps c.args.network.now c.args.named.now c.args.source) rows0 (rows_of c.add_scope.new.graph) c.new-graph.ensures
     (adds_either _ _ _ _ _
     (subst (λ x. Adds (λ from step. ForSome x (λ n path. PathSteps c.args.source (get_or c.args.named.now n false) n path from step)) rows0 rows1)
     c.deref.ensures.value c.in_ok-add_paths.ensures)

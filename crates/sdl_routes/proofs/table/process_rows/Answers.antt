@@ -2,9 +2,9 @@ use Rattle.std.proofs.Common.{◌≡◌, ◌∙◌, Some, get_or, slice_get, ◌
 use Rattle.std.proofs.lemmas.List.{length-map, map-append}
 use Rattle.std.proofs.lemmas.Option.{slice_get-get_or}
 use Rattle.sdl_routes.specs.Entries.{IsRow}
-use Rattle.sdl_routes.specs.declared.network.Process.{Process}
-use Rattle.sdl_routes.specs.declared.network.Scope.TheVariants as its
-use Rattle.sdl_routes.specs.declared.network.End.TheVariants as at
+use Rattle.sdl_channels.specs.declared.network.Process.{Process}
+use Rattle.sdl_channels.specs.declared.network.Scope.TheVariants as its
+use Rattle.sdl_channels.specs.declared.network.End.TheVariants as at
 use Rattle.sdl_routes.proofs.TableLemmas.{keeps_on, rows_more}
 use Rattle.sdl_routes.proofs.table.process_rows.Goals as goal
 

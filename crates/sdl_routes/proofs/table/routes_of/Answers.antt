@@ -1,5 +1,5 @@
-use Rattle.sdl_routes.specs.declared.network.End.TheVariants as at
-use Rattle.sdl_routes.specs.declared.network.Scope.TheVariants as its
+use Rattle.sdl_channels.specs.declared.network.End.TheVariants as at
+use Rattle.sdl_channels.specs.declared.network.Scope.TheVariants as its
 use Rattle.sdl_routes.proofs.TableLemmas.{row_kept, routes_are}
 use Rattle.sdl_routes.proofs.table.routes_of.Goals as goal
 

@@ -1,6 +1,6 @@
 use Rattle.std.proofs.lemmas.Bool.{false≢true}
-use Rattle.sdl_routes.specs.SignalLists.{HasSignal}
-use Rattle.sdl_routes.proofs.EachLemmas.{none_all}
+use Rattle.sdl_channels.specs.SignalLists.{HasSignal}
+use Rattle.sdl_channels.proofs.EachLemmas.{none_all}
 use Rattle.sdl_routes.proofs.valid.is_in_some.Goals as goal
 
 pub returns : goal.returns

@@ -1,5 +1,5 @@
-use Rattle.sdl_routes.specs.Each.{ForSomeBelow}
-use Rattle.sdl_routes.specs.SignalLists.{HasSignal}
+use Rattle.sdl_channels.specs.Each.{ForSomeBelow}
+use Rattle.sdl_channels.specs.SignalLists.{HasSignal}
 use Rattle.sdl_routes.proofs.valid.is_in_some.Given as goal
 
 abbrev pub invariant-loop-list : goal.invariant-loop-list

@@ -1,9 +1,9 @@
 use Rattle.std.proofs.Common.{◌∙◌, ap, get_or, sym}
 use Rattle.std.proofs.lemmas.Bool.{false≢true}
 use Rattle.std.proofs.lemmas.Option.{slice_get-get_or}
-use Rattle.sdl_routes.specs.declared.network.ChannelPath.{ChannelPath}
-use Rattle.sdl_routes.specs.declared.network.End.TheVariants as at
-use Rattle.sdl_routes.specs.declared.network.Scope.TheVariants as its
+use Rattle.sdl_channels.specs.declared.network.ChannelPath.{ChannelPath}
+use Rattle.sdl_channels.specs.declared.network.End.TheVariants as at
+use Rattle.sdl_channels.specs.declared.network.Scope.TheVariants as its
 use Rattle.sdl_routes.proofs.ValidLemmas.{heard_all, lists_more, not_heard, pushed_heard}
 use Rattle.sdl_routes.proofs.valid.lists_to.Goals as goal
 use Rattle.sdl_routes.proofs.valid.lists_to.Goals.{then-is_heard+in_ok-push-3, else-is_heard}

@@ -1,7 +1,7 @@
 use Rattle.std.proofs.Common.{◌≡◌, ◌⊎◌, ◌↔◌, Contains}
-use Rattle.sdl_routes.specs.Each.{ForSomeBelow}
+use Rattle.sdl_channels.specs.Each.{ForSomeBelow}
 use Rattle.sdl_routes.specs.Valid.{IsHeard}
-use Rattle.sdl_routes.specs.declared.list.ListId.{ListId}
+use Rattle.sdl_channels.specs.declared.list.ListId.{ListId}
 use Rattle.sdl_routes.proofs.valid.lists_to.Given as goal
 
 abbrev pub invariant-loop-path : goal.invariant-loop-path

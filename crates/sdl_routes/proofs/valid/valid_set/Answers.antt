@@ -1,8 +1,8 @@
 use Rattle.std.proofs.Common.{◌≡◌, ◌↔◌, ◌⊎◌, ◌<◌, Contains, arith, subst, sym, true}
 use Rattle.port_model.specs.declared.item.SignalId.{SignalId}
 use Rattle.sdl_system.specs.Signal.{is_member}
-use Rattle.sdl_routes.specs.Each.{ForSome}
-use Rattle.sdl_routes.specs.SignalLists.{HasSignal}
+use Rattle.sdl_channels.specs.Each.{ForSome}
+use Rattle.sdl_channels.specs.SignalLists.{HasSignal}
 use Rattle.sdl_routes.specs.Valid.{IsHeardFrom, IsValid}
 use Rattle.sdl_routes.proofs.ValidLemmas.{members_more, valid_by}
 use Rattle.sdl_routes.proofs.valid.valid_set.Goals as goal

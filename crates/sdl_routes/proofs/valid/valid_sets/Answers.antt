@@ -4,8 +4,8 @@ use Rattle.port_model.specs.declared.item.SignalId.{SignalId}
 use Rattle.sdl_system.specs.Signal.{is_member}
 use Rattle.sdl_system.specs.declared.id.ProcessId.{ProcessId}
 use Rattle.sdl_routes.specs.Valid.{IsValid}
-use Rattle.sdl_routes.specs.declared.network.Process.{Process}
-use Rattle.sdl_routes.specs.declared.network.Scope.TheVariants as its
+use Rattle.sdl_channels.specs.declared.network.Process.{Process}
+use Rattle.sdl_channels.specs.declared.network.Scope.TheVariants as its
 use Rattle.sdl_routes.proofs.ValidLemmas.{valid_more}
 use Rattle.sdl_routes.proofs.valid.valid_sets.Goals as goal
 

@@ -1,0 +1,16 @@
+//! Scripts: the signals that the environment of a system sends, each at its time.
+//!
+//! `read_script` turns the text of a script into signals of a system, with their values and destinations, at times that
+//! never fall: exactly what the lines spell. Or it names the first line at fault, and what is wrong with it.
+#![tactic(auto)]
+
+mod byte;
+mod cursor;
+mod fault;
+mod line;
+mod meaning;
+mod script;
+mod spelling;
+mod value;
+
+pub use script::{Script, ScriptError, ScriptLine, ScriptSignal, read_script};

@@ -1,0 +1,4 @@
+pub mod Lists
+pub mod Numbered
+pub mod Processes
+pub mod Seen

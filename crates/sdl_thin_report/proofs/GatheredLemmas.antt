@@ -1,0 +1,75 @@
+-- Text that is gathered, and goes out piece by piece.
+use Rattle.std.proofs.Common.{◌≡◌, ℕ, suc, ◌+◌, ◌<◌, List, [], ◌∷◌, ◌++◌, length, get_or, take, drop, Option, Result, Ok, Err, refl, sym, ap, ◌∙◌, subst, append_assoc, append-nil, take-append-drop, drop-cons}
+use Rattle.std.proofs.lemmas.List.{take_at, flat_map_more}
+use Rattle.std.proofs.lemmas.List.Concat.{flat_map-append}
+use Rattle.std.proofs.lemmas.Grind.{take_at_read}
+use Rattle.std.specs.List.{flat_map}
+use Rattle.std.specs.Prelude.{OnErr}
+use Rattle.std.specs.Io.KnownBytes.{Appends}
+use Rattle.std.proofs.KnownBytes.{Appends-nil, Appends-trans}
+use Rattle.sdl_thin_report.specs.Gathered.{Grows, Breaks}
+
+-- bytes that are gathered alone
+pub Grows-gathered : (held : Option (List ℕ)) (gathered gathered' bytes : List ℕ) → gathered' ≡ gathered ++ bytes → Grows held gathered held gathered' bytes
+Grows-gathered held gathered gathered' bytes e = ([], Appends-nil held, e)
+
+pub Grows-trans : (a b c : Option (List ℕ)) (g h i xs ys : List ℕ) → Grows a g b h xs → Grows b h c i ys → Grows a g c i (xs ++ ys)
+Grows-trans a b c g h i xs ys p q = (
+  p.0 ++ q.0,
+  Appends-trans a b c p.0 q.0 p.1 q.1,
+  append_assoc p.0 q.0 i ∙ ap (λ l. p.0 ++ l) q.2 ∙ sym (append_assoc p.0 h ys) ∙ ap (λ l. l ++ ys) p.2 ∙ append_assoc g xs ys,
+)
+
+-- nothing more has gone out
+pub Breaks-now : (held : Option (List ℕ)) (gathered bytes : List ℕ) → Breaks held gathered held bytes
+Breaks-now held gathered bytes = ([], gathered ++ bytes, Appends-nil held, refl)
+
+-- a break behind some bytes
+pub Breaks-after : (a b c : Option (List ℕ)) (g h xs ys : List ℕ) → Grows a g b h xs → Breaks b h c ys → Breaks a g c (xs ++ ys)
+Breaks-after a b c g h xs ys p q = (
+  p.0 ++ q.0,
+  q.1,
+  Appends-trans a b c p.0 q.0 p.1 q.2,
+  append_assoc p.0 q.0 q.1 ∙ ap (λ l. p.0 ++ l) q.3 ∙ sym (append_assoc p.0 h ys) ∙ ap (λ l. l ++ ys) p.2 ∙ append_assoc g xs ys,
+)
+
+-- a break before some bytes
+pub Breaks-before : (a c : Option (List ℕ)) (g xs ys : List ℕ) → Breaks a g c xs → Breaks a g c (xs ++ ys)
+Breaks-before a c g xs ys p = (p.0, p.1 ++ ys, p.2, sym (append_assoc p.0 p.1 ys) ∙ ap (λ l. l ++ ys) p.3 ∙ append_assoc g xs ys)
+
+-- a break while the gathered text goes out
+pub Breaks-part : (a c : Option (List ℕ)) (g : List ℕ) → (k : ℕ) × Appends a c (take k g) → Breaks a g c []
+Breaks-part a c g p = (take p.0 g, drop p.0 g, p.1, take-append-drop p.0 g ∙ sym (append-nil g))
+
+-- a break where nothing was gathered at first: a prefix of the bytes is out
+pub Breaks-prefix : (a c : Option (List ℕ)) (bytes : List ℕ) → Breaks a [] c bytes → (k : ℕ) × Appends a c (take k bytes)
+Breaks-prefix a c bytes p =
+    (length p.0, subst (Appends a c) (sym (ap (take (length p.0)) (sym p.3) ∙ take_at p.0 p.1 (length p.0) refl)) p.2)
+
+module _ {X : Type 0} (f : X → List ℕ) (head : List ℕ) (xs : List X) (i : ℕ) (x : X) (here : i < length xs) (is : x ≡ get_or xs i x) where
+  flat_map_split : flat_map f xs ≡ flat_map f (take i xs) ++ (f x ++ flat_map f (drop (suc i) xs))
+  flat_map_split =
+      ap (flat_map f) (sym (take-append-drop i xs)) ∙ flat_map-append f (take i xs) (drop i xs)
+      ∙ ap (λ l. flat_map f (take i xs) ++ flat_map f l) (drop-cons xs i x here)
+      ∙ ap (λ y. flat_map f (take i xs) ++ (f y ++ flat_map f (drop (suc i) xs))) (sym is)
+
+  -- one more element of a list, behind a first part
+  pub Grows-more : (a b c : Option (List ℕ)) (g h j : List ℕ) → Grows a g b h (head ++ flat_map f (take i xs)) → Grows b h c j (f x)
+      → Grows a g c j (head ++ flat_map f (take (i + 1) xs))
+  Grows-more a b c g h j before more =
+      subst (Grows a g c j)
+      (flat_map_more f head (take i xs) x ∙ ap (λ l. head ++ flat_map f l) (ap (λ y. take i xs ++ y ∷ []) is ∙ sym (take_at_read xs i x here).1))
+      (Grows-trans a b c g h j (head ++ flat_map f (take i xs)) (f x) before more)
+
+  -- a break inside a list, behind a first part
+  pub Breaks-inside : (a b c : Option (List ℕ)) (g h : List ℕ) → Grows a g b h (head ++ flat_map f (take i xs)) → Breaks b h c (f x)
+      → Breaks a g c (head ++ flat_map f xs)
+  Breaks-inside a b c g h before break =
+      subst (Breaks a g c)
+      (append_assoc head (flat_map f (take i xs)) (f x ++ flat_map f (drop (suc i) xs)) ∙ ap (λ l. head ++ l) (sym flat_map_split))
+      (Breaks-after a b c g h (head ++ flat_map f (take i xs)) (f x ++ flat_map f (drop (suc i) xs)) before
+      (Breaks-before b c h (f x) (flat_map f (drop (suc i) xs)) break))
+
+pub OnErr-any : {T E P : Type 0} (r : Result T E) → P → OnErr r P
+OnErr-any (Ok x) h = tt
+OnErr-any (Err e) h = h

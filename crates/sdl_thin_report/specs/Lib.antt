@@ -1,0 +1,11 @@
+pub mod ErrorText
+pub mod Event
+pub mod Gathered
+pub mod Name
+pub mod Part
+pub mod Reading
+pub mod ReportText
+pub mod Script
+pub mod ScriptText
+pub mod Spelled
+pub mod Spelling

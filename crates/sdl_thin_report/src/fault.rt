@@ -1,0 +1,43 @@
+//! What is wrong with a line of a script.
+
+ghost use Rattle.std.specs.Prelude.{◌≡◌};
+ghost use Rattle.sdl_thin_report.specs.ScriptText.{refusal};
+
+use crate::ScriptError;
+use std::alloc::{AllocError, AllocFailed};
+
+/// The fault of a line whose number isn't known yet.
+#[derive(Clone, Copy, Debug, PartialEq, Eq)]
+pub enum Fault {
+    Syntax,
+    BackInTime,
+    UnknownSignal,
+    Arguments,
+    Memory,
+}
+
+impl Fault {
+    /// The refusal of the script, where this is the fault of the line of that number.
+    pub fn at(self, line: usize) -> ScriptError
+        ensures { result ≡ refusal self line }
+    {
+        match self {
+            Fault::Syntax => ScriptError::Syntax(line),
+            Fault::BackInTime => ScriptError::BackInTime(line),
+            Fault::UnknownSignal => ScriptError::UnknownSignal(line),
+            Fault::Arguments => ScriptError::Arguments(line),
+            Fault::Memory => ScriptError::Memory,
+        }
+    }
+}
+
+impl<T: Drop> From<AllocFailed<T>> for Fault {
+    ghost use Rattle.std.specs.Prelude.{◌≡◌};
+    ghost use Rattle.sdl_thin_report.specs.declared.fault.Fault.TheVariants.{Memory};
+
+    ghost from_gives = { λ _ fault. fault ≡ Memory };
+
+    fn from(_failed: AllocFailed<T>) -> Fault {
+        Fault::Memory
+    }
+}

@@ -1,0 +1,116 @@
+//! The text of a report.
+
+ghost use Rattle.std.specs.Prelude.{◌≡◌, ℕ, [], ◌++◌, take, OnErr, OnOk};
+ghost use Rattle.std.specs.String.{string_bytes};
+ghost use Rattle.std.specs.Io.KnownBytes.{Appends};
+ghost use Rattle.sdl_thin_report.specs.Gathered.{Breaks, Grows};
+ghost use Rattle.sdl_thin_report.specs.ReportText.{end_text, event_line, heading_text, line, record_text, report_text};
+
+use crate::event_line::push_event;
+use crate::names::process_name;
+use crate::write_whole::{WriteFault, write_text};
+use crate::{Event, Record, Report};
+use sdl_thin::System;
+use std::alloc::{AllocError, Global};
+use std::io::Write;
+
+// So much text is gathered, in bytes, before it goes out.
+const PIECE: usize = 8192;
+
+/// Writes a report: for each record, in the order of the list, the line `instance #7 P parent null` and a line for each
+/// event, then `end 12 whole` or `end 12 cut`. Each line ends with LF. A number that the system doesn't have has the
+/// empty name.
+pub fn write_report<W: Write>(
+    alloc: Global,
+    report: &Report,
+    system: &System,
+    writer: &mut W,
+) -> Result<(), WriteFault>
+    ensures ok { OnOk result (Appends (W.contents writer.old) (W.contents writer.new)
+        (report_text system.now report.now)) }
+    ensures err { OnErr result ((k : ℕ) × Appends (W.contents writer.old) (W.contents writer.new)
+        (take k (report_text system.now report.now))) }
+{
+    let mut text = String::new(alloc);
+    for record in &report.records {
+        write_record(&mut text, record, system, writer)?;
+    }
+    push_end(&mut text, report)?;
+    send(&mut text, writer)
+}
+
+// Writes the lines of a record. The last of them may stay in the gathered text.
+fn write_record<W: Write>(
+    text: &mut String,
+    record: &Record,
+    system: &System,
+    writer: &mut W,
+) -> Result<(), WriteFault>
+    ensures ok { OnOk result (Grows (W.contents writer.old) (string_bytes text.old)
+        (W.contents writer.new) (string_bytes text.new) (record_text system.now «record».now)) }
+    ensures err { OnErr result (Breaks (W.contents writer.old) (string_bytes text.old)
+        (W.contents writer.new) (record_text system.now «record».now)) }
+{
+    push_heading(text, record, system)?;
+    for event in &record.events {
+        write_event(text, event, record, system, writer)?;
+    }
+    Ok(())
+}
+
+// Appends the line of an event to the gathered text, which goes out where it is a piece.
+fn write_event<W: Write>(
+    text: &mut String,
+    event: &Event,
+    record: &Record,
+    system: &System,
+    writer: &mut W,
+) -> Result<(), WriteFault>
+    ensures ok { OnOk result (Grows (W.contents writer.old) (string_bytes text.old)
+        (W.contents writer.new) (string_bytes text.new) (event_line system.now «record».now event.now)) }
+    ensures err { OnErr result (Breaks (W.contents writer.old) (string_bytes text.old)
+        (W.contents writer.new) (event_line system.now «record».now event.now)) }
+{
+    push_event(text, event, record, system)?;
+    if text.len() >= PIECE {
+        send(text, writer)?;
+    }
+    Ok(())
+}
+
+// `instance #7 P parent null`
+fn push_heading(text: &mut String, record: &Record, system: &System) -> Result<(), AllocError>
+    ensures { OnOk result (string_bytes text.new ≡ string_bytes text.old
+        ++ line (heading_text system.now «record».now)) }
+{
+    let number = record.pid;
+    let process = process_name(system, record.process);
+    let parent = record.parent;
+    writeln!(text, "instance #{number} {process} parent {parent}")
+}
+
+// `end 12 whole`
+fn push_end(text: &mut String, report: &Report) -> Result<(), AllocError>
+    ensures { OnOk result (string_bytes text.new ≡ string_bytes text.old
+        ++ line (end_text report.now)) }
+{
+    let end = report.end;
+    if report.whole {
+        writeln!(text, "end {end} whole")
+    } else {
+        writeln!(text, "end {end} cut")
+    }
+}
+
+// Hands the gathered text to the writer.
+fn send<W: Write>(text: &mut String, writer: &mut W) -> Result<(), WriteFault>
+    ensures empty { OnOk result (string_bytes text.new ≡ []) }
+    ensures sent { OnOk result (Appends (W.contents writer.old) (W.contents writer.new)
+        (string_bytes text.old)) }
+    ensures err { OnErr result (Breaks (W.contents writer.old) (string_bytes text.old)
+        (W.contents writer.new) []) }
+{
+    write_text(writer, text.as_bytes())?;
+    text.clear();
+    Ok(())
+}
