@@ -40,10 +40,12 @@ says_refused : (input : Input) (options : Options) (why : Refusal) (line : List 
 says_refused (Bytes bytes) options (refusal.Source error) line r = r
 says_refused (Bytes bytes) options (refusal.Build error) line r = r
 says_refused (Bytes bytes) options (refusal.Script error) line r = r
+says_refused (Bytes bytes) options (refusal.ThinScript error) line r = r
 says_refused (Bytes bytes) options (refusal.Run error) line r = r
 says_refused TooLong options (refusal.Source error) line r = r
 says_refused TooLong options (refusal.Build error) line r = r
 says_refused TooLong options (refusal.Script error) line r = r
+says_refused TooLong options (refusal.ThinScript error) line r = r
 says_refused TooLong options (refusal.Run error) line r = r
 
 pub refusal_says : (asked : Command) (input : Input) (options : Options) (why : Refusal) → options.command ≡ asked → Allows asked input why → Says input options (outcome_of why) (refusal_line why)

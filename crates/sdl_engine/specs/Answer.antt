@@ -8,13 +8,17 @@ use Rattle.sdl_lex.specs.declared.error.LexError.TheVariants as lex
 use Rattle.sdl_parse.specs.Parser.{SpellsText}
 use Rattle.sdl_parse.specs.declared.error.ParseError.TheVariants as parse
 use Rattle.sdl_print.specs.RoundTrip.{IsCanonicalOf}
+use Rattle.sdl_script.specs.Script.{IsScript}
+use Rattle.sdl_script.specs.ScriptText.{SaysScript}
+use Rattle.sdl_script.specs.ScriptText as faults
+use Rattle.sdl_script.specs.declared.script.ScriptError.{ScriptError}
+use Rattle.sdl_script.specs.declared.script.ScriptLine.{ScriptLine}
 use Rattle.sdl_thin_report.specs.ReportText.{report_text}
-use Rattle.sdl_thin_report.specs.Script.{IsScript}
-use Rattle.sdl_thin_report.specs.ScriptText.{SaysScript}
-use Rattle.sdl_thin_report.specs.ScriptText as faults
+use Rattle.sdl_thin_report.specs.Script as thin_script
+use Rattle.sdl_thin_report.specs.ScriptText as thin_text
 use Rattle.sdl_thin_report.specs.declared.record.Report.{Report}
 use Rattle.sdl_thin_report.specs.declared.script.Script.{Script}
-use Rattle.sdl_thin_report.specs.declared.script.ScriptError.{ScriptError}
+use Rattle.sdl_thin_report.specs.declared.script.ScriptError as thin_error
 use Rattle.sdl_source.specs.Source.{IsSystemOf}
 use Rattle.sdl_source.specs.Source as sources
 use Rattle.sdl_source.specs.declared.error.SourceError.{SourceError}
@@ -50,8 +54,8 @@ pub record IsRunOf (input : List ℕ) (limit : ℕ) (system : System) (report : 
   pub script : List ℕ
   pub source : IsBuiltFrom input script system
   pub read : Script
-  pub is_script : IsScript system read.lines.items
-  pub says : SaysScript system script read.lines.items
+  pub is_script : thin_script.IsScript system read.lines.items
+  pub says : thin_text.SaysScript system script read.lines.items
   pub ran : (ps : List Behaviour) → AreBehaviours system ps → IsSerialReport ps system read.lines.items limit report
 
 -- the text of the report of such a run, of one that is whole or of one that was cut
@@ -90,12 +94,24 @@ pub record IsBuildRefused (input : List ℕ) (error : BuildError) : Type 0 where
   pub spelled : SpellsText tree specification
   pub refused : IsRefusedAs tree error
 
--- a script is refused at the line, and for the fault, that is told
+-- a specification spells a tree of which a system is built, and the script for this is refused at the line, and for the
+-- fault, that is told
 pub record IsScriptRefused (input : List ℕ) (error : ScriptError) : Type 0 where
+  pub specification : List ℕ
+  pub script : List ℕ
+  pub parted : IsParted input specification script
+  pub tree : Tree
+  pub spelled : SpellsText tree specification
+  pub system : SystemValue
+  pub built : IsBuilt tree system
+  pub at_fault : faults.Refuses error system script
+
+-- the same of the script of a run, by the system of the part of the language that is run
+pub record IsThinScriptRefused (input : List ℕ) (error : thin_error.ScriptError) : Type 0 where
   pub script : List ℕ
   pub system : System
   pub source : IsBuiltFrom input script system
-  pub at_fault : faults.Refuses error system script
+  pub at_fault : thin_text.Refuses error system script
 
 -- a run is refused only of a system that was built and a script that was read
 pub record IsRunRefused (input : List ℕ) : Type 0 where
@@ -103,19 +119,21 @@ pub record IsRunRefused (input : List ℕ) : Type 0 where
   pub system : System
   pub source : IsBuiltFrom input script system
   pub read : Script
-  pub is_script : IsScript system read.lines.items
-  pub says : SaysScript system script read.lines.items
+  pub is_script : thin_script.IsScript system read.lines.items
+  pub says : thin_text.SaysScript system script read.lines.items
 
--- What a command may tell of these bytes. A check tells of tokens, the tree, and what is broken in the tree; the build of the
--- whole language's system is that of a check alone.
+-- What a command may tell of these bytes. A check tells of tokens, the tree, what is broken in the tree, and the script;
+-- the build of the whole language's system, and the reading of its script, are those of a check alone.
 abbrev pub AllowsOf : Command → List ℕ → Refusal → Type 0
 AllowsOf command.Check bytes (refusal.Source error) = IsOfText error × IsSourceRefused bytes error
 AllowsOf command.Check bytes (refusal.Build error) = IsBuildRefused bytes error
-AllowsOf command.Check bytes (refusal.Script error) = ⊥
+AllowsOf command.Check bytes (refusal.Script error) = IsScriptRefused bytes error
+AllowsOf command.Check bytes (refusal.ThinScript error) = ⊥
 AllowsOf command.Check bytes (refusal.Run error) = ⊥
 AllowsOf command.Run bytes (refusal.Source error) = IsSourceRefused bytes error
 AllowsOf command.Run bytes (refusal.Build error) = ⊥
-AllowsOf command.Run bytes (refusal.Script error) = IsScriptRefused bytes error
+AllowsOf command.Run bytes (refusal.Script error) = ⊥
+AllowsOf command.Run bytes (refusal.ThinScript error) = IsThinScriptRefused bytes error
 AllowsOf command.Run bytes (refusal.Run error) = IsRunRefused bytes
 
 -- the same of an input: one that is too long is a text that is too long
@@ -130,7 +148,8 @@ pub record Refuses (asked : Command) (input : Input) (refused_as : Outcome) (tex
   pub kind : outcome_of refused ≡ refused_as
   pub line : text ≡ refusal_line refused
 
--- the canonical text of the tree that the specification spells, and of which a system is built
+-- the canonical text of the tree that the specification spells, and of which a system is built; behind it stands a script
+-- for this system
 pub record Prints (input : List ℕ) (text : List ℕ) : Type 0 where
   pub specification : List ℕ
   pub script : List ℕ
@@ -138,6 +157,9 @@ pub record Prints (input : List ℕ) (text : List ℕ) : Type 0 where
   pub canonical : IsCanonicalOf text specification
   pub system : SystemValue
   pub built : IsBuilt canonical.0 system
+  pub read : List ScriptLine
+  pub is_script : IsScript system read
+  pub says : SaysScript system script read
 
 -- what is written of these bytes where they are accepted: of a check the canonical text, of a run its report
 abbrev pub SaysWhole : Command → List ℕ → ℕ → List ℕ → Type 0

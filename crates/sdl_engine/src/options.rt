@@ -5,7 +5,7 @@ use thiserror::Error;
 /// What is asked for.
 #[derive(Clone, Copy, Debug, PartialEq, Eq)]
 pub enum Command {
-    /// The canonical text of the specification, where its system can be built.
+    /// The canonical text of the specification, where its system can be built and the script is one for it.
     Check,
     /// The report of a run of the specification on the script.
     Run,

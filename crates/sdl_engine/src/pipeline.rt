@@ -11,13 +11,15 @@ use sdl_build::build;
 use sdl_lex::LexError;
 use sdl_parse::{ParseError, parse};
 use sdl_print::print;
+use sdl_script::read_script;
 use sdl_source::{SourceError, system_of};
 use sdl_thin::System;
-use sdl_thin_report::{Report, read_script};
+use sdl_thin_report::{Report, read_script as read_thin_script};
 use sdl_thin_workers::run_serial;
 use std::alloc::Global;
 
-/// The canonical text of an input's specification whose system can be built, or why there is none.
+/// The canonical text of an input's specification that has a system, and behind which a script for it stands, or why
+/// there is none.
 pub fn check_input(alloc: Global, input: &Input) -> Result<String, Refusal>
     ensures ok { IfOk result (λ text. PrintsInput input.now (string_bytes text)) }
     ensures err { IfErr result (Allows Command.Check input.now) }
@@ -34,14 +36,18 @@ fn check_bytes(alloc: Global, bytes: &[u8]) -> Result<String, Refusal>
     ensures ok { IfOk result (λ text. Prints bytes.now (string_bytes text)) }
     ensures err { IfErr result (AllowsOf Command.Check bytes.now) }
 {
-    let (specification, _) = parts(bytes);
+    let (specification, script) = parts(bytes);
     let tree = match parse(alloc, specification) {
         Ok(tree) => tree,
         Err(error) => return Err(Refusal::Source(SourceError::Parse(error))),
     };
-    let _system = match build(alloc, &tree) {
+    let system = match build(alloc, &tree) {
         Ok(system) => system,
         Err(error) => return Err(Refusal::Build(error)),
+    };
+    let _script = match read_script(alloc, &system, script) {
+        Ok(script) => script,
+        Err(error) => return Err(Refusal::Script(error)),
     };
     match print(alloc, &tree) {
         Ok(text) => Ok(text),
@@ -78,9 +84,9 @@ fn run_bytes(alloc: Global, bytes: &[u8], limit: u64) -> Result<Run, Refusal>
         Ok(system) => system,
         Err(error) => return Err(Refusal::Source(error)),
     };
-    let script = match read_script(alloc, &system, script) {
+    let script = match read_thin_script(alloc, &system, script) {
         Ok(script) => script,
-        Err(error) => return Err(Refusal::Script(error)),
+        Err(error) => return Err(Refusal::ThinScript(error)),
     };
     match run_serial(alloc, &system, &script, limit) {
         Ok(report) => Ok(Run { system, report }),

@@ -2,8 +2,9 @@
 
 use crate::options::Outcome;
 use sdl_build::BuildError;
+use sdl_script::ScriptError;
 use sdl_source::SourceError;
-use sdl_thin_report::ScriptError;
+use sdl_thin_report::ScriptError as ThinScriptError;
 use sdl_thin_workers::RunError;
 use std::error::Error;
 use std::fmt;
@@ -13,7 +14,11 @@ use std::fmt;
 pub enum Refusal {
     Source(SourceError),
     Build(BuildError),
+    /// Of the script of a text that is checked.
     Script(ScriptError),
+    /// Of the script of a run. A run reads the scripts of the part of the language that it knows; once it knows the
+    /// whole language, its scripts are read as those of a check, and this refusal goes.
+    ThinScript(ThinScriptError),
     Run(RunError),
 }
 
@@ -29,6 +34,7 @@ impl fmt::Display for Refusal {
             Refusal::Source(error) => write!(f, "{error}"),
             Refusal::Build(error) => write!(f, "{error}"),
             Refusal::Script(error) => write!(f, "{error}"),
+            Refusal::ThinScript(error) => write!(f, "{error}"),
             Refusal::Run(error) => write!(f, "{error}"),
         }
     }

@@ -6,9 +6,10 @@ ghost use Rattle.sdl_build.specs.ErrorText.{build_text};
 ghost use Rattle.sdl_core.specs.ErrorText.{not_run_text};
 ghost use Rattle.sdl_lex.specs.ErrorText.{lex_text};
 ghost use Rattle.sdl_parse.specs.ErrorText.{parse_text};
-ghost use Rattle.sdl_thin_report.specs.ErrorText.{script_text};
+ghost use Rattle.sdl_script.specs.ErrorText.{script_text};
 ghost use Rattle.sdl_source.specs.ErrorText.{source_text};
 ghost use Rattle.sdl_thin.specs.ErrorText as thin;
+ghost use Rattle.sdl_thin_report.specs.ErrorText as thin_report;
 ghost use Rattle.sdl_engine.specs.RefusalText.{line_of, refusal_line};
 
 use crate::refusal::Refusal;
@@ -16,9 +17,10 @@ use sdl_build::BuildError;
 use sdl_core::NotRun;
 use sdl_lex::LexError;
 use sdl_parse::ParseError;
+use sdl_script::ScriptError;
 use sdl_source::SourceError;
 use sdl_thin::BuildError as ThinError;
-use sdl_thin_report::ScriptError;
+use sdl_thin_report::ScriptError as ThinScriptError;
 use std::alloc::{AllocError, Global};
 
 /// The line of a refusal by want of memory, and of a text that is too long. It needs no memory.
@@ -29,6 +31,7 @@ pub fn fixed_line(refusal: &Refusal) -> Option<&'static str>
         Refusal::Source(error) => fixed_source_line(error),
         Refusal::Build(error) => fixed_build_line(error),
         Refusal::Script(error) => fixed_script_line(error),
+        Refusal::ThinScript(error) => fixed_thin_script_line(error),
         Refusal::Run(_) => Some("run Memory\n"),
     }
 }
@@ -95,6 +98,15 @@ fn fixed_script_line(error: &ScriptError) -> Option<&'static str>
 {
     match error {
         ScriptError::Memory => Some("script Memory\n"),
+        _ => None,
+    }
+}
+
+fn fixed_thin_script_line(error: &ThinScriptError) -> Option<&'static str>
+    ensures { IfSome result (λ line. line.now ≡ line_of (thin_report.script_text error.now)) }
+{
+    match error {
+        ThinScriptError::Memory => Some("script Memory\n"),
         _ => None,
     }
 }

@@ -12,7 +12,7 @@ use std::io::{Read, Write};
 
 /// Reads a specification and its script, and writes what the command asks for: the report of a run, or the
 /// specification's canonical text; or the line of a refusal. A text is checked in the order of its layers (tokens,
-/// tree, names, script), and the first refusal is the only line. `check` reads the specification alone.
+/// tree, names, script), and the first refusal is the only line.
 pub fn run_text<R: Read, W: Write>(
     alloc: Global,
     reader: &mut R,

@@ -6,9 +6,10 @@ use sdl_engine::{
 };
 use sdl_lex::LexError;
 use sdl_parse::ParseError;
+use sdl_script::ScriptError;
 use sdl_source::SourceError;
 use sdl_thin::BuildError;
-use sdl_thin_report::ScriptError;
+use sdl_thin_report::ScriptError as ThinScriptError;
 use sdl_thin_workers::RunError;
 use std::io::{self, ErrorKind, Read, Write};
 use std::test::Fail;
@@ -196,6 +197,10 @@ fn tells_want_of_memory(rt: HostRuntime) -> Result<(), Fail> {
             "build Memory\n",
         ),
         (Refusal::Script(ScriptError::Memory), "script Memory\n"),
+        (
+            Refusal::ThinScript(ThinScriptError::Memory),
+            "script Memory\n",
+        ),
         (Refusal::Run(RunError::Memory), "run Memory\n"),
     ];
     for (refusal, line) in &lines {

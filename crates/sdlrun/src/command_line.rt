@@ -29,7 +29,8 @@ docs/LANGUAGE.md has the language, the script, the trace and all refusals.";
 
 /// What follows the help of `check`.
 const CHECK_HELP: &str =
-    "It reads the grammar of the whole language. No name is looked up, no sort is checked, and no script is read yet.
+    "It reads the whole language, makes all checks of the specification, and reads the script for it. What is not run
+yet is no fault of a text that is checked.
 
 Example:
   echo 'SYSTEM s; SIGNAL a; endsystem;' | sdlrun check";
@@ -103,7 +104,7 @@ fn limit_of(run: &ArgMatches<'_>) -> u64 {
 /// The commands and their help.
 fn command<'a>(alloc: Global) -> Result<clap::Command<'a>, Error> {
     let check = clap::Command::new(alloc, "check")
-        .about("Checks the grammar of a specification and writes its canonical text")
+        .about("Checks a specification with its script, and writes its canonical text")
         .after_help(CHECK_HELP);
     let limit = Arg::new(alloc, "limit")
         .long("limit")

@@ -1,5 +1,5 @@
 use Rattle.std.proofs.Common.{◌≡◌, codes, refl, subst, sym}
-use Rattle.sdl_thin_report.specs.ErrorText.{script_text}
+use Rattle.sdl_script.specs.ErrorText.{script_text}
 use Rattle.sdl_engine.specs.RefusalText.{line_of}
 use Rattle.sdl_engine.proofs.refusal_text.fixed_script_line.Goals as goal
 
