@@ -1,0 +1,5 @@
+pub mod Environment
+pub mod Laws
+pub mod Memory
+pub mod Value
+pub mod Variables

@@ -1,0 +1,12 @@
+pub mod Act
+pub mod Behaves
+pub mod Fails
+pub mod Goes
+pub mod Instance
+pub mod Leads
+pub mod Place
+pub mod Reception
+pub mod RunLaws
+pub mod Runs
+pub mod Selection
+pub mod World

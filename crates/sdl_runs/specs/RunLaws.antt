@@ -1,0 +1,48 @@
+-- Laws of runs.
+use Rattle.std.specs.Prelude.{◌≡◌, ℕ, List, [], ◌++◌}
+use Rattle.inbox.specs.Calls.{after_draws}
+use Rattle.inbox.specs.declared.placed.Placed.{Placed}
+use Rattle.port_model.specs.History.{PortEvent}
+use Rattle.port_model.specs.Port.{PortState}
+use Rattle.port_model.specs.declared.selection.Class.{Class}
+use Rattle.sdl_evaluation.specs.Environment.{environment}
+use Rattle.sdl_evaluation.specs.declared.identity.Identity.{Identity}
+use Rattle.sdl_evaluation.specs.declared.store.Store.{Store}
+use Rattle.sdl_runs.specs.Act.{Deed}
+use Rattle.sdl_runs.specs.Leads.{Selecting}
+use Rattle.sdl_runs.specs.Place.{Closed, Definition, Ended, Place}
+use Rattle.sdl_runs.specs.Runs.{Runs}
+use Rattle.sdl_runs.specs.Selection.{tried}
+use Rattle.sdl_system.specs.Behaviour.{ContinuousSignal}
+use Rattle.sdl_system.specs.declared.id.StateId.{StateId}
+
+-- Two runs, of which the second begins where the first ends, are one, on the one history and then the other.
+abbrev pub RunsAppend : Type 0
+RunsAppend =
+    (d : Definition) (who : Identity) (from mid to : Place) (s t u : Store) (q r end : PortState)
+    (deeds later : List Deed) (history calls : List PortEvent)
+    → Runs d who from s q deeds history mid t r → Runs d who mid t r later calls to u end
+    → Runs d who from s q (deeds ++ later) (history ++ calls) to u end
+
+-- What has come to such a place does nothing any more: no deed, no step, and what it knows stays.
+abbrev pub GoesNoFurther : Place → Type 0
+GoesNoFurther place =
+    (d : Definition) (who : Identity) (to : Place) (s t : Store) (q r : PortState) (deeds : List Deed)
+    (history : List PortEvent) → Runs d who place s q deeds history to t r → (deeds ≡ []) × (to ≡ place) × (t ≡ s)
+
+-- so it is with an instance that has ended, and with a record that is closed
+abbrev pub EndsForGood : Type 0
+EndsForGood = GoesNoFurther Ended × GoesNoFurther Closed
+
+-- What is drawn, of signals and expiries, changes neither the classes that a state selects nor which of its continuous
+-- signals begins.
+abbrev pub SelectsWhateverIsDrawn : Type 0
+SelectsWhateverIsDrawn =
+    (d : Definition) (who : Identity) (q : PortState) (n : StateId) (s : Store) (classes : List Class) (pid : ℕ)
+    (news : List Placed) → Selecting d who q n s classes → Selecting d who (after_draws pid q news) n s classes
+
+abbrev pub TriesWhateverIsDrawn : Type 0
+TriesWhateverIsDrawn =
+    (d : Definition) (who : Identity) (q : PortState) (s : Store) (signals : List ContinuousSignal) (pid : ℕ)
+    (news : List Placed)
+    → tried (environment d.system who s (after_draws pid q news)) signals ≡ tried (environment d.system who s q) signals
