@@ -3,10 +3,10 @@
 ghost use Rattle.std.specs.Prelude.{◌≡◌, Ok, IfErr, IfOk, map, true};
 ghost use Rattle.port_model.specs.Port.{PortState};
 ghost use Rattle.sdl_system.specs.System.{SystemValue};
-ghost use Rattle.sdl_system.specs.Term.{binary, operand_of, term_of, term_of_chain};
+ghost use Rattle.sdl_system.specs.Term.{operand_of, term_of, term_of_chain};
 ghost use Rattle.sdl_evaluation.specs.Environment.{environment};
 ghost use Rattle.sdl_evaluation.specs.Memory.{FailsAs, list_wants_memory, wants_memory};
-ghost use Rattle.sdl_evaluation.specs.Value.{at_place, given, key_at, operated, pid_in, placed, time_value, truth_at, value_of, values_at};
+ghost use Rattle.sdl_evaluation.specs.Value.{at_place, key_at, operated, pid_in, placed, time_value, truth_at, value_of, values_at};
 
 use crate::identity::Identity;
 use crate::sorts::sorts_of;
