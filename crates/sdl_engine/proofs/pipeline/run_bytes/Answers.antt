@@ -1,7 +1,7 @@
 use Rattle.sdl_engine.proofs.pipeline.run_bytes.Goals as goal
 
-pub returns-in-Err-read_script-clause-err : goal.returns-in-Err-read_script-clause-err
-returns-in-Err-read_script-clause-err c = record {
+pub returns-in-Err-read_thin_script-clause-err : goal.returns-in-Err-read_thin_script-clause-err
+returns-in-Err-read_thin_script-clause-err c = record {
   script = c.parts.result.1.now;
   system = c.in-Ok.system;
   source = record {
@@ -9,7 +9,7 @@ returns-in-Err-read_script-clause-err c = record {
     parted = c.parts.ensures;
     source = c.in-Ok.ensures.built;
   };
-  at_fault = c.in-Err-read_script.ensures.refused;
+  at_fault = c.in-Err-read_thin_script.ensures.refused;
 }
 
 pub returns-in-Ok-run_serial-clause-ok : goal.returns-in-Ok-run_serial-clause-ok
@@ -20,8 +20,8 @@ returns-in-Ok-run_serial-clause-ok c = record {
     parted = c.parts.ensures;
     source = c.in-Ok.ensures.built;
   };
-  read = c.in-Ok-read_script.script;
-  is_script = c.in-Ok-read_script.ensures.script;
-  says = c.in-Ok-read_script.ensures.read;
+  read = c.in-Ok-read_thin_script.script;
+  is_script = c.in-Ok-read_thin_script.ensures.script;
+  says = c.in-Ok-read_thin_script.ensures.read;
   ran = c.in-Ok-run_serial.ensures.serial;
 }
