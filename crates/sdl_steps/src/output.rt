@@ -1,0 +1,151 @@
+//! Outputs (Z.102: output).
+
+ghost use Rattle.std.specs.Prelude.{◌≡◌, ◌⊎◌, ◌∷◌, [], IfErr, IfOk, List, OnErr, OnOk, Ok, Err, map, option_copied, true};
+ghost use Rattle.std.specs.Option.{option_map};
+ghost use Rattle.inbox.specs.Ends.{OwnerState};
+ghost use Rattle.sdl_evaluation.specs.Environment.{environment};
+ghost use Rattle.sdl_runs.specs.Fails.{named_by};
+ghost use Rattle.sdl_steps.specs.Machine.{IsGoing, IsSameInstance, value_of};
+ghost use Rattle.sdl_steps.specs.Work.{Does, DoesWrong, FailsAt, IsIn, amid};
+ghost use Rattle.sdl_system.specs.Body as body;
+ghost use Rattle.sdl_system.specs.Sort.{pid_of};
+ghost use Rattle.sdl_system.specs.Table.{sending, whither_of};
+
+use crate::machine::{Machine, make_room};
+use inbox::Inbox;
+use port_model::{Item, Pid, Value};
+use sdl_evaluation::{Identity, Store, evaluate_all, evaluate_at, sorts_of};
+use sdl_report::Failure;
+use sdl_runs::World;
+use sdl_system::{Dest, Destination, Output, Sending, Sort, System};
+use std::alloc::Global;
+
+/// Sends each signal, one after the other.
+pub fn send_all<P: Inbox, W: World>(
+    alloc: Global,
+    output: &Output,
+    system: &System,
+    machine: &mut Machine,
+    inbox: &P,
+    world: &mut W,
+) -> Result<(), Failure>
+    requires { IsGoing machine.old (P.owning inbox.now) }
+    ensures instance { let old = value_of machine.old (P.owning inbox.now) in
+        IsSameInstance old (value_of machine.new (P.owning inbox.now)) }
+    ensures going { IsGoing machine.new (P.owning inbox.now) }
+    ensures done { machine.new.store.done ≡ machine.old.store.done }
+    ensures ok { let all = map sending output.now.signals.items in
+        let to = option_map whither_of output.now.to in
+        let old = value_of machine.old (P.owning inbox.now) in
+        let new = value_of machine.new (P.owning inbox.now) in
+        OnOk result (Does (IsIn system.now)
+        (amid (body.output all to)) old (W.value world.old) (amid (body.output [] to)) new (W.value world.new)) }
+    ensures err { let all = map sending output.now.signals.items in
+        let to = option_map whither_of output.now.to in
+        let old = value_of machine.old (P.owning inbox.now) in
+        let new = value_of machine.new (P.owning inbox.now) in
+        IfErr result (DoesWrong (IsIn system.now)
+        (amid (body.output all to)) old (W.value world.old) new (W.value world.new)) }
+{
+    let to = output.to.as_ref();
+    for sending in &output.signals {
+        send(alloc, sending, to, system, machine, inbox, world)?;
+    }
+    Ok(())
+}
+
+// Whom the output names is evaluated first, then the values, and then it is asked whom the signal reaches.
+fn send<P: Inbox, W: World>(
+    alloc: Global,
+    one: &Sending,
+    to: Option<&Destination>,
+    system: &System,
+    machine: &mut Machine,
+    inbox: &P,
+    world: &mut W,
+) -> Result<(), Failure>
+    requires { IsGoing machine.old (P.owning inbox.now) }
+    ensures instance { let old = value_of machine.old (P.owning inbox.now) in
+        IsSameInstance old (value_of machine.new (P.owning inbox.now)) }
+    ensures going { IsGoing machine.new (P.owning inbox.now) }
+    ensures done { machine.new.store.done ≡ machine.old.store.done }
+    ensures ok { let whom = option_map whither_of (option_copied to.entry) in
+        let old = value_of machine.old (P.owning inbox.now) in
+        let new = value_of machine.new (P.owning inbox.now) in
+        OnOk result ((more : List body.Sending)
+        → Does (IsIn system.now) (amid (body.output (sending one.now ∷ more) whom)) old (W.value world.old)
+        (amid (body.output more whom)) new (W.value world.new)) }
+    ensures err { let whom = option_map whither_of (option_copied to.entry) in
+        let old = value_of machine.old (P.owning inbox.now) in
+        IfErr result (λ why. (more : List body.Sending)
+        → FailsAt (IsIn system.now) (amid (body.output (sending one.now ∷ more) whom)) old why) }
+    ensures same { OnErr result ((owner : OwnerState) → value_of machine.new owner ≡ value_of machine.old owner) }
+    ensures quiet { OnErr result (W.value world.new ≡ W.value world.old) }
+{
+    let who = machine.who();
+    let named = named_by(alloc, to, system, &who, &machine.store, inbox)?;
+    let values = evaluate_all(
+        alloc,
+        &one.values,
+        sorts_of(system, one.signal),
+        system,
+        &who,
+        &machine.store,
+        inbox,
+    )?;
+    make_room(machine, values.len())?;
+    let Ok(copy) = values.copied() else {
+        return Err(Failure::Memory);
+    };
+    let target = world.route(one.signal, who.process, named);
+    let item = Item {
+        name: one.signal,
+        values: copy,
+        sender: Pid::Of(who.pid),
+    };
+    if let Err(_) = world.send(target, item) {
+        return Err(Failure::Memory);
+    }
+    machine
+        .trace
+        .output(one.signal, named, values.as_slice(), target);
+    Ok(())
+}
+
+// Whom an output names.
+fn named_by<P: Inbox>(
+    alloc: Global,
+    to: Option<&Destination>,
+    system: &System,
+    who: &Identity,
+    store: &Store,
+    inbox: &P,
+) -> Result<Dest, Failure>
+    requires { (P.owning inbox.now).state.alive ≡ true }
+    ensures ok { let here = environment system.now who.now store.now (P.owning inbox.now).state in
+        let whom = option_map whither_of (option_copied to.entry) in
+        IfOk result (λ named. named_by here whom ≡ Ok named) }
+    ensures err { let here = environment system.now who.now store.now (P.owning inbox.now).state in
+        let whom = option_map whither_of (option_copied to.entry) in
+        IfErr result (λ why. (why ≡ Failure.Memory) ⊎ (named_by here whom ≡ Err why)) }
+{
+    match to {
+        None => Ok(Dest::Path),
+        Some(Destination::Process(process)) => Ok(Dest::Process(*process)),
+        Some(Destination::Pid(expression)) => {
+            let sort = Some(Sort::Pid);
+            let value = evaluate_at(alloc, expression, sort, system, who, store, inbox)?;
+            Ok(Dest::Pid(pid_of(value)))
+        }
+    }
+}
+
+// The Pid of a value; null for what is no Pid.
+fn pid_of(value: Value) -> Pid
+    ensures { result ≡ pid_of value }
+{
+    match value {
+        Value::Pid(pid) => pid,
+        _ => Pid::Null,
+    }
+}
