@@ -1,4 +1,5 @@
 pub mod AroundLemmas
+pub mod LawLemmas
 pub mod ListLemmas
 pub mod MadeLemmas
 pub mod OwnLemmas

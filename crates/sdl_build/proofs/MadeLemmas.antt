@@ -1,5 +1,5 @@
 -- The processes of a specification, one after the other.
-use Rattle.std.proofs.Common.{◌≡◌, ◌∙◌, ◌+◌, ◌++◌, ℕ, Bool, zero, suc, Contains, List, [], ◌∷◌, Option, None, Some, IfNone, IfOk, IfSome, Result, Ok, Err, ap, arith, inl, inr, length, map, refl, slice_get, subst, sym}
+use Rattle.std.proofs.Common.{◌≡◌, ◌∙◌, ◌+◌, ◌≤◌, ◌++◌, ℕ, Bool, zero, suc, All, Contains, List, [], ◌∷◌, Option, None, Some, IfNone, IfOk, IfSome, Result, Ok, Err, ap, arith, inl, inr, length, map, refl, slice_get, subst, sym}
 use Rattle.std.proofs.lemmas.Option.{slice_get-get_or}
 use Rattle.std.specs.Global.{Vec}
 use Rattle.sdl_build.specs.Built.{IsMadeFrom}
@@ -21,6 +21,7 @@ use Rattle.sdl_process.specs.Surroundings.{Surroundings}
 use Rattle.sdl_process.specs.declared.heading.Heading.{Heading}
 use Rattle.sdl_scope.specs.Faults.{Told}
 use Rattle.sdl_system.specs.Behaviour.{Behaviour, Means}
+use Rattle.sdl_system.specs.Soundness.{Keeps}
 use Rattle.sdl_routes.proofs.TableLemmas.{get_push}
 use Rattle.sdl_routes.specs.Valid.{AreValid}
 use Rattle.sdl_channels.specs.declared.network.Network.{Network}
@@ -71,7 +72,7 @@ mapped-get f [] (suc n) x is = absurd (none-some x is)
 mapped-get f (y ∷ ys) zero x is = ap (λ z. Some (f z)) (same-one y x is)
 mapped-get f (y ∷ ys) (suc n) x is = mapped-get f ys n x is
 
-get-below : {A B : Type 0} (xs : List A) (ys : List B) (n : ℕ) (y : B) → length ys ≡ length xs →
+pub get-below : {A B : Type 0} (xs : List A) (ys : List B) (n : ℕ) (y : B) → length ys ≡ length xs →
     slice_get ys n ≡ Some y → (x : A) × (slice_get xs n ≡ Some x)
 get-below [] [] zero y same is = absurd (none-some y is)
 get-below [] [] (suc n) y same is = absurd (none-some y is)
@@ -120,15 +121,19 @@ pub made-from : (survey : Survey) (number : ProcessId) (row : ProcessRow) (aroun
     IsHeading survey number row heading → IfNone result (IsRefused around row.definition) →
     IfSome result (IsHeaded heading) →
     IfSome result (λ process. (behaviour : Behaviour) → IsBehaviour around row.definition heading behaviour
-    → Means process behaviour) → IsMadeFrom survey number row result
-made-from survey number row around heading None same said refused headed means =
+    → Means process behaviour) →
+    IfSome result (λ process. length heading.valid ≤ around.signals
+    → All (Keeps around.signals process) process.tables.items) → IsMadeFrom survey number row result
+made-from survey number row around heading None same said refused headed means keeps =
     subst (λ a. IsRefused a row.definition) same refused
-made-from survey number row around heading (Some process) same said refused headed means = record {
+made-from survey number row around heading (Some process) same said refused headed means keeps = record {
   heading = heading;
   said = said;
   headed = headed;
   means = subst (λ a. (behaviour : Behaviour) → IsBehaviour a row.definition heading behaviour
       → Means process behaviour) same means;
+  keeps = subst (λ (a : Surroundings). length heading.valid ≤ a.signals
+      → All (Keeps a.signals process) process.tables.items) same keeps (omega (arith, said.valid.size));
 }
 
 pub made-if : {E : Type 0} (survey : Survey) (number : ProcessId) (row : ProcessRow) (around : Surroundings)
@@ -138,10 +143,11 @@ pub made-if : {E : Type 0} (survey : Survey) (number : ProcessId) (row : Process
     IfOk result (λ made. IfSome made (IsHeaded heading)) →
     IfOk result (λ made. IfSome made (λ process. (behaviour : Behaviour)
     → IsBehaviour around row.definition heading behaviour → Means process behaviour)) →
-    IfOk result (IsMadeFrom survey number row)
-made-if survey number row around heading (Ok made) same said refused headed means =
-    made-from survey number row around heading made same said refused headed means
-made-if survey number row around heading (Err why) same said refused headed means = tt
+    IfOk result (λ made. IfSome made (λ process. length heading.valid ≤ around.signals
+    → All (Keeps around.signals process) process.tables.items)) → IfOk result (IsMadeFrom survey number row)
+made-if survey number row around heading (Ok made) same said refused headed means keeps =
+    made-from survey number row around heading made same said refused headed means keeps
+made-if survey number row around heading (Err why) same said refused headed means keeps = tt
 
 -- ---- one more is noted
 

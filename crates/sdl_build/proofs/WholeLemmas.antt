@@ -102,7 +102,7 @@ module _ (tree : Tree) (survey : Survey) (defined : AreDefinitions tree (definit
   behind-sorts : duplicate_faults survey.rows ++ figures_faults survey.rows survey.declared survey.constants ≡ []
   behind-sorts = none-right (all_sort_faults tree) _ behind-limits
 
-  faultless : IsFaultless tree survey.declared survey.constants
+  pub faultless : IsFaultless tree survey.declared survey.constants
   faultless = record {
     named = subst (λ rows. AreNamesOf rows survey.declared) defined.rows defined.names;
     valued = subst (λ rows. AreSynonymConstants rows survey.declared survey.constants) defined.rows defined.constants;

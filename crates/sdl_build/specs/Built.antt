@@ -1,5 +1,5 @@
 -- When a system is what a specification says.
-use Rattle.std.specs.Prelude.{◌≡◌, ℕ, ◌+◌, ◌++◌, List, [], ◌∷◌, Option, None, Some, length, map, slice_get}
+use Rattle.std.specs.Prelude.{◌≡◌, ℕ, ◌+◌, ◌++◌, All, List, [], ◌∷◌, Option, None, Some, length, map, slice_get}
 use Rattle.port_model.specs.declared.item.SignalId.{SignalId}
 use Rattle.sdl_build.specs.Faulty.{NotesRest, definition_faults}
 use Rattle.sdl_build.specs.Headings.{IsHeading}
@@ -18,13 +18,14 @@ use Rattle.sdl_scope.specs.declared.fault.Kind.TheVariants.{Limit}
 use Rattle.sdl_spaces.specs.Spaces.{entry_if, is_same_scope}
 use Rattle.sdl_spaces.specs.declared.scope.ScopeId.TheVariants as scope
 use Rattle.sdl_system.specs.Behaviour.{Behaviour, Means}
+use Rattle.sdl_system.specs.Soundness.{Keeps}
 use Rattle.sdl_system.specs.System.{SystemValue, meaning_of}
 use Rattle.sdl_system.specs.declared.id.ProcessId.{ProcessId}
 use Rattle.sdl_system.specs.declared.process.Process.{Process}
 use Rattle.sdl_tree.specs.Tree.{Tree}
 
 -- The process of this number does what its text says: it has what its heading says, and means each behaviour that the
--- text has.
+-- text has; and its tables agree with one another, for the signals of the system.
 pub record IsProcess (survey : Survey) (number : ProcessId) (row : ProcessRow) (process : Process) : Type 0 where
   pub heading : Heading
   pub said : IsHeading survey number row heading
@@ -32,6 +33,7 @@ pub record IsProcess (survey : Survey) (number : ProcessId) (row : ProcessRow) (
   pub means : (behaviour : Behaviour)
       → IsBehaviour (surroundings survey number row.definition) row.definition heading behaviour
       → Means process behaviour
+  pub keeps : All (Keeps (length survey.rows.signals) process) process.tables.items
 
 -- it, or why there is none
 abbrev pub IsMadeFrom : Survey → ProcessId → ProcessRow → Option Process → Type 0

@@ -69,12 +69,12 @@ IsMaximum (Some counts) maximum = IsBound counts.maximum maximum
 
 -- ---- valid input sets
 
--- the set has just those signals of the network that are valid for the process
-abbrev pub IsValidSet : Survey → ProcessId → List Bool → Type 0
-IsValidSet survey number set =
-    (is : network.Process) (signal : SignalId) → slice_get survey.network.processes.items number.0 ≡ Some is
-    → signal.0 < survey.network.signals
-    → (is_member set signal ≡ true) ↔ IsValid survey.network number is signal
+-- The set has a place for each signal, and just those of the network that are valid for the process.
+pub record IsValidSet (survey : Survey) (number : ProcessId) (set : List Bool) : Type 0 where
+  pub size : length set ≡ length survey.rows.signals
+  pub members : (is : network.Process) (signal : SignalId)
+      → slice_get survey.network.processes.items number.0 ≡ Some is → signal.0 < survey.network.signals
+      → (is_member set signal ≡ true) ↔ IsValid survey.network number is signal
 
 -- what the heading of the process of this number says that has this row
 pub record IsHeading (survey : Survey) (number : ProcessId) (row : ProcessRow) (heading : Heading) : Type 0 where

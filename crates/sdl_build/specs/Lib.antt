@@ -3,6 +3,7 @@ pub mod Built
 pub mod ErrorText
 pub mod Faulty
 pub mod Headings
+pub mod Laws
 pub mod Lists
 pub mod Made
 pub mod Outcome

@@ -8,6 +8,7 @@
 mod error;
 mod heading;
 mod joined;
+pub mod laws;
 mod lists;
 mod narrow;
 mod own;

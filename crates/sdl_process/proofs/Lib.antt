@@ -1,4 +1,5 @@
 mod FaultLemmas
+mod KeepsLemmas
 mod MeaningLemmas
 mod RefusedLemmas
 mod WithinLemmas

@@ -1,7 +1,10 @@
 -- What a process means that is made of what its text says.
-use Rattle.std.proofs.Common.{◌≡◌, ◌∙◌, List, [], ◌∷◌, Option, None, Some, IfSome, ap, map, refl, slice_get, subst, sym}
+use Rattle.std.proofs.Common.{◌≡◌, ◌∙◌, List, [], ◌∷◌, Option, None, Some, IfSome, ap, length, map, refl, slice_get, subst, sym}
+use Rattle.std.proofs.lemmas.List.{length-map}
+use Rattle.sdl_bodies.specs.Bodies.{beginning_body}
 use Rattle.sdl_bodies.specs.Sound.{AreTransitionsOf}
 use Rattle.sdl_bodies.specs.declared.transitions.Transitions.{Transitions}
+use Rattle.sdl_ends.specs.Beginnings.{beginnings}
 use Rattle.sdl_states.specs.States.{states_of}
 use Rattle.sdl_states.specs.Tabled.{meanings_at}
 use Rattle.sdl_stimuli.specs.Listed.{conditions_listed}
@@ -28,6 +31,7 @@ terms-listed (expression ∷ list) = ap (λ rest. Some (term_of expression) ∷ 
 
 module _ (around : Surroundings) (definition : ProcessDefinition) (heading : Heading) (said : Said)
     (transitions : Transitions) (flow : AreTransitionsOf (for_transitions around) definition (Some transitions))
+    (each : length transitions.entries.items ≡ length (beginnings definition))
     (conditions : conditions_listed said.conditions ≡ (process_read (for_stimuli around) definition).numbering.conditions)
     (says : meanings_at said.names (tables_at said.tables said.numbers)
     ≡ map Some (states_of (for_stimuli around) definition.body)) where
@@ -35,6 +39,9 @@ module _ (around : Surroundings) (definition : ProcessDefinition) (heading : Hea
       (behaviour : Behaviour) → IsBehaviour around definition heading behaviour → Means process behaviour
   process-means process made behaviour is = record {
     entries = transitions.entries.items;
+    sized =
+        each ∙ sym (length-map (beginnings definition) (beginning_body (for_transitions around))) ∙ ap length is.bodies
+        ∙ length-map behaviour.bodies (λ body. Some body);
     variables_are = ap (λ list. map variable_meaning list.items) made.headed.variables ∙ is.variables;
     parameters_are = made.headed.parameters ∙ is.parameters;
     valid_is = λ signal. ap (λ valid. is_member valid signal) made.headed.valid ∙ is.valid signal;

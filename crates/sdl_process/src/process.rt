@@ -1,6 +1,6 @@
 //! What the text of a process says, whole.
 
-ghost use Rattle.std.specs.Prelude.{◌≡◌, ◌++◌, ℕ, List, IfNone, IfOk, IfSome, OnOk, flat_map, length};
+ghost use Rattle.std.specs.Prelude.{◌≡◌, ◌≤◌, ◌++◌, ℕ, All, List, IfNone, IfOk, IfSome, OnOk, flat_map, length};
 ghost use Rattle.sdl_bodies.specs.Added.{HasEach};
 ghost use Rattle.sdl_bodies.specs.Sound.{AreTransitionsOf};
 ghost use Rattle.sdl_ends.specs.Beginnings.{beginnings};
@@ -11,6 +11,7 @@ ghost use Rattle.sdl_states.specs.Tabled.{is_state, names_listed};
 ghost use Rattle.sdl_stimuli.specs.Listed.{reading_value};
 ghost use Rattle.sdl_stimuli.specs.Reading as reading;
 ghost use Rattle.sdl_system.specs.Behaviour.{Behaviour, Means};
+ghost use Rattle.sdl_system.specs.Soundness.{Keeps};
 ghost use Rattle.sdl_tree.specs.Views.{process_value};
 ghost use Rattle.sdl_process.specs.Faulty.{NotesBody, NotesFlow};
 ghost use Rattle.sdl_process.specs.Made.{IsHeaded};
@@ -31,7 +32,8 @@ use sdl_tree::ProcessDefinition;
 use std::alloc::{AllocError, Global};
 
 /// The process with this text and heading. There is none where a rule is broken in a condition or a transition has no
-/// node; and where another is broken, what the process does means nothing.
+/// node; and where another is broken, what the process does means nothing. Its tables agree with one another in any
+/// case, where the valid input set of the heading has none but signals of the system.
 ///
 /// Noted is all that is broken in its states and transitions: at the stimuli `Unknown` and `Sort` at names and the
 /// faults of conditions, `NoState` at a name behind an asterisk that no state list names, `TwiceInState` at what a
@@ -56,6 +58,8 @@ pub fn make_process<'t>(
     ensures means { IfOk result (λ made. IfSome made (λ process. (behaviour : Behaviour)
         → IsBehaviour (surroundings_of around.now) (process_value definition.now) heading behaviour
         → Means process behaviour)) }
+    ensures keeps { IfOk result (λ made. IfSome made (λ process. length heading.valid ≤ around.now.signals
+        → All (Keeps around.now.signals process) process.tables.items)) }
 {
     let Reading { numbering, parts } = read_parts(alloc, around, definition, faults)?;
     let said = read_states(alloc, around.states.names, &parts, faults)?;

@@ -181,15 +181,20 @@ members_more network id process members new count is_in size before last pushed 
 pub valid_first : (network : Network) (valid : List (List Bool)) → valid ≡ [] → AreValid network 0 valid
 valid_first network valid none = subst (λ x. AreValid network 0 x) (sym none) (record {
   size = refl;
+  places = λ process set at. let within = slice_get_within [] process.0 set at in absurd (omega (arith, within));
   each = λ process is set signal here at below. let within = slice_get_within [] process.0 set at in absurd (omega (arith, within));
 })
 
 pub valid_more : (network : Network) (valid new : List (List Bool)) (count : ℕ) (id : ProcessId) (process : Process) (set : List Bool) → AreValid network count valid
-    → id.0 ≡ count → slice_get network.processes.items count ≡ Some process
+    → id.0 ≡ count → slice_get network.processes.items count ≡ Some process → length set ≡ network.signals
     → ((signal : SignalId) → signal.0 < network.signals → (is_member set signal ≡ true) ↔ IsValid network id process signal)
     → new ≡ valid ++ set ∷ [] → length new ≡ count + 1 → AreValid network (count + 1) new
-valid_more network valid new count id process set are last here is pushed size = record {
+valid_more network valid new count id process set are last here long is pushed size = record {
   size = size;
+  places = λ p s at. elim (get_push valid set p.0 s (subst (λ x. slice_get x p.0 ≡ Some s) pushed at)) [
+    | inl was ↦ are.places p s was
+    | inr end ↦ subst (λ x. length x ≡ network.signals) end.1 long
+  ];
   each = λ p other s signal there at below. elim (get_push valid set p.0 s (subst (λ x. slice_get x p.0 ≡ Some s) pushed at)) [
     | inl was ↦ are.each p other s signal there was below
     | inr end ↦

@@ -27,9 +27,11 @@ pub data IsValid (network : Network) (process : ProcessId) (is : Process) (signa
   named : StandsFor network.lists.items signal is.named → IsValid network process is signal
   timer : StandsFor network.lists.items signal is.timers → IsValid network process is signal
 
--- the sets are those of the first so many processes
+-- the sets are those of the first so many processes, each with a place for each signal
 pub record AreValid (network : Network) (count : ℕ) (valid : List (List Bool)) : Type 0 where
   pub size : length valid ≡ count
+  pub places : (process : ProcessId) (set : List Bool) → slice_get valid process.0 ≡ Some set
+      → length set ≡ network.signals
   pub each : (process : ProcessId) (is : Process) (set : List Bool) (signal : SignalId) → slice_get network.processes.items process.0 ≡ Some is
       → slice_get valid process.0 ≡ Some set → signal.0 < network.signals
       → (is_member set signal ≡ true) ↔ IsValid network process is signal

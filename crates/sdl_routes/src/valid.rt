@@ -44,7 +44,8 @@ fn valid_set(
     process: Process,
 ) -> Result<SignalSet, AllocError>
     requires { AreSets network.now.lists.items network.now.signals sets.now }
-    ensures { IfOk result (λ set. (signal : SignalId) → signal.0 < network.now.signals
+    ensures places { IfOk result (λ set. length set ≡ network.now.signals) }
+    ensures members { IfOk result (λ set. (signal : SignalId) → signal.0 < network.now.signals
         → (is_member set signal ≡ true) ↔ IsValid network.now id process signal) }
 {
     let lists = lists_to(alloc, &network.paths, id, process)?;

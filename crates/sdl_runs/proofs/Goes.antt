@@ -342,6 +342,7 @@ module _ (d : Definition) where
         pid = takes.draws.pid;
         drawn = takes.draws.drawn;
         fresh = takes.fresh refl;
+        armed = takes.armed;
         outside = outside_of-drawn_calls pid takes.news (Take classes Nothing ∷ []) refl;
         own = own_of-drawn_calls pid takes.news (Take classes Nothing ∷ []) refl;
         store = refl;

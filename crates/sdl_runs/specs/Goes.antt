@@ -117,6 +117,7 @@ pub record Waits (d : Definition) (state : StateId) (m : MachineValue) (w : Worl
   pub pid : n.owner.pid ≡ m.owner.pid
   pub drawn : n.owner.drawn ≡ m.owner.drawn ++ news
   pub fresh : n.owner.known ≡ n.owner.drawn
+  pub armed : n.owner.armed ≡ m.owner.armed
   pub outside : outside_of history ≡ drawn_as m.owner.pid news
   pub own : own_of history ≡ Take classes Nothing ∷ []
   pub store : n.store ≡ m.store

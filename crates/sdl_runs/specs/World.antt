@@ -1,5 +1,5 @@
 -- What lies outside of an instance, as it makes its steps: the clock, who lives, and what it did to it.
-use Rattle.std.specs.Prelude.{◌≡◌, ◌+◌, ◌||◌, max, nat_le, ℕ, Bool, List, [], ◌∷◌, ◌++◌, Option, None, Some, IfSome, if◌then◌else◌, slice_get, slice_set, unwrap_or}
+use Rattle.std.specs.Prelude.{◌≡◌, ◌+◌, ◌||◌, max, nat_le, ℕ, Bool, true, false, List, [], ◌∷◌, ◌++◌, Option, None, Some, IfSome, if◌then◌else◌, slice_get, slice_set, unwrap_or}
 use Rattle.std.specs.Option.{option_map, option_map_or}
 use Rattle.port_model.specs.declared.item.SignalId.{SignalId}
 use Rattle.sdl_evaluation.specs.declared.identity.Identity.{Identity}
@@ -29,13 +29,16 @@ pub record Census : Type 0 where
 abbrev pub count_in : Census → ProcessId → ℕ
 count_in census process = unwrap_or (slice_get census.counts process.0) 0
 
-abbrev pub maximum_of : SystemValue → ProcessId → Option ℕ
-maximum_of system process = option_map_or (λ p. p.maximum) (slice_get system.processes process.0) None
+-- whether as many live as may, where that is bounded
+abbrev pub is_reached : Option ℕ → ℕ → Bool
+is_reached None count = false
+is_reached (Some most) count = nat_le most count
 
--- whether no instance of the process can be made: as many live as may, or all numbers were given
+-- whether no instance of the process can be made: as many live as may, all numbers were given, or it is no process of
+-- the system
 abbrev pub is_full : SystemValue → Census → ProcessId → Bool
 is_full system census process =
-    option_map_or (λ most. nat_le most (count_in census process)) (maximum_of system process) (nat_le 1 0)
+    option_map_or (λ p. is_reached p.maximum (count_in census process)) (slice_get system.processes process.0) true
     || nat_le most_instances census.given
 
 -- the number of a new instance, where one can be made: the next that wasn't given

@@ -1,5 +1,5 @@
 -- What a process means, as plain data (Z.101: process, state; Z.102: transition).
-use Rattle.std.specs.Prelude.{◌≡◌, ℕ, Bool, List, Option, None, Some, map, slice_get, string_bytes}
+use Rattle.std.specs.Prelude.{◌≡◌, ℕ, Bool, List, Option, None, Some, length, map, slice_get, string_bytes}
 use Rattle.std.specs.List.{AllZip}
 use Rattle.std.specs.Option.{option_map}
 use Rattle.port_model.specs.declared.item.SignalId.{SignalId}
@@ -126,6 +126,7 @@ pub record MeansState (process : Process) (entries : List NodeId) (state : decla
 -- responses.
 pub record Means (process : Process) (behaviour : Behaviour) : Type 0 where
   pub entries : List NodeId
+  pub sized : length entries ≡ length behaviour.bodies
   pub variables_are : map variable_meaning process.variables.items ≡ behaviour.variables
   pub parameters_are : process.parameters ≡ behaviour.parameters
   pub valid_is : (signal : SignalId) → is_member process.valid signal ≡ behaviour.is_valid signal

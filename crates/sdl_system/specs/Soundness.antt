@@ -2,6 +2,7 @@
 use Rattle.std.specs.Prelude.{◌≡◌, ◌↔◌, ◌<◌, ◌≤◌, ℕ, suc, true, List, None, Some, All, Contains, IfSome, length, slice_get}
 use Rattle.port_model.specs.declared.item.SignalId.{SignalId}
 use Rattle.port_model.specs.Selection as selection
+use Rattle.port_model.specs.declared.selection.Class.TheVariants as class
 use Rattle.sdl_system.specs.Body as body
 use Rattle.sdl_system.specs.Body.{Action, Assigning, Timing, Whither, When}
 use Rattle.sdl_system.specs.Process.{choice_in, table_of}
@@ -189,18 +190,23 @@ pub record WaitsFor (process : Process) (table : StateTable) (signal : SignalId)
   pub is : enabling.condition ≡ condition
   pub enables : IsEnabled process table enabling.signals signal
 
--- The numbers of a table are those of something, its selection has the class of each signal, and its conditions stand
--- with the signals that are inputs under them.
+-- The selection of a table has the class of each of so many signals, of which others are discarded, and its enabling
+-- conditions stand with the signals that are inputs under them.
+pub record Keeps (count : ℕ) (process : Process) (table : StateTable) : Type 0 where
+  pub selects : (signal : SignalId)
+      → selection.class_of table.selection signal ≡ (choice_in process table signal).class
+  pub past : (signal : SignalId) → count ≤ signal.0 → (choice_in process table signal).class ≡ class.Discard
+  pub waits : (signal : SignalId) (condition : ConditionId)
+      → ((choice_in process table signal).condition ≡ Some condition) ↔ WaitsFor process table signal condition
+
+-- The numbers of a table are those of something, and its selection and its conditions are those of its reactions.
 pub record IsSoundTable (system : SystemValue) (process : Process) (table : StateTable) : Type 0 where
   pub reactions : All (λ (entry : SignalId × Reaction). IsSoundReaction system process entry.0 entry.1) table.reactions
   pub rest : IfSome table.rest (IsSoundRest process)
   pub conditions : All (λ (e : Enabling). IsCondition process e.condition) table.conditions.items
   pub continuous : All (λ (c : Continuous). IsCondition process c.condition × IsNode process c.begin)
       table.continuous.items
-  pub selects : (signal : SignalId)
-      → selection.class_of table.selection signal ≡ (choice_in process table signal).class
-  pub waits : (signal : SignalId) (condition : ConditionId)
-      → ((choice_in process table signal).condition ≡ Some condition) ↔ WaitsFor process table signal condition
+  pub keeps : Keeps (length system.signals) process table
 
 -- ---- processes
 

@@ -4,12 +4,16 @@ use Rattle.std.specs.List.{AllZip}
 use Rattle.port_model.specs.Selection as selection
 use Rattle.port_model.specs.declared.item.SignalId.{SignalId}
 use Rattle.sdl_stimuli.specs.Mentions.{Response, input, priority_input, save}
-use Rattle.sdl_states.specs.States.{Table, named_in}
+use Rattle.sdl_stimuli.specs.Context.{Context}
+use Rattle.sdl_stimuli.specs.Reading.{body_read}
+use Rattle.sdl_states.specs.States.{Table, named_in, table_named}
 use Rattle.sdl_system.specs.Process.{choice_in}
 use Rattle.sdl_system.specs.Soundness.{WaitsFor}
 use Rattle.sdl_system.specs.declared.id.ConditionId.{ConditionId}
 use Rattle.sdl_system.specs.declared.process.Process.{Process}
 use Rattle.sdl_system.specs.declared.state.StateTable.{StateTable}
+use Rattle.sdl_tree.specs.Tree.{BodyPart}
+use Rattle.sdl_tree.specs.Words.{Spot}
 
 -- the condition without which a signal waits of which this is said
 abbrev pub said_condition : Option Response → Option ConditionId
@@ -27,6 +31,11 @@ pub record AreEnabling (said : Table) : Type 0 where
   pub apart : (signal : SignalId) (condition : ConditionId) →
       said_condition (named_in said.answers.named signal) ≡ Some condition →
       said_condition said.answers.rest ≡ Some condition → ⊥
+
+-- It is so with what each state of a text says, whatever rules are broken in it.
+abbrev pub StatesAreEnabling : Type 0
+StatesAreEnabling = (context : Context) (body : List BodyPart) (name : Spot) →
+    AreEnabling (table_named (body_read context body).parts name)
 
 -- The selection has the class of each signal, and the conditions stand with the signals that are inputs under them.
 pub record Agrees (process : Process) (said : Table) (table : StateTable) : Type 0 where

@@ -9,6 +9,7 @@
 mod basis;
 mod condition;
 mod continuous;
+pub mod laws;
 mod reaction;
 mod reactions;
 mod selection;

@@ -35,3 +35,4 @@ returns-clause-made c =
     (c.deref-4.ensures.value ∙ c.in_ok-reaches.ensures
     ∙ ap (reaching c.args.joined.now.routes c.args.number) c.requires.known.is_network.signals))
     c.in_ok-heading.ensures c.make_process.ensures.there c.make_process.ensures.headed c.make_process.ensures.means
+    c.make_process.ensures.keeps

@@ -73,10 +73,15 @@ process_at-requires-clause-valid c =
     c.next.ensures.steps in
     let at : length c.loop-set.yielded ≡ c.in_ok-number.number =
     sym (c.in_ok-number.ensures ∙ c.len.ensures ∙ c.loop-set.made.ok.0 ∙ c.loop-set.invariant.size) in
-    λ is signal listed below.
-    c.requires.valid.each (record { 0 = c.in_ok-number.number }) is c.in-Some.set signal listed
-    (subst (λ n. slice_get valid n ≡ Some c.in-Some.set) at
-    (slice_get_read valid (length valid) (length c.loop-set.yielded) c.in-Some.set refl turn.0 turn.1)) below
+    let stands : slice_get valid c.in_ok-number.number ≡ Some c.in-Some.set =
+    subst (λ n. slice_get valid n ≡ Some c.in-Some.set) at
+    (slice_get_read valid (length valid) (length c.loop-set.yielded) c.in-Some.set refl turn.0 turn.1) in
+    record {
+      size = c.requires.valid.places (record { 0 = c.in_ok-number.number }) c.in-Some.set stands
+          ∙ c.requires.known.is_network.signals;
+      members = λ is signal listed below.
+          c.requires.valid.each (record { 0 = c.in_ok-number.number }) is c.in-Some.set signal listed stands below;
+    }
 
 pub loop-set-preserved : goal.loop-set-preserved
 loop-set-preserved c =

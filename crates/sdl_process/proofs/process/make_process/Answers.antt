@@ -14,6 +14,7 @@ use Rattle.sdl_tree.specs.Views.{process_value}
 use Rattle.sdl_process.specs.Made.{Said}
 use Rattle.sdl_process.specs.Surroundings.{for_stimuli, for_transitions, surroundings_of}
 use Rattle.sdl_process.proofs.FaultLemmas.{body-noted, on-ok, states-noted}
+use Rattle.sdl_process.proofs.KeepsLemmas.{made-keeps, named-enabling}
 use Rattle.sdl_process.proofs.MeaningLemmas.{made-means}
 use Rattle.sdl_process.proofs.RefusedLemmas.{made-unless, no-flow}
 use Rattle.sdl_process.proofs.process.make_process.Goals as goal
@@ -68,6 +69,7 @@ returns-clause-means c =
     IfOk-weaker c.process_of.result _ _
     (made-means around process c.args.heading said c.in-Some.transitions
     (subst (AreTransitionsOf (for_transitions around) process) c.in-Some.is c.in_ok-transitions.ensures.table)
+    (subst (HasEach (length (beginnings process))) c.in-Some.is c.in_ok-transitions.ensures.entries)
     (ap (λ reading. reading.numbering.conditions) c.in_ok-numbering.ensures.read)
     (ap (meanings_at names) (c.in_ok-said.ensures.read ∙ ap (λ list. map (λ t. Some t) (tables_of list names)) are)
     ∙ meanings-read parts names
@@ -97,3 +99,21 @@ returns-clause-there c =
     (subst (HasEach (length (beginnings process))) c.in-Some.is c.in_ok-transitions.ensures.entries)
     (ap (λ reading. reading.numbering.conditions) c.in_ok-numbering.ensures.read)
     (subst (λ list. All (IsOfName list) said.tables) are c.in_ok-said.ensures.each) c.args.heading) c.process_of.ensures
+
+pub returns-clause-keeps : goal.returns-clause-keeps
+returns-clause-keeps c =
+    let around = surroundings_of c.args.around.now in
+    let process = process_value c.args.definition.now in
+    let context = for_stimuli around in
+    let said : Said = record {
+      names = names_listed c.args.around.now.states.names.now;
+      tables = map table_value c.in_ok-said.said.tables.items;
+      numbers = c.in_ok-said.said.of_states.items;
+      conditions = c.in_ok-numbering.field-0.numbering.conditions.items;
+    } in
+    let are : map part_value c.deref.result.now ≡ (process_read context process).parts =
+    ap (map part_value) c.deref.ensures.value ∙ ap (λ reading. reading.parts) c.in_ok-numbering.ensures.read in
+    IfOk-weaker c.process_of.result _ _
+    (made-keeps around.signals said c.in-Some.transitions c.args.heading
+    (named-enabling context process.body said.tables
+    (subst (λ list. All (IsOfName list) said.tables) are c.in_ok-said.ensures.each))) c.process_of.ensures

@@ -1,4 +1,4 @@
-use Rattle.std.proofs.Common.{◌≡◌, ◌↔◌, ◌⊎◌, ◌<◌, Contains, arith, subst, sym, true}
+use Rattle.std.proofs.Common.{◌≡◌, ◌↔◌, ◌⊎◌, ◌<◌, ◌∙◌, Contains, ap, arith, length, subst, sym, true}
 use Rattle.port_model.specs.declared.item.SignalId.{SignalId}
 use Rattle.sdl_system.specs.Signal.{is_member}
 use Rattle.sdl_channels.specs.Each.{ForSome}
@@ -22,7 +22,12 @@ loop-number-preserved c =
           (λ e. by_lists.0 (is_in.0 e), λ valid. is_in.1 (by_lists.1 valid)) c.in_ok-push.ensures.items;
     }
 
-pub returns : goal.returns
-returns c = λ signal below.
+pub returns-clause-places : goal.returns-clause-places
+returns-clause-places c =
+    ap length c.new.ensures ∙ c.loop-number.invariant.size
+    ∙ omega (arith, c.loop-number-test.false, c.loop-number.invariant.size)
+
+pub returns-clause-members : goal.returns-clause-members
+returns-clause-members c = λ signal below.
     subst (λ members. (is_member members signal ≡ true) ↔ IsValid c.args.network.now c.args.id c.args.process signal) (sym c.new.ensures)
     (c.loop-number.invariant.each signal (omega (arith, below, c.loop-number-test.false)))

@@ -1,0 +1,121 @@
+-- Each process of a system can be run.
+use Rattle.std.proofs.Common.{◌≡◌, ◌∙◌, ◌<◌, ℕ, ℤ, Bool, true, false, All, List, [], ◌∷◌, Option, None, Some, ap, arith, if◌then◌else◌, length, refl, slice_get, suc, subst, sym, unwrap_or}
+use Rattle.std.specs.Str.{bytes_eq}
+use Rattle.std.proofs.lemmas.List.{length-map}
+use Rattle.std.proofs.lemmas.List.Elements.{All-nil, Contains-get_or}
+use Rattle.port_model.specs.declared.item.SignalId.{SignalId}
+use Rattle.sdl_build.specs.Built.{IsSystem, IsTold}
+use Rattle.sdl_build.specs.Laws.{ProcessesCanRun}
+use Rattle.sdl_build.specs.Signals.{signal_of, signals_from}
+use Rattle.sdl_build.specs.Lists.{AreMembers}
+use Rattle.sdl_build.specs.Surroundings.{surroundings}
+use Rattle.sdl_build.specs.Survey.{AreDefinitions, IsJoined, Survey, definitions_of}
+use Rattle.sdl_build.proofs.MadeLemmas.{get-below, same-one}
+use Rattle.sdl_build.proofs.WholeLemmas.{faultless, is-given}
+use Rattle.sdl_channels.specs.declared.network.Network.{Network}
+use Rattle.sdl_complete.proofs.ProcessLemmas.{behaviour-given}
+use Rattle.sdl_complete.proofs.SeenLemmas.{signals-below}
+use Rattle.sdl_complete.specs.Names.{number_of_signal}
+use Rattle.sdl_complete.specs.Ranges.{AreBelow, IsBelow}
+use Rattle.sdl_declared.specs.Tables.{Rows}
+use Rattle.sdl_declared.specs.declared.entries.SignalListId.{SignalListId}
+use Rattle.sdl_declared.specs.Rows.{SignalRow}
+use Rattle.sdl_figures.specs.Figures.{all_durations, duration_at}
+use Rattle.sdl_figures.specs.Scopes.{scope_in}
+use Rattle.sdl_process.specs.Surroundings.{for_stimuli}
+use Rattle.sdl_scope.specs.Names.{first_of}
+use Rattle.sdl_sorts.specs.Scope.{SignalMeaning, meaning, signal, signal_in, timer}
+use Rattle.sdl_spaces.specs.declared.scope.ScopeId.TheVariants as scope
+use Rattle.sdl_stimuli.specs.Context.{members_of}
+use Rattle.sdl_stimuli.specs.Mentions.{number_of}
+use Rattle.sdl_system.specs.Soundness.{Keeps}
+use Rattle.sdl_system.specs.System.{SystemValue}
+use Rattle.sdl_tree.specs.Tree.{ProcessDefinition, Tree}
+
+-- a signal for each row
+length-from : (rows : List SignalRow) (durations : List (Option ℤ)) → length durations ≡ length rows →
+    length (signals_from rows durations) ≡ length rows
+length-from [] durations same = refl
+length-from (row ∷ rows) [] same = absurd (omega (arith, same))
+length-from (row ∷ rows) (duration ∷ durations) same = ap suc (length-from rows durations (omega (arith, same)))
+
+signals-many : (survey : Survey) (system : SystemValue) → IsSystem survey system →
+    length survey.rows.signals ≡ length system.signals
+signals-many survey system is =
+    let many = length-from survey.rows.signals (all_durations survey.rows survey.declared survey.constants)
+    (length-map survey.rows.signals (duration_at survey.rows survey.declared survey.constants)) in
+    sym (sym (length-map system.signals signal_of) ∙ ap length is.signals ∙ many)
+
+-- ---- names around a process stand for signals of the system
+
+first-meaning : {A B : Type 0} (f : A → B) (names : List (List ℕ × A)) (text : List ℕ) (found : B) →
+    first_of (meaning f names) text ≡ Some found → (own : A) × (f own ≡ found)
+first-meaning f [] text found is = cc
+first-meaning f (entry ∷ names) text found is =
+    by (bytes_eq text entry.0) is (first-meaning f names text found)
+  where
+    by : (b : Bool) → (if b then Some (f entry.1) else first_of (meaning f names) text) ≡ Some found →
+        (first_of (meaning f names) text ≡ Some found → (own : _) × (f own ≡ found)) → (own : _) × (f own ≡ found)
+    by true is rest = (entry.1, same-one (f entry.1) found is)
+    by false is rest = rest is
+
+-- the signals that a list stands for
+members-below : (network : Network) (count : ℕ) (members : List (List SignalId)) → AreMembers network count members →
+    (list : SignalListId) → All (IsBelow network.signals) (members_of members list)
+members-below network count members are list = by (slice_get members list.0) refl
+  where
+    by : (found : Option (List SignalId)) → slice_get members list.0 ≡ found →
+        All (IsBelow network.signals) (unwrap_or found [])
+    by None is = All-nil (IsBelow network.signals)
+    by (Some signals) is =
+        λ k d less. ((are.each (record { 0 = list.0 }) signals is _).0 (Contains-get_or signals k d less)).0
+
+module _ (tree : Tree) (survey : Survey) (defined : AreDefinitions tree (definitions_of survey))
+    (unbroken : IsTold tree survey None) where
+  signals-seen : (number : ℕ) (text : List ℕ) (found : SignalMeaning) →
+      signal_in (scope_in survey.rows survey.declared survey.constants (scope.Process (record { 0 = number }))) text
+      ≡ Some found → (number_of found).0 < length survey.rows.signals
+  signals-seen number =
+      subst (λ (rows : Rows). (text : List ℕ) (found : SignalMeaning) →
+      signal_in (scope_in rows survey.declared survey.constants (scope.Process (record { 0 = number }))) text
+      ≡ Some found → (number_of found).0 < length rows.signals) (sym defined.rows)
+      (λ text found at. same _ found (signals-below tree survey.declared survey.constants
+      (faultless tree survey defined unbroken) (scope.Process (record { 0 = number })) text found at))
+    where
+      same : (count : ℕ) (found : SignalMeaning) → (number_of_signal found).0 < count → (number_of found).0 < count
+      same count (signal number sorts) below = below
+      same count (timer number sorts has_default) below = below
+
+  names-below : IsJoined survey → (number : ℕ) (definition : ProcessDefinition) →
+      AreBelow (length survey.rows.signals) (for_stimuli (surroundings survey (record { 0 = number }) definition))
+  names-below joined number definition = record {
+    signals = signals-seen number;
+    lists = λ text signals found.
+        let own = first-meaning (members_of survey.members) _ text signals found in
+        subst (All (IsBelow (length survey.rows.signals))) own.1
+        (subst (λ count. All (IsBelow count) (members_of survey.members own.0)) joined.network.signals
+        (members-below survey.network (length survey.rows.lists) survey.members joined.members own.0));
+  }
+
+-- ---- the law
+
+pub processes-can-run : ProcessesCanRun
+processes-can-run tree system built number process stands =
+    let processes = built.built.processes in
+    let row = get-below built.survey.rows.processes system.processes number.0 process processes.size stands in
+    let is = processes.each number row.0 process row.1 stands in
+    let given = is-given tree built.survey built.defined built.unbroken number.0 row.0 row.1 in
+    let does = behaviour-given (surroundings built.survey number row.0.definition) row.0.definition given.0 is.heading
+    given.1 (names-below tree built.survey built.defined built.unbroken built.joined number.0 row.0.definition) in
+    record {
+      row = row.0;
+      listed = row.1;
+      heading = is.heading;
+      said = is.said;
+      headed = is.headed;
+      behaviour = does.0;
+      is = does.1;
+      means = is.means;
+      keeps = subst (λ count. All (Keeps count process) process.tables.items)
+          (signals-many built.survey system built.built) is.keeps;
+    }

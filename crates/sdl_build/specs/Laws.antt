@@ -1,0 +1,37 @@
+-- What holds of each process of a system that is what a specification says.
+use Rattle.std.specs.Prelude.{◌≡◌, All, Some, length, slice_get}
+use Rattle.sdl_build.specs.Built.{IsBuilt}
+use Rattle.sdl_build.specs.Headings.{IsHeading}
+use Rattle.sdl_build.specs.Surroundings.{surroundings}
+use Rattle.sdl_build.specs.Survey.{Survey}
+use Rattle.sdl_declared.specs.Rows.{ProcessRow}
+use Rattle.sdl_process.specs.Made.{IsHeaded}
+use Rattle.sdl_process.specs.Meant.{IsBehaviour}
+use Rattle.sdl_process.specs.declared.heading.Heading.{Heading}
+use Rattle.sdl_system.specs.Behaviour.{Behaviour, Means}
+use Rattle.sdl_system.specs.Soundness.{Keeps}
+use Rattle.sdl_system.specs.System.{SystemValue}
+use Rattle.sdl_system.specs.declared.id.ProcessId.{ProcessId}
+use Rattle.sdl_system.specs.declared.process.Process.{Process}
+use Rattle.sdl_tree.specs.Tree.{Tree}
+
+-- The process of this number can be run: the text of its definition has a behaviour, the process means each that it
+-- has, and its tables agree with one another, for the signals of the system.
+pub record CanRun (survey : Survey) (system : SystemValue) (number : ProcessId) (process : Process) : Type 0 where
+  pub row : ProcessRow
+  pub listed : slice_get survey.rows.processes number.0 ≡ Some row
+  pub heading : Heading
+  pub said : IsHeading survey number row heading
+  pub headed : IsHeaded heading process
+  pub behaviour : Behaviour
+  pub is : IsBehaviour (surroundings survey number row.definition) row.definition heading behaviour
+  pub means : (other : Behaviour)
+      → IsBehaviour (surroundings survey number row.definition) row.definition heading other
+      → Means process other
+  pub keeps : All (Keeps (length system.signals) process) process.tables.items
+
+-- So can each process of the system.
+abbrev pub ProcessesCanRun : Type 0
+ProcessesCanRun =
+    (tree : Tree) (system : SystemValue) (built : IsBuilt tree system) (number : ProcessId) (process : Process)
+    → slice_get system.processes number.0 ≡ Some process → CanRun built.survey system number process
