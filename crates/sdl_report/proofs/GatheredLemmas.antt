@@ -1,13 +1,14 @@
 -- Text that is gathered, and goes out piece by piece.
-use Rattle.std.proofs.Common.{◌≡◌, ℕ, suc, ◌+◌, ◌<◌, List, [], ◌∷◌, ◌++◌, length, get_or, take, drop, Option, Result, Ok, Err, refl, sym, ap, ◌∙◌, subst, append_assoc, append-nil, take-append-drop, drop-cons}
-use Rattle.std.proofs.lemmas.List.{take_at, flat_map_more}
+use Rattle.std.proofs.Common.{◌≡◌, ℕ, suc, ◌+◌, ◌<◌, List, [], ◌∷◌, ◌++◌, length, get_or, take, drop, Option, Result, Ok, Err, refl, sym, ap, ◌∙◌, subst, append_assoc, append-nil, length-append, take-append-drop, drop-cons, arith}
+use Rattle.std.proofs.lemmas.List.{take_at, flat_map_more, length-drop}
 use Rattle.std.proofs.lemmas.List.Concat.{flat_map-append}
 use Rattle.std.proofs.lemmas.Grind.{take_at_read}
 use Rattle.std.specs.List.{flat_map}
 use Rattle.std.specs.Prelude.{OnErr}
 use Rattle.std.specs.Io.KnownBytes.{Appends}
 use Rattle.std.proofs.KnownBytes.{Appends-nil, Appends-trans}
-use Rattle.sdl_report.specs.Gathered.{Grows, Breaks}
+use Rattle.sdl_report.specs.Gathered.{Grows, Breaks, BreaksOff}
+use Rattle.sdl_report.specs.ReportText.{line}
 
 -- bytes that are gathered alone
 pub Grows-gathered : (held : Option (List ℕ)) (gathered gathered' bytes : List ℕ) → gathered' ≡ gathered ++ bytes → Grows held gathered held gathered' bytes
@@ -20,9 +21,20 @@ Grows-trans a b c g h i xs ys p q = (
   append_assoc p.0 q.0 i ∙ ap (λ l. p.0 ++ l) q.2 ∙ sym (append_assoc p.0 h ys) ∙ ap (λ l. l ++ ys) p.2 ∙ append_assoc g xs ys,
 )
 
--- nothing more has gone out
-pub Breaks-now : (held : Option (List ℕ)) (gathered bytes : List ℕ) → Breaks held gathered held bytes
-Breaks-now held gathered bytes = ([], gathered ++ bytes, Appends-nil held, refl)
+-- nothing more has gone out, and so the last line is lost
+pub Breaks-now : (held : Option (List ℕ)) (gathered text : List ℕ) → Breaks held gathered held (line text)
+Breaks-now held gathered text = (
+  [],
+  gathered ++ line text,
+  Appends-nil held,
+  refl,
+  omega (arith, length-append gathered (line text), length-append text (10 ∷ [])),
+)
+
+-- a break while the bytes are gathered
+pub Breaks-gathered : (a c : Option (List ℕ)) (g h bytes : List ℕ) → h ≡ g ++ bytes → Breaks a h c []
+    → Breaks a g c bytes
+Breaks-gathered a c g h bytes e p = (p.0, p.1, p.2, p.3 ∙ append-nil h ∙ e, p.4)
 
 -- a break behind some bytes
 pub Breaks-after : (a b c : Option (List ℕ)) (g h xs ys : List ℕ) → Grows a g b h xs → Breaks b h c ys → Breaks a g c (xs ++ ys)
@@ -31,20 +43,36 @@ Breaks-after a b c g h xs ys p q = (
   q.1,
   Appends-trans a b c p.0 q.0 p.1 q.2,
   append_assoc p.0 q.0 q.1 ∙ ap (λ l. p.0 ++ l) q.3 ∙ sym (append_assoc p.0 h ys) ∙ ap (λ l. l ++ ys) p.2 ∙ append_assoc g xs ys,
+  q.4,
 )
 
 -- a break before some bytes
 pub Breaks-before : (a c : Option (List ℕ)) (g xs ys : List ℕ) → Breaks a g c xs → Breaks a g c (xs ++ ys)
-Breaks-before a c g xs ys p = (p.0, p.1 ++ ys, p.2, sym (append_assoc p.0 p.1 ys) ∙ ap (λ l. l ++ ys) p.3 ∙ append_assoc g xs ys)
+Breaks-before a c g xs ys p = (
+  p.0,
+  p.1 ++ ys,
+  p.2,
+  sym (append_assoc p.0 p.1 ys) ∙ ap (λ l. l ++ ys) p.3 ∙ append_assoc g xs ys,
+  let some = p.4 in omega (arith, length-append p.1 ys),
+)
 
 -- a break while the gathered text goes out
-pub Breaks-part : (a c : Option (List ℕ)) (g : List ℕ) → (k : ℕ) × Appends a c (take k g) → Breaks a g c []
-Breaks-part a c g p = (take p.0 g, drop p.0 g, p.1, take-append-drop p.0 g ∙ sym (append-nil g))
+pub Breaks-part : (a c : Option (List ℕ)) (g : List ℕ) → BreaksOff a c g → Breaks a g c []
+Breaks-part a c g p = (
+  take p.0 g,
+  drop p.0 g,
+  p.2,
+  take-append-drop p.0 g ∙ sym (append-nil g),
+  let part = p.1 in omega (arith, length-drop p.0 g),
+)
 
--- a break where nothing was gathered at first: a prefix of the bytes is out
-pub Breaks-prefix : (a c : Option (List ℕ)) (bytes : List ℕ) → Breaks a [] c bytes → (k : ℕ) × Appends a c (take k bytes)
-Breaks-prefix a c bytes p =
-    (length p.0, subst (Appends a c) (sym (ap (take (length p.0)) (sym p.3) ∙ take_at p.0 p.1 (length p.0) refl)) p.2)
+-- a break where nothing was gathered at first: a beginning of the bytes is out
+pub Breaks-prefix : (a c : Option (List ℕ)) (bytes : List ℕ) → Breaks a [] c bytes → BreaksOff a c bytes
+Breaks-prefix a c bytes p = (
+  length p.0,
+  let all = ap length p.3 in let some = p.4 in omega (arith, length-append p.0 p.1),
+  subst (Appends a c) (sym (ap (take (length p.0)) (sym p.3) ∙ take_at p.0 p.1 (length p.0) refl)) p.2,
+)
 
 module _ {X : Type 0} (f : X → List ℕ) (head : List ℕ) (xs : List X) (i : ℕ) (x : X) (here : i < length xs) (is : x ≡ get_or xs i x) where
   flat_map_split : flat_map f xs ≡ flat_map f (take i xs) ++ (f x ++ flat_map f (drop (suc i) xs))

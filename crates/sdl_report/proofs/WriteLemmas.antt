@@ -1,8 +1,10 @@
 -- What has gone out of a text.
-use Rattle.std.proofs.Common.{◌≡◌, ℕ, List, [], ◌++◌, length, take, drop, Option, None, Some, refl, sym, ap, ◌∙◌, subst, append_assoc, append-nil, take-append-drop}
+use Rattle.std.proofs.Common.{◌≡◌, ℕ, false, ◌<◌, nat_eq, List, [], ◌∷◌, ◌++◌, length, take, drop, Option, None, Some, refl, sym, ap, ◌∙◌, subst, append_assoc, append-nil, length-append, take-append-drop, arith}
+use Rattle.std.proofs.lemmas.Bool.{false≢true}
 use Rattle.std.proofs.lemmas.List.{take_at}
 use Rattle.std.specs.Io.KnownBytes.{Appends, Keeps}
 use Rattle.std.proofs.KnownBytes.{Appends-nil, Appends-trans}
+use Rattle.sdl_report.specs.Gathered.{BreaksOff}
 
 -- the writer has taken the text up to the rest
 pub record SentUpTo (held held' : Option (List ℕ)) (text rest : List ℕ) : Type 0 where
@@ -34,6 +36,16 @@ pub sent_all : (a b : Option (List ℕ)) (text rest : List ℕ) → SentUpTo a b
 sent_all a b text rest s nil =
     subst (Appends a b) (sym (s.joined ∙ ap (λ l. s.sent ++ l) nil ∙ append-nil s.sent)) s.out
 
-pub sent_part : (a b : Option (List ℕ)) (text rest : List ℕ) → SentUpTo a b text rest → (k : ℕ) × Appends a b (take k text)
-sent_part a b text rest s =
-    (length s.sent, subst (Appends a b) (sym (ap (take (length s.sent)) s.joined ∙ take_at s.sent rest (length s.sent) refl)) s.out)
+-- what isn't empty has a length
+pub some_left : (rest : List ℕ) → false ≡ nat_eq (length rest) 0 → 0 < length rest
+some_left [] e = absurd (false≢true e)
+some_left (x ∷ rest) e = omega arith
+
+-- where a rest is left, not all is out
+pub sent_part : (a b : Option (List ℕ)) (text rest : List ℕ) → SentUpTo a b text rest → 0 < length rest
+    → BreaksOff a b text
+sent_part a b text rest s some = (
+  length s.sent,
+  let all = ap length s.joined in omega (arith, some, length-append s.sent rest),
+  subst (Appends a b) (sym (ap (take (length s.sent)) s.joined ∙ take_at s.sent rest (length s.sent) refl)) s.out,
+)

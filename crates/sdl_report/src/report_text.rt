@@ -1,10 +1,10 @@
 //! The text of a report.
 
-ghost use Rattle.std.specs.Prelude.{◌≡◌, ℕ, [], ◌++◌, take, OnErr, OnOk};
+ghost use Rattle.std.specs.Prelude.{◌≡◌, [], ◌++◌, OnErr, OnOk};
 ghost use Rattle.std.specs.String.{string_bytes};
 ghost use Rattle.std.specs.Io.KnownBytes.{Appends};
 ghost use Rattle.sdl_report.specs.Entry.{event_of};
-ghost use Rattle.sdl_report.specs.Gathered.{Breaks, Grows};
+ghost use Rattle.sdl_report.specs.Gathered.{Breaks, BreaksOff, Grows};
 ghost use Rattle.sdl_report.specs.ReportText.{end_text, event_line, heading_text, line, record_text, report_text};
 
 use crate::entry::Entry;
@@ -31,8 +31,8 @@ pub fn write_report<W: Write>(
 ) -> Result<(), WriteFault>
     ensures ok { OnOk result (Appends (W.contents writer.old) (W.contents writer.new)
         (report_text system.now report.now)) }
-    ensures err { OnErr result ((k : ℕ) × Appends (W.contents writer.old) (W.contents writer.new)
-        (take k (report_text system.now report.now))) }
+    ensures err { OnErr result (BreaksOff (W.contents writer.old) (W.contents writer.new)
+        (report_text system.now report.now)) }
 {
     let mut text = String::new(alloc);
     for record in &report.records {

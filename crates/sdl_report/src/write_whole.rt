@@ -1,7 +1,9 @@
 //! Writing a text to its end.
 
-ghost use Rattle.std.specs.Prelude.{ℕ, take, OnErr, OnOk};
+ghost use Rattle.std.specs.Prelude.{◌≡◌, ◌↔◌, IfErr, IsTrue, OnErr, OnOk};
 ghost use Rattle.std.specs.Io.KnownBytes.{Appends};
+ghost use Rattle.std.specs.IoError.{error_kind};
+ghost use Rattle.sdl_report.specs.Gathered.{BreaksOff};
 
 use std::alloc::AllocError;
 use std::io::{Error, ErrorKind, Write};
@@ -19,17 +21,22 @@ pub enum WriteFault {
 }
 
 impl From<AllocError> for WriteFault {
+    ghost use Rattle.std.specs.Prelude.{◌≡◌};
+    ghost use Rattle.sdl_report.specs.declared.write_whole.WriteFault.TheVariants.{Memory};
+
+    ghost from_gives = { λ _ fault. fault ≡ Memory };
+
     fn from(_error: AllocError) -> WriteFault {
         WriteFault::Memory
     }
 }
 
 /// Writes all of a text, in as many pieces as the writer takes it. A call that was interrupted is made again, and a
-/// writer that takes no byte is at fault.
+/// writer that takes no byte is at fault. The fault is Write, and then the text is not written to its end.
 pub fn write_text<W: Write>(writer: &mut W, text: &[u8]) -> Result<(), WriteFault>
     ensures ok { OnOk result (Appends (W.contents writer.old) (W.contents writer.new) text.now) }
-    ensures err { OnErr result ((k : ℕ) × Appends (W.contents writer.old) (W.contents writer.new)
-        (take k text.now)) }
+    ensures err { OnErr result (BreaksOff (W.contents writer.old) (W.contents writer.new) text.now) }
+    ensures fault { IfErr result (λ fault. fault ≡ WriteFault.Write) }
 {
     let mut rest = text;
     for _call in 0..u64::MAX {
@@ -49,9 +56,15 @@ pub fn write_text<W: Write>(writer: &mut W, text: &[u8]) -> Result<(), WriteFaul
             }
         }
     }
-    Err(WriteFault::Write)
+    if rest.is_empty() {
+        Ok(())
+    } else {
+        Err(WriteFault::Write)
+    }
 }
 
-fn is_interrupted(error: &Error) -> bool {
+fn is_interrupted(error: &Error) -> bool
+    ensures { IsTrue result ↔ (error_kind error.now ≡ ErrorKind.Interrupted) }
+{
     error.kind() == ErrorKind::Interrupted
 }

@@ -1,8 +1,8 @@
 pub mod Deeds
 pub mod Heads
 pub mod Machines
+pub mod Meanings
 pub mod Pieces
 pub mod Results
-pub mod Variables
 pub mod Visits
 pub mod Walks

@@ -40,7 +40,8 @@ returns-in_err-push_end-clause-err g c =
     subst (λ l. Grows held [] held' text (flat_map f l)) (take_all c.loop-record.record-index c.deref-record-items.result.now (omega arith) ∙ c.deref-record-items.ensures.value) c.loop-record.invariant in
     OnErr-any c.from_residual-in_err-push_end.result
     (Breaks-prefix held held' (report_text c.args.system.now c.args.report.now)
-    (Breaks-after held held' held' [] text (flat_map f c.args.report.now.records.items) end body (Breaks-now held' text end)))
+    (Breaks-after held held' held' [] text (flat_map f c.args.report.now.records.items) end body
+    (Breaks-now held' text (end_text c.args.report.now))))
 
 pub returns-clause-err : goal.returns-clause-err
 returns-clause-err g c =

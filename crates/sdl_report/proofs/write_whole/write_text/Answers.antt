@@ -1,7 +1,7 @@
-use Rattle.std.proofs.Common.{length, sym}
+use Rattle.std.proofs.Common.{length, sym, arith}
 use Rattle.std.proofs.lemmas.Bool.{eqb-true}
-use Rattle.std.proofs.lemmas.List.{nil_from_length}
-use Rattle.sdl_report.proofs.WriteLemmas.{sent_none, sent_more, sent_kept, sent_all, sent_part}
+use Rattle.std.proofs.lemmas.List.{length-drop, nil_from_length}
+use Rattle.sdl_report.proofs.WriteLemmas.{sent_none, sent_more, sent_kept, sent_all, sent_part, some_left}
 use Rattle.sdl_report.proofs.write_whole.write_text.Goals as goal
 use Rattle.sdl_report.proofs.write_whole.write_text.Goals.{in-Ok, in-Err+else-not-is_interrupted}
 
@@ -21,10 +21,21 @@ returns-then-is_empty-clause-ok g c =
     (nil_from_length c.loop-call.rest.now (eqb-true (length c.loop-call.rest.now) 0 (sym c.if-is_empty.ensures)))
 
 pub returns-in-Ok-eq0-clause-err : goal.returns-in-Ok-eq0-clause-err
-returns-in-Ok-eq0-clause-err g c = sent_part _ _ _ _ (sent_more _ _ _ _ _ _ c.loop-call.invariant c.in-Ok-eq0.ensures.bytes)
+returns-in-Ok-eq0-clause-err g c =
+    let some = some_left c.loop-call.rest.now c.if-is_empty.ensures in
+    sent_part _ _ _ _ (sent_more _ _ _ _ _ _ c.loop-call.invariant c.in-Ok-eq0.ensures.bytes)
+    (omega (arith, some, c.in-Ok-eq0.field-0-test, length-drop c.in-Ok-eq0.field-0 c.loop-call.rest.now))
 
 pub returns-then-not-is_interrupted-clause-err : goal.returns-then-not-is_interrupted-clause-err
-returns-then-not-is_interrupted-clause-err g c = sent_part _ _ _ _ (sent_kept _ _ _ _ _ c.loop-call.invariant c.in-Err.ensures.bytes)
+returns-then-not-is_interrupted-clause-err g c =
+    sent_part _ _ _ _ (sent_kept _ _ _ _ _ c.loop-call.invariant c.in-Err.ensures.bytes)
+    (some_left c.loop-call.rest.now c.if-is_empty.ensures)
 
-pub returns-clause-err : goal.returns-clause-err
-returns-clause-err g c = sent_part _ _ _ _ c.loop-call.invariant
+pub returns-then-is_empty-2-clause-ok : goal.returns-then-is_empty-2-clause-ok
+returns-then-is_empty-2-clause-ok g c =
+    sent_all _ _ _ _ c.loop-call.invariant
+    (nil_from_length c.loop-call.rest.now (eqb-true (length c.loop-call.rest.now) 0 (sym c.if-is_empty-2.ensures)))
+
+pub returns-else-is_empty-2-clause-err : goal.returns-else-is_empty-2-clause-err
+returns-else-is_empty-2-clause-err g c =
+    sent_part _ _ _ _ c.loop-call.invariant (some_left c.loop-call.rest.now c.if-is_empty-2.ensures)

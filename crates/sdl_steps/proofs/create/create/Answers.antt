@@ -8,7 +8,7 @@ use Rattle.sdl_runs.specs.Leads.{created, offspring_of}
 use Rattle.sdl_runs.specs.World.{after_acts}
 use Rattle.sdl_steps.proofs.Deeds.{goes_created}
 use Rattle.sdl_steps.proofs.Machines.{store_kept, value_noted}
-use Rattle.sdl_steps.proofs.Variables.{values_meant}
+use Rattle.sdl_steps.proofs.Meanings.{values_meant}
 use Rattle.sdl_steps.specs.Machine.{value_of}
 use Rattle.sdl_system.specs.System.{SystemValue}
 use Rattle.sdl_system.specs.Term.{term_of}

@@ -10,7 +10,7 @@ use Rattle.sdl_runs.specs.Act.{Send}
 use Rattle.sdl_runs.specs.World.{IsRoute, WorldValue, after_act}
 use Rattle.sdl_steps.proofs.Deeds.{goes_sent}
 use Rattle.sdl_steps.proofs.Machines.{store_kept, value_noted}
-use Rattle.sdl_steps.proofs.Variables.{sent_ok, unnamed, unsent}
+use Rattle.sdl_steps.proofs.Meanings.{sent_ok, unnamed, unsent}
 use Rattle.sdl_steps.specs.Machine.{value_of}
 use Rattle.sdl_system.specs.Table.{sending, whither_of}
 use Rattle.sdl_steps.proofs.output.send.Goals as goal

@@ -5,7 +5,7 @@ use Rattle.sdl_report.specs.Event as event
 use Rattle.sdl_runs.specs.Reception.{assigned}
 use Rattle.sdl_steps.proofs.Deeds.{goes_assigned}
 use Rattle.sdl_steps.proofs.Machines.{value_noted}
-use Rattle.sdl_steps.proofs.Variables.{placed_meant}
+use Rattle.sdl_steps.proofs.Meanings.{placed_meant}
 use Rattle.sdl_steps.specs.Machine.{value_of}
 use Rattle.sdl_steps.specs.declared.machine.Machine.{Machine}
 use Rattle.sdl_system.specs.Table.{assigning}

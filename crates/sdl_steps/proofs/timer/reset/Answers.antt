@@ -4,7 +4,7 @@ use Rattle.sdl_report.specs.Event as event
 use Rattle.sdl_runs.specs.Goes.{with_event}
 use Rattle.sdl_steps.proofs.Deeds.{goes_reset}
 use Rattle.sdl_steps.proofs.Machines.{store_kept, value_noted}
-use Rattle.sdl_steps.proofs.Variables.{key_meant}
+use Rattle.sdl_steps.proofs.Meanings.{key_meant}
 use Rattle.sdl_steps.specs.Machine.{value_of}
 use Rattle.sdl_system.specs.Table.{timing}
 use Rattle.sdl_steps.proofs.timer.reset.Goals as goal

@@ -10,7 +10,7 @@ use Rattle.sdl_runs.specs.Goes.{with_event}
 use Rattle.sdl_runs.specs.World.{WorldValue, after_act}
 use Rattle.sdl_steps.proofs.Deeds.{goes_set}
 use Rattle.sdl_steps.proofs.Machines.{store_kept, value_noted}
-use Rattle.sdl_steps.proofs.Variables.{set_ok, undue, unkeyed}
+use Rattle.sdl_steps.proofs.Meanings.{set_ok, undue, unkeyed}
 use Rattle.sdl_steps.specs.Machine.{value_of}
 use Rattle.sdl_system.specs.Table.{setting}
 use Rattle.sdl_steps.proofs.timer.set.Goals as goal

@@ -34,6 +34,9 @@ returns-in-NextState-clause-going g c =
     let new = c.enter.new.machine in
     err_always c.enter.result (λ _. IsGoing new o) (λ _. c.enter.ensures.going o c.requires)
 
+pub returns-in-NextState-clause-instance : goal.returns-in-NextState-clause-instance
+returns-in-NextState-clause-instance g c = c.enter.ensures.instance (g.P.Inbox.owning c.args.inbox.now)
+
 pub returns-in-NextState-clause-started : goal.returns-in-NextState-clause-started
 returns-in-NextState-clause-started g c =
     let process = c.args.process.now in
@@ -117,6 +120,9 @@ returns-in-SameState-clause-going g c =
     let o = g.P.Inbox.owning c.args.inbox.now in
     let new = c.enter-in-SameState.new.machine in
     err_always c.enter-in-SameState.result (λ _. IsGoing new o) (λ _. c.enter-in-SameState.ensures.going o c.requires)
+
+pub returns-in-SameState-clause-instance : goal.returns-in-SameState-clause-instance
+returns-in-SameState-clause-instance g c = c.enter-in-SameState.ensures.instance (g.P.Inbox.owning c.args.inbox.now)
 
 pub returns-in-SameState-clause-started : goal.returns-in-SameState-clause-started
 returns-in-SameState-clause-started g c =
@@ -434,9 +440,3 @@ returns-in_default-clause-err g c =
     IfErr-weaker c.perform.result
     (λ why. (from : Option StateId) → VisitsWrong system process node from l w n v why)
     (λ why. VisitsWrong system process node origin l w n v why) (λ why wrong. wrong origin) c.perform.ensures.err
-
-pub returns-in-NextState-clause-instance : goal.returns-in-NextState-clause-instance
-returns-in-NextState-clause-instance g c = c.enter.ensures.instance (g.P.Inbox.owning c.args.inbox.now)
-
-pub returns-in-SameState-clause-instance : goal.returns-in-SameState-clause-instance
-returns-in-SameState-clause-instance g c = c.enter-in-SameState.ensures.instance (g.P.Inbox.owning c.args.inbox.now)
