@@ -1,0 +1,246 @@
+-- What holds of an instance: at its beginning, after a step, as something comes into its port, and as it is closed.
+use Rattle.std.proofs.Common.{◌≡◌, ◌∙◌, ◌==◌, if◌then◌else◌, zero, suc, sym, ap, subst, refl, ℕ, Bool, true, false, IsTrue, List, [], ◌∷◌, ◌++◌, append-nil, drop, map, None, Some, Result, Ok, Err, MatchResult}
+use Rattle.inbox.specs.Calls.{ComesBack, after_entry}
+use Rattle.inbox.specs.Ends.{AloneState, OwnerState, single}
+use Rattle.inbox.specs.declared.entry.Entry.TheVariants.{Timer}
+use Rattle.inbox.specs.declared.entry.Fuse.{Fuse}
+use Rattle.inbox.specs.declared.refused.Refused.{Refused}
+use Rattle.port_model.specs.Port.{PortState, expire_in, put_into}
+use Rattle.port_model.specs.declared.item.Item.{Item}
+use Rattle.port_model.specs.declared.value.Value.{Value}
+use Rattle.sdl_interp.specs.Instance.{IsAtRest, IsClosed, IsInstance, closing, instance_of, variables_from}
+use Rattle.sdl_interp.specs.Stimulus.{IsAnswered, IsStepped, Responds, StepsFrom}
+use Rattle.sdl_interp.specs.declared.stimulus.Led.{Led}
+use Rattle.sdl_report.specs.Event as event
+use Rattle.sdl_report.specs.Event.{Event}
+use Rattle.sdl_report.specs.Record.{RecordValue, noted}
+use Rattle.sdl_runs.proofs.Histories.{run_cut, run_goes, run_hears_expiry, run_hears_put, run_rests, run_unstarted, run_waits}
+use Rattle.sdl_runs.specs.Goes.{IsOneStep, MachineValue}
+use Rattle.sdl_runs.specs.Instance.{HasRun, first_variables, parameters_from}
+use Rattle.sdl_runs.specs.Place.{Definition}
+use Rattle.sdl_runs.specs.World.{WorldValue}
+use Rattle.sdl_steps.specs.Machine.{IsReady, identity_of, place_of, value_of}
+use Rattle.sdl_steps.specs.Work.{IsOf}
+use Rattle.sdl_steps.specs.declared.machine.Machine.{Machine}
+use Rattle.sdl_steps.specs.declared.machine.Position.{Position}
+use Rattle.sdl_steps.specs.declared.machine.Position.TheVariants as at
+use Rattle.sdl_system.specs.Behaviour.{Behaviour, Means, VariableMeaning, variable_meaning}
+use Rattle.sdl_system.specs.System.{SystemValue}
+use Rattle.sdl_system.specs.declared.id.StateId.{StateId}
+use Rattle.sdl_system.specs.declared.process.Process.{Process}
+use Rattle.sdl_system.specs.declared.process.Variable.{Variable}
+use Rattle.std.specs.Prelude.{OnOk, Option, is_err, slice_get}
+use Rattle.std.proofs.lemmas.Bool.{false≢true}
+use denote.Ref.{Bor}
+
+-- ---- the beginning
+
+initials : (xs : List Variable)
+    → map (λ (v : VariableMeaning). v.initial) (map variable_meaning xs) ≡ map (λ (v : Variable). v.initial) xs
+initials [] = refl
+initials (x ∷ xs) = ap (λ (rest : List (Option Value)). x.initial ∷ rest) (initials xs)
+
+-- the variables before the start, by the process, are those by what it means
+pub variables_mean : (process : Process) (p : Behaviour) → Means process p → (values : List Value)
+    → variables_from process values ≡ first_variables p values
+variables_mean process p means values =
+    ap (λ (list : List (Option Value)).
+    parameters_from process.parameters values ++ drop process.parameters list)
+    (sym (initials process.variables.items)
+    ∙ ap (λ (list : List VariableMeaning). map (λ (v : VariableMeaning). v.initial) list) means.variables_are)
+    ∙ ap (λ (n : ℕ).
+    parameters_from n values ++ drop n (map (λ (v : VariableMeaning). v.initial) p.variables)) means.parameters_are
+
+-- one formal parameter more
+pub parameters_more : (n : ℕ) (values : List Value)
+    → parameters_from (suc n) values ≡ parameters_from n values ++ slice_get values n ∷ []
+parameters_more zero [] = refl
+parameters_more zero (value ∷ values) = refl
+parameters_more (suc n) [] = ap (λ (list : List (Option Value)). None ∷ list) (parameters_more n [])
+parameters_more (suc n) (value ∷ values) =
+    ap (λ (list : List (Option Value)). Some value ∷ list) (parameters_more n values)
+
+-- the initial values of variables that are read behind references
+pub initials_read : (xs : List (Bor Variable))
+    → map (λ (x : Bor Variable). x.now.initial) xs
+    ≡ map (λ (v : Variable). v.initial) (map (λ (x : Bor Variable). x.now) xs)
+initials_read [] = refl
+initials_read (x ∷ xs) = ap (λ (rest : List (Option Value)). x.now.initial ∷ rest) (initials_read xs)
+
+-- what holds where all went well
+pub holds_ok : {T E P : Type 0} (r : Result T E) → is_err r ≡ false → OnOk r P → P
+holds_ok (Ok x) well holds = holds
+holds_ok (Err x) well holds = absurd (false≢true (sym well))
+
+-- ---- steps
+
+module _ (system : SystemValue) (process : Process) (from : Position) (m n : MachineValue) (w v : WorldValue) where
+  -- what was done before, and a step, are a run
+  run_stepped : (shared : Bool) (led : Led)
+      → ((d : Definition) → IsOf system process d → HasRun shared d m.who m.events (place_of from) m.store m.owner)
+      → StepsFrom system process from m w (Some led) n v → (d : Definition) → IsOf system process d
+      → HasRun shared d n.who n.events (place_of led.to) n.store n.owner
+  run_stepped shared led run steps d is =
+      run_goes d shared (IsOneStep led.counts) (place_of from) (place_of led.to) m n w v (run d is) (steps d is)
+
+-- and so are what was done before, and waiting
+run_idle : (system : SystemValue) (process : Process) (from : Position) (m n : MachineValue) (w v : WorldValue)
+    (shared : Bool)
+    → ((d : Definition) → IsOf system process d → HasRun shared d m.who m.events (place_of from) m.store m.owner)
+    → StepsFrom system process from m w None n v → (d : Definition) → IsOf system process d
+    → HasRun shared d n.who n.events (place_of from) n.store n.owner
+run_idle system process at.BeforeStart m n w v shared run steps d is = absurd (steps d is)
+run_idle system process (at.In state) m n w v shared run steps d is =
+    run_waits d shared state m n w v (run d is) (steps d is)
+run_idle system process at.Ended m n w v shared run steps d is = absurd (steps d is)
+
+-- an instance that waits, and one that made a step, is one
+module _ (shared : Bool) (system : SystemValue) (process : Process) (from : Position) (m n : Machine)
+    (o q : OwnerState) (w v : WorldValue) (is_instance : IsInstance shared system process from m o) where
+  pub idle_is : IsStepped process from None n q
+      → StepsFrom system process from (value_of m o) w None (value_of n q) v
+      → IsInstance shared system process from n q
+  idle_is is_stepped steps = record {
+    ready = is_stepped;
+    state = is_instance.state;
+    run = run_idle system process from (value_of m o) (value_of n q) w v shared is_instance.run steps;
+  }
+
+  pub stepped_is : (led : Led) → IsStepped process from (Some led) n q
+      → StepsFrom system process from (value_of m o) w (Some led) (value_of n q) v
+      → IsInstance shared system process led.to n q
+  stepped_is led is_stepped steps = record {
+    ready = is_stepped.ready;
+    state = is_stepped.inside;
+    run = run_stepped system process from (value_of m o) (value_of n q) w v shared led is_instance.run steps;
+  }
+
+-- ---- the end
+
+module _ (shared : Bool) (system : SystemValue) (process : Process) (m : Machine) (o : OwnerState) (whole : Bool)
+    (trace : RecordValue) where
+  -- the record closes an instance at this position
+  abbrev pub Closes : Position → Type 0
+  Closes position =
+      IsInstance shared system process position m o
+      → (IsTrue whole → IsAtRest (instance_of system process position m o))
+      → IsClosed shared whole (instance_of system process position m o) trace
+
+  pub closes_unstarted : trace ≡ noted m.trace (event.Cut None) → Closes at.BeforeStart
+  closes_unstarted is = λ is_instance rests. record {
+    process = ap (λ (t : RecordValue). t.process) is;
+    pid = ap (λ (t : RecordValue). t.pid) is;
+    parent = ap (λ (t : RecordValue). t.parent) is;
+    events = ap (λ (t : RecordValue). t.events) is;
+    run = λ d of. run_unstarted d shared (identity_of m.trace) m.trace.events trace.events m.store o
+        (is_instance.run d of) (ap (λ (t : RecordValue). t.events) is);
+  }
+
+  pub closes_resting : (n : StateId) → whole ≡ true → trace ≡ noted m.trace (event.Rest n) → Closes (at.In n)
+  closes_resting n is_whole is = λ is_instance rests. record {
+    process = ap (λ (t : RecordValue). t.process) is;
+    pid = ap (λ (t : RecordValue). t.pid) is;
+    parent = ap (λ (t : RecordValue). t.parent) is;
+    events = ap (λ (t : RecordValue). t.events) is
+        ∙ ap (λ (b : Bool). m.trace.events ++ closing b (at.In n)) (sym is_whole);
+    run = λ d of. let quiet = rests is_whole d of in
+        run_rests d shared (identity_of m.trace) m.trace.events trace.events n m.store o quiet.0 (is_instance.run d of)
+        quiet.1 (ap (λ (t : RecordValue). t.events) is);
+  }
+
+  pub closes_cut : (n : StateId) → whole ≡ false → trace ≡ noted m.trace (event.Cut (Some n)) → Closes (at.In n)
+  closes_cut n is_cut is = λ is_instance rests. record {
+    process = ap (λ (t : RecordValue). t.process) is;
+    pid = ap (λ (t : RecordValue). t.pid) is;
+    parent = ap (λ (t : RecordValue). t.parent) is;
+    events = ap (λ (t : RecordValue). t.events) is
+        ∙ ap (λ (b : Bool). m.trace.events ++ closing b (at.In n)) (sym is_cut);
+    run = λ d of. run_cut d shared (identity_of m.trace) m.trace.events trace.events n m.store o
+        (is_instance.run d of) (ap (λ (t : RecordValue). t.events) is);
+  }
+
+  pub closes_ended : trace ≡ m.trace → Closes at.Ended
+  closes_ended is = λ is_instance rests. record {
+    process = ap (λ (t : RecordValue). t.process) is;
+    pid = ap (λ (t : RecordValue). t.pid) is;
+    parent = ap (λ (t : RecordValue). t.parent) is;
+    events = ap (λ (t : RecordValue). t.events) is ∙ sym (append-nil m.trace.events);
+    run = λ d of. subst (λ (events : List Event).
+        HasRun shared d (identity_of m.trace) events (place_of at.Ended) m.store o)
+        (sym (ap (λ (t : RecordValue). t.events) is)) (is_instance.run d of);
+  }
+
+-- ---- a port for one thread
+
+ready_as : (position : Position) (m : Machine) (o p : OwnerState) → p.state.alive ≡ o.state.alive → p.pid ≡ o.pid
+    → IsReady position m o → IsReady position m p
+ready_as at.BeforeStart m o p alive pid ready =
+    (record { room = ready.0.room; alive = alive ∙ ready.0.alive; own = pid ∙ ready.0.own }, ready.1)
+ready_as (at.In state) m o p alive pid ready =
+    record { room = ready.room; alive = alive ∙ ready.alive; own = pid ∙ ready.own }
+ready_as at.Ended m o p alive pid ready = tt
+
+module _ (system : SystemValue) (process : Process) (position : Position) (m : Machine) where
+  abbrev Stands : AloneState → Type 0
+  Stands a = IsInstance false system process position m (single a.pid a.state a.armed)
+
+  -- the port has become this one
+  becomes : (old : AloneState) (port : PortState) → port.alive ≡ old.state.alive
+      → ((d : Definition) → IsOf system process d
+      → HasRun false d (identity_of m.trace) m.trace.events (place_of position) m.store
+      (single old.pid port old.armed))
+      → Stands old → Stands (record old { state = port })
+  becomes old port alive run is_instance = record {
+    ready = ready_as position m (single old.pid old.state old.armed) (single old.pid port old.armed) alive refl
+        is_instance.ready;
+    state = is_instance.state;
+    run = run;
+  }
+
+  pub stands_put : {T : Type 0} (r : Result T (Refused Item)) (old new : AloneState) (item : Item)
+      → MatchResult r (λ _. new ≡ record old { state = put_into old.state item })
+      (λ back. ComesBack back item × (new ≡ old)) → new.state.alive ≡ old.state.alive → Stands old → Stands new
+  stands_put (Ok done) old new item is alive is_instance =
+      subst Stands (sym is)
+      (becomes old (put_into old.state item)
+      (sym (ap (λ (a : AloneState). a.state.alive) is) ∙ alive)
+      (λ d of. run_hears_put d false (identity_of m.trace) m.trace.events (place_of position) m.store
+      (single old.pid old.state old.armed) item refl (is_instance.run d of))
+      is_instance)
+  stands_put (Err back) old new item is alive is_instance = subst Stands (sym is.1) is_instance
+
+  -- an entry of a fuse that is this port's, or of another
+  entered : (d : Definition) (old : AloneState) (fuse : Fuse) (time : ℕ) (own : Bool)
+      → HasRun false d (identity_of m.trace) m.trace.events (place_of position) m.store
+      (single old.pid old.state old.armed)
+      → HasRun false d (identity_of m.trace) m.trace.events (place_of position) m.store
+      (single old.pid (if own then expire_in old.state fuse.key fuse.arm fuse.due time else old.state) old.armed)
+  entered d old fuse time true run =
+      run_hears_expiry d false (identity_of m.trace) m.trace.events (place_of position) m.store
+      (single old.pid old.state old.armed) fuse.key fuse.arm fuse.due time refl run
+  entered d old fuse time false run = run
+
+  pub stands_expired : {T : Type 0} (r : Result T (Refused Fuse)) (old new : AloneState) (fuse : Fuse) (time : ℕ)
+      → MatchResult r (λ _. new ≡ record old { state = after_entry old.pid old.state time (Timer fuse) })
+      (λ _. new ≡ old) → new.state.alive ≡ old.state.alive → Stands old → Stands new
+  stands_expired (Ok done) old new fuse time is alive is_instance =
+      subst Stands (sym is)
+      (becomes old (after_entry old.pid old.state time (Timer fuse))
+      (sym (ap (λ (a : AloneState). a.state.alive) is) ∙ alive)
+      (λ d of. entered d old fuse time (fuse.pid == old.pid) (is_instance.run d of))
+      is_instance)
+  stands_expired (Err back) old new fuse time is alive is_instance = subst Stands (sym is) is_instance
+
+-- ---- positions
+
+-- what is answered in a state is a step from there
+pub answered_stepped : (process : Process) (n : StateId) (answer : Option Led) (m : Machine) (o : OwnerState)
+    → IsAnswered process answer m o → IsStepped process (at.In n) answer m o
+answered_stepped process n None m o answered = answered
+answered_stepped process n (Some led) m o answered = answered
+
+pub responds_steps : (system : SystemValue) (process : Process) (state : StateId) (m n : MachineValue)
+    (w v : WorldValue) (answer : Option Led) → Responds system process state m w answer n v
+    → StepsFrom system process (at.In state) m w answer n v
+responds_steps system process state m n w v None responds = responds
+responds_steps system process state m n w v (Some led) responds = responds

@@ -1,0 +1,9 @@
+mod Bodies
+mod ConditionLemmas
+mod First
+mod Instances
+mod Reacting
+mod ReceptionLemmas
+mod Recorded
+mod SelectionLemmas
+mod Stepping

@@ -1,0 +1,127 @@
+-- What the work of an instance is once the first event of a step is recorded, and who it stays.
+use Rattle.std.proofs.Common.{◌≡◌, ◌∙◌, ap, refl, ℕ}
+use Rattle.inbox.specs.Calls.{after_stop}
+use Rattle.inbox.specs.Ends.{OwnerState}
+use Rattle.port_model.specs.declared.got.Got.{Got}
+use Rattle.port_model.specs.declared.pid.Pid.{Pid}
+use Rattle.port_model.specs.declared.pid.Pid.TheVariants.{Of}
+use Rattle.sdl_evaluation.specs.declared.store.Store.{Store}
+use Rattle.sdl_interp.specs.Stimulus.{FailsThen}
+use Rattle.sdl_interp.specs.declared.stimulus.Led.{Led}
+use Rattle.sdl_report.specs.Event as event
+use Rattle.sdl_report.specs.Event.{Event}
+use Rattle.sdl_report.specs.Record.{RecordValue, noted, with_room}
+use Rattle.sdl_report.specs.declared.failure.Failure.{Failure}
+use Rattle.sdl_runs.specs.Goes.{MachineValue, with_event}
+use Rattle.sdl_runs.specs.Reception.{provided, sender_of, taking}
+use Rattle.sdl_runs.specs.World.{WorldValue}
+use Rattle.sdl_steps.specs.Machine.{IsSameInstance, identity_of, value_of}
+use Rattle.sdl_steps.specs.declared.machine.Machine.{Machine}
+
+-- ---- the work
+
+module _ (owner : OwnerState) (old x : Machine) (at : ℕ)
+    (read : x ≡ record old { store = record old.store { time = at } }) where
+  pub started_is : (trace : RecordValue) → trace ≡ noted x.trace (event.Start at)
+      → value_of (record { store = record x.store { done = 0 }; trace = trace }) owner
+      ≡ with_event (record (value_of old owner) { store = record old.store { time = at; done = 0 } }) (event.Start at)
+  started_is trace told =
+      ap (λ (t : RecordValue). value_of (record { store = record x.store { done = 0 }; trace = t }) owner) told
+      ∙ ap (λ (y : Machine).
+      value_of (record { store = record y.store { done = 0 }; trace = noted y.trace (event.Start at) }) owner) read
+
+  pub provided_is : (trace : RecordValue) (pid number : ℕ) → pid ≡ x.trace.pid
+      → trace ≡ noted x.trace (event.Provided at number)
+      → value_of (record { store = record x.store { sender = Of pid; done = 0 }; trace = trace }) owner
+      ≡ with_event (record (value_of old owner) { store = provided (identity_of old.trace) at old.store })
+      (event.Provided at number)
+  provided_is trace pid number own told =
+      ap (λ (t : RecordValue).
+      value_of (record { store = record x.store { sender = Of pid; done = 0 }; trace = t }) owner) told
+      ∙ ap (λ (one : ℕ). value_of (record {
+        store = record x.store { sender = Of one; done = 0 };
+        trace = noted x.trace (event.Provided at number);
+      }) owner) own
+      ∙ ap (λ (y : Machine). value_of (record {
+        store = record y.store { sender = Of y.trace.pid; done = 0 };
+        trace = noted y.trace (event.Provided at number);
+      }) owner) read
+
+  pub discarded_is : (trace : RecordValue) (got : Got) (sender : Pid) → sender ≡ sender_of (identity_of x.trace) got
+      → trace ≡ noted x.trace (event.Discarded at got)
+      → value_of (record { store = record x.store { sender = sender }; trace = trace }) owner
+      ≡ with_event (record (value_of old owner) { store = taking (identity_of old.trace) at got old.store })
+      (event.Discarded at got)
+  discarded_is trace got sender from told =
+      ap (λ (t : RecordValue). value_of (record { store = record x.store { sender = sender }; trace = t }) owner) told
+      ∙ ap (λ (one : Pid). value_of (record {
+        store = record x.store { sender = one };
+        trace = noted x.trace (event.Discarded at got);
+      }) owner) from
+      ∙ ap (λ (y : Machine). value_of (record {
+        store = record y.store { sender = sender_of (identity_of y.trace) got };
+        trace = noted y.trace (event.Discarded at got);
+      }) owner) read
+
+-- an event is recorded once a signal was received
+pub received_is : (owner : OwnerState) (old x : Machine) (trace : RecordValue) (s : Store) (happened : Event)
+    → x.store ≡ s → x.trace ≡ old.trace → trace ≡ noted x.trace happened
+    → value_of (record { store = x.store; trace = trace }) owner
+    ≡ with_event (record (value_of old owner) { store = s }) happened
+received_is owner old x trace s happened known same told =
+    ap (λ (t : RecordValue). value_of (record { store = x.store; trace = t }) owner) told
+    ∙ ap (λ (t : RecordValue). value_of (record { store = x.store; trace = noted t happened }) owner) same
+    ∙ ap (λ (y : Store). value_of (record { store = y; trace = noted old.trace happened }) owner) known
+
+-- room is made
+pub roomy_is : (owner : OwnerState) (old x : Machine) (events values : ℕ)
+    → x ≡ record old { trace = with_room old.trace events values } → value_of x owner ≡ value_of old owner
+roomy_is owner old x events values is = ap (λ (y : Machine). value_of y owner) is
+
+-- ---- who it stays
+
+pub same_equal : (m n : MachineValue) → n ≡ m → IsSameInstance m n
+same_equal m n is = record {
+  who = ap (λ (x : MachineValue). x.who) is;
+  port = ap (λ (x : MachineValue). x.owner.port) is;
+  pid = ap (λ (x : MachineValue). x.owner.pid) is;
+}
+
+pub same_on : (l m n : MachineValue) → IsSameInstance l m → IsSameInstance m n → IsSameInstance l n
+same_on l m n first then = record {
+  who = then.who ∙ first.who;
+  port = then.port ∙ first.port;
+  pid = then.pid ∙ first.pid;
+}
+
+pub same_recorded : (m n : MachineValue) (s : Store) (happened : Event)
+    → n ≡ with_event (record m { store = s }) happened → IsSameInstance m n
+same_recorded m n s happened is = record {
+  who = ap (λ (x : MachineValue). x.who) is;
+  port = ap (λ (x : MachineValue). x.owner.port) is;
+  pid = ap (λ (x : MachineValue). x.owner.pid) is;
+}
+
+pub same_failed : (w : WorldValue) (m n : MachineValue) (why : Failure) (led : Led) → FailsThen w m why led n
+    → IsSameInstance m n
+same_failed w m n why led then = record {
+  who = ap (λ (x : MachineValue). x.who) then.is;
+  port = ap (λ (x : MachineValue). x.owner.port) then.is;
+  pid = ap (λ (x : MachineValue). x.owner.pid) then.is;
+}
+
+pub same_stopped : (m n : MachineValue) (happened : Event)
+    → n ≡ with_event (record m { owner = after_stop m.owner }) happened → IsSameInstance m n
+same_stopped m n happened is = record {
+  who = ap (λ (x : MachineValue). x.who) is;
+  port = ap (λ (x : MachineValue). x.owner.port) is;
+  pid = ap (λ (x : MachineValue). x.owner.pid) is;
+}
+
+pub same_trace : (owner : OwnerState) (old x : Machine) → x.trace ≡ old.trace
+    → IsSameInstance (value_of old owner) (value_of x owner)
+same_trace owner old x is = record {
+  who = ap (λ (t : RecordValue). identity_of t) is;
+  port = refl;
+  pid = refl;
+}

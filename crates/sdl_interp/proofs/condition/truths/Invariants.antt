@@ -1,0 +1,15 @@
+use Rattle.std.proofs.Common.{◌≡◌, List, Ok, Some, map, take}
+use Rattle.sdl_evaluation.specs.Environment.{environment}
+use Rattle.sdl_evaluation.specs.Value.{truth_at}
+use Rattle.sdl_interp.specs.Condition.{are_conditions}
+use Rattle.sdl_steps.specs.Machine.{identity_of}
+use Rattle.sdl_system.specs.Term.{Term}
+use Rattle.sdl_interp.proofs.condition.truths.Given as goal
+
+abbrev pub invariant-loop-enabling : goal.invariant-loop-enabling
+invariant-loop-enabling g l =
+    (terms : List Term) → are_conditions l.process l.conditions ≡ map Some terms
+    → map (truth_at
+    (environment l.system (identity_of l.machine.trace) l.machine.store (g.P.Inbox.owning l.inbox).state))
+    (take l.enabling-index terms)
+    ≡ map Ok l.truths.items

@@ -1,0 +1,6 @@
+use Rattle.std.proofs.Common.{◌≡◌}
+use Rattle.sdl_runs.specs.Instance.{parameters_from}
+use Rattle.sdl_interp.proofs.instance.parameters_from.Given as goal
+
+abbrev pub invariant-loop-index : goal.invariant-loop-index
+invariant-loop-index l = l.list.items ≡ parameters_from l.index l.values

@@ -1,0 +1,54 @@
+use Rattle.std.proofs.Common.{◌≡◌, ◌∙◌, Bool, List, Ok, ap, length, map, refl, rules, subst, sym, tests}
+use Rattle.std.proofs.lemmas.Result.{err_from_is_err_and}
+use Rattle.port_model.specs.declared.selection.Class.{Class}
+use Rattle.sdl_interp.proofs.SelectionLemmas.{cannot_by_condition, cannot_for_memory, made_selects, none_listed, plain_selects}
+use Rattle.sdl_interp.specs.Condition.{are_conditions}
+use Rattle.sdl_report.specs.declared.failure.Failure.TheVariants.{Memory}
+use Rattle.sdl_runs.specs.Leads.{Selecting}
+use Rattle.sdl_steps.specs.Machine.{identity_of}
+use Rattle.sdl_system.specs.declared.signal.Signal.{Signal}
+use Rattle.sdl_interp.proofs.selection.select.Goals as goal
+
+pub returns-then-is_empty-clause-ok : goal.returns-then-is_empty-clause-ok
+returns-then-is_empty-clause-ok g c =
+    let machine = c.args.machine.now in
+    let none : length c.args.table.now.conditions.items ≡ 0 = search (rules, tests) in
+    plain_selects c.args.system.now c.args.process.now c.args.table.now (identity_of machine.trace) machine.store
+    (g.P.Inbox.owning c.args.inbox.now).state (none_listed c.args.table.now.conditions.items none)
+
+pub returns-in_err-truths-clause-err : goal.returns-in_err-truths-clause-err
+returns-in_err-truths-clause-err g c =
+    let q = err_from_is_err_and c.from_residual.result c.from_residual.ensures.1 in
+    let machine = c.args.machine.now in
+    rw (q.1, q.2) (cannot_by_condition c.args.system.now c.args.process.now c.args.table.now (identity_of machine.trace)
+    machine.store (g.P.Inbox.owning c.args.inbox.now).state _
+    (λ terms are. c.in_err-truths.ensures.err terms
+    (ap (are_conditions c.args.process.now) c.deref.ensures.value ∙ are)))
+
+pub returns-in_default-clause-err : goal.returns-in_default-clause-err
+returns-in_default-clause-err g c =
+    let machine = c.args.machine.now in
+    cannot_for_memory c.args.system.now c.args.process.now c.args.table.now (identity_of machine.trace) machine.store
+    (g.P.Inbox.owning c.args.inbox.now).state Memory refl
+
+pub returns-in_err-classes-clause-err : goal.returns-in_err-classes-clause-err
+returns-in_err-classes-clause-err g c =
+    let q = err_from_is_err_and c.from_residual-in_err-classes.result c.from_residual-in_err-classes.ensures.1 in
+    let machine = c.args.machine.now in
+    rw (q.1, q.2) (cannot_for_memory c.args.system.now c.args.process.now c.args.table.now (identity_of machine.trace)
+    machine.store (g.P.Inbox.owning c.args.inbox.now).state _ c.in_err-classes.ensures.err)
+
+pub returns-clause-ok : goal.returns-clause-ok
+returns-clause-ok g c = λ d is n at.
+    let machine = c.args.machine.now in
+    let q = (g.P.Inbox.owning c.args.inbox.now).state in
+    let who = identity_of machine.trace in
+    subst (λ (classes : List Class). Selecting d who q n machine.store classes) (sym c.new.ensures)
+    (made_selects c.args.system.now c.args.process.now c.args.table.now who machine.store q c.deref-2.result.now
+    c.in_ok-classes.classes.items c.in-Ok.count
+    (c.in-Ok.ensures.1 ∙ ap (λ (signals : List Signal). length signals) c.signals.ensures)
+    c.in_ok-classes.ensures.ok
+    (λ terms are.
+    c.in_ok-truths.ensures.ok terms (ap (are_conditions c.args.process.now) c.deref.ensures.value ∙ are)
+    ∙ ap (λ (truths : List Bool). map Ok truths) (sym c.deref-2.ensures.value))
+    d is n at)

@@ -1,0 +1,154 @@
+-- An instance of a process, as its callers see it (Z.101: agent).
+use Rattle.std.specs.Prelude.{◌≡◌, ◌≢◌, ◌⊎◌, Bool, true, false, List, [], ◌∷◌, ◌++◌, None, Some, drop, map}
+use Rattle.inbox.specs.Ends.{OwnerState}
+use Rattle.port_model.specs.declared.selection.Class.{Class}
+use Rattle.port_model.specs.declared.value.Value.{Value}
+use Rattle.sdl_evaluation.specs.Environment.{initial_store}
+use Rattle.sdl_evaluation.specs.Variables.{VariableList}
+use Rattle.sdl_evaluation.specs.declared.identity.Identity.{Identity}
+use Rattle.sdl_evaluation.specs.declared.store.Store.{Store}
+use Rattle.sdl_report.specs.Event.{Event}
+use Rattle.sdl_report.specs.Event as event
+use Rattle.sdl_report.specs.Record.{RecordValue}
+use Rattle.sdl_runs.specs.Goes.{Goes, IsOneStep, MachineValue}
+use Rattle.sdl_runs.specs.Instance.{HasRun, parameters_from}
+use Rattle.sdl_runs.specs.Leads.{IsQuiet}
+use Rattle.sdl_runs.specs.Place.{Closed, Definition, Place}
+use Rattle.sdl_runs.specs.Place as place
+use Rattle.sdl_runs.specs.World.{WorldValue}
+use Rattle.sdl_interp.specs.Stimulus.{WaitsAt}
+use Rattle.sdl_interp.specs.declared.instance.Stepped.{Stepped}
+use Rattle.sdl_interp.specs.declared.instance.Stepped.TheVariants as stepped
+use Rattle.sdl_steps.specs.Machine.{IsPositionIn, IsReady, identity_of, place_of}
+use Rattle.sdl_steps.specs.Work.{IsOf}
+use Rattle.sdl_steps.specs.declared.machine.Machine.{Machine}
+use Rattle.sdl_steps.specs.declared.machine.Position.{Position}
+use Rattle.sdl_steps.specs.declared.machine.Position.TheVariants as at
+use Rattle.sdl_system.specs.System.{SystemValue}
+use Rattle.sdl_system.specs.declared.process.Process.{Process}
+use Rattle.sdl_system.specs.declared.process.Variable.{Variable}
+
+-- The system and the process, who the instance is, where it is between two steps, what it knows, its port, and what it
+-- did so far.
+pub record InstanceValue : Type 0 where
+  pub system : SystemValue
+  pub process : Process
+  pub who : Identity
+  pub position : Position
+  pub store : Store
+  pub owner : OwnerState
+  pub events : List Event
+
+-- the same, as the work of a step sees it
+abbrev pub work_of : InstanceValue → MachineValue
+work_of i = record { who = i.who; store = i.store; owner = i.owner; events = i.events }
+
+-- what is run is the process of this instance
+abbrev pub IsRunAs : InstanceValue → Definition → Type 0
+IsRunAs i d = IsOf i.system i.process d
+
+-- all that it did is a run of its process
+abbrev pub HasRunOf : Bool → InstanceValue → Type 0
+HasRunOf shared i =
+    (d : Definition) → IsRunAs i d → HasRun shared d i.who i.events (place_of i.position) i.store i.owner
+
+-- what the fields of an instance mean
+abbrev pub instance_of : SystemValue → Process → Position → Machine → OwnerState → InstanceValue
+instance_of system process position m owner = record {
+  system = system;
+  process = process;
+  who = identity_of m.trace;
+  position = position;
+  store = m.store;
+  owner = owner;
+  events = m.trace.events;
+}
+
+-- There is room for what may come, the state is one of the process, and all that was done is a run of it.
+pub record IsInstance (shared : Bool) (system : SystemValue) (process : Process) (position : Position) (m : Machine)
+    (owner : OwnerState) : Type 0 where
+  pub ready : IsReady position m owner
+  pub state : IsPositionIn process position
+  pub run : HasRunOf shared (instance_of system process position m owner)
+
+-- the variables before the start, by the process: parameters have the values that there are
+abbrev pub variables_from : Process → List Value → VariableList
+variables_from process values =
+    parameters_from process.parameters values
+    ++ drop process.parameters (map (λ (v : Variable). v.initial) process.variables.items)
+
+-- an instance before its start
+abbrev pub created : SystemValue → Process → Identity → List Value → OwnerState → InstanceValue
+created system process who values owner = record {
+  system = system;
+  process = process;
+  who = who;
+  position = at.BeforeStart;
+  store = initial_store (variables_from process values);
+  owner = owner;
+  events = [];
+}
+
+-- ---- steps
+
+-- who an instance is, and what it is of, never changes
+pub record Keeps (old new : InstanceValue) : Type 0 where
+  pub system : new.system ≡ old.system
+  pub process : new.process ≡ old.process
+  pub who : new.who ≡ old.who
+  pub port : new.owner.port ≡ old.owner.port
+  pub pid : new.owner.pid ≡ old.owner.pid
+
+-- one whole transition, one discard, or what fails the instance in a state; and whether a transition begins with it
+abbrev pub Moves : Bool → InstanceValue → WorldValue → InstanceValue → WorldValue → Type 0
+Moves counts old w new v =
+    (d : Definition) → IsRunAs old d
+    → Goes (IsOneStep counts) d (place_of old.position) (work_of old) w (place_of new.position) (work_of new) v
+
+abbrev pub IsIdle : InstanceValue → WorldValue → InstanceValue → WorldValue → Type 0
+IsIdle old w new v =
+    (new.position ≡ old.position)
+    × ((d : Definition) → IsRunAs old d → WaitsAt d old.position (work_of old) w (work_of new) v)
+
+-- the step that ends an instance, and every later one, in which nothing happens
+abbrev pub EndsBy : Bool → InstanceValue → WorldValue → InstanceValue → WorldValue → Type 0
+EndsBy counts old w new v =
+    ((old.position ≡ at.Ended) × (new ≡ old) × (v ≡ w) × (counts ≡ false))
+    ⊎ ((old.position ≢ at.Ended) × (new.position ≡ at.Ended) × Moves counts old w new v)
+
+-- The instance makes a transition and lives on; or it waits; or it has ended.
+abbrev pub Steps : Stepped → InstanceValue → WorldValue → InstanceValue → WorldValue → Type 0
+Steps stepped.Moved old w new v = Moves true old w new v × (new.position ≢ at.Ended)
+Steps stepped.Idle old w new v = IsIdle old w new v
+Steps (stepped.Ended counts) old w new v = EndsBy counts old w new v
+
+-- ---- the end
+
+-- The instance waits where nothing can be taken and no continuous signal is true, or has ended.
+abbrev pub IsQuietAt : Definition → Position → InstanceValue → Type 0
+IsQuietAt d at.BeforeStart i = ⊥
+IsQuietAt d (at.In n) i = (classes : List Class) × IsQuiet d i.who i.owner.state n i.store classes
+IsQuietAt d at.Ended i = Unit {0}
+
+abbrev pub IsAtRest : InstanceValue → Type 0
+IsAtRest i = (d : Definition) → IsRunAs i d → IsQuietAt d i.position i
+
+-- the event that closes the record of an instance that has not ended, and the place behind it
+abbrev pub closing : Bool → Position → List Event
+closing whole at.BeforeStart = event.Cut None ∷ []
+closing true (at.In n) = event.Rest n ∷ []
+closing false (at.In n) = event.Cut (Some n) ∷ []
+closing whole at.Ended = []
+
+abbrev pub closed : Position → Place
+closed at.BeforeStart = Closed
+closed (at.In n) = Closed
+closed at.Ended = place.Ended
+
+-- the record is that of the instance, closed, and all that it did is a run of its process
+pub record IsClosed (shared whole : Bool) (i : InstanceValue) (trace : RecordValue) : Type 0 where
+  pub process : trace.process ≡ i.who.process
+  pub pid : trace.pid ≡ i.who.pid
+  pub parent : trace.parent ≡ i.who.parent
+  pub events : trace.events ≡ i.events ++ closing whole i.position
+  pub run : (d : Definition) → IsRunAs i d → HasRun shared d i.who trace.events (closed i.position) i.store i.owner

@@ -1,0 +1,4 @@
+pub mod Condition
+pub mod Instance
+pub mod Selected
+pub mod Stimulus

@@ -1,0 +1,79 @@
+-- What a state selects and tries, by the table of the state.
+use Rattle.std.specs.Prelude.{◌≡◌, ◌<◌, ◌≤◌, ℕ, Bool, false, List, [], ◌∷◌, Option, None, Some, length, slice_get}
+use Rattle.port_model.specs.Class.{ClassList}
+use Rattle.port_model.specs.History.{Stop}
+use Rattle.port_model.specs.Port.{PortState}
+use Rattle.port_model.specs.Selection as selection
+use Rattle.port_model.specs.declared.item.SignalId.{SignalId}
+use Rattle.port_model.specs.declared.selection.Class.{Class}
+use Rattle.port_model.specs.declared.selection.Class.TheVariants as class
+use Rattle.sdl_evaluation.specs.Environment.{environment}
+use Rattle.sdl_evaluation.specs.declared.identity.Identity.{Identity}
+use Rattle.sdl_evaluation.specs.declared.store.Store.{Store}
+use Rattle.sdl_report.specs.declared.failure.Failure.{Failure}
+use Rattle.sdl_runs.specs.Fails.{FailsIn}
+use Rattle.sdl_runs.specs.Leads.{Selecting}
+use Rattle.sdl_runs.specs.Place.{Definition}
+use Rattle.sdl_runs.specs.Selection.{Tried, begins, none_true}
+use Rattle.sdl_steps.specs.Work.{IsOf}
+use Rattle.sdl_system.specs.Behaviour.{StateMeaning}
+use Rattle.sdl_system.specs.Process.{table_of}
+use Rattle.sdl_system.specs.Soundness.{IsEnabled}
+use Rattle.sdl_system.specs.System.{SystemValue}
+use Rattle.sdl_system.specs.declared.id.NodeId.{NodeId}
+use Rattle.sdl_system.specs.declared.id.StateId.{StateId}
+use Rattle.sdl_system.specs.declared.process.Process.{Process}
+use Rattle.sdl_system.specs.declared.state.Continuous.{Continuous}
+use Rattle.sdl_system.specs.declared.state.Enabling.{Enabling}
+use Rattle.sdl_system.specs.declared.state.StateTable.{StateTable}
+
+-- the continuous signal that was found is the one that begins
+abbrev pub IsTried : List NodeId → Option Continuous → Tried → Type 0
+IsTried entries None none_true = Unit {0}
+IsTried entries (Some signal) (begins number body) =
+    (signal.number ≡ number) × (slice_get entries body ≡ Some signal.begin)
+IsTried entries found answer = ⊥
+
+-- the classes that are made for the state, or those of its table where no condition stands in it
+abbrev pub classes_of : Option ClassList → StateTable → List Class
+classes_of (Some own) table = own
+classes_of None table = table.selection
+
+-- these are the classes of each state that has the table
+abbrev pub SelectsBy : SystemValue → Process → StateTable → Identity → Store → PortState → List Class → Type 0
+SelectsBy system process table who s q classes =
+    (d : Definition) → IsOf system process d → (n : StateId) → table_of process n ≡ Some table
+    → Selecting d who q n s classes
+
+-- a state that has the table can't select
+pub record CannotSelect (d : Definition) (who : Identity) (q : PortState) (n : StateId) (s : Store)
+    (why : Failure) : Type 0 where
+  pub state : StateMeaning
+  pub is : slice_get d.behaviour.states n.0 ≡ Some state
+  pub fails : FailsIn d.behaviour state (environment d.system who s q) (Stop ∷ []) why
+
+abbrev pub SelectsNone : SystemValue → Process → StateTable → Identity → Store → PortState → Failure → Type 0
+SelectsNone system process table who s q why =
+    (d : Definition) → IsOf system process d → (n : StateId) → table_of process n ≡ Some table
+    → CannotSelect d who q n s why
+
+-- one of the conditions that are false so far stands with the signal
+pub record IsShut (process : Process) (table : StateTable) (conditions : List Enabling) (truths : List Bool) (count : ℕ)
+    (signal : SignalId) : Type 0 where
+  pub place : ℕ
+  pub within : place < count
+  pub enabling : Enabling
+  pub listed : slice_get conditions place ≡ Some enabling
+  pub is_false : slice_get truths place ≡ Some false
+  pub enables : IsEnabled process table enabling.signals signal
+
+-- The classes of so many signals: those that the table has, but for the signals with which a false condition stands.
+pub record AreShut (process : Process) (table : StateTable) (truths : List Bool) (count : ℕ)
+    (classes : List Class) : Type 0 where
+  pub shut : (signal : SignalId) → signal.0 < count
+      → IsShut process table table.conditions.items truths (length truths) signal
+      → selection.class_of classes signal ≡ class.Saved
+  pub kept : (signal : SignalId) → signal.0 < count
+      → (IsShut process table table.conditions.items truths (length truths) signal → ⊥)
+      → selection.class_of classes signal ≡ selection.class_of table.selection signal
+  pub past : (signal : SignalId) → count ≤ signal.0 → selection.class_of classes signal ≡ class.Discard
