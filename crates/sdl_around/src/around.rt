@@ -1,0 +1,108 @@
+//! What lies around an instance that makes a step.
+
+ghost use Rattle.std.specs.Prelude.{◌≡◌, []};
+ghost use Rattle.sdl_around.specs.Around.{census_now};
+
+use crate::act::Act;
+use crate::census::Census;
+use inbox::Fuse;
+use port_model::{Item, SignalId, Values};
+use sdl_runs::World;
+use sdl_system::{Dest, ProcessId, Source, System, Target};
+use std::alloc::{AllocError, Global};
+
+/// The clock, who lives, and what the instance has done so far. Who lived as the step began is copied at the first
+/// create.
+#[derive(Drop)]
+pub struct Around<'a> {
+    pub system: &'a System,
+    pub clock: u64,
+    pub begun: &'a Census,
+    pub changed: Option<Census>,
+    pub acts: Vec<Act>,
+}
+
+impl<'a> Around<'a> {
+    /// Nothing is done so far.
+    pub fn new(alloc: Global, system: &'a System, clock: u64, census: &'a Census) -> Self
+        ensures system { result.system.now ≡ system.now }
+        ensures clock { result.clock ≡ clock }
+        ensures begun { result.begun.now ≡ census.now }
+        ensures changed { result.changed ≡ None }
+        ensures acts { result.acts.items ≡ [] }
+    {
+        Around {
+            system,
+            clock,
+            begun: census,
+            changed: None,
+            acts: Vec::new(alloc),
+        }
+    }
+
+    // Who lives now.
+    fn census(&self) -> &Census
+        ensures { result.now ≡ census_now self.now.changed self.now.begun.now }
+    {
+        self.changed.as_ref().unwrap_or(self.begun)
+    }
+}
+
+impl<'a> World for Around<'a> {
+    ghost use Rattle.std.specs.Prelude.{nat_lt, vec_capacity, vec_len};
+    ghost use Rattle.sdl_around.specs.Around.{world_of};
+
+    ghost value = { world_of };
+
+    ghost prepared = { λ w. nat_lt (vec_len w.acts) (vec_capacity w.acts) };
+
+    fn now(&mut self) -> u64 {
+        self.clock
+    }
+
+    fn route(&mut self, signal: SignalId, from: ProcessId, to: Dest) -> Target {
+        let living = self.census().least();
+        self.system.route(signal, Source::Process(from), to, living)
+    }
+
+    fn send(&mut self, target: Target, item: Item) -> Result<(), AllocError> {
+        self.acts.push(Act::Send { target, item })?;
+        Ok(())
+    }
+
+    fn prepare(&mut self) -> Result<(), AllocError> {
+        self.acts.reserve(1)
+    }
+
+    fn arm(&mut self, fuse: Fuse) {
+        self.acts.push_reserved(Act::Arm(fuse));
+    }
+
+    fn create(
+        &mut self,
+        process: ProcessId,
+        parent: u32,
+        values: Values,
+    ) -> Result<Option<u32>, AllocError> {
+        let Some(number) = self.census().number_for(self.system, process) else {
+            return Ok(None);
+        };
+        let mut changed = match self.changed.take() {
+            Some(changed) => changed,
+            None => self.begun.copied()?,
+        };
+        let made = Act::Create {
+            process,
+            number,
+            parent,
+            values,
+        };
+        if self.acts.push(made).is_err() {
+            self.changed = Some(changed);
+            return Err(AllocError);
+        }
+        changed.add(process);
+        self.changed = Some(changed);
+        Ok(Some(number))
+    }
+}
