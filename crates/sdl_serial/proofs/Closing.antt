@@ -1,0 +1,86 @@
+-- What a run comes to is a serial report.
+use Rattle.std.proofs.Common.{◌≡◌, ◌⊎◌, ◌∙◌, ◌+◌, ◌<◌, Bool, true, false, IsTrue, ℕ, List, [], ◌∷◌, ◌++◌, All, refl, inl, inr, sym, ap, subst, arith}
+use Rattle.std.specs.List.{AllZip}
+use Rattle.std.proofs.lemmas.List.Elements.{All-head, All-tail}
+use Rattle.sdl_courses.specs.Course.{AreBehaviours, Course, EndsInTransition, Happening, IsNoFuseBefore, transitions_of}
+use Rattle.sdl_courses.specs.Global.{beginning}
+use Rattle.sdl_courses.specs.Report.{Closes, Ends, IsSerialReport}
+use Rattle.sdl_interp.specs.Instance.{InstanceValue, IsAtRest, IsClosed}
+use Rattle.sdl_report.specs.Record.{RecordValue}
+use Rattle.sdl_report.specs.declared.record.Report.{Report}
+use Rattle.sdl_script.specs.Script.{end_of}
+use Rattle.sdl_script.specs.declared.script.ScriptLine.{ScriptLine}
+use Rattle.sdl_serial.proofs.Meanings.{all_rest, meaning}
+use Rattle.sdl_serial.specs.Serial.{IsOfSystem, IsSerial, Reaches, state_of}
+use Rattle.sdl_serial.specs.declared.serial.Serial.{Serial}
+use Rattle.sdl_system.specs.Behaviour.{Behaviour}
+use Rattle.sdl_system.specs.System.{SystemValue}
+
+-- one more of each
+pub zip_more : {A B : Type 0} (R : A → B → Type 0) (xs : List A) (ys : List B) (x : A) (y : B) → AllZip R xs ys → R x y
+    → AllZip R (xs ++ x ∷ []) (ys ++ y ∷ [])
+zip_more R [] [] x y all last = (last, tt)
+zip_more R [] (other ∷ ys) x y all last = absurd all
+zip_more R (first ∷ xs) [] x y all last = absurd all
+zip_more R (first ∷ xs) (other ∷ ys) x y all last = (all.0, zip_more R xs ys x y all.1 last)
+
+-- the records of instances of the system
+closes_all : (ps : List Behaviour) (system : SystemValue) (whole : Bool) (instances : List InstanceValue)
+    (records : List RecordValue) → AreBehaviours system ps → All (IsOfSystem system) instances
+    → AllZip (IsClosed false whole) instances records → AllZip (Closes ps whole) instances records
+closes_all ps system whole [] [] behaviours members closed = closed
+closes_all ps system whole [] (trace ∷ more) behaviours members closed = absurd closed
+closes_all ps system whole (i ∷ rest) [] behaviours members closed = absurd closed
+closes_all ps system whole (i ∷ rest) (trace ∷ more) behaviours members closed =
+    let known = meaning ps system i behaviours (All-head (IsOfSystem system) i rest members) in (
+      record { p = known.p; meant = known.meant; closed = closed.0 },
+      closes_all ps system whole rest more behaviours (All-tail (IsOfSystem system) i rest members) closed.1,
+    )
+
+-- what a whole run ensures
+abbrev pub IsWhole : ℕ → Serial → Type 0
+IsWhole last t =
+    All IsAtRest t.instances.items × (t.script.now ≡ []) × IsNoFuseBefore (last + 1) t.fuses × (0 < t.left)
+
+ends_by : (ps : List Behaviour) (lines : List ScriptLine) (limit : ℕ) (t : Serial) (happenings : List Happening)
+    (end : ℕ) (whole : Bool) → AreBehaviours t.system.now ps → IsSerial t
+    → t.left + transitions_of happenings ≡ limit → (t.left ≡ 0 → EndsInTransition happenings)
+    → (IsTrue whole → IsWhole (end_of lines) t) → IsTrue whole ⊎ (t.left ≡ 0)
+    → ((whole ≡ true) × (end ≡ end_of lines)) ⊎ ((whole ≡ false) × (end ≡ t.clock))
+    → Ends whole ps lines limit happenings (state_of t) end
+ends_by ps lines limit t happenings end true behaviours serial counted reached rests cut is_end =
+    let h = rests refl in
+    record {
+      fewer = omega (arith, counted, h.3);
+      rest = all_rest ps t behaviours serial h.0;
+      heard = h.1;
+      no_fuse = h.2;
+      is_end = elim is_end [ inl w ↦ w.1 | inr w ↦ let wrong : ⊥ = cc (w.0) in absurd wrong ];
+    }
+ends_by ps lines limit t happenings end false behaviours serial counted reached rests cut is_end =
+    let spent : t.left ≡ 0 = elim cut [ inl w ↦ let wrong : ⊥ = cc in absurd wrong | inr w ↦ w ] in
+    record {
+      as_many = omega (arith, counted, spent);
+      in_transition = reached spent;
+      is_end = elim is_end [ inl w ↦ let wrong : ⊥ = cc (w.0) in absurd wrong | inr w ↦ w.1 ];
+    }
+
+pub report : (ps : List Behaviour) (system : SystemValue) (lines : List ScriptLine) (limit : ℕ) (s t : Serial)
+    (told : Report) → AreBehaviours system ps → state_of s ≡ beginning system lines → s.left ≡ limit
+    → Reaches (end_of lines) s t → IsSerial t → (IsTrue told.whole → IsWhole (end_of lines) t)
+    → IsTrue told.whole ⊎ (t.left ≡ 0)
+    → AllZip (IsClosed false told.whole) t.instances.items told.records.items
+    → ((told.whole ≡ true) × (told.end ≡ end_of lines)) ⊎ ((told.whole ≡ false) × (told.end ≡ t.clock))
+    → IsSerialReport ps system lines limit told
+report ps system lines limit s t told behaviours state left reaches serial rests cut records is_end =
+    let first = subst (λ all. AreBehaviours all ps) (sym (ap (λ g. g.system) state)) behaviours in
+    let run = reaches ps first in
+    let last = subst (λ all. AreBehaviours all ps) (sym (ap (λ r. r.now) run.system)) first in
+    record {
+      happenings = run.happenings;
+      last = state_of t;
+      course = subst (λ g. Course ps (end_of lines) g run.happenings (state_of t)) state run.course;
+      records = closes_all ps t.system.now told.whole t.instances.items told.records.items last serial.members records;
+      ends = ends_by ps lines limit t run.happenings told.end told.whole last serial (run.counted ∙ left)
+          run.in_transition rests cut is_end;
+    }

@@ -1,0 +1,13 @@
+pub mod Arming
+pub mod Awakes
+pub mod Beginning
+pub mod Changes
+pub mod Closing
+pub mod CourseLaws
+pub mod Entering
+pub mod Living
+pub mod Meanings
+pub mod Performing
+pub mod Refusals
+pub mod Stepping
+pub mod Timing

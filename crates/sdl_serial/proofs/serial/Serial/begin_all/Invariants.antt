@@ -1,0 +1,14 @@
+use Rattle.std.proofs.Common.{◌≡◌, ◌+◌, ◌++◌}
+use Rattle.sdl_courses.specs.Global.{first_of}
+use Rattle.sdl_serial.specs.Serial.{IsSerial, KeepsCourse}
+use Rattle.sdl_serial.proofs.serial.Serial.begin_all.Given as goal
+
+abbrev pub invariant-loop : goal.invariant-loop
+invariant-loop l = record {
+  serial : IsSerial l.self;
+  same : KeepsCourse l.fn.self l.self;
+  fuses : l.self.fuses ≡ l.fn.self.fuses;
+  given : l.self.census.given ≡ l.fn.self.census.given + l.counter;
+  instances : l.self.instances.items ≡ l.fn.self.instances.items
+      ++ first_of l.fn.self.system.now (l.fn.self.census.given + 1) l.id l.process l.counter;
+}

@@ -1,0 +1,177 @@
+//! What is done to instances: acts, expiries, and instances that are made.
+
+ghost use Rattle.std.specs.Prelude.{◌≡◌, ◌⊎◌, ◌+◌, ◌++◌, ◌<◌, ◌≤◌, ◌∷◌, [], ℕ, IfNone, IfSome, OnOk, Some, map};
+ghost use Rattle.std.specs.Prelude.{slice_get, vec_len};
+ghost use Rattle.sdl_around.specs.Around.{AreNumbered, act_of};
+ghost use Rattle.sdl_courses.specs.Course.{IsNoFuseBefore};
+ghost use Rattle.sdl_courses.specs.Global.{after_act, after_acts, armed, expired, instance_of, sent_to};
+ghost use Rattle.sdl_courses.specs.Told.{given_after_one};
+ghost use Rattle.sdl_serial.specs.Serial.{IsSerial, KeepsCourse, state_of};
+
+use crate::error::RunError;
+use crate::serial::Serial;
+use inbox::{Alone, Fuse};
+use port_model::{Item, Pid, Values};
+use sdl_around::Act;
+use sdl_evaluation::Identity;
+use sdl_interp::Instance;
+use sdl_system::{Process, ProcessId, Target};
+use std::alloc::Global;
+
+impl<'s> Serial<'s> {
+    /// Does what a step does outside, in its order.
+    pub fn perform_all(&mut self, alloc: Global, acts: Vec<Act>) -> Result<(), RunError>
+        requires { IsSerial self.old }
+        ensures kept { OnOk result (IsSerial self.new) }
+        ensures same { KeepsCourse self.old self.new }
+        ensures state { OnOk result (AreNumbered self.old.census.given (map act_of acts.items)
+            → state_of self.new ≡ after_acts (state_of self.old) (map act_of acts.items)) }
+        ensures fuses { (until : ℕ) → until ≤ self.old.clock + 1 → IsNoFuseBefore until self.old.fuses
+            → OnOk result (IsNoFuseBefore until self.new.fuses) }
+    {
+        for act in acts {
+            self.perform(alloc, act)?;
+        }
+        Ok(())
+    }
+
+    // An act. An instance is made only of a process of the system.
+    fn perform(&mut self, alloc: Global, act: Act) -> Result<(), RunError>
+        requires { IsSerial self.old }
+        ensures kept { OnOk result (IsSerial self.new) }
+        ensures same { KeepsCourse self.old self.new }
+        ensures given { OnOk result (self.new.census.given ≡ given_after_one self.old.census.given (act_of act)) }
+        ensures state { OnOk result (AreNumbered self.old.census.given (act_of act ∷ [])
+            → state_of self.new ≡ after_act (state_of self.old) (act_of act)) }
+        ensures fuses { (until : ℕ) → until ≤ self.old.clock + 1 → IsNoFuseBefore until self.old.fuses
+            → OnOk result (IsNoFuseBefore until self.new.fuses) }
+    {
+        match act {
+            Act::Send { target, item } => self.send(target, item),
+            Act::Arm(fuse) => self.arm(fuse),
+            Act::Create {
+                process,
+                number: _,
+                parent,
+                values,
+            } => match self.system.process(process) {
+                Some(definition) => {
+                    self.enter(alloc, process, definition, Pid::Of(parent), &values)
+                }
+                None => Err(RunError::Memory),
+            },
+        }
+    }
+
+    /// An instance of the process more, with the next number.
+    pub fn enter(
+        &mut self,
+        alloc: Global,
+        id: ProcessId,
+        process: &'s Process,
+        parent: Pid,
+        values: &Values,
+    ) -> Result<(), RunError>
+        requires serial { IsSerial self.old }
+        requires process { slice_get self.old.system.now.processes id.0 ≡ Some process.now }
+        ensures kept { OnOk result (IsSerial self.new) }
+        ensures same { KeepsCourse self.old self.new }
+        ensures given { OnOk result (self.new.census.given ≡ self.old.census.given + 1) }
+        ensures instances { OnOk result (self.new.instances.items ≡ self.old.instances.items
+            ++ instance_of self.old.system.now process.now
+            (record { process = id; pid = self.old.census.given + 1; parent = parent }) values.now ∷ []) }
+        ensures fuses { self.new.fuses ≡ self.old.fuses }
+    {
+        let Some(pid) = self.census.given().checked_add(1) else {
+            return Err(RunError::Memory);
+        };
+        let who = Identity {
+            process: id,
+            pid,
+            parent,
+        };
+        let inbox = Alone::new(alloc, pid);
+        let Ok(instance) = Instance::new(alloc, self.system, process, who, values, inbox) else {
+            return Err(RunError::Memory);
+        };
+        self.instances.push(instance)?;
+        self.awake.wake(pid)?;
+        self.census.add(id);
+        Ok(())
+    }
+
+    /// Puts a signal into the port of its target. What goes to the environment, to null, to nobody or to a number that
+    /// nobody has is gone.
+    pub fn send(&mut self, target: Target, item: Item) -> Result<(), RunError>
+        requires { IsSerial self.old }
+        ensures kept { OnOk result (IsSerial self.new) }
+        ensures same { KeepsCourse self.old self.new }
+        ensures census { self.new.census ≡ self.old.census }
+        ensures state { OnOk result (state_of self.new ≡ sent_to (state_of self.old) target item) }
+        ensures fuses { self.new.fuses ≡ self.old.fuses }
+    {
+        let Target::Instance(number) = target else {
+            return Ok(());
+        };
+        let Some(place) = self.place_of(number) else {
+            return Ok(());
+        };
+        if self.instances[place].put(item).is_err() {
+            return Err(RunError::Memory);
+        }
+        self.awake.wake(number)?;
+        Ok(())
+    }
+
+    // A fuse whose time has come expires at once, another waits.
+    fn arm(&mut self, fuse: Fuse) -> Result<(), RunError>
+        requires { IsSerial self.old }
+        ensures kept { OnOk result (IsSerial self.new) }
+        ensures same { KeepsCourse self.old self.new }
+        ensures census { self.new.census ≡ self.old.census }
+        ensures state { OnOk result (state_of self.new ≡ armed (state_of self.old) fuse) }
+        ensures fuses { (until : ℕ) → until ≤ self.old.clock + 1 → IsNoFuseBefore until self.old.fuses
+            → OnOk result (IsNoFuseBefore until self.new.fuses) }
+    {
+        if fuse.due() <= self.clock {
+            return self.expire(fuse);
+        }
+        match self.fuses.arm(fuse) {
+            Ok(()) => Ok(()),
+            Err(_) => Err(RunError::Memory),
+        }
+    }
+
+    /// A fuse expires in the port of its instance.
+    pub fn expire(&mut self, fuse: Fuse) -> Result<(), RunError>
+        requires { IsSerial self.old }
+        ensures kept { OnOk result (IsSerial self.new) }
+        ensures same { KeepsCourse self.old self.new }
+        ensures census { self.new.census ≡ self.old.census }
+        ensures state { OnOk result (state_of self.new ≡ expired (state_of self.old) fuse) }
+        ensures fuses { self.new.fuses ≡ self.old.fuses }
+    {
+        let number = fuse.pid();
+        let Some(place) = self.place_of(number) else {
+            return Ok(());
+        };
+        if self.instances[place].expire(fuse, self.clock).is_err() {
+            return Err(RunError::Memory);
+        }
+        self.awake.wake(number)?;
+        Ok(())
+    }
+
+    /// The place of the instance of a number. No instance has the number 0.
+    pub fn place_of(&self, number: u32) -> Option<usize>
+        ensures some { IfSome result (λ place. (place + 1 ≡ number) × (place < vec_len self.now.instances)) }
+        ensures none { IfNone result ((number ≡ 0) ⊎ (vec_len self.now.instances < number)) }
+    {
+        let place = number.checked_sub(1)? as usize;
+        if place < self.instances.len() {
+            Some(place)
+        } else {
+            None
+        }
+    }
+}

@@ -1,0 +1,37 @@
+//! A serial run.
+
+ghost use Rattle.std.specs.Prelude.{◌≡◌, IfErr, IfOk, List};
+ghost use Rattle.sdl_courses.specs.Course.{AreBehaviours};
+ghost use Rattle.sdl_courses.specs.Report.{IsSerialReport};
+ghost use Rattle.sdl_system.specs.Behaviour.{Behaviour};
+
+use crate::error::RunError;
+use crate::serial::Serial;
+use sdl_report::Report;
+use sdl_script::Script;
+use sdl_system::System;
+use std::alloc::Global;
+
+/// Runs a system serially on a script, until all instances rest, the script is at its end and no timer is due by then,
+/// or until `limit` transitions are made. Refused for want of memory alone.
+pub fn run_serial(
+    alloc: Global,
+    system: &System,
+    script: &Script,
+    limit: u64,
+) -> Result<Report, RunError>
+    ensures serial { IfOk result (λ report. (ps : List Behaviour) → AreBehaviours system.now ps
+        → IsSerialReport ps system.now script.now.lines.items limit report) }
+    ensures err { IfErr result (λ why. why ≡ RunError.Memory) }
+{
+    let mut serial = Serial::begin(alloc, system, script.lines.as_slice(), limit)?;
+    let last = script.end();
+    let whole = serial.run(alloc, last)?;
+    let end = if whole { last } else { serial.clock };
+    let records = serial.close(alloc, whole)?;
+    Ok(Report {
+        records,
+        end,
+        whole,
+    })
+}
