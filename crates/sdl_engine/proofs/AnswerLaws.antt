@@ -1,9 +1,9 @@
 -- What the calls of a command give, put together into what is said of the input.
 use Rattle.std.proofs.Common.{◌≡◌, sym, subst, refl, inl, inr, ℕ, List, Option, Bool, true, false, Result, Ok, Err, IfOk, IfErr, OnOk}
 use Rattle.std.specs.Io.KnownBytes.{Appends}
-use Rattle.sdl_thin_report.specs.ReportText.{report_text}
-use Rattle.sdl_thin_report.specs.declared.record.Report.{Report}
-use Rattle.sdl_thin.specs.declared.system.System.{System}
+use Rattle.sdl_report.specs.ReportText.{report_text}
+use Rattle.sdl_report.specs.declared.record.Report.{Report}
+use Rattle.sdl_system.specs.System.{SystemValue}
 use Rattle.sdl_engine.specs.Answer.{Allows, BreaksOff, FailsToTell, Faulted, Fails, IsRunOfInput, PrintsInput, Refuses, Says, SaysCut, SaysWhole, Tells, Written, outcome_by, outcome_of}
 use Rattle.sdl_engine.specs.Input.{IsRead}
 use Rattle.sdl_engine.specs.RefusalText.{refusal_line}
@@ -20,81 +20,144 @@ use Rattle.sdl_engine.specs.declared.refusal.Refusal.{Refusal}
 use Rattle.sdl_engine.specs.declared.refusal.Refusal.TheVariants as refusal
 
 -- the report of a run is what is said of its input
-pub report_says : (input : Input) (options : Options) (system : System) (report : Report) (whole : Bool) → options.command ≡ command.Run → report.whole ≡ whole → IsRunOfInput input options.limit system report → Says input options (outcome_by whole) (report_text system report)
+pub report_says : (input : Input) (options : Options) (system : SystemValue) (report : Report) (whole : Bool) →
+    options.command ≡ command.Run → report.whole ≡ whole → IsRunOfInput input options.limit system report →
+    Says input options (outcome_by whole) (report_text system report)
 report_says (Bytes bytes) options system report true asked is run =
-    subst (λ c. SaysWhole c bytes.items options.limit (report_text system report)) (sym asked) (record { system = system; report = report; run = run; is_whole = is; says = refl })
+    subst (λ c. SaysWhole c bytes.items options.limit (report_text system report)) (sym asked) (record {
+      system = system;
+      report = report;
+      run = run;
+      is_whole = is;
+      says = refl;
+    })
 report_says (Bytes bytes) options system report false asked is run =
-    subst (λ c. SaysCut c bytes.items options.limit (report_text system report)) (sym asked) (record { system = system; report = report; run = run; is_whole = is; says = refl })
+    subst (λ c. SaysCut c bytes.items options.limit (report_text system report)) (sym asked) (record {
+      system = system;
+      report = report;
+      run = run;
+      is_whole = is;
+      says = refl;
+    })
 report_says TooLong options system report whole asked is run = absurd run
 
 -- so is the canonical text of its specification
-pub canonical_says : (input : Input) (options : Options) (text : List ℕ) → options.command ≡ command.Check → PrintsInput input text → Says input options outcome.Whole text
-canonical_says (Bytes bytes) options text asked prints = subst (λ c. SaysWhole c bytes.items options.limit text) (sym asked) prints
+pub canonical_says : (input : Input) (options : Options) (text : List ℕ) → options.command ≡ command.Check →
+    PrintsInput input text → Says input options outcome.Whole text
+canonical_says (Bytes bytes) options text asked prints = subst (λ c. SaysWhole c bytes.items options.limit text)
+    (sym asked) prints
 canonical_says TooLong options text asked prints = absurd prints
 
 -- and the line of a refusal
-refuses : (asked : Command) (input : Input) (refused : Refusal) → Allows asked input refused → Refuses asked input (outcome_of refused) (refusal_line refused)
+refuses : (asked : Command) (input : Input) (refused : Refusal) → Allows asked input refused →
+    Refuses asked input (outcome_of refused) (refusal_line refused)
 refuses asked input why allowed = record { refused = why; allowed = allowed; kind = refl; line = refl }
 
-says_refused : (input : Input) (options : Options) (why : Refusal) (line : List ℕ) → Refuses options.command input (outcome_of why) line → Says input options (outcome_of why) line
-says_refused (Bytes bytes) options (refusal.Source error) line r = r
+says_refused : (input : Input) (options : Options) (why : Refusal) (line : List ℕ) →
+    Refuses options.command input (outcome_of why) line → Says input options (outcome_of why) line
+says_refused (Bytes bytes) options (refusal.Parse error) line r = r
 says_refused (Bytes bytes) options (refusal.Build error) line r = r
 says_refused (Bytes bytes) options (refusal.Script error) line r = r
-says_refused (Bytes bytes) options (refusal.ThinScript error) line r = r
 says_refused (Bytes bytes) options (refusal.Run error) line r = r
-says_refused TooLong options (refusal.Source error) line r = r
+says_refused TooLong options (refusal.Parse error) line r = r
 says_refused TooLong options (refusal.Build error) line r = r
 says_refused TooLong options (refusal.Script error) line r = r
-says_refused TooLong options (refusal.ThinScript error) line r = r
 says_refused TooLong options (refusal.Run error) line r = r
 
-pub refusal_says : (asked : Command) (input : Input) (options : Options) (why : Refusal) → options.command ≡ asked → Allows asked input why → Says input options (outcome_of why) (refusal_line why)
+pub refusal_says : (asked : Command) (input : Input) (options : Options) (why : Refusal) →
+    options.command ≡ asked → Allows asked input why → Says input options (outcome_of why) (refusal_line why)
 refusal_says asked input options why is allowed =
-    says_refused input options why (refusal_line why) (subst (λ c. Refuses c input (outcome_of why) (refusal_line why)) (sym is) (refuses asked input why allowed))
+    says_refused input options why (refusal_line why)
+    (subst (λ c. Refuses c input (outcome_of why) (refusal_line why)) (sym is) (refuses asked input why allowed))
 
 -- ---- what a call's result says
 
-pub tells_by : (input : Input) (options : Options) (expected : Outcome) (text : List ℕ) (old new : Option (List ℕ)) (r : Result Outcome TextFault) → Says input options expected text → IfOk r (λ how. how ≡ expected) → OnOk r (Appends old new text) → IfOk r (λ how. Tells input options how old new)
-tells_by input options expected text old new (Ok how) says is out = record { text = text; says = subst (λ o. Says input options o text) (sym is) says; out = out }
+pub tells_by : (input : Input) (options : Options) (expected : Outcome) (text : List ℕ) (old new : Option (List ℕ))
+    (r : Result Outcome TextFault) → Says input options expected text → IfOk r (λ how. how ≡ expected) →
+    OnOk r (Appends old new text) → IfOk r (λ how. Tells input options how old new)
+tells_by input options expected text old new (Ok how) says is out = record {
+  text = text;
+  says = subst (λ o. Says input options o text) (sym is) says;
+  out = out;
+}
 tells_by input options expected text old new (Err why) says is out = tt
 
-fails_by' : (input : Input) (options : Options) (expected : Outcome) (text : List ℕ) (old new : Option (List ℕ)) (why : TextFault) → Says input options expected text → BreaksOff why text old new → Fails why input options old new
+fails_by' : (input : Input) (options : Options) (expected : Outcome) (text : List ℕ) (old new : Option (List ℕ))
+    (why : TextFault) → Says input options expected text → BreaksOff why text old new →
+    Fails why input options old new
 fails_by' input options expected text old new fault.Read says off = absurd off
-fails_by' input options expected text old new fault.Write says off = record { how = expected; text = text; says = says; length = off.0; out = off.1 }
-fails_by' input options expected text old new fault.Memory says off = inr (record { how = expected; text = text; says = says; length = off.0; out = off.1 })
+fails_by' input options expected text old new fault.Write says off = record {
+  how = expected;
+  text = text;
+  says = says;
+  breaks = off;
+}
+fails_by' input options expected text old new fault.Memory says off = inr (record {
+  how = expected;
+  text = text;
+  says = says;
+  breaks = off;
+})
 
-pub fails_by : (input : Input) (options : Options) (expected : Outcome) (text : List ℕ) (old new : Option (List ℕ)) (r : Result Outcome TextFault) → Says input options expected text → IfErr r (λ why. BreaksOff why text old new) → IfErr r (λ why. Fails why input options old new)
+pub fails_by : (input : Input) (options : Options) (expected : Outcome) (text : List ℕ) (old new : Option (List ℕ))
+    (r : Result Outcome TextFault) → Says input options expected text →
+    IfErr r (λ why. BreaksOff why text old new) → IfErr r (λ why. Fails why input options old new)
 fails_by input options expected text old new (Ok how) says off = tt
-fails_by input options expected text old new (Err why) says off = fails_by' input options expected text old new why says off
+fails_by input options expected text old new (Err why) says off =
+    fails_by' input options expected text old new why says off
 
-tells_not' : (input : Input) (options : Options) (expected : Outcome) (text : List ℕ) (old new : Option (List ℕ)) (why : TextFault) → Says input options expected text → FailsToTell why text old new → Fails why input options old new
+tells_not' : (input : Input) (options : Options) (expected : Outcome) (text : List ℕ) (old new : Option (List ℕ))
+    (why : TextFault) → Says input options expected text → FailsToTell why text old new →
+    Fails why input options old new
 tells_not' input options expected text old new fault.Read says off = absurd off
-tells_not' input options expected text old new fault.Write says off = fails_by' input options expected text old new fault.Write says off
-tells_not' input options expected text old new fault.Memory says off = elim off [ inl kept ↦ inl kept | inr broken ↦ fails_by' input options expected text old new fault.Memory says broken ]
+tells_not' input options expected text old new fault.Write says off =
+    fails_by' input options expected text old new fault.Write says off
+tells_not' input options expected text old new fault.Memory says off =
+    elim off [
+      | inl kept ↦ inl kept
+      | inr broken ↦ fails_by' input options expected text old new fault.Memory says broken
+    ]
 
-pub tells_not : (input : Input) (options : Options) (expected : Outcome) (text : List ℕ) (old new : Option (List ℕ)) (r : Result Outcome TextFault) → Says input options expected text → IfErr r (λ why. FailsToTell why text old new) → IfErr r (λ why. Fails why input options old new)
+pub tells_not : (input : Input) (options : Options) (expected : Outcome) (text : List ℕ) (old new : Option (List ℕ))
+    (r : Result Outcome TextFault) → Says input options expected text →
+    IfErr r (λ why. FailsToTell why text old new) → IfErr r (λ why. Fails why input options old new)
 tells_not input options expected text old new (Ok how) says off = tt
-tells_not input options expected text old new (Err why) says off = tells_not' input options expected text old new why says off
+tells_not input options expected text old new (Err why) says off =
+    tells_not' input options expected text old new why says off
 
-pub refused_by : (asked : Command) (input : Input) (options : Options) (why : Refusal) (old new : Option (List ℕ)) (r : Result Outcome TextFault) → options.command ≡ asked → Allows asked input why → IfOk r (λ how. how ≡ outcome_of why) → OnOk r (Appends old new (refusal_line why)) → IfOk r (λ how. Tells input options how old new)
+pub refused_by : (asked : Command) (input : Input) (options : Options) (why : Refusal) (old new : Option (List ℕ))
+    (r : Result Outcome TextFault) → options.command ≡ asked → Allows asked input why →
+    IfOk r (λ how. how ≡ outcome_of why) → OnOk r (Appends old new (refusal_line why)) →
+    IfOk r (λ how. Tells input options how old new)
 refused_by asked input options why old new r is allowed kind out =
-    tells_by input options (outcome_of why) (refusal_line why) old new r (refusal_says asked input options why is allowed) kind out
+    tells_by input options (outcome_of why) (refusal_line why) old new r
+    (refusal_says asked input options why is allowed) kind out
 
-pub failed_by : (asked : Command) (input : Input) (options : Options) (why : Refusal) (old new : Option (List ℕ)) (r : Result Outcome TextFault) → options.command ≡ asked → Allows asked input why → IfErr r (λ fault. FailsToTell fault (refusal_line why) old new) → IfErr r (λ fault. Fails fault input options old new)
+pub failed_by : (asked : Command) (input : Input) (options : Options) (why : Refusal) (old new : Option (List ℕ))
+    (r : Result Outcome TextFault) → options.command ≡ asked → Allows asked input why →
+    IfErr r (λ fault. FailsToTell fault (refusal_line why) old new) →
+    IfErr r (λ fault. Fails fault input options old new)
 failed_by asked input options why old new r is allowed off =
-    tells_not input options (outcome_of why) (refusal_line why) old new r (refusal_says asked input options why is allowed) off
+    tells_not input options (outcome_of why) (refusal_line why) old new r
+    (refusal_says asked input options why is allowed) off
 
 -- ---- the whole program: the input was read first
 
-pub written_by : (remaining old new : Option (List ℕ)) (input : Input) (options : Options) (r : Result Outcome TextFault) → IsRead remaining input → IfOk r (λ how. Tells input options how old new) → IfOk r (λ how. Written remaining options how old new)
+pub written_by : (remaining old new : Option (List ℕ)) (input : Input) (options : Options)
+    (r : Result Outcome TextFault) → IsRead remaining input → IfOk r (λ how. Tells input options how old new) →
+    IfOk r (λ how. Written remaining options how old new)
 written_by remaining old new input options (Ok how) read tells = record { input = input; read = read; tells = tells }
 written_by remaining old new input options (Err why) read tells = tt
 
-faulted : (remaining old new : Option (List ℕ)) (input : Input) (options : Options) (why : TextFault) → IsRead remaining input → Fails why input options old new → Faulted why remaining options old new
+faulted : (remaining old new : Option (List ℕ)) (input : Input) (options : Options) (why : TextFault) →
+    IsRead remaining input → Fails why input options old new → Faulted why remaining options old new
 faulted remaining old new input options fault.Read read off = absurd off
 faulted remaining old new input options fault.Write read off = record { input = input; read = read; breaks = off }
-faulted remaining old new input options fault.Memory read off = elim off [ inl kept ↦ inl kept | inr broken ↦ inr (record { input = input; read = read; breaks = broken }) ]
+faulted remaining old new input options fault.Memory read off =
+    elim off [ inl kept ↦ inl kept | inr broken ↦ inr (record { input = input; read = read; breaks = broken }) ]
 
-pub faulted_by : (remaining old new : Option (List ℕ)) (input : Input) (options : Options) (r : Result Outcome TextFault) → IsRead remaining input → IfErr r (λ why. Fails why input options old new) → IfErr r (λ why. Faulted why remaining options old new)
+pub faulted_by : (remaining old new : Option (List ℕ)) (input : Input) (options : Options)
+    (r : Result Outcome TextFault) → IsRead remaining input → IfErr r (λ why. Fails why input options old new) →
+    IfErr r (λ why. Faulted why remaining options old new)
 faulted_by remaining old new input options (Ok how) read off = tt
 faulted_by remaining old new input options (Err why) read off = faulted remaining old new input options why read off

@@ -1,34 +1,28 @@
 -- What the program answers to its input.
-use Rattle.std.specs.Prelude.{◌≡◌, ◌⊎◌, ℕ, Bool, true, false, List, Option, take}
+use Rattle.std.specs.Prelude.{◌≡◌, ◌⊎◌, ℕ, Bool, true, false, List, Option}
 use Rattle.std.specs.Io.KnownBytes.{Appends, Keeps}
 use Rattle.sdl_build.specs.Built.{IsBuilt}
 use Rattle.sdl_build.specs.Outcome.{IsRefusedAs}
 use Rattle.sdl_build.specs.declared.error.BuildError.{BuildError}
+use Rattle.sdl_courses.specs.Report.{IsSerialReport}
 use Rattle.sdl_lex.specs.declared.error.LexError.TheVariants as lex
 use Rattle.sdl_parse.specs.Parser.{SpellsText}
+use Rattle.sdl_parse.specs.Parser as parser
+use Rattle.sdl_parse.specs.declared.error.ParseError.{ParseError}
 use Rattle.sdl_parse.specs.declared.error.ParseError.TheVariants as parse
-use Rattle.sdl_print.specs.RoundTrip.{IsCanonicalOf}
+use Rattle.sdl_report.specs.Gathered as gathered
+use Rattle.sdl_report.specs.ReportText.{report_text}
+use Rattle.sdl_report.specs.declared.record.Report.{Report}
 use Rattle.sdl_script.specs.Script.{IsScript}
 use Rattle.sdl_script.specs.ScriptText.{SaysScript}
 use Rattle.sdl_script.specs.ScriptText as faults
 use Rattle.sdl_script.specs.declared.script.ScriptError.{ScriptError}
 use Rattle.sdl_script.specs.declared.script.ScriptLine.{ScriptLine}
-use Rattle.sdl_thin_report.specs.ReportText.{report_text}
-use Rattle.sdl_thin_report.specs.Script as thin_script
-use Rattle.sdl_thin_report.specs.ScriptText as thin_text
-use Rattle.sdl_thin_report.specs.declared.record.Report.{Report}
-use Rattle.sdl_thin_report.specs.declared.script.Script.{Script}
-use Rattle.sdl_thin_report.specs.declared.script.ScriptError as thin_error
-use Rattle.sdl_source.specs.Source.{IsSystemOf}
-use Rattle.sdl_source.specs.Source as sources
-use Rattle.sdl_source.specs.declared.error.SourceError.{SourceError}
-use Rattle.sdl_source.specs.declared.error.SourceError.TheVariants as source
+use Rattle.sdl_system.specs.Behaviour.{Behaviour}
 use Rattle.sdl_system.specs.System.{SystemValue}
-use Rattle.sdl_thin.specs.Behaviour.{Behaviour}
-use Rattle.sdl_thin.specs.declared.system.System.{System}
-use Rattle.sdl_thin_workers.specs.Global.{AreBehaviours}
+use Rattle.sdl_tree.specs.Canonical.{canonical_text}
 use Rattle.sdl_tree.specs.Tree.{Tree}
-use Rattle.sdl_thin_workers.specs.Report.{IsSerialReport}
+use Rattle.sdl_engine.specs.Behaviours.{AreOfText}
 use Rattle.sdl_engine.specs.Input.{IsParted, IsRead}
 use Rattle.sdl_engine.specs.RefusalText.{refusal_line}
 use Rattle.sdl_engine.specs.declared.input.Input.{Input}
@@ -43,47 +37,58 @@ use Rattle.sdl_engine.specs.declared.options.TextFault.TheVariants as fault
 use Rattle.sdl_engine.specs.declared.refusal.Refusal.{Refusal}
 use Rattle.sdl_engine.specs.declared.refusal.Refusal.TheVariants as refusal
 
--- the input is a specification, of whose tree this system is, and the text of a script
-pub record IsBuiltFrom (input : List ℕ) (script : List ℕ) (system : System) : Type 0 where
-  pub specification : List ℕ
-  pub parted : IsParted input specification script
-  pub source : IsSystemOf specification system
+-- ---- accepted
 
--- the report is that of a serial run of the system on what the script says, cut at the limit if it comes to that
-pub record IsRunOf (input : List ℕ) (limit : ℕ) (system : System) (report : Report) : Type 0 where
+-- The input is accepted: its specification spells the tree, the system is built of it, and the lines are those of the
+-- script behind it.
+pub record IsAccepted (input : List ℕ) (tree : Tree) (system : SystemValue) (lines : List ScriptLine) : Type 0 where
+  pub specification : List ℕ
   pub script : List ℕ
-  pub source : IsBuiltFrom input script system
-  pub read : Script
-  pub is_script : thin_script.IsScript system read.lines.items
-  pub says : thin_text.SaysScript system script read.lines.items
-  pub ran : (ps : List Behaviour) → AreBehaviours system ps → IsSerialReport ps system read.lines.items limit report
+  pub parted : IsParted input specification script
+  pub spelled : SpellsText tree specification
+  pub built : IsBuilt tree system
+  pub is_script : IsScript system lines
+  pub says : SaysScript system script lines
+
+-- The report is that of a serial run of the system of an accepted input on its script, cut at the limit if it comes to
+-- that: so for all behaviours that the texts of the processes have, and they have some.
+pub record IsRunOf (input : List ℕ) (limit : ℕ) (system : SystemValue) (report : Report) : Type 0 where
+  pub tree : Tree
+  pub lines : List ScriptLine
+  pub accepted : IsAccepted input tree system lines
+  pub behaves : (ps : List Behaviour) × AreOfText accepted.built.survey system ps
+  pub ran : (ps : List Behaviour) → AreOfText accepted.built.survey system ps
+      → IsSerialReport ps system lines limit report
 
 -- the text of the report of such a run, of one that is whole or of one that was cut
 pub record Reports (input : List ℕ) (limit : ℕ) (whole : Bool) (text : List ℕ) : Type 0 where
-  pub system : System
+  pub system : SystemValue
   pub report : Report
   pub run : IsRunOf input limit system report
   pub is_whole : report.whole ≡ whole
   pub says : text ≡ report_text system report
+
+-- the canonical text of the tree of an accepted input
+pub record Prints (input : List ℕ) (text : List ℕ) : Type 0 where
+  pub tree : Tree
+  pub system : SystemValue
+  pub lines : List ScriptLine
+  pub accepted : IsAccepted input tree system lines
+  pub canonical : text ≡ canonical_text tree
+
+-- ---- refused
 
 -- whether the refusal is one of the run, and not of the text
 abbrev pub outcome_of : Refusal → Outcome
 outcome_of (refusal.Run error) = outcome.RunRefused
 outcome_of refused = outcome.TextRefused
 
--- a specification is refused as its layers tell: it has no tokens, they spell no tree, the tree holds more than is run, or a
--- check of it is broken
-pub record IsSourceRefused (input : List ℕ) (error : SourceError) : Type 0 where
+-- a specification has no tokens, or they spell no tree, as is told
+pub record IsParseRefused (input : List ℕ) (error : ParseError) : Type 0 where
   pub specification : List ℕ
   pub script : List ℕ
   pub parted : IsParted input specification script
-  pub refused : sources.Refuses error specification
-
--- whether the refusal is one of the tokens or the tree
-abbrev pub IsOfText : SourceError → Type 0
-IsOfText (source.Parse error) = Unit {0}
-IsOfText (source.NotRun error) = ⊥
-IsOfText (source.Build error) = ⊥
+  pub refused : parser.Refuses error specification
 
 -- a specification spells a tree in which the rule that is told is broken, or there was no memory to build its system
 pub record IsBuildRefused (input : List ℕ) (error : BuildError) : Type 0 where
@@ -106,40 +111,29 @@ pub record IsScriptRefused (input : List ℕ) (error : ScriptError) : Type 0 whe
   pub built : IsBuilt tree system
   pub at_fault : faults.Refuses error system script
 
--- the same of the script of a run, by the system of the part of the language that is run
-pub record IsThinScriptRefused (input : List ℕ) (error : thin_error.ScriptError) : Type 0 where
-  pub script : List ℕ
-  pub system : System
-  pub source : IsBuiltFrom input script system
-  pub at_fault : thin_text.Refuses error system script
-
--- a run is refused only of a system that was built and a script that was read
+-- a run is refused only of an input that is accepted
 pub record IsRunRefused (input : List ℕ) : Type 0 where
-  pub script : List ℕ
-  pub system : System
-  pub source : IsBuiltFrom input script system
-  pub read : Script
-  pub is_script : thin_script.IsScript system read.lines.items
-  pub says : thin_text.SaysScript system script read.lines.items
+  pub tree : Tree
+  pub system : SystemValue
+  pub lines : List ScriptLine
+  pub accepted : IsAccepted input tree system lines
 
--- What a command may tell of these bytes. A check tells of tokens, the tree, what is broken in the tree, and the script;
--- the build of the whole language's system, and the reading of its script, are those of a check alone.
+-- the text of these bytes is not accepted, as is told
+abbrev pub IsTextRefused : List ℕ → Refusal → Type 0
+IsTextRefused bytes (refusal.Parse error) = IsParseRefused bytes error
+IsTextRefused bytes (refusal.Build error) = IsBuildRefused bytes error
+IsTextRefused bytes (refusal.Script error) = IsScriptRefused bytes error
+IsTextRefused bytes (refusal.Run error) = ⊥
+
+-- what a command may tell of these bytes: both the same of the text, and a run also of itself
 abbrev pub AllowsOf : Command → List ℕ → Refusal → Type 0
-AllowsOf command.Check bytes (refusal.Source error) = IsOfText error × IsSourceRefused bytes error
-AllowsOf command.Check bytes (refusal.Build error) = IsBuildRefused bytes error
-AllowsOf command.Check bytes (refusal.Script error) = IsScriptRefused bytes error
-AllowsOf command.Check bytes (refusal.ThinScript error) = ⊥
-AllowsOf command.Check bytes (refusal.Run error) = ⊥
-AllowsOf command.Run bytes (refusal.Source error) = IsSourceRefused bytes error
-AllowsOf command.Run bytes (refusal.Build error) = ⊥
-AllowsOf command.Run bytes (refusal.Script error) = ⊥
-AllowsOf command.Run bytes (refusal.ThinScript error) = IsThinScriptRefused bytes error
 AllowsOf command.Run bytes (refusal.Run error) = IsRunRefused bytes
+AllowsOf how bytes refused = IsTextRefused bytes refused
 
 -- the same of an input: one that is too long is a text that is too long
 abbrev pub Allows : Command → Input → Refusal → Type 0
 Allows how (Bytes bytes) refused = AllowsOf how bytes.items refused
-Allows how TooLong refused = refused ≡ refusal.Source (source.Parse (parse.Lex lex.TooLong))
+Allows how TooLong refused = refused ≡ refusal.Parse (parse.Lex lex.TooLong)
 
 -- one line that tells a refusal of this input
 pub record Refuses (asked : Command) (input : Input) (refused_as : Outcome) (text : List ℕ) : Type 0 where
@@ -148,18 +142,7 @@ pub record Refuses (asked : Command) (input : Input) (refused_as : Outcome) (tex
   pub kind : outcome_of refused ≡ refused_as
   pub line : text ≡ refusal_line refused
 
--- the canonical text of the tree that the specification spells, and of which a system is built; behind it stands a script
--- for this system
-pub record Prints (input : List ℕ) (text : List ℕ) : Type 0 where
-  pub specification : List ℕ
-  pub script : List ℕ
-  pub parted : IsParted input specification script
-  pub canonical : IsCanonicalOf text specification
-  pub system : SystemValue
-  pub built : IsBuilt canonical.0 system
-  pub read : List ScriptLine
-  pub is_script : IsScript system read
-  pub says : SaysScript system script read
+-- ---- what is written
 
 -- what is written of these bytes where they are accepted: of a check the canonical text, of a run its report
 abbrev pub SaysWhole : Command → List ℕ → ℕ → List ℕ → Type 0
@@ -186,34 +169,35 @@ pub record Tells (input : Input) (options : Options) (how : Outcome) (old new : 
   pub says : Says input options how text
   pub out : Appends old new text
 
--- nothing but a prefix of what is to be written of the input went out
+-- a beginning of what is to be written of the input went out, and not all of it
 pub record BreaksOffTelling (input : Input) (options : Options) (old new : Option (List ℕ)) : Type 0 where
   pub how : Outcome
   pub text : List ℕ
   pub says : Says input options how text
-  pub length : ℕ
-  pub out : Appends old new (take length text)
+  pub breaks : gathered.BreaksOff old new text
 
--- After a fault of writing a prefix of the answer may have gone out. For want of memory that may be so, or nothing was written.
+-- After a fault of writing a beginning of the answer may have gone out. For want of memory that may be so, or nothing
+-- was written.
 abbrev pub Fails : TextFault → Input → Options → Option (List ℕ) → Option (List ℕ) → Type 0
 Fails fault.Read input options old new = ⊥
 Fails fault.Write input options old new = BreaksOffTelling input options old new
 Fails fault.Memory input options old new = Keeps old new ⊎ BreaksOffTelling input options old new
 
 -- The whole input was read, and what is written of it went out.
-pub record Written (remaining : Option (List ℕ)) (options : Options) (how : Outcome) (old new : Option (List ℕ)) : Type 0 where
+pub record Written (remaining : Option (List ℕ)) (options : Options) (how : Outcome)
+    (old new : Option (List ℕ)) : Type 0 where
   pub input : Input
   pub read : IsRead remaining input
   pub tells : Tells input options how old new
 
--- The whole input was read, and nothing but a prefix of what is to be written of it went out.
+-- The whole input was read, and a beginning of what is to be written of it went out, and not all of it.
 pub record BrokenOff (remaining : Option (List ℕ)) (options : Options) (old new : Option (List ℕ)) : Type 0 where
   pub input : Input
   pub read : IsRead remaining input
   pub breaks : BreaksOffTelling input options old new
 
--- After a fault of reading nothing was written; after a fault of writing a prefix of the answer may have gone out. For want of
--- memory either may be so.
+-- After a fault of reading nothing was written; after a fault of writing a beginning of the answer may have gone out.
+-- For want of memory either may be so.
 abbrev pub Faulted : TextFault → Option (List ℕ) → Options → Option (List ℕ) → Option (List ℕ) → Type 0
 Faulted fault.Read remaining options old new = Keeps old new
 Faulted fault.Write remaining options old new = BrokenOff remaining options old new
@@ -225,7 +209,7 @@ PrintsInput (Bytes bytes) text = Prints bytes.items text
 PrintsInput TooLong text = ⊥
 
 -- the run of an input
-abbrev pub IsRunOfInput : Input → ℕ → System → Report → Type 0
+abbrev pub IsRunOfInput : Input → ℕ → SystemValue → Report → Type 0
 IsRunOfInput (Bytes bytes) limit system report = IsRunOf bytes.items limit system report
 IsRunOfInput TooLong limit system report = ⊥
 
@@ -234,11 +218,11 @@ abbrev pub outcome_by : Bool → Outcome
 outcome_by true = outcome.Whole
 outcome_by false = outcome.Cut
 
--- what went out of a text before this fault of writing it, or before memory was refused
+-- what went out of a text before this fault of writing it, or before memory was refused: not all of it
 abbrev pub BreaksOff : TextFault → List ℕ → Option (List ℕ) → Option (List ℕ) → Type 0
 BreaksOff fault.Read text old new = ⊥
-BreaksOff fault.Write text old new = (k : ℕ) × Appends old new (take k text)
-BreaksOff fault.Memory text old new = (k : ℕ) × Appends old new (take k text)
+BreaksOff fault.Write text old new = gathered.BreaksOff old new text
+BreaksOff fault.Memory text old new = gathered.BreaksOff old new text
 
 -- what went out of the line of a refusal, which is made first: nothing, where there was no memory to make it
 abbrev pub FailsToTell : TextFault → List ℕ → Option (List ℕ) → Option (List ℕ) → Type 0

@@ -16,13 +16,14 @@ pub data IsPlain : List ℕ → Type 0 where
   none : IsPlain []
   one_more : {text line : List ℕ} → IsPlain text → IsLine line → (IsScriptLine line → ⊥) → IsPlain (text ++ line)
 
--- The specification is what stands before the first line that is exactly `%script`, the script what stands behind it. The last
--- line may lack its end. Without such a line all of the input is the specification.
+-- The specification is what stands before the first line that is exactly `%script`, the script what stands behind it.
+-- The last line may lack its end. Without such a line all of the input is the specification.
 abbrev pub IsParted : List ℕ → List ℕ → List ℕ → Type 0
 IsParted input specification script =
     (IsPlain specification × ((line : List ℕ) × IsScriptLine line × (input ≡ specification ++ (line ++ script))))
     ⊎ (IsPlain specification × (input ≡ specification ++ codes "%script") × (script ≡ []))
-    ⊎ ((text last : List ℕ) × IsPlain text × (input ≡ text ++ last) × All (λ b. b ≢ 10) last × (last ≢ codes "%script") × (specification ≡ input) × (script ≡ []))
+    ⊎ ((text last : List ℕ) × IsPlain text × (input ≡ text ++ last) × All (λ b. b ≢ 10) last
+    × (last ≢ codes "%script") × (specification ≡ input) × (script ≡ []))
 
 -- all that a reader had is held, which is at most 2,097,152 bytes, or it had more
 abbrev pub IsRead : Option (List ℕ) → Input → Type 0

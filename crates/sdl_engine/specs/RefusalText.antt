@@ -1,18 +1,16 @@
 -- The line that tells a refusal: the text of the layer that refuses, and a line end.
 use Rattle.std.specs.Prelude.{ℕ, List, [], ◌∷◌, ◌++◌}
 use Rattle.sdl_build.specs.ErrorText.{build_text}
+use Rattle.sdl_parse.specs.ErrorText.{parse_text}
 use Rattle.sdl_script.specs.ErrorText.{script_text}
-use Rattle.sdl_source.specs.ErrorText.{source_text}
-use Rattle.sdl_thin_report.specs.ErrorText as thin_report
-use Rattle.sdl_thin_workers.specs.ErrorText.{run_text}
+use Rattle.sdl_serial.specs.ErrorText.{run_text}
 use Rattle.sdl_engine.specs.declared.refusal.Refusal.{Refusal}
 use Rattle.sdl_engine.specs.declared.refusal.Refusal.TheVariants as refusal
 
 abbrev pub refusal_text : Refusal → List ℕ
-refusal_text (refusal.Source error) = source_text error
+refusal_text (refusal.Parse error) = parse_text error
 refusal_text (refusal.Build error) = build_text error
 refusal_text (refusal.Script error) = script_text error
-refusal_text (refusal.ThinScript error) = thin_report.script_text error
 refusal_text (refusal.Run error) = run_text error
 
 abbrev pub line_of : List ℕ → List ℕ

@@ -2,7 +2,7 @@
 
 ghost use Rattle.std.specs.Prelude.{◌≡◌, IfOk, IfErr, OnOk};
 ghost use Rattle.std.specs.Io.KnownBytes.{Appends};
-ghost use Rattle.sdl_thin_report.specs.ReportText.{report_text};
+ghost use Rattle.sdl_report.specs.ReportText.{report_text};
 ghost use Rattle.sdl_engine.specs.Answer.{BreaksOff, FailsToTell, outcome_by, outcome_of};
 ghost use Rattle.sdl_engine.specs.RefusalText.{refusal_line};
 
@@ -10,7 +10,7 @@ use crate::options::{Outcome, TextFault};
 use crate::pipeline::Run;
 use crate::refusal::Refusal;
 use crate::refusal_text::{fixed_line, refusal_line};
-use sdl_thin_report::{WriteFault, write_report, write_text};
+use sdl_report::{WriteFault, write_report, write_text};
 use std::alloc::Global;
 use std::io::Write;
 

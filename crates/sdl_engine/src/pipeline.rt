@@ -1,8 +1,9 @@
-//! An input checked and run: from its bytes to the canonical text of its specification, or to a report.
+//! An input taken, checked and run: from its bytes to the canonical text of its specification, or to a report.
 
 ghost use Rattle.std.specs.Prelude.{IfOk, IfErr};
 ghost use Rattle.std.specs.String.{string_bytes};
-ghost use Rattle.sdl_engine.specs.Answer.{Allows, AllowsOf, IsRunOf, IsRunOfInput, Prints, PrintsInput};
+ghost use Rattle.sdl_tree.specs.Views.{tree_value};
+ghost use Rattle.sdl_engine.specs.Answer.{Allows, AllowsOf, IsAccepted, IsRunOf, IsRunOfInput, IsTextRefused, Prints, PrintsInput};
 
 use crate::input::{Input, parts};
 use crate::options::Command;
@@ -11,12 +12,45 @@ use sdl_build::build;
 use sdl_lex::LexError;
 use sdl_parse::{ParseError, parse};
 use sdl_print::print;
-use sdl_script::read_script;
-use sdl_source::{SourceError, system_of};
-use sdl_thin::System;
-use sdl_thin_report::{Report, read_script as read_thin_script};
-use sdl_thin_workers::run_serial;
+use sdl_report::Report;
+use sdl_script::{Script, read_script};
+use sdl_serial::run_serial;
+use sdl_system::System;
+use sdl_tree::Tree;
 use std::alloc::Global;
+
+/// What an input says that is accepted: the tree of its specification, the system of the tree, and the script for it.
+#[derive(Drop)]
+struct Accepted {
+    tree: Tree,
+    system: System,
+    script: Script,
+}
+
+/// Takes an input: its tokens and tree, its system and its script, in this order. The first fault refuses it.
+fn accept(alloc: Global, bytes: &[u8]) -> Result<Accepted, Refusal>
+    ensures ok { IfOk result (λ accepted.
+        IsAccepted bytes.now (tree_value accepted.tree) accepted.system accepted.script.lines.items) }
+    ensures err { IfErr result (IsTextRefused bytes.now) }
+{
+    let (specification, script) = parts(bytes);
+    let tree = match parse(alloc, specification) {
+        Ok(tree) => tree,
+        Err(error) => return Err(Refusal::Parse(error)),
+    };
+    let system = match build(alloc, &tree) {
+        Ok(system) => system,
+        Err(error) => return Err(Refusal::Build(error)),
+    };
+    match read_script(alloc, &system, script) {
+        Ok(script) => Ok(Accepted {
+            tree,
+            system,
+            script,
+        }),
+        Err(error) => Err(Refusal::Script(error)),
+    }
+}
 
 /// The canonical text of an input's specification that has a system, and behind which a script for it stands, or why
 /// there is none.
@@ -26,9 +60,7 @@ pub fn check_input(alloc: Global, input: &Input) -> Result<String, Refusal>
 {
     match input {
         Input::Bytes(bytes) => check_bytes(alloc, bytes.as_slice()),
-        Input::TooLong => Err(Refusal::Source(SourceError::Parse(ParseError::Lex(
-            LexError::TooLong,
-        )))),
+        Input::TooLong => Err(Refusal::Parse(ParseError::Lex(LexError::TooLong))),
     }
 }
 
@@ -36,22 +68,10 @@ fn check_bytes(alloc: Global, bytes: &[u8]) -> Result<String, Refusal>
     ensures ok { IfOk result (λ text. Prints bytes.now (string_bytes text)) }
     ensures err { IfErr result (AllowsOf Command.Check bytes.now) }
 {
-    let (specification, script) = parts(bytes);
-    let tree = match parse(alloc, specification) {
-        Ok(tree) => tree,
-        Err(error) => return Err(Refusal::Source(SourceError::Parse(error))),
-    };
-    let system = match build(alloc, &tree) {
-        Ok(system) => system,
-        Err(error) => return Err(Refusal::Build(error)),
-    };
-    let _script = match read_script(alloc, &system, script) {
-        Ok(script) => script,
-        Err(error) => return Err(Refusal::Script(error)),
-    };
-    match print(alloc, &tree) {
+    let accepted = accept(alloc, bytes)?;
+    match print(alloc, &accepted.tree) {
         Ok(text) => Ok(text),
-        Err(_) => Err(Refusal::Source(SourceError::Parse(ParseError::Memory))),
+        Err(_) => Err(Refusal::Parse(ParseError::Memory)),
     }
 }
 
@@ -69,9 +89,7 @@ pub fn run_input(alloc: Global, input: &Input, limit: u64) -> Result<Run, Refusa
 {
     match input {
         Input::Bytes(bytes) => run_bytes(alloc, bytes.as_slice(), limit),
-        Input::TooLong => Err(Refusal::Source(SourceError::Parse(ParseError::Lex(
-            LexError::TooLong,
-        )))),
+        Input::TooLong => Err(Refusal::Parse(ParseError::Lex(LexError::TooLong))),
     }
 }
 
@@ -79,17 +97,12 @@ fn run_bytes(alloc: Global, bytes: &[u8], limit: u64) -> Result<Run, Refusal>
     ensures ok { IfOk result (λ run. IsRunOf bytes.now limit run.system run.report) }
     ensures err { IfErr result (AllowsOf Command.Run bytes.now) }
 {
-    let (specification, script) = parts(bytes);
-    let system = match system_of(alloc, specification) {
-        Ok(system) => system,
-        Err(error) => return Err(Refusal::Source(error)),
-    };
-    let script = match read_thin_script(alloc, &system, script) {
-        Ok(script) => script,
-        Err(error) => return Err(Refusal::ThinScript(error)),
-    };
-    match run_serial(alloc, &system, &script, limit) {
-        Ok(report) => Ok(Run { system, report }),
+    let accepted = accept(alloc, bytes)?;
+    match run_serial(alloc, &accepted.system, &accepted.script, limit) {
+        Ok(report) => Ok(Run {
+            system: accepted.system,
+            report,
+        }),
         Err(error) => Err(Refusal::Run(error)),
     }
 }

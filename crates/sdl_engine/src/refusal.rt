@@ -2,23 +2,19 @@
 
 use crate::options::Outcome;
 use sdl_build::BuildError;
+use sdl_parse::ParseError;
 use sdl_script::ScriptError;
-use sdl_source::SourceError;
-use sdl_thin_report::ScriptError as ThinScriptError;
-use sdl_thin_workers::RunError;
+use sdl_serial::RunError;
 use std::error::Error;
 use std::fmt;
 
-/// Why there is no report, or no canonical text. Its text is the line that says so.
+/// Why there is no report, or no canonical text: what comes first of tokens and tree, system, script and run. Its text
+/// is the line that says so.
 #[derive(Debug, Drop)]
 pub enum Refusal {
-    Source(SourceError),
+    Parse(ParseError),
     Build(BuildError),
-    /// Of the script of a text that is checked.
     Script(ScriptError),
-    /// Of the script of a run. A run reads the scripts of the part of the language that it knows; once it knows the
-    /// whole language, its scripts are read as those of a check, and this refusal goes.
-    ThinScript(ThinScriptError),
     Run(RunError),
 }
 
@@ -31,10 +27,9 @@ impl fmt::Display for Refusal {
 
     fn fmt<W: fmt::Write>(&self, f: &mut fmt::Formatter<W>) -> fmt::Result {
         match self {
-            Refusal::Source(error) => write!(f, "{error}"),
+            Refusal::Parse(error) => write!(f, "{error}"),
             Refusal::Build(error) => write!(f, "{error}"),
             Refusal::Script(error) => write!(f, "{error}"),
-            Refusal::ThinScript(error) => write!(f, "{error}"),
             Refusal::Run(error) => write!(f, "{error}"),
         }
     }

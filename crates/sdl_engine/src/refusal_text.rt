@@ -3,24 +3,16 @@
 ghost use Rattle.std.specs.Prelude.{◌≡◌, IfOk, IfSome};
 ghost use Rattle.std.specs.String.{string_bytes};
 ghost use Rattle.sdl_build.specs.ErrorText.{build_text};
-ghost use Rattle.sdl_core.specs.ErrorText.{not_run_text};
 ghost use Rattle.sdl_lex.specs.ErrorText.{lex_text};
 ghost use Rattle.sdl_parse.specs.ErrorText.{parse_text};
 ghost use Rattle.sdl_script.specs.ErrorText.{script_text};
-ghost use Rattle.sdl_source.specs.ErrorText.{source_text};
-ghost use Rattle.sdl_thin.specs.ErrorText as thin;
-ghost use Rattle.sdl_thin_report.specs.ErrorText as thin_report;
 ghost use Rattle.sdl_engine.specs.RefusalText.{line_of, refusal_line};
 
 use crate::refusal::Refusal;
 use sdl_build::BuildError;
-use sdl_core::NotRun;
 use sdl_lex::LexError;
 use sdl_parse::ParseError;
 use sdl_script::ScriptError;
-use sdl_source::SourceError;
-use sdl_thin::BuildError as ThinError;
-use sdl_thin_report::ScriptError as ThinScriptError;
 use std::alloc::{AllocError, Global};
 
 /// The line of a refusal by want of memory, and of a text that is too long. It needs no memory.
@@ -28,21 +20,10 @@ pub fn fixed_line(refusal: &Refusal) -> Option<&'static str>
     ensures { IfSome result (λ line. line.now ≡ refusal_line refusal.now) }
 {
     match refusal {
-        Refusal::Source(error) => fixed_source_line(error),
+        Refusal::Parse(error) => fixed_parse_line(error),
         Refusal::Build(error) => fixed_build_line(error),
         Refusal::Script(error) => fixed_script_line(error),
-        Refusal::ThinScript(error) => fixed_thin_script_line(error),
         Refusal::Run(_) => Some("run Memory\n"),
-    }
-}
-
-fn fixed_source_line(error: &SourceError) -> Option<&'static str>
-    ensures { IfSome result (λ line. line.now ≡ line_of (source_text error.now)) }
-{
-    match error {
-        SourceError::Parse(error) => fixed_parse_line(error),
-        SourceError::NotRun(error) => fixed_not_run_line(error),
-        SourceError::Build(error) => fixed_thin_line(error),
     }
 }
 
@@ -66,24 +47,6 @@ fn fixed_lex_line(error: &LexError) -> Option<&'static str>
     }
 }
 
-fn fixed_not_run_line(error: &NotRun) -> Option<&'static str>
-    ensures { IfSome result (λ line. line.now ≡ line_of (not_run_text error.now)) }
-{
-    match error {
-        NotRun::Memory => Some("parse Memory\n"),
-        _ => None,
-    }
-}
-
-fn fixed_thin_line(error: &ThinError) -> Option<&'static str>
-    ensures { IfSome result (λ line. line.now ≡ line_of (thin.build_text error.now)) }
-{
-    match error {
-        ThinError::Memory => Some("build Memory\n"),
-        _ => None,
-    }
-}
-
 fn fixed_build_line(error: &BuildError) -> Option<&'static str>
     ensures { IfSome result (λ line. line.now ≡ line_of (build_text error.now)) }
 {
@@ -98,15 +61,6 @@ fn fixed_script_line(error: &ScriptError) -> Option<&'static str>
 {
     match error {
         ScriptError::Memory => Some("script Memory\n"),
-        _ => None,
-    }
-}
-
-fn fixed_thin_script_line(error: &ThinScriptError) -> Option<&'static str>
-    ensures { IfSome result (λ line. line.now ≡ line_of (thin_report.script_text error.now)) }
-{
-    match error {
-        ThinScriptError::Memory => Some("script Memory\n"),
         _ => None,
     }
 }

@@ -29,8 +29,7 @@ docs/LANGUAGE.md has the language, the script, the trace and all refusals.";
 
 /// What follows the help of `check`.
 const CHECK_HELP: &str =
-    "It reads the whole language, makes all checks of the specification, and reads the script for it. What is not run
-yet is no fault of a text that is checked.
+    "It makes all checks of the specification, and reads the script for it, as a run does, and then runs nothing.
 
 Example:
   echo 'SYSTEM s; SIGNAL a; endsystem;' | sdlrun check";
@@ -43,10 +42,8 @@ signal that the environment sends: its time in ticks, its name and its values. A
   %script
   # at time 0, a signal, and another with a value at time 3
   0 inc
-  3 add(7)
+  3 add(7) to #2
   10
-
-What isn't run yet (see docs/LANGUAGE.md) is refused at its first word, as `parse 4:3 LeftOut timer`.
 
 Example:
   sdlrun run --limit 100 < examples/counter.sdl";

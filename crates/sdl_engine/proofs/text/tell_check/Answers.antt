@@ -10,7 +10,8 @@ returns-in-Ok-clause-ok g c =
     let text = c.as_str.result.now in
     let prints = subst (λ t. PrintsInput c.args.input.now t) (sym c.as_str.ensures.value) c.in-Ok.ensures.ok in
     tells_by c.args.input.now c.args.options.now outcome.Whole text _ _ c.canonical.result
-    (canonical_says c.args.input.now c.args.options.now text c.requires prints) c.canonical.ensures.how c.canonical.ensures.ok
+    (canonical_says c.args.input.now c.args.options.now text c.requires prints) c.canonical.ensures.how
+    c.canonical.ensures.ok
 
 pub returns-in-Ok-clause-err : goal.returns-in-Ok-clause-err
 returns-in-Ok-clause-err g c =
@@ -21,8 +22,10 @@ returns-in-Ok-clause-err g c =
 
 pub returns-in-Err-clause-ok : goal.returns-in-Err-clause-ok
 returns-in-Err-clause-ok g c =
-    refused_by command.Check c.args.input.now c.args.options.now c.in-Err.refusal _ _ c.refuse.result c.requires c.in-Err.ensures.err c.refuse.ensures.how c.refuse.ensures.ok
+    refused_by command.Check c.args.input.now c.args.options.now c.in-Err.refusal _ _ c.refuse.result c.requires
+    c.in-Err.ensures.err c.refuse.ensures.how c.refuse.ensures.ok
 
 pub returns-in-Err-clause-err : goal.returns-in-Err-clause-err
 returns-in-Err-clause-err g c =
-    failed_by command.Check c.args.input.now c.args.options.now c.in-Err.refusal _ _ c.refuse.result c.requires c.in-Err.ensures.err c.refuse.ensures.err
+    failed_by command.Check c.args.input.now c.args.options.now c.in-Err.refusal _ _ c.refuse.result c.requires
+    c.in-Err.ensures.err c.refuse.ensures.err

@@ -1,5 +1,0 @@
-pub mod Core
-pub mod ErrorText
-pub mod Narrows
-pub mod Run
-pub mod Views

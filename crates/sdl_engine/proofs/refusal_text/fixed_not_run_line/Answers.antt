@@ -1,7 +1,0 @@
-use Rattle.std.proofs.Common.{◌≡◌, codes, refl, subst, sym}
-use Rattle.sdl_core.specs.ErrorText.{not_run_text}
-use Rattle.sdl_engine.specs.RefusalText.{line_of}
-use Rattle.sdl_engine.proofs.refusal_text.fixed_not_run_line.Goals as goal
-
-pub returns-in-Memory : goal.returns-in-Memory
-returns-in-Memory c = subst (λ r. line_of (codes "parse Memory") ≡ line_of (not_run_text r)) (sym c.in-Memory.is) refl

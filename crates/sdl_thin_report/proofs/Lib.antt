@@ -1,9 +1,0 @@
-pub mod EndLemmas
-pub mod GatheredLemmas
-pub mod LineLemmas
-pub mod MeaningLemmas
-pub mod ReadingLemmas
-pub mod RunLemmas
-pub mod ScriptLemmas
-pub mod ValueLemmas
-pub mod WriteLemmas
