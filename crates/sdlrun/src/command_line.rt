@@ -4,7 +4,7 @@ use clap::builder::ValueParser;
 use clap::error::ErrorKind;
 use clap::{Arg, ArgAction, ArgMatches, Error};
 use sdl_engine::{Command, Options, TextFault};
-use std::alloc::Global;
+use std::alloc::{AllocError, Global};
 use std::env;
 use std::rt::Env;
 
@@ -13,16 +13,17 @@ const VERSION: &str = "0.1.0 (rattle-kit-13f logic dac8208d650f15bf)";
 
 /// What follows the help of the program.
 const HELP: &str =
-    "Both commands read standard input: a specification in SDL/PR, and behind a line `%script` a script.
+    "Both commands read a file, or standard input: a specification in SDL/PR, and behind a line `%script` a script.
 
-Example:
+Examples:
+  sdlrun run examples/counter.sdl
   sdlrun run < examples/counter.sdl
 
 Exit status:
   0  whole: the text was checked, or the run came to its end
   1  the run was cut at its limit
   2  the text is refused, by one line on standard output
-  3  the run is refused, or reading, writing or memory failed
+  3  the run is refused, or a file can't be opened, or reading, writing or memory failed
   4  the command line has a mistake
 
 docs/LANGUAGE.md has the language, the script, the trace and all refusals.";
@@ -48,10 +49,20 @@ signal that the environment sends: its time in ticks, its name and its values. A
 Example:
   sdlrun run --limit 100 < examples/counter.sdl";
 
+/// What is to be done, and with which text.
+#[derive(Drop)]
+pub struct Task {
+    pub options: Options,
+    /// The file of the specification; where there is none, standard input is read.
+    pub file: Option<String>,
+    /// The file of the script; where there is none, it stands behind the specification.
+    pub script: Option<String>,
+}
+
 /// What the command line asks for.
 #[derive(Drop)]
 pub enum Request {
-    Read(Options),
+    Read(Task),
     /// It asked for help or the version, which was printed.
     Answered,
     /// It has a mistake, which was told.
@@ -69,27 +80,54 @@ pub fn read_command_line<R: Env + AllocGlobal + Print + Eprint>(rt: &R) -> Reque
         Ok(words) => words,
         Err(_) => return Request::Fault(TextFault::Memory),
     };
-    match options(rt.alloc(), words.as_slice()) {
-        Ok(options) => Request::Read(options),
+    match chosen(rt.alloc(), words.as_slice()) {
+        Ok(task) => Request::Read(task),
         Err(error) => told(rt, &error),
     }
 }
 
 /// What the words of the command line choose, the program's name first. Help that was asked for and a mistake are both an
 /// `Err`, as the command line's crate tells them; so is want of memory.
-pub fn options(alloc: Global, words: &[String]) -> Result<Options, Error> {
+pub fn chosen(alloc: Global, words: &[String]) -> Result<Task, Error> {
     let command = command(alloc)?;
     let matches = command.try_get_matches_from(words)?;
-    Ok(match matches.subcommand_matches("run") {
-        Some(run) => Options {
+    if let Some(run) = matches.subcommand_matches("run") {
+        let options = Options {
             command: Command::Run,
             limit: limit_of(run),
-        },
-        None => Options {
-            command: Command::Check,
-            limit: Options::DEFAULT_LIMIT,
-        },
+        };
+        return task_of(alloc, options, run);
+    }
+    let options = Options {
+        command: Command::Check,
+        limit: Options::DEFAULT_LIMIT,
+    };
+    match matches.subcommand_matches("check") {
+        Some(check) => task_of(alloc, options, check),
+        // One of the two has to stand there.
+        None => Ok(Task {
+            options,
+            file: None,
+            script: None,
+        }),
+    }
+}
+
+/// What a command is to do with the files that are named with it.
+fn task_of(alloc: Global, options: Options, named: &ArgMatches<'_>) -> Result<Task, Error> {
+    Ok(Task {
+        options,
+        file: name_of(alloc, named.get_str("file"))?,
+        script: name_of(alloc, named.get_str("script"))?,
     })
+}
+
+/// The name of a file, to keep.
+fn name_of(alloc: Global, name: Option<&str>) -> Result<Option<String>, AllocError> {
+    match name {
+        Some(name) => Ok(Some(String::from_str(alloc, name)?)),
+        None => Ok(None),
+    }
 }
 
 /// The limit of a run.
@@ -102,7 +140,9 @@ fn limit_of(run: &ArgMatches<'_>) -> u64 {
 fn command<'a>(alloc: Global) -> Result<clap::Command<'a>, Error> {
     let check = clap::Command::new(alloc, "check")
         .about("Checks a specification with its script, and writes its canonical text")
-        .after_help(CHECK_HELP);
+        .after_help(CHECK_HELP)
+        .arg(file(alloc))?
+        .arg(script(alloc))?;
     let limit = Arg::new(alloc, "limit")
         .long("limit")
         .value_name("N")
@@ -112,6 +152,8 @@ fn command<'a>(alloc: Global) -> Result<clap::Command<'a>, Error> {
     let run = clap::Command::new(alloc, "run")
         .about("Runs a specification on its script and writes the trace of each instance")
         .after_help(RUN_HELP)
+        .arg(file(alloc))?
+        .arg(script(alloc))?
         .arg(limit)?;
     let command = clap::Command::new(alloc, "sdlrun")
         .about("Reads SDL specifications, runs them and writes their exact traces")
@@ -121,6 +163,22 @@ fn command<'a>(alloc: Global) -> Result<clap::Command<'a>, Error> {
         .subcommand(check)?
         .subcommand(run)?;
     Ok(command)
+}
+
+/// The file of the specification.
+fn file<'a>(alloc: Global) -> Arg<'a> {
+    Arg::new(alloc, "file").value_name("FILE").help(
+        "The specification, with its script behind it; standard input if not given",
+    )
+}
+
+/// The file of the script.
+fn script<'a>(alloc: Global) -> Arg<'a> {
+    Arg::new(alloc, "script")
+        .long("script")
+        .value_name("FILE")
+        .help("The script, which then does not stand behind the specification")
+        .action(ArgAction::Set)
 }
 
 /// Prints what clap has to say.
