@@ -8,8 +8,8 @@ use std::alloc::{AllocError, Global};
 use std::env;
 use std::rt::Env;
 
-/// The program's version, and the toolchain that it is proved with. The gate compares the latter with the toolchain's own.
-const VERSION: &str = "0.1.0 (rattle-kit-13f logic dac8208d650f15bf)";
+/// The program's version, and the logic that it is proved in. The gate compares the latter with the toolchain's own.
+const VERSION: &str = "0.1.0 (rattle logic dac8208d650f15bf)";
 
 /// What follows the help of the program.
 const HELP: &str =
