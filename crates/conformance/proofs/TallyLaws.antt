@@ -5,12 +5,11 @@ use Rattle.conformance.specs.Judgement.{Upholds}
 use Rattle.conformance.specs.Tally.{AddsUp, IsTally, one_more, counted}
 use Rattle.conformance.specs.declared.case.Case.{Case}
 use Rattle.conformance.specs.declared.judge.Verdict.{Verdict}
-use Rattle.conformance.specs.declared.judge.Verdict.TheVariants.{AsWanted, Later, Differs}
+use Rattle.conformance.specs.declared.judge.Verdict.TheVariants.{AsWanted, Differs}
 use Rattle.conformance.specs.declared.tally.Counts.{Counts}
 
 cases-counted : (counts : Counts) (how : Verdict) → (counted counts how).cases ≡ counts.cases + 1
 cases-counted counts AsWanted = refl
-cases-counted counts Later = refl
 cases-counted counts (Differs how) = refl
 
 -- one case more is counted
@@ -22,7 +21,6 @@ number_more old new how n is number =
 
 pub adds_up_more : (counts : Counts) (how : Verdict) → AddsUp counts → AddsUp (counted counts how)
 adds_up_more counts AsWanted sums = omega arith
-adds_up_more counts Later sums = omega arith
 adds_up_more counts (Differs how) sums = omega arith
 
 pub tally_more : (cases : List Case) (i : ℕ) (counts : Counts) (case : Case) (how : Verdict) → i < length cases → case ≡ get_or cases i case → IsTally (take i cases) counts → Upholds case how → IsTally (take (i + 1) cases) (counted counts how)

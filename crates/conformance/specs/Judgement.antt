@@ -1,12 +1,11 @@
 -- What is found of a case, said of what the program may answer.
-use Rattle.std.specs.Prelude.{◌≡◌, ◌≢◌, ◌≤◌, ℕ, List, [], Some, None, IsSome, IsSomeAnd, Result, Ok, Err, MatchResult, length}
+use Rattle.std.specs.Prelude.{◌≡◌, ◌≢◌, ◌≤◌, ℕ, List, [], Some, Result, Ok, Err, MatchResult, length}
 use Rattle.sdl_engine.specs.Answer.{Faulted, Written}
 use Rattle.sdl_engine.specs.declared.options.Command.TheVariants as command
 use Rattle.sdl_engine.specs.declared.options.Options.{Options}
 use Rattle.sdl_engine.specs.declared.options.Outcome.{Outcome}
 use Rattle.sdl_engine.specs.declared.options.Outcome.TheVariants as outcome
 use Rattle.sdl_engine.specs.declared.options.TextFault.{TextFault}
-use Rattle.conformance.specs.Line.{first_line}
 use Rattle.conformance.specs.declared.case.Answer.{Answer}
 use Rattle.conformance.specs.declared.case.Asked.TheVariants as asked
 use Rattle.conformance.specs.declared.case.Case.{Case}
@@ -68,38 +67,19 @@ pub record AnswersUnstably (case : Case) (answer : Answer) : Type 0 where
   pub told : IsAnswer case.input.items options answer.output.items answer.status
   pub again : IsUnstable options answer
 
--- of a case that is not later, the wanted answer is what was answered
-pub record IsAsWanted (case : Case) : Type 0 where
-  pub answers : Answers case case.wanted
-  pub not_later : case.later ≡ None
-
--- the line that is told of a later case, and whether the answer begins with it
-abbrev pub BeginsAsTold : Case → Answer → Type 0
-BeginsAsTold case answer = IsSomeAnd case.later (λ line. line.items ≡ first_line answer.output.items)
-
-abbrev pub BeginsOtherwise : Case → Answer → Type 0
-BeginsOtherwise case answer = IsSomeAnd case.later (λ line. line.items ≢ first_line answer.output.items)
-
 -- whether it is a difference between an answer and the wanted one
 abbrev pub IsOfAnswer : Difference → Type 0
 IsOfAnswer difference.Arguments = ⊥
-IsOfAnswer difference.NoCase = ⊥
-IsOfAnswer difference.NotLater = ⊥
 IsOfAnswer (difference.Again pair) = ⊥
-IsOfAnswer (difference.LaterLine want told) = ⊥
 IsOfAnswer other = Unit {0}
 
 -- in what a case differs
 abbrev pub DiffersBy : Case → Difference → Type 0
 DiffersBy case difference.Arguments = case.asked ≡ asked.Unknown
-DiffersBy case difference.NoCase = case.asked ≡ asked.Nothing
-DiffersBy case difference.NotLater = Answers case case.wanted × IsSome case.later
 DiffersBy case (difference.Again pair) = (answer : Answer) × AnswersUnstably case answer
-DiffersBy case (difference.LaterLine want told) = (answer : Answer) × AnswersOtherwise case answer × BeginsOtherwise case answer
-DiffersBy case other = (answer : Answer) × AnswersOtherwise case answer × (case.later ≡ None)
+DiffersBy case other = (answer : Answer) × AnswersOtherwise case answer
 
 -- what a verdict says of its case
 abbrev pub Upholds : Case → Verdict → Type 0
-Upholds case verdict.AsWanted = IsAsWanted case
-Upholds case verdict.Later = (answer : Answer) × AnswersOtherwise case answer × BeginsAsTold case answer
+Upholds case verdict.AsWanted = Answers case case.wanted
 Upholds case (verdict.Differs how) = DiffersBy case how

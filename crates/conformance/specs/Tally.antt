@@ -9,16 +9,15 @@ use Rattle.conformance.specs.declared.tally.Counts.{Counts}
 -- the counts with one more verdict
 abbrev pub counted : Counts → Verdict → Counts
 counted c verdict.AsWanted = record c { cases = c.cases + 1; as_wanted = c.as_wanted + 1 }
-counted c verdict.Later = record c { cases = c.cases + 1; later = c.later + 1 }
 counted c (verdict.Differs how) = record c { cases = c.cases + 1; differ = c.differ + 1 }
 
--- each case is counted by one of the three
+-- each case is counted by one of the two
 abbrev pub AddsUp : Counts → Type 0
-AddsUp c = c.cases ≡ c.as_wanted + c.later + c.differ
+AddsUp c = c.cases ≡ c.as_wanted + c.differ
 
 -- before the first case
 abbrev pub no_counts : Counts
-no_counts = record { cases = 0; as_wanted = 0; later = 0; differ = 0 }
+no_counts = record { cases = 0; as_wanted = 0; differ = 0 }
 
 -- the counts of these cases, each by a verdict that it upholds
 pub data IsTally : List Case → Counts → Type 0 where

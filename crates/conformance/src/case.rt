@@ -9,8 +9,6 @@ pub enum Asked {
     Command(Options),
     /// Words that the driver doesn't know.
     Unknown,
-    /// Nothing: the list of later cases names one that stands in no file.
-    Nothing,
 }
 
 /// An exit status and what is written on standard output.
@@ -28,6 +26,4 @@ pub struct Case {
     pub asked: Asked,
     pub input: Vec<u8>,
     pub wanted: Answer,
-    /// Of a case that the program can't answer yet, the first line of its answer today.
-    pub later: Option<Vec<u8>>,
 }

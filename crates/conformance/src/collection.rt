@@ -3,7 +3,6 @@
 use crate::case::Case;
 use crate::fault::{Fault, FormatError, FormatFault};
 use crate::file::{Cases, read_file};
-use crate::later::read_later;
 use crate::lines::{Line, lines_of};
 use std::alloc::Global;
 use std::collections::BTreeSet;
@@ -13,10 +12,7 @@ use std::{fs, str};
 /// The file that names the case files.
 const INDEX: &str = "index";
 
-/// The file that lists the cases that the program can't answer yet.
-const LATER: &str = "later";
-
-/// Reads the case files that the index names, and the list of later cases.
+/// Reads the case files that the index names.
 pub fn read_cases<R: Files + AllocGlobal>(rt: &R) -> Result<Vec<Case>, Fault> {
     let alloc = rt.alloc();
     let mut cases = Cases {
@@ -31,12 +27,6 @@ pub fn read_cases<R: Files + AllocGlobal>(rt: &R) -> Result<Vec<Case>, Fault> {
         }
         rest = below;
     }
-    let later = read_bytes(rt, LATER)?;
-    in_file(
-        alloc,
-        LATER,
-        read_later(alloc, later.as_slice(), &mut cases.all),
-    )?;
     Ok(cases.all)
 }
 

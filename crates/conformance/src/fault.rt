@@ -32,8 +32,6 @@ pub enum FormatError {
     Row,
     #[error("a table without a row")]
     NoRow,
-    #[error("a later case is `NAME: LINE`")]
-    Later,
     #[error(transparent)]
     Escape(EscapeError),
 }

@@ -143,6 +143,5 @@ fn case_of(section: &Section<'_>, name: String, input: Vec<u8>, output: Vec<u8>)
             status: section.status,
             output,
         },
-        later: None,
     }
 }

@@ -1,13 +1,11 @@
 //! Whether a case is answered as wanted.
 
 ghost use Rattle.std.specs.Prelude.{◌≡◌, ◌↔◌, IfOk, IfSome, IsNone, MatchOption};
-ghost use Rattle.conformance.specs.Judgement.{Answers, AnswersOtherwise, IsCanonical, IsOfAnswer, IsSame, IsUnstable, Upholds};
+ghost use Rattle.conformance.specs.Judgement.{Answers, IsCanonical, IsOfAnswer, IsSame, IsUnstable, Upholds};
 
 use crate::answer::answer_of;
 use crate::case::{Answer, Asked, Case};
 use crate::compare::{LinePair, first_difference};
-use crate::lines::first_line;
-use crate::quoted::Escaped;
 use sdl_engine::{Command, Options};
 use std::alloc::{AllocError, Global};
 use std::fmt;
@@ -19,8 +17,6 @@ const LONGEST_SPECIFICATION: usize = 1_048_576;
 #[derive(Drop)]
 pub enum Verdict {
     AsWanted,
-    /// The case is on the list of those that the program can't answer yet, and its answer is the one told there.
-    Later,
     Differs(Difference),
 }
 
@@ -33,12 +29,6 @@ pub enum Difference {
     Status { want: u8, told: u8 },
     /// Its canonical text has another canonical text.
     Again(LinePair),
-    /// It is on the list of later cases, and its answer begins with another line.
-    LaterLine { want: Vec<u8>, told: Vec<u8> },
-    /// It is on the list of later cases, and is answered as wanted.
-    NotLater,
-    /// It is on the list of later cases, and stands in no file.
-    NoCase,
 }
 
 impl fmt::Display for Difference {
@@ -50,13 +40,6 @@ impl fmt::Display for Difference {
                 write!(f, "status\n  want: {want}\n  told: {told}")
             }
             Difference::Again(pair) => write!(f, "canonical text again, {pair}"),
-            Difference::LaterLine { want, told } => {
-                let want = Escaped(want.as_slice());
-                let told = Escaped(told.as_slice());
-                write!(f, "later\n  want: {want}\n  told: {told}")
-            }
-            Difference::NotLater => write!(f, "later, but answered as wanted"),
-            Difference::NoCase => write!(f, "later, but no such case"),
         }
     }
 }
@@ -68,7 +51,6 @@ pub fn judge(alloc: Global, case: &Case) -> Result<Verdict, AllocError>
     match case.asked {
         Asked::Command(options) => judge_command(alloc, case, &options),
         Asked::Unknown => Ok(Verdict::Differs(Difference::Arguments)),
-        Asked::Nothing => Ok(Verdict::Differs(Difference::NoCase)),
     }
 }
 
@@ -88,44 +70,9 @@ fn judge_answer(alloc: Global, case: &Case, answer: &Answer) -> Result<Verdict, 
     ensures { IfOk result (Upholds case.now) }
 {
     match compare(alloc, &case.wanted, answer)? {
-        Some(difference) => judge_other(alloc, case, answer, difference),
-        None => Ok(judge_same(case)),
+        Some(difference) => Ok(Verdict::Differs(difference)),
+        None => Ok(Verdict::AsWanted),
     }
-}
-
-/// Judges a case that is answered as wanted.
-fn judge_same(case: &Case) -> Verdict
-    requires { Answers case.now case.now.wanted }
-    ensures { Upholds case.now result }
-{
-    match case.later {
-        Some(_) => Verdict::Differs(Difference::NotLater),
-        None => Verdict::AsWanted,
-    }
-}
-
-/// Judges a case whose answer differs from the wanted one.
-fn judge_other(
-    alloc: Global,
-    case: &Case,
-    answer: &Answer,
-    difference: Difference,
-) -> Result<Verdict, AllocError>
-    requires answers { AnswersOtherwise case.now answer.now }
-    requires kind { IsOfAnswer difference }
-    ensures { IfOk result (Upholds case.now) }
-{
-    let Some(line) = &case.later else {
-        return Ok(Verdict::Differs(difference));
-    };
-    let told = first_line(answer.output.as_slice());
-    if line.as_slice() == told {
-        return Ok(Verdict::Later);
-    }
-    Ok(Verdict::Differs(Difference::LaterLine {
-        want: Vec::from_slice(alloc, line.as_slice())?,
-        told: Vec::from_slice(alloc, told)?,
-    }))
 }
 
 /// In what an answer differs from the wanted one.

@@ -2,9 +2,8 @@
 //! one. With names as arguments it runs those cases alone, and the tables of those names.
 //!
 //! A case is bytes in a file: a command line, an input, the output and the exit status that are wanted of the
-//! program. `file` reads the cases of a file, with the escapes of `escape`; `later` the list of those that the
-//! program can't answer yet; `judge` runs one, and its contract says that a case is as wanted only where the engine's
-//! own theorem holds of the wanted output; `tally` counts.
+//! program. `file` reads the cases of a file, with the escapes of `escape`; `judge` runs one, and its contract says
+//! that a case is as wanted only where the engine's own theorem holds of the wanted output; `tally` counts.
 #![tactic(auto)]
 
 mod answer;
@@ -16,7 +15,6 @@ mod escape;
 mod fault;
 mod file;
 mod judge;
-mod later;
 mod lines;
 mod quoted;
 mod section;

@@ -10,7 +10,6 @@ use std::fmt;
 pub struct Counts {
     pub cases: usize,
     pub as_wanted: usize,
-    pub later: usize,
     pub differ: usize,
 }
 
@@ -24,7 +23,6 @@ impl Counts {
         Counts {
             cases: 0,
             as_wanted: 0,
-            later: 0,
             differ: 0,
         }
     }
@@ -38,7 +36,6 @@ impl Counts {
         self.cases += 1;
         match verdict {
             Verdict::AsWanted => self.as_wanted += 1,
-            Verdict::Later => self.later += 1,
             Verdict::Differs(_) => self.differ += 1,
         }
     }
@@ -49,12 +46,11 @@ impl fmt::Display for Counts {
         let Counts {
             cases,
             as_wanted,
-            later,
             differ,
         } = *self;
         write!(
             f,
-            "{cases} cases: {as_wanted} as wanted, {later} later, {differ} differ"
+            "{cases} cases: {as_wanted} as wanted, {differ} differ"
         )
     }
 }

@@ -139,6 +139,3 @@ fn get_in<T: Copy>(names: Option<&Names<'_, T>>, text: &str) -> Option<T>
         Some(names) => names.get(text),
     }
 }
-
-#[cfg(test)]
-mod tests;

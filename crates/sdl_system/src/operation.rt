@@ -224,6 +224,3 @@ fn combine(logic: Logic, left: bool, right: bool) -> bool
         Logic::And => left && right,
     }
 }
-
-#[cfg(test)]
-mod tests;

@@ -1,0 +1,76 @@
+//! An instance over the port of many senders and one owner.
+
+ghost use Rattle.std.specs.Prelude.{◌≡◌};
+
+use crate::case::{Play, identity};
+use crate::outside::{OWN, Outside};
+use crate::play::{Subject, finish, play};
+use inbox::Fuse;
+use input_port::birth::port;
+use input_port::{Held, Port, Sender};
+use port_model::{Item, PortError};
+use sdl_interp::{Instance, Stepped};
+use sdl_report::Record;
+use std::alloc::{AllocError, Global};
+use std::sync::Wait;
+
+/// The instance, its port, and a sender of that port.
+#[derive(Drop)]
+struct Sharing<'s, 'a, R: Wait + Copy> {
+    rt: R,
+    port: &'a Port,
+    sender: Sender,
+    instance: Instance<'s, Held<'a, R>>,
+    ghost own: { sender.port ≡ port.now.queue },
+}
+
+impl<R: Wait + Copy> Subject for Sharing<'_, '_, R> {
+    fn advance(&mut self, alloc: Global, outside: &mut Outside<'_>) -> Stepped {
+        self.instance.step(alloc, outside)
+    }
+
+    fn hear(&mut self, item: Item) -> Result<(), AllocError> {
+        self.sender
+            .put(&self.rt, self.port, item)
+            .map_err(|_| AllocError)
+    }
+
+    fn hear_expiry(&mut self, fuse: Fuse, at: u64) -> Result<(), AllocError> {
+        self.sender
+            .expire(&self.rt, self.port, fuse, at)
+            .map_err(|_| AllocError)
+    }
+}
+
+/// What the first process of the system did.
+pub fn record_shared<R: Wait + Copy>(
+    rt: R,
+    alloc: Global,
+    played: Play<'_>,
+    outside: &mut Outside<'_>,
+) -> Result<Record, PortError> {
+    let (port, owner, mut desk) = port(alloc, OWN)?;
+    let sender = desk.sender(&port)?;
+    let inbox = Held::new(rt, &port, owner);
+    let Ok(instance) = Instance::new(
+        alloc,
+        played.system,
+        played.process,
+        identity(),
+        &played.values,
+        inbox,
+    ) else {
+        return Err(PortError::Memory);
+    };
+    let mut sharing = Sharing {
+        rt,
+        port: &port,
+        sender,
+        instance,
+    };
+    if play(alloc, &mut sharing, outside, played.script).is_err() {
+        return Err(PortError::Memory);
+    }
+    let Sharing { instance, .. } = sharing;
+    Ok(finish(alloc, instance, outside))
+}
