@@ -48,9 +48,6 @@ impl fmt::Display for Counts {
             as_wanted,
             differ,
         } = *self;
-        write!(
-            f,
-            "{cases} cases: {as_wanted} as wanted, {differ} differ"
-        )
+        write!(f, "{cases} cases: {as_wanted} as wanted, {differ} differ")
     }
 }

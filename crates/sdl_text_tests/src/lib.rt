@@ -10,8 +10,6 @@ mod again;
 #[cfg(test)]
 mod ends;
 #[cfg(test)]
-mod limits;
-#[cfg(test)]
 mod prefixes;
 #[cfg(test)]
 mod specifications;
