@@ -1,0 +1,10 @@
+mod Bare
+mod Courses
+mod Ends
+mod Follows
+mod Grown
+mod Lacking
+mod Moves
+mod Reports
+mod Resting
+mod Turns

@@ -1,0 +1,16 @@
+//! What holds of any two courses of a system, and of any two of its reports, as functions that do nothing.
+
+ghost use Rattle.sdl_unique.specs.Same.{CoursesAgree, OneReport, OneText};
+
+/// Two courses from one state of the whole, of which as much happened in the one as in the other, are the same, and
+/// lead to the same state. That is so where nothing in them fails for want of memory or of sets (Z.101: system).
+pub fn courses_agree()
+    ensures { CoursesAgree }
+{}
+
+/// A system, what its processes mean, a script and a limit have at most one serial report, as its readers see it: two
+/// in which no instance fails for want of memory or of sets are the same, and so are their texts (Z.101: system).
+pub fn one_report()
+    ensures report { OneReport }
+    ensures text { OneText }
+{}

@@ -1,0 +1,10 @@
+pub mod Failed
+pub mod First
+pub mod Inner
+pub mod Inside
+pub mod Iterates
+pub mod Next
+pub mod Paths
+pub mod Steps
+pub mod Takes
+pub mod Ways
