@@ -1,4 +1,5 @@
-//! Tests of what no text can show: readers and writers that fail, and lines that need no memory.
+//! Tests of what no text can show: readers and writers that fail, lines that need no memory, and what a human is told of a
+//! refusal.
 //!
 //! They stand above all other crates, so that none of these is proved a second time for its tests. Texts with what is
 //! written of them are cases of `conformance`.
@@ -8,3 +9,5 @@
 mod devices;
 #[cfg(test)]
 mod engine;
+#[cfg(test)]
+mod explains;

@@ -22,7 +22,7 @@ Examples:
 Exit status:
   0  whole: the text was checked, or the run came to its end
   1  the run was cut at its limit
-  2  the text is refused, by one line on standard output
+  2  the text is refused, by one line on standard output; --explain says more on standard error
   3  the run is refused, or a file can't be opened, or reading, writing or memory failed
   4  the command line has a mistake
 
@@ -53,6 +53,8 @@ Example:
 #[derive(Drop)]
 pub struct Task {
     pub options: Options,
+    /// Whether a refusal of the text is explained on standard error.
+    pub explain: bool,
     /// The file of the specification; where there is none, standard input is read.
     pub file: Option<String>,
     /// The file of the script; where there is none, it stands behind the specification.
@@ -107,16 +109,18 @@ pub fn chosen(alloc: Global, words: &[String]) -> Result<Task, Error> {
         // One of the two has to stand there.
         None => Ok(Task {
             options,
+            explain: false,
             file: None,
             script: None,
         }),
     }
 }
 
-/// What a command is to do with the files that are named with it.
+/// What a command is to do with the files that are named with it, and whether it explains a refusal.
 fn task_of(alloc: Global, options: Options, named: &ArgMatches<'_>) -> Result<Task, Error> {
     Ok(Task {
         options,
+        explain: named.get_flag("explain"),
         file: name_of(alloc, named.get_str("file"))?,
         script: name_of(alloc, named.get_str("script"))?,
     })
@@ -142,7 +146,8 @@ fn command<'a>(alloc: Global) -> Result<clap::Command<'a>, Error> {
         .about("Checks a specification with its script, and writes its canonical text")
         .after_help(CHECK_HELP)
         .arg(file(alloc))?
-        .arg(script(alloc))?;
+        .arg(script(alloc))?
+        .arg(explain(alloc))?;
     let limit = Arg::new(alloc, "limit")
         .long("limit")
         .value_name("N")
@@ -154,7 +159,8 @@ fn command<'a>(alloc: Global) -> Result<clap::Command<'a>, Error> {
         .after_help(RUN_HELP)
         .arg(file(alloc))?
         .arg(script(alloc))?
-        .arg(limit)?;
+        .arg(limit)?
+        .arg(explain(alloc))?;
     let command = clap::Command::new(alloc, "sdlrun")
         .about("Reads SDL specifications, runs them and writes their exact traces")
         .version(VERSION)
@@ -179,6 +185,14 @@ fn script<'a>(alloc: Global) -> Arg<'a> {
         .value_name("FILE")
         .help("The script, which then does not stand behind the specification")
         .action(ArgAction::Set)
+}
+
+/// Whether a refusal is explained.
+fn explain<'a>(alloc: Global) -> Arg<'a> {
+    Arg::new(alloc, "explain")
+        .long("explain")
+        .help("Explains a refusal of the text on standard error: its line, its place and what to do")
+        .action(ArgAction::SetTrue)
 }
 
 /// Prints what clap has to say.

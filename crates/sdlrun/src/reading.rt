@@ -1,7 +1,7 @@
 //! The text that is read: a file or standard input, and behind it a script's file, if one is named.
 
 use crate::command_line::Task;
-use sdl_engine::{Outcome, TextFault, run_text};
+use sdl_engine::{Options, Outcome, TextFault, run_and_explain, run_text};
 use std::fs::File;
 use std::io::Read;
 
@@ -20,25 +20,40 @@ pub enum Failure {
 pub fn tell(rt: &HostRuntime, task: Task) -> Result<Outcome, Failure> {
     let Task {
         options,
+        explain,
         file,
         script,
     } = task;
     let file = opened(rt, file)?;
     let script = opened(rt, script)?;
-    let mut writer = rt.stdout();
     let told = match (file, script) {
         (Some(file), Some(script)) => {
             let mut reader = file.chain(BETWEEN).chain(script);
-            run_text(rt.alloc(), &mut reader, &mut writer, &options)
+            tell_of(rt, &mut reader, &options, explain)
         }
-        (Some(mut file), None) => run_text(rt.alloc(), &mut file, &mut writer, &options),
+        (Some(mut file), None) => tell_of(rt, &mut file, &options, explain),
         (None, Some(script)) => {
             let mut reader = rt.stdin().chain(BETWEEN).chain(script);
-            run_text(rt.alloc(), &mut reader, &mut writer, &options)
+            tell_of(rt, &mut reader, &options, explain)
         }
-        (None, None) => run_text(rt.alloc(), &mut rt.stdin(), &mut writer, &options),
+        (None, None) => tell_of(rt, &mut rt.stdin(), &options, explain),
     };
     told.map_err(Failure::Text)
+}
+
+/// Does it with the text of a reader, and explains a refusal on standard error if that is asked for.
+fn tell_of<R: Read>(
+    rt: &HostRuntime,
+    reader: &mut R,
+    options: &Options,
+    explain: bool,
+) -> Result<Outcome, TextFault> {
+    let mut writer = rt.stdout();
+    if explain {
+        run_and_explain(rt.alloc(), reader, &mut writer, &mut rt.stderr(), options)
+    } else {
+        run_text(rt.alloc(), reader, &mut writer, options)
+    }
 }
 
 /// The file of this name, if there is one.

@@ -67,6 +67,27 @@ fn command_lines(rt: HostRuntime) -> Result<(), Fail> {
     Ok(())
 }
 
+#[test]
+fn explains_where_asked(rt: HostRuntime) -> Result<(), Fail> {
+    for (line, explain) in [
+        ("sdlrun check", false),
+        ("sdlrun check --explain", true),
+        ("sdlrun run --explain a", true),
+    ] {
+        let words = words(rt.alloc(), line)?;
+        let found = chosen(rt.alloc(), words.as_slice()).ok();
+        assert_eq!(rt; is_explained(&found), explain, "{line}");
+    }
+    Ok(())
+}
+
+fn is_explained(task: &Option<Task>) -> bool {
+    match task {
+        Some(task) => task.explain,
+        None => false,
+    }
+}
+
 fn asked_by(task: &Option<Task>) -> Option<Asked<'_>> {
     let Some(task) = task else {
         return None;

@@ -1,0 +1,5 @@
+pub mod Earlier
+pub mod Excerpt
+pub mod Explanation
+pub mod Refused
+pub mod Rows

@@ -1,0 +1,104 @@
+//! The explanation of a specification that has no system.
+
+ghost use Rattle.std.specs.Prelude.{◌≡◌, IfOk, IfSome};
+ghost use Rattle.std.specs.String.{string_bytes};
+ghost use Rattle.sdl_explain.specs.Earlier.{IsEarlier};
+ghost use Rattle.sdl_explain.specs.Refused.{IsShown, Repeats, build_place, repeated_by};
+
+use crate::definition::first_definition;
+use crate::earlier::earlier;
+use crate::explanation::{Explanation, Other, Source};
+use crate::mention::first_mention;
+use crate::parse::shown_at;
+use crate::sentence::build_advice;
+use sdl_build::BuildError;
+use sdl_lex::Place;
+use sdl_parse::parse;
+use sdl_scope::Kind;
+use sdl_tree::Name;
+use std::alloc::{AllocError, Global};
+
+/// Explains why a specification has no system. The other place is that of the first definition of a name that is
+/// defined twice, and that of the first mention of a signal that a state mentions twice.
+pub fn explain_build<'t>(
+    alloc: Global,
+    text: &'t [u8],
+    error: &'t BuildError,
+) -> Result<Explanation<'t>, AllocError>
+    ensures shown { IfOk result (λ told. IsShown text.now (build_place error.now) told.shown) }
+    ensures other { IfOk result (λ told. IfSome told.other
+        (Repeats text.now (build_place error.now) (repeated_by error.now))) }
+{
+    Ok(Explanation {
+        source: Source::Specification,
+        shown: shown_at(text, build_place(error)),
+        advice: build_advice(error),
+        other: other_of(alloc, text, error)?,
+    })
+}
+
+/// Where a rule is broken.
+fn build_place(error: &BuildError) -> Option<Place>
+    ensures { result ≡ build_place error.now }
+{
+    match error {
+        BuildError::Broken { word, .. } => Some(word.place),
+        BuildError::Memory => None,
+    }
+}
+
+/// Where the word stands first that is there once too often.
+fn other_of<'t>(
+    alloc: Global,
+    text: &'t [u8],
+    error: &BuildError,
+) -> Result<Option<Other<'t>>, AllocError>
+    ensures { IfOk result (λ other. IfSome other (Repeats text.now (build_place error.now) (repeated_by error.now))) }
+{
+    match error {
+        BuildError::Broken {
+            kind: Kind::Duplicate,
+            word,
+        } => {
+            let place = definition_in(alloc, text, word)?;
+            Ok(other_at(text, place, word, "It is defined first here:"))
+        }
+        BuildError::Broken {
+            kind: Kind::TwiceInState,
+            word,
+        } => {
+            let place = mention_in(alloc, text, word)?;
+            Ok(other_at(text, place, word, "It stands in this state first here:"))
+        }
+        _ => Ok(None),
+    }
+}
+
+/// The place at which a word stands, where it stands there and before itself.
+fn other_at<'t>(
+    text: &'t [u8],
+    place: Option<Place>,
+    word: &Name,
+    sentence: &'static str,
+) -> Option<Other<'t>>
+    ensures { IfSome result (λ it. IsEarlier text.now (string_bytes word.now.text) word.now.place it.excerpt) }
+{
+    let excerpt = earlier(text, place?, word.text.as_str().as_bytes(), word.place)?;
+    Some(Other { sentence, excerpt })
+}
+
+/// The first definition of a name that a text defines twice.
+fn definition_in(alloc: Global, text: &[u8], word: &Name) -> Result<Option<Place>, AllocError> {
+    match parse(alloc, text) {
+        Ok(tree) => first_definition(alloc, &tree, word),
+        Err(_) => Ok(None),
+    }
+}
+
+/// The first mention of a signal that a state of a text mentions twice.
+fn mention_in(alloc: Global, text: &[u8], word: &Name) -> Result<Option<Place>, AllocError> {
+    match parse(alloc, text) {
+        Ok(tree) => first_mention(alloc, &tree, word),
+        Err(_) => Ok(None),
+    }
+}

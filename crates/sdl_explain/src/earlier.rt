@@ -1,0 +1,34 @@
+//! Another place at which a word stands, before the one that is told.
+
+ghost use Rattle.std.specs.Prelude.{◌≡◌, ◌↔◌, IfSome, IsTrue, length, take};
+ghost use Rattle.sdl_explain.specs.Earlier.{IsBefore, IsEarlier};
+
+use crate::excerpt::Excerpt;
+use sdl_lex::Place;
+
+/// The excerpt at a place, where that stands before another one, and this word stands there.
+pub fn earlier<'t>(text: &'t [u8], place: Place, word: &[u8], than: Place) -> Option<Excerpt<'t>>
+    ensures { IfSome result (IsEarlier text.now word.now than) }
+{
+    let excerpt = Excerpt::at(text, place)?;
+    let is_word = excerpt.width == word.len() && begins_with(excerpt.behind, word);
+    if is_word && is_before(place, than) {
+        Some(excerpt)
+    } else {
+        None
+    }
+}
+
+/// Whether a place stands before another.
+fn is_before(place: Place, than: Place) -> bool
+    ensures { IsTrue result ↔ IsBefore place than }
+{
+    place.line < than.line || place.line == than.line && place.column < than.column
+}
+
+/// Whether the bytes begin with the word.
+fn begins_with(bytes: &[u8], word: &[u8]) -> bool
+    ensures { IsTrue result → take (length word.now) bytes.now ≡ word.now }
+{
+    word.len() <= bytes.len() && &bytes[..word.len()] == word
+}

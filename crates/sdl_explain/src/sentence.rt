@@ -1,0 +1,15 @@
+//! The sentences that tell a human which rule is broken and what to do about it. One that is about a word goes on
+//! behind that word, in quotes.
+
+mod broken;
+mod left_out;
+mod parse;
+mod script;
+
+pub use broken::build_advice;
+pub use parse::parse_advice;
+pub use script::script_advice;
+
+/// What is said where memory is out.
+const NO_MEMORY: &str =
+    "There was no memory for this text. Make it shorter, or give the program more.";

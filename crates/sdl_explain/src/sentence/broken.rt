@@ -1,0 +1,74 @@
+//! What is said of the rules that a specification breaks.
+
+use crate::advice::Advice;
+use sdl_build::BuildError;
+use sdl_scope::Kind;
+
+/// What is said of a specification that has no system.
+pub fn build_advice(error: &BuildError) -> Advice<'_> {
+    match error {
+        BuildError::Broken { kind, word } => {
+            let word = word.text.as_str();
+            Advice::about(word, broken_sentence(*kind, word))
+        }
+        BuildError::Memory => Advice::alone(super::NO_MEMORY),
+    }
+}
+
+/// What is said of the word at which a rule is broken.
+fn broken_sentence(kind: Kind, word: &str) -> &'static str {
+    match kind {
+        Kind::Unknown => {
+            "stands for nothing here: no definition of the kind that is wanted has this name, in its own scope \
+             or in one around it. Define it, or mend the spelling; capitals count."
+        }
+        Kind::Duplicate => {
+            "is defined in this scope already. Give one of the two another name, or take one away."
+        }
+        Kind::Sort => {
+            "doesn't fit here: its sort, or the number of its values, isn't what this place wants. Compare it \
+             with the definition of what it is given to."
+        }
+        Kind::TwiceInState => {
+            "stands in this state already, or a signal of it does: a state says but once what it does with a signal, by \
+             an input, a priority input or a save. Take one of the two away."
+        }
+        Kind::NoState => no_state(word),
+        Kind::NoLabel => {
+            "is no label of this process, and a join can't leave its process. Write `NAME:` before the action to \
+             go on at, or a connection of this name, or mend the spelling."
+        }
+        Kind::NoRoute => {
+            "reaches nobody: no path leads it from here to a process or to the environment. Name it behind `with` \
+             in a channel that begins here, or say by `to` who gets it."
+        }
+        Kind::BadCount => bad_count(word),
+        Kind::NoEnd => {
+            "begins a path that runs off its end. Let each way through it end with `nextstate`, `stop` or `join`, those \
+             too that go on behind an `enddecision`."
+        }
+        Kind::Limit => {
+            "is one more than this tool takes: 1,000 signals with timers, 16 parameters, 200 processes, 1,000 \
+             instances at the start, 1,000 states of a process, 50,000 statements. Leave something out."
+        }
+    }
+}
+
+fn no_state(word: &str) -> &'static str {
+    if word == "-" {
+        "means the state from which the transition began, and the start, which can come here, begins in none. Name \
+         a state instead."
+    } else {
+        "is no state of this process: no `state` names it. Add one, or mend the spelling; capitals count."
+    }
+}
+
+fn bad_count(word: &str) -> &'static str {
+    if word == "(" {
+        "opens numbers of instances that don't fit one another: the first, of those at the start, is 0 at least and \
+         no more than the second, the greatest number, which is 1 at least."
+    } else {
+        "begins a constant that has no value, or one that is negative where a natural number is wanted. Look for a \
+         division by zero, a result past 64 bits or a synonym in terms of itself."
+    }
+}
