@@ -10,7 +10,7 @@ use sdl_parse::parse;
 use sdl_report::{Record, Report, write_report};
 use sdl_script::{Script, read_script};
 use sdl_system::{Process, ProcessId, System};
-use std::alloc::Global;
+use std::alloc::{AllocError, Global};
 use std::process::Abort;
 use std::sync::Wait;
 use std::test::Fail;
@@ -94,27 +94,79 @@ pub fn play_of<'s>(alloc: Global, system: &'s System, case: Case<'_>) -> Result<
     })
 }
 
-/// The name of a case, and the text of a report with this record alone.
-fn text_of(alloc: Global, system: &System, name: &str, trace: Record) -> Result<String, Fail> {
+/// The text of a report with this record alone.
+fn text_of(alloc: Global, system: &System, trace: Record) -> Result<String, Fail> {
     let report = Report {
         records: vec![in alloc; trace]?,
         end: 0,
         whole: true,
     };
-    let mut bytes = Vec::new(alloc);
-    write_report(alloc, &report, system, &mut bytes)?;
-    let text = String::from_utf8_lossy(alloc, bytes.as_slice())?;
-    Ok(format!(in alloc; "{name}\n{}", text.as_str())?)
+    text_of_report(alloc, system, &report)
 }
 
-fn compare(rt: &impl Abort, told: &str, wanted: &str) {
-    assert_eq!(rt; told, wanted);
+fn text_of_report(alloc: Global, system: &System, report: &Report) -> Result<String, Fail> {
+    let mut bytes = Vec::new(alloc);
+    write_report(alloc, report, system, &mut bytes)?;
+    let text = String::from_utf8_lossy(alloc, bytes.as_slice())?;
+    Ok(String::from_str(alloc, text.as_str())?)
+}
+
+/// The text that is wanted, with the name of the case above it.
+fn wanted_text(alloc: Global, case: Case<'_>) -> Result<String, AllocError> {
+    let Case { name, wanted, .. } = case;
+    format!(in alloc; "{name}\ninstance #1 P parent null{wanted}end 0 whole\n")
+}
+
+/// Compares a record with the wanted one.
+fn compare(
+    rt: &impl Abort,
+    alloc: Global,
+    case: Case<'_>,
+    system: &System,
+    trace: Record,
+) -> Result<(), Fail> {
+    let told = text_of(alloc, system, trace)?;
+    compare_text(rt, alloc, case, told.as_str())
+}
+
+fn compare_text(rt: &impl Abort, alloc: Global, case: Case<'_>, told: &str) -> Result<(), Fail> {
+    let name = case.name;
+    let told = format!(in alloc; "{name}\n{told}")?;
+    let wanted = wanted_text(alloc, case)?;
+    assert_eq!(rt; told.as_str(), wanted.as_str());
+    Ok(())
 }
 
 fn compare_done(rt: &impl Abort, outside: &Outside<'_>, done: Option<&str>) {
     if let Some(done) = done {
         assert_eq!(rt; outside.done.as_str(), done);
     }
+}
+
+/// Runs the process over the port of one thread, and compares its record and what was done.
+fn check_alone(
+    rt: &impl Abort,
+    alloc: Global,
+    case: Case<'_>,
+    system: &System,
+) -> Result<(), Fail> {
+    let mut outside = Outside::new(alloc, system, case.room)?;
+    let trace = record_alone(alloc, play_of(alloc, system, case)?, &mut outside)?;
+    compare_done(rt, &outside, case.done);
+    compare(rt, alloc, case, system, trace)
+}
+
+/// Runs it over a shared port, and compares the same.
+fn check_shared<R: Abort + Wait + Copy>(
+    rt: R,
+    alloc: Global,
+    case: Case<'_>,
+    system: &System,
+) -> Result<(), Fail> {
+    let mut outside = Outside::new(alloc, system, case.room)?;
+    let trace = record_shared(rt, alloc, play_of(alloc, system, case)?, &mut outside)?;
+    compare_done(&rt, &outside, case.done);
+    compare(&rt, alloc, case, system, trace)
 }
 
 /// Runs the process over either port, and compares its record and what was done.
@@ -124,23 +176,6 @@ pub fn check_case<R: Abort + Wait + Copy>(
     case: Case<'_>,
 ) -> Result<(), Fail> {
     let system = system_of(alloc, case)?;
-    let Case { name, wanted, .. } = case;
-    let wanted = format!(in alloc; "{name}\ninstance #1 P parent null{wanted}end 0 whole\n")?;
-    let mut outside = Outside::new(alloc, &system, case.room)?;
-    let trace = record_alone(alloc, play_of(alloc, &system, case)?, &mut outside)?;
-    compare(
-        &rt,
-        text_of(alloc, &system, name, trace)?.as_str(),
-        wanted.as_str(),
-    );
-    compare_done(&rt, &outside, case.done);
-    let mut outside = Outside::new(alloc, &system, case.room)?;
-    let trace = record_shared(rt, alloc, play_of(alloc, &system, case)?, &mut outside)?;
-    compare(
-        &rt,
-        text_of(alloc, &system, name, trace)?.as_str(),
-        wanted.as_str(),
-    );
-    compare_done(&rt, &outside, case.done);
-    Ok(())
+    check_alone(&rt, alloc, case, &system)?;
+    check_shared(rt, alloc, case, &system)
 }

@@ -51,24 +51,43 @@ pub fn record_shared<R: Wait + Copy>(
 ) -> Result<Record, PortError> {
     let (port, owner, mut desk) = port(alloc, OWN)?;
     let sender = desk.sender(&port)?;
-    let inbox = Held::new(rt, &port, owner);
-    let Ok(instance) = Instance::new(
+    record_of(
+        rt,
         alloc,
-        played.system,
-        played.process,
-        identity(),
-        &played.values,
-        inbox,
-    ) else {
+        &port,
+        Held::new(rt, &port, owner),
+        sender,
+        played,
+        outside,
+    )
+}
+
+/// The same over a port, its owner and a sender of it.
+fn record_of<'a, R: Wait + Copy>(
+    rt: R,
+    alloc: Global,
+    port: &'a Port,
+    inbox: Held<'a, R>,
+    sender: Sender,
+    played: Play<'_>,
+    outside: &mut Outside<'_>,
+) -> Result<Record, PortError> {
+    let Play {
+        system,
+        process,
+        values,
+        script,
+    } = played;
+    let Ok(instance) = Instance::new(alloc, system, process, identity(), &values, inbox) else {
         return Err(PortError::Memory);
     };
     let mut sharing = Sharing {
         rt,
-        port: &port,
+        port,
         sender,
         instance,
     };
-    if play(alloc, &mut sharing, outside, played.script).is_err() {
+    if play(alloc, &mut sharing, outside, script).is_err() {
         return Err(PortError::Memory);
     }
     let Sharing { instance, .. } = sharing;
