@@ -5,10 +5,10 @@ use Rattle.sdl_build.specs.Built.{AreProcesses, IsBroken, IsBuilt, IsSystem, IsS
 use Rattle.sdl_build.specs.Built as is_broken
 use Rattle.sdl_build.specs.Faulty.{NotesRest}
 use Rattle.sdl_build.specs.Made.{AreProcessesOr, IsComposedIf}
-use Rattle.sdl_build.specs.Outcome.{IsMadeOf, IsMadeWith, IsRefusedAs, Tells, is_limit, is_past_limit}
+use Rattle.sdl_build.specs.Outcome.{IsMadeOf, IsMadeOn, IsMadeWith, IsRefusedAs, Tells, is_limit, is_past_limit}
 use Rattle.sdl_build.specs.Outcome as outcome
 use Rattle.sdl_build.specs.Signals.{signals_from}
-use Rattle.sdl_build.specs.Survey.{IsJoined, Survey}
+use Rattle.sdl_build.specs.Survey.{Definitions, IsJoined, Survey, definitions_of}
 use Rattle.sdl_build.specs.declared.error.BuildError.{BuildError}
 use Rattle.sdl_build.specs.declared.error.BuildError.TheVariants as error
 use Rattle.sdl_build.proofs.MadeLemmas.{same-one}
@@ -50,19 +50,42 @@ composed survey durations (Some list) (Some system) are same is = record {
   process_names = is.process_names;
 }
 
--- what is made of definitions that are looked at to the end
-pub to-the-end-if : {E : Type 0} (survey : Survey) (old new : Option Told) (durations : List (Option ℤ))
+-- what is made of what joins the agents and of the processes
+pub made-on-if : {E : Type 0} (survey : Survey) (old new : Option Told) (durations : List (Option ℤ))
     (processes : Option (Vec Process)) (result : Result (Option SystemValue) E) →
-    AreNamesOf survey.rows survey.declared → AreSynonymConstants survey.rows survey.declared survey.constants →
-    IsJoined survey →
-    NotesRest survey (least_of (least_of old (duplicate_faults survey.rows))
-    (figures_faults survey.rows survey.declared survey.constants)) new →
+    IsJoined survey → NotesRest survey old new →
     AreProcessesOr survey processes → durations ≡ all_durations survey.rows survey.declared survey.constants →
-    IfOk result (IsComposedIf survey.rows durations processes survey.routes) → IfOk result (IsMadeWith survey.rows old new)
-to-the-end-if survey old new durations processes (Ok system) names synonyms joined rest are same is =
-    outcome.to_the_end survey refl names synonyms joined rest
-    (composed survey durations processes system are same is)
-to-the-end-if survey old new durations processes (Err why) names synonyms joined rest are same is = tt
+    IfOk result (IsComposedIf survey.rows durations processes survey.routes) →
+    IfOk result (IsMadeOn (definitions_of survey) old new)
+made-on-if survey old new durations processes (Ok system) joined rest are same is = record {
+  survey = survey;
+  defined = refl;
+  joined = joined;
+  noted = rest;
+  made = composed survey durations processes system are same is;
+}
+made-on-if survey old new durations processes (Err why) joined rest are same is = tt
+
+-- what is made of definitions that are looked at to the end
+pub to-the-end-if : {E : Type 0} (definitions : Definitions) (old mid new : Option Told)
+    (result : Result (Option SystemValue) E) → AreNamesOf definitions.rows definitions.declared →
+    AreSynonymConstants definitions.rows definitions.declared definitions.constants →
+    mid ≡ least_of (least_of old (duplicate_faults definitions.rows))
+    (figures_faults definitions.rows definitions.declared definitions.constants) →
+    IfOk result (IsMadeOn definitions mid new) → IfOk result (IsMadeWith definitions.rows old new)
+to-the-end-if definitions old mid new (Ok system) names synonyms is made =
+    let rows = definitions.rows in
+    let same = sym made.defined in
+    outcome.to_the_end made.survey (ap (λ (d : Definitions). d.rows) made.defined)
+    (subst (λ (d : Definitions). AreNamesOf rows d.declared) same names)
+    (subst (λ (d : Definitions). AreSynonymConstants rows d.declared d.constants) same synonyms)
+    made.joined
+    (subst (λ before. NotesRest made.survey before new)
+    (is ∙ ap (λ (d : Definitions). least_of (least_of old (duplicate_faults rows))
+    (figures_faults rows d.declared d.constants)) same)
+    made.noted)
+    made.made
+to-the-end-if definitions old mid new (Err why) names synonyms is made = tt
 
 -- ---- what is told
 

@@ -1,6 +1,6 @@
 -- What the code keeps of what the definitions of a specification come to.
 use Rattle.std.specs.Prelude.{◌≡◌}
-use Rattle.sdl_build.specs.Survey.{IsNetwork, Survey}
+use Rattle.sdl_build.specs.Survey.{Definitions, IsNetwork, Survey}
 use Rattle.sdl_build.specs.declared.joined.Joined.{Joined}
 use Rattle.sdl_declared.specs.Tables.{Rows, rows_of}
 use Rattle.sdl_declared.specs.declared.tables.Tables.{Tables}
@@ -18,6 +18,11 @@ survey_of tables declared figures joined = record {
   routes = joined.routes;
   members = listed_members joined.members.items;
 }
+
+-- the definitions of which this is kept
+abbrev pub definitions_with : Tables → Declared → Figures → Definitions
+definitions_with tables declared figures =
+    record { rows = rows_of tables; declared = declared; constants = figures.constants.items }
 
 -- the figures are those of these definitions
 pub record AreFigures (rows : Rows) (declared : Declared) (figures : Figures) : Type 0 where

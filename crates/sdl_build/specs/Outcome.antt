@@ -2,7 +2,7 @@
 use Rattle.std.specs.Prelude.{◌≡◌, Bool, true, false, List, Option, None, Some}
 use Rattle.sdl_build.specs.Built.{IsBroken, IsSystemOr, IsTold}
 use Rattle.sdl_build.specs.Faulty.{NotesRest}
-use Rattle.sdl_build.specs.Survey.{AreDefinitions, IsJoined, Survey, definitions_of}
+use Rattle.sdl_build.specs.Survey.{AreDefinitions, Definitions, IsJoined, Survey, definitions_of}
 use Rattle.sdl_build.specs.declared.error.BuildError.{BuildError}
 use Rattle.sdl_build.specs.declared.error.BuildError.TheVariants as error
 use Rattle.sdl_declared.specs.Tables.{Rows}
@@ -27,6 +27,14 @@ is_limit _ = false
 abbrev pub is_past_limit : Option Told → Bool
 is_past_limit None = false
 is_past_limit (Some fault) = is_limit fault.kind
+
+-- what is noted and made of what joins the agents and of the processes, where these are the definitions
+pub record IsMadeOn (definitions : Definitions) (old new : Option Told) (system : Option SystemValue) : Type 0 where
+  pub survey : Survey
+  pub defined : definitions_of survey ≡ definitions
+  pub joined : IsJoined survey
+  pub noted : NotesRest survey old new
+  pub made : IsSystemOr survey system
 
 -- what is noted and made of the definitions of these rows: up to a limit that is passed, or all
 pub data IsMadeWith (rows : Rows) (old new : Option Told) (system : Option SystemValue) : Type 0 where

@@ -1,8 +1,9 @@
 //! The system of a specification, or why there is none.
 
 ghost use Rattle.std.specs.Prelude.{◌≡◌, None, IfErr, IfOk};
+ghost use Rattle.sdl_build.specs.Around.{AreFigures, definitions_with};
 ghost use Rattle.sdl_build.specs.Built.{IsBuilt};
-ghost use Rattle.sdl_build.specs.Outcome.{IsMadeOf, IsMadeWith, IsRefusedAs, is_past_limit};
+ghost use Rattle.sdl_build.specs.Outcome.{IsMadeOf, IsMadeOn, IsMadeWith, IsRefusedAs, is_past_limit};
 ghost use Rattle.sdl_declared.specs.Tables.{rows_of};
 ghost use Rattle.sdl_scope.specs.Faults.{told};
 ghost use Rattle.sdl_tree.specs.Views.{tree_value};
@@ -68,9 +69,25 @@ fn look<'t>(
     if is_past_limit(faults) {
         return Ok(None);
     }
-    let joined = Joined::of(alloc, tables, &declared, faults)?;
-    let processes = processes_in(alloc, tables, &declared, &figures, &joined, faults)?;
-    system_with(alloc, tables, &figures, processes, joined.routes)
+    look_on(alloc, tables, &declared, &figures, faults)
+}
+
+/// The system with these tables, names and figures; None where a process means nothing. Noted is what is broken in what
+/// joins the agents, and in the processes.
+fn look_on<'t>(
+    alloc: Global,
+    tables: &Tables<'t>,
+    declared: &Declared<'_, 't>,
+    figures: &Figures,
+    faults: &mut Faults<'t>,
+) -> Result<Option<System>, AllocError>
+    requires { AreFigures (rows_of tables.now) declared.now figures.now }
+    ensures { IfOk result (IsMadeOn (definitions_with tables.now declared.now figures.now)
+        (told faults.old) (told faults.new)) }
+{
+    let joined = Joined::of(alloc, tables, declared, faults)?;
+    let processes = processes_in(alloc, tables, declared, figures, &joined, faults)?;
+    system_with(alloc, tables, figures, processes, joined.routes)
 }
 
 /// Whether a limit is passed. It is told before all that isn't one.

@@ -1,0 +1,33 @@
+use Rattle.sdl_build.proofs.ResolveLemmas.{made-on-if, not-made}
+use Rattle.sdl_build.specs.Around.{survey_of}
+use Rattle.sdl_scope.specs.Faults.{told}
+use Rattle.sdl_build.proofs.resolve.look_on.Goals as goal
+
+pub processes_in-requires-clause-known : goal.processes_in-requires-clause-known
+processes_in-requires-clause-known c = record {
+  are_figures = c.requires;
+  is_network = c.in_ok-joined.ensures.network;
+}
+
+pub processes_in-requires-clause-sets : goal.processes_in-requires-clause-sets
+processes_in-requires-clause-sets c = c.in_ok-joined.ensures.sets
+
+pub returns : goal.returns
+returns c =
+    made-on-if (survey_of c.args.tables.now c.args.declared.now c.args.figures.now c.in_ok-joined.joined) _ _
+    c.args.figures.now.durations.items c.in_ok-processes.processes c.system_with.result
+    (record {
+      network = c.in_ok-joined.ensures.network;
+      routes = c.in_ok-joined.ensures.routes;
+      members = c.in_ok-joined.ensures.members;
+    })
+    (record {
+      mid = told c.of.new.faults;
+      joined = c.in_ok-joined.ensures.noted;
+      bodies = c.in_ok-processes.ensures.noted;
+    })
+    c.in_ok-processes.ensures.made c.requires.durations c.system_with.ensures
+
+pub returns-in_err-processes : goal.returns-in_err-processes
+returns-in_err-processes c =
+    not-made c.from_residual-in_err-processes.result _ _ c.from_residual-in_err-processes.ensures.1
