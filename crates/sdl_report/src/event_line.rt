@@ -10,10 +10,10 @@ ghost use Rattle.sdl_report.specs.ReportText.{created_text, event_line, line, si
 use crate::Record;
 use crate::entry::{Entry, Stimulus};
 use crate::names::{process_name, signal_name, state_name, variable_name};
+use crate::pieces::{push_number, push_pid, push_target, push_value};
 use port_model::{SignalId, Value};
 use sdl_system::{ProcessId, System, Target};
 use std::alloc::AllocError;
-use std::fmt;
 
 /// Appends the line of an event of the record, which is an entry with its values.
 pub fn push_event(
@@ -27,24 +27,33 @@ pub fn push_event(
         ++ event_line system.now «record».now (event_of entry values.now)) }
 {
     match entry {
-        Entry::Start { at } => writeln!(text, "{at} start"),
+        Entry::Start { at } => {
+            push_number(text, at)?;
+            text.push_str(" start\n")
+        }
         Entry::Consumed { at, got } => {
-            write!(text, "{at} input ")?;
+            push_number(text, at)?;
+            text.push_str(" input ")?;
             push_stimulus(text, got, values, record, system)
         }
         Entry::Prior { at, got } => {
-            write!(text, "{at} priority ")?;
+            push_number(text, at)?;
+            text.push_str(" priority ")?;
             push_stimulus(text, got, values, record, system)
         }
         Entry::Discarded { at, got } => {
-            write!(text, "{at} discard ")?;
+            push_number(text, at)?;
+            text.push_str(" discard ")?;
             push_stimulus(text, got, values, record, system)
         }
         Entry::Provided { at, number } => writeln!(text, "{at} provided {number}"),
         Entry::FailedAt { at, why } => writeln!(text, "{at} failed {why}"),
         Entry::Task { variable, value } => {
-            let name = variable_name(system, record.process(), variable);
-            writeln!(text, "  task {name} := {value}")
+            text.push_str("  task ")?;
+            text.push_str(variable_name(system, record.process(), variable))?;
+            text.push_str(" := ")?;
+            push_value(text, &value)?;
+            text.push('\n')
         }
         Entry::OutputOnPath { signal, target, .. }
         | Entry::OutputToProcess { signal, target, .. }
@@ -54,7 +63,9 @@ pub fn push_event(
         Entry::Set { timer, due, .. } => {
             text.push_str("  set ")?;
             push_signal(text, timer, values, system)?;
-            writeln!(text, " {due}")
+            text.push(' ')?;
+            push_number(text, due)?;
+            text.push('\n')
         }
         Entry::Reset { timer, .. } => {
             text.push_str("  reset ")?;
@@ -102,7 +113,9 @@ fn push_stimulus(
 {
     push_signal(text, got.name, values, system)?;
     let sender = got.origin.sender(record.pid());
-    writeln!(text, " from {sender}")
+    text.push_str(" from ")?;
+    push_pid(text, sender)?;
+    text.push('\n')
 }
 
 // Appends the line of an output.
@@ -118,8 +131,9 @@ fn push_output(
 {
     text.push_str("  output ")?;
     push_signal(text, signal, values, system)?;
-    let receiver = Receiver(target);
-    writeln!(text, " to {receiver}")
+    text.push_str(" to ")?;
+    push_target(text, target)?;
+    text.push('\n')
 }
 
 // Appends the line of a create.
@@ -160,30 +174,11 @@ fn push_values(text: &mut String, values: &[Value]) -> Result<(), AllocError>
     let Some((first, more)) = values.split_first() else {
         return Ok(());
     };
-    write!(text, "({first}")?;
+    text.push('(')?;
+    push_value(text, first)?;
     for value in more {
-        write!(text, ",{value}")?;
+        text.push(',')?;
+        push_value(text, value)?;
     }
     text.push(')')
-}
-
-// Whom an output reached: `#7`, `env`, `null` or `nobody`.
-#[derive(Clone, Copy)]
-struct Receiver(Target);
-
-impl fmt::Display for Receiver {
-    ghost use Rattle.std.specs.Prelude.{Some};
-    ghost use Rattle.sdl_report.specs.Name.{process_name};
-    ghost use Rattle.sdl_report.specs.ReportText.{target_text};
-
-    ghost output = { λ receiver. Some (target_text receiver.0) };
-
-    fn fmt<W: fmt::Write>(&self, f: &mut fmt::Formatter<W>) -> fmt::Result {
-        match self.0 {
-            Target::Instance(number) => write!(f, "#{number}"),
-            Target::Env => write!(f, "env"),
-            Target::Null => write!(f, "null"),
-            Target::Nobody => write!(f, "nobody"),
-        }
-    }
 }

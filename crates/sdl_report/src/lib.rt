@@ -12,6 +12,7 @@ mod entry;
 mod event_line;
 mod failure;
 mod names;
+mod pieces;
 mod record;
 mod report_text;
 mod write_whole;
