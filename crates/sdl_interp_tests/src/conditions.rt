@@ -2,7 +2,7 @@
 
 use crate::case::{CASE, Case};
 
-pub const CASES: &[Case<'static>] = &[
+pub static CASES: [Case<'static>; 5] = [
     Case {
         name: "conditions: a signal waits while its condition is false",
         process: "dcl ok Boolean := false; start; nextstate s; state s; input a; provided ok; nextstate -;

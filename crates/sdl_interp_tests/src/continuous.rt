@@ -2,7 +2,7 @@
 
 use crate::case::{CASE, Case};
 
-pub const CASES: &[Case<'static>] = &[
+pub static CASES: [Case<'static>; 5] = [
     Case {
         name: "continuous: by their priorities",
         process: "dcl n Integer := 0; start; nextstate s; state s; provided n < 2; task n := n + 1; nextstate -;

@@ -5,7 +5,7 @@ use crate::case::{CASE, Case};
 /// A process of which one instance may live, with two parameters.
 const Q: &str = "process Q (0, 1); fpar n Natural, p Pid; start; stop; endprocess;";
 
-pub const CASES: &[Case<'static>] = &[
+pub static CASES: [Case<'static>; 3] = [
     Case {
         name: "creates: a number and then null",
         process: "dcl p Pid; start; create Q(1 + 2, self); task p := offspring; create Q(4, p); task p := offspring;

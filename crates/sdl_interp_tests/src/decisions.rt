@@ -2,7 +2,7 @@
 
 use crate::case::{CASE, Case};
 
-pub const CASES: &[Case<'static>] = &[
+pub static CASES: [Case<'static>; 5] = [
     Case {
         name: "decisions: values and ranges",
         process: "dcl n Integer, w Integer; start; nextstate s; state s; input v(n); decision n;

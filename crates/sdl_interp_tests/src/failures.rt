@@ -2,7 +2,7 @@
 
 use crate::case::{CASE, Case};
 
-pub const CASES: &[Case<'static>] = &[
+pub static CASES: [Case<'static>; 10] = [
     Case {
         name: "failures: no answer",
         process: "start; decision 3; (1): stop; (> 5): stop; enddecision; state s;",

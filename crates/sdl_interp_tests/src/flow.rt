@@ -2,7 +2,7 @@
 
 use crate::case::{CASE, Case};
 
-pub const CASES: &[Case<'static>] = &[
+pub static CASES: [Case<'static>; 4] = [
     Case {
         name: "flow: labels and joins",
         process: "dcl n Integer := 0; start; again: task n := n + 1; decision n; (1:2): decision n = 1;

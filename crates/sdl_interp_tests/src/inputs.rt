@@ -2,7 +2,7 @@
 
 use crate::case::{CASE, Case};
 
-pub const CASES: &[Case<'static>] = &[
+pub static CASES: [Case<'static>; 9] = [
     Case {
         name: "inputs: values go to variables",
         process: "dcl n Integer := 0, f Boolean := false; start; nextstate s; state s; input pair(, f), v(n), a;

@@ -3,7 +3,7 @@
 use crate::case::{CASE, Case};
 use port_model::Value;
 
-pub const CASES: &[Case<'static>] = &[Case {
+pub static CASES: [Case<'static>; 1] = [Case {
     name: "instances: parameters have the values that there are",
     process: "fpar n Integer, f Boolean, k Natural; dcl m Integer := 4; start; task m := m + n; output pair(m, f);
             task m := k; nextstate s; state s;",

@@ -2,7 +2,7 @@
 
 use crate::case::{CASE, Case};
 
-pub const CASES: &[Case<'static>] = &[
+pub static CASES: [Case<'static>; 6] = [
     Case {
         name: "outputs: a signal along a path",
         process: "dcl n Integer := 4; start; output a, v(n + 1), pair(2, n = 4), at(now + 2), few(n);

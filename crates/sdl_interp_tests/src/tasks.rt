@@ -2,7 +2,7 @@
 
 use crate::case::{CASE, Case};
 
-pub const CASES: &[Case<'static>] = &[
+pub static CASES: [Case<'static>; 5] = [
     Case {
         name: "tasks: a list is done in order",
         process: "dcl n, m Integer; start; task n := 2, m := n * n - 1; nextstate s; state s;",

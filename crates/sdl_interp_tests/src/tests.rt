@@ -5,29 +5,33 @@ use crate::{
     conditions, continuous, creates, decisions, failures, flow, inputs, instances, outputs, tasks,
     timers,
 };
+use std::alloc::Global;
+use std::process::Abort;
+use std::sync::Wait;
 use std::test::Fail;
 
-/// The tables.
-const TABLES: &[&[Case<'static>]] = &[
-    conditions::CASES,
-    continuous::CASES,
-    creates::CASES,
-    decisions::CASES,
-    failures::CASES,
-    flow::CASES,
-    inputs::CASES,
-    instances::CASES,
-    outputs::CASES,
-    tasks::CASES,
-    timers::CASES,
-];
-
-#[test]
-fn an_instance_over_either_port(rt: HostRuntime) -> Result<(), Fail> {
-    for cases in TABLES {
-        for case in *cases {
-            check_case(rt, rt.alloc(), *case)?;
-        }
+fn check_all<R: Abort + Wait + Copy>(rt: R, alloc: Global, cases: &[Case<'_>]) -> Result<(), Fail> {
+    for case in cases {
+        check_case(rt, alloc, *case)?;
     }
     Ok(())
+}
+
+#[test]
+fn statements(rt: HostRuntime) -> Result<(), Fail> {
+    check_all(rt, rt.alloc(), &tasks::CASES)?;
+    check_all(rt, rt.alloc(), &outputs::CASES)?;
+    check_all(rt, rt.alloc(), &creates::CASES)?;
+    check_all(rt, rt.alloc(), &decisions::CASES)?;
+    check_all(rt, rt.alloc(), &flow::CASES)?;
+    check_all(rt, rt.alloc(), &failures::CASES)
+}
+
+#[test]
+fn states(rt: HostRuntime) -> Result<(), Fail> {
+    check_all(rt, rt.alloc(), &inputs::CASES)?;
+    check_all(rt, rt.alloc(), &conditions::CASES)?;
+    check_all(rt, rt.alloc(), &continuous::CASES)?;
+    check_all(rt, rt.alloc(), &timers::CASES)?;
+    check_all(rt, rt.alloc(), &instances::CASES)
 }

@@ -2,7 +2,7 @@
 
 use crate::case::{CASE, Case};
 
-pub const CASES: &[Case<'static>] = &[
+pub static CASES: [Case<'static>; 8] = [
     Case {
         name: "timers: a time in the past",
         process: "timer T, U; start; set(now - 1, T); set(now + 3, U), (now + 6, U); nextstate s;

@@ -191,7 +191,9 @@ fn script<'a>(alloc: Global) -> Arg<'a> {
 fn explain<'a>(alloc: Global) -> Arg<'a> {
     Arg::new(alloc, "explain")
         .long("explain")
-        .help("Explains a refusal of the text on standard error: its line, its place and what to do")
+        .help(
+            "Explains a refusal of the text on standard error: its line, its place and what to do",
+        )
         .action(ArgAction::SetTrue)
 }
 
