@@ -1,0 +1,5 @@
+pub mod LabelLemmas
+pub mod MeetLemmas
+pub mod SoundLemmas
+pub mod StartLemmas
+pub mod TypedLemmas

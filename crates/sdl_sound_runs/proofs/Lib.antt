@@ -1,0 +1,4 @@
+pub mod CauseLemmas
+pub mod PathLemmas
+pub mod PlaceLemmas
+pub mod SortLemmas

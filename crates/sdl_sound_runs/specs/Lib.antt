@@ -1,0 +1,5 @@
+pub mod Asked
+pub mod Laws
+pub mod Paths
+pub mod Sorts
+pub mod States

@@ -1,0 +1,4 @@
+pub mod Behaviours
+pub mod Laws
+pub mod States
+pub mod Tables

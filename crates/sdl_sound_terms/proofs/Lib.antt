@@ -1,0 +1,3 @@
+pub mod KindLemmas
+pub mod SoundLemmas
+pub mod ValueLemmas
