@@ -65,6 +65,7 @@ fn judge_command(alloc: Global, case: &Case, options: &Options) -> Result<Verdic
     }
 }
 
+#[tactic(auto, using(crate::proofs::JudgeLaws::differs_by_answer))]
 fn judge_answer(alloc: Global, case: &Case, answer: &Answer) -> Result<Verdict, AllocError>
     requires { Answers case.now answer.now }
     ensures { IfOk result (Upholds case.now) }

@@ -2,7 +2,9 @@
 use Rattle.std.proofs.Common.{◌≡◌, subst, sym}
 use Rattle.sdl_evaluation.specs.declared.identity.Identity.{Identity}
 use Rattle.sdl_evaluation.specs.declared.store.Store.{Store}
-use Rattle.sdl_interp.specs.Instance.{InstanceValue, IsAtRest, IsIdle, IsQuietAt, Keeps, work_of}
+use Rattle.sdl_interp.specs.Instance.{InstanceValue, IsAtRest, IsIdle, IsQuietAt, Keeps, Steps, work_of}
+use Rattle.sdl_interp.specs.declared.instance.Stepped.{Stepped}
+use Rattle.sdl_interp.specs.declared.instance.Stepped.TheVariants as stepped
 use Rattle.sdl_interp.specs.Stimulus.{WaitsAt}
 use Rattle.sdl_runs.specs.Leads.{IsQuiet}
 use Rattle.sdl_runs.specs.Place.{Definition}
@@ -30,3 +32,9 @@ at_rest old new w v keeps idle = λ d is.
     (idle.1 d
     (subst (λ (system : SystemValue). IsOf system old.process d) keeps.system
     (subst (λ (process : Process). IsOf new.system process d) keeps.process is))))
+
+-- what a step found that had nothing to do
+pub idle_rests : (how : Stepped) (old : InstanceValue) (w : WorldValue) (new : InstanceValue) (v : WorldValue)
+    → how ≡ stepped.Idle → Keeps old new → Steps how old w new v → IsAtRest new
+idle_rests how old w new v is keeps steps =
+    at_rest old new w v keeps (subst (λ (h : Stepped). Steps h old w new v) is steps)

@@ -1,5 +1,7 @@
 //! A process in a small system, a script, and the record that its instance is to have over either port.
 
+ghost use Rattle.std.specs.Prelude.{◌≡◌};
+
 use crate::alone::record_alone;
 use crate::outside::{OWN, Outside};
 use crate::shared::record_shared;
@@ -59,7 +61,9 @@ pub struct Play<'s> {
 }
 
 /// Who the instance is that is run.
-pub fn identity() -> Identity {
+pub fn identity() -> Identity
+    ensures { result.pid ≡ 1 }
+{
     Identity {
         process: ProcessId(0),
         pid: OWN,

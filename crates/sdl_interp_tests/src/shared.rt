@@ -1,6 +1,7 @@
 //! An instance over the port of many senders and one owner.
 
-ghost use Rattle.std.specs.Prelude.{◌≡◌};
+ghost use Rattle.std.specs.Prelude.{◌≡◌, []};
+ghost use Rattle.port_model.specs.Port.{empty_port};
 
 use crate::case::{Play, identity};
 use crate::outside::{OWN, Outside};
@@ -71,7 +72,12 @@ fn record_of<'a, R: Wait + Copy>(
     sender: Sender,
     played: Play<'_>,
     outside: &mut Outside<'_>,
-) -> Result<Record, PortError> {
+) -> Result<Record, PortError>
+    requires empty { inbox.owner.state ≡ empty_port }
+    requires drawn { inbox.owner.drawn ≡ [] }
+    requires own { inbox.owner.pid ≡ 1 }
+    requires sender { sender.port ≡ port.now.queue }
+{
     let Play {
         system,
         process,
