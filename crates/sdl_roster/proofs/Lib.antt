@@ -1,0 +1,7 @@
+pub mod Ascending
+pub mod Bits
+pub mod Kept
+pub mod Made
+pub mod Members
+pub mod Ranges
+pub mod Without

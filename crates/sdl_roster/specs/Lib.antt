@@ -1,0 +1,4 @@
+pub mod Instances
+pub mod Numbers
+pub mod Roster
+pub mod Words

@@ -1,0 +1,15 @@
+//! What is entered for an instance.
+
+use port_model::Pid;
+use sdl_system::ProcessId;
+
+/// What there is to know of an instance, from its create on.
+#[derive(Clone, Copy, Debug, PartialEq, Eq)]
+pub struct Entered {
+    /// Its number, from 1.
+    pub pid: u32,
+    /// The process of which it is an instance.
+    pub process: ProcessId,
+    /// Who created it; null for those that are there at the start.
+    pub parent: Pid,
+}
