@@ -1,7 +1,7 @@
 //! Whether a case is answered as wanted.
 
 ghost use Rattle.std.specs.Prelude.{◌≡◌, ◌↔◌, IfOk, IfSome, IsNone, MatchOption};
-ghost use Rattle.conformance.specs.Judgement.{Answers, IsCanonical, IsOfAnswer, IsSame, IsUnstable, Upholds};
+ghost use Rattle.conformance.specs.Judgement.{Answers, AnswersOtherwise, IsCanonical, IsOfAnswer, IsSame, IsUnstable, Upholds};
 
 use crate::answer::answer_of;
 use crate::case::{Answer, Asked, Case};
@@ -65,15 +65,23 @@ fn judge_command(alloc: Global, case: &Case, options: &Options) -> Result<Verdic
     }
 }
 
-#[tactic(auto, using(crate::proofs::JudgeLaws::differs_by_answer))]
 fn judge_answer(alloc: Global, case: &Case, answer: &Answer) -> Result<Verdict, AllocError>
     requires { Answers case.now answer.now }
     ensures { IfOk result (Upholds case.now) }
 {
     match compare(alloc, &case.wanted, answer)? {
-        Some(difference) => Ok(Verdict::Differs(difference)),
+        Some(difference) => Ok(judge_other(case, answer, difference)),
         None => Ok(Verdict::AsWanted),
     }
+}
+
+/// Judges a case whose answer differs from the wanted one.
+fn judge_other(_case: &Case, _answer: &Answer, difference: Difference) -> Verdict
+    requires answers { AnswersOtherwise _case.now _answer.now }
+    requires kind { IsOfAnswer difference }
+    ensures { Upholds _case.now result }
+{
+    Verdict::Differs(difference)
 }
 
 /// In what an answer differs from the wanted one.
