@@ -1,4 +1,6 @@
 //! What holds of every port, whatever happens to it: laws on the definitions, as functions that do nothing.
+ghost use Rattle.std.specs.Prelude.{◌≡◌};
+ghost use Rattle.port_model.specs.declared.plain_port.TheConstants.{MOST_SETS};
 ghost use Rattle.port_model.specs.Laws.{KeepsOrder, KeepsSaved, ResetsForGood, StopsForGood};
 
 /// The signals of one sender are never reordered by what happens to a port.
@@ -19,4 +21,9 @@ pub fn resets_for_good()
 /// After a stop nothing is consumed.
 pub fn stops_for_good()
     ensures { StopsForGood }
+{}
+
+/// A port counts 2^62 sets: the number itself, which `sets_spent` and `set` name by the constant.
+pub fn counts_sets()
+    ensures { MOST_SETS ≡ 4611686018427387904 }
 {}

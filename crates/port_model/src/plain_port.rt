@@ -303,6 +303,3 @@ fn end_timer(timers: &mut Timers, got: &Got)
         timers.remove(key);
     }
 }
-
-#[cfg(test)]
-mod tests;
