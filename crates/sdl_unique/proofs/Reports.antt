@@ -18,7 +18,7 @@ use Rattle.sdl_system.specs.System.{SystemValue}
 use Rattle.sdl_unique.proofs.Courses.{agree}
 use Rattle.sdl_unique.proofs.Ends.{not_longer, transitions_same}
 use Rattle.sdl_unique.proofs.Lacking.{ByNumber, by_number, first_part}
-use Rattle.sdl_unique.specs.Same.{AreSame, IsSameReport, OneReport, OneText, bare, read}
+use Rattle.sdl_unique.specs.Same.{AreSame, AreOfOneRun, IsSameReport, OneReport, OneReportOfAll, OneText, bare, read}
 use Rattle.sdl_unique_steps.specs.Unique.{LackNothing}
 
 -- ---- records
@@ -181,3 +181,18 @@ module _ (system : SystemValue) where
 pub one_text : OneText
 one_text ps system lines limit one other both =
     text_same system one other (one_report ps system lines limit one other both)
+
+-- each of the two is the same as the report that is one for all behaviours
+pub one_report_of_all : OneReportOfAll
+one_report_of_all ps qs system lines limit of_all one other x =
+    let by_first : AreOfOneRun ps system lines limit of_all one = record {
+      script = x.script; first = x.all ps x.first_meant; second = x.first; first_lacks = x.all_lacks; second_lacks = x.first_lacks;
+    } in
+    let by_second : AreOfOneRun qs system lines limit of_all other = record {
+      script = x.script; first = x.all qs x.second_meant; second = x.second; first_lacks = x.all_lacks; second_lacks = x.second_lacks;
+    } in
+    let a = one_report ps system lines limit of_all one by_first in
+    let b = one_report qs system lines limit of_all other by_second in (
+      record { records = sym a.records ∙ b.records; end = sym a.end ∙ b.end; whole = sym a.whole ∙ b.whole },
+      sym (one_text ps system lines limit of_all one by_first) ∙ one_text qs system lines limit of_all other by_second,
+    )

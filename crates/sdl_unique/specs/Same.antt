@@ -1,7 +1,7 @@
 -- What two courses of a system, and two serial reports, have in common (Z.101: system).
 use Rattle.std.specs.Prelude.{◌≡◌, ℕ, List, [], All, length, map}
 use Rattle.inbox.specs.Ends.{single}
-use Rattle.sdl_courses.specs.Course.{Course, Expired, Happening, Heard, Moved, Ticked}
+use Rattle.sdl_courses.specs.Course.{AreBehaviours, Course, Expired, Happening, Heard, Moved, Ticked}
 use Rattle.sdl_courses.specs.Global.{Global}
 use Rattle.sdl_courses.specs.Report.{IsSerialReport}
 use Rattle.sdl_interp.specs.Instance.{InstanceValue}
@@ -86,3 +86,30 @@ abbrev pub OneText : Type 0
 OneText =
     (ps : List Behaviour) (system : SystemValue) (lines : List ScriptLine) (limit : ℕ) (one other : Report)
     → AreOfOneRun ps system lines limit one other → report_text system one ≡ report_text system other
+
+-- ---- whatever behaviours
+
+-- A report that is in serial order for all behaviours that the processes of the system mean, as that of a run is.
+abbrev pub IsReportOfAll : SystemValue → List ScriptLine → ℕ → Report → Type 0
+IsReportOfAll system lines limit report =
+    (ps : List Behaviour) → AreBehaviours system ps → IsSerialReport ps system lines limit report
+
+-- a report that is one for all behaviours, and two others, each for behaviours of its own; nothing was wanting in them
+pub record AreOfOneSystem (ps qs : List Behaviour) (system : SystemValue) (lines : List ScriptLine) (limit : ℕ)
+    (of_all one other : Report) : Type 0 where
+  pub script : IsScript system lines
+  pub first_meant : AreBehaviours system ps
+  pub second_meant : AreBehaviours system qs
+  pub all : IsReportOfAll system lines limit of_all
+  pub first : IsSerialReport ps system lines limit one
+  pub second : IsSerialReport qs system lines limit other
+  pub all_lacks : ReportLacksNothing of_all
+  pub first_lacks : ReportLacksNothing one
+  pub second_lacks : ReportLacksNothing other
+
+-- The two are the same: which of the behaviours is taken makes no difference, once there is a report of a run.
+abbrev pub OneReportOfAll : Type 0
+OneReportOfAll =
+    (ps qs : List Behaviour) (system : SystemValue) (lines : List ScriptLine) (limit : ℕ) (of_all one other : Report)
+    → AreOfOneSystem ps qs system lines limit of_all one other
+    → IsSameReport one other × (report_text system one ≡ report_text system other)

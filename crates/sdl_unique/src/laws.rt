@@ -1,6 +1,6 @@
 //! What holds of any two courses of a system, and of any two of its reports, as functions that do nothing.
 
-ghost use Rattle.sdl_unique.specs.Same.{CoursesAgree, OneReport, OneText};
+ghost use Rattle.sdl_unique.specs.Same.{CoursesAgree, OneReport, OneReportOfAll, OneText};
 
 /// Two courses from one state of the whole, of which as much happened in the one as in the other, are the same, and
 /// lead to the same state. That is so where nothing in them fails for want of memory or of sets (Z.101: system).
@@ -13,4 +13,10 @@ pub fn courses_agree()
 pub fn one_report()
     ensures report { OneReport }
     ensures text { OneText }
+{}
+
+/// Where there is a report of a run, as `run_serial` makes it, a system, a script and a limit have at most one serial
+/// report and one text, whichever behaviours of the processes are taken for it (Z.101: system).
+pub fn one_report_of_all()
+    ensures { OneReportOfAll }
 {}
