@@ -1,6 +1,6 @@
 -- One step of a process (Z.101: agent, state; Z.102: start, input, priority input, continuous signal, transition, task,
 -- output, timers, create, decision, join, nextstate, stop).
-use Rattle.std.specs.Prelude.{◌≡◌, ℕ, ◌+◌, ◌<◌, ◌≤◌, List, [], ◌∷◌, Option, None, Some, Ok, slice_get}
+use Rattle.std.specs.Prelude.{◌≡◌, ◌≢◌, ℕ, ◌+◌, ◌<◌, ◌≤◌, List, [], ◌∷◌, Option, None, Some, Ok, slice_get}
 use Rattle.port_model.specs.History.{PortEvent, Reset, Set, Stop, Take}
 use Rattle.port_model.specs.Port.{PortState}
 use Rattle.port_model.specs.Take.{Takes, name_of}
@@ -8,6 +8,7 @@ use Rattle.port_model.specs.declared.got.Got.{Got}
 use Rattle.port_model.specs.declared.item.SignalId.{SignalId}
 use Rattle.port_model.specs.declared.pid.Pid.{Pid}
 use Rattle.port_model.specs.declared.pid.Pid.TheVariants.{Null, Of}
+use Rattle.port_model.specs.declared.plain_port.TheConstants.{MOST_SETS}
 use Rattle.port_model.specs.declared.selection.Class.{Class}
 use Rattle.port_model.specs.declared.taken.Taken.TheVariants as taken
 use Rattle.port_model.specs.declared.timer_key.TimerKey.{TimerKey}
@@ -130,10 +131,11 @@ pub record Sends (d : Definition) (who : Identity) (q : PortState) (to : Option 
   pub evaluated : sent_by d.system (environment d.system who s q) to one ≡ Ok (named, values)
   pub acts_are : acts ≡ Send target (record { name = signal; values = values; sender = Of who.pid }) ∷ []
 
--- a timer is set: its fuse has the number of the set
+-- a timer is set, for which the port has a number left: its fuse has the number of the set
 pub record Sets (d : Definition) (who : Identity) (q : PortState) (one : Setting) (s : Store) (key : TimerKey) (due : ℕ)
     (calls : List PortEvent) (acts : List Act) : Type 0 where
   pub evaluated : set_by (environment d.system who s q) one ≡ Ok (due, key)
+  pub numbered : q.sets ≢ MOST_SETS
   pub calls_are : calls ≡ Set key due (q.sets + 1) ∷ []
   pub acts_are : acts ≡ Arm (record { pid = who.pid; key = key; arm = q.sets + 1; due = due }) ∷ []
 

@@ -1,9 +1,12 @@
 -- What each deed inside of a transition brings: from the work `m` to `n`.
-use Rattle.std.proofs.Common.{◌≡◌, ◌+◌, refl, ℕ, List, [], ◌∷◌, Option, Some, Ok, true}
+use Rattle.std.proofs.Common.{◌≡◌, ◌≢◌, ◌+◌, refl, ℕ, List, [], ◌∷◌, Option, Some, Ok, Err, true}
 use Rattle.inbox.specs.Calls.{after_reset, after_set, after_stop}
 use Rattle.port_model.specs.History.{Reset, Set, Stop}
 use Rattle.port_model.specs.Port.{remove_from, set_in}
+use Rattle.port_model.specs.declared.error.PortError.{PortError}
+use Rattle.port_model.specs.declared.error.PortError.TheVariants.{SetsSpent}
 use Rattle.port_model.specs.declared.pid.Pid.TheVariants.{Of}
+use Rattle.port_model.specs.declared.plain_port.TheConstants.{MOST_SETS}
 use Rattle.port_model.specs.declared.timer_key.TimerKey.{TimerKey}
 use Rattle.port_model.specs.declared.value.Value.{Value}
 use Rattle.sdl_evaluation.specs.Environment.{Environment, environment}
@@ -30,6 +33,14 @@ inner deed is = All-one (λ (one : Deed). IsInner one.event) deed is
 
 abbrev here_of : Definition → MachineValue → Environment
 here_of d m = environment d.system m.who m.store m.owner.state
+
+-- a set that isn't refused has a number
+pub numbered_by : {A : Type 0} (sets : ℕ) (given : A)
+    → (sets ≡ MOST_SETS → Ok {E = PortError} given ≡ Err SetsSpent) → sets ≢ MOST_SETS
+numbered_by sets given spent is =
+    let told : Ok {E = PortError} given ≡ Err SetsSpent = spent is in
+    let wrong : ⊥ = cc in
+    wrong
 
 module _ (d : Definition) (origin : Option StateId) (rest : Body) where
   pub goes_assigned : (one : Assigning) (more : List Assigning) (value : Value) (m n : MachineValue) (w : WorldValue)
@@ -63,11 +74,12 @@ module _ (d : Definition) (origin : Option StateId) (rest : Body) where
       (refl, refl, refl, record { is = refl; evaluated = found; acts_are = refl }) refl)
 
   pub goes_set : (one : body.Setting) (more : List body.Setting) (key : TimerKey) (due : ℕ) (m n : MachineValue)
-      (w v : WorldValue) → m.owner.state.alive ≡ true → set_by (here_of d m) one ≡ Ok (due, key)
+      (w v : WorldValue) → m.owner.state.alive ≡ true → m.owner.state.sets ≢ MOST_SETS
+      → set_by (here_of d m) one ≡ Ok (due, key)
       → v ≡ after_act w (Arm (record { pid = m.who.pid; key = key; arm = m.owner.state.sets + 1; due = due }))
       → n ≡ with_event (record m { owner = after_set m.owner key due }) (event.Set key due)
       → Goes AreInner d (Amid origin (body.set (one ∷ more)) rest) m w (Amid origin (body.set more) rest) n v
-  goes_set one more key due m n w v alive found armed is =
+  goes_set one more key due m n w v alive numbered found armed is =
       let from : Place = Amid origin (body.set (one ∷ more)) rest in
       let to : Place = Amid origin (body.set more) rest in
       let k : MachineValue = record m { owner = after_set m.owner key due } in
@@ -76,7 +88,7 @@ module _ (d : Definition) (origin : Option StateId) (rest : Body) where
       let deed : Deed = record { event = event.Set key due; calls = Set key due arm ∷ []; acts = act ∷ [] } in
       goes_until d AreInner from to m (with_event k deed.event) n w (after_act w act) v is armed
       (goes_deed d AreInner from to m k w deed (inner deed tt) refl refl refl refl refl refl refl refl tt
-      (refl, refl, record { evaluated = found; calls_are = refl; acts_are = refl })
+      (refl, refl, record { evaluated = found; numbered = numbered; calls_are = refl; acts_are = refl })
       (set_in m.owner.state key due, (alive, refl, refl), refl))
 
   pub goes_reset : (one : body.Timing) (more : List body.Timing) (key : TimerKey) (m n : MachineValue) (w : WorldValue)

@@ -41,7 +41,7 @@ pub record AreSame (happenings others : List Happening) (last end : Global) : Ty
 
 -- ---- courses
 
--- no instance failed for want of memory, or of numbers for its sets
+-- no instance failed for want of memory
 abbrev pub LacksNothing : Global → Type 0
 LacksNothing g = All (λ (i : InstanceValue). LackNothing i.events) g.instances
 
@@ -66,7 +66,7 @@ pub record IsSameReport (one other : Report) : Type 0 where
   pub end : one.end ≡ other.end
   pub whole : one.whole ≡ other.whole
 
--- two serial reports of one system, script and limit, in which nothing was wanting
+-- two serial reports of one system, script and limit, in which no memory was wanting
 pub record AreOfOneRun (ps : List Behaviour) (system : SystemValue) (lines : List ScriptLine) (limit : ℕ)
     (one other : Report) : Type 0 where
   pub script : IsScript system lines
@@ -94,7 +94,7 @@ abbrev pub IsReportOfAll : SystemValue → List ScriptLine → ℕ → Report �
 IsReportOfAll system lines limit report =
     (ps : List Behaviour) → AreBehaviours system ps → IsSerialReport ps system lines limit report
 
--- a report that is one for all behaviours, and two others, each for behaviours of its own; nothing was wanting in them
+-- a report that is one for all behaviours, and two others, each for behaviours of its own; no memory was wanting
 pub record AreOfOneSystem (ps qs : List Behaviour) (system : SystemValue) (lines : List ScriptLine) (limit : ℕ)
     (of_all one other : Report) : Type 0 where
   pub script : IsScript system lines

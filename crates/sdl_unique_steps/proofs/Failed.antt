@@ -1,8 +1,9 @@
 -- A failure of a transition for a cause is what comes next.
-use Rattle.std.proofs.Common.{◌≡◌, ◌⊎◌, ◌∙◌, ◌<◌, ◌≤◌, ℕ, Bool, true, false, List, [], ◌∷◌, None, Some, Option, Result, Ok, Err, ap, arith, inl, inr, length, nat_lt, refl, subst, sym}
+use Rattle.std.proofs.Common.{◌≡◌, ◌⊎◌, ◌∙◌, ◌<◌, ◌≤◌, ℕ, Bool, true, false, List, [], ◌∷◌, None, Some, Option, Result, Ok, Err, ap, arith, eq-eqb, inl, inr, length, nat_eq, nat_lt, refl, subst, sym}
 use Rattle.std.proofs.lemmas.Bool.{lt-ltb}
 use Rattle.port_model.specs.History.{IsLegal, PortEvent, PortStep, Stop}
 use Rattle.port_model.specs.Port.{PortState, remove_from, stopped}
+use Rattle.port_model.specs.declared.plain_port.TheConstants.{MOST_SETS}
 use Rattle.port_model.specs.declared.value.Value.{Value}
 use Rattle.sdl_evaluation.specs.Environment.{environment}
 use Rattle.sdl_evaluation.specs.Value.{at_place, key_at, placed, value_of, values_at}
@@ -28,7 +29,7 @@ use Rattle.sdl_system.specs.declared.statement.Node.{Node}
 use Rattle.sdl_system.specs.declared.statement.Statement.TheVariants as kind
 use Rattle.sdl_system.specs.declared.statement.Way.{Way}
 use Rattle.sdl_unique_steps.proofs.Inner.{Comes, did_same, ends_next, head_acts, on_false, on_ok, on_some, on_true, one_call}
-use Rattle.sdl_unique_steps.proofs.Next.{Frame, Head, IsAt, Next, Site, amid, assigning_next, at_head, at_node, counting, deciding, did, doing, entering, failing, head_of, is_amid, is_doing, is_over, is_receiving, is_start, is_state, made, mark_of, next_of, node_at, nothing, on_option, on_result, on_test, over, receiving, sent, set_at, turned}
+use Rattle.sdl_unique_steps.proofs.Next.{Frame, Head, IsAt, Next, Site, amid, assigning_next, at_head, at_node, counting, deciding, did, doing, entering, failing, head_of, is_amid, is_doing, is_over, is_receiving, is_start, is_state, made, mark_of, next_of, node_at, nothing, on_option, on_result, on_test, over, receiving, sent, set_at, set_or_spent, turned}
 use Rattle.sdl_unique_steps.proofs.Next as next
 use Rattle.sdl_unique_steps.proofs.Ways.{GoesOn, at_is, decides}
 use Rattle.sdl_unique_steps.specs.Unique.{is_want}
@@ -165,16 +166,19 @@ module _ (f : Frame) (w : WorldValue) (s : Store) (q : PortState) where
       (failing s q Undefined) (not_below n.0 (length f.d.behaviour.states) none)
       ∙ ap (λ x. failing s q x) (sym is)
 
-  spent_or : (site : Site) (one : body.Setting) (why : Failure) → is_want why ≡ false
+  spent_or : (site : Site) (one : body.Setting) (why : Failure)
       → (set_by (environment f.d.system f.who s q) one ≡ Err why)
       ⊎ IsSpent (environment f.d.system f.who s q) q one why
       → next.setting_next f site s q one ≡ failing s q why
-  spent_or site one why lacks (inl fails) =
-      on_err (set_by (environment f.d.system f.who s q) one) why (failing s q) (λ at. set_at f site s q at.0 at.1) fails
-  spent_or site one why lacks (inr spent) =
-      let told : why ≡ SetsSpent = spent.told in
-      let wrong : true ≡ false = sym (ap is_want told) ∙ lacks in
-      let no : ⊥ = cc in absurd no
+  spent_or site one why (inl fails) =
+      on_err (set_by (environment f.d.system f.who s q) one) why (failing s q)
+      (λ at. set_or_spent f site s q at.0 at.1) fails
+  spent_or site one why (inr spent) =
+      on_ok (set_by (environment f.d.system f.who s q) one) (spent.due, spent.key) (failing s q)
+      (λ at. set_or_spent f site s q at.0 at.1) spent.evaluated
+      ∙ on_true (nat_eq q.sets MOST_SETS) (failing s q SetsSpent) (set_at f site s q spent.due spent.key)
+      (eq-eqb q.sets MOST_SETS spent.spent)
+      ∙ ap (λ x. failing s q x) (sym spent.told)
 
   decision_wrong : (origin : Option StateId) (question : Term) (parts : Parts) (rest : Body) (at : Option NodeId)
       (why : Failure) (has : Has f.nodes f.marks at (body.decision question parts rest) None)
@@ -193,42 +197,42 @@ module _ (f : Frame) (w : WorldValue) (s : Store) (q : PortState) where
       miss.1.none)
       miss.0
 
-  pub cause_next : (why : Failure) (at : Place) (site : Site) → is_want why ≡ false → IsAt f.nodes f.marks at site
+  pub cause_next : (why : Failure) (at : Place) (site : Site) → IsAt f.nodes f.marks at site
       → HasCause f.d f.who q at s why → next_of f w site s q ≡ failing s q why
-  cause_next why _ _ lacks (is_receiving origin (Some variable ∷ variables) (value ∷ values) rest spot has) cause =
+  cause_next why _ _ (is_receiving origin (Some variable ∷ variables) (value ∷ values) rest spot has) cause =
       on_err (placed (sort_in f.d.behaviour variable) value) why (failing s q)
       (λ taken. turned (receiving origin variables values spot) (assigned variable taken s)) cause
-  cause_next why _ _ lacks (is_doing origin (body.action first rest) spot has) cause =
+  cause_next why _ _ (is_doing origin (body.action first rest) spot has) cause =
       acts_next origin first spot has.0 has.1 ∙ too_long s q why (turned (amid origin first has.0)) cause
-  cause_next why _ _ lacks (is_doing origin (body.decision question parts rest) spot has) cause =
+  cause_next why _ _ (is_doing origin (body.decision question parts rest) spot has) cause =
       asks_next origin has.0 question spot has.1 has.2 ∙ decision_wrong origin question parts rest spot why has cause
-  cause_next why _ _ lacks (is_doing origin (body.ending (body.join label)) spot has) cause =
+  cause_next why _ _ (is_doing origin (body.ending (body.join label)) spot has) cause =
       ends_next f w origin (body.join label) spot s q has
       ∙ too_long s q why (turned (doing origin (mark_of f.marks label))) cause
-  cause_next why _ _ lacks (is_doing origin (body.ending (body.to_state n)) spot has) cause =
+  cause_next why _ _ (is_doing origin (body.ending (body.to_state n)) spot has) cause =
       ends_next f w origin (body.to_state n) spot s q has ∙ no_state n why cause.0 cause.1
-  cause_next why _ _ lacks (is_doing None (body.ending body.to_same) spot has) cause =
+  cause_next why _ _ (is_doing None (body.ending body.to_same) spot has) cause =
       ends_next f w None body.to_same spot s q has ∙ ap (λ x. failing s q x) (sym cause)
-  cause_next why _ _ lacks (is_doing (Some n) (body.ending body.to_same) spot has) cause =
+  cause_next why _ _ (is_doing (Some n) (body.ending body.to_same) spot has) cause =
       ends_next f w (Some n) body.to_same spot s q has ∙ no_state n why cause.0 cause.1
-  cause_next why _ _ lacks (is_amid origin (body.task (one ∷ more)) rest spot has) cause =
+  cause_next why _ _ (is_amid origin (body.task (one ∷ more)) rest spot has) cause =
       on_err (at_place (sort_in f.d.behaviour one.variable)
       (value_of (environment f.d.system f.who s q) one.value)) why (failing s q)
       (λ value. did (event.Task one.variable value) [] (amid origin (body.task more) spot)
       (assigned one.variable value s) q) cause
-  cause_next why _ _ lacks (is_amid origin (body.output (one ∷ more) to) rest spot has) cause =
+  cause_next why _ _ (is_amid origin (body.output (one ∷ more) to) rest spot has) cause =
       on_err (sent_by f.d.system (environment f.d.system f.who s q) to one) why (failing s q)
       (λ named. on_option w.census nothing
       (sent f w (amid origin (body.output more to) spot) s q one named.0 named.1)) cause
-  cause_next why _ _ lacks (is_amid origin (body.set (one ∷ more)) rest spot has) cause =
-      spent_or (amid origin (body.set more) spot) one why lacks cause
-  cause_next why _ _ lacks (is_amid origin (body.reset (one ∷ more)) rest spot has) cause =
+  cause_next why _ _ (is_amid origin (body.set (one ∷ more)) rest spot has) cause =
+      spent_or (amid origin (body.set more) spot) one why cause
+  cause_next why _ _ (is_amid origin (body.reset (one ∷ more)) rest spot has) cause =
       on_err (key_at (environment f.d.system f.who s q) one.timer one.values) why (failing s q)
       (λ key. did (event.Reset key) [] (amid origin (body.reset more) spot) s (remove_from q key)) cause
-  cause_next why _ _ lacks (is_amid origin (body.create process terms) rest spot has) cause =
+  cause_next why _ _ (is_amid origin (body.create process terms) rest spot has) cause =
       on_err (values_at (environment f.d.system f.who s q) (parameters_of f.d.system process) terms) why (failing s q)
       (λ values. on_option w.census nothing (made f w (doing origin spot) s q process values)) cause
-  cause_next why _ _ lacks at cause = absurd cause
+  cause_next why _ _ at cause = absurd cause
 
   -- ---- the failure
 
@@ -243,7 +247,7 @@ module _ (f : Frame) (w : WorldValue) (s : Store) (q : PortState) where
       elim said.2 [
         | inl memory ↦
             (let wrong : true ≡ false = sym (ap is_want memory.0) ∙ lacks in let no : ⊥ = cc in absurd no)
-        | inr cause ↦ cause_next why at site lacks is_at cause
+        | inr cause ↦ cause_next why at site is_at cause
       ] in
       record {
         after = over;

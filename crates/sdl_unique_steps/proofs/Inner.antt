@@ -1,9 +1,10 @@
 -- Each event in a transition is what comes next.
-use Rattle.std.proofs.Common.{◌≡◌, ◌∙◌, ◌+◌, ℕ, Bool, true, false, IfSome, List, [], ◌∷◌, None, Some, Option, Result, Ok, ap, length, nat_lt, refl, subst, sym}
+use Rattle.std.proofs.Common.{◌≡◌, ◌∙◌, ◌+◌, ℕ, Bool, true, false, IfSome, List, [], ◌∷◌, None, Some, Option, Result, Ok, ap, length, nat_eq, nat_lt, ne_eqb, refl, subst, sym}
 use Rattle.std.proofs.lemmas.Bool.{lt-ltb}
 use Rattle.port_model.specs.History.{IsLegal, PortEvent, PortStep, Reset, Set, Stop}
 use Rattle.port_model.specs.Port.{PortState, remove_from, set_in, stopped}
 use Rattle.port_model.specs.declared.pid.Pid.TheVariants.{Of}
+use Rattle.port_model.specs.declared.plain_port.TheConstants.{MOST_SETS}
 use Rattle.port_model.specs.declared.item.SignalId.{SignalId}
 use Rattle.port_model.specs.declared.timer_key.TimerKey.{TimerKey}
 use Rattle.port_model.specs.declared.value.Value.{Value}
@@ -13,7 +14,7 @@ use Rattle.sdl_evaluation.specs.declared.store.Store.{Store}
 use Rattle.sdl_report.specs.Event as event
 use Rattle.sdl_report.specs.Event.{Event}
 use Rattle.sdl_report.specs.declared.failure.Failure.{Failure}
-use Rattle.sdl_report.specs.declared.failure.Failure.TheVariants.{Undefined}
+use Rattle.sdl_report.specs.declared.failure.Failure.TheVariants.{SetsSpent, Undefined}
 use Rattle.sdl_runs.specs.Act.{Act, Arm, Send}
 use Rattle.sdl_runs.specs.Fails.{parameters_of, sent_by, set_by}
 use Rattle.sdl_runs.specs.Leads.{Assigns, Creates, Happens, Sends, Sets, created, offspring_of}
@@ -35,7 +36,7 @@ use Rattle.sdl_system.specs.declared.route.Source.TheVariants as source
 use Rattle.sdl_system.specs.declared.route.Target.{Target}
 use Rattle.sdl_system.specs.declared.statement.Statement.{Statement}
 use Rattle.sdl_system.specs.declared.statement.Statement.TheVariants as kind
-use Rattle.sdl_unique_steps.proofs.Next.{Frame, IsAt, Next, Site, acts, amid, at_head, at_node, at_state, did, doing, ending, ends, entering, failing, head_of, is_amid, is_doing, is_over, is_state, made, next_of, node_at, nothing, on_option, on_result, on_test, over, reached, sent, set_at}
+use Rattle.sdl_unique_steps.proofs.Next.{Frame, IsAt, Next, Site, acts, amid, at_head, at_node, at_state, did, doing, ending, ends, entering, failing, head_of, is_amid, is_doing, is_over, is_state, made, next_of, node_at, nothing, on_option, on_result, on_test, over, reached, sent, set_at, set_or_spent}
 use Rattle.sdl_unique_steps.proofs.Ways.{at_is}
 
 -- the event is what comes next, and leads to a place that is known
@@ -189,7 +190,9 @@ module _ (f : Frame) (w : WorldValue) (s : Store) (q : PortState) (calls : List 
         after = site;
         at = subst (λ p. IsAt f.nodes f.marks p site) (sym h.0) (is_amid origin (body.set more) rest spot has);
         is = on_ok (set_by (environment f.d.system f.who s q) one) (due, key) (failing s q)
-            (λ at. set_at f site s q at.0 at.1) sets.evaluated
+            (λ at. set_or_spent f site s q at.0 at.1) sets.evaluated
+            ∙ on_false (nat_eq q.sets MOST_SETS) (failing s q SetsSpent) (set_at f site s q due key)
+            (ne_eqb q.sets MOST_SETS sets.numbered)
             ∙ did_same (event.Set key due) (event.Set key due)
             (Arm (record { pid = f.who.pid; key = key; arm = q.sets + 1; due = due }) ∷ []) done site s t
             (set_in q key due) r refl sets.acts_are h.1 step.2;

@@ -1,7 +1,8 @@
 -- What comes next in a transition, as a function of where it stands among the nodes of its process.
-use Rattle.std.proofs.Common.{◌+◌, ℕ, Bool, true, false, List, [], ◌∷◌, Option, None, Some, Result, Ok, Err, length, nat_lt, slice_get, unwrap_or}
+use Rattle.std.proofs.Common.{◌+◌, ℕ, Bool, true, false, List, [], ◌∷◌, Option, None, Some, Result, Ok, Err, length, nat_eq, nat_lt, slice_get, unwrap_or}
 use Rattle.port_model.specs.Port.{PortState, remove_from, set_in, stopped}
 use Rattle.port_model.specs.declared.pid.Pid.TheVariants.{Of}
+use Rattle.port_model.specs.declared.plain_port.TheConstants.{MOST_SETS}
 use Rattle.port_model.specs.declared.timer_key.TimerKey.{TimerKey}
 use Rattle.port_model.specs.declared.value.Value.{Value}
 use Rattle.sdl_evaluation.specs.Environment.{environment}
@@ -11,7 +12,7 @@ use Rattle.sdl_evaluation.specs.declared.store.Store.{Store}
 use Rattle.sdl_report.specs.Event as event
 use Rattle.sdl_report.specs.Event.{Event}
 use Rattle.sdl_report.specs.declared.failure.Failure.{Failure}
-use Rattle.sdl_report.specs.declared.failure.Failure.TheVariants.{NoAnswer, TooLong, Undefined}
+use Rattle.sdl_report.specs.declared.failure.Failure.TheVariants.{NoAnswer, SetsSpent, TooLong, Undefined}
 use Rattle.sdl_runs.specs.Act.{Act, Arm, Send}
 use Rattle.sdl_runs.specs.Fails.{most_statements, parameters_of, sent_by, set_by}
 use Rattle.sdl_runs.specs.Leads.{created, offspring_of}
@@ -178,15 +179,20 @@ sending_next f w site s q to one =
     on_result (sent_by f.d.system (environment f.d.system f.who s q) to one) (failing s q)
     (λ named. on_option w.census nothing (sent f w site s q one named.0 named.1))
 
--- A set for which no number is left is done, or fails: here it is done.
+-- a set for which the port has a number left
 abbrev pub set_at : Frame → Site → Store → PortState → ℕ → TimerKey → Next
 set_at f site s q due key =
     did (event.Set key due) (Arm (record { pid = f.who.pid; key = key; arm = q.sets + 1; due = due }) ∷ []) site s
     (set_in q key due)
 
+-- one for which it has none fails
+abbrev pub set_or_spent : Frame → Site → Store → PortState → ℕ → TimerKey → Next
+set_or_spent f site s q due key =
+    on_test (nat_eq q.sets MOST_SETS) (failing s q SetsSpent) (set_at f site s q due key)
+
 abbrev pub setting_next : Frame → Site → Store → PortState → Setting → Next
 setting_next f site s q one =
-    on_result (set_by (environment f.d.system f.who s q) one) (failing s q) (λ at. set_at f site s q at.0 at.1)
+    on_result (set_by (environment f.d.system f.who s q) one) (failing s q) (λ at. set_or_spent f site s q at.0 at.1)
 
 abbrev pub resetting_next : Frame → Site → Store → PortState → Timing → Next
 resetting_next f site s q one =

@@ -4,7 +4,7 @@ use Rattle.port_model.specs.declared.selection.Class.{Class}
 use Rattle.sdl_report.specs.Event as event
 use Rattle.sdl_report.specs.Event.{Event}
 use Rattle.sdl_report.specs.declared.failure.Failure.{Failure}
-use Rattle.sdl_report.specs.declared.failure.Failure.TheVariants.{Memory, SetsSpent}
+use Rattle.sdl_report.specs.declared.failure.Failure.TheVariants.{Memory}
 use Rattle.sdl_runs.specs.Act.{Deed, acts_of, events_of}
 use Rattle.sdl_runs.specs.Behaves.{Behaves}
 use Rattle.sdl_runs.specs.Goes.{Goes, IsOneStep, MachineValue}
@@ -16,15 +16,13 @@ use Rattle.sdl_system.specs.declared.process.Process.{Process}
 
 -- ---- what is left open
 
--- Whether a failure is for want of what the machine gives: memory, or a number for one set more. Of these no definition
--- says when they are wanting: memory may be refused wherever it is asked for, and a set for which no number is left
--- fails or goes on.
+-- Whether a failure is for want of memory. Of that alone no definition says when it comes: memory may be refused
+-- wherever it is asked for.
 abbrev pub is_want : Failure → Bool
 is_want Memory = true
-is_want SetsSpent = true
 is_want why = false
 
--- the event is no failure for want of something
+-- the event is no failure for want of memory
 abbrev pub LacksNothing : Event → Type 0
 LacksNothing (event.FailedAt at why) = is_want why ≡ false
 LacksNothing (event.Failed why) = is_want why ≡ false
@@ -49,7 +47,7 @@ IsBetween (In state) = Unit {0}
 IsBetween Ended = Unit {0}
 IsBetween place = ⊥
 
--- A step on what is in the port as it begins, in which nothing is wanting.
+-- A step on what is in the port as it begins, in which no memory is wanting.
 pub record IsPlainStep (d : Definition) (from : Place) (m : MachineValue) (w : WorldValue) (counts : Bool) (to : Place)
     (n : MachineValue) (v : WorldValue) : Type 0 where
   pub goes : Goes (IsOneStep counts) d from m w to n v

@@ -3,8 +3,8 @@
 ghost use Rattle.sdl_unique_steps.specs.Unique.{RestsForNow, StepsAlike};
 
 /// Two steps of one instance, from the same place, knowledge, port and world, are the same: they record the same
-/// events, do the same outside, and end alike. That is so where neither fails for want of memory or of sets (Z.101:
-/// agent, transition).
+/// events, do the same outside, and end alike. That is so where neither fails for want of memory (Z.101: agent,
+/// transition).
 pub fn steps_alike()
     ensures { StepsAlike }
 {}

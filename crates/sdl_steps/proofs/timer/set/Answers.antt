@@ -8,7 +8,7 @@ use Rattle.sdl_report.specs.Record.{noted}
 use Rattle.sdl_runs.specs.Act.{Arm}
 use Rattle.sdl_runs.specs.Goes.{with_event}
 use Rattle.sdl_runs.specs.World.{WorldValue, after_act}
-use Rattle.sdl_steps.proofs.Deeds.{goes_set}
+use Rattle.sdl_steps.proofs.Deeds.{goes_set, numbered_by}
 use Rattle.sdl_steps.proofs.Machines.{store_kept, value_noted}
 use Rattle.sdl_steps.proofs.Meanings.{set_ok, undue, unkeyed}
 use Rattle.sdl_steps.specs.Machine.{value_of}
@@ -28,6 +28,7 @@ returns-clause-ok g c = λ more d is origin rest.
     let fuse = c.in-Ok.fuse in
     let arm = o.state.sets + 1 in
     goes_set d origin rest (setting one) more key due (value_of old o) _ w _ c.requires.alive
+    (numbered_by o.state.sets fuse c.in-Ok.ensures.spent.1)
     (set_ok c.args.system.now d is _ _ c.who-who.ensures old.store o.state one _ c.deref.ensures.value due key
     c.in_ok-due.ensures.ok c.in_ok-key.ensures.ok)
     (c.arm.ensures
