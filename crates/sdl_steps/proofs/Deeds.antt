@@ -1,5 +1,5 @@
 -- What each deed inside of a transition brings: from the work `m` to `n`.
-use Rattle.std.proofs.Common.{◌≡◌, ◌≢◌, ◌+◌, refl, ℕ, List, [], ◌∷◌, Option, Some, Ok, Err, true}
+use Rattle.std.proofs.Common.{◌≡◌, ◌≢◌, ◌+◌, refl, ℕ, List, [], ◌∷◌, Option, Some, Result, Ok, Err, true}
 use Rattle.inbox.specs.Calls.{after_reset, after_set, after_stop}
 use Rattle.port_model.specs.History.{Reset, Set, Stop}
 use Rattle.port_model.specs.Port.{remove_from, set_in}
@@ -36,9 +36,9 @@ here_of d m = environment d.system m.who m.store m.owner.state
 
 -- a set that isn't refused has a number
 pub numbered_by : {A : Type 0} (sets : ℕ) (given : A)
-    → (sets ≡ MOST_SETS → Ok {E = PortError} given ≡ Err SetsSpent) → sets ≢ MOST_SETS
-numbered_by sets given spent is =
-    let told : Ok {E = PortError} given ≡ Err SetsSpent = spent is in
+    → (sets ≡ MOST_SETS → ◌≡◌ {A = Result A PortError} (Ok given) (Err SetsSpent)) → sets ≢ MOST_SETS
+numbered_by {A} sets given spent is =
+    let told : ◌≡◌ {A = Result A PortError} (Ok given) (Err SetsSpent) = spent is in
     let wrong : ⊥ = cc in
     wrong
 
