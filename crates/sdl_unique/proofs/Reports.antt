@@ -186,10 +186,18 @@ one_text ps system lines limit one other both =
 pub one_report_of_all : OneReportOfAll
 one_report_of_all ps qs system lines limit of_all one other x =
     let by_first : AreOfOneRun ps system lines limit of_all one = record {
-      script = x.script; first = x.all ps x.first_meant; second = x.first; first_lacks = x.all_lacks; second_lacks = x.first_lacks;
+      script = x.script;
+      first = x.all ps x.first_meant;
+      second = x.first;
+      first_lacks = x.all_lacks;
+      second_lacks = x.first_lacks;
     } in
     let by_second : AreOfOneRun qs system lines limit of_all other = record {
-      script = x.script; first = x.all qs x.second_meant; second = x.second; first_lacks = x.all_lacks; second_lacks = x.second_lacks;
+      script = x.script;
+      first = x.all qs x.second_meant;
+      second = x.second;
+      first_lacks = x.all_lacks;
+      second_lacks = x.second_lacks;
     } in
     let a = one_report ps system lines limit of_all one by_first in
     let b = one_report qs system lines limit of_all other by_second in (
