@@ -74,10 +74,15 @@ pub fn takes_of_urgent(alloc: Global, times: u64) -> Option<u64> {
 /// Ten sets and resets of a timer beside each of so many waiting signals.
 pub fn sets_beside_waiting(alloc: Global, times: u64) -> Option<u64> {
     let mut port = PlainPort::new(alloc);
+    fill(alloc, &mut port, 0, times)?;
+    sets_and_resets(alloc, &mut port, times.saturating_mul(10))
+}
+
+/// So many sets and resets of one timer.
+fn sets_and_resets(alloc: Global, port: &mut PlainPort, times: u64) -> Option<u64> {
     let timer = key(alloc, 0)?;
     let mut done: u64 = 0;
-    fill(alloc, &mut port, 0, times)?;
-    for value in 0..times.saturating_mul(10) {
+    for value in 0..times {
         port.set(key(alloc, 0)?, value).ok()?;
         port.reset(&timer);
         done = done.wrapping_add(1);
@@ -89,23 +94,40 @@ pub fn sets_beside_waiting(alloc: Global, times: u64) -> Option<u64> {
 pub fn timers(alloc: Global, times: u64) -> Option<u64> {
     let classes = selection(alloc, &[Class::Input, Class::Input, Class::Input])?;
     let mut port = PlainPort::new(alloc);
-    let mut done: u64 = 0;
+    set_each(alloc, &mut port, times)?;
+    let active = expire_each(alloc, &mut port, times)?;
+    Some(active.wrapping_add(take_each(&mut port, &classes, times)))
+}
+
+/// Sets so many timers.
+fn set_each(alloc: Global, port: &mut PlainPort, times: u64) -> Option<()> {
     for value in 0..times {
         port.set(key(alloc, value)?, value).ok()?;
     }
+    Some(())
+}
+
+/// Sets each timer again and lets it expire, and gives how many of them were active.
+fn expire_each(alloc: Global, port: &mut PlainPort, times: u64) -> Option<u64> {
+    let mut active: u64 = 0;
     for value in 0..times {
-        let key = key(alloc, value)?;
-        if port.active(&key) {
-            done = done.wrapping_add(1);
+        if port.active(&key(alloc, value)?) {
+            active = active.wrapping_add(1);
         }
-        let arm = port.set(key, value).ok()?;
+        let arm = port.set(key(alloc, value)?, value).ok()?;
         let due = port.next_due()?;
-        port.expire(self::key(alloc, value)?, arm, due, value).ok()?;
+        port.expire(key(alloc, value)?, arm, due, value).ok()?;
     }
+    Some(active)
+}
+
+/// How many of so many takes consume the signal of a timer.
+fn take_each(port: &mut PlainPort, classes: &Selection, times: u64) -> u64 {
+    let mut taken: u64 = 0;
     for _ in 0..times {
-        if let Taken::Consumed(Got::Timer(_)) = port.take(&classes) {
-            done = done.wrapping_add(1);
+        if let Taken::Consumed(Got::Timer(_)) = port.take(classes) {
+            taken = taken.wrapping_add(1);
         }
     }
-    Some(done)
+    taken
 }

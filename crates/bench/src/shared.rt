@@ -153,12 +153,29 @@ pub fn puts_by_four<R: Threads + Wait + Sync>(rt: &R, alloc: Global, times: u64)
 /// Sets so many timers and lets each expire, and gives how many entries are left at the end.
 pub fn finishes<R: Wait>(rt: &R, alloc: Global, times: u64) -> Option<u64> {
     let (port, mut owner, mut desk) = port(alloc, 1).ok()?;
-    let mut sender = desk.sender(&port).ok()?;
+    let sender = desk.sender(&port).ok()?;
+    expire_each(rt, alloc, &port, &mut owner, sender, times)?;
+    let end = owner.finish(rt, &port).ok()?;
+    Some(end.entries().len() as u64)
+}
+
+/// Sets so many timers, and lets each expire at once.
+fn expire_each<R: Wait>(
+    rt: &R,
+    alloc: Global,
+    port: &Port,
+    owner: &mut Owner,
+    mut sender: Sender,
+    times: u64,
+) -> Option<()>
+    requires owner { owner.old.port ≡ port.now.queue }
+    requires sender { sender.port ≡ port.now.queue }
+    ensures { owner.new.port ≡ owner.old.port }
+{
     for value in 0..times {
         let fuse = owner.set(key(alloc, value)?, value).ok()?;
         let due = fuse.due();
-        sender.expire(rt, &port, fuse, due).ok()?;
+        sender.expire(rt, port, fuse, due).ok()?;
     }
-    let end = owner.finish(rt, &port).ok()?;
-    Some(end.entries().len() as u64)
+    Some(())
 }
