@@ -6,5 +6,6 @@ pub mod QuickLemmas
 pub mod ReachLaws
 pub mod RoundLemmas
 pub mod StayLaws
+pub mod StepLemmas
 pub mod TreeLemmas
 pub mod TurnLemmas

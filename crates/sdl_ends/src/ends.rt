@@ -8,7 +8,7 @@ ghost use Rattle.sdl_scope.specs.Faults.{least_of, told};
 ghost use Rattle.sdl_tree.specs.Views.{process_value, transition_value};
 
 use crate::beginnings::{Beginning, beginnings_of};
-use crate::mentions::{joins_of, mentions_in};
+use crate::mentions::joins_in;
 use crate::walk::{Entries, walk_transition};
 use sdl_scope::{Faults, Kind, Names};
 use sdl_tree::{ProcessDefinition, Transition};
@@ -25,8 +25,7 @@ pub fn note_ends<'t>(
     ensures { OnOk result (told faults.new ≡ least_of (told faults.old) (ends_faults (process_value process.now))) }
 {
     let beginnings = beginnings_of(alloc, process)?;
-    let mentions = mentions_in(alloc, &beginnings)?;
-    let joins = joins_of(alloc, &mentions)?;
+    let joins = joins_in(alloc, &beginnings)?;
     note_all(alloc, &joins, &beginnings, faults)
 }
 

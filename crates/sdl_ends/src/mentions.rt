@@ -2,8 +2,10 @@
 
 ghost use Rattle.std.specs.Prelude.{◌≡◌, ◌++◌, ◌∷◌, [], flat_map, map, option_map, IfOk, OnOk};
 ghost use Rattle.sdl_ends.specs.Beginnings.{beginnings};
+ghost use Rattle.sdl_ends.specs.Joins.{joins_in};
 ghost use Rattle.sdl_ends.specs.Listed.{beginning_value, beginnings_listed, mention_value, mentions_listed, texts};
 ghost use Rattle.sdl_ends.specs.Mentions.{action_mentions, actions_mentions, beginning_mentions, ending_mentions, join_names, label_entries, label_mentions, otherwise_mentions, parts_mentions, statement_mentions, terminator_mentions, transition_mentions};
+ghost use Rattle.sdl_ends.specs.Reach.{labels_in};
 ghost use Rattle.sdl_tree.specs.Tree as tree;
 ghost use Rattle.sdl_tree.specs.Views.{action_value, answer_part_value, ending_value, name_value, statement_value, terminator_value, transition_value};
 
@@ -24,8 +26,31 @@ pub(crate) enum Mention<'t> {
     Joined(&'t Name),
 }
 
+/// The labels of these transitions, each with its place. The first of a name counts; that another is a Duplicate is
+/// noted elsewhere.
+pub(crate) fn labels_in<'t>(
+    alloc: Global,
+    beginnings: &[Beginning<'t>],
+) -> Result<Names<'t, Place>, AllocError>
+    ensures { IfOk result (λ names. names ≡ labels_in (beginnings_listed beginnings.now)) }
+{
+    let mentions = mentions_in(alloc, beginnings)?;
+    labels_of(alloc, &mentions)
+}
+
+/// The names that joins of these transitions name, each as often as they do.
+pub(crate) fn joins_in<'t>(
+    alloc: Global,
+    beginnings: &[Beginning<'t>],
+) -> Result<Names<'t, usize>, AllocError>
+    ensures { IfOk result (λ names. texts names ≡ joins_in (beginnings_listed beginnings.now)) }
+{
+    let mentions = mentions_in(alloc, beginnings)?;
+    joins_of(alloc, &mentions)
+}
+
 /// Where these transitions mention labels, in the order of the text.
-pub(crate) fn mentions_in<'t>(
+fn mentions_in<'t>(
     alloc: Global,
     beginnings: &[Beginning<'t>],
 ) -> Result<Vec<Mention<'t>>, AllocError>
@@ -184,12 +209,8 @@ fn add_label<'t>(list: &mut Vec<Mention<'t>>, label: &'t Option<Name>) -> Result
     Ok(())
 }
 
-/// The labels that stand, each with its place. The first of a name counts; that another is a Duplicate is noted
-/// elsewhere.
-pub(crate) fn labels_of<'t>(
-    alloc: Global,
-    mentions: &[Mention<'t>],
-) -> Result<Names<'t, Place>, AllocError>
+/// The labels that stand, each with its place.
+fn labels_of<'t>(alloc: Global, mentions: &[Mention<'t>]) -> Result<Names<'t, Place>, AllocError>
     ensures { IfOk result (λ names. names ≡ flat_map label_entries (mentions_listed mentions.now)) }
 {
     let mut names = Names::new(alloc);
@@ -209,10 +230,7 @@ fn add_standing<'t>(names: &mut Names<'t, Place>, mention: Mention<'t>) -> Resul
 }
 
 /// The names that joins name, each as often as they do.
-pub(crate) fn joins_of<'t>(
-    alloc: Global,
-    mentions: &[Mention<'t>],
-) -> Result<Names<'t, usize>, AllocError>
+fn joins_of<'t>(alloc: Global, mentions: &[Mention<'t>]) -> Result<Names<'t, usize>, AllocError>
     ensures { IfOk result (λ names. texts names ≡ flat_map join_names (mentions_listed mentions.now)) }
 {
     let mut names = Names::new(alloc);

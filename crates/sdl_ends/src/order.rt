@@ -35,21 +35,33 @@ pub(crate) fn order<'t>(
         nodes: Vec::new(alloc),
         labels: Names::new(alloc),
     };
-    let mut ready = Vec::new(alloc);
-    for beginning in beginnings {
-        let node = graph.node()?;
-        if beginning.is_start {
-            ready.push(node)?;
-        }
-        if let Some(label) = beginning.label {
-            graph.labels.declare(label, node, &mut Faults::new())?;
-        }
-        graph.transition(node, beginning.transition)?;
-    }
-    graph.search(ready)
+    let starts = graph.beginnings(beginnings)?;
+    graph.search(starts)
 }
 
 impl<'t> Graph<'t> {
+    /// Adds the places of these transitions, and says at which of them the start begins.
+    fn beginnings(&mut self, beginnings: &[Beginning<'t>]) -> Result<Vec<usize>, AllocError> {
+        let mut starts = Vec::new(self.alloc);
+        for beginning in beginnings {
+            let node = self.beginning(beginning)?;
+            if beginning.is_start {
+                starts.push(node)?;
+            }
+        }
+        Ok(starts)
+    }
+
+    /// Adds the places of a transition, and says at which it begins.
+    fn beginning(&mut self, beginning: &Beginning<'t>) -> Result<usize, AllocError> {
+        let node = self.node()?;
+        if let Some(label) = beginning.label {
+            self.labels.declare(label, node, &mut Faults::new())?;
+        }
+        self.transition(node, beginning.transition)?;
+        Ok(node)
+    }
+
     /// A new place.
     fn node(&mut self) -> Result<usize, AllocError> {
         let number = self.nodes.len();
@@ -205,12 +217,7 @@ impl<'t> Graph<'t> {
 
     /// The names of the joins to which paths from these places come.
     fn search(&self, ready: Vec<usize>) -> Result<Vec<&'t Name>, AllocError> {
-        let mut search = Search {
-            ready,
-            is_seen: vec![in self.alloc; false; self.nodes.len()]?,
-            is_named: vec![in self.alloc; false; self.nodes.len()]?,
-            names: Vec::new(self.alloc),
-        };
+        let mut search = Search::new(self.alloc, self.nodes.len(), ready)?;
         for step in 0..self.nodes.len() {
             if step < search.ready.len() {
                 let node = search.ready[step];
@@ -258,6 +265,18 @@ struct Search<'t> {
 }
 
 impl<'t> Search<'t> {
+    /// A search among so many places, which begins at these.
+    fn new(alloc: Global, count: usize, ready: Vec<usize>) -> Result<Self, AllocError> {
+        let is_seen = vec![in alloc; false; count]?;
+        let is_named = vec![in alloc; false; count]?;
+        Ok(Search {
+            ready,
+            is_seen,
+            is_named,
+            names: Vec::new(alloc),
+        })
+    }
+
     fn add(&mut self, node: usize) -> Result<(), AllocError> {
         if node < self.is_seen.len() && !self.is_seen[node] {
             self.is_seen[node] = true;

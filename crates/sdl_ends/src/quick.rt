@@ -1,10 +1,11 @@
 //! Names of joins that the start reaches, found by a quick search and tested in one walk.
 
 ghost use Rattle.std.specs.Prelude.{◌≡◌, ◌++◌, ◌∷◌, [], IfOk, OnOk};
-ghost use Rattle.sdl_ends.specs.Listed.{beginnings_listed, found_listed, found_value, texts};
+ghost use Rattle.sdl_ends.specs.Listed.{beginnings_listed, found_listed, found_value, led_turn, texts};
 ghost use Rattle.sdl_ends.specs.Mentions.{is_named};
 ghost use Rattle.sdl_ends.specs.Quick.{all_confirmed, all_named, confirmed_in, is_sooner, name_text, name_texts};
 ghost use Rattle.sdl_ends.specs.Reach.{EachReached, labels_in};
+ghost use Rattle.sdl_ends.specs.Turns.{found_from};
 ghost use Rattle.sdl_tree.specs.Views.{name_value};
 
 use crate::beginnings::Beginning;
@@ -29,17 +30,29 @@ pub(crate) fn quick_names<'t>(
 {
     let order = order(alloc, beginnings)?;
     let names = in_turn(alloc, &order)?;
-    let entries = Entries::Led {
-        labels,
-        names: &names,
-    };
-    let found = found_from(alloc, entries, beginnings)?;
-    let confirmed = confirmed(alloc, &names, &found)?;
-    if are_named(&confirmed, &order) {
+    let are_confirmed = are_confirmed(alloc, beginnings, labels, &names, &order)?;
+    if are_confirmed {
         Ok(names)
     } else {
         Ok(Names::new(alloc))
     }
+}
+
+/// Whether a path comes to a join on each of these in a turn before the name's own.
+fn are_confirmed<'t>(
+    alloc: Global,
+    beginnings: &[Beginning<'t>],
+    labels: &Names<'t, Place>,
+    names: &Names<'t, usize>,
+    order: &[&'t Name],
+) -> Result<bool, AllocError>
+    ensures { IfOk result (λ are. are ≡ all_named
+        (all_confirmed names.now (found_from (led_turn labels.now names.now) (beginnings_listed beginnings.now)))
+        (name_texts order.now)) }
+{
+    let found = found_from(alloc, Entries::Led { labels, names }, beginnings)?;
+    let confirmed = confirmed(alloc, names, &found)?;
+    Ok(are_named(&confirmed, order))
 }
 
 /// These names, each with its turn: its place among them, from 1. The start has the turn 0.

@@ -1,13 +1,14 @@
 //! `nextstate -` that the start can reach.
 
-ghost use Rattle.std.specs.Prelude.{◌≡◌, flat_map, OnOk};
-ghost use Rattle.sdl_ends.specs.Listed.{terminators_listed};
+ghost use Rattle.std.specs.Prelude.{◌≡◌, flat_map, IfOk, OnOk};
+ghost use Rattle.sdl_ends.specs.Joins.{AreAllMet};
+ghost use Rattle.sdl_ends.specs.Listed.{beginnings_listed, terminators_listed};
 ghost use Rattle.sdl_ends.specs.Stays.{NotesStays, stay_fault};
 ghost use Rattle.sdl_scope.specs.Faults.{least_of, told};
 ghost use Rattle.sdl_tree.specs.Views.{process_value, terminator_value};
 
-use crate::beginnings::beginnings_of;
-use crate::mentions::{labels_of, mentions_in};
+use crate::beginnings::{Beginning, beginnings_of};
+use crate::mentions::labels_in;
 use crate::quick::quick_names;
 use crate::reach::reach;
 use crate::walk::Found;
@@ -25,12 +26,18 @@ pub fn note_stays<'t>(
     ensures { OnOk result (NotesStays (process_value process.now) (told faults.old) (told faults.new)) }
 {
     let beginnings = beginnings_of(alloc, process)?;
-    let mentions = mentions_in(alloc, &beginnings)?;
-    let labels = labels_of(alloc, &mentions)?;
-    let names = quick_names(alloc, &beginnings, &labels)?;
-    let found = reach(alloc, &beginnings, &labels, names)?;
+    let found = reached(alloc, &beginnings)?;
     note_found(&found, faults);
     Ok(())
+}
+
+/// The terminators to which paths from the start come, over any joins.
+fn reached<'t>(alloc: Global, beginnings: &[Beginning<'t>]) -> Result<Vec<Found<'t>>, AllocError>
+    ensures { IfOk result (λ found. AreAllMet (beginnings_listed beginnings.now) (terminators_listed found.items)) }
+{
+    let labels = labels_in(alloc, beginnings)?;
+    let names = quick_names(alloc, beginnings, &labels)?;
+    reach(alloc, beginnings, &labels, names)
 }
 
 fn note_found<'t>(found: &[Found<'t>], faults: &mut Faults<'t>)

@@ -1,19 +1,19 @@
-use Rattle.std.proofs.Common.{◌∙◌, ap, sym}
-use Rattle.sdl_ends.specs.Listed.{beginnings_listed, found_listed, led_turn, texts}
+use Rattle.std.proofs.Common.{◌∙◌, ℕ, List, ap, refl, sym}
+use Rattle.sdl_lex.specs.declared.place.Place.{Place}
+use Rattle.sdl_ends.specs.Listed.{beginnings_listed, led_turn, texts}
 use Rattle.sdl_ends.specs.Quick.{all_confirmed, all_named, name_texts}
+use Rattle.sdl_ends.specs.Reach.{labels_in}
 use Rattle.sdl_ends.specs.Turns.{found_from}
 use Rattle.sdl_ends.proofs.QuickLemmas.{quick-reached}
 use Rattle.sdl_ends.proofs.quick.quick_names.Goals as goal
 
-pub returns-then-are_named : goal.returns-then-are_named
-returns-then-are_named c =
+pub returns-then-are_confirmed : goal.returns-then-are_confirmed
+returns-then-are_confirmed c =
     let all = beginnings_listed c.args.beginnings.now in
     let names = c.in_ok-names.names in
-    let found = found_listed c.in_ok-found.found.items in
-    quick-reached all names found
-    (c.in_ok-found.ensures ∙ ap (λ labels. found_from (led_turn labels names) all) c.requires)
-    (ap (λ list. all_named list (texts names))
-    (ap (λ list. all_confirmed names (found_listed list)) (sym c.deref-2.ensures.value) ∙ sym c.in_ok-confirmed.ensures)
-    ∙ ap (all_named (texts c.in_ok-confirmed.confirmed))
-    (c.in_ok-names.ensures ∙ ap name_texts (c.deref.ensures.value ∙ sym c.deref-3.ensures.value))
-    ∙ sym c.if-are_named.ensures)
+    let found = λ (labels : List (List ℕ × Place)). found_from (led_turn labels names) all in
+    quick-reached all names (found (labels_in all)) refl
+    (ap (λ labels. all_named (all_confirmed names (found labels)) (texts names)) (sym c.requires)
+    ∙ ap (all_named (all_confirmed names (found c.args.labels.now)))
+    (c.in_ok-names.ensures ∙ ap name_texts (c.deref.ensures.value ∙ sym c.deref-2.ensures.value))
+    ∙ sym c.in_ok-are_confirmed.ensures ∙ c.if-are_confirmed.true)

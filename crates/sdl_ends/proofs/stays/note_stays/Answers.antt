@@ -1,21 +1,15 @@
-use Rattle.std.proofs.Common.{◌∙◌, ap, flat_map, subst, sym}
+use Rattle.std.proofs.Common.{◌∙◌, ap, flat_map}
 use Rattle.sdl_scope.specs.Faults.{least_of, told}
 use Rattle.sdl_tree.specs.Views.{process_value}
-use Rattle.sdl_ends.specs.Listed.{beginnings_listed, terminators_listed, texts}
-use Rattle.sdl_ends.specs.Reach.{EachReached}
+use Rattle.sdl_ends.specs.Listed.{beginnings_listed, terminators_listed}
 use Rattle.sdl_ends.specs.Stays.{stay_fault}
 use Rattle.sdl_ends.proofs.RoundLemmas.{stays-noted}
 use Rattle.sdl_ends.proofs.stays.note_stays.Goals as goal
 
 pub returns : goal.returns
 returns c =
-    stays-noted (process_value c.args.process.now) (beginnings_listed c.deref-4.result.now)
+    stays-noted (process_value c.args.process.now) (beginnings_listed c.deref.result.now)
     (terminators_listed c.in_ok-found.found.items) (told c.args.faults.now) (told c.note_found.new.faults)
-    (ap beginnings_listed c.deref-4.ensures.value ∙ c.in_ok-beginnings.ensures) c.in_ok-found.ensures
+    (ap beginnings_listed c.deref.ensures.value ∙ c.in_ok-beginnings.ensures) c.in_ok-found.ensures
     (c.note_found.ensures
-    ∙ ap (λ list. least_of (told c.args.faults.now) (flat_map stay_fault (terminators_listed list))) c.deref-5.ensures.value)
-
-pub reach-requires-clause-names : goal.reach-requires-clause-names
-reach-requires-clause-names c =
-    subst (λ list. EachReached (beginnings_listed list) (texts c.in_ok-names.names))
-    (c.deref-3.ensures.value ∙ sym c.deref-4.ensures.value) c.in_ok-names.ensures
+    ∙ ap (λ list. least_of (told c.args.faults.now) (flat_map stay_fault (terminators_listed list))) c.deref-2.ensures.value)
