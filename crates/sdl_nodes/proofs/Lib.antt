@@ -9,5 +9,6 @@ pub mod ListLemmas
 pub mod MadeLemmas
 pub mod NamedLemmas
 pub mod PartLemmas
+pub mod StepLemmas
 pub mod TransitionLemmas
 pub mod TreeLemmas

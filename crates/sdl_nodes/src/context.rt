@@ -21,21 +21,7 @@ pub struct Context<'a, 's, 't> {
 
 impl<'a, 's, 't> Context<'a, 's, 't> {
     ghost use Rattle.std.specs.Prelude.{◌≡◌};
-    ghost use Rattle.sdl_nodes.specs.Contexts.{context_of, duration_of, is_reaching, label_in, state_in};
-
-    /// The state of this name.
-    pub(crate) fn state(&self, text: &str) -> Option<StateId>
-        ensures { result ≡ state_in (context_of self.now) text.now }
-    {
-        self.states.get(text)
-    }
-
-    /// The label of this name.
-    pub(crate) fn label(&self, text: &str) -> Option<LabelId>
-        ensures { result ≡ label_in (context_of self.now) text.now }
-    {
-        self.labels.get(text)
-    }
+    ghost use Rattle.sdl_nodes.specs.Contexts.{context_of, duration_of, is_reaching};
 
     /// Whether a path leads the signal to a receiver.
     pub(crate) fn is_reaching(&self, signal: SignalId) -> bool

@@ -106,7 +106,7 @@ impl NodeTable {
         let Some(name) = name else {
             return Ok(());
         };
-        match context.label(&name.text) {
+        match context.labels.get(&name.text) {
             None => Ok(()),
             Some(label) => self.mark(label, node),
         }

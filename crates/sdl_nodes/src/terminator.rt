@@ -52,7 +52,7 @@ fn resolve_state<'t>(
         (fault_if (is_none (state_in (context_of context.now) (name_value name.now).text)) NoState
         (name_value name.now)) }
 {
-    match context.state(&name.text) {
+    match context.states.get(&name.text) {
         Some(state) => Some(Statement::NextState(state)),
         None => {
             faults.note(Kind::NoState, Token::of_name(name));
@@ -72,7 +72,7 @@ fn resolve_join<'t>(
         (fault_if (is_none (label_in (context_of context.now) (name_value name.now).text)) NoLabel
         (name_value name.now)) }
 {
-    match context.label(&name.text) {
+    match context.labels.get(&name.text) {
         Some(label) => Some(Statement::Join(label)),
         None => {
             faults.note(Kind::NoLabel, Token::of_name(name));
