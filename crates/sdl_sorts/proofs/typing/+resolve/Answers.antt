@@ -1,18 +1,19 @@
-use Rattle.std.proofs.Common.{◌∙◌, ◌++◌, ap, flat_map, map, option_map, sym}
-use Rattle.std.proofs.lemmas.List.{drop_all}
+use Rattle.std.proofs.Common.{◌≡◌, ◌∙◌, ◌+◌, ◌++◌, ◌∷◌, List, ap, drop, flat_map, map, option_map, sym}
+use Rattle.std.proofs.lemmas.List.{at_drop_more, drop_all}
 use Rattle.std.proofs.lemmas.Result.{IfOk-weaker, on_ok_weaker}
 use Rattle.sdl_scope.proofs.FaultLemmas.{both_noted}
 use Rattle.sdl_scope.specs.Faults.{least_of, told}
-use Rattle.sdl_sorts.specs.Misused.{active_faults, expression_faults, links_faults, timer_faults, values_faults}
+use Rattle.sdl_sorts.specs.Misused.{active_faults, binary_faults, expression_faults, links_faults, timer_faults, values_faults}
 use Rattle.sdl_sorts.specs.Resolved.{left_of}
 use Rattle.sdl_sorts.specs.Scope.{scope_of, signal_in}
-use Rattle.sdl_sorts.specs.Typing.{active_typed, argument_in, arguments_in, chain_typed, typed_in}
+use Rattle.sdl_sorts.specs.Typing.{active_typed, argument_in, arguments_in, binary_typed, chain_typed, typed_in}
 use Rattle.sdl_sorts.proofs.ArgumentLemmas.{on_ok}
 use Rattle.sdl_sorts.proofs.TreeLemmas.{arguments_in-list, chain_tree, values_faults-list}
 use Rattle.sdl_tree.proofs.ViewLemmas.{active_value}
 use Rattle.sdl_tree.specs.Tree.{exprs_of, links_of}
 use Rattle.sdl_tree.specs.Views.{expr_value, link_value, name_value}
 use Rattle.sdl_tree.specs.declared.expressions.Chain.{out-Chain}
+use Rattle.sdl_tree.specs.declared.expressions.Link.{Link}
 use Rattle.sdl_sorts.proofs.typing.+resolve.Goals as goal
 
 pub resolve_chain-returns-clause-typed : goal.resolve_chain-returns-clause-typed
@@ -97,3 +98,39 @@ resolve_in-returns-in_ok-arguments-in-Active-clause-noted t c =
     ∙ both_noted old word (values_faults context scope values ++ timers)
     ∙ ap (λ e. least_of old (expression_faults context scope e)) (sym (active_value a.word a.timer a.values)))
     c.resolve_timer.ensures.noted)
+
+pub resolve_chain-loop-link-preserved : goal.resolve_chain-loop-link-preserved
+resolve_chain-loop-link-preserved t c =
+    let context = c.args.context in
+    let scope = scope_of c.args.scope.now in
+    let links = c.deref-link-items.result.now in
+    let i = c.loop-link.link-index in
+    let link = c.link-item.result in
+    let left = option_map left_of c.loop-link.left in
+    let old = told c.loop-link.faults in
+    let operand = expr_value link.operand in
+    let joined = binary_typed link.operator left (typed_in context scope operand) in
+    let rest = links_of (map link_value (drop (i + 1) links)) in
+    let here = expression_faults context scope operand
+    ++ binary_faults link.operator link.word left (typed_in context scope operand) in
+    let typed = λ (list : List Link). chain_typed context scope left (links_of (map link_value list)) in
+    let faults = λ (list : List Link). links_faults context scope left (links_of (map link_value list)) in
+    let typed_more : typed (drop i links) ≡ chain_typed context scope joined rest =
+    at_drop_more typed links i link c.loop-link-test.true
+    ∙ ap (λ x. typed (x ∷ drop (i + 1) links)) (sym c.link-item.is) in
+    let faults_more : faults (drop i links) ≡ here ++ links_faults context scope joined rest =
+    at_drop_more faults links i link c.loop-link-test.true
+    ∙ ap (λ x. faults (x ∷ drop (i + 1) links)) (sym c.link-item.is) in
+    record {
+      typed =
+          ap (λ first. chain_typed context scope first rest) c.in_ok-left.ensures.typed
+          ∙ sym typed_more
+          ∙ c.loop-link.invariant.typed;
+      noted =
+          ap (λ first. least_of (told c.resolve_link.new.faults) (links_faults context scope first rest))
+          c.in_ok-left.ensures.typed
+          ∙ ap (λ before. least_of before (links_faults context scope joined rest)) c.in_ok-left.ensures.noted
+          ∙ both_noted old here (links_faults context scope joined rest)
+          ∙ ap (least_of old) (sym faults_more)
+          ∙ c.loop-link.invariant.noted;
+    }
