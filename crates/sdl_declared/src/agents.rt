@@ -4,9 +4,10 @@ ghost use Rattle.std.specs.Prelude.{◌≡◌, ◌++◌, [], ◌∷◌, flat_map
 ghost use Rattle.sdl_declared.specs.Parts.{groups_of};
 ghost use Rattle.sdl_declared.specs.Rows.{group_sorts, parameter_sorts, placed_agents, placed_blocks, placed_processes, process_row};
 ghost use Rattle.sdl_declared.specs.Seen.{agent_seen, block_seen, process_seen};
-ghost use Rattle.sdl_declared.specs.Views.{parts_listed, placed_value};
+ghost use Rattle.sdl_declared.specs.Views.{placed_value};
 ghost use Rattle.sdl_tree.specs.Views.{fpar_value, parameters_value, process_value};
 
+use crate::enter::enter;
 use crate::entries::{Agent, AgentEntry, BlockEntry, ProcessEntry};
 use crate::part::{Part, Placed};
 use crate::sorts::sort_at;
@@ -15,44 +16,17 @@ use sdl_system::Sort;
 use sdl_tree::{FormalParameters, ParameterGroup, ProcessDefinition};
 use std::alloc::{AllocError, Global};
 
-pub fn blocks_in<'t>(alloc: Global, parts: &[Placed<'t>]) -> Result<Vec<BlockEntry<'t>>, AllocError>
-    ensures { IfOk result (λ table. map block_seen table.items ≡ flat_map placed_blocks (parts_listed parts.now)) }
-{
-    let mut table = Vec::new(alloc);
-    for placed in parts {
-        add_block(&mut table, *placed)?;
-    }
-    Ok(table)
-}
-
-fn add_block<'t>(table: &mut Vec<BlockEntry<'t>>, placed: Placed<'t>) -> Result<(), AllocError>
+pub fn add_block<'t>(table: &mut Vec<BlockEntry<'t>>, placed: Placed<'t>) -> Result<(), AllocError>
     ensures { OnOk result (map block_seen table.new.items
         ≡ map block_seen table.old.items ++ placed_blocks (placed_value placed.entry)) }
 {
     match placed.part {
-        Part::Block { definition, .. } => {
-            table.push(BlockEntry { definition })?;
-            Ok(())
-        }
+        Part::Block { definition, .. } => { enter(table, BlockEntry { definition }) }
         _ => Ok(()),
     }
 }
 
-pub fn processes_in<'t>(
-    alloc: Global,
-    parts: &[Placed<'t>],
-) -> Result<Vec<ProcessEntry<'t>>, AllocError>
-    ensures { IfOk result (λ table. map process_seen table.items
-        ≡ flat_map placed_processes (parts_listed parts.now)) }
-{
-    let mut table = Vec::new(alloc);
-    for placed in parts {
-        add_process(alloc, &mut table, *placed)?;
-    }
-    Ok(table)
-}
-
-fn add_process<'t>(
+pub fn add_process<'t>(
     alloc: Global,
     table: &mut Vec<ProcessEntry<'t>>,
     placed: Placed<'t>,
@@ -76,12 +50,14 @@ fn push_process<'t>(
         ≡ map process_seen table.old.items ++ process_row scope (process_value definition.now) ∷ []) }
 {
     let sorts = parameter_sorts(alloc, &definition.parameters)?;
-    table.push(ProcessEntry {
-        scope,
-        definition,
-        sorts,
-    })?;
-    Ok(())
+    enter(
+        table,
+        ProcessEntry {
+            scope,
+            definition,
+            sorts,
+        },
+    )
 }
 
 /// The sorts of formal parameters, one for each name.
@@ -116,41 +92,35 @@ fn add_group(sorts: &mut Vec<Option<Sort>>, group: &ParameterGroup) -> Result<()
 {
     let sort = sort_at(&group.sort);
     for _name in &group.names {
-        sorts.push(sort)?;
+        enter(sorts, sort)?;
     }
     Ok(())
 }
 
-pub fn agents_in<'t>(alloc: Global, parts: &[Placed<'t>]) -> Result<Vec<AgentEntry<'t>>, AllocError>
-    ensures { IfOk result (λ table. map agent_seen table.items ≡ flat_map placed_agents (parts_listed parts.now)) }
-{
-    let mut table = Vec::new(alloc);
-    for placed in parts {
-        add_agent(&mut table, *placed)?;
-    }
-    Ok(table)
-}
-
-fn add_agent<'t>(table: &mut Vec<AgentEntry<'t>>, placed: Placed<'t>) -> Result<(), AllocError>
+pub fn add_agent<'t>(table: &mut Vec<AgentEntry<'t>>, placed: Placed<'t>) -> Result<(), AllocError>
     ensures { OnOk result (map agent_seen table.new.items
         ≡ map agent_seen table.old.items ++ placed_agents (placed_value placed.entry)) }
 {
     match placed.part {
         Part::Block { number, definition } => {
-            table.push(AgentEntry {
-                scope: placed.scope,
-                name: &definition.name,
-                agent: Agent::Block(number),
-            })?;
-            Ok(())
+            enter(
+                table,
+                AgentEntry {
+                    scope: placed.scope,
+                    name: &definition.name,
+                    agent: Agent::Block(number),
+                },
+            )
         }
         Part::Process { number, definition } => {
-            table.push(AgentEntry {
-                scope: placed.scope,
-                name: &definition.name,
-                agent: Agent::Process(number),
-            })?;
-            Ok(())
+            enter(
+                table,
+                AgentEntry {
+                    scope: placed.scope,
+                    name: &definition.name,
+                    agent: Agent::Process(number),
+                },
+            )
         }
         _ => Ok(()),
     }

@@ -6,7 +6,9 @@
 #![tactic(auto)]
 
 mod agents;
+mod enter;
 mod entries;
+mod groups;
 pub mod laws;
 mod lists;
 mod number;

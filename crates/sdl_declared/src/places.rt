@@ -1,13 +1,14 @@
 //! Tables of labels and states.
 
-ghost use Rattle.std.specs.Prelude.{◌≡◌, ◌++◌, flat_map, map, IfOk, OnOk};
+ghost use Rattle.std.specs.Prelude.{◌≡◌, ◌++◌, map, OnOk};
 ghost use Rattle.sdl_declared.specs.Rows.{label_rows, placed_labels, placed_states, state_rows};
 ghost use Rattle.sdl_declared.specs.Seen.{label_seen, state_seen};
-ghost use Rattle.sdl_declared.specs.Views.{parts_listed, placed_value};
+ghost use Rattle.sdl_declared.specs.Views.{placed_value};
 ghost use Rattle.sdl_labels.specs.Labels.{names_listed, process_labels};
 ghost use Rattle.sdl_scope.specs.Limits.{different, state_names};
 ghost use Rattle.sdl_tree.specs.Views.{process_value};
 
+use crate::enter::enter;
 use crate::entries::{LabelEntry, StateEntry};
 use crate::number::next_number;
 use crate::part::{Part, Placed};
@@ -16,17 +17,7 @@ use sdl_system::{LabelId, ProcessId, StateId};
 use sdl_tree::{Name, ProcessDefinition};
 use std::alloc::{AllocError, Global};
 
-pub fn labels_in<'t>(alloc: Global, parts: &[Placed<'t>]) -> Result<Vec<LabelEntry<'t>>, AllocError>
-    ensures { IfOk result (λ table. map label_seen table.items ≡ flat_map placed_labels (parts_listed parts.now)) }
-{
-    let mut table = Vec::new(alloc);
-    for placed in parts {
-        add_labels(alloc, &mut table, *placed)?;
-    }
-    Ok(table)
-}
-
-fn add_labels<'t>(
+pub fn add_labels<'t>(
     alloc: Global,
     table: &mut Vec<LabelEntry<'t>>,
     placed: Placed<'t>,
@@ -63,27 +54,20 @@ fn push_labels<'t>(
 {
     let mut next = 0;
     for name in names {
-        table.push(LabelEntry {
-            process,
-            number: LabelId(next),
-            name: *name,
-        })?;
+        enter(
+            table,
+            LabelEntry {
+                process,
+                number: LabelId(next),
+                name: *name,
+            },
+        )?;
         next = next_number(next)?;
     }
     Ok(())
 }
 
-pub fn states_in<'t>(alloc: Global, parts: &[Placed<'t>]) -> Result<Vec<StateEntry<'t>>, AllocError>
-    ensures { IfOk result (λ table. map state_seen table.items ≡ flat_map placed_states (parts_listed parts.now)) }
-{
-    let mut table = Vec::new(alloc);
-    for placed in parts {
-        add_states(alloc, &mut table, *placed)?;
-    }
-    Ok(table)
-}
-
-fn add_states<'t>(
+pub fn add_states<'t>(
     alloc: Global,
     table: &mut Vec<StateEntry<'t>>,
     placed: Placed<'t>,
@@ -120,11 +104,14 @@ fn push_states<'t>(
 {
     let mut next = 0;
     for name in names {
-        table.push(StateEntry {
-            process,
-            number: StateId(next),
-            name: *name,
-        })?;
+        enter(
+            table,
+            StateEntry {
+                process,
+                number: StateId(next),
+                name: *name,
+            },
+        )?;
         next = next_number(next)?;
     }
     Ok(())

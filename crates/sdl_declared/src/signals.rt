@@ -1,11 +1,12 @@
 //! The table of signals and timers.
 
-ghost use Rattle.std.specs.Prelude.{◌≡◌, ◌++◌, [], ◌∷◌, flat_map, map, option_map, IfOk, OnOk};
+ghost use Rattle.std.specs.Prelude.{◌≡◌, ◌++◌, map, option_map, OnOk};
 ghost use Rattle.sdl_declared.specs.Rows.{placed_signals, signal_row, timer_row};
 ghost use Rattle.sdl_declared.specs.Seen.{signal_seen};
-ghost use Rattle.sdl_declared.specs.Views.{parts_listed, placed_value};
+ghost use Rattle.sdl_declared.specs.Views.{placed_value};
 ghost use Rattle.sdl_tree.specs.Views.{signal_value, timer_value};
 
+use crate::enter::enter;
 use crate::entries::{SignalEntry, SignalKind};
 use crate::part::{Part, Placed};
 use crate::sorts::sorts_at;
@@ -13,20 +14,7 @@ use sdl_spaces::ScopeId;
 use sdl_tree::{Expression, SignalDefinition, TimerDefinition};
 use std::alloc::{AllocError, Global};
 
-pub fn signals_in<'t>(
-    alloc: Global,
-    parts: &[Placed<'t>],
-) -> Result<Vec<SignalEntry<'t>>, AllocError>
-    ensures { IfOk result (λ table. map signal_seen table.items ≡ flat_map placed_signals (parts_listed parts.now)) }
-{
-    let mut table = Vec::new(alloc);
-    for placed in parts {
-        add_part(alloc, &mut table, *placed)?;
-    }
-    Ok(table)
-}
-
-fn add_part<'t>(
+pub fn add_of_part<'t>(
     alloc: Global,
     table: &mut Vec<SignalEntry<'t>>,
     placed: Placed<'t>,
@@ -52,12 +40,15 @@ fn add_signals<'t>(
 {
     for signal in signals {
         let sorts = sorts_at(alloc, &signal.sorts)?;
-        table.push(SignalEntry {
-            scope,
-            name: &signal.name,
-            sorts,
-            kind: SignalKind::Signal,
-        })?;
+        enter(
+            table,
+            SignalEntry {
+                scope,
+                name: &signal.name,
+                sorts,
+                kind: SignalKind::Signal,
+            },
+        )?;
     }
     Ok(())
 }
@@ -74,12 +65,15 @@ fn add_timers<'t>(
     for timer in timers {
         let sorts = sorts_at(alloc, &timer.sorts)?;
         let duration = expression_in(&timer.duration);
-        table.push(SignalEntry {
-            scope,
-            name: &timer.name,
-            sorts,
-            kind: SignalKind::Timer { duration },
-        })?;
+        enter(
+            table,
+            SignalEntry {
+                scope,
+                name: &timer.name,
+                sorts,
+                kind: SignalKind::Timer { duration },
+            },
+        )?;
     }
     Ok(())
 }

@@ -7,6 +7,7 @@ ghost use Rattle.sdl_declared.specs.Views.{part_value, parts_listed};
 ghost use Rattle.sdl_scope.specs.Faults.{least_of, told};
 ghost use Rattle.sdl_tree.specs.Views.{signal_value, sort_value, sorts_value, synonym_value, timer_value};
 
+use crate::enter::enter;
 use crate::part::{Part, Placed};
 use sdl_scope::{Faults, Kind, Token};
 use sdl_system::Sort;
@@ -49,7 +50,7 @@ pub fn sorts_at(alloc: Global, names: &[SortName]) -> Result<Vec<Option<Sort>>, 
 {
     let mut sorts = Vec::new(alloc);
     for name in names {
-        sorts.push(sort_at(name))?;
+        enter(&mut sorts, sort_at(name))?;
     }
     Ok(sorts)
 }

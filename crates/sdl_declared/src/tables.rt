@@ -8,17 +8,13 @@ ghost use Rattle.sdl_declared.specs.Views.{parts_listed};
 ghost use Rattle.sdl_scope.specs.Faults.{least_of, told};
 ghost use Rattle.sdl_tree.specs.Views.{tree_value};
 
-use crate::agents::{agents_in, blocks_in, processes_in};
 use crate::entries::{
     AgentEntry, BlockEntry, ChannelEntry, ConnectionEntry, LabelEntry, ProcessEntry, SignalEntry,
     SignalListEntry, SignalSetEntry, StateEntry, SynonymEntry, ValueName,
 };
-use crate::lists::{channels_in, connections_in, signal_lists_in, signal_sets_in};
+use crate::groups::{AgentTables, ChannelTables, PlaceTables, SignalTables, ValueTables};
 use crate::part::Placed;
-use crate::places::{labels_in, states_in};
-use crate::signals::signals_in;
 use crate::sorts::note_in_parts;
-use crate::values::{synonyms_in, values_in};
 use crate::walk::parts_in;
 use sdl_scope::Faults;
 use sdl_spaces::{ScopeId, ScopePath};
@@ -105,18 +101,23 @@ fn block_of(scope: ScopeId) -> Option<BlockId>
 fn tables_of<'t>(alloc: Global, parts: &[Placed<'t>]) -> Result<Tables<'t>, AllocError>
     ensures { IfOk result (λ tables. rows_of tables ≡ rows_in (parts_listed parts.now)) }
 {
+    let agents = AgentTables::of(alloc, parts)?;
+    let signals = SignalTables::of(alloc, parts)?;
+    let channels = ChannelTables::of(alloc, parts)?;
+    let values = ValueTables::of(alloc, parts)?;
+    let places = PlaceTables::of(alloc, parts)?;
     Ok(Tables {
-        blocks: blocks_in(alloc, parts)?,
-        processes: processes_in(alloc, parts)?,
-        agents: agents_in(alloc, parts)?,
-        signals: signals_in(alloc, parts)?,
-        lists: signal_lists_in(alloc, parts)?,
-        channels: channels_in(alloc, parts)?,
-        connections: connections_in(alloc, parts)?,
-        signal_sets: signal_sets_in(alloc, parts)?,
-        synonyms: synonyms_in(alloc, parts)?,
-        values: values_in(alloc, parts)?,
-        labels: labels_in(alloc, parts)?,
-        states: states_in(alloc, parts)?,
+        blocks: agents.blocks,
+        processes: agents.processes,
+        agents: agents.agents,
+        signals: signals.signals,
+        lists: signals.lists,
+        channels: channels.channels,
+        connections: channels.connections,
+        signal_sets: signals.signal_sets,
+        synonyms: values.synonyms,
+        values: values.values,
+        labels: places.labels,
+        states: places.states,
     })
 }

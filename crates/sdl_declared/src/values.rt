@@ -7,6 +7,7 @@ ghost use Rattle.sdl_declared.specs.Sorts.{sort_at};
 ghost use Rattle.sdl_declared.specs.Views.{part_value, parts_listed, placed_value};
 ghost use Rattle.sdl_tree.specs.Views.{expr_value, names_value, sort_value, synonym_value};
 
+use crate::enter::enter;
 use crate::entries::{SynonymEntry, ValueName};
 use crate::number::next_number;
 use crate::part::{Part, Placed};
@@ -51,11 +52,14 @@ fn push_synonyms<'t>(
         ≡ map synonym_seen table.old.items ++ map (synonym_row scope) (map synonym_value synonyms.now)) }
 {
     for definition in synonyms {
-        table.push(SynonymEntry {
-            scope,
-            sort: sort_at(&definition.sort),
-            definition,
-        })?;
+        enter(
+            table,
+            SynonymEntry {
+                scope,
+                sort: sort_at(&definition.sort),
+                definition,
+            },
+        )?;
     }
     Ok(())
 }
@@ -120,15 +124,18 @@ impl<'t> Values<'t> {
         ensures variables { OnOk result (self.new.variables ≡ self.old.variables) }
     {
         for synonym in synonyms {
-            self.table.push(ValueName {
-                scope,
-                name: &synonym.name,
-                entry: ValueEntry::Synonym {
-                    number: SynonymId(self.synonyms),
-                    sort: sort_at(&synonym.sort),
+            enter(
+                &mut self.table,
+                ValueName {
+                    scope,
+                    name: &synonym.name,
+                    entry: ValueEntry::Synonym {
+                        number: SynonymId(self.synonyms),
+                        sort: sort_at(&synonym.sort),
+                    },
+                    initial: None,
                 },
-                initial: None,
-            })?;
+            )?;
             self.synonyms = next_number(self.synonyms)?;
         }
         Ok(())
@@ -148,15 +155,18 @@ impl<'t> Values<'t> {
         ensures variables { OnOk result (self.new.variables ≡ self.old.variables + length names.now) }
     {
         for name in names {
-            self.table.push(ValueName {
-                scope,
-                name,
-                entry: ValueEntry::Variable {
-                    number: VariableId(self.variables),
-                    sort,
+            enter(
+                &mut self.table,
+                ValueName {
+                    scope,
+                    name,
+                    entry: ValueEntry::Variable {
+                        number: VariableId(self.variables),
+                        sort,
+                    },
+                    initial: value,
                 },
-                initial: value,
-            })?;
+            )?;
             self.variables = next_number(self.variables)?;
         }
         Ok(())

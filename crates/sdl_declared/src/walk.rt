@@ -7,6 +7,7 @@ ghost use Rattle.sdl_spaces.specs.declared.scope.ScopeId.TheVariants as scopes;
 ghost use Rattle.sdl_tree.specs.Tree as tree;
 ghost use Rattle.sdl_tree.specs.Views.{block_part_value, block_value, definition_value, fpar_value, local_value, parameters_value, process_value, system_definition_value, tree_value, variables_value};
 
+use crate::enter::enter;
 use crate::number::next_number;
 use crate::part::{Part, Placed};
 use sdl_spaces::ScopeId;
@@ -241,6 +242,5 @@ fn push<'t>(parts: &mut Vec<Placed<'t>>, scope: ScopeId, part: Part<'t>) -> Resu
     ensures { OnOk result (parts_listed parts.new.items
         ≡ parts_listed parts.old.items ++ placed scope (part_value part.entry) ∷ []) }
 {
-    parts.push(Placed { scope, part })?;
-    Ok(())
+    enter(parts, Placed { scope, part })
 }
