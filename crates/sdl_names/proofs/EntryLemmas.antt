@@ -1,9 +1,9 @@
 -- Names that are declared one after the other.
-use Rattle.std.proofs.Common.{◌≡◌, ◌∙◌, ◌++◌, ◌&&◌, ◌||◌, ℕ, Bool, true, false, List, [], ◌∷◌, Option, Some, cond, is_some, map, refl, ap}
+use Rattle.std.proofs.Common.{◌≡◌, ◌∙◌, ◌++◌, ◌&&◌, ◌||◌, ℕ, Bool, true, false, List, [], ◌∷◌, Option, Some, cond, is_some, map, refl, ap, sym}
 use Rattle.std.specs.List.{list_any}
 use Rattle.std.specs.Str.{bytes_eq}
 use Rattle.std.proofs.lemmas.Grind.{flat_map-append}
-use Rattle.std.proofs.lemmas.List.{append-nil, map-append}
+use Rattle.std.proofs.lemmas.List.{append-nil, append_assoc, map-append}
 use Rattle.sdl_names.specs.Entries.{Entry, Standing, duplicates_behind, entries_in, entries_of, entry_in, entry_of, entry_seen, is_same_name, standing, standings}
 use Rattle.sdl_names.specs.declared.declaration.Declaration.{Declaration}
 use Rattle.sdl_scope.proofs.FaultLemmas.{both_noted}
@@ -20,6 +20,12 @@ use Rattle.sdl_spaces.specs.declared.scope.ScopeId.{ScopeId}
 pub noted-then : (old mid new : Option Told) (xs ys : List Told) → mid ≡ least_of old xs → new ≡ least_of mid ys →
     new ≡ least_of old (xs ++ ys)
 noted-then old mid new xs ys first second = second ∙ ap (λ m. least_of m ys) first ∙ both_noted old xs ys
+
+-- and then two others
+pub noted-both : (old mid new : Option Told) (xs ys zs : List Told) → mid ≡ least_of old xs →
+    new ≡ least_of mid (ys ++ zs) → new ≡ least_of old (xs ++ ys ++ zs)
+noted-both old mid new xs ys zs first second =
+    noted-then old mid new xs (ys ++ zs) first second ∙ ap (λ faults. least_of old faults) (sym (append_assoc xs ys zs))
 
 -- ---- the names of a scope
 

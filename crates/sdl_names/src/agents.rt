@@ -8,7 +8,7 @@ ghost use Rattle.sdl_names.specs.Meanings.{agent_entries, agent_entry, agent_mea
 ghost use Rattle.sdl_scope.specs.Faults.{least_of, told};
 ghost use Rattle.sdl_sorts.specs.Scope.{agent_meaning};
 
-use crate::declaration::{Declaration, declare_all};
+use crate::declaration::{Declaration, add, declare_all};
 use sdl_declared::{Agent, AgentEntry, ProcessEntry, Tables};
 use sdl_scope::Faults;
 use sdl_sorts::AgentMeaning;
@@ -40,11 +40,14 @@ fn agent_declarations<'s, 't>(
 {
     let mut declarations = Vec::new(alloc);
     for entry in table {
-        declarations.push(Declaration {
-            scope: entry.scope,
-            name: entry.name,
-            what: meaning_of(processes, entry.agent),
-        })?;
+        add(
+            &mut declarations,
+            Declaration {
+                scope: entry.scope,
+                name: entry.name,
+                what: meaning_of(processes, entry.agent),
+            },
+        )?;
     }
     Ok(declarations)
 }

@@ -7,7 +7,7 @@ ghost use Rattle.sdl_names.specs.Entries.{Has, duplicates, entries_of, standings
 ghost use Rattle.sdl_names.specs.Meanings.{channel_entries, channels_from};
 ghost use Rattle.sdl_scope.specs.Faults.{least_of, told};
 
-use crate::declaration::{Declaration, declare_all};
+use crate::declaration::{Declaration, add, declare_all};
 use sdl_declared::{ChannelEntry, ChannelId, Tables, next_number};
 use sdl_scope::Faults;
 use sdl_spaces::Spaces;
@@ -37,11 +37,14 @@ fn channel_declarations<'t>(
     let mut declarations = Vec::new(alloc);
     let mut next = 0;
     for entry in table {
-        declarations.push(Declaration {
-            scope: entry.scope,
-            name: &entry.definition.name,
-            what: ChannelId(next),
-        })?;
+        add(
+            &mut declarations,
+            Declaration {
+                scope: entry.scope,
+                name: &entry.definition.name,
+                what: ChannelId(next),
+            },
+        )?;
         next = next_number(next)?;
     }
     Ok(declarations)

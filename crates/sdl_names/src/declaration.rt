@@ -1,6 +1,6 @@
 //! Declarations of one name space.
 
-ghost use Rattle.std.specs.Prelude.{◌≡◌, IfOk};
+ghost use Rattle.std.specs.Prelude.{◌≡◌, ◌++◌, ◌∷◌, [], IfOk, OnOk};
 ghost use Rattle.sdl_names.specs.Entries.{Has, duplicates, entries_of, standings};
 ghost use Rattle.sdl_scope.specs.Faults.{least_of, told};
 
@@ -15,6 +15,14 @@ pub struct Declaration<'t, T: Copy> {
     pub scope: ScopeId,
     pub name: &'t Name,
     pub what: T,
+}
+
+/// Adds the declaration at the end of the list.
+pub fn add<T: Drop>(list: &mut Vec<T>, declaration: T) -> Result<(), AllocError>
+    ensures { OnOk result (list.new.items ≡ list.old.items ++ declaration ∷ []) }
+{
+    list.push(declaration)?;
+    Ok(())
 }
 
 /// The names of these declarations, by their scopes. One that its scope has already is noted as a Duplicate.

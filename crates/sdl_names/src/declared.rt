@@ -6,13 +6,7 @@ ghost use Rattle.sdl_names.specs.Spaces.{AreNamesOf};
 ghost use Rattle.sdl_names.specs.Meanings.{duplicate_faults};
 ghost use Rattle.sdl_scope.specs.Faults.{least_of, told};
 
-use crate::agents::declare_agents;
-use crate::channels::declare_channels;
-use crate::labels::declare_labels;
-use crate::lists::declare_lists;
-use crate::signals::declare_signals;
-use crate::states::declare_states;
-use crate::values::declare_values;
+use crate::groups::{AgentNames, BodyNames, SignalNames, agent_names, body_names, signal_names};
 use sdl_declared::{ChannelId, SignalListId, Tables};
 use sdl_scope::Faults;
 use sdl_sorts::{AgentMeaning, SignalMeaning, ValueEntry};
@@ -48,21 +42,34 @@ impl<'s, 't> Declared<'s, 't> {
         ensures noted { IfOk result (λ declared. told faults.new
             ≡ least_of (told faults.old) (duplicate_faults (rows_of tables.now))) }
     {
-        let signals = declare_signals(alloc, tables, faults)?;
-        let lists = declare_lists(alloc, tables, faults)?;
-        let channels = declare_channels(alloc, tables, faults)?;
-        let agents = declare_agents(alloc, tables, faults)?;
-        let values = declare_values(alloc, tables, faults)?;
-        let labels = declare_labels(alloc, tables, faults)?;
-        let states = declare_states(alloc, tables)?;
-        Ok(Declared {
-            signals,
-            lists,
-            channels,
-            agents,
-            values,
-            labels,
-            states,
-        })
+        let signals = signal_names(alloc, tables, faults)?;
+        let agents = agent_names(alloc, tables, faults)?;
+        let bodies = body_names(alloc, tables, faults)?;
+        Ok(together(signals, agents, bodies))
+    }
+}
+
+/// The names of all groups.
+fn together<'s, 't>(
+    signals: SignalNames<'s, 't>,
+    agents: AgentNames<'s, 't>,
+    bodies: BodyNames<'t>,
+) -> Declared<'s, 't>
+    ensures signals { result.signals ≡ signals.entry.signals }
+    ensures lists { result.lists ≡ signals.entry.lists }
+    ensures channels { result.channels ≡ agents.entry.channels }
+    ensures agents { result.agents ≡ agents.entry.agents }
+    ensures values { result.values ≡ bodies.entry.values }
+    ensures labels { result.labels ≡ bodies.entry.labels }
+    ensures states { result.states ≡ bodies.entry.states }
+{
+    Declared {
+        signals: signals.signals,
+        lists: signals.lists,
+        channels: agents.channels,
+        agents: agents.agents,
+        values: bodies.values,
+        labels: bodies.labels,
+        states: bodies.states,
     }
 }

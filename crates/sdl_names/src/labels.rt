@@ -7,7 +7,7 @@ ghost use Rattle.sdl_names.specs.Entries.{Has, duplicates, entries_of, standings
 ghost use Rattle.sdl_names.specs.Meanings.{label_entries, label_entry};
 ghost use Rattle.sdl_scope.specs.Faults.{least_of, told};
 
-use crate::declaration::{Declaration, declare_all};
+use crate::declaration::{Declaration, add, declare_all};
 use sdl_declared::{LabelEntry, Tables};
 use sdl_scope::Faults;
 use sdl_spaces::{ScopeId, Spaces};
@@ -36,11 +36,14 @@ fn label_declarations<'t>(
 {
     let mut declarations = Vec::new(alloc);
     for entry in table {
-        declarations.push(Declaration {
-            scope: ScopeId::Process(entry.process),
-            name: entry.name,
-            what: entry.number,
-        })?;
+        add(
+            &mut declarations,
+            Declaration {
+                scope: ScopeId::Process(entry.process),
+                name: entry.name,
+                what: entry.number,
+            },
+        )?;
     }
     Ok(declarations)
 }

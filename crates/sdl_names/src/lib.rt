@@ -9,6 +9,7 @@ mod agents;
 mod channels;
 mod declaration;
 mod declared;
+mod groups;
 mod labels;
 pub mod laws;
 mod lists;

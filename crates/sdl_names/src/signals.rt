@@ -8,7 +8,7 @@ ghost use Rattle.sdl_names.specs.Meanings.{signal_entries, signal_means, signals
 ghost use Rattle.sdl_scope.specs.Faults.{least_of, told};
 ghost use Rattle.sdl_sorts.specs.Scope.{signal_meaning};
 
-use crate::declaration::{Declaration, declare_all};
+use crate::declaration::{Declaration, add, declare_all};
 use port_model::SignalId;
 use sdl_declared::{SignalEntry, SignalKind, Tables, next_number};
 use sdl_scope::Faults;
@@ -41,11 +41,14 @@ fn signal_declarations<'s, 't>(
     let mut declarations = Vec::new(alloc);
     let mut next = 0;
     for entry in table {
-        declarations.push(Declaration {
-            scope: entry.scope,
-            name: entry.name,
-            what: meaning_of(SignalId(next), &entry.sorts, entry.kind),
-        })?;
+        add(
+            &mut declarations,
+            Declaration {
+                scope: entry.scope,
+                name: entry.name,
+                what: meaning_of(SignalId(next), &entry.sorts, entry.kind),
+            },
+        )?;
         next = next_number(next)?;
     }
     Ok(declarations)

@@ -6,7 +6,7 @@ ghost use Rattle.sdl_declared.specs.Tables.{rows_of};
 ghost use Rattle.sdl_names.specs.Entries.{Has, entries_of};
 ghost use Rattle.sdl_names.specs.Meanings.{state_entries, state_entry};
 
-use crate::declaration::{Declaration, declare_all};
+use crate::declaration::{Declaration, add, declare_all};
 use sdl_declared::{StateEntry, Tables};
 use sdl_scope::Faults;
 use sdl_spaces::{ScopeId, Spaces};
@@ -32,11 +32,14 @@ fn state_declarations<'t>(
 {
     let mut declarations = Vec::new(alloc);
     for entry in table {
-        declarations.push(Declaration {
-            scope: ScopeId::Process(entry.process),
-            name: entry.name,
-            what: entry.number,
-        })?;
+        add(
+            &mut declarations,
+            Declaration {
+                scope: ScopeId::Process(entry.process),
+                name: entry.name,
+                what: entry.number,
+            },
+        )?;
     }
     Ok(declarations)
 }

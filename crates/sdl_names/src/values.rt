@@ -7,7 +7,7 @@ ghost use Rattle.sdl_names.specs.Entries.{Has, duplicates, entries_of, standings
 ghost use Rattle.sdl_names.specs.Meanings.{value_entries, value_entry};
 ghost use Rattle.sdl_scope.specs.Faults.{least_of, told};
 
-use crate::declaration::{Declaration, declare_all};
+use crate::declaration::{Declaration, add, declare_all};
 use sdl_declared::{Tables, ValueName};
 use sdl_scope::Faults;
 use sdl_sorts::ValueEntry;
@@ -36,11 +36,14 @@ fn value_declarations<'t>(
 {
     let mut declarations = Vec::new(alloc);
     for entry in table {
-        declarations.push(Declaration {
-            scope: entry.scope,
-            name: entry.name,
-            what: entry.entry,
-        })?;
+        add(
+            &mut declarations,
+            Declaration {
+                scope: entry.scope,
+                name: entry.name,
+                what: entry.entry,
+            },
+        )?;
     }
     Ok(declarations)
 }
