@@ -1,12 +1,12 @@
 //! Numbers of instances, drawn in one thread and in several.
 
-ghost use Rattle.std.specs.Prelude.{◌≡◌, IfOk};
+ghost use Rattle.std.specs.Prelude.{◌≡◌};
 ghost use Rattle.std.specs.Thread.{IsSync};
 
 use sdl_instances::birth::table;
 use sdl_instances::{Full, Seat, Table};
-use std::alloc::{AllocError, Global};
-use std::test::Fail;
+use std::alloc::Global;
+use std::process::Abort;
 use std::thread;
 use std::thread::Threads;
 
@@ -17,15 +17,14 @@ struct Hand {
     numbers: Vec<u32>,
 }
 
-fn another(alloc: Global, table: &Table, seat: &mut Seat) -> Result<Hand, AllocError>
+fn another(rt: &impl Abort, alloc: Global, table: &Table, seat: &mut Seat) -> Hand
     requires { seat.old.table ≡ table.now.id }
     ensures table { seat.new.table ≡ seat.old.table }
-    ensures hand { IfOk result (λ hand. hand.seat.table ≡ table.now.id) }
+    ensures hand { result.seat.table ≡ table.now.id }
 {
-    let numbers = Vec::with_capacity(alloc, 1000)?;
-    match seat.again(table) {
-        Some(seat) => Ok(Hand { seat, numbers }),
-        None => Err(AllocError),
+    Hand {
+        seat: seat.again(table).expect(rt, "a seat"),
+        numbers: Vec::with_capacity(alloc, 1000).expect(rt, "memory"),
     }
 }
 
@@ -93,11 +92,12 @@ fn draw_by_four<R: Threads + Sync>(
 
 /// Draws once more, and takes the seat and its numbers in.
 fn take_in(
+    rt: &impl Abort,
     table: &Table,
     seat: &mut Seat,
     hand: Hand,
     numbers: &mut Vec<u32>,
-) -> Result<Result<u32, Full>, AllocError>
+) -> Result<u32, Full>
     requires { (seat.old.table ≡ table.now.id) × (hand.seat.table ≡ table.now.id) }
     ensures { seat.new.table ≡ seat.old.table }
 {
@@ -107,8 +107,26 @@ fn take_in(
     } = hand;
     let drawn = table.draw(&mut other);
     seat.gather(table, other);
-    numbers.extend_from_slice(&more)?;
-    Ok(drawn)
+    numbers.extend_from_slice(&more).expect(rt, "memory");
+    drawn
+}
+
+/// The same of two hands.
+fn take_in_two(
+    rt: &impl Abort,
+    table: &Table,
+    seat: &mut Seat,
+    hands: (Hand, Hand),
+    numbers: &mut Vec<u32>,
+) -> (Result<u32, Full>, Result<u32, Full>)
+    requires seat { seat.old.table ≡ table.now.id }
+    requires hands { (hands.0.seat.table ≡ table.now.id) × (hands.1.seat.table ≡ table.now.id) }
+    ensures { seat.new.table ≡ seat.old.table }
+{
+    let (first, second) = hands;
+    let one = take_in(rt, table, seat, first, numbers);
+    let two = take_in(rt, table, seat, second, numbers);
+    (one, two)
 }
 
 /// How many seats the seat splits off when it is asked so many times. Each of them is gathered at once.
@@ -127,66 +145,65 @@ fn count_splits(table: &Table, seat: &mut Seat, times: u32) -> u32
 }
 
 #[test]
-fn draws_one_two_three(rt: HostRuntime) -> Result<(), Fail> {
+fn draws_one_two_three(rt: HostRuntime) {
     let alloc = rt.alloc();
-    let (table, mut seat) = table(alloc)?;
-    let first = another(alloc, &table, &mut seat)?;
-    let second = another(alloc, &table, &mut seat)?;
-    assert_eq!(rt; table.draw(&mut seat), Ok(1));
-    let (first, second) = draw_by_two(&rt, &table, first, second, 1);
-    let Hand {
-        seat: back,
-        mut numbers,
-    } = first;
-    numbers.extend_from_slice(&second.numbers)?;
-    numbers.sort()?;
-    assert_eq!(rt; numbers.as_slice() == [2, 3].as_slice(), true);
-    seat.gather(&table, back);
-    seat.gather(&table, second.seat);
-    assert_eq!(rt; table.draw(&mut seat), Ok(4));
-    Ok(())
-}
-
-#[test]
-fn draws_a_thousand_once(rt: HostRuntime) -> Result<(), Fail> {
-    let alloc = rt.alloc();
-    let (table, mut seat) = table(alloc)?;
-    let a = another(alloc, &table, &mut seat)?;
-    let b = another(alloc, &table, &mut seat)?;
-    let c = another(alloc, &table, &mut seat)?;
-    let d = another(alloc, &table, &mut seat)?;
-    let (ab, cd) = draw_by_four(&rt, &table, (a, b), (c, d), 1001);
+    let (table, mut seat) = table(alloc).expect(&rt, "memory");
+    let first = another(&rt, alloc, &table, &mut seat);
+    let second = another(&rt, alloc, &table, &mut seat);
+    assert!(rt; table.draw(&mut seat) == Ok(1));
+    let hands = draw_by_two(&rt, &table, first, second, 1);
     let mut numbers = Vec::new(alloc);
-    assert_eq!(rt; take_in(&table, &mut seat, ab.0, &mut numbers)?, Err(Full));
-    assert_eq!(rt; take_in(&table, &mut seat, ab.1, &mut numbers)?, Err(Full));
-    assert_eq!(rt; take_in(&table, &mut seat, cd.0, &mut numbers)?, Err(Full));
-    assert_eq!(rt; take_in(&table, &mut seat, cd.1, &mut numbers)?, Err(Full));
-    assert_eq!(rt; table.draw(&mut seat), Err(Full));
-    numbers.sort()?;
-    assert_eq!(rt; numbers.len(), 1000);
-    for (number, expected) in numbers.iter().zip(1..) {
-        assert_eq!(rt; *number, expected);
-    }
-    Ok(())
+    let drawn = take_in_two(&rt, &table, &mut seat, hands, &mut numbers);
+    assert!(rt; drawn == (Ok(4), Ok(5)));
+    numbers.sort().expect(&rt, "memory");
+    assert!(rt; numbers.as_slice() == [2, 3].as_slice());
+}
+
+/// Four hands that four threads have filled with all the numbers.
+fn full_hands<R: Threads + Sync + Abort>(
+    rt: &R,
+    alloc: Global,
+    table: &Table,
+    seat: &mut Seat,
+) -> ((Hand, Hand), (Hand, Hand))
+    requires { seat.old.table ≡ table.now.id }
+    ensures seat { seat.new.table ≡ seat.old.table }
+    ensures first { (result.0.0.seat.table ≡ table.now.id) × (result.0.1.seat.table ≡ table.now.id) }
+    ensures second { (result.1.0.seat.table ≡ table.now.id) × (result.1.1.seat.table ≡ table.now.id) }
+{
+    let a = another(rt, alloc, table, seat);
+    let b = another(rt, alloc, table, seat);
+    let c = another(rt, alloc, table, seat);
+    let d = another(rt, alloc, table, seat);
+    draw_by_four(rt, table, (a, b), (c, d), 1001)
 }
 
 #[test]
-fn splits_sixty_three_times(rt: HostRuntime) -> Result<(), Fail> {
-    let (table, mut seat) = table(rt.alloc())?;
-    let Some(mut other) = seat.again(&table) else {
-        return Err(Fail::from(AllocError));
-    };
-    assert_eq!(rt; count_splits(&table, &mut other, 1), 0);
-    assert_eq!(rt; count_splits(&table, &mut seat, 62), 62);
-    assert_eq!(rt; count_splits(&table, &mut seat, 1), 0);
+fn draws_a_thousand_once(rt: HostRuntime) {
+    let (table, mut seat) = table(rt.alloc()).expect(&rt, "memory");
+    let (first, second) = full_hands(&rt, rt.alloc(), &table, &mut seat);
+    let mut numbers = Vec::new(rt.alloc());
+    let full = (Err(Full), Err(Full));
+    assert!(rt; take_in_two(&rt, &table, &mut seat, first, &mut numbers) == full);
+    assert!(rt; take_in_two(&rt, &table, &mut seat, second, &mut numbers) == full);
+    assert!(rt; table.draw(&mut seat) == Err(Full));
+    numbers.sort().expect(&rt, "memory");
+    assert!(rt; numbers.iter().copied().eq(1..=1000));
+}
+
+#[test]
+fn splits_sixty_three_times(rt: HostRuntime) {
+    let (table, mut seat) = table(rt.alloc()).expect(&rt, "memory");
+    let mut other = seat.again(&table).expect(&rt, "a seat");
+    assert!(rt; count_splits(&table, &mut other, 1) == 0);
+    assert!(rt; count_splits(&table, &mut seat, 62) == 62);
+    assert!(rt; count_splits(&table, &mut seat, 1) == 0);
     seat.gather(&table, other);
-    assert_eq!(rt; count_splits(&table, &mut seat, 1), 0);
-    Ok(())
+    assert!(rt; count_splits(&table, &mut seat, 1) == 0);
 }
 
 #[test]
-fn says_that_it_is_full(rt: HostRuntime) -> Result<(), Fail> {
-    let text = format!(in rt.alloc(); "{Full}")?;
-    assert_eq!(rt; text.as_str() == "all numbers are drawn", true);
-    Ok(())
+fn says_that_it_is_full(rt: HostRuntime) {
+    let text = format!(in rt.alloc(); "{Full}").expect(&rt, "memory");
+    assert!(rt; text.as_str() == "all numbers are drawn");
 }

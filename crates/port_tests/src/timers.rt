@@ -1,34 +1,32 @@
 //! The clock and the wheel of timers.
 
-ghost use Rattle.std.specs.Prelude.{◌≡◌, ◌≤◌, true, IfOk};
+ghost use Rattle.std.specs.Prelude.{◌≡◌, ◌≤◌, true};
 
 use inbox::{Alone, Fuse, Inbox};
-use port_model::{PortError, SignalId, TimerKey, Values};
+use port_model::{SignalId, TimerKey, Values};
 use sdl_timers::{Reader, Ticker, Wheel, clock};
-use std::alloc::{AllocError, Global};
-use std::test::Fail;
+use std::alloc::Global;
+use std::process::Abort;
 use std::thread;
-use std::thread::Threads;
 
 /// What a reader made after `advance(5)`, and one made of that reader, read: never a time before 5, by the contracts alone.
-fn read_after_five(ticker: &mut Ticker) -> Result<(u64, u64), AllocError>
+fn read_after_five(rt: &impl Abort, ticker: &mut Ticker) -> (u64, u64)
     requires { ticker.old ≤ 5 }
-    ensures { IfOk result (λ read. (5 ≤ read.0) × (5 ≤ read.1)) }
+    ensures { (5 ≤ result.0) × (5 ≤ result.1) }
 {
     ticker.advance(5);
-    let mut reader = ticker.reader()?;
-    let mut again = reader.again()?;
-    Ok((reader.now(), again.now()))
+    let mut reader = ticker.reader().expect(rt, "memory");
+    let mut again = reader.again().expect(rt, "memory");
+    (reader.now(), again.now())
 }
 
 #[test]
-fn reads_what_the_ticker_set(rt: HostRuntime) -> Result<(), Fail> {
-    let (mut ticker, mut first) = clock(rt.alloc())?;
-    assert_eq!(rt; first.now(), 0);
-    assert_eq!(rt; read_after_five(&mut ticker)?, (5, 5));
+fn reads_what_the_ticker_set(rt: HostRuntime) {
+    let (mut ticker, mut first) = clock(rt.alloc()).expect(&rt, "memory");
+    assert!(rt; first.now() == 0);
+    assert!(rt; read_after_five(&rt, &mut ticker) == (5, 5));
     ticker.advance(3);
-    assert_eq!(rt; first.now(), 5);
-    Ok(())
+    assert!(rt; first.now() == 5);
 }
 
 /// Reads the clock many times. No reading is before an earlier one.
@@ -44,21 +42,21 @@ fn never_back(reader: &mut Reader) -> bool {
 }
 
 #[test]
-fn reads_while_it_ticks(rt: HostRuntime) -> Result<(), Fail> {
-    let (mut ticker, mut first) = clock(rt.alloc())?;
-    let mut second = first.again()?;
-    let one = thread::spawn(&rt, move || never_back(&mut first))?;
-    let two = thread::spawn(&rt, move || never_back(&mut second))?;
+fn reads_while_it_ticks(rt: HostRuntime) {
+    let (mut ticker, mut first) = clock(rt.alloc()).expect(&rt, "memory");
+    let mut second = first.again().expect(&rt, "memory");
+    let one = thread::spawn(&rt, move || never_back(&mut first)).expect(&rt, "a thread");
+    let two = thread::spawn(&rt, move || never_back(&mut second)).expect(&rt, "a thread");
     for time in 0..10_000 {
         ticker.advance(time);
     }
-    assert_eq!(rt; (one.join(&rt), two.join(&rt)), (true, true));
-    assert_eq!(rt; ticker.reader()?.now(), 9_999);
-    Ok(())
+    let (one, two) = (one.join(&rt), two.join(&rt));
+    assert!(rt; one && two);
+    assert!(rt; ticker.reader().expect(&rt, "memory").now() == 9_999);
 }
 
-/// The fuse of a timer that this port sets. Timer A is 0, timer B is 1.
-fn fuse(alloc: Global, port: &mut Alone, timer: u32, due: u64) -> Result<Fuse, PortError>
+/// A timer that this port sets is armed on the wheel. Timer A is 0, timer B is 1.
+fn arm(rt: &impl Abort, alloc: Global, wheel: &mut Wheel, port: &mut Alone, timer: u32, due: u64)
     requires { port.old.state.alive ≡ true }
     ensures { port.new.state.alive ≡ true }
 {
@@ -66,7 +64,20 @@ fn fuse(alloc: Global, port: &mut Alone, timer: u32, due: u64) -> Result<Fuse, P
         name: SignalId(timer),
         values: Values::none(alloc),
     };
-    port.set(key, due)
+    let fuse = port.set(key, due).expect(rt, "memory");
+    assert!(rt; wheel.arm(fuse).is_ok());
+}
+
+/// A wheel with the fuses of three sets of port 1 and one of port 2.
+fn four_armed(rt: &impl Abort, alloc: Global) -> Wheel {
+    let mut first = Alone::new(alloc, 1);
+    let mut second = Alone::new(alloc, 2);
+    let mut wheel = Wheel::new(alloc);
+    arm(rt, alloc, &mut wheel, &mut second, 0, 300);
+    arm(rt, alloc, &mut wheel, &mut first, 0, 300);
+    arm(rt, alloc, &mut wheel, &mut first, 1, 44);
+    arm(rt, alloc, &mut wheel, &mut first, 0, 300);
+    wheel
 }
 
 /// The next fuse that is due, as its time, its port and its set.
@@ -76,52 +87,32 @@ fn fired(wheel: &mut Wheel, to: u64) -> Option<(u64, u32, u64)> {
 }
 
 #[test]
-fn fires_in_due_order(rt: HostRuntime) -> Result<(), Fail> {
-    let alloc = rt.alloc();
-    let mut first = Alone::new(alloc, 1);
-    let mut second = Alone::new(alloc, 2);
-    let mut wheel = Wheel::new(alloc);
-    assert_eq!(rt; wheel.next_due(), None);
-    let armed = [
-        fuse(alloc, &mut second, 0, 300),
-        fuse(alloc, &mut first, 0, 300),
-        fuse(alloc, &mut first, 1, 44),
-        fuse(alloc, &mut first, 0, 300),
-    ];
-    for set in armed {
-        let Ok(fuse) = set else {
-            return Err(Fail::from(AllocError));
-        };
-        assert_eq!(rt; wheel.arm(fuse).is_ok(), true);
-    }
-    assert_eq!(rt; (wheel.slot_len(44), wheel.slot_len(43)), (4, 0));
-    assert_eq!(rt; wheel.next_due(), Some(44));
-    assert_eq!(rt; fired(&mut wheel, 43), None);
+fn fires_in_due_order(rt: HostRuntime) {
+    let mut wheel = four_armed(&rt, rt.alloc());
+    assert!(rt; wheel.slot_len(44) == 4 && wheel.slot_len(43) == 0);
+    assert!(rt; wheel.next_due() == Some(44));
+    assert!(rt; fired(&mut wheel, 43).is_none());
     for expected in [(44, 1, 2), (300, 1, 1), (300, 1, 3), (300, 2, 1)] {
-        assert_eq!(rt; fired(&mut wheel, 300), Some(expected));
+        assert!(rt; fired(&mut wheel, 300) == Some(expected));
     }
-    assert_eq!(rt; fired(&mut wheel, 300), None);
-    assert_eq!(rt; (wheel.next_due(), wheel.slot_len(44)), (None, 0));
-    Ok(())
+    assert!(rt; fired(&mut wheel, 300).is_none());
+    assert!(rt; wheel.next_due().is_none() && wheel.slot_len(44) == 0);
 }
 
 #[test]
-fn fires_by_time_and_not_by_slot(rt: HostRuntime) -> Result<(), Fail> {
+fn fires_by_time_and_not_by_slot(rt: HostRuntime) {
     let alloc = rt.alloc();
     let mut wheel = Wheel::new(alloc);
+    assert!(rt; wheel.next_due().is_none());
     for due in [1000, 5, 256, 999, 0, 255, u64::MAX] {
         let mut port = Alone::new(alloc, 7);
-        let Ok(fuse) = fuse(alloc, &mut port, 0, due) else {
-            return Err(Fail::from(AllocError));
-        };
-        assert_eq!(rt; wheel.arm(fuse).is_ok(), true);
+        arm(&rt, alloc, &mut wheel, &mut port, 0, due);
     }
     for due in [0, 5, 255, 256, 999, 1000, u64::MAX] {
-        assert_eq!(rt; wheel.next_due(), Some(due));
+        assert!(rt; wheel.next_due() == Some(due));
         if due > 0 {
-            assert_eq!(rt; fired(&mut wheel, due - 1), None);
+            assert!(rt; fired(&mut wheel, due - 1).is_none());
         }
-        assert_eq!(rt; fired(&mut wheel, due).map(|fuse| fuse.0), Some(due));
+        assert!(rt; fired(&mut wheel, due) == Some((due, 7, 1)));
     }
-    Ok(())
 }

@@ -2,16 +2,16 @@
 
 use port_model::{Pid, Value, Values};
 use std::alloc::Global;
-use std::test::Fail;
+use std::process::Abort;
 
-fn text(alloc: Global, values: &Values) -> Result<String, Fail> {
-    Ok(format!(in alloc; "{values}")?)
+fn text(rt: &impl Abort, alloc: Global, values: &Values) -> String {
+    format!(in alloc; "{values}").expect(rt, "memory")
 }
 
 #[test]
-fn shows_values_in_parentheses(rt: HostRuntime) -> Result<(), Fail> {
+fn shows_values_in_parentheses(rt: HostRuntime) {
     let alloc = rt.alloc();
-    assert_eq!(rt; text(alloc, &Values::none(alloc))?.as_str(), "");
+    assert!(rt; text(&rt, alloc, &Values::none(alloc)).as_str() == "");
     let list = [
         Value::Int(i64::MIN),
         Value::Bool(true),
@@ -19,8 +19,8 @@ fn shows_values_in_parentheses(rt: HostRuntime) -> Result<(), Fail> {
         Value::Pid(Pid::Of(7)),
         Value::Time(20),
     ];
-    let values = Values::new(list.to_vec(alloc)?);
-    let shown = text(alloc, &values.copied()?)?;
-    assert_eq!(rt; shown.as_str(), "(-9223372036854775808,true,null,#7,20)");
-    Ok(())
+    let values = Values::new(list.to_vec(alloc).expect(&rt, "memory"));
+    let copy = values.copied().expect(&rt, "memory");
+    let shown = text(&rt, alloc, &copy);
+    assert!(rt; shown.as_str() == "(-9223372036854775808,true,null,#7,20)");
 }
