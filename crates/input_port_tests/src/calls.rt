@@ -2,20 +2,32 @@
 
 ghost use Rattle.std.specs.Prelude.{◌≡◌};
 
-use inbox::Entry;
+use inbox::{Entry, Fuse};
+use input_port::birth::port;
 use input_port::{Owner, Port, Sender};
 use port_model::{
     Class, Got, Item, Pid, PortError, Selection, SignalId, Taken, TimerKey, Value, Values,
 };
-use std::alloc::{AllocError, Global};
+use std::alloc::Global;
+use std::process::Abort;
 use std::sync::Wait;
 
-pub fn item(alloc: Global, name: u32, value: i64) -> Result<Item, AllocError> {
-    Ok(Item {
+/// A port of this instance, its owner, and one sender.
+pub fn with_sender(rt: &impl Abort, alloc: Global, pid: u32) -> (Port, Owner, Sender)
+    ensures owner { result.1.port ≡ result.0.queue }
+    ensures sender { result.2.port ≡ result.0.queue }
+{
+    let (port, owner, mut desk) = port(alloc, pid).expect(rt, "memory");
+    let sender = desk.sender(&port).expect(rt, "a sender");
+    (port, owner, sender)
+}
+
+pub fn item(rt: &impl Abort, alloc: Global, name: u32, value: i64) -> Item {
+    Item {
         name: SignalId(name),
-        values: Values::new(vec![in alloc; Value::Int(value)]?),
+        values: Values::new(vec![in alloc; Value::Int(value)].expect(rt, "memory")),
         sender: Pid::Env,
-    })
+    }
 }
 
 pub fn key(alloc: Global, name: u32) -> TimerKey {
@@ -25,8 +37,8 @@ pub fn key(alloc: Global, name: u32) -> TimerKey {
     }
 }
 
-pub fn selection(alloc: Global, classes: &[Class]) -> Result<Selection, AllocError> {
-    Ok(Selection::new(classes.to_vec(alloc)?))
+pub fn selection(rt: &impl Abort, alloc: Global, classes: &[Class]) -> Selection {
+    Selection::new(classes.to_vec(alloc).expect(rt, "memory"))
 }
 
 /// The name and the first value of a signal.
@@ -47,11 +59,16 @@ pub fn consumed(taken: Result<Taken, PortError>) -> Option<(u32, i64)> {
 }
 
 /// The same of an entry that is left.
-pub fn left(list: &[Entry], index: usize) -> Option<(u32, i64)> {
-    match list.get(index)? {
-        Entry::Signal(item) => Some(shown(item)),
-        Entry::Timer(fuse) => Some((fuse.key().name.0, 0)),
+fn left(entry: &Entry) -> (u32, i64) {
+    match entry {
+        Entry::Signal(item) => shown(item),
+        Entry::Timer(fuse) => (fuse.key().name.0, 0),
     }
+}
+
+/// Whether just these are left, in this order.
+pub fn are_left(list: &[Entry], wanted: &[(u32, i64)]) -> bool {
+    list.iter().map(left).eq(wanted.iter().copied())
 }
 
 /// Of a timer's signal that is left: the port, the number of the set, and the due time.
@@ -62,51 +79,99 @@ pub fn fuse(list: &[Entry], index: usize) -> Option<(u32, u64, u64)> {
     }
 }
 
-/// Puts signals of these names and values, and says whether all were put.
-pub fn puts<R: Wait>(
+/// Puts signals of these names and values.
+pub fn put<R: Wait + Abort>(
     rt: &R,
     alloc: Global,
     port: &Port,
     sender: &mut Sender,
     signals: &[(u32, i64)],
-) -> bool
+)
     requires { sender.old.port ≡ port.now.queue }
     ensures { sender.new.port ≡ sender.old.port }
 {
     for (name, value) in signals {
-        let Ok(item) = item(alloc, *name, *value) else {
-            return false;
-        };
-        if let Err(_) = sender.put(rt, port, item) {
-            return false;
-        }
+        let item = item(rt, alloc, *name, *value);
+        assert!(rt; sender.put(rt, port, item).is_ok());
     }
-    true
 }
 
-/// Whether the next takes consume just these.
-pub fn takes<R: Wait>(
+/// The next takes consume just these.
+pub fn expect_takes<R: Wait + Abort>(
     rt: &R,
     port: &Port,
     owner: &mut Owner,
     selection: &Selection,
     wanted: &[(u32, i64)],
-) -> bool
+)
     requires { owner.old.port ≡ port.now.queue }
     ensures { owner.new.port ≡ owner.old.port }
 {
     for signal in wanted {
-        if consumed(owner.take(rt, port, selection)) != Some(*signal) {
-            return false;
-        }
+        assert_eq!(rt; consumed(owner.take(rt, port, selection)), Some(*signal));
     }
-    true
 }
 
-/// Whether a take finds nothing.
-pub fn takes_nothing<R: Wait>(rt: &R, port: &Port, owner: &mut Owner, selection: &Selection) -> bool
+/// A take finds nothing.
+pub fn expect_nothing<R: Wait + Abort>(
+    rt: &R,
+    port: &Port,
+    owner: &mut Owner,
+    selection: &Selection,
+)
     requires { owner.old.port ≡ port.now.queue }
     ensures { owner.new.port ≡ owner.old.port }
 {
-    owner.take(rt, port, selection) == Ok(Taken::Nothing)
+    assert!(rt; owner.take(rt, port, selection) == Ok(Taken::Nothing));
+}
+
+/// The next takes consume just these, and one more finds nothing.
+pub fn expect_all<R: Wait + Abort>(
+    rt: &R,
+    port: &Port,
+    owner: &mut Owner,
+    selection: &Selection,
+    wanted: &[(u32, i64)],
+)
+    requires { owner.old.port ≡ port.now.queue }
+    ensures { owner.new.port ≡ owner.old.port }
+{
+    expect_takes(rt, port, owner, selection, wanted);
+    expect_nothing(rt, port, owner, selection);
+}
+
+/// A fuse burns down at its due time.
+pub fn expire<R: Wait + Abort>(rt: &R, port: &Port, sender: &mut Sender, fuse: Fuse)
+    requires { sender.old.port ≡ port.now.queue }
+    ensures { sender.new.port ≡ sender.old.port }
+{
+    let due = fuse.due();
+    assert!(rt; sender.expire(rt, port, fuse, due).is_ok());
+}
+
+/// A sender is gathered.
+pub fn gather<R: Wait + Abort>(rt: &R, port: &Port, owner: &mut Owner, sender: Sender)
+    requires owner { owner.old.port ≡ port.now.queue }
+    requires sender { sender.port ≡ port.now.queue }
+    ensures { owner.new.port ≡ owner.old.port }
+{
+    assert!(rt; owner.gather(rt, port, sender).is_ok());
+}
+
+/// Finishes a port that was not stopped: what is left.
+pub fn finish<R: Wait + Abort>(rt: &R, port: &Port, owner: Owner) -> Vec<Entry>
+    requires { owner.port ≡ port.now.queue }
+{
+    match owner.finish(rt, port) {
+        Ok(end) => end.into_entries(),
+        Err(_) => panic!(rt; "no memory to finish"),
+    }
+}
+
+/// A take finds nothing, and nothing is left.
+pub fn expect_empty<R: Wait + Abort>(rt: &R, port: &Port, mut owner: Owner, selection: &Selection)
+    requires { owner.port ≡ port.now.queue }
+{
+    expect_nothing(rt, port, &mut owner, selection);
+    assert!(rt; finish(rt, port, owner).is_empty());
 }

@@ -1,14 +1,17 @@
 //! Several senders and one owner, in one thread and in several.
 
 ghost use Rattle.std.specs.Prelude.{◌≡◌};
+ghost use Rattle.std.specs.Thread.{IsSync};
 
-use crate::calls::{consumed, item, puts, selection, takes, takes_nothing};
+use crate::calls::{
+    consumed, expect_empty, expect_takes, gather, item, put, selection, with_sender,
+};
 use input_port::birth::port;
 use input_port::{Owner, Port, Sender};
 use port_model::{Class, PortError, Selection};
 use std::alloc::Global;
+use std::process::Abort;
 use std::sync::Wait;
-use std::test::Fail;
 use std::thread;
 use std::thread::Threads;
 
@@ -30,8 +33,13 @@ fn takes_ten<R: Wait>(rt: &R, port: &Port, owner: &mut Owner, selection: &Select
     last == [5, 5]
 }
 
+/// The number of a sender, and how many signals it has sent.
+fn told(sender: &Sender) -> (u32, u64) {
+    (sender.number(), sender.sent())
+}
+
 /// Puts signals of one name with the values 1 to `times`.
-fn put_values<R: Wait>(
+fn put_values<R: Wait + Abort>(
     rt: &R,
     alloc: Global,
     port: &Port,
@@ -43,110 +51,116 @@ fn put_values<R: Wait>(
     ensures { result.port ≡ port.now.queue }
 {
     for value in 0..times {
-        if let Ok(item) = item(alloc, name, value.wrapping_add(1)) {
-            let _ = sender.put(rt, port, item);
-        }
+        let item = item(rt, alloc, name, value.wrapping_add(1));
+        assert!(rt; sender.put(rt, port, item).is_ok());
     }
     sender
 }
 
-#[test]
-fn two_senders(rt: HostRuntime) -> Result<(), Fail> {
-    let alloc = rt.alloc();
-    let inputs = selection(alloc, &[Class::Input, Class::Input])?;
-    let (port, mut owner, mut desk) = port(alloc, 1)?;
-    let first = desk.sender(&port)?;
-    let second = desk.sender(&port)?;
-    let shared = &port;
-    let (first, second) = thread::join(
-        &rt,
+/// Puts the signals of two senders, each in a thread of its own.
+fn put_by_two<R: Threads + Wait + Abort + Sync>(
+    rt: &R,
+    alloc: Global,
+    port: &Port,
+    senders: (Sender, Sender),
+    names: (u32, u32),
+    times: i64,
+) -> (Sender, Sender)
+    requires { (senders.0.port ≡ port.now.queue) × (senders.1.port ≡ port.now.queue) }
+    ensures { (result.0.port ≡ port.now.queue) × (result.1.port ≡ port.now.queue) }
+{
+    let (first, second) = senders;
+    thread::join(
+        rt,
         move || -> Sender
-            requires { first.port ≡ shared.now.queue }
-            ensures { result.port ≡ shared.entry.now.queue }
-        { put_values(&rt, alloc, shared, first, 0, 5) },
+            requires { first.port ≡ port.now.queue }
+            ensures { result.port ≡ port.entry.now.queue }
+        { put_values(rt, alloc, port, first, names.0, times) },
         move || -> Sender
-            requires { second.port ≡ shared.now.queue }
-            ensures { result.port ≡ shared.entry.now.queue }
-        { put_values(&rt, alloc, shared, second, 1, 5) },
-    );
-    assert_eq!(rt; (first.number(), second.number()), (1, 2));
-    assert_eq!(rt; (first.sent(), second.sent()), (5, 5));
-    assert_eq!(rt; owner.gather(&rt, &port, first).is_ok(), true);
-    assert_eq!(rt; owner.gather(&rt, &port, second).is_ok(), true);
-    assert_eq!(rt; takes_ten(&rt, &port, &mut owner, &inputs), true);
-    assert_eq!(rt; takes_nothing(&rt, &port, &mut owner, &inputs), true);
-    assert_eq!(rt;
-        owner.finish(&rt, &port).map(|end| end.entries().len()).ok(),
-        Some(0)
-    );
-    Ok(())
+            requires { second.port ≡ port.now.queue }
+            ensures { result.port ≡ port.entry.now.queue }
+        { put_values(rt, alloc, port, second, names.1, times) },
+    )
 }
 
 #[test]
-fn meet(rt: HostRuntime) -> Result<(), Fail> {
+fn two_senders(rt: HostRuntime) {
     let alloc = rt.alloc();
-    let inputs = selection(alloc, &[Class::Input])?;
-    let (port, mut owner, mut desk) = port(alloc, 1)?;
-    let mut sender = desk.sender(&port)?;
-    assert_eq!(rt;
-        puts(&rt, alloc, &port, &mut sender, &[(0, 1), (0, 2)]),
-        true
-    );
-    assert_eq!(rt; takes(&rt, &port, &mut owner, &inputs, &[(0, 1)]), true);
-    let Ok(mut sender) = owner.meet(&rt, &port, sender) else {
-        return Err(Fail::new("no memory to meet"));
-    };
-    assert_eq!(rt; (sender.number(), sender.sent()), (1, 2));
-    assert_eq!(rt; puts(&rt, alloc, &port, &mut sender, &[(0, 3)]), true);
-    assert_eq!(rt; owner.gather(&rt, &port, sender).is_ok(), true);
-    assert_eq!(rt; owner.gathered(), 1);
-    assert_eq!(rt;
-        takes(&rt, &port, &mut owner, &inputs, &[(0, 2), (0, 3)]),
-        true
-    );
-    assert_eq!(rt; takes_nothing(&rt, &port, &mut owner, &inputs), true);
-    assert_eq!(rt;
-        owner.finish(&rt, &port).map(|end| end.entries().len()).ok(),
-        Some(0)
-    );
-    Ok(())
+    let inputs = selection(&rt, alloc, &[Class::Input, Class::Input]);
+    let (port, mut owner, mut desk) = port(alloc, 1).expect(&rt, "memory");
+    let first = desk.sender(&port).expect(&rt, "a sender");
+    let second = desk.sender(&port).expect(&rt, "a sender");
+    let (first, second) = put_by_two(&rt, alloc, &port, (first, second), (0, 1), 5);
+    assert!(rt; (told(&first), told(&second)) == ((1, 5), (2, 5)));
+    gather(&rt, &port, &mut owner, first);
+    gather(&rt, &port, &mut owner, second);
+    assert!(rt; takes_ten(&rt, &port, &mut owner, &inputs));
+    expect_empty(&rt, &port, owner, &inputs);
+}
+
+/// An owner meets a sender.
+fn meet_one<R: Wait + Abort>(rt: &R, port: &Port, owner: &mut Owner, sender: Sender) -> Sender
+    requires owner { owner.old.port ≡ port.now.queue }
+    requires sender { sender.port ≡ port.now.queue }
+    ensures owner { owner.new.port ≡ owner.old.port }
+    ensures sender { result.port ≡ port.now.queue }
+{
+    match owner.meet(rt, port, sender) {
+        Ok(sender) => sender,
+        Err(_) => panic!(rt; "no memory to meet"),
+    }
 }
 
 #[test]
-fn refuses_the_1002nd_sender(rt: HostRuntime) -> Result<(), Fail> {
-    let (port, owner, mut desk) = port(rt.alloc(), 1)?;
+fn meet(rt: HostRuntime) {
+    let alloc = rt.alloc();
+    let inputs = selection(&rt, alloc, &[Class::Input]);
+    let (port, mut owner, mut sender) = with_sender(&rt, alloc, 1);
+    put(&rt, alloc, &port, &mut sender, &[(0, 1), (0, 2)]);
+    expect_takes(&rt, &port, &mut owner, &inputs, &[(0, 1)]);
+    let mut sender = meet_one(&rt, &port, &mut owner, sender);
+    assert!(rt; told(&sender) == (1, 2));
+    put(&rt, alloc, &port, &mut sender, &[(0, 3)]);
+    gather(&rt, &port, &mut owner, sender);
+    assert!(rt; owner.gathered() == 1);
+    expect_takes(&rt, &port, &mut owner, &inputs, &[(0, 2), (0, 3)]);
+    expect_empty(&rt, &port, owner, &inputs);
+}
+
+#[test]
+fn refuses_the_1002nd_sender(rt: HostRuntime) {
+    let (port, owner, mut desk) = port(rt.alloc(), 1).expect(&rt, "memory");
     drop(owner);
     for number in 1..1002 {
-        assert_eq!(rt; desk.sender(&port).map(|s| s.number()), Ok(number));
+        assert!(rt; desk.sender(&port).map(|s| s.number()) == Ok(number));
     }
-    assert_eq!(rt; desk.sender(&port).err(), Some(PortError::TooManySenders));
-    assert_eq!(rt; (desk.given(), port.pid()), (1001, 1));
-    Ok(())
+    assert!(rt; desk.sender(&port).err() == Some(PortError::TooManySenders));
+    assert!(rt; (desk.given(), port.pid()) == (1001, 1));
 }
 
 const PUTS: i64 = 10_000;
 
-/// Puts the signals of two senders, each in a thread of its own, and answers how many each has sent.
-fn put_twice<R: Threads + Wait + Sync>(
+/// Puts the signals of four senders, each in a thread of its own, and answers how many each has sent.
+fn put_by_four<R: Threads + Wait + Abort + Sync>(
     rt: &R,
     alloc: Global,
     port: &Port,
-    first: Sender,
-    second: Sender,
-    names: (u32, u32),
-) -> (u64, u64)
-    requires first { first.port ≡ port.now.queue }
-    requires second { second.port ≡ port.now.queue }
+    early: (Sender, Sender),
+    late: (Sender, Sender),
+) -> [u64; 4]
+    requires early { (early.0.port ≡ port.now.queue) × (early.1.port ≡ port.now.queue) }
+    requires late { (late.0.port ≡ port.now.queue) × (late.1.port ≡ port.now.queue) }
 {
-    thread::join(
+    let ((a, b), (c, d)) = thread::join(
         rt,
-        move || -> u64
-            requires { first.port ≡ port.now.queue }
-        { put_values(rt, alloc, port, first, names.0, PUTS).sent() },
-        move || -> u64
-            requires { second.port ≡ port.now.queue }
-        { put_values(rt, alloc, port, second, names.1, PUTS).sent() },
-    )
+        move || -> (Sender, Sender)
+            requires { IsSync R.row × (early.0.port ≡ port.now.queue) × (early.1.port ≡ port.now.queue) }
+        { put_by_two(rt, alloc, port, early, (0, 1), PUTS) },
+        move || -> (Sender, Sender)
+            requires { IsSync R.row × (late.0.port ≡ port.now.queue) × (late.1.port ≡ port.now.queue) }
+        { put_by_two(rt, alloc, port, late, (2, 3), PUTS) },
+    );
+    [a.sent(), b.sent(), c.sent(), d.sent()]
 }
 
 /// Takes until the last value of each of four senders was consumed, and counts those that were not the next of their sender.
@@ -170,38 +184,42 @@ fn take_all<R: Wait>(rt: &R, port: &Port, mut owner: Owner, inputs: &Selection) 
     unreachable!()
 }
 
-#[test]
-fn four_senders_and_an_owner(rt: HostRuntime) -> Result<(), Fail> {
-    let alloc = rt.alloc();
-    let (port, owner, mut desk) = port(alloc, 1)?;
-    let first = desk.sender(&port)?;
-    let second = desk.sender(&port)?;
-    let third = desk.sender(&port)?;
-    let fourth = desk.sender(&port)?;
-    let inputs = selection(alloc, &[Class::Input; 4])?;
-    let (shared, classes) = (&port, &inputs);
-    let (wrong, (early, late)) = thread::join(
-        &rt,
+/// While four senders put, their owner takes: how many takes were wrong, and how many signals each sender has sent.
+fn take_while_they_put<R: Threads + Wait + Abort + Sync>(
+    rt: &R,
+    alloc: Global,
+    port: &Port,
+    owner: Owner,
+    early: (Sender, Sender),
+    late: (Sender, Sender),
+) -> (u32, [u64; 4])
+    requires owner { owner.port ≡ port.now.queue }
+    requires early { (early.0.port ≡ port.now.queue) × (early.1.port ≡ port.now.queue) }
+    requires late { (late.0.port ≡ port.now.queue) × (late.1.port ≡ port.now.queue) }
+{
+    let inputs = selection(rt, alloc, &[Class::Input; 4]);
+    let classes = &inputs;
+    thread::join(
+        rt,
         move || -> u32
-            requires { owner.port ≡ shared.now.queue }
-        { take_all(&rt, shared, owner, classes) },
-        move || -> ((u64, u64), (u64, u64))
-            requires first { (first.port ≡ shared.now.queue) × (second.port ≡ shared.now.queue) }
-            requires third { (third.port ≡ shared.now.queue) × (fourth.port ≡ shared.now.queue) }
-        {
-            thread::join(
-                &rt,
-                move || -> (u64, u64)
-                    requires { (first.port ≡ shared.now.queue) × (second.port ≡ shared.now.queue) }
-                { put_twice(&rt, alloc, shared, first, second, (0, 1)) },
-                move || -> (u64, u64)
-                    requires { (third.port ≡ shared.now.queue) × (fourth.port ≡ shared.now.queue) }
-                { put_twice(&rt, alloc, shared, third, fourth, (2, 3)) },
-            )
-        },
-    );
-    assert_eq!(rt; wrong, 0);
-    assert_eq!(rt; early, (10_000, 10_000));
-    assert_eq!(rt; late, (10_000, 10_000));
-    Ok(())
+            requires { owner.port ≡ port.now.queue }
+        { take_all(rt, port, owner, classes) },
+        move || -> [u64; 4]
+            requires early { IsSync R.row × (early.0.port ≡ port.now.queue) × (early.1.port ≡ port.now.queue) }
+            requires late { (late.0.port ≡ port.now.queue) × (late.1.port ≡ port.now.queue) }
+        { put_by_four(rt, alloc, port, early, late) },
+    )
+}
+
+#[test]
+fn four_senders_and_an_owner(rt: HostRuntime) {
+    let alloc = rt.alloc();
+    let (port, owner, mut desk) = port(alloc, 1).expect(&rt, "memory");
+    let first = desk.sender(&port).expect(&rt, "a sender");
+    let second = desk.sender(&port).expect(&rt, "a sender");
+    let third = desk.sender(&port).expect(&rt, "a sender");
+    let fourth = desk.sender(&port).expect(&rt, "a sender");
+    let (early, late) = ((first, second), (third, fourth));
+    let (wrong, sent) = take_while_they_put(&rt, alloc, &port, owner, early, late);
+    assert!(rt; (wrong, sent) == (0, [10_000; 4]));
 }

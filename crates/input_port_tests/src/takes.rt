@@ -1,71 +1,58 @@
 //! What a take passes over: what is saved, what has no priority, and expiries of sets that are past.
 
-use crate::calls::{key, puts, selection, takes, takes_nothing};
-use input_port::birth::port;
+ghost use Rattle.std.specs.Prelude.{◌≡◌};
+
+use crate::calls::{
+    expect_all, expect_nothing, expect_takes, expire, key, put, selection, with_sender,
+};
+use inbox::Fuse;
+use input_port::Owner;
 use port_model::Class;
-use std::test::Fail;
+use std::alloc::Global;
+use std::process::Abort;
 
 #[test]
-fn save_in_port(rt: HostRuntime) -> Result<(), Fail> {
+fn save_in_port(rt: HostRuntime) {
     let alloc = rt.alloc();
-    let saves = selection(alloc, &[Class::Saved, Class::Input])?;
-    let inputs = selection(alloc, &[Class::Input, Class::Input])?;
-    let (port, mut owner, mut desk) = port(alloc, 1)?;
-    let mut sender = desk.sender(&port)?;
-    assert_eq!(rt;
-        puts(
-            &rt,
-            alloc,
-            &port,
-            &mut sender,
-            &[(0, 1), (1, 2), (0, 3), (1, 4)]
-        ),
-        true
-    );
-    assert_eq!(rt;
-        takes(&rt, &port, &mut owner, &saves, &[(1, 2), (1, 4)]),
-        true
-    );
-    assert_eq!(rt; takes_nothing(&rt, &port, &mut owner, &saves), true);
-    assert_eq!(rt;
-        takes(&rt, &port, &mut owner, &inputs, &[(0, 1), (0, 3)]),
-        true
-    );
-    Ok(())
+    let saves = selection(&rt, alloc, &[Class::Saved, Class::Input]);
+    let inputs = selection(&rt, alloc, &[Class::Input, Class::Input]);
+    let (port, mut owner, mut sender) = with_sender(&rt, alloc, 1);
+    let signals = [(0, 1), (1, 2), (0, 3), (1, 4)];
+    put(&rt, alloc, &port, &mut sender, &signals);
+    expect_all(&rt, &port, &mut owner, &saves, &[(1, 2), (1, 4)]);
+    expect_takes(&rt, &port, &mut owner, &inputs, &[(0, 1), (0, 3)]);
 }
 
 #[test]
-fn priority_port(rt: HostRuntime) -> Result<(), Fail> {
+fn priority_port(rt: HostRuntime) {
     let alloc = rt.alloc();
-    let classes = selection(alloc, &[Class::Input, Class::Priority])?;
-    let (port, mut owner, mut desk) = port(alloc, 1)?;
-    let mut sender = desk.sender(&port)?;
-    assert_eq!(rt;
-        puts(&rt, alloc, &port, &mut sender, &[(0, 1), (1, 2), (0, 3)]),
-        true
-    );
-    assert_eq!(rt;
-        takes(&rt, &port, &mut owner, &classes, &[(1, 2), (0, 1), (0, 3)]),
-        true
-    );
-    assert_eq!(rt; takes_nothing(&rt, &port, &mut owner, &classes), true);
-    Ok(())
+    let classes = selection(&rt, alloc, &[Class::Input, Class::Priority]);
+    let (port, mut owner, mut sender) = with_sender(&rt, alloc, 1);
+    put(&rt, alloc, &port, &mut sender, &[(0, 1), (1, 2), (0, 3)]);
+    let taken = [(1, 2), (0, 1), (0, 3)];
+    expect_all(&rt, &port, &mut owner, &classes, &taken);
+}
+
+/// Sets timer 2 two times.
+fn set_twice(rt: &impl Abort, alloc: Global, owner: &mut Owner) -> (Fuse, Fuse)
+    ensures { owner.new.port ≡ owner.old.port }
+{
+    let old = owner.set(key(alloc, 2), 5).expect(rt, "memory");
+    let new = owner.set(key(alloc, 2), 5).expect(rt, "memory");
+    assert!(rt; (old.pid(), old.arm(), new.arm(), new.due()) == (7, 1, 2, 5));
+    (old, new)
 }
 
 #[test]
-fn expires_its_own_sets_alone(rt: HostRuntime) -> Result<(), Fail> {
+fn expires_its_own_sets_alone(rt: HostRuntime) {
     let alloc = rt.alloc();
-    let inputs = selection(alloc, &[Class::Discard, Class::Discard, Class::Input])?;
-    let (port, mut owner, mut desk) = port(alloc, 7)?;
-    let mut sender = desk.sender(&port)?;
-    let old = owner.set(key(alloc, 2), 5)?;
-    let new = owner.set(key(alloc, 2), 5)?;
-    assert_eq!(rt; (old.pid(), old.arm(), new.arm(), new.due()), (7, 1, 2, 5));
-    assert_eq!(rt; sender.expire(&rt, &port, old, 5).is_ok(), true);
-    assert_eq!(rt; takes_nothing(&rt, &port, &mut owner, &inputs), true);
-    assert_eq!(rt; sender.expire(&rt, &port, new, 6).is_ok(), true);
-    assert_eq!(rt; owner.active(&key(alloc, 2)), true);
-    assert_eq!(rt; takes(&rt, &port, &mut owner, &inputs, &[(2, 0)]), true);
-    assert_eq!(rt; (owner.active(&key(alloc, 2)), sender.sent()), (false, 0));
-    Ok(())
+    let inputs = selection(&rt, alloc, &[Class::Discard, Class::Discard, Class::Input]);
+    let (port, mut owner, mut sender) = with_sender(&rt, alloc, 7);
+    let (old, new) = set_twice(&rt, alloc, &mut owner);
+    expire(&rt, &port, &mut sender, old);
+    expect_nothing(&rt, &port, &mut owner, &inputs);
+    expire(&rt, &port, &mut sender, new);
+    assert!(rt; owner.active(&key(alloc, 2)));
+    expect_takes(&rt, &port, &mut owner, &inputs, &[(2, 0)]);
+    assert!(rt; !owner.active(&key(alloc, 2)) && sender.sent() == 0);
 }
