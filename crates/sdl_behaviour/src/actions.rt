@@ -5,6 +5,7 @@ ghost use Rattle.sdl_tree.specs.Views.{action_value, applied_value, assignment_v
 ghost use Rattle.sdl_behaviour.specs.Actions as spec;
 ghost use Rattle.sdl_read.specs.Reads.{Reads};
 
+use crate::optional::taken;
 use crate::place::Inside;
 use sdl_read::cursor::Cursor;
 use sdl_read::expressions::{arguments, expression};
@@ -102,12 +103,13 @@ fn destination(
     requires { depth ≤ 64 }
     ensures { Reads (option_map destination_value) (spec.destination depth cursor.old) result cursor.new }
 {
-    if !cursor.sees(Mark::To) {
-        return Ok(None);
+    match taken(cursor, Mark::To) {
+        None => Ok(None),
+        Some(word) => {
+            let value = expression(alloc, cursor, depth)?;
+            Ok(Some(Destination { word, value }))
+        }
     }
-    let word = cursor.expect(Mark::To)?;
-    let value = expression(alloc, cursor, depth)?;
-    Ok(Some(Destination { word, value }))
 }
 
 /// `"create" NAME [args] end`

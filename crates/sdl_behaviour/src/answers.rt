@@ -5,6 +5,7 @@ ghost use Rattle.sdl_tree.specs.Views.{answer_value, expr_value};
 ghost use Rattle.sdl_behaviour.specs.Answers as spec;
 ghost use Rattle.sdl_read.specs.Reads.{Reads};
 
+use crate::optional::taken;
 use crate::place::Inside;
 use sdl_read::cursor::Cursor;
 use sdl_read::expressions::{expression, operator_at};
@@ -69,10 +70,8 @@ fn range_end(
     requires { depth ≤ 64 }
     ensures { Reads (option_map expr_value) (spec.range_end depth cursor.old) result cursor.new }
 {
-    if !cursor.sees(Mark::Colon) {
-        return Ok(None);
+    match taken(cursor, Mark::Colon) {
+        None => Ok(None),
+        Some(_) => Ok(Some(expression(alloc, cursor, depth)?)),
     }
-    cursor.expect(Mark::Colon)?;
-    let last = expression(alloc, cursor, depth)?;
-    Ok(Some(last))
 }

@@ -8,6 +8,7 @@
 pub mod actions;
 pub mod answers;
 pub mod clauses;
+mod optional;
 pub mod place;
 pub mod states;
 pub mod stimuli;

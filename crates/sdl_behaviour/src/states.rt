@@ -5,6 +5,7 @@ ghost use Rattle.sdl_tree.specs.Views.{body_part_value, name_value, start_value,
 ghost use Rattle.sdl_read.specs.Reads.{Reads};
 ghost use Rattle.sdl_behaviour.specs.States as spec;
 
+use crate::optional::taken;
 use crate::place::Inside;
 use crate::stimuli::stimulus;
 use crate::transitions::transition;
@@ -80,13 +81,13 @@ fn state_part(alloc: Global, cursor: &mut Cursor<'_, '_>, depth: usize) -> Resul
 fn states(alloc: Global, cursor: &mut Cursor<'_, '_>) -> Result<States, Fault>
     ensures { Reads states_value (spec.states cursor.old) result cursor.new }
 {
-    if !cursor.sees(Mark::Asterisk) {
-        let named = names(alloc, cursor)?;
-        return Ok(States::Named(named));
+    match taken(cursor, Mark::Asterisk) {
+        None => Ok(States::Named(names(alloc, cursor)?)),
+        Some(asterisk) => {
+            let except = in_parentheses(alloc, cursor, At::OUTERMOST, name)?;
+            Ok(States::All { asterisk, except })
+        }
     }
-    let asterisk = cursor.expect(Mark::Asterisk)?;
-    let except = in_parentheses(alloc, cursor, At::OUTERMOST, name)?;
-    Ok(States::All { asterisk, except })
 }
 
 /// `["endstate" [NAME] end]`
@@ -94,12 +95,13 @@ fn states(alloc: Global, cursor: &mut Cursor<'_, '_>) -> Result<States, Fault>
 fn end_state(alloc: Global, cursor: &mut Cursor<'_, '_>, states: &States) -> Result<(), Fault>
     ensures { Reads (λ _. tt) (spec.end_state (states_value states.now) cursor.old) result cursor.new }
 {
-    if !cursor.sees(Mark::EndState) {
-        return Ok(());
+    match taken(cursor, Mark::EndState) {
+        None => Ok(()),
+        Some(_) => {
+            end_state_name(alloc, cursor, states)?;
+            end(cursor)
+        }
     }
-    cursor.expect(Mark::EndState)?;
-    end_state_name(alloc, cursor, states)?;
-    end(cursor)
 }
 
 /// `[NAME]` behind `endstate`: one of the names of the state, and none behind `*`.
@@ -175,10 +177,11 @@ fn connection(alloc: Global, cursor: &mut Cursor<'_, '_>, depth: usize) -> Resul
 fn end_connection(alloc: Global, cursor: &mut Cursor<'_, '_>, label: &Name) -> Result<(), Fault>
     ensures { Reads (λ _. tt) (spec.end_connection (string_bytes label.now.text) cursor.old) result cursor.new }
 {
-    if !cursor.sees(Mark::EndConnection) {
-        return Ok(());
+    match taken(cursor, Mark::EndConnection) {
+        None => Ok(()),
+        Some(_) => {
+            end_name(alloc, cursor, label)?;
+            end(cursor)
+        }
     }
-    cursor.expect(Mark::EndConnection)?;
-    end_name(alloc, cursor, label)?;
-    end(cursor)
 }

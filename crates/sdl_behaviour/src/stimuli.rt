@@ -5,6 +5,7 @@ ghost use Rattle.sdl_tree.specs.Views.{condition_value, input_value, inputs_valu
 ghost use Rattle.sdl_behaviour.specs.Stimuli as spec;
 ghost use Rattle.sdl_read.specs.Reads.{Reads};
 
+use crate::optional::taken;
 use crate::place::Inside;
 use crate::transitions::transition;
 use sdl_read::cursor::Cursor;
@@ -127,12 +128,10 @@ fn input_part(alloc: Global, cursor: &mut Cursor<'_, '_>, depth: usize) -> Resul
 fn ins(alloc: Global, cursor: &mut Cursor<'_, '_>, depth: usize) -> Result<Inputs, Fault>
     ensures { Reads inputs_value (spec.ins cursor.old) result cursor.new }
 {
-    if !cursor.sees(Mark::Asterisk) {
-        let listed = separated(alloc, cursor, Inside { depth }, in1)?;
-        return Ok(Inputs::Listed(listed));
+    match taken(cursor, Mark::Asterisk) {
+        None => Ok(Inputs::Listed(separated(alloc, cursor, Inside { depth }, in1)?)),
+        Some(asterisk) => Ok(Inputs::All(asterisk)),
     }
-    let asterisk = cursor.expect(Mark::Asterisk)?;
-    Ok(Inputs::All(asterisk))
 }
 
 /// `in1 = NAME ["(" [NAME] {"," [NAME]} ")"]`
@@ -167,13 +166,14 @@ fn condition(
     requires { depth ≤ 64 }
     ensures { Reads (option_map condition_value) (spec.condition depth cursor.old) result cursor.new }
 {
-    if !cursor.sees(Mark::Provided) {
-        return Ok(None);
+    match taken(cursor, Mark::Provided) {
+        None => Ok(None),
+        Some(word) => {
+            let condition = expression(alloc, cursor, depth)?;
+            end(cursor)?;
+            Ok(Some(EnablingCondition { word, condition }))
+        }
     }
-    let word = cursor.expect(Mark::Provided)?;
-    let condition = expression(alloc, cursor, depth)?;
-    end(cursor)?;
-    Ok(Some(EnablingCondition { word, condition }))
 }
 
 /// `"priority" "input" in1 {"," in1} end trans`. A priority input has no condition here.
@@ -217,12 +217,10 @@ fn save_part(alloc: Global, cursor: &mut Cursor<'_, '_>) -> Result<Stimulus, Fau
 fn saved(alloc: Global, cursor: &mut Cursor<'_, '_>) -> Result<Saved, Fault>
     ensures { Reads saved_value (spec.saved cursor.old) result cursor.new }
 {
-    if !cursor.sees(Mark::Asterisk) {
-        let listed = sigs(alloc, cursor)?;
-        return Ok(Saved::Listed(listed));
+    match taken(cursor, Mark::Asterisk) {
+        None => Ok(Saved::Listed(sigs(alloc, cursor)?)),
+        Some(asterisk) => Ok(Saved::All(asterisk)),
     }
-    let asterisk = cursor.expect(Mark::Asterisk)?;
-    Ok(Saved::All(asterisk))
 }
 
 /// `"provided" expr end ["priority" NUMBER end] trans`
@@ -253,11 +251,12 @@ fn continuous_signal(
 fn priority(alloc: Global, cursor: &mut Cursor<'_, '_>) -> Result<Option<Number>, Fault>
     ensures { Reads (option_map number_value) (spec.priority cursor.old) result cursor.new }
 {
-    if !cursor.sees(Mark::Priority) {
-        return Ok(None);
+    match taken(cursor, Mark::Priority) {
+        None => Ok(None),
+        Some(_) => {
+            let number = cursor.number(alloc)?;
+            end(cursor)?;
+            Ok(Some(number))
+        }
     }
-    cursor.expect(Mark::Priority)?;
-    let number = cursor.number(alloc)?;
-    end(cursor)?;
-    Ok(Some(number))
 }

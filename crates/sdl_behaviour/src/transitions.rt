@@ -8,6 +8,7 @@ ghost use Rattle.sdl_read.specs.Reads.{Reads};
 use crate::actions::{create, output, reset, task};
 use crate::answers::answer;
 use crate::clauses::set;
+use crate::optional::taken;
 use crate::place::Inside;
 use sdl_read::cursor::Cursor;
 use sdl_read::expressions::expression;
@@ -193,13 +194,14 @@ pub fn otherwise(
     requires { depth ≤ 64 }
     ensures { Reads (option_map transition_value) (spec.otherwise (spec.trans depth) cursor.old) result cursor.new }
 {
-    if !cursor.sees(Mark::Else) {
-        return Ok(None);
+    match taken(cursor, Mark::Else) {
+        None => Ok(None),
+        Some(_) => {
+            cursor.expect(Mark::Colon)?;
+            let transition = transition(alloc, cursor, depth)?;
+            Ok(Some(transition))
+        }
     }
-    cursor.expect(Mark::Else)?;
-    cursor.expect(Mark::Colon)?;
-    let transition = transition(alloc, cursor, depth)?;
-    Ok(Some(transition))
 }
 
 /// Whether a label, an action or a terminator stands next.
@@ -274,11 +276,10 @@ fn next(alloc: Global, cursor: &mut Cursor<'_, '_>) -> Result<Terminator, Fault>
 fn next_state(alloc: Global, cursor: &mut Cursor<'_, '_>) -> Result<NextState, Fault>
     ensures { Reads next_state_value (spec.next_state cursor.old) result cursor.new }
 {
-    if !cursor.sees(Mark::Minus) {
-        return Ok(NextState::Named(cursor.name(alloc)?));
+    match taken(cursor, Mark::Minus) {
+        None => Ok(NextState::Named(cursor.name(alloc)?)),
+        Some(word) => Ok(NextState::Same(word)),
     }
-    let word = cursor.expect(Mark::Minus)?;
-    Ok(NextState::Same(word))
 }
 
 /// `"stop" end`

@@ -1,0 +1,29 @@
+//! Words that may be left out.
+
+ghost use Rattle.sdl_behaviour.specs.Taken.{Taken};
+
+use sdl_read::cursor::Cursor;
+use sdl_read::word::{PlacedWord, Word};
+use sdl_tree::{Mark, Spelling};
+
+/// Passes this mark, if it stands next.
+#[tactic(auto, unfolding(sdl_read::specs::Reading::expect, sdl_read::specs::Reading::same_mark, sdl_read::specs::Reading::sees))]
+pub(crate) fn taken(cursor: &mut Cursor<'_, '_>, mark: Mark) -> Option<Spelling>
+    ensures { Taken mark cursor.old result cursor.new }
+{
+    match cursor.front() {
+        Some(
+            PlacedWord {
+                word: Word::Fixed(next, case),
+                place,
+            },
+        ) => {
+            if next == mark {
+                cursor.pass();
+                return Some(Spelling { case, place });
+            }
+            None
+        }
+        _ => None,
+    }
+}
