@@ -17,10 +17,16 @@ fn process(tree: &Tree) -> Option<&ProcessDefinition> {
 /// The column of the first `-` that the start can reach, in a text of one line.
 fn no_state(alloc: Global, text: &str) -> Result<Option<usize>, Fail> {
     let tree = parse(alloc, text.as_bytes())?;
-    let mut faults = Faults::new();
-    if let Some(process) = process(&tree) {
-        note_stays(alloc, process, &mut faults)?;
+    match process(&tree) {
+        Some(process) => Ok(first_stay(alloc, process)?),
+        None => Ok(None),
     }
+}
+
+/// The column of the first `-` that the start of a process can reach.
+fn first_stay(alloc: Global, process: &ProcessDefinition) -> Result<Option<usize>, AllocError> {
+    let mut faults = Faults::new();
+    note_stays(alloc, process, &mut faults)?;
     match faults.least() {
         Some(fault) if fault.kind == Kind::NoState => Ok(Some(fault.token.place.column)),
         _ => Ok(None),
@@ -34,9 +40,7 @@ fn joins(alloc: Global, most: usize) -> Result<String, AllocError> {
     )?;
     for number in 0..most {
         let next = number + 1;
-        text.push_str(format!(in alloc;
-            "connection l{next}: join l{number}; endconnection; "
-        )?.as_str())?;
+        write!(text, "connection l{next}: join l{number}; endconnection; ")?;
     }
     text.push_str("endprocess; endsystem;")?;
     Ok(text)
