@@ -3,7 +3,7 @@
 use sdl_engine::Options;
 
 /// What the program is asked on its command line.
-#[derive(Clone, Copy, Debug, PartialEq, Eq)]
+#[derive(Clone, Copy)]
 pub enum Asked {
     /// A command of the engine.
     Command(Options),

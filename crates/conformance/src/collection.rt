@@ -3,7 +3,7 @@
 use crate::case::Case;
 use crate::fault::{Fault, FormatError, FormatFault};
 use crate::file::{Cases, read_file};
-use crate::lines::{Line, lines_of};
+use crate::lines::{Line, Lines, lines_of};
 use std::alloc::Global;
 use std::collections::BTreeSet;
 use std::rt::Files;
@@ -14,13 +14,19 @@ const INDEX: &str = "index";
 
 /// Reads the case files that the index names.
 pub fn read_cases<R: Files + AllocGlobal>(rt: &R) -> Result<Vec<Case>, Fault> {
+    let index = read_bytes(rt, INDEX)?;
+    let lines = in_file(rt.alloc(), INDEX, lines_of(index.as_slice()))?;
+    read_files(rt, lines)
+}
+
+/// Reads the case files that lines of the index name.
+fn read_files<R: Files + AllocGlobal>(rt: &R, index: Lines<'_>) -> Result<Vec<Case>, Fault> {
     let alloc = rt.alloc();
     let mut cases = Cases {
         all: Vec::new(alloc),
         names: BTreeSet::new(alloc),
     };
-    let index = read_bytes(rt, INDEX)?;
-    let mut rest = in_file(alloc, INDEX, lines_of(index.as_slice()))?;
+    let mut rest = index;
     while let Some((line, below)) = rest.split_first() {
         if !line.is_comment() {
             add_file(rt, line, &mut cases)?;

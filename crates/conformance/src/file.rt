@@ -103,26 +103,41 @@ fn row_case(
     };
     let name = section.name;
     let name = format!(in alloc; "{name}/{number}")?;
-    let left = side_of(alloc, line, row.left)?;
-    let mut right = side_of(alloc, line, row.right)?;
-    let input = match section.blocks.input {
-        Some(input) => text_of(alloc, input, Some(left.as_slice()))?,
-        None => left,
-    };
-    let output = match section.blocks.output {
-        Some(output) => text_of(alloc, output, Some(right.as_slice()))?,
-        None => {
-            right.push(b'\n')?;
-            right
-        }
-    };
+    let input = row_text(alloc, section.blocks.input, side_of(line, row.left))?;
+    let output = row_output(alloc, section.blocks.output, side_of(line, row.right))?;
     Ok(case_of(section, name, input, output))
 }
 
-/// What a side of a row stands for.
-fn side_of(alloc: Global, line: Line<'_>, text: &[u8]) -> Result<Vec<u8>, FormatFault> {
+/// A side of a row, as it stands in its line.
+fn side_of<'a>(line: Line<'a>, text: &'a [u8]) -> Lines<'a> {
     let number = line.number;
-    text_of(alloc, Lines { text, number }, None)
+    Lines { text, number }
+}
+
+/// The output of a row. Without a block for it it is one line.
+fn row_output(
+    alloc: Global,
+    block: Option<Lines<'_>>,
+    side: Lines<'_>,
+) -> Result<Vec<u8>, FormatFault> {
+    let mut output = row_text(alloc, block, side)?;
+    if block.is_none() {
+        output.push(b'\n')?;
+    }
+    Ok(output)
+}
+
+/// What a block stands for with this side of a row, and where there is no block, what the side stands for.
+fn row_text(
+    alloc: Global,
+    block: Option<Lines<'_>>,
+    side: Lines<'_>,
+) -> Result<Vec<u8>, FormatFault> {
+    let side = text_of(alloc, side, None)?;
+    match block {
+        Some(block) => text_of(alloc, block, Some(side.as_slice())),
+        None => Ok(side),
+    }
 }
 
 /// What some lines stand for.

@@ -6,7 +6,7 @@ use crate::judge::Verdict;
 use std::fmt;
 
 /// How many cases were judged, and how many of them with each verdict.
-#[derive(Clone, Copy, Debug, PartialEq, Eq)]
+#[derive(Clone, Copy)]
 pub struct Counts {
     pub cases: usize,
     pub as_wanted: usize,

@@ -1,5 +1,5 @@
 use Rattle.std.proofs.Common.{length}
-use Rattle.conformance.proofs.collection.read_cases.Given as goal
+use Rattle.conformance.proofs.collection.read_files.Given as goal
 
 abbrev pub decreases-loop-line : goal.decreases-loop-line
 decreases-loop-line g l = length l.rest.text.now
