@@ -9,6 +9,8 @@ use sdl_lex::LexError;
 use sdl_parse::ParseError;
 use sdl_script::ScriptError;
 use sdl_serial::RunError;
+use std::alloc::{AllocError, Global};
+use std::process::Abort;
 use std::test::Fail;
 
 /// The signal is discarded, and the timer expires between two lines of the script.
@@ -145,43 +147,79 @@ fn tells_a_writer_that_fails(rt: HostRuntime) -> Result<(), Fail> {
 }
 
 #[test]
+fn has_lines_of_parsing_that_need_no_memory(rt: HostRuntime) -> Result<(), Fail> {
+    let alloc = rt.alloc();
+    has_fixed_line(
+        &rt,
+        alloc,
+        Refusal::Parse(ParseError::Lex(LexError::TooLong)),
+        "lex 1:1 TooLong\n",
+    )?;
+    has_fixed_line(
+        &rt,
+        alloc,
+        Refusal::Parse(ParseError::Lex(LexError::Memory)),
+        "lex Memory\n",
+    )?;
+    has_fixed_line(
+        &rt,
+        alloc,
+        Refusal::Parse(ParseError::Memory),
+        "parse Memory\n",
+    )?;
+    Ok(())
+}
+
+#[test]
 fn has_lines_that_need_no_memory(rt: HostRuntime) -> Result<(), Fail> {
-    let lines = [
-        (
-            Refusal::Parse(ParseError::Lex(LexError::TooLong)),
-            "lex 1:1 TooLong\n",
-        ),
-        (
-            Refusal::Parse(ParseError::Lex(LexError::Memory)),
-            "lex Memory\n",
-        ),
-        (Refusal::Parse(ParseError::Memory), "parse Memory\n"),
-        (Refusal::Build(BuildError::Memory), "build Memory\n"),
-        (Refusal::Script(ScriptError::Memory), "script Memory\n"),
-        (Refusal::Run(RunError::Memory), "run Memory\n"),
-    ];
-    for (refusal, line) in &lines {
-        assert_eq!(rt; fixed_line(refusal), Some(*line));
-        assert_eq!(rt; refusal_line(rt.alloc(), refusal)?.as_str(), *line);
-    }
+    let alloc = rt.alloc();
+    has_fixed_line(
+        &rt,
+        alloc,
+        Refusal::Build(BuildError::Memory),
+        "build Memory\n",
+    )?;
+    has_fixed_line(
+        &rt,
+        alloc,
+        Refusal::Script(ScriptError::Memory),
+        "script Memory\n",
+    )?;
+    has_fixed_line(&rt, alloc, Refusal::Run(RunError::Memory), "run Memory\n")?;
     Ok(())
 }
 
 #[test]
 fn has_lines_that_are_made(rt: HostRuntime) -> Result<(), Fail> {
-    let lines = [
-        (
-            Refusal::Script(ScriptError::Syntax(12)),
-            "script 12 Syntax\n",
-        ),
-        (
-            Refusal::Script(ScriptError::BackInTime(3)),
-            "script 3 BackInTime\n",
-        ),
-    ];
-    for (refusal, line) in &lines {
-        assert_eq!(rt; fixed_line(refusal), None);
-        assert_eq!(rt; refusal_line(rt.alloc(), refusal)?.as_str(), *line);
+    for (error, line) in [
+        (ScriptError::Syntax(12), "script 12 Syntax\n"),
+        (ScriptError::BackInTime(3), "script 3 BackInTime\n"),
+    ] {
+        let refusal = Refusal::Script(error);
+        assert_eq!(rt; fixed_line(&refusal), None);
+        has_line(&rt, rt.alloc(), &refusal, line)?;
     }
+    Ok(())
+}
+
+/// Sees that a refusal has this line, with memory and without.
+fn has_fixed_line(
+    rt: &impl Abort,
+    alloc: Global,
+    refusal: Refusal,
+    line: &str,
+) -> Result<(), AllocError> {
+    assert_eq!(rt; fixed_line(&refusal), Some(line));
+    has_line(rt, alloc, &refusal, line)
+}
+
+fn has_line(
+    rt: &impl Abort,
+    alloc: Global,
+    refusal: &Refusal,
+    line: &str,
+) -> Result<(), AllocError> {
+    let told = refusal_line(alloc, refusal)?;
+    assert_eq!(rt; told.as_str(), line);
     Ok(())
 }
