@@ -2,20 +2,19 @@
 //! its process instances and writes the exact trace of each; `check` writes its canonical text. Either writes one line
 //! instead that names a refusal and its place.
 //!
-//! `sdl_engine`'s `run_text` is the whole tool over any reader and writer; `main` reads the command line, has it called
-//! on the text that is named there, and maps its answer to an exit status.
+//! `sdl_engine`'s `run_text` is the whole tool over any reader and writer; `main` has the command line read by
+//! `sdl_command_line`, has `run_text` called on the text that is named there, and maps its answer to an exit status.
 #![tactic(auto)]
 
-mod command_line;
 mod reading;
 
-use command_line::Request;
 use reading::{Failure, tell};
+use sdl_command_line::{Request, read_command_line};
 use sdl_engine::{Outcome, TextFault};
 use std::process::ExitCode;
 
 fn main(rt: HostRuntime) -> ExitCode {
-    let task = match command_line::read_command_line(&rt) {
+    let task = match read_command_line(&rt) {
         Request::Read(task) => task,
         Request::Answered => return ExitCode::SUCCESS,
         Request::Misused => return ExitCode::from(4),

@@ -1,11 +1,12 @@
 //! The text that is read: a file or standard input, and behind it a script's file, if one is named.
 
-use crate::command_line::Task;
+use sdl_command_line::Task;
 use sdl_engine::{Options, Outcome, TextFault, run_and_explain, run_text};
 use std::fs::File;
 use std::io::Read;
 
-/// What stands between a specification and the script of another file: the line that parts them, at the begin of a line.
+/// What stands between a specification and the script of another file: the line that parts them, at the begin of a
+/// line.
 const BETWEEN: &[u8] = b"\n%script\n";
 
 /// Why nothing can be told of a text.

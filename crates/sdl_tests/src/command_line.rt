@@ -1,24 +1,16 @@
 //! Which words of a command line choose what.
 
-use super::{Task, chosen};
 use clap::error::ErrorKind;
+use sdl_command_line::{Task, chosen};
 use sdl_engine::{Command, Options};
 use std::alloc::{AllocError, Global};
 use std::test::Fail;
-
-fn words(alloc: Global, line: &str) -> Result<Vec<String>, AllocError> {
-    let mut words = Vec::new(alloc);
-    for word in line.split(" ") {
-        words.push(String::from_str(alloc, word)?)?;
-    }
-    Ok(words)
-}
 
 /// What a command line asks for: the command and the limit, and the files of the specification and the script.
 type Asked<'a> = (Command, u64, Option<&'a str>, Option<&'a str>);
 
 /// Command lines with what they ask for; none for a mistake, and for help.
-const LINES: [(&str, Option<Asked<'static>>); 18] = [
+static LINES: [(&str, Option<Asked<'static>>); 18] = [
     (
         "sdlrun check",
         Some((Command::Check, 1_000_000, None, None)),
@@ -59,10 +51,9 @@ const LINES: [(&str, Option<Asked<'static>>); 18] = [
 
 #[test]
 fn command_lines(rt: HostRuntime) -> Result<(), Fail> {
-    for (line, asked) in LINES {
-        let words = words(rt.alloc(), line)?;
-        let found = chosen(rt.alloc(), words.as_slice()).ok();
-        assert_eq!(rt; asked_by(&found), asked, "{line}");
+    for (line, asked) in &LINES {
+        let task = task_of(rt.alloc(), line)?;
+        assert_eq!(rt; asked_by(&task), *asked, "{line}");
     }
     Ok(())
 }
@@ -74,18 +65,50 @@ fn explains_where_asked(rt: HostRuntime) -> Result<(), Fail> {
         ("sdlrun check --explain", true),
         ("sdlrun run --explain a", true),
     ] {
-        let words = words(rt.alloc(), line)?;
-        let found = chosen(rt.alloc(), words.as_slice()).ok();
-        assert_eq!(rt; is_explained(&found), explain, "{line}");
+        let task = task_of(rt.alloc(), line)?;
+        assert_eq!(rt; is_explained(&task), explain, "{line}");
     }
     Ok(())
 }
 
-fn is_explained(task: &Option<Task>) -> bool {
-    match task {
-        Some(task) => task.explain,
-        None => false,
+/// Command lines that aren't mistakes, though nothing is read for them.
+static ANSWERED: [(&str, ErrorKind); 4] = [
+    ("sdlrun --help", ErrorKind::DisplayHelp),
+    ("sdlrun help run", ErrorKind::DisplayHelp),
+    ("sdlrun check --help", ErrorKind::DisplayHelp),
+    ("sdlrun --version", ErrorKind::DisplayVersion),
+];
+
+#[test]
+fn answered_lines(rt: HostRuntime) -> Result<(), Fail> {
+    for (line, kind) in &ANSWERED {
+        let found = kind_of(rt.alloc(), line)?;
+        assert_eq!(rt; found, Some(*kind), "{line}");
     }
+    Ok(())
+}
+
+/// What the words of a line choose; none for a mistake, and for help.
+fn task_of(alloc: Global, line: &str) -> Result<Option<Task>, AllocError> {
+    let words = words(alloc, line)?;
+    Ok(chosen(alloc, words.as_slice()).ok())
+}
+
+/// As what a line is told by which nothing is to be done; none for one by which something is.
+fn kind_of(alloc: Global, line: &str) -> Result<Option<ErrorKind>, AllocError> {
+    let words = words(alloc, line)?;
+    match chosen(alloc, words.as_slice()) {
+        Ok(_) => Ok(None),
+        Err(error) => Ok(Some(error.kind())),
+    }
+}
+
+fn words(alloc: Global, line: &str) -> Result<Vec<String>, AllocError> {
+    let mut words = Vec::new(alloc);
+    for word in line.split(" ") {
+        words.push(String::from_str(alloc, word)?)?;
+    }
+    Ok(words)
 }
 
 fn asked_by(task: &Option<Task>) -> Option<Asked<'_>> {
@@ -103,22 +126,9 @@ fn name_in(name: &Option<String>) -> Option<&str> {
     }
 }
 
-/// Command lines that aren't mistakes, though nothing is read for them.
-const ANSWERED: [(&str, ErrorKind); 4] = [
-    ("sdlrun --help", ErrorKind::DisplayHelp),
-    ("sdlrun help run", ErrorKind::DisplayHelp),
-    ("sdlrun check --help", ErrorKind::DisplayHelp),
-    ("sdlrun --version", ErrorKind::DisplayVersion),
-];
-
-#[test]
-fn answered_lines(rt: HostRuntime) -> Result<(), Fail> {
-    for (line, kind) in ANSWERED {
-        let words = words(rt.alloc(), line)?;
-        match chosen(rt.alloc(), words.as_slice()) {
-            Ok(_) => panic!(rt; "{line} is read"),
-            Err(error) => assert_eq!(rt; error.kind(), kind, "{line}"),
-        }
+fn is_explained(task: &Option<Task>) -> bool {
+    match task {
+        Some(task) => task.explain,
+        None => false,
     }
-    Ok(())
 }

@@ -1,0 +1,115 @@
+//! The commands and options that there are, and their help.
+
+use clap::builder::ValueParser;
+use clap::{Arg, ArgAction, Command};
+use sdl_engine::Options;
+use std::alloc::{AllocError, Global};
+
+/// The program's version, and the logic that it is proved in. The gate compares the latter with the toolchain's own.
+const VERSION: &str = "0.1.0 (rattle logic dac8208d650f15bf)";
+
+/// What follows the help of the program.
+const HELP: &str =
+    "Both commands read a file, or standard input: a specification in SDL/PR, and behind a line `%script` a script.
+
+Examples:
+  sdlrun run examples/counter.sdl
+  sdlrun run < examples/counter.sdl
+
+Exit status:
+  0  whole: the text was checked, or the run came to its end
+  1  the run was cut at its limit
+  2  the text is refused, by one line on standard output; --explain says more on standard error
+  3  the run is refused, or a file can't be opened, or reading, writing or memory failed
+  4  the command line has a mistake
+
+docs/LANGUAGE.md has the language, the script, the trace and all refusals.";
+
+/// What follows the help of `check`.
+const CHECK_HELP: &str =
+    "It makes all checks of the specification, and reads the script for it, as a run does, and then runs nothing.
+
+Example:
+  echo 'SYSTEM s; SIGNAL a; endsystem;' | sdlrun check";
+
+/// What follows the help of `run`.
+const RUN_HELP: &str =
+    "The specification ends at the first line that is `%script`; what follows is the script, a line for each
+signal that the environment sends: its time in ticks, its name and its values. A time alone moves time.
+
+  %script
+  # at time 0, a signal, and another with a value at time 3
+  0 inc
+  3 add(7) to #2
+  10
+
+Example:
+  sdlrun run --limit 100 < examples/counter.sdl";
+
+/// The program with its commands.
+pub fn command<'a>(alloc: Global) -> Result<Command<'a>, AllocError> {
+    let command = Command::new(alloc, "sdlrun")
+        .about("Reads SDL specifications, runs them and writes their exact traces")
+        .version(VERSION)
+        .subcommand_required(true)
+        .after_help(HELP);
+    command.subcommand(check(alloc)?)?.subcommand(run(alloc)?)
+}
+
+/// The command that checks a text.
+fn check<'a>(alloc: Global) -> Result<Command<'a>, AllocError> {
+    let check = Command::new(alloc, "check")
+        .about("Checks a specification with its script, and writes its canonical text")
+        .after_help(CHECK_HELP);
+    check
+        .arg(file(alloc))?
+        .arg(script(alloc))?
+        .arg(explain(alloc))
+}
+
+/// The command that runs a text.
+fn run<'a>(alloc: Global) -> Result<Command<'a>, AllocError> {
+    let run = Command::new(alloc, "run")
+        .about("Runs a specification on its script and writes the trace of each instance")
+        .after_help(RUN_HELP);
+    run.arg(file(alloc))?
+        .arg(script(alloc))?
+        .arg(limit(alloc))?
+        .arg(explain(alloc))
+}
+
+/// The file of the specification.
+fn file<'a>(alloc: Global) -> Arg<'a> {
+    Arg::new(alloc, "file").value_name("FILE").help(
+        "The specification, with its script behind it; standard input if not given",
+    )
+}
+
+/// The file of the script.
+fn script<'a>(alloc: Global) -> Arg<'a> {
+    Arg::new(alloc, "script")
+        .long("script")
+        .value_name("FILE")
+        .help("The script, which then does not stand behind the specification")
+        .action(ArgAction::Set)
+}
+
+/// At how many transitions a run is cut.
+fn limit<'a>(alloc: Global) -> Arg<'a> {
+    Arg::new(alloc, "limit")
+        .long("limit")
+        .value_name("N")
+        .help("Cuts the run after N transitions, 1 to 1000000000; 1000000 if not given")
+        .action(ArgAction::Set)
+        .value_parser(ValueParser::unsigned(1, Options::MOST_LIMIT))
+}
+
+/// Whether a refusal is explained.
+fn explain<'a>(alloc: Global) -> Arg<'a> {
+    Arg::new(alloc, "explain")
+        .long("explain")
+        .help(
+            "Explains a refusal of the text on standard error: its line, its place and what to do",
+        )
+        .action(ArgAction::SetTrue)
+}

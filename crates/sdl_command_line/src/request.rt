@@ -1,0 +1,50 @@
+//! What the command line asks for.
+
+use crate::task::{Task, chosen};
+use clap::Error;
+use clap::error::ErrorKind;
+use sdl_engine::TextFault;
+use std::env;
+use std::rt::Env;
+
+/// What the command line asks for.
+#[derive(Drop)]
+pub enum Request {
+    Read(Task),
+    /// It asked for help or the version, which was printed.
+    Answered,
+    /// It has a mistake, which was told.
+    Misused,
+    /// It could not be read.
+    Fault(TextFault),
+}
+
+/// Reads the command line, and answers help and mistakes at once.
+pub fn read_command_line<R: Env + AllocGlobal + Print + Eprint>(rt: &R) -> Request {
+    let Ok(arguments) = env::args(rt) else {
+        return Request::Fault(TextFault::Memory);
+    };
+    let words: Vec<String> = match arguments.collect(rt.alloc()) {
+        Ok(words) => words,
+        Err(_) => return Request::Fault(TextFault::Memory),
+    };
+    match chosen(rt.alloc(), words.as_slice()) {
+        Ok(task) => Request::Read(task),
+        Err(error) => told(rt, &error),
+    }
+}
+
+/// Prints what clap has to say.
+fn told<R: Print + Eprint>(rt: &R, error: &Error) -> Request {
+    if error.kind() == ErrorKind::OutOfMemory {
+        return Request::Fault(TextFault::Memory);
+    }
+    if error.print(rt).is_err() {
+        return Request::Fault(TextFault::Write);
+    }
+    if error.use_stderr() {
+        Request::Misused
+    } else {
+        Request::Answered
+    }
+}

@@ -1,0 +1,78 @@
+//! What is to be done, and which words choose it.
+
+use crate::commands::command;
+use clap::{ArgMatches, Error};
+use sdl_engine::{Command, Options};
+use std::alloc::{AllocError, Global};
+
+/// What is to be done, and with which text.
+#[derive(Drop)]
+pub struct Task {
+    pub options: Options,
+    /// Whether a refusal of the text is explained on standard error.
+    pub explain: bool,
+    /// The file of the specification; where there is none, standard input is read.
+    pub file: Option<String>,
+    /// The file of the script; where there is none, it stands behind the specification.
+    pub script: Option<String>,
+}
+
+/// What the words of the command line choose, the program's name first. Help that was asked for and a mistake are both
+/// an `Err`, as the crate `clap` tells them; so is want of memory.
+pub fn chosen(alloc: Global, words: &[String]) -> Result<Task, Error> {
+    let command = command(alloc)?;
+    let matches = command.try_get_matches_from(words)?;
+    Ok(met_task(alloc, &matches)?)
+}
+
+/// What is to be done by the command that is met.
+fn met_task(alloc: Global, matches: &ArgMatches<'_>) -> Result<Task, AllocError> {
+    if let Some(run) = matches.subcommand_matches("run") {
+        return task_of(alloc, run_options(run), run);
+    }
+    match matches.subcommand_matches("check") {
+        Some(check) => task_of(alloc, CHECK, check),
+        // One of the two has to stand there.
+        None => Ok(Task {
+            options: CHECK,
+            explain: false,
+            file: None,
+            script: None,
+        }),
+    }
+}
+
+/// A check runs nothing, so it has no limit of its own.
+const CHECK: Options = Options {
+    command: Command::Check,
+    limit: Options::DEFAULT_LIMIT,
+};
+
+/// What is asked for of a run.
+fn run_options(run: &ArgMatches<'_>) -> Options {
+    let limit = run
+        .get_one::<u64>("limit")
+        .unwrap_or(Options::DEFAULT_LIMIT);
+    Options {
+        command: Command::Run,
+        limit,
+    }
+}
+
+/// What a command is to do with the files that are named with it, and whether it explains a refusal.
+fn task_of(alloc: Global, options: Options, named: &ArgMatches<'_>) -> Result<Task, AllocError> {
+    Ok(Task {
+        options,
+        explain: named.get_flag("explain"),
+        file: name_of(alloc, named.get_str("file"))?,
+        script: name_of(alloc, named.get_str("script"))?,
+    })
+}
+
+/// The name of a file, to keep.
+fn name_of(alloc: Global, name: Option<&str>) -> Result<Option<String>, AllocError> {
+    match name {
+        Some(name) => Ok(Some(String::from_str(alloc, name)?)),
+        None => Ok(None),
+    }
+}
