@@ -6,27 +6,15 @@ use sdl_engine::{Command, Options};
 /// What the words behind the program's name ask for.
 pub fn read_words(line: &str) -> Asked {
     let mut words = line.split_whitespace();
-    let command = match words.next() {
-        Some("check") => Command::Check,
-        Some("run") => Command::Run,
-        _ => return Asked::Unknown,
-    };
-    match (command, words.next()) {
-        (_, None) => asked(command, Some(Options::DEFAULT_LIMIT)),
-        (Command::Run, Some(option)) => asked(
-            command,
-            limit_by(option, words.next(), words.next()),
-        ),
-        (Command::Check, Some(_)) => Asked::Unknown,
-    }
-}
-
-/// The limit that an option says with the words behind it.
-fn limit_by(option: &str, next: Option<&str>, after: Option<&str>) -> Option<u64> {
-    match (next, after) {
-        (None, _) => limit(option.strip_prefix("--limit=")?),
-        (Some(number), None) if option == "--limit" => limit(number),
-        _ => None,
+    match (words.next(), words.next(), words.next(), words.next()) {
+        (Some("check"), None, _, _) => asked(Command::Check, Some(Options::DEFAULT_LIMIT)),
+        (Some("run"), None, _, _) => asked(Command::Run, Some(Options::DEFAULT_LIMIT)),
+        (Some("run"), Some("--limit"), Some(number), None) => asked(Command::Run, limit(number)),
+        (Some("run"), Some(word), None, _) => match word.strip_prefix("--limit=") {
+            Some(number) => asked(Command::Run, limit(number)),
+            None => Asked::Unknown,
+        },
+        _ => Asked::Unknown,
     }
 }
 

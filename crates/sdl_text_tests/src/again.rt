@@ -4,14 +4,15 @@ use super::specifications::SPECIFICATIONS;
 use sdl_parse::parse;
 use sdl_print::{canonicalize, print};
 use std::alloc::{AllocError, Global};
+use std::process::Abort;
 use std::test::Fail;
 
 #[test]
 fn writes_canonical_text_again(rt: HostRuntime) -> Result<(), Fail> {
     for text in &SPECIFICATIONS {
-        let written = written(rt.alloc(), text)?;
-        let twice = canonicalize(rt.alloc(), written.as_bytes())?;
-        assert_eq!(rt; twice.as_str(), written.as_str(), "of {text}");
+        let once = written(rt.alloc(), text)?;
+        let twice = written_again(rt.alloc(), text)?;
+        compare(&rt, text, twice.as_str(), once.as_str());
     }
     Ok(())
 }
@@ -21,7 +22,7 @@ fn reads_canonical_text_again(rt: HostRuntime) -> Result<(), Fail> {
     for text in &SPECIFICATIONS {
         let nodes = nodes_of(rt.alloc(), text)?;
         let nodes_again = nodes_again(rt.alloc(), text)?;
-        assert_eq!(rt; nodes_again.as_str(), nodes.as_str(), "of {text}");
+        compare(&rt, text, nodes_again.as_str(), nodes.as_str());
     }
     Ok(())
 }
@@ -30,6 +31,17 @@ fn reads_canonical_text_again(rt: HostRuntime) -> Result<(), Fail> {
 fn written(alloc: Global, text: &str) -> Result<String, Fail> {
     let tree = parse(alloc, text.as_bytes())?;
     Ok(print(alloc, &tree)?)
+}
+
+/// The canonical text of that text.
+fn written_again(alloc: Global, text: &str) -> Result<String, Fail> {
+    let written = written(alloc, text)?;
+    Ok(canonicalize(alloc, written.as_bytes())?)
+}
+
+/// Compares what is told again of a text with what was told of it.
+fn compare(rt: &impl Abort, text: &str, again: &str, once: &str) {
+    assert_eq!(rt; again, once, "of {text}");
 }
 
 /// What the tree says of the text that is written of the tree of a text.
