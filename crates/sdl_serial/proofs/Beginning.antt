@@ -1,17 +1,19 @@
 -- The instances with which a run begins.
-use Rattle.std.proofs.Common.{◌≡◌, ℕ, zero, suc, ◌+◌, ◌<◌, ◌≤◌, List, [], ◌∷◌, ◌++◌, map, length, Option, None, Some}
-use Rattle.std.proofs.Common.{All, slice_get, take, subst, refl, ap, ◌∙◌, sym, arith, replicate, append_assoc}
+use Rattle.std.proofs.Common.{◌≡◌, ℕ, zero, suc, ◌+◌, List, [], ◌∷◌, ◌++◌, map, length, None, Some}
+use Rattle.std.proofs.Common.{All, slice_get, take, subst, refl, ap, ◌∙◌, sym, arith, replicate, append_assoc, false}
 use Rattle.std.proofs.Common.{append-nil, length-append, add-zero}
 use Rattle.std.specs.List.{range_with_len}
 use Rattle.std.proofs.lemmas.List.Elements.{All-nil}
 use Rattle.port_model.specs.declared.pid.Pid.TheVariants.{Null}
 use Rattle.port_model.specs.declared.value.Value.{Value}
-use Rattle.sdl_courses.specs.Global.{census_of, count_living, first_instances, first_of, instance_at, instance_of}
+use Rattle.sdl_courses.specs.Global.{beginning, census_of, count_living, first_instances, first_of, instance_at, instance_of}
 use Rattle.sdl_courses.specs.Global.{least_living}
 use Rattle.sdl_interp.specs.Instance.{InstanceValue}
 use Rattle.sdl_runs.specs.World.{Census}
-use Rattle.sdl_serial.specs.Serial.{AreInPlace, AreMarked, IsOfSystem, IsSerial}
-use Rattle.sdl_serial.specs.declared.serial.Serial.{Serial}
+use Rattle.sdl_script.specs.declared.script.ScriptLine.{ScriptLine}
+use Rattle.sdl_serial.specs.Serial.{AreInPlace, AreMarked, IsOfSystem, IsSerial, state_of}
+use Rattle.sdl_serial.specs.declared.instances.Instances.{Instances}
+use Rattle.sdl_sweeps.specs.Sweeps.{Moment, until_of}
 use Rattle.sdl_system.specs.System.{SystemValue}
 use Rattle.sdl_system.specs.declared.id.ProcessId.{ProcessId}
 use Rattle.sdl_system.specs.declared.process.Process.{Process}
@@ -142,13 +144,31 @@ marks_none = record {
   others = λ n i at. absurd (nobody n i at);
 }
 
--- the working state before the first instance
-pub none-serial : (s : Serial) → s.census ≡ census_of s.system.now [] → s.instances.items ≡ [] → s.awake ≡ []
-    → IsSerial s
-none-serial s census none asleep = record {
+-- before the first instance
+pub none-serial : (awake : List ℕ) (s : Instances) → s.census ≡ census_of s.system.now [] → s.instances.items ≡ []
+    → awake ≡ [] → IsSerial awake s
+none-serial awake s census none asleep = record {
   census = census ∙ ap (census_of s.system.now) (sym none);
   places = subst (AreInPlace 0) (sym none) tt;
   members = subst (All (IsOfSystem s.system.now)) (sym none) (All-nil (IsOfSystem s.system.now));
-  marked = subst (AreMarked s.awake) (sym none)
+  marked = subst (AreMarked awake) (sym none)
       (subst (λ (awake : List ℕ). AreMarked awake []) (sym asleep) marks_none);
 }
+
+-- the first instances, at the first moment
+pub begins_so : (system : SystemValue) (lines : List ScriptLine) (m : Moment) (a : Instances) → m.clock ≡ 0
+    → m.begun ≡ false → m.turn ≡ 0 → m.bound ≡ length a.instances.items → m.fuses ≡ [] → m.script ≡ lines
+    → a.system.now ≡ system → a.instances.items ≡ first_instances system 1 0 system.processes
+    → state_of m a ≡ beginning system lines
+begins_so system lines m a clock begun turn bound fuses script same instances =
+    let all = bound ∙ ap length instances in
+    λ i. record {
+      system = same i;
+      clock = clock i;
+      until = until_of (begun i) (clock i);
+      instances = instances i;
+      turn = turn i;
+      bound = all i;
+      fuses = fuses i;
+      script = script i;
+    }

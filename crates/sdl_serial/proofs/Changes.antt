@@ -1,7 +1,7 @@
 -- What a put or an expiry in the port of an instance does to the working state of a run.
-use Rattle.std.proofs.Common.{◌≡◌, ◌⊎◌, ◌↔◌, ◌&&◌, ◌==◌, ℕ, zero, suc, ◌+◌, ◌<◌, ◌≤◌, Bool, cond, not, List, [], ◌∷◌}
-use Rattle.std.proofs.Common.{map, length, None, Some, refl, ap, ◌∙◌, sym, subst, inl, inr, arith, slice_get, get_or}
-use Rattle.std.proofs.Common.{All, set, Result, Ok, Err, MatchResult, is_err, false, nat_eq, if◌then◌else◌, sum_by}
+use Rattle.std.proofs.Common.{◌≡◌, ◌⊎◌, ◌↔◌, ◌&&◌, ◌==◌, ℕ, zero, suc, ◌+◌, ◌<◌, ◌≤◌, cond, not, List, [], ◌∷◌}
+use Rattle.std.proofs.Common.{map, length, Some, refl, ap, ◌∙◌, sym, subst, inl, inr, arith, slice_get, get_or}
+use Rattle.std.proofs.Common.{All, set, Result, Ok, Err, MatchResult, is_err, false, if◌then◌else◌}
 use Rattle.std.specs.List.{Contains, range_with_len}
 use Rattle.std.proofs.lemmas.List.{length-set}
 use Rattle.std.proofs.lemmas.List.Elements.{All-get_or, All-set}
@@ -13,12 +13,12 @@ use Rattle.inbox.specs.declared.refused.Refused.{Refused}
 use Rattle.port_model.specs.Port.{PortState}
 use Rattle.port_model.specs.declared.item.Item.{Item}
 use Rattle.sdl_courses.specs.Global.{census_of, change_at, changed_at, count_living, instance_at, is_ended}
-use Rattle.sdl_courses.specs.Global.{least_living, lives_of, with_expiry, with_instance, with_put}
-use Rattle.sdl_interp.specs.Instance.{InstanceValue, IsAtRest}
+use Rattle.sdl_courses.specs.Global.{least_living, lives_of, with_expiry, with_put}
+use Rattle.sdl_interp.specs.Instance.{InstanceValue}
 use Rattle.sdl_runs.specs.World.{Census}
-use Rattle.sdl_serial.proofs.Awakes.{same_or_other}
+use Rattle.sdl_sweeps.proofs.Awakes.{same_or_other}
 use Rattle.sdl_serial.specs.Serial.{AreInPlace, AreMarked, IsOfSystem, IsSerial}
-use Rattle.sdl_serial.specs.declared.serial.Serial.{Serial}
+use Rattle.sdl_serial.specs.declared.instances.Instances.{Instances}
 use Rattle.sdl_system.specs.System.{SystemValue}
 
 -- ---- lists
@@ -180,11 +180,12 @@ marks-set awake after instances number place new is_number inside marked waked =
 -- ---- the working state
 
 -- an instance's port is changed, and it may have something to do
-pub serial-set : (s t : Serial) (number place : ℕ) (old new : InstanceValue) → IsSerial s
+pub serial-set : (s t : Instances) (awake after : List ℕ) (number place : ℕ) (old new : InstanceValue)
+    → IsSerial awake s
     → number ≡ place + 1 → slice_get s.instances.items place ≡ Some old → IsChanged old new
     → t.system ≡ s.system → t.census ≡ s.census → t.instances.items ≡ set s.instances.items place new
-    → IsWaked number s.awake t.awake → IsSerial t
-serial-set s t number place old new serial is_number there same system census instances waked =
+    → IsWaked number awake after → IsSerial after t
+serial-set s t awake after number place old new serial is_number there same system census instances waked =
     let before = s.instances.items in
     let inside : place < length before = slice_get_within before place old there in
     let member = All-slice_get (IsOfSystem s.system.now) before place old serial.members there in
@@ -197,8 +198,8 @@ serial-set s t number place old new serial is_number there same system census in
           (subst (λ (system : _). All (IsOfSystem system.now) (set before place new)) (sym system)
           (All-set (IsOfSystem s.system.now) before place new (member_as s.system.now old new member same)
           serial.members));
-      marked = subst (AreMarked t.awake) (sym instances)
-          (marks-set s.awake t.awake before number place new is_number inside serial.marked waked);
+      marked = subst (AreMarked after) (sym instances)
+          (marks-set awake after before number place new is_number inside serial.marked waked);
     }
 
 -- the instance of a number is changed

@@ -10,9 +10,10 @@ use Rattle.sdl_report.specs.Record.{RecordValue}
 use Rattle.sdl_report.specs.declared.record.Report.{Report}
 use Rattle.sdl_script.specs.Script.{end_of}
 use Rattle.sdl_script.specs.declared.script.ScriptLine.{ScriptLine}
-use Rattle.sdl_serial.proofs.Meanings.{all_rest, meaning}
+use Rattle.sdl_serial.specs.Meanings.{all_rest, meaning}
 use Rattle.sdl_serial.specs.Serial.{IsOfSystem, IsSerial, Reaches, state_of}
-use Rattle.sdl_serial.specs.declared.serial.Serial.{Serial}
+use Rattle.sdl_serial.specs.declared.instances.Instances.{Instances}
+use Rattle.sdl_sweeps.specs.Sweeps.{Moment}
 use Rattle.sdl_system.specs.Behaviour.{Behaviour}
 use Rattle.sdl_system.specs.System.{SystemValue}
 
@@ -38,49 +39,48 @@ closes_all ps system whole (i ∷ rest) (trace ∷ more) behaviours members clos
     )
 
 -- what a whole run ensures
-abbrev pub IsWhole : ℕ → Serial → Type 0
-IsWhole last t =
-    All IsAtRest t.instances.items × (t.script.now ≡ []) × IsNoFuseBefore (last + 1) t.fuses × (0 < t.left)
+abbrev pub IsWhole : ℕ → Moment → Instances → Type 0
+IsWhole last n b = All IsAtRest b.instances.items × (n.script ≡ []) × IsNoFuseBefore (last + 1) n.fuses × (0 < n.left)
 
-ends_by : (ps : List Behaviour) (lines : List ScriptLine) (limit : ℕ) (t : Serial) (happenings : List Happening)
-    (end : ℕ) (whole : Bool) → AreBehaviours t.system.now ps → IsSerial t
-    → t.left + transitions_of happenings ≡ limit → (t.left ≡ 0 → EndsInTransition happenings)
-    → (IsTrue whole → IsWhole (end_of lines) t) → IsTrue whole ⊎ (t.left ≡ 0)
-    → ((whole ≡ true) × (end ≡ end_of lines)) ⊎ ((whole ≡ false) × (end ≡ t.clock))
-    → Ends whole ps lines limit happenings (state_of t) end
-ends_by ps lines limit t happenings end true behaviours serial counted reached rests cut is_end =
+ends_by : (ps : List Behaviour) (lines : List ScriptLine) (limit : ℕ) (awake : List ℕ) (n : Moment) (b : Instances) (happenings : List Happening)
+    (end : ℕ) (whole : Bool) → AreBehaviours b.system.now ps → IsSerial awake b
+    → n.left + transitions_of happenings ≡ limit → (n.left ≡ 0 → EndsInTransition happenings)
+    → (IsTrue whole → IsWhole (end_of lines) n b) → IsTrue whole ⊎ (n.left ≡ 0)
+    → ((whole ≡ true) × (end ≡ end_of lines)) ⊎ ((whole ≡ false) × (end ≡ n.clock))
+    → Ends whole ps lines limit happenings (state_of n b) end
+ends_by ps lines limit awake n b happenings end true behaviours serial counted reached rests cut is_end =
     let h = rests refl in
     record {
       fewer = omega (arith, counted, h.3);
-      rest = all_rest ps t behaviours serial h.0;
+      rest = all_rest ps b behaviours serial h.0;
       heard = h.1;
       no_fuse = h.2;
       is_end = elim is_end [ inl w ↦ w.1 | inr w ↦ let wrong : ⊥ = cc (w.0) in absurd wrong ];
     }
-ends_by ps lines limit t happenings end false behaviours serial counted reached rests cut is_end =
-    let spent : t.left ≡ 0 = elim cut [ inl w ↦ let wrong : ⊥ = cc in absurd wrong | inr w ↦ w ] in
+ends_by ps lines limit awake n b happenings end false behaviours serial counted reached rests cut is_end =
+    let spent : n.left ≡ 0 = elim cut [ inl w ↦ let wrong : ⊥ = cc in absurd wrong | inr w ↦ w ] in
     record {
       as_many = omega (arith, counted, spent);
       in_transition = reached spent;
       is_end = elim is_end [ inl w ↦ let wrong : ⊥ = cc (w.0) in absurd wrong | inr w ↦ w.1 ];
     }
 
-pub report : (ps : List Behaviour) (system : SystemValue) (lines : List ScriptLine) (limit : ℕ) (s t : Serial)
-    (told : Report) → AreBehaviours system ps → state_of s ≡ beginning system lines → s.left ≡ limit
-    → Reaches (end_of lines) s t → IsSerial t → (IsTrue told.whole → IsWhole (end_of lines) t)
-    → IsTrue told.whole ⊎ (t.left ≡ 0)
-    → AllZip (IsClosed false told.whole) t.instances.items told.records.items
-    → ((told.whole ≡ true) × (told.end ≡ end_of lines)) ⊎ ((told.whole ≡ false) × (told.end ≡ t.clock))
+pub report : (ps : List Behaviour) (system : SystemValue) (lines : List ScriptLine) (limit : ℕ) (awake : List ℕ)
+    (m n : Moment) (a b : Instances) (told : Report) → AreBehaviours system ps
+    → state_of m a ≡ beginning system lines → m.left ≡ limit → Reaches (end_of lines) m a n b → IsSerial awake b
+    → (IsTrue told.whole → IsWhole (end_of lines) n b) → IsTrue told.whole ⊎ (n.left ≡ 0)
+    → AllZip (IsClosed false told.whole) b.instances.items told.records.items
+    → ((told.whole ≡ true) × (told.end ≡ end_of lines)) ⊎ ((told.whole ≡ false) × (told.end ≡ n.clock))
     → IsSerialReport ps system lines limit told
-report ps system lines limit s t told behaviours state left reaches serial rests cut records is_end =
+report ps system lines limit awake m n a b told behaviours state left reaches serial rests cut records is_end =
     let first = subst (λ all. AreBehaviours all ps) (sym (ap (λ g. g.system) state)) behaviours in
     let run = reaches ps first in
     let last = subst (λ all. AreBehaviours all ps) (sym (ap (λ r. r.now) run.system)) first in
     record {
       happenings = run.happenings;
-      last = state_of t;
-      course = subst (λ g. Course ps (end_of lines) g run.happenings (state_of t)) state run.course;
-      records = closes_all ps t.system.now told.whole t.instances.items told.records.items last serial.members records;
-      ends = ends_by ps lines limit t run.happenings told.end told.whole last serial (run.counted ∙ left)
+      last = state_of n b;
+      course = subst (λ g. Course ps (end_of lines) g run.happenings (state_of n b)) state run.course;
+      records = closes_all ps b.system.now told.whole b.instances.items told.records.items last serial.members records;
+      ends = ends_by ps lines limit awake n b run.happenings told.end told.whole last serial (run.counted ∙ left)
           run.in_transition rests cut is_end;
     }

@@ -1,9 +1,9 @@
 -- What one instance more does to the working state of a run.
-use Rattle.std.proofs.Common.{◌≡◌, ◌⊎◌, ◌↔◌, ◌&&◌, ◌==◌, ℕ, zero, suc, ◌+◌, ◌<◌, ◌≤◌, Bool, true, false, cond, not}
+use Rattle.std.proofs.Common.{◌≡◌, ◌⊎◌, ◌&&◌, ℕ, zero, suc, ◌+◌, ◌<◌, ◌≤◌, Bool, true, false, cond, not}
 use Rattle.std.proofs.Common.{List, [], ◌∷◌, ◌++◌, map, length, Option, None, Some, refl, ap, ◌∙◌, sym, subst, inl}
-use Rattle.std.proofs.Common.{inr, arith, slice_get, All, set, nat_eq, if◌then◌else◌, sum_by, length-append}
+use Rattle.std.proofs.Common.{inr, arith, slice_get, All, set, nat_eq, if◌then◌else◌, length-append}
 use Rattle.std.proofs.Common.{unwrap_or, add-zero}
-use Rattle.std.specs.List.{Contains, range_with_len}
+use Rattle.std.specs.List.{range_with_len}
 use Rattle.std.proofs.lemmas.List.Elements.{All-append, All-cons, All-nil}
 use Rattle.std.proofs.lemmas.List.Sums.{sum_by_push}
 use Rattle.std.proofs.lemmas.Option.{slice_get_within}
@@ -11,11 +11,11 @@ use Rattle.inbox.specs.Ends.{OwnerState}
 use Rattle.port_model.specs.declared.pid.Pid.{Pid}
 use Rattle.port_model.specs.declared.value.Value.{Value}
 use Rattle.sdl_courses.specs.Global.{census_of, count_living, instance_at, is_ended, least_living, lives_of}
-use Rattle.sdl_interp.specs.Instance.{InstanceValue, IsAtRest, created}
+use Rattle.sdl_interp.specs.Instance.{InstanceValue, created}
 use Rattle.sdl_runs.specs.World.{Census, count_in, with_one_more}
 use Rattle.sdl_serial.proofs.Changes.{IsWaked}
 use Rattle.sdl_serial.specs.Serial.{AreInPlace, AreMarked, IsOfSystem, IsSerial}
-use Rattle.sdl_serial.specs.declared.serial.Serial.{Serial}
+use Rattle.sdl_serial.specs.declared.instances.Instances.{Instances}
 use Rattle.sdl_system.specs.Route.{living_in, or_later}
 use Rattle.sdl_system.specs.System.{SystemValue}
 use Rattle.sdl_system.specs.declared.id.ProcessId.{ProcessId}
@@ -218,16 +218,17 @@ marks-entered awake after instances i marked waked =
     }
 
 -- an instance enters, and may have something to do
-pub serial-entered : (s t : Serial) (id : ProcessId) (i : InstanceValue) → IsSerial s
+pub serial-entered : (s t : Instances) (awake after : List ℕ) (id : ProcessId) (i : InstanceValue)
+    → IsSerial awake s
     → Enters s.system.now s.census.given id i → t.system ≡ s.system → t.census ≡ with_one_more s.census id
-    → t.instances.items ≡ s.instances.items ++ i ∷ [] → IsWaked (s.census.given + 1) s.awake t.awake → IsSerial t
-serial-entered s t id i serial enters system census instances waked =
+    → t.instances.items ≡ s.instances.items ++ i ∷ [] → IsWaked (s.census.given + 1) awake after → IsSerial after t
+serial-entered s t awake after id i serial enters system census instances waked =
     let before = s.instances.items in
     let given : s.census.given ≡ length before = ap (λ (c : Census). c.given) serial.census in
     let entered : Enters s.system.now (length before) id i =
     subst (λ given. Enters s.system.now given id i) given enters in
-    let waked_so : IsWaked (length before + 1) s.awake t.awake =
-    subst (λ given. IsWaked (given + 1) s.awake t.awake) given waked in
+    let waked_so : IsWaked (length before + 1) awake after =
+    subst (λ given. IsWaked (given + 1) awake after) given waked in
     record {
       census = census ∙ ap (λ c. with_one_more c id) serial.census
           ∙ sym (census-entered s.system.now before id i entered)
@@ -239,6 +240,6 @@ serial-entered s t id i serial enters system census instances waked =
           (subst (λ (system : _). All (IsOfSystem system.now) (before ++ i ∷ [])) (sym system)
           (All-append (IsOfSystem s.system.now) before (i ∷ []) serial.members
           (All-cons (IsOfSystem s.system.now) i [] entered.member (All-nil (IsOfSystem s.system.now)))));
-      marked = subst (AreMarked t.awake) (sym instances)
-          (marks-entered s.awake t.awake before i serial.marked waked_so);
+      marked = subst (AreMarked after) (sym instances)
+          (marks-entered awake after before i serial.marked waked_so);
     }

@@ -1,13 +1,10 @@
 pub mod Arming
-pub mod Awakes
 pub mod Beginning
+pub mod Census
 pub mod Changes
 pub mod Closing
-pub mod CourseLaws
 pub mod Entering
-pub mod Living
-pub mod Meanings
 pub mod Performing
 pub mod Refusals
-pub mod Stepping
+pub mod Steps
 pub mod Timing

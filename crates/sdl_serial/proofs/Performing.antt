@@ -1,11 +1,9 @@
 -- Acts one after the other.
-use Rattle.std.proofs.Common.{◌≡◌, ℕ, ◌+◌, List, [], ◌∷◌, ◌++◌, map, refl, ◌∙◌}
+use Rattle.std.proofs.Common.{◌≡◌, ℕ, ◌+◌, List, [], ◌∷◌, ◌++◌, refl}
 use Rattle.sdl_around.specs.Around.{AreNumbered}
 use Rattle.sdl_courses.specs.Global.{Global, after_act, after_acts}
 use Rattle.sdl_courses.specs.Told.{given_after, given_after_one}
 use Rattle.sdl_runs.specs.Act.{Act, Arm, Create, Send}
-use Rattle.sdl_serial.specs.Serial.{KeepsCourse}
-use Rattle.sdl_serial.specs.declared.serial.Serial.{Serial}
 
 -- one act more
 pub after_acts-more : (g : Global) (acts : List Act) (last : Act)
@@ -26,15 +24,3 @@ AreNumbered-more given (Create process number parent values ∷ rest) last all =
     ((all.0, later.0), later.1)
 AreNumbered-more given (Send target item ∷ rest) last all = AreNumbered-more given rest last all
 AreNumbered-more given (Arm fuse ∷ rest) last all = AreNumbered-more given rest last all
-
--- what is left as it is twice is so
-pub keeps-on : (a b c : Serial) → KeepsCourse a b → KeepsCourse b c → KeepsCourse a c
-keeps-on a b c first then = record {
-  system = then.system ∙ first.system;
-  script = then.script ∙ first.script;
-  clock = then.clock ∙ first.clock;
-  begun = then.begun ∙ first.begun;
-  turn = then.turn ∙ first.turn;
-  bound = then.bound ∙ first.bound;
-  left = then.left ∙ first.left;
-}

@@ -1,2 +1,5 @@
+pub mod CourseLaws
 pub mod ErrorText
+pub mod Meanings
 pub mod Serial
+pub mod Ticks

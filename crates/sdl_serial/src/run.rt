@@ -6,9 +6,10 @@ ghost use Rattle.sdl_courses.specs.Report.{IsSerialReport};
 ghost use Rattle.sdl_system.specs.Behaviour.{Behaviour};
 
 use crate::error::RunError;
-use crate::serial::Serial;
+use crate::instances::Instances;
 use sdl_report::Report;
 use sdl_script::Script;
+use sdl_sweeps::{Agents, Board, Sweeps};
 use sdl_system::System;
 use std::alloc::Global;
 
@@ -24,11 +25,13 @@ pub fn run_serial(
         → IsSerialReport ps system.now script.now.lines.items limit report) }
     ensures err { IfErr result (λ why. why ≡ RunError.Memory) }
 {
-    let mut serial = Serial::begin(alloc, system, script.lines.as_slice(), limit)?;
+    let mut board = Board::new(alloc);
+    let mut instances = Instances::begin(alloc, &mut board, system)?;
+    let mut sweeps = Sweeps::new(board, script.lines.as_slice(), instances.given(), limit);
     let last = script.end();
-    let whole = serial.run(alloc, last)?;
-    let end = if whole { last } else { serial.clock };
-    let records = serial.close(alloc, whole)?;
+    let whole = sweeps.run(alloc, &mut instances, last)?;
+    let end = if whole { last } else { sweeps.board.clock };
+    let records = instances.close(alloc, whole)?;
     Ok(Report {
         records,
         end,

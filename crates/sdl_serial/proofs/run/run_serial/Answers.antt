@@ -1,21 +1,38 @@
-use Rattle.std.proofs.Common.{◌∙◌, ap, inl, inr, subst}
+use Rattle.std.proofs.Common.{◌≡◌, ◌∙◌, ap, inl, inr, subst, sym, List, ℕ}
 use Rattle.sdl_courses.specs.Global.{beginning}
+use Rattle.sdl_serial.proofs.Beginning.{begins_so}
 use Rattle.sdl_serial.proofs.Closing.{IsWhole, report}
-use Rattle.sdl_serial.specs.Serial.{Reaches}
+use Rattle.sdl_serial.specs.Serial.{IsSerial, Reaches, state_of}
 use Rattle.sdl_serial.proofs.run.run_serial.Goals as goal
 use Rattle.sdl_serial.proofs.run.run_serial.Goals.{else-whole, then-whole}
+use Rattle.sdl_sweeps.specs.Sweeps.{Moment, moment_of}
+
+pub run-requires-clause-fits : goal.run-requires-clause-fits
+run-requires-clause-fits c =
+    subst (λ (awake : List ℕ). IsSerial awake c.in_ok-instances.instances) (sym c.new-sweeps.ensures.awake)
+    c.in_ok-instances.ensures.serial
 
 pub returns-clause-serial : goal.returns-clause-serial
 returns-clause-serial c = λ ps behaviours.
-    let s = c.in_ok-serial.serial in
-    let t = c.run.new.self in
+    let system = c.args.system.now in
+    let lines = c.args.script.now.lines.items in
+    let a = c.in_ok-instances.instances in
+    let made = c.in_ok-instances.ensures in
+    let m : Moment = moment_of c.new-sweeps.result in
+    let n : Moment = moment_of c.run.new.self in
+    let b = c.run.new.agents in
+    let first = c.new-sweeps.ensures.moment in
+    let state : state_of m a ≡ beginning system lines =
+    begins_so system lines m a
+    (ap (λ (m : Moment). m.clock) first ∙ c.begin.ensures.clock ∙ c.new-board.ensures.clock)
+    (ap (λ (m : Moment). m.begun) first) (ap (λ (m : Moment). m.turn) first)
+    (ap (λ (m : Moment). m.bound) first ∙ c.given.ensures ∙ ap (λ census. census.given) made.serial.census)
+    (ap (λ (m : Moment). m.fuses) first ∙ c.begin.ensures.fuses ∙ c.new-board.ensures.fuses)
+    (ap (λ (m : Moment). m.script) first ∙ c.as_slice.ensures.value) made.system made.instances in
     let done = c.in_ok-whole.ensures in
-    report ps c.args.system.now c.args.script.now.lines.items c.args.limit s t _ behaviours
-    (c.in_ok-serial.ensures.state ∙ ap (beginning c.args.system.now) c.as_slice.ensures.value)
-    c.in_ok-serial.ensures.left
-    (subst (λ n. Reaches n s t) c.end-last.ensures done.runs) done.kept
-    (λ whole. subst (λ n. IsWhole n t) c.end-last.ensures (done.whole whole)) done.cut
-    c.in_ok-records.ensures
+    report ps system lines c.args.limit c.run.new.self.board.awake m n a b _ behaviours state
+    (ap (λ (m : Moment). m.left) first) (subst (λ k. Reaches k m a n b) c.end-last.ensures done.runs) done.fits
+    (λ whole. subst (λ k. IsWhole k n b) c.end-last.ensures (done.whole whole)) done.cut c.in_ok-records.ensures
     (elim c.if-whole.branch [
       | then-whole w ↦ inl (w.if-whole.true, w.end-is ∙ c.end-last.ensures)
       | else-whole w ↦ inr (w.if-whole.false, w.end-is)

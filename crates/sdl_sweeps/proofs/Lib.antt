@@ -1,0 +1,2 @@
+pub mod Awakes
+pub mod Moments

@@ -1,0 +1,33 @@
+//! What the instances see and change of a run.
+
+ghost use Rattle.std.specs.Prelude.{◌≡◌, []};
+
+use crate::awake::Awake;
+use sdl_timers::Wheel;
+use std::alloc::Global;
+
+/// What the instances of a run see and change of it as they step: the clock, who may have something to do, and the fuses
+/// that wait.
+#[derive(Drop)]
+pub struct Board {
+    /// In ticks.
+    pub clock: u64,
+    pub awake: Awake,
+    /// The fuses that wait for their time.
+    pub fuses: Wheel,
+}
+
+impl Board {
+    /// The board at time 0, on which nobody and nothing stands. Takes no memory.
+    pub fn new(alloc: Global) -> Self
+        ensures clock { result.clock ≡ 0 }
+        ensures awake { result.awake ≡ [] }
+        ensures fuses { result.fuses ≡ [] }
+    {
+        Board {
+            clock: 0,
+            awake: Awake::new(alloc),
+            fuses: Wheel::new(alloc),
+        }
+    }
+}
