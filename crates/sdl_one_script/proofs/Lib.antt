@@ -1,0 +1,6 @@
+mod Parts
+mod Spellings
+mod Meanings
+mod Texts
+mod Faults
+mod Refusals
