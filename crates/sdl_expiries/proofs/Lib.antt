@@ -1,0 +1,7 @@
+mod Arms
+mod Covered
+mod Dues
+mod Followed
+mod Numbers
+mod Ports
+mod Sets
