@@ -1,0 +1,7 @@
+mod Census
+mod Creates
+mod Ends
+mod Numbers
+mod Sending
+mod Steps
+mod Within

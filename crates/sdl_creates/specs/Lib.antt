@@ -1,0 +1,3 @@
+pub mod Creates
+pub mod Ends
+pub mod Steps
