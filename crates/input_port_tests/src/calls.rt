@@ -140,13 +140,13 @@ pub fn expect_all<R: Wait + Abort>(
     expect_nothing(rt, port, owner, selection);
 }
 
-/// A fuse burns down at its due time.
-pub fn expire<R: Wait + Abort>(rt: &R, port: &Port, sender: &mut Sender, fuse: Fuse)
+/// A fuse burns down at this time, which is not before its due time.
+pub fn expire<R: Wait + Abort>(rt: &R, port: &Port, sender: &mut Sender, fuse: Fuse, at: u64)
     requires { sender.old.port ≡ port.now.queue }
     ensures { sender.new.port ≡ sender.old.port }
 {
-    let due = fuse.due();
-    assert!(rt; sender.expire(rt, port, fuse, due).is_ok());
+    let expired = fuse.due() <= at && sender.expire(rt, port, fuse, at).is_ok();
+    assert!(rt; expired);
 }
 
 /// A sender is gathered.

@@ -62,7 +62,7 @@ fn put_three<R: Wait + Abort>(
 {
     let expiring = owner.set(key(alloc, 2), 5).expect(rt, "memory");
     put(rt, alloc, port, sender, &[(0, 1)]);
-    expire(rt, port, sender, expiring);
+    expire(rt, port, sender, expiring, 6);
     put(rt, alloc, port, sender, &[(1, 2)]);
 }
 

@@ -54,17 +54,23 @@ fn set(rt: &impl Abort, alloc: Global, port: &mut Alone, due: u64) -> Fuse
     port.set(key(alloc, 2), due).expect(rt, "memory")
 }
 
-/// Whether an expiry at the time 9 sends the timer's signal: whether the port then consumes it.
-fn expires(rt: &impl Abort, alloc: Global, port: &mut Alone, fuse: Fuse) -> (Option<bool>, bool)
+/// Whether an expiry at this time sends the timer's signal, and whether the port then consumes it.
+fn expires(
+    rt: &impl Abort,
+    alloc: Global,
+    port: &mut Alone,
+    fuse: Fuse,
+    at: u64,
+) -> (Option<bool>, bool)
     requires { port.old.state.alive ≡ true }
     ensures { port.new.state.alive ≡ true }
 {
     let inputs = selection(rt, alloc, &[Class::Discard, Class::Discard, Class::Input]);
-    let sent = port.expire(fuse, 9).ok();
+    let sent = port.expire(fuse, at).ok();
     (sent, consumed(port.take(&inputs)) == Some((2, 0)))
 }
 
-/// A fuse of another port, one of a set that is past, and that of the last set.
+/// A fuse of another port, two of sets that are past, and that of the last set, at its very time.
 #[test]
 fn alone_expires_its_own_sets(rt: HostRuntime) {
     let alloc = rt.alloc();
@@ -72,8 +78,10 @@ fn alone_expires_its_own_sets(rt: HostRuntime) {
     let mut other = Alone::new(alloc, 8);
     let past = set(&rt, alloc, &mut alone, 5);
     let foreign = set(&rt, alloc, &mut other, 5);
-    assert!(rt; expires(&rt, alloc, &mut alone, foreign) == (Some(false), false));
+    assert!(rt; expires(&rt, alloc, &mut alone, foreign, 9) == (Some(false), false));
+    let early = set(&rt, alloc, &mut alone, 5);
     let due = set(&rt, alloc, &mut alone, 6);
-    assert!(rt; expires(&rt, alloc, &mut alone, past) == (Some(false), false));
-    assert!(rt; expires(&rt, alloc, &mut alone, due) == (Some(true), true));
+    assert!(rt; expires(&rt, alloc, &mut alone, past, 9) == (Some(false), false));
+    assert!(rt; expires(&rt, alloc, &mut alone, early, 9) == (Some(false), false));
+    assert!(rt; expires(&rt, alloc, &mut alone, due, 6) == (Some(true), true));
 }

@@ -49,9 +49,9 @@ fn expires_its_own_sets_alone(rt: HostRuntime) {
     let inputs = selection(&rt, alloc, &[Class::Discard, Class::Discard, Class::Input]);
     let (port, mut owner, mut sender) = with_sender(&rt, alloc, 7);
     let (old, new) = set_twice(&rt, alloc, &mut owner);
-    expire(&rt, &port, &mut sender, old);
+    expire(&rt, &port, &mut sender, old, 5);
     expect_nothing(&rt, &port, &mut owner, &inputs);
-    expire(&rt, &port, &mut sender, new);
+    expire(&rt, &port, &mut sender, new, 6);
     assert!(rt; owner.active(&key(alloc, 2)));
     expect_takes(&rt, &port, &mut owner, &inputs, &[(2, 0)]);
     assert!(rt; !owner.active(&key(alloc, 2)) && sender.sent() == 0);
