@@ -1,17 +1,20 @@
 //! Lists of values.
 
-ghost use Rattle.std.specs.Prelude.{◌≡◌, ◌↔◌, [], length, slice_get, IfOk, IsTrue};
+ghost use Rattle.std.specs.Prelude.{◌≡◌, ◌<◌, ◌≤◌, ◌↔◌, [], ◌∷◌, ◌++◌, length, slice_get, IfOk, IsOk, IsTrue, OnErr, OnOk};
 
 use crate::Value;
+use smallvec::SmallVec;
 use std::alloc::{AllocError, Global};
 use std::cmp::Ordering;
+use std::default::MadeWith;
 use std::fmt;
 use std::marker::Model;
 
-/// The values that a signal or a timer carries, in the order of its parameters.
+/// The values that a signal or a timer carries, in the order of its parameters. Up to two of them lie in it; more need
+/// memory of their own.
 #[derive(Clone, Debug, Drop)]
 pub struct Values {
-    list: Vec<Value>,
+    list: SmallVec<Value, 2>,
 }
 
 impl Model for Values {
@@ -22,43 +25,58 @@ impl Model for Values {
     ghost view = { λ values. values.list.items };
 }
 
-impl Values {
-    /// The values of `list`, in its order. Takes no memory.
-    pub fn new(list: Vec<Value>) -> Self
-        ensures { result ≡ list.items }
-    {
-        Values { list }
+/// What lies in a place of a list that no value fills yet. No list shows it.
+impl MadeWith<Global> for Value {
+    fn made_with(_alloc: Global) -> Self {
+        Value::Bool(false)
     }
+}
 
+impl Values {
     /// No values.
     pub fn none(alloc: Global) -> Self
         ensures { result ≡ [] }
     {
         Values {
-            list: Vec::new(alloc),
+            list: SmallVec::new(alloc),
         }
     }
 
-    /// The list itself. Takes no memory.
-    pub fn into_vec(self) -> Vec<Value>
-        ensures { result.items ≡ self }
+    /// These values, in their order. Only memory can be wanting.
+    pub fn from_slice(alloc: Global, values: &[Value]) -> Result<Self, AllocError>
+        ensures ok { IfOk result (λ list. list ≡ values.now) }
+        ensures few { length values.now ≤ 2 → IsOk result }
     {
-        let Values { list } = self;
-        list
+        let list = SmallVec::from_slice(alloc, values)?;
+        Ok(Values { list })
+    }
+
+    /// Adds a value behind the others. Only memory can be wanting.
+    pub fn push(&mut self, value: Value) -> Result<(), AllocError>
+        ensures ok { OnOk result (self.new ≡ self.old ++ value ∷ []) }
+        ensures few { length self.old < 2 → IsOk result }
+        ensures err { OnErr result (self.new ≡ self.old) }
+    {
+        if self.list.len() == self.list.capacity() {
+            self.list.reserve(1)?;
+        }
+        self.list.push_reserved(value);
+        Ok(())
     }
 
     /// A copy. Only memory can be wanting.
     pub fn copied(&self) -> Result<Self, AllocError>
-        ensures { IfOk result (λ copy. copy ≡ self.now) }
+        ensures ok { IfOk result (λ copy. copy ≡ self.now) }
+        ensures few { length self.now ≤ 2 → IsOk result }
     {
-        self.clone()
+        Self::from_slice(*self.list.allocator(), self.list.as_slice())
     }
 
     /// The value of the parameter at `index`, from 0.
     pub fn get(&self, index: usize) -> Option<Value>
         ensures { result ≡ slice_get self.now index }
     {
-        self.list.get(index).copied()
+        self.list.as_slice().get(index).copied()
     }
 
     /// The values in order.
