@@ -9,7 +9,7 @@ use std::alloc::Global;
 pub fn item(alloc: Global, name: u32, value: u64) -> Option<Item> {
     Some(Item {
         name: SignalId(name),
-        values: Values::new(vec![in alloc; Value::Int(value.cast_signed())].ok()?),
+        values: Values::from_slice(alloc, &[Value::Int(value.cast_signed())]).ok()?,
         sender: Pid::Env,
     })
 }
@@ -18,7 +18,7 @@ pub fn item(alloc: Global, name: u32, value: u64) -> Option<Item> {
 pub fn key(alloc: Global, value: u64) -> Option<TimerKey> {
     Some(TimerKey {
         name: SignalId(2),
-        values: Values::new(vec![in alloc; Value::Int(value.cast_signed())].ok()?),
+        values: Values::from_slice(alloc, &[Value::Int(value.cast_signed())]).ok()?,
     })
 }
 

@@ -25,7 +25,7 @@ pub fn with_sender(rt: &impl Abort, alloc: Global, pid: u32) -> (Port, Owner, Se
 pub fn item(rt: &impl Abort, alloc: Global, name: u32, value: i64) -> Item {
     Item {
         name: SignalId(name),
-        values: Values::new(vec![in alloc; Value::Int(value)].expect(rt, "memory")),
+        values: Values::from_slice(alloc, &[Value::Int(value)]).expect(rt, "memory"),
         sender: Pid::Env,
     }
 }

@@ -46,10 +46,9 @@ fn discarded(name: u32, number: i64) -> Told {
 }
 
 fn put(rt: &impl Abort, alloc: Global, port: &mut PlainPort, name: u32, number: i64) {
-    let values = vec![in alloc; Value::Int(number)].expect(rt, "memory");
     let item = Item {
         name: SignalId(name),
-        values: Values::new(values),
+        values: Values::from_slice(alloc, &[Value::Int(number)]).expect(rt, "memory"),
         sender: Pid::Env,
     };
     assert!(rt; port.put(item).is_ok());
@@ -132,7 +131,7 @@ fn a_stopped_port_drops_what_comes(rt: HostRuntime) {
 fn key(rt: &impl Abort, alloc: Global, number: i64) -> TimerKey {
     TimerKey {
         name: SignalId(0),
-        values: Values::new(vec![in alloc; Value::Int(number)].expect(rt, "memory")),
+        values: Values::from_slice(alloc, &[Value::Int(number)]).expect(rt, "memory"),
     }
 }
 

@@ -19,7 +19,7 @@ fn shows_values_in_parentheses(rt: HostRuntime) {
         Value::Pid(Pid::Of(7)),
         Value::Time(20),
     ];
-    let values = Values::new(list.to_vec(alloc).expect(&rt, "memory"));
+    let values = Values::from_slice(alloc, &list).expect(&rt, "memory");
     let copy = values.copied().expect(&rt, "memory");
     let shown = text(&rt, alloc, &copy);
     assert!(rt; shown.as_str() == "(-9223372036854775808,true,null,#7,20)");

@@ -147,7 +147,7 @@ pub fn evaluate_all<P: Inbox>(
         let terms = map term_of expressions.now in
         IfErr result (λ why. FailsAs (list_wants_memory terms) (values_at here sorts.now terms) why) }
 {
-    let mut values = Vec::new(alloc);
+    let mut values = Values::none(alloc);
     for (index, expression) in expressions.iter().enumerate() {
         let value = evaluate(alloc, expression, system, who, store, inbox)?;
         let value = place(value, sorts.get(index).copied())?;
@@ -155,7 +155,7 @@ pub fn evaluate_all<P: Inbox>(
             return Err(Failure::Memory);
         }
     }
-    Ok(Values::new(values))
+    Ok(values)
 }
 
 /// The key of a timer with these values, each at its place. Errors: those of `evaluate_all`.

@@ -93,7 +93,7 @@ pub fn play_of<'s>(alloc: Global, system: &'s System, case: Case<'_>) -> Result<
     Ok(Play {
         system,
         process,
-        values: Values::new(case.values.to_vec(alloc)?),
+        values: Values::from_slice(alloc, case.values)?,
         script: read_script(alloc, system, case.script.as_bytes())?,
     })
 }

@@ -9,7 +9,7 @@ use crate::fault::Fault;
 use crate::script::ScriptSignal;
 use crate::spelling::{SpelledReceiver, SpelledSignal};
 use crate::value::SpelledValue;
-use port_model::{Item, Pid, SignalId, Value, Values};
+use port_model::{Item, Pid, SignalId, Values};
 use sdl_system::{Dest, Sort, System};
 use std::alloc::Global;
 
@@ -33,7 +33,7 @@ pub fn signal_of(
     let values = arguments(alloc, &spelled.values, &signal.sorts)?;
     let item = Item {
         name,
-        values: Values::new(values),
+        values,
         sender: Pid::Env,
     };
     Ok(ScriptSignal { item, to })
@@ -62,14 +62,14 @@ fn destination(
 }
 
 // The values, where each fits its parameter's sort.
-fn arguments(alloc: Global, spelled: &[SpelledValue], sorts: &[Sort]) -> Result<Vec<Value>, Fault>
-    ensures ok { IfOk result (λ values. AreArguments spelled.now sorts.now values.items) }
+fn arguments(alloc: Global, spelled: &[SpelledValue], sorts: &[Sort]) -> Result<Values, Fault>
+    ensures ok { IfOk result (λ values. AreArguments spelled.now sorts.now values) }
     ensures err { IfErr result (λ fault. IsArgumentFault fault (AreNoArguments spelled.now sorts.now)) }
 {
     if spelled.len() != sorts.len() {
         return Err(Fault::Arguments);
     }
-    let mut values = Vec::new(alloc);
+    let mut values = Values::none(alloc);
     for (index, sort) in sorts.iter().enumerate() {
         let Some(value) = spelled[index].at(*sort) else {
             return Err(Fault::Arguments);

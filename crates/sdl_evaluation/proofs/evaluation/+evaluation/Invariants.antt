@@ -16,4 +16,4 @@ abbrev pub invariant-evaluate_all-loop-index : goal.invariant-evaluate_all-loop-
 invariant-evaluate_all-loop-index g l =
     let here = environment l.system l.who l.store (g.P.Inbox.owning l.inbox).state in
     values_at here l.sorts (map term_of l.expressions)
-    ≡ preceded l.values.items (left_of here l.sorts l.expressions l.index)
+    ≡ preceded l.values (left_of here l.sorts l.expressions l.index)

@@ -11,6 +11,6 @@ returns-in_default-clause-err c =
 
 pub loop-index-preserved : goal.loop-index-preserved
 loop-index-preserved c =
-    rw c.in_ok-push.ensures.items
-    (arguments_more c.args.spelled.now c.args.sorts.now c.loop-index.index c.loop-index.values.items c.in-Some.value c.loop-index.invariant
+    rw c.in_ok-push.ensures.ok
+    (arguments_more c.args.spelled.now c.args.sorts.now c.loop-index.index c.loop-index.values c.in-Some.value c.loop-index.invariant
     (omega arith) c.loop-index-test.true _ _ (sym c.in-Some.ensures))

@@ -32,7 +32,7 @@ returns-clause-sent c = (
   (sym c.in-Some.ensures, sym c.in-Some-signal.ensures),
   c.in_ok-to.ensures.reached,
   c.in_ok-to.ensures.ok,
-  rw (c.new.ensures, ← c.deref.ensures.value, ← c.deref-2.ensures.value) c.in_ok-values.ensures.ok,
+  rw (← c.deref.ensures.value, ← c.deref-2.ensures.value) c.in_ok-values.ensures.ok,
 )
 
 pub returns-clause-from_env : goal.returns-clause-from_env

@@ -38,7 +38,7 @@ returns-clause-ok g c = λ more d is origin rest.
     after_act x (Send target (record { name = signal; values = c.in-Ok.copy; sender = Of pid })))
     c.route-target.ensures.same
     ∙ ap (λ (x : List Value). after_act w (Send target (record { name = signal; values = x; sender = Of pid })))
-    c.in-Ok.ensures
+    c.in-Ok.ensures.ok
     ∙ ap (λ (x : Identity).
     after_act w (Send target (record { name = signal; values = values; sender = Of x.pid })))
     c.who-who.ensures)
