@@ -13,11 +13,12 @@ use Rattle.std.proofs.lemmas.List.{map-append}
 use Rattle.std.proofs.lemmas.List.Folds.{list_any-append}
 use Rattle.std.proofs.lemmas.List.Elements.{filter-append, All-nil, All-cons, All-head, All-tail, Contains-append_right}
 use Rattle.std.proofs.lemmas.Bool.Decides.{nat_tests}
+use Rattle.port_model.specs.declared.deadline.Deadline.{Deadline}
 use Rattle.port_model.specs.declared.timer.ActiveTimer.{ActiveTimer}
 use Rattle.port_model.specs.declared.timer.Phase.TheVariants.{Running, Waiting}
 use Rattle.port_model.specs.declared.timer_key.TimerKey.{TimerKey}
 use Rattle.port_model.specs.declared.timers.Timer.{Timer}
-use Rattle.port_model.specs.Table.{Kept, active_of, armed_of, in_order, is_of, is_set_by, is_until, runs_until, deadline_order, phase_of, IsTable}
+use Rattle.port_model.specs.Table.{Kept, active_of, armed_of, in_order, is_of, is_set_by, is_until, runs_until, deadline_at, deadline_order, phase_of, IsTable}
 use Rattle.port_model.specs.Timers.{same_key, key_order, same_phase, due_of, due_times, is_active, is_running, is_set, waits, with_waiting, waiting_timer, without_key, armed_for, without_armed, is_armed, Armed}
 use Rattle.port_model.proofs.Coherence.{length_removed}
 use Rattle.port_model.proofs.Keys.{same_key-Decides, key_order-Decides}
@@ -205,7 +206,7 @@ map_id [] = refl
 map_id (x ∷ xs) = ap (λ l. x ∷ l) (map_id xs)
 
 -- an entry of a table is the only one of its key and of its set
-module _ (key : TimerKey) (timer : Timer) (before after entries : List Kept) (due : ℕ × ℕ → Bool)
+module _ (key : TimerKey) (timer : Timer) (before after entries : List Kept) (due : Deadline → Bool)
     (table : IsTable entries due) (was : entries ≡ before ++ (key, timer) ∷ after) where
   pub none_of_key : list_any (is_of key) (before ++ after) ≡ false
   none_of_key =
@@ -320,9 +321,9 @@ any_implied p q h (x ∷ xs) e = either (any_implied p q h xs) (p x) (q x) (h x)
     either later true false k e = absurd (let t = k refl in cc)
     either later false false k e = later e
 
-until_is : (key : TimerKey) (timer : Timer) (deadline : ℕ × ℕ) → runs_until deadline (key, timer) ≡ is_until timer deadline
+until_is : (key : TimerKey) (timer : Timer) (deadline : Deadline) → runs_until deadline (key, timer) ≡ is_until timer deadline
 until_is key timer deadline =
-    ap (λ b. not timer.waits && b) (both_tied _ _ (nat_cmp timer.due deadline.0) (nat_cmp timer.arm deadline.1) (unsigned_ties timer.due deadline.0) (unsigned_ties timer.arm deadline.1))
+    ap (λ b. not timer.waits && b) (both_tied _ _ (nat_cmp timer.due deadline.due) (nat_cmp timer.arm deadline.arm) (unsigned_ties timer.due deadline.due) (unsigned_ties timer.arm deadline.arm))
 
 and_left : (a b : Bool) → (a && b) ≡ true → a ≡ true
 and_left true b e = refl
@@ -333,19 +334,19 @@ and_right true b e = e
 and_right false b e = absurd cc
 
 -- what runs until a deadline was set by the set that the deadline names
-set_by_it : (arm : ℕ) (deadline : ℕ × ℕ) → deadline.1 ≡ arm → (e : Kept) → runs_until deadline e ≡ true → is_set_by arm e ≡ true
+set_by_it : (arm : ℕ) (deadline : Deadline) → deadline.arm ≡ arm → (e : Kept) → runs_until deadline e ≡ true → is_set_by arm e ≡ true
 set_by_it arm deadline same e is =
-    ap (λ n. e.1.arm == n) (sym same) ∙ and_right (e.1.due == deadline.0) (e.1.arm == deadline.1) (and_right (not e.1.waits) (e.1.due == deadline.0 && e.1.arm == deadline.1) is)
+    ap (λ n. e.1.arm == n) (sym same) ∙ and_right (e.1.due == deadline.due) (e.1.arm == deadline.arm) (and_right (not e.1.waits) (e.1.due == deadline.due && e.1.arm == deadline.arm) is)
 
-until_arm : (timer : Timer) (deadline : ℕ × ℕ) → is_until timer deadline ≡ true → deadline.1 ≡ timer.arm
+until_arm : (timer : Timer) (deadline : Deadline) → is_until timer deadline ≡ true → deadline.arm ≡ timer.arm
 until_arm timer deadline is =
-    let e = ap (λ b. not timer.waits && b) (both_tied _ _ (nat_cmp timer.due deadline.0) (nat_cmp timer.arm deadline.1) (unsigned_ties timer.due deadline.0) (unsigned_ties timer.arm deadline.1)) in
-    let same : (timer.arm == deadline.1) ≡ true = and_right (timer.due == deadline.0) (timer.arm == deadline.1) (and_right (not timer.waits) (timer.due == deadline.0 && timer.arm == deadline.1) (e ∙ is)) in
+    let e = ap (λ b. not timer.waits && b) (both_tied _ _ (nat_cmp timer.due deadline.due) (nat_cmp timer.arm deadline.arm) (unsigned_ties timer.due deadline.due) (unsigned_ties timer.arm deadline.arm)) in
+    let same : (timer.arm == deadline.arm) ≡ true = and_right (timer.due == deadline.due) (timer.arm == deadline.arm) (and_right (not timer.waits) (timer.due == deadline.due && timer.arm == deadline.arm) (e ∙ is)) in
     grind (arith, nat_tests)
 
-pub table_without : (key : TimerKey) (timer : Timer) (before after entries : List Kept) (due new : ℕ × ℕ → Bool)
+pub table_without : (key : TimerKey) (timer : Timer) (before after entries : List Kept) (due new : Deadline → Bool)
     → IsTable entries due → entries ≡ before ++ (key, timer) ∷ after
-    → ((d : ℕ × ℕ) → new d ≡ cond (is_until timer d) false (due d)) → IsTable (before ++ after) new
+    → ((d : Deadline) → new d ≡ cond (is_until timer d) false (due d)) → IsTable (before ++ after) new
 table_without key timer before after entries due new table was is = record {
   keys = λ k. let one = table.keys k in
       let all = ap (λ l. length (filter (is_of k) l)) was ∙ length_removed (is_of k) before after (key, timer) in omega arith;
@@ -354,11 +355,11 @@ table_without key timer before after entries due new table was is = record {
   runs = λ d. is d ∙ either d (is_until timer d) refl;
 }
   where
-    split : (d : ℕ × ℕ) → due d ≡ (is_until timer d || list_any (runs_until d) (before ++ after))
+    split : (d : Deadline) → due d ≡ (is_until timer d || list_any (runs_until d) (before ++ after))
     split d = table.runs d ∙ ap (list_any (runs_until d)) was ∙ any_removed (runs_until d) before after (key, timer)
         ∙ ap (λ b. b || list_any (runs_until d) (before ++ after)) (until_is key timer d)
 
-    either : (d : ℕ × ℕ) (b : Bool) → is_until timer d ≡ b → cond b false (due d) ≡ list_any (runs_until d) (before ++ after)
+    either : (d : Deadline) (b : Bool) → is_until timer d ≡ b → cond b false (due d) ≡ list_any (runs_until d) (before ++ after)
     either d true e = sym (any_implied (runs_until d) (is_set_by timer.arm) (set_by_it timer.arm d (until_arm timer d e)) (before ++ after)
         (none_of_set key timer before after entries due table was))
     either d false e = split d ∙ ap (λ b. b || list_any (runs_until d) (before ++ after)) e
@@ -367,9 +368,9 @@ once : {n m : ℕ} (b : Bool) → (b ≡ true → n ≡ 0) → m ≡ n + cond b 
 once true h e le = let none = h refl in omega arith
 once false h e le = omega arith
 
-pub table_with : (key : TimerKey) (timer : Timer) (before after : List Kept) (due new : ℕ × ℕ → Bool)
+pub table_with : (key : TimerKey) (timer : Timer) (before after : List Kept) (due new : Deadline → Bool)
     → IsTable (before ++ after) due → list_any (is_of key) (before ++ after) ≡ false → list_any (is_set_by timer.arm) (before ++ after) ≡ false
-    → ((d : ℕ × ℕ) → new d ≡ (is_until timer d || due d)) → IsTable (before ++ (key, timer) ∷ after) new
+    → ((d : Deadline) → new d ≡ (is_until timer d || due d)) → IsTable (before ++ (key, timer) ∷ after) new
 table_with key timer before after due new table no_key no_set is = record {
   keys = λ k. let one = table.keys k in
       let all = length_removed (is_of k) before after (key, timer) in
@@ -429,7 +430,7 @@ added_last before after last below =
     )
 
 -- where the key is in the table
-module _ (key : TimerKey) (entries : List Kept) (due : ℕ × ℕ → Bool) (table : IsTable entries due) (timer : Timer)
+module _ (key : TimerKey) (entries : List Kept) (due : Deadline → Bool) (table : IsTable entries due) (timer : Timer)
     (is : lookup (at key) entries ≡ Some timer) where
   pub its_active : is_active key (timers_of entries) ≡ true
   its_active = active_any key entries ∙ sym (looked_up key entries) ∙ ap is_some is
@@ -454,8 +455,8 @@ module _ (key : TimerKey) (entries : List Kept) (due : ℕ × ℕ → Bool) (tab
   removed_armed new e =
       let f = found key entries timer is in ap armed_in (e ∙ f.removed) ∙ without_its_set key timer f.before f.after entries due table f.was
 
-  pub removed_table : (new : List Kept) (later : ℕ × ℕ → Bool) → new ≡ remove_entry (at key) entries
-      → ((d : ℕ × ℕ) → later d ≡ cond (is_until timer d) false (due d)) → IsTable new later
+  pub removed_table : (new : List Kept) (later : Deadline → Bool) → new ≡ remove_entry (at key) entries
+      → ((d : Deadline) → later d ≡ cond (is_until timer d) false (due d)) → IsTable new later
   removed_table new later e h =
       let f = found key entries timer is in
       subst (λ l. IsTable l later) (sym (e ∙ f.removed)) (table_without key timer f.before f.after entries due later table f.was h)
@@ -477,25 +478,25 @@ module _ (key : TimerKey) (entries : List Kept) (due : ℕ × ℕ → Bool) (tab
           ap armed_in now ∙ last.1 ∙ ap (λ l. l ++ armed_of (key, set_now) ∷ []) (without_its_set key timer f.before f.after entries due table f.was),
         )
 
-    pub renewed_table : (later : ℕ × ℕ → Bool)
-        → ((d : ℕ × ℕ) → later d ≡ cond (is_until timer d) false (cond (is_at (deadline_order (at', arm)) d) true (due d))) → IsTable new later
+    pub renewed_table : (later : Deadline → Bool)
+        → ((d : Deadline) → later d ≡ cond (is_until timer d) false (cond (is_at (deadline_order (deadline_at at' arm)) d) true (due d))) → IsTable new later
     unfolding set_now
     renewed_table later h =
         let f = found key entries timer is in
-        let mid : ℕ × ℕ → Bool = λ d. cond (is_until timer d) false (due d) in
+        let mid : Deadline → Bool = λ d. cond (is_until timer d) false (due d) in
         let left = table_without key timer f.before f.after entries due mid table f.was (λ d. refl) in
         let rest = below_more arm f.before f.after (key, timer) (subst (Below arm) f.was below) in
         let older = timer_below f.before f.after (subst (Below arm) f.was below) in
         subst (λ l. IsTable l later) (sym (e ∙ f.changed set_now))
         (table_with key set_now f.before f.after mid later left (none_of_key key timer f.before f.after entries due table f.was)
         (no_set_yet arm (f.before ++ f.after) rest)
-        (λ d. h d ∙ order (is_until timer d) (is_at (deadline_order (at', arm)) d) (due d) (apart d older)))
+        (λ d. h d ∙ order (is_until timer d) (is_at (deadline_order (deadline_at at' arm)) d) (due d) (apart d older)))
       where
         timer_below : (before after : List Kept) → Below arm (before ++ (key, timer) ∷ after) → timer.arm < arm
         timer_below [] after h = h.0
         timer_below (x ∷ before) after h = timer_below before after h.1
 
-        apart : (d : ℕ × ℕ) → timer.arm < arm → is_until timer d ≡ true → is_at (deadline_order (at', arm)) d ≡ true → ⊥
+        apart : (d : Deadline) → timer.arm < arm → is_until timer d ≡ true → is_at (deadline_order (deadline_at at' arm)) d ≡ true → ⊥
         apart d older first second =
             let a = until_arm timer d first in
             let b = until_arm (record { arm = arm; due = at'; waits = false }) d second in
@@ -509,7 +510,7 @@ module _ (key : TimerKey) (entries : List Kept) (due : ℕ × ℕ → Bool) (tab
 
   -- its expiry
   module _ (new : List Kept) (e : new ≡ set_value (at key) entries (record timer { waits = true })) (runs : timer.waits ≡ false) where
-    pub expired_table : (later : ℕ × ℕ → Bool) → ((d : ℕ × ℕ) → later d ≡ cond (is_until timer d) false (due d)) → IsTable new later
+    pub expired_table : (later : Deadline → Bool) → ((d : Deadline) → later d ≡ cond (is_until timer d) false (due d)) → IsTable new later
     expired_table later h =
         let f = found key entries timer is in
         let left = table_without key timer f.before f.after entries due later table f.was h in
@@ -600,22 +601,22 @@ module _ (key : TimerKey) (entries : List Kept) (is : lookup (at key) entries �
               ∙ ap (λ l. l ++ armed_of (key, set) ∷ []) (sym nothing_without.1),
         )
 
-    pub added_table : (due later : ℕ × ℕ → Bool) → IsTable entries due
-        → ((x : ℕ × ℕ) → later x ≡ cond (is_at (deadline_order (d, arm)) x) true (due x)) → IsTable new later
+    pub added_table : (due later : Deadline → Bool) → IsTable entries due
+        → ((x : Deadline) → later x ≡ cond (is_at (deadline_order (deadline_at d arm)) x) true (due x)) → IsTable new later
     added_table due later table h =
         let set : Timer = record { arm = arm; due = d; waits = false } in
         let f = missed key entries set is in
         subst (λ l. IsTable l later) (sym (e ∙ f.inserted))
         (table_with key set f.before f.after due later (subst (λ l. IsTable l due) f.was table)
         (ap (list_any (is_of key)) (sym f.was) ∙ none_of) (ap (list_any (is_set_by arm)) (sym f.was) ∙ no_set_yet arm entries below)
-        (λ x. h x ∙ either (is_at (deadline_order (d, arm)) x) (due x)))
+        (λ x. h x ∙ either (is_at (deadline_order (deadline_at d arm)) x) (due x)))
       where
         either : (a b : Bool) → cond a true b ≡ (a || b)
         either true b = refl
         either false b = refl
 
 -- ---- the least due time
-none_due : (es : List Kept) → ((d : ℕ × ℕ) → list_any (runs_until d) es ≡ false) → due_times (map active_of es) ≡ []
+none_due : (es : List Kept) → ((d : Deadline) → list_any (runs_until d) es ≡ false) → due_times (map active_of es) ≡ []
 none_due [] h = refl
 none_due (e ∷ es) h = either (none_due es (λ d. or_right (runs_until d e) (list_any (runs_until d) es) (h d))) e.1.waits refl
   where
@@ -625,11 +626,11 @@ none_due (e ∷ es) h = either (none_due es (λ d. or_right (runs_until d e) (li
     either : due_times (map active_of es) ≡ [] → (b : Bool) → e.1.waits ≡ b → cons_option (due_of (cond b (Waiting e.1.arm) (Running e.1.arm e.1.due))) (due_times (map active_of es)) ≡ []
     either rest true is = rest
     either rest false is =
-        let no = or_left (runs_until (e.1.due, e.1.arm) e) (list_any (runs_until (e.1.due, e.1.arm)) es) (h (e.1.due, e.1.arm)) in
-        let yes : runs_until (e.1.due, e.1.arm) e ≡ true = ap (λ b. not b && (e.1.due == e.1.due && e.1.arm == e.1.arm)) is ∙ here in
-        absurd (let no' : runs_until (e.1.due, e.1.arm) e ≡ false = no in cc)
+        let no = or_left (runs_until (deadline_at e.1.due e.1.arm) e) (list_any (runs_until (deadline_at e.1.due e.1.arm)) es) (h (deadline_at e.1.due e.1.arm)) in
+        let yes : runs_until (deadline_at e.1.due e.1.arm) e ≡ true = ap (λ b. not b && (e.1.due == e.1.due && e.1.arm == e.1.arm)) is ∙ here in
+        absurd (let no' : runs_until (deadline_at e.1.due e.1.arm) e ≡ false = no in cc)
 
-all_due : (P : ℕ → Type 0) (es : List Kept) → ((d : ℕ × ℕ) → list_any (runs_until d) es ≡ true → P d.0) → All P (due_times (map active_of es))
+all_due : (P : ℕ → Type 0) (es : List Kept) → ((d : Deadline) → list_any (runs_until d) es ≡ true → P d.due) → All P (due_times (map active_of es))
 all_due P [] h = All-nil P
 all_due P (e ∷ es) h =
     either (all_due P es (λ d is. h d (ap (λ b. runs_until d e || b) is ∙ or_true (runs_until d e)))) e.1.waits refl
@@ -644,24 +645,24 @@ all_due P (e ∷ es) h =
     either : All P (due_times (map active_of es)) → (b : Bool) → e.1.waits ≡ b → All P (cons_option (due_of (cond b (Waiting e.1.arm) (Running e.1.arm e.1.due))) (due_times (map active_of es)))
     either rest true is = rest
     either rest false is =
-        let yes : runs_until (e.1.due, e.1.arm) e ≡ true = ap (λ b. not b && (e.1.due == e.1.due && e.1.arm == e.1.arm)) is ∙ here in
+        let yes : runs_until (deadline_at e.1.due e.1.arm) e ≡ true = ap (λ b. not b && (e.1.due == e.1.due && e.1.arm == e.1.arm)) is ∙ here in
         All-cons P e.1.due (due_times (map active_of es))
-        (h (e.1.due, e.1.arm) (ap (λ b. b || list_any (runs_until (e.1.due, e.1.arm)) es) yes)) rest
+        (h (deadline_at e.1.due e.1.arm) (ap (λ b. b || list_any (runs_until (deadline_at e.1.due e.1.arm)) es) yes)) rest
 
-has_due : (d : ℕ × ℕ) (es : List Kept) → list_any (runs_until d) es ≡ true → Contains (due_times (map active_of es)) d.0
+has_due : (d : Deadline) (es : List Kept) → list_any (runs_until d) es ≡ true → Contains (due_times (map active_of es)) d.due
 has_due d [] is = absurd cc
 has_due d (e ∷ es) is = either (has_due d es) (runs_until d e) refl e.1.waits refl is
   where
-    more : (o : Option ℕ) (l : List ℕ) → Contains l d.0 → Contains (cons_option o l) d.0
+    more : (o : Option ℕ) (l : List ℕ) → Contains l d.due → Contains (cons_option o l) d.due
     more None l h = h
-    more (Some t) l h = Contains-append_right (t ∷ []) l d.0 h
+    more (Some t) l h = Contains-append_right (t ∷ []) l d.due h
 
-    either : (list_any (runs_until d) es ≡ true → Contains (due_times (map active_of es)) d.0) → (a : Bool) → runs_until d e ≡ a → (b : Bool) → e.1.waits ≡ b
-        → (a || list_any (runs_until d) es) ≡ true → Contains (cons_option (due_of (cond b (Waiting e.1.arm) (Running e.1.arm e.1.due))) (due_times (map active_of es))) d.0
-    either later true runs true waits h = absurd (let no : runs_until d e ≡ false = ap (λ b. not b && (e.1.due == d.0 && e.1.arm == d.1)) waits in cc)
+    either : (list_any (runs_until d) es ≡ true → Contains (due_times (map active_of es)) d.due) → (a : Bool) → runs_until d e ≡ a → (b : Bool) → e.1.waits ≡ b
+        → (a || list_any (runs_until d) es) ≡ true → Contains (cons_option (due_of (cond b (Waiting e.1.arm) (Running e.1.arm e.1.due))) (due_times (map active_of es))) d.due
+    either later true runs true waits h = absurd (let no : runs_until d e ≡ false = ap (λ b. not b && (e.1.due == d.due && e.1.arm == d.arm)) waits in cc)
     either later true runs false waits h =
-        let due_is : (e.1.due == d.0) ≡ true = and_left (e.1.due == d.0) (e.1.arm == d.1) (and_right (not e.1.waits) (e.1.due == d.0 && e.1.arm == d.1) runs) in
-        let same : e.1.due ≡ d.0 = grind (arith, nat_tests) in
+        let due_is : (e.1.due == d.due) ≡ true = and_left (e.1.due == d.due) (e.1.arm == d.arm) (and_right (not e.1.waits) (e.1.due == d.due && e.1.arm == d.arm) runs) in
+        let same : e.1.due ≡ d.due = grind (arith, nat_tests) in
         (0, omega arith, same)
     either later false runs b waits h = more (due_of (cond b (Waiting e.1.arm) (Running e.1.arm e.1.due))) (due_times (map active_of es)) (later h)
 
@@ -674,38 +675,38 @@ passing p Q R h (x ∷ xs) all is = either (passing p Q R h xs (All-tail Q x xs 
     either later true e i = h x e (All-head Q x xs all)
     either later false e i = later i
 
-not_later : (k x : ℕ × ℕ) → IsLeBy deadline_order k x → k.0 ≤ x.0
-not_later k x le = le_from_not_gt k.0 x.0 (first (nat_cmp k.0 x.0) (nat_cmp k.1 x.1) le)
+not_later : (k x : Deadline) → IsLeBy deadline_order k x → k.due ≤ x.due
+not_later k x le = le_from_not_gt k.due x.due (first (nat_cmp k.due x.due) (nat_cmp k.arm x.arm) le)
   where
     first : (a b : Ordering) → is_gt (ordering_then a b) ≡ false → is_gt a ≡ false
     first Less b h = refl
     first Equal b h = refl
     first Greater b h = h
 
-module _ (entries : List Kept) (deadlines : List (ℕ × ℕ)) (table : IsTable entries (λ d. list_any (is_at (deadline_order d)) deadlines)) where
+module _ (entries : List Kept) (deadlines : List Deadline) (table : IsTable entries (λ d. list_any (is_at (deadline_order d)) deadlines)) where
   pub least_none : (0 < length deadlines → false ≡ true) → due_times (timers_of entries) ≡ []
   least_none none =
       none_due (in_order entries) (λ d. any_in_order (runs_until d) entries ∙ sym (table.runs d) ∙ ap (list_any (is_at (deadline_order d))) (empty deadlines none))
     where
-      empty : (ds : List (ℕ × ℕ)) → (0 < length ds → false ≡ true) → ds ≡ []
+      empty : (ds : List Deadline) → (0 < length ds → false ≡ true) → ds ≡ []
       empty [] h = refl
       empty (d ∷ ds) h = absurd (let e = h (omega arith) in cc)
 
-  pub least_first : (k : ℕ × ℕ) → list_any (is_at (deadline_order k)) deadlines ≡ true → All (IsLeBy deadline_order k) deadlines
-      → Contains (due_times (timers_of entries)) k.0 × All (λ other. k.0 ≤ other) (due_times (timers_of entries))
+  pub least_first : (k : Deadline) → list_any (is_at (deadline_order k)) deadlines ≡ true → All (IsLeBy deadline_order k) deadlines
+      → Contains (due_times (timers_of entries)) k.due × All (λ other. k.due ≤ other) (due_times (timers_of entries))
   least_first k member all = (
     has_due k (in_order entries) (any_in_order (runs_until k) entries ∙ sym (table.runs k) ∙ member),
-    all_due (λ other. k.0 ≤ other) (in_order entries) (λ d is.
-        passing (is_at (deadline_order d)) (IsLeBy deadline_order k) (k.0 ≤ d.0)
+    all_due (λ other. k.due ≤ other) (in_order entries) (λ d is.
+        passing (is_at (deadline_order d)) (IsLeBy deadline_order k) (k.due ≤ d.due)
         (λ x same le. let least = not_later k x le in
-        let e : (d.0 == x.0 && d.1 == x.1) ≡ true = both_tied _ _ (nat_cmp d.0 x.0) (nat_cmp d.1 x.1) (unsigned_ties d.0 x.0) (unsigned_ties d.1 x.1) ∙ same in
-        let due_is : (d.0 == x.0) ≡ true = and_left (d.0 == x.0) (d.1 == x.1) e in
-        let same_due : d.0 ≡ x.0 = grind (arith, nat_tests) in omega arith)
+        let e : (d.due == x.due && d.arm == x.arm) ≡ true = both_tied _ _ (nat_cmp d.due x.due) (nat_cmp d.arm x.arm) (unsigned_ties d.due x.due) (unsigned_ties d.arm x.arm) ∙ same in
+        let due_is : (d.due == x.due) ≡ true = and_left (d.due == x.due) (d.arm == x.arm) e in
+        let same_due : d.due ≡ x.due = grind (arith, nat_tests) in omega arith)
         deadlines all (table.runs d ∙ sym (any_in_order (runs_until d) entries) ∙ is)),
   )
 
 -- ---- what a reader knows
-pub runs_so : (key : TimerKey) (entries : List Kept) (due : ℕ × ℕ → Bool) (table : IsTable entries due) (timer : Timer)
+pub runs_so : (key : TimerKey) (entries : List Kept) (due : Deadline → Bool) (table : IsTable entries due) (timer : Timer)
     (is : lookup (at key) entries ≡ Some timer) (arm d : ℕ) → is_running key arm d (timers_of entries) ≡ true
     → (timer.waits ≡ false) × (timer.arm ≡ arm)
 runs_so key entries due table timer is arm d runs =
@@ -732,16 +733,16 @@ waits_inactive key (timer ∷ timers) e =
     [ true ↦ (λ h. absurd cc) | false ↦ rest ] e
 
 -- a set that was refused leaves the table as it was
-pub undone_table : (entries new : List Kept) (due later : ℕ × ℕ → Bool) (arm d : ℕ) → IsTable entries due → Below arm entries → new ≡ entries
-    → ((x : ℕ × ℕ) → later x ≡ cond (is_at (deadline_order (d, arm)) x) false (cond (is_at (deadline_order (d, arm)) x) true (due x))) → IsTable new later
+pub undone_table : (entries new : List Kept) (due later : Deadline → Bool) (arm d : ℕ) → IsTable entries due → Below arm entries → new ≡ entries
+    → ((x : Deadline) → later x ≡ cond (is_at (deadline_order (deadline_at d arm)) x) false (cond (is_at (deadline_order (deadline_at d arm)) x) true (due x))) → IsTable new later
 undone_table entries new due later arm d table below same h =
     subst (λ l. IsTable l later) (sym same) (record {
       keys = table.keys;
       arms = table.arms;
-      runs = λ x. h x ∙ either x (is_at (deadline_order (d, arm)) x) refl ∙ table.runs x;
+      runs = λ x. h x ∙ either x (is_at (deadline_order (deadline_at d arm)) x) refl ∙ table.runs x;
     })
   where
-    either : (x : ℕ × ℕ) (b : Bool) → is_at (deadline_order (d, arm)) x ≡ b → cond b false (cond b true (due x)) ≡ due x
+    either : (x : Deadline) (b : Bool) → is_at (deadline_order (deadline_at d arm)) x ≡ b → cond b false (cond b true (due x)) ≡ due x
     either x true e =
         sym (table.runs x ∙ any_implied (runs_until x) (is_set_by arm) (set_by_it arm x (until_arm (record { arm = arm; due = d; waits = false }) x e)) entries (no_set_yet arm entries below))
     either x false e = refl

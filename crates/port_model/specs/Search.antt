@@ -3,6 +3,7 @@ use Rattle.std.specs.Prelude.{◌≡◌, ◌≢◌, ℕ, List, ◌∷◌, ◌++�
 use Rattle.port_model.specs.declared.selection.Class.{Class}
 use Rattle.port_model.specs.declared.selection.Class.TheVariants as class
 use Rattle.port_model.specs.declared.got.Got.{Got}
+use Rattle.port_model.specs.declared.search.FirstUnsaved.{FirstUnsaved}
 use Rattle.port_model.specs.Take.{IsOrdinary, IsSaved, HasClass}
 
 -- at `place` stands the first entry that is wanted; those before it are passed over
@@ -25,6 +26,6 @@ FindsPriority classes waiting found =
     MatchOption found (All (IsOrdinary classes) waiting) (IsFirst (IsOrdinary classes) (HasClass class.Priority classes) waiting)
 
 -- a search for the first entry that isn't saved, and its class
-abbrev pub FindsUnsaved : List Class → List Got → Option (ℕ × Class) → Type 0
+abbrev pub FindsUnsaved : List Class → List Got → Option FirstUnsaved → Type 0
 FindsUnsaved classes waiting found =
-    MatchOption found (All (IsSaved classes) waiting) (λ f. IsFirstUnsaved classes waiting f.0 f.1)
+    MatchOption found (All (IsSaved classes) waiting) (λ f. IsFirstUnsaved classes waiting f.place f.class)

@@ -4,6 +4,7 @@ use Rattle.std.specs.List.{list_any}
 use Rattle.std.specs.Ordering.{nat_cmp, ordering_then}
 use Rattle.std.specs.declared.cmp.Ordering.{Ordering}
 use Rattle.std.specs.BTreeMap.{is_at}
+use Rattle.port_model.specs.declared.deadline.Deadline.{Deadline}
 use Rattle.port_model.specs.declared.timer.ActiveTimer.{ActiveTimer}
 use Rattle.port_model.specs.declared.timer.Phase.{Phase}
 use Rattle.port_model.specs.declared.timer.Phase.TheVariants.{Running, Waiting}
@@ -45,19 +46,22 @@ is_of key kept = same_key kept.0 key
 abbrev pub is_set_by : ℕ → Kept → Bool
 is_set_by arm kept = kept.1.arm == arm
 
-abbrev pub runs_until : ℕ × ℕ → Kept → Bool
-runs_until deadline kept = not kept.1.waits && (kept.1.due == deadline.0 && kept.1.arm == deadline.1)
+abbrev pub runs_until : Deadline → Kept → Bool
+runs_until deadline kept = not kept.1.waits && (kept.1.due == deadline.due && kept.1.arm == deadline.arm)
 
--- deadlines, a due time with the number of its set, by time and then by set
-abbrev pub deadline_order : ℕ × ℕ → ℕ × ℕ → Ordering
-deadline_order a b = ordering_then (nat_cmp a.0 b.0) (nat_cmp a.1 b.1)
+-- the deadline at this time, of this set; and the order of deadlines, by time and then by set
+abbrev pub deadline_at : ℕ → ℕ → Deadline
+deadline_at due arm = record { due = due; arm = arm }
+
+abbrev pub deadline_order : Deadline → Deadline → Ordering
+deadline_order a b = ordering_then (nat_cmp a.due b.due) (nat_cmp a.arm b.arm)
 
 -- the timer runs until this deadline
-abbrev pub is_until : Timer → ℕ × ℕ → Bool
-is_until timer deadline = not timer.waits && is_at (deadline_order (timer.due, timer.arm)) deadline
+abbrev pub is_until : Timer → Deadline → Bool
+is_until timer deadline = not timer.waits && is_at (deadline_order (deadline_at timer.due timer.arm)) deadline
 
 -- Each key and each set stands in the table once, and the deadlines are those of the timers that run.
-pub record IsTable (entries : List Kept) (is_deadline : ℕ × ℕ → Bool) : Type 0 where
+pub record IsTable (entries : List Kept) (is_deadline : Deadline → Bool) : Type 0 where
   pub keys : (key : TimerKey) → length (filter (is_of key) entries) ≤ 1
   pub arms : (arm : ℕ) → length (filter (is_set_by arm) entries) ≤ 1
-  pub runs : (deadline : ℕ × ℕ) → is_deadline deadline ≡ list_any (runs_until deadline) entries
+  pub runs : (deadline : Deadline) → is_deadline deadline ≡ list_any (runs_until deadline) entries

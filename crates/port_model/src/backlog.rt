@@ -22,6 +22,13 @@ pub struct Backlog {
     ordinary: Vec<SignalId>,
 }
 
+/// An entry that was taken out since it isn't saved, and its class.
+#[derive(Drop)]
+pub struct Unsaved {
+    pub got: Got,
+    pub class: Class,
+}
+
 impl Model for Backlog {
     ghost use Rattle.std.specs.Prelude.{◌+◌, ◌-◌, length};
     ghost use Rattle.std.specs.VecDeque.{deque_capacity};
@@ -105,16 +112,19 @@ impl Backlog {
     }
 
     /// Takes the first entry that isn't saved out, if there is one, with its class. Needs no memory.
-    pub fn take_unsaved(&mut self, selection: &Selection) -> Option<(Got, Class)>
+    pub fn take_unsaved(&mut self, selection: &Selection) -> Option<Unsaved>
         ensures { MatchOption result ((waiting_in self.new ≡ waiting_in self.old)
             × All (IsSaved selection.now) (waiting_in self.new))
-            (λ taken. Leaves (IsSaved selection.now) (waiting_in self.old) taken.0 (waiting_in self.new)
-            × HasClass taken.1 selection.now taken.0 × (taken.1 ≡ class.Saved → ⊥)) }
+            (λ taken. Leaves (IsSaved selection.now) (waiting_in self.old) taken.got (waiting_in self.new)
+            × HasClass taken.class selection.now taken.got × (taken.class ≡ class.Saved → ⊥)) }
     {
         self.pass_saved(selection);
         match search::first_unsaved(&self.rest, selection) {
             None => None,
-            Some((place, class)) => Some((self.take_out(place), class)),
+            Some(found) => Some(Unsaved {
+                got: self.take_out(found.place),
+                class: found.class,
+            }),
         }
     }
 

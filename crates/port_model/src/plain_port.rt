@@ -8,8 +8,8 @@ ghost use Rattle.port_model.specs.Take.{taken_as, HasClass, IsOrdinary, Takes, T
 ghost use Rattle.port_model.specs.Timers.{after_taking, armed_after, due_times, is_active, without_armed, without_signal, IsLeast};
 ghost use Rattle.port_model.specs.declared.selection.Class.TheVariants as class;
 
-use crate::backlog::Backlog;
-use crate::{Class, Got, Item, PortError, Selection, Taken, TimerKey, Timers};
+use crate::backlog::{Backlog, Unsaved};
+use crate::{Arm, Class, Got, Item, PortError, Refused, Selection, Taken, Ticks, TimerKey, Timers};
 use std::alloc::{AllocError, Global};
 use std::collections::VecDeque;
 use std::marker::Model;
@@ -24,6 +24,13 @@ pub struct PlainPort {
     timers: Timers,
     sets: u64,
     alive: bool,
+}
+
+/// What is left of a port that is given up: what waits, in order, and the table of the active timers.
+#[derive(Debug, Drop)]
+pub struct PortParts {
+    pub waiting: VecDeque<Got>,
+    pub timers: Timers,
 }
 
 impl Model for PlainPort {
@@ -73,10 +80,11 @@ impl PlainPort {
 
     /// Puts a signal behind all that waits. A stopped port drops it, and takes no memory. For want of memory the signal
     /// comes back.
-    pub fn put(&mut self, item: Item) -> Result<(), (AllocError, Item)>
+    pub fn put(&mut self, item: Item) -> Result<(), Refused<Item>>
         ensures ok { OnOk result (self.new.state ≡ put_into self.old.state item) }
         ensures err { OnErr result (self.new.state ≡ self.old.state) }
-        ensures handed_back { IfErr result (λ refused. refused.1 ≡ item) }
+        ensures handed_back { IfErr result (λ refused. refused.value ≡ item) }
+        ensures memory { IfErr result (λ refused. refused.error ≡ PortError.Memory) }
         ensures refused_alive { OnErr result (self.old.state.alive ≡ true) }
         ensures armed { self.new.armed ≡ self.old.armed }
         ensures full { OnErr result (self.old.room ≡ 0) }
@@ -84,8 +92,11 @@ impl PlainPort {
         if !self.alive {
             return Ok(());
         }
-        if let Err(error) = self.reserve() {
-            return Err((error, item));
+        if let Err(_) = self.reserve() {
+            return Err(Refused {
+                error: PortError::Memory,
+                value: item,
+            });
         }
         self.put_reserved(item);
         Ok(())
@@ -102,34 +113,38 @@ impl PlainPort {
         }
     }
 
-    /// Expires a timer (Z.102, timer): where it is Running by the set number `arm` for the time `due`, and `at` is
+    /// Expires a timer (Z.102, timer): where it is Running by the set `arm` for the time `due`, and `at` is
     /// `due` or later, its signal goes behind all that waits. The reply is whether that was so. In every other case
     /// nothing changes. The key comes back for want of memory, and nothing changes.
     pub fn expire(
         &mut self,
         key: TimerKey,
-        arm: u64,
-        due: u64,
-        at: u64,
-    ) -> Result<bool, (AllocError, TimerKey)>
+        arm: Arm,
+        due: Ticks,
+        at: Ticks,
+    ) -> Result<bool, Refused<TimerKey>>
         ensures ok { IfOk result (λ expired. expired ≡ expires self.old.state key arm due at) }
         ensures state { OnOk result (self.new.state ≡ expire_in self.old.state key arm due at) }
         ensures err { OnErr result (self.new.state ≡ self.old.state) }
-        ensures handed_back { IfErr result (λ refused. refused.1 ≡ key) }
+        ensures handed_back { IfErr result (λ refused. refused.value ≡ key) }
+        ensures memory { IfErr result (λ refused. refused.error ≡ PortError.Memory) }
         ensures armed { self.new.armed ≡ self.old.armed }
         ensures full { OnErr result (self.old.room ≡ 0) }
     {
         if !self.expires(&key, arm, due, at) {
             return Ok(false);
         }
-        if let Err(error) = self.reserve() {
-            return Err((error, key));
+        if let Err(_) = self.reserve() {
+            return Err(Refused {
+                error: PortError::Memory,
+                value: key,
+            });
         }
         Ok(self.expire_reserved(key, arm, due, at))
     }
 
     /// `expire` into the room that `reserve` has made. Takes no memory.
-    pub fn expire_reserved(&mut self, key: TimerKey, arm: u64, due: u64, at: u64) -> bool
+    pub fn expire_reserved(&mut self, key: TimerKey, arm: Arm, due: Ticks, at: Ticks) -> bool
         requires { 0 < self.old.room }
         ensures reply { result ≡ expires self.old.state key arm due at }
         ensures state { self.new.state ≡ expire_in self.old.state key arm due at }
@@ -143,7 +158,7 @@ impl PlainPort {
         true
     }
 
-    fn expires(&self, key: &TimerKey, arm: u64, due: u64, at: u64) -> bool
+    fn expires(&self, key: &TimerKey, arm: Arm, due: Ticks, at: Ticks) -> bool
         ensures { result ≡ expires self.now.state key.now arm due at }
     {
         due <= at && self.timers.runs(key, arm, due)
@@ -156,9 +171,9 @@ impl PlainPort {
         self.sets == MOST_SETS
     }
 
-    /// Sets a timer for the time `due`, after a reset. The reply is the number of the set, from 1. Refused with
+    /// Sets a timer for the time `due`, after a reset. The reply is the number of the set. Refused with
     /// `SetsSpent` after 2^62 sets, and for want of memory; the key is dropped then, and nothing changes.
-    pub fn set(&mut self, key: TimerKey, due: u64) -> Result<u64, PortError>
+    pub fn set(&mut self, key: TimerKey, due: Ticks) -> Result<Arm, PortError>
         ensures ok { OnOk result (self.new.state ≡ set_in self.old.state key due) }
         ensures arm { IfOk result (λ arm. arm ≡ self.old.state.sets + 1) }
         ensures spent { IsErrOf result PortError.SetsSpent ↔ (self.old.state.sets ≡ MOST_SETS) }
@@ -169,12 +184,12 @@ impl PlainPort {
         if self.sets == MOST_SETS {
             return Err(PortError::SetsSpent);
         }
-        let Ok(waited) = self.timers.set(key, self.sets + 1, due) else {
+        let Ok(waited) = self.timers.set(key, Arm::new(self.sets + 1), due) else {
             return Err(PortError::Memory);
         };
         self.sets += 1;
         forget_signal(&mut self.waiting, waited);
-        Ok(self.sets)
+        Ok(Arm::new(self.sets))
     }
 
     /// Resets a timer: it isn't active any more, and its signal doesn't wait. For an inactive timer nothing changes.
@@ -195,7 +210,7 @@ impl PlainPort {
     }
 
     /// The least due time of a timer that is set and has not expired.
-    pub fn next_due(&self) -> Option<u64>
+    pub fn next_due(&self) -> Option<Ticks>
         ensures { IsLeast (due_times self.now.state.timers) result }
     {
         self.timers.next_due()
@@ -215,7 +230,8 @@ impl PlainPort {
         }
         match self.waiting.take_unsaved(selection) {
             None => Taken::Nothing,
-            Some((got, class)) => {
+            Some(unsaved) => {
+                let Unsaved { got, class } = unsaved;
                 end_timer(&mut self.timers, &got);
                 taken_as(class, got)
             }
@@ -259,10 +275,10 @@ impl PlainPort {
 
     /// What waits, in order, and the table of the active timers. Each timer's signal among it is that of the one
     /// active timer of its key, and stands there once. Takes no memory.
-    pub fn into_parts(self) -> (VecDeque<Got>, Timers)
-        ensures waiting { result.0.items ≡ self.state.waiting }
-        ensures timers { result.1 ≡ record { timers = self.state.timers; armed = self.armed } }
-        ensures coherent { IsCoherent result.0.items result.1.timers }
+    pub fn into_parts(self) -> PortParts
+        ensures waiting { result.waiting.items ≡ self.state.waiting }
+        ensures timers { result.timers ≡ record { timers = self.state.timers; armed = self.armed } }
+        ensures coherent { IsCoherent result.waiting.items result.timers.timers }
     {
         let PlainPort {
             waiting,
@@ -270,7 +286,10 @@ impl PlainPort {
             sets: _,
             alive: _,
         } = self;
-        (waiting.into_deque(), timers)
+        PortParts {
+            waiting: waiting.into_deque(),
+            timers,
+        }
     }
 }
 

@@ -22,14 +22,21 @@ pub fn first_priority(waiting: &VecDeque<Got>, from: usize, selection: &Selectio
     None
 }
 
-// The place of the first entry that isn't saved, and its class.
-pub fn first_unsaved(waiting: &VecDeque<Got>, selection: &Selection) -> Option<(usize, Class)>
+/// Where the first entry stands that isn't saved, and its class.
+#[derive(Clone, Copy)]
+pub struct FirstUnsaved {
+    pub place: usize,
+    pub class: Class,
+}
+
+// The first entry that isn't saved.
+pub fn first_unsaved(waiting: &VecDeque<Got>, selection: &Selection) -> Option<FirstUnsaved>
     ensures { FindsUnsaved selection.now waiting.now.items result }
 {
     for place in 0..waiting.len() {
         match selection.class_of(waiting[place].name()) {
             Class::Saved => {}
-            class => return Some((place, class)),
+            class => return Some(FirstUnsaved { place, class }),
         }
     }
     None

@@ -1,5 +1,5 @@
 //! The active timers as callers see them.
-use crate::TimerKey;
+use crate::{Arm, Ticks, TimerKey};
 
 /// A timer between its set and the end of its activity. No value of it is made.
 pub struct ActiveTimer {
@@ -7,11 +7,11 @@ pub struct ActiveTimer {
     pub phase: Phase,
 }
 
-/// How far an active timer is. `arm` is the number of its set among the sets of the port, from 1.
+/// How far an active timer is, by the set `arm`.
 #[derive(Clone, Copy, Debug, PartialEq, Eq)]
 pub enum Phase {
-    /// Set for the time `due`, in ticks.
-    Running { arm: u64, due: u64 },
+    /// Set for the time `due`.
+    Running { arm: Arm, due: Ticks },
     /// Expired, with its signal in the port.
-    Waiting { arm: u64 },
+    Waiting { arm: Arm },
 }

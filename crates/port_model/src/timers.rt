@@ -1,26 +1,27 @@
 //! The table of a port's active timers. Each call takes a time that is logarithmic in their number.
-ghost use Rattle.std.specs.Prelude.{◌≡◌, ◌==◌, ◌&&◌, not, ◌<◌, ◌++◌, ◌∷◌, [], ℕ, true, false, if◌then◌else◌, All, MatchOption, MatchResult, IfOk};
+ghost use Rattle.std.specs.Prelude.{◌≡◌, ◌==◌, ◌&&◌, not, ◌<◌, ◌++◌, ◌∷◌, [], true, false, if◌then◌else◌, All, MatchOption, MatchResult, IfOk};
 ghost use Rattle.std.specs.BTreeSet.{contains};
 ghost use Rattle.port_model.specs.Table.{deadline_order, is_until};
 ghost use Rattle.port_model.specs.Timers.{armed_for, due_times, is_active, is_running, waits, with_waiting, without_armed, without_key, Armed, IsLeast};
+ghost use Rattle.port_model.specs.declared.deadline.Deadline.{Deadline};
 ghost use Rattle.port_model.specs.declared.timer.Phase.TheVariants.{Running};
 
-use crate::TimerKey;
+use crate::deadline::Deadline;
+use crate::{Arm, Ticks, TimerKey};
 use std::alloc::{AllocError, Global};
 use std::collections::{BTreeMap, BTreeSet};
 use std::marker::Model;
 
-/// What a table keeps of an active timer: the number of its set among the sets of the port, from 1, its due time in
-/// ticks, and whether it has expired, so that its signal waits.
+/// What a table keeps of an active timer: its set, its due time, and whether it has expired, so that its signal waits.
 #[derive(Clone, Copy, Debug)]
 pub struct Timer {
-    pub arm: u64,
-    pub due: u64,
+    pub arm: Arm,
+    pub due: Ticks,
     pub waits: bool,
 }
 
 impl Timer {
-    fn runs_by(&self, arm: u64, due: u64) -> bool
+    fn runs_by(&self, arm: Arm, due: Ticks) -> bool
         ensures { result ≡ (not self.now.waits && (self.now.arm == arm && self.now.due == due)) }
     {
         !self.waits && self.arm == arm && self.due == due
@@ -31,7 +32,7 @@ impl Timer {
 #[derive(Debug, Drop)]
 pub struct Timers {
     table: BTreeMap<TimerKey, Timer>,
-    deadlines: BTreeSet<(u64, u64)>,
+    deadlines: BTreeSet<Deadline>,
 }
 
 impl Model for Timers {
@@ -68,7 +69,7 @@ impl Timers {
     }
 
     /// Whether it runs, by this set and until this time.
-    pub fn runs(&self, key: &TimerKey, arm: u64, due: u64) -> bool
+    pub fn runs(&self, key: &TimerKey, arm: Arm, due: Ticks) -> bool
         ensures { result ≡ is_running key.now arm due self.now.timers }
     {
         match self.table.get(key) {
@@ -95,19 +96,24 @@ impl Timers {
     }
 
     /// The least due time of a timer that runs.
-    pub fn next_due(&self) -> Option<u64>
+    pub fn next_due(&self) -> Option<Ticks>
         ensures { IsLeast (due_times self.now.timers) result }
     {
         match self.deadlines.first() {
             None => None,
-            Some(deadline) => Some(deadline.0),
+            Some(deadline) => Some(deadline.due),
         }
     }
 
     /// Sets the timer of this key, which runs from then on by the set `arm` until `due`. That `arm` is past all sets
     /// in the table is the caller's condition. The key comes back where the signal of an older set waits; that is over
     /// now. Where memory is wanting, nothing changes.
-    pub fn set(&mut self, key: TimerKey, arm: u64, due: u64) -> Result<Option<TimerKey>, AllocError>
+    pub fn set(
+        &mut self,
+        key: TimerKey,
+        arm: Arm,
+        due: Ticks,
+    ) -> Result<Option<TimerKey>, AllocError>
         requires { All (λ (armed : Armed). armed.arm < arm) self.old.armed }
         ensures timers { MatchResult result
             (λ _. self.new.timers ≡ without_key key self.old.timers ++ record {
@@ -127,7 +133,7 @@ impl Timers {
     }
 
     // A set of a timer that isn't active.
-    fn add(&mut self, key: TimerKey, arm: u64, due: u64) -> Result<(), AllocError>
+    fn add(&mut self, key: TimerKey, arm: Arm, due: Ticks) -> Result<(), AllocError>
         requires inactive { is_active key self.old.timers ≡ false }
         requires later { All (λ (armed : Armed). armed.arm < arm) self.old.armed }
         ensures timers { MatchResult result
@@ -137,7 +143,7 @@ impl Timers {
             } ∷ []) (λ _. self.new ≡ self.old) }
         ensures armed { MatchResult result (λ _. self.new.armed ≡ without_armed key self.old.armed ++ record { key = key; arm = arm; due = due } ∷ []) (λ _. self.new ≡ self.old) }
     {
-        if let Err(_) = self.deadlines.insert((due, arm)) {
+        if let Err(_) = self.deadlines.insert(Deadline { due, arm }) {
             return Err(AllocError);
         }
         let timer = Timer {
@@ -146,14 +152,14 @@ impl Timers {
             waits: false,
         };
         if let Err(_) = self.table.insert(key, timer) {
-            unschedule(&mut self.deadlines, timer);
+            unschedule(&mut self.deadlines, &timer);
             return Err(AllocError);
         }
         Ok(())
     }
 
     // A set of one that is. The reply is whether its signal waits.
-    fn renew(&mut self, key: &TimerKey, arm: u64, due: u64) -> Result<bool, AllocError>
+    fn renew(&mut self, key: &TimerKey, arm: Arm, due: Ticks) -> Result<bool, AllocError>
         requires active { is_active key.now self.old.timers ≡ true }
         requires later { All (λ (armed : Armed). armed.arm < arm) self.old.armed }
         ensures timers { MatchResult result
@@ -164,7 +170,7 @@ impl Timers {
         ensures armed { MatchResult result (λ _. self.new.armed ≡ without_armed key.now self.old.armed ++ record { key = key.now; arm = arm; due = due } ∷ []) (λ _. self.new ≡ self.old) }
         ensures waited { IfOk result (λ waited. waited ≡ waits key.now self.old.timers) }
     {
-        if let Err(_) = self.deadlines.insert((due, arm)) {
+        if let Err(_) = self.deadlines.insert(Deadline { due, arm }) {
             return Err(AllocError);
         }
         let Some(timer) = self.table.get_mut(key) else {
@@ -176,7 +182,7 @@ impl Timers {
             due,
             waits: false,
         };
-        unschedule(&mut self.deadlines, old);
+        unschedule(&mut self.deadlines, &old);
         Ok(old.waits)
     }
 
@@ -189,14 +195,14 @@ impl Timers {
         match self.table.remove(key) {
             None => false,
             Some(timer) => {
-                unschedule(&mut self.deadlines, timer);
+                unschedule(&mut self.deadlines, &timer);
                 timer.waits
             }
         }
     }
 
     /// Expires the timer of this key, which runs by this set and until this time. Its signal waits from then on.
-    pub fn expire(&mut self, key: &TimerKey, arm: u64, due: u64)
+    pub fn expire(&mut self, key: &TimerKey, arm: Arm, due: Ticks)
         requires { is_running key.now arm due self.old.timers ≡ true }
         ensures timers { self.new.timers ≡ with_waiting key.now arm self.old.timers }
         ensures armed { self.new.armed ≡ self.old.armed }
@@ -206,7 +212,7 @@ impl Timers {
         };
         let old = *timer;
         timer.waits = true;
-        unschedule(&mut self.deadlines, old);
+        unschedule(&mut self.deadlines, &old);
     }
 
     /// No timer is active any more.
@@ -219,10 +225,11 @@ impl Timers {
 }
 
 // Takes the deadline of a timer out, if it runs.
-fn unschedule(deadlines: &mut BTreeSet<(u64, u64)>, timer: Timer)
-    ensures { (d : ℕ × ℕ) → contains deadline_order deadlines.new d ≡ (if is_until timer d then false else contains deadline_order deadlines.old d) }
+fn unschedule(deadlines: &mut BTreeSet<Deadline>, timer: &Timer)
+    ensures { (d : Deadline) → contains deadline_order deadlines.new d ≡ (if is_until timer.now d then false else contains deadline_order deadlines.old d) }
 {
     if !timer.waits {
-        deadlines.remove(&(timer.due, timer.arm));
+        let Timer { arm, due, .. } = *timer;
+        deadlines.remove(&Deadline { due, arm });
     }
 }

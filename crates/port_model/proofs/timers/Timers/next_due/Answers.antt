@@ -11,5 +11,5 @@ returns-in-None c =
 
 pub returns-in-Some : goal.returns-in-Some
 returns-in-Some c =
-    subst (λ (t : TimersValue). IsLeast (due_times t.timers) (Some c.in-Some.deadline.now.0)) c.self.view_is
+    subst (λ (t : TimersValue). IsLeast (due_times t.timers) (Some c.in-Some.deadline.now.due)) c.self.view_is
     (least_first c.self.inside.table.entries c.self.inside.deadlines.keys c.self.invariant c.in-Some.deadline.now c.in-Some.ensures.member c.in-Some.ensures.all_from)
