@@ -14,7 +14,7 @@ use Rattle.port_model.specs.Take as take
 use Rattle.inbox.specs.declared.entry.Entry.{Entry}
 use Rattle.inbox.specs.declared.entry.Entry.TheVariants.{Signal, Timer}
 use Rattle.inbox.specs.declared.entry.Fuse.{Fuse}
-use Rattle.inbox.specs.declared.refused.Refused.{Refused}
+use Rattle.port_model.specs.declared.refused.Refused.{Refused}
 use Rattle.inbox.specs.declared.placed.Placed.{Placed}
 use Rattle.inbox.specs.Ends.{OwnerState}
 use Rattle.inbox.specs.Put.{StartsWith, of, longer, IsTimely}

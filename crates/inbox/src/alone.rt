@@ -4,8 +4,9 @@ ghost use Rattle.port_model.specs.Port.{empty_port, expires, put_into};
 ghost use Rattle.inbox.specs.Calls.{after_entry, ComesBack};
 ghost use Rattle.inbox.specs.declared.entry.Entry.TheVariants.{Timer};
 
+use crate::entry::FuseParts;
 use crate::{Fuse, Inbox, Refused, fused};
-use port_model::{Item, PlainPort, PortError, Selection, Taken, TimerKey};
+use port_model::{Item, PlainPort, PortError, Selection, Taken, Ticks, TimerKey};
 use std::alloc::Global;
 use std::marker::Model;
 
@@ -42,18 +43,12 @@ impl Alone {
             (λ back. ComesBack back item × (self.new ≡ self.old)) }
         ensures alive { self.new.state.alive ≡ self.old.state.alive }
     {
-        match self.plain.put(item) {
-            Ok(()) => Ok(()),
-            Err((_, value)) => Err(Refused {
-                error: PortError::Memory,
-                value,
-            }),
-        }
+        self.plain.put(item)
     }
 
     /// Expires a timer, and says whether its signal was put: before its time, after another set or a reset, and by the
     /// fuse of another port, nothing changes. For want of memory the fuse comes back.
-    pub fn expire(&mut self, fuse: Fuse, at: u64) -> Result<bool, Refused<Fuse>>
+    pub fn expire(&mut self, fuse: Fuse, at: Ticks) -> Result<bool, Refused<Fuse>>
         ensures expired { MatchResult result
             (λ expired. expired ≡ ((fuse.pid == self.old.pid) && expires self.old.state fuse.key fuse.arm fuse.due at))
             (λ back. ComesBack back fuse) }
@@ -65,11 +60,11 @@ impl Alone {
         if fuse.pid() != self.pid {
             return Ok(false);
         }
-        let (key, arm, due) = fuse.into_parts();
+        let FuseParts { key, arm, due } = fuse.into_parts();
         match self.plain.expire(key, arm, due, at) {
             Ok(expired) => Ok(expired),
-            Err((_, key)) => Err(Refused {
-                error: PortError::Memory,
+            Err(Refused { error, value: key }) => Err(Refused {
+                error,
                 value: Fuse::new(self.pid, key, arm, due),
             }),
         }
@@ -90,7 +85,7 @@ impl Inbox for Alone {
         Ok(self.plain.take(selection))
     }
 
-    fn set(&mut self, key: TimerKey, due: u64) -> Result<Fuse, PortError> {
+    fn set(&mut self, key: TimerKey, due: Ticks) -> Result<Fuse, PortError> {
         fused::set(&mut self.plain, self.pid, key, due)
     }
 
@@ -102,7 +97,7 @@ impl Inbox for Alone {
         self.plain.active(key)
     }
 
-    fn next_due(&self) -> Option<u64> {
+    fn next_due(&self) -> Option<Ticks> {
         self.plain.next_due()
     }
 

@@ -3,20 +3,27 @@
 ghost use Rattle.std.specs.Prelude.{◌≡◌};
 ghost use Rattle.inbox.specs.Ends.{is_signal_entry};
 
-use port_model::{Item, TimerKey};
+use port_model::{Arm, Item, Ticks, TimerKey};
 
-/// A timer that was set: which port set it, its key, the number of the set among the sets of that port, from 1, and
-/// the time at which it expires. `Owner::set` makes it.
+/// A timer that was set: which port set it, its key, by which set of that port, and the time at which it expires. `Owner::set` makes it.
 #[derive(Debug, PartialEq, Eq, Drop)]
 pub struct Fuse {
     pid: u32,
     key: TimerKey,
-    arm: u64,
-    due: u64,
+    arm: Arm,
+    due: Ticks,
+}
+
+/// What an expiry needs of a fuse.
+#[derive(Drop)]
+pub struct FuseParts {
+    pub key: TimerKey,
+    pub arm: Arm,
+    pub due: Ticks,
 }
 
 impl Fuse {
-    pub(crate) fn new(pid: u32, key: TimerKey, arm: u64, due: u64) -> Self
+    pub(crate) fn new(pid: u32, key: TimerKey, arm: Arm, due: Ticks) -> Self
         ensures pid { result.pid ≡ pid }
         ensures key { result.key ≡ key }
         ensures arm { result.arm ≡ arm }
@@ -25,8 +32,8 @@ impl Fuse {
         Fuse { pid, key, arm, due }
     }
 
-    pub(crate) fn into_parts(self) -> (TimerKey, u64, u64)
-        ensures { (result.0 ≡ self.key) × (result.1 ≡ self.arm) × (result.2 ≡ self.due) }
+    pub(crate) fn into_parts(self) -> FuseParts
+        ensures { result ≡ record { key = self.key; arm = self.arm; due = self.due } }
     {
         let Fuse {
             pid: _,
@@ -34,7 +41,7 @@ impl Fuse {
             arm,
             due,
         } = self;
-        (key, arm, due)
+        FuseParts { key, arm, due }
     }
 
     /// The number of the port that set the timer.
@@ -51,15 +58,15 @@ impl Fuse {
         &self.key
     }
 
-    /// The number of the set.
-    pub fn arm(&self) -> u64
+    /// Its set.
+    pub fn arm(&self) -> Arm
         ensures { result ≡ self.now.arm }
     {
         self.arm
     }
 
     /// The time at which the timer expires.
-    pub fn due(&self) -> u64
+    pub fn due(&self) -> Ticks
         ensures { result ≡ self.now.due }
     {
         self.due

@@ -9,14 +9,15 @@ ghost use Rattle.port_model.specs.declared.plain_port.TheConstants.{MOST_SETS};
 ghost use Rattle.inbox.specs.Calls.{after_draw};
 ghost use Rattle.inbox.specs.Left.{got_of, AreWaiting, HasItsFuse, IsFused};
 
+use crate::entry::FuseParts;
 use crate::{Entry, Fuse, Placed};
-use port_model::{Got, PlainPort, PortError, TimerKey, Timers};
+use port_model::{Got, PlainPort, PortError, PortParts, Ticks, TimerKey, Timers};
 use std::alloc::Global;
 use std::collections::VecDeque;
 
 /// Sets a timer of the port `pid`, and gives its fuse. Refused with `SetsSpent` after 2^62 sets, before all else, and
 /// for want of memory.
-pub fn set(plain: &mut PlainPort, pid: u32, key: TimerKey, due: u64) -> Result<Fuse, PortError>
+pub fn set(plain: &mut PlainPort, pid: u32, key: TimerKey, due: Ticks) -> Result<Fuse, PortError>
     ensures set { MatchResult result (λ fuse. (plain.new.state ≡ set_in plain.old.state key due)
         × (fuse ≡ record { pid = pid; key = key; arm = plain.old.state.sets + 1; due = due }))
         (λ error. (plain.new.state ≡ plain.old.state)
@@ -47,7 +48,7 @@ pub fn draw(plain: &mut PlainPort, pid: u32, placed: Placed)
         Entry::Signal(item) => plain.put_reserved(item),
         Entry::Timer(fuse) => {
             if fuse.pid() == pid {
-                let (key, arm, due) = fuse.into_parts();
+                let FuseParts { key, arm, due } = fuse.into_parts();
                 plain.expire_reserved(key, arm, due, at);
             }
         }
@@ -64,7 +65,7 @@ pub fn into_entries(alloc: Global, pid: u32, plain: PlainPort) -> Result<Vec<Ent
     if let Err(_) = list.reserve(plain.waiting_len()) {
         return Err(plain);
     }
-    let (waiting, timers) = plain.into_parts();
+    let PortParts { waiting, timers } = plain.into_parts();
     Ok(entries(list, pid, waiting, &timers))
 }
 

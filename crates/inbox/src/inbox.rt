@@ -7,7 +7,7 @@ ghost use Rattle.inbox.specs.Ends.{OwnerState};
 ghost use Rattle.inbox.specs.declared.entry.Entry.{Entry};
 
 use crate::Fuse;
-use port_model::{PortError, Selection, Taken, TimerKey};
+use port_model::{PortError, Selection, Taken, Ticks, TimerKey};
 
 /// The owner's calls of an input port, whatever stands behind it. After `stop` none of them is called: that is the
 /// caller's condition.
@@ -29,7 +29,7 @@ pub trait Inbox {
         ensures take { TakeIs selection.now (Self.owning self.old) (Self.owning self.new) result };
 
     /// Sets a timer for the time `due`, after a reset.
-    fn set(&mut self, key: TimerKey, due: u64) -> Result<Fuse, PortError>
+    fn set(&mut self, key: TimerKey, due: Ticks) -> Result<Fuse, PortError>
         requires { (Self.owning self.old).state.alive ≡ true }
         ensures since { Self.since self.new ≡ Self.since self.old }
         ensures set { SetIs (Self.owning self.old) (Self.owning self.new) key due result }
@@ -47,7 +47,7 @@ pub trait Inbox {
         ensures { result ≡ is_active key.now (Self.owning self.now).state.timers };
 
     /// The least due time of a timer that is set and has not expired.
-    fn next_due(&self) -> Option<u64>
+    fn next_due(&self) -> Option<Ticks>
         requires { (Self.owning self.now).state.alive ≡ true }
         ensures { IsLeast (due_times (Self.owning self.now).state.timers) result };
 

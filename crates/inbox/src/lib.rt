@@ -10,10 +10,13 @@ mod entry;
 pub mod fused;
 mod inbox;
 mod placed;
-mod refused;
+mod put_count;
+mod sender_number;
 
 pub use alone::Alone;
 pub use entry::{Entry, Fuse};
 pub use inbox::Inbox;
 pub use placed::{Gone, Placed};
-pub use refused::Refused;
+pub use port_model::Refused;
+pub use put_count::PutCount;
+pub use sender_number::SenderNumber;

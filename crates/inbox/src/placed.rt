@@ -3,15 +3,16 @@
 ghost use Rattle.std.specs.Prelude.{◌≡◌, ◌≤◌, if◌then◌else◌};
 ghost use Rattle.inbox.specs.Ends.{is_signal_entry};
 
-use crate::Entry;
+use crate::{Entry, PutCount, SenderNumber};
+use port_model::Ticks;
 
-/// An entry on its way into a port, with its sender's number and its place among the entries of that sender, from 1.
-/// `at` is the time of an expiry in ticks, and 0 for a signal.
+/// An entry on its way into a port, with its sender and its place among the entries of that sender. `at` is the time of
+/// an expiry, and the start of the run for a signal.
 #[derive(Drop)]
 pub struct Placed {
-    pub number: u64,
-    pub count: u64,
-    pub at: u64,
+    pub number: SenderNumber,
+    pub count: PutCount,
+    pub at: Ticks,
     pub entry: Entry,
 }
 
@@ -38,8 +39,8 @@ impl Placed {
     }
 }
 
-/// A sender that was gathered: its number, and how many entries it put. No value of it is made.
+/// A sender that was gathered, and how many entries it put. No value of it is made.
 pub struct Gone {
-    pub number: u64,
-    pub count: u64,
+    pub number: SenderNumber,
+    pub count: PutCount,
 }
