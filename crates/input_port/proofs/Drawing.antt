@@ -1,6 +1,6 @@
 use Rattle.std.proofs.Common.{◌≡◌, ℕ, Bool, true, false, List, [], ◌∷◌, ◌++◌, map, Result, Ok, Err, refl, sym, ap, ◌∙◌, subst, append_assoc, append-nil, All, ⊎_elim, inl}
 use Rattle.port_model.specs.declared.error.PortError.{PortError}
-use Rattle.inbox.specs.declared.refused.Refused.{Refused}
+use Rattle.port_model.specs.declared.refused.Refused.{Refused}
 use Rattle.port_model.specs.declared.taken.Taken.TheVariants.{Consumed, Discarded, Nothing}
 use Rattle.port_model.specs.declared.selection.Class.TheVariants as class
 use Rattle.std.proofs.lemmas.List.{map-append}

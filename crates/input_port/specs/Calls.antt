@@ -3,7 +3,7 @@ use Rattle.std.specs.Prelude.{◌≡◌, ℕ, Bool, true, ◌+◌, List, [], ◌
 use Rattle.port_model.specs.declared.error.PortError.{PortError}
 use Rattle.port_model.specs.declared.error.PortError.TheVariants.{Memory}
 use Rattle.inbox.specs.declared.entry.Entry.{Entry}
-use Rattle.inbox.specs.declared.refused.Refused.{Refused}
+use Rattle.port_model.specs.declared.refused.Refused.{Refused}
 use Rattle.inbox.specs.declared.placed.Placed.{Placed}
 use Rattle.input_port.specs.declared.rule.View.{View}
 use Rattle.inbox.specs.Calls.{after_draws, known_after, AreNext, ComesBack, HasDrawn, IsDrawn}

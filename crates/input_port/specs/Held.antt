@@ -1,7 +1,7 @@
 -- What an inbox over a shared port does, before its stop and after it.
 use Rattle.std.specs.Prelude.{◌≡◌, true, false, Result, MatchResult}
 use Rattle.port_model.specs.declared.error.PortError.TheVariants.{Memory}
-use Rattle.inbox.specs.declared.refused.Refused.{Refused}
+use Rattle.port_model.specs.declared.refused.Refused.{Refused}
 use Rattle.input_port.specs.Ends.{FinishedState, RetiredState, SenderState}
 use Rattle.inbox.specs.Calls.{ComesBack, HasDrawn}
 use Rattle.input_port.specs.Calls.{Finishes, FinishesSince, Gathers, GathersSince, HasDrawnSince}

@@ -7,13 +7,20 @@ use crate::{Desk, Owner, Port, steps};
 use port_model::PortError;
 use std::alloc::Global;
 
-/// An empty port of the instance `pid`, with its owner, and the desk that gives out its senders. Refused for want of
-/// memory.
-pub fn port(alloc: Global, pid: u32) -> Result<(Port, Owner, Desk), PortError>
+/// A port, as it is made: what all threads share, its owner, and the desk that gives out its senders.
+#[derive(Drop)]
+pub struct NewPort {
+    pub port: Port,
+    pub owner: Owner,
+    pub desk: Desk,
+}
+
+/// An empty port of the instance `pid`. Refused for want of memory.
+pub fn port(alloc: Global, pid: u32) -> Result<NewPort, PortError>
     ensures error { MatchResult result (λ _. Unit {0}) (λ error. error ≡ PortError.Memory) }
-    ensures port { MatchResult result (λ made. made.0.pid ≡ pid) (λ _. Unit {0}) }
-    ensures owner { MatchResult result (λ made. made.1 ≡ record {
-      port = made.0.queue;
+    ensures port { MatchResult result (λ made. made.port.pid ≡ pid) (λ _. Unit {0}) }
+    ensures owner { MatchResult result (λ made. made.owner ≡ record {
+      port = made.port.queue;
       pid = pid;
       drawn = [];
       known = [];
@@ -21,12 +28,13 @@ pub fn port(alloc: Global, pid: u32) -> Result<(Port, Owner, Desk), PortError>
       state = empty_port;
       armed = [];
     }) (λ _. Unit {0}) }
-    ensures desk { MatchResult result (λ made. made.2 ≡ record { port = made.0.queue; given = 0 }) (λ _. Unit {0}) }
+    ensures desk { MatchResult result (λ made. made.desk ≡ record { port = made.port.queue; given = 0 }) (λ _. Unit {0}) }
 {
     let Ok((queue, mut pass)) = steps::open(alloc) else {
         return Err(PortError::Memory);
     };
     let desk = Desk::new(steps::split_ends(&queue, &mut pass));
     let owner = Owner::new(alloc, pid, pass);
-    Ok((Port::new(queue, pid), owner, desk))
+    let port = Port::new(queue, pid);
+    Ok(NewPort { port, owner, desk })
 }

@@ -5,6 +5,7 @@ ghost use Rattle.input_port.specs.Views.{desk};
 
 use crate::rule::Pass;
 use crate::{Port, Sender, steps};
+use inbox::SenderNumber;
 use port_model::PortError;
 use std::marker::Model;
 
@@ -63,6 +64,6 @@ impl Desk {
         }
         let pass = steps::split_sender(&port.queue, &mut self.pass);
         self.given += 1;
-        Ok(Sender::new(pass, self.given))
+        Ok(Sender::new(pass, SenderNumber::new(self.given)))
     }
 }

@@ -17,7 +17,7 @@ ghost use Rattle.crossbeam_queue.specs.SegTies.{IsSegPassOf};
 use crate::rule::{Pass, Queue};
 use crate::{Finished, Port, Sender, steps};
 use inbox::{Entry, Fuse, Placed, Refused, fused};
-use port_model::{PlainPort, PortError, Selection, Taken, TimerKey};
+use port_model::{PlainPort, PortError, Selection, Taken, Ticks, TimerKey};
 use std::alloc::Global;
 use std::marker::Model;
 use std::sync::Wait;
@@ -254,17 +254,17 @@ impl Drawer {
         if let Err(_) = self.plain.reserve() {
             return Err(refused(sender));
         }
-        let (number, count, signals) = sender.numbers();
+        let tally = sender.tally();
         let popped = take_in(rt, &port.queue, &mut self.pass, sender.into_pass());
         self.signals += signals_in(&popped);
         draw_popped(&mut self.plain, self.pid, popped);
         let pass = steps::split_again(&port.queue, &mut self.pass);
-        Ok(Sender::again(pass, number, count, signals))
+        Ok(Sender::again(pass, tally))
     }
 
     /// Sets a timer for the time `due`, after a reset. Refused with `SetsSpent` after 2^62 sets, and for want of
     /// memory; the key is dropped then, and nothing changes.
-    pub fn set(&mut self, key: TimerKey, due: u64) -> Result<Fuse, PortError>
+    pub fn set(&mut self, key: TimerKey, due: Ticks) -> Result<Fuse, PortError>
         ensures port { self.new.port ≡ self.old.port }
         ensures set { SetIs self.old self.new key due result }
         ensures spent { IsErrOf result PortError.SetsSpent ↔ (self.old.state.sets ≡ MOST_SETS) }
@@ -287,7 +287,7 @@ impl Drawer {
     }
 
     /// The least due time of a timer that is set and has not expired.
-    pub fn next_due(&self) -> Option<u64>
+    pub fn next_due(&self) -> Option<Ticks>
         ensures { IsLeast (due_times self.now.state.timers) result }
     {
         self.plain.next_due()

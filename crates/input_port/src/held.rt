@@ -8,7 +8,7 @@ ghost use Rattle.input_port.specs.Held.{GatherHereIs, HasDrawnHere, LeaveIs};
 use crate::drawer::Drawer;
 use crate::{Finished, Owner, Port, Sender, since};
 use inbox::{Entry, Fuse, Inbox, Refused};
-use port_model::{PortError, Selection, Taken, TimerKey};
+use port_model::{PortError, Selection, Taken, Ticks, TimerKey};
 use std::marker::Model;
 use std::sync::Wait;
 
@@ -165,7 +165,7 @@ impl<'a, R: Wait + Copy> Inbox for Held<'a, R> {
         self.drawer.take(&self.rt, self.port, selection)
     }
 
-    fn set(&mut self, key: TimerKey, due: u64) -> Result<Fuse, PortError> {
+    fn set(&mut self, key: TimerKey, due: Ticks) -> Result<Fuse, PortError> {
         self.drawer.set(key, due)
     }
 
@@ -177,7 +177,7 @@ impl<'a, R: Wait + Copy> Inbox for Held<'a, R> {
         self.drawer.active(key)
     }
 
-    fn next_due(&self) -> Option<u64> {
+    fn next_due(&self) -> Option<Ticks> {
         self.drawer.next_due()
     }
 

@@ -23,6 +23,7 @@ mod shared;
 mod since;
 mod steps;
 
+pub use birth::NewPort;
 pub use desk::Desk;
 pub use finished::Finished;
 pub use held::Held;

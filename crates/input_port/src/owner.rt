@@ -14,7 +14,7 @@ use crate::drawer::Drawer;
 use crate::rule::Pass;
 use crate::{Finished, Port, Retired, Sender};
 use inbox::{Entry, Fuse, Refused};
-use port_model::{PortError, Selection, Taken, TimerKey};
+use port_model::{PortError, Selection, Taken, Ticks, TimerKey};
 use std::alloc::Global;
 use std::marker::Model;
 use std::sync::Wait;
@@ -157,7 +157,7 @@ impl Owner {
 
     /// Sets a timer for the time `due`, after a reset. Refused with `SetsSpent` after 2^62 sets, and for want of
     /// memory; the key is dropped then, and nothing changes.
-    pub fn set(&mut self, key: TimerKey, due: u64) -> Result<Fuse, PortError>
+    pub fn set(&mut self, key: TimerKey, due: Ticks) -> Result<Fuse, PortError>
         ensures port { self.new.port ≡ self.old.port }
         ensures set { SetIs self.old self.new key due result }
         ensures spent { IsErrOf result PortError.SetsSpent ↔ (self.old.state.sets ≡ MOST_SETS) }
@@ -180,7 +180,7 @@ impl Owner {
     }
 
     /// The least due time of a timer that is set and has not expired.
-    pub fn next_due(&self) -> Option<u64>
+    pub fn next_due(&self) -> Option<Ticks>
         ensures { IsLeast (due_times self.now.state.timers) result }
     {
         self.drawer.next_due()

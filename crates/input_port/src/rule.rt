@@ -2,7 +2,7 @@
 
 use crossbeam_queue::protocol::{Join, Lesson, Outcome, Protocol, Split};
 use crossbeam_queue::{RuledSegQueue, SegPass};
-use inbox::{Gone, Placed};
+use inbox::{Gone, Placed, PutCount, SenderNumber};
 use std::collections::LinkedList;
 
 /// What a pass may do, and what it knows. No value of it is made.
@@ -13,8 +13,8 @@ pub struct View {
     pub sends: bool,
     /// It takes.
     pub takes: bool,
-    pub number: u64,
-    pub count: u64,
+    pub number: SenderNumber,
+    pub count: PutCount,
     /// The beginning of the put list that it has seen; the owner's is its known list.
     pub seen: LinkedList<Placed>,
     /// The shorter of the two lists at the owner's last gathering.

@@ -10,19 +10,27 @@ ghost use Rattle.inbox.specs.declared.entry.Entry.TheVariants.{Signal, Timer};
 
 use crate::rule::Pass;
 use crate::{Port, steps};
-use inbox::{Entry, Fuse, Placed, Refused};
-use port_model::{Item, PortError};
+use inbox::{Entry, Fuse, Placed, PutCount, Refused, SenderNumber};
+use port_model::{Item, PortError, Ticks};
 use std::marker::Model;
 use std::sync::Wait;
 
 /// How many entries a sender puts at most.
 const MOST_PUTS: u64 = 1 << 61;
 
+/// What a sender knows of itself: its number, how many entries it has put, and how many of them are signals.
+#[derive(Clone, Copy)]
+pub struct Tally {
+    pub number: SenderNumber,
+    pub count: u64,
+    pub signals: u64,
+}
+
 /// What puts signals and expiries into a port, from any thread.
 #[derive(Drop)]
 pub struct Sender {
     pass: Pass,
-    number: u32,
+    number: SenderNumber,
     count: u64,
     signals: u64,
 }
@@ -44,7 +52,7 @@ impl Model for Sender {
 }
 
 impl Sender {
-    pub(crate) fn new(pass: Pass, number: u32) -> Self
+    pub(crate) fn new(pass: Pass, number: SenderNumber) -> Self
         requires view { pass.me.view.client ≡ sender number 0 [] }
         requires free { (pass.me.hand ≡ None) × (pass.me.spare ≡ None) }
         ensures { result ≡ record { port = record { web = pass.web; heap = pass.heap }; number = number; seen = [] } }
@@ -58,7 +66,7 @@ impl Sender {
     }
 
     /// The number of this sender, from 1. No other sender of the port has it.
-    pub fn number(&self) -> u32
+    pub fn number(&self) -> SenderNumber
         ensures { result ≡ self.now.number }
     {
         self.number
@@ -78,7 +86,7 @@ impl Sender {
         ensures port { self.new.port ≡ self.old.port }
         ensures put { PutIs self.old self.new 0 (Signal item) item result }
     {
-        match self.push(rt, port, 0, Entry::Signal(item)) {
+        match self.push(rt, port, Ticks::new(0), Entry::Signal(item)) {
             Ok(()) => Ok(()),
             Err(Entry::Signal(value)) => Err(Refused {
                 error: PortError::Memory,
@@ -95,7 +103,7 @@ impl Sender {
         rt: &R,
         port: &Port,
         fuse: Fuse,
-        at: u64,
+        at: Ticks,
     ) -> Result<(), Refused<Fuse>>
         requires port { self.old.port ≡ port.now.queue }
         requires due { fuse.due ≤ at }
@@ -113,11 +121,18 @@ impl Sender {
     }
 
     // What `again` needs beside the pass.
-    pub(crate) fn numbers(&self) -> (u32, u64, u64)
-        ensures { (result.0 ≡ self.now.number) × (result.1 ≡ sent_by self.now) × (result.2 ≡ signals_by self.now)
-            × (result.2 ≤ result.1) × (result.1 ≤ 2 ^ 61) }
+    pub(crate) fn tally(&self) -> Tally
+        ensures number { result.number ≡ self.now.number }
+        ensures count { result.count ≡ sent_by self.now }
+        ensures signals { result.signals ≡ signals_by self.now }
+        ensures few { result.signals ≤ result.count }
+        ensures below { result.count ≤ 2 ^ 61 }
     {
-        (self.number, self.count, self.signals)
+        Tally {
+            number: self.number,
+            count: self.count,
+            signals: self.signals,
+        }
     }
 
     // The pass alone, which the owner takes in.
@@ -136,15 +151,20 @@ impl Sender {
     }
 
     // A sender that the owner gives back.
-    pub(crate) fn again(pass: Pass, number: u32, count: u64, signals: u64) -> Self
-        requires view { IsOfSender pass.me.view.client number count signals }
+    pub(crate) fn again(pass: Pass, tally: Tally) -> Self
+        requires view { IsOfSender pass.me.view.client tally.number tally.count tally.signals }
         requires free { (pass.me.hand ≡ None) × (pass.me.spare ≡ None) }
         ensures { result ≡ record {
           port = record { web = pass.web; heap = pass.heap };
-          number = number;
+          number = tally.number;
           seen = pass.me.view.client.seen;
         } }
     {
+        let Tally {
+            number,
+            count,
+            signals,
+        } = tally;
         Sender {
             pass,
             number,
@@ -153,7 +173,7 @@ impl Sender {
         }
     }
 
-    fn push<R: Wait>(&mut self, rt: &R, port: &Port, at: u64, entry: Entry) -> Result<(), Entry>
+    fn push<R: Wait>(&mut self, rt: &R, port: &Port, at: Ticks, entry: Entry) -> Result<(), Entry>
         requires port { self.old.port ≡ port.now.queue }
         requires timely { IsDueBy at entry }
         ensures port { self.new.port ≡ self.old.port }
@@ -165,8 +185,8 @@ impl Sender {
         }
         let signals = u64::from(entry.is_signal());
         let placed = Placed {
-            number: u64::from(self.number),
-            count: self.count + 1,
+            number: self.number,
+            count: PutCount::new(self.count + 1),
             at,
             entry,
         };
