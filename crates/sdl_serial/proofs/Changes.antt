@@ -3,6 +3,7 @@ use Rattle.std.proofs.Common.{◌≡◌, ◌⊎◌, ◌↔◌, ◌&&◌, ◌==�
 use Rattle.std.proofs.Common.{map, length, Some, refl, ap, ◌∙◌, sym, subst, inl, inr, arith, slice_get, get_or}
 use Rattle.std.proofs.Common.{All, set, Result, Ok, Err, MatchResult, is_err, false, if◌then◌else◌}
 use Rattle.std.specs.List.{Contains, range_with_len}
+use Rattle.std.proofs.lemmas.Bool.{cases_eq}
 use Rattle.std.proofs.lemmas.List.{length-set}
 use Rattle.std.proofs.lemmas.List.Elements.{All-get_or, All-set}
 use Rattle.std.proofs.lemmas.List.Sums.{sum_by-set}
@@ -16,7 +17,6 @@ use Rattle.sdl_courses.specs.Global.{census_of, change_at, changed_at, count_liv
 use Rattle.sdl_courses.specs.Global.{least_living, lives_of, with_expiry, with_put}
 use Rattle.sdl_interp.specs.Instance.{InstanceValue}
 use Rattle.sdl_runs.specs.World.{Census}
-use Rattle.sdl_sweeps.proofs.Awakes.{same_or_other}
 use Rattle.sdl_serial.specs.Serial.{AreInPlace, AreMarked, IsOfSystem, IsSerial}
 use Rattle.sdl_serial.specs.declared.instances.Instances.{Instances}
 use Rattle.sdl_system.specs.System.{SystemValue}
@@ -167,7 +167,7 @@ marks-set awake after instances number place new is_number inside marked waked =
     record {
       there = subst (λ count. (n : ℕ) → Contains after n → (0 < n) × (n ≤ count)) (sym count)
           (there_after awake after number (length instances) marked.there (low, high) waked);
-      others = λ n i at. elim (same_or_other n number) [
+      others = λ n i at. elim (cases_eq n number) [
         | inl same ↦ inl ((waked n).1 (inl same))
         | inr apart ↦ elim (marked.others n i
             (other_place instances place n new i (λ e. apart (e ∙ sym is_number)) at)) [

@@ -1,2 +1,2 @@
-pub mod Awakes
+pub mod Marks
 pub mod Moments

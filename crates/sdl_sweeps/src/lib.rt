@@ -9,6 +9,7 @@
 
 mod agents;
 mod awake;
+mod bits;
 mod board;
 mod order;
 mod sweeps;
