@@ -24,3 +24,13 @@ fn shows_values_in_parentheses(rt: HostRuntime) {
     let shown = text(&rt, alloc, &copy);
     assert!(rt; shown.as_str() == "(-9223372036854775808,true,null,#7,20)");
 }
+
+#[test]
+fn pushes_behind_the_others(rt: HostRuntime) {
+    let alloc = rt.alloc();
+    let mut values = Values::none(alloc);
+    for number in 1..=3 {
+        values.push(Value::Int(number)).expect(&rt, "memory");
+    }
+    assert!(rt; text(&rt, alloc, &values).as_str() == "(1,2,3)");
+}
