@@ -1,7 +1,7 @@
 //! The port of one thread with much in it.
 
 use port_model::{
-    Class, Got, Item, Pid, PlainPort, Selection, SignalId, Taken, TimerKey, Value, Values,
+    Class, Got, Item, Pid, PlainPort, Selection, SignalId, Taken, Ticks, TimerKey, Value, Values,
 };
 use std::alloc::Global;
 
@@ -83,7 +83,7 @@ fn sets_and_resets(alloc: Global, port: &mut PlainPort, times: u64) -> Option<u6
     let timer = key(alloc, 0)?;
     let mut done: u64 = 0;
     for value in 0..times {
-        port.set(key(alloc, 0)?, value).ok()?;
+        port.set(key(alloc, 0)?, Ticks::new(value)).ok()?;
         port.reset(&timer);
         done = done.wrapping_add(1);
     }
@@ -102,7 +102,7 @@ pub fn timers(alloc: Global, times: u64) -> Option<u64> {
 /// Sets so many timers.
 fn set_each(alloc: Global, port: &mut PlainPort, times: u64) -> Option<()> {
     for value in 0..times {
-        port.set(key(alloc, value)?, value).ok()?;
+        port.set(key(alloc, value)?, Ticks::new(value)).ok()?;
     }
     Some(())
 }
@@ -114,9 +114,10 @@ fn expire_each(alloc: Global, port: &mut PlainPort, times: u64) -> Option<u64> {
         if port.active(&key(alloc, value)?) {
             active = active.wrapping_add(1);
         }
-        let arm = port.set(key(alloc, value)?, value).ok()?;
+        let at = Ticks::new(value);
+        let arm = port.set(key(alloc, value)?, at).ok()?;
         let due = port.next_due()?;
-        port.expire(key(alloc, value)?, arm, due, value).ok()?;
+        port.expire(key(alloc, value)?, arm, due, at).ok()?;
     }
     Some(active)
 }

@@ -3,8 +3,8 @@ ghost use Rattle.std.specs.Prelude.{◌≡◌, MatchOption};
 
 use crate::alone::{item, key, selection};
 use input_port::birth::port;
-use input_port::{Desk, Owner, Port, Sender};
-use port_model::{Class, Selection, Taken};
+use input_port::{Desk, NewPort, Owner, Port, Sender};
+use port_model::{Class, Selection, Taken, Ticks};
 use std::alloc::Global;
 use std::sync::Wait;
 use std::thread;
@@ -49,7 +49,11 @@ fn take_many<R: Wait>(
 /// Puts by one thread, and takes by the owner.
 pub fn puts<R: Wait>(rt: &R, alloc: Global, times: u64) -> Option<u64> {
     let classes = selection(alloc, &[Class::Input])?;
-    let (port, mut owner, mut desk) = port(alloc, 1).ok()?;
+    let NewPort {
+        port,
+        mut owner,
+        mut desk,
+    } = port(alloc, 1).ok()?;
     let sender = desk.sender(&port).ok()?;
     let sent = put_many(rt, alloc, &port, sender, times);
     Some(take_many(rt, &port, &mut owner, &classes, sent))
@@ -142,9 +146,11 @@ fn raced<R: Threads + Wait + Sync>(
 /// Puts by four threads, a quarter each, and takes by the owner in a fifth.
 pub fn puts_by_four<R: Threads + Wait + Sync>(rt: &R, alloc: Global, times: u64) -> Option<u64> {
     let classes = selection(alloc, &[Class::Input])?;
-    let Ok((port, owner, mut desk)) = port(alloc, 1) else {
-        return None;
-    };
+    let NewPort {
+        port,
+        owner,
+        mut desk,
+    } = port(alloc, 1).ok()?;
     let early = two_senders(&mut desk, &port)?;
     let late = two_senders(&mut desk, &port)?;
     Some(raced(rt, alloc, &port, owner, early, late, &classes, times / 4))
@@ -152,7 +158,11 @@ pub fn puts_by_four<R: Threads + Wait + Sync>(rt: &R, alloc: Global, times: u64)
 
 /// Sets so many timers and lets each expire, and gives how many entries are left at the end.
 pub fn finishes<R: Wait>(rt: &R, alloc: Global, times: u64) -> Option<u64> {
-    let (port, mut owner, mut desk) = port(alloc, 1).ok()?;
+    let NewPort {
+        port,
+        mut owner,
+        mut desk,
+    } = port(alloc, 1).ok()?;
     let sender = desk.sender(&port).ok()?;
     expire_each(rt, alloc, &port, &mut owner, sender, times)?;
     let end = owner.finish(rt, &port).ok()?;
@@ -173,7 +183,7 @@ fn expire_each<R: Wait>(
     ensures { owner.new.port ≡ owner.old.port }
 {
     for value in 0..times {
-        let fuse = owner.set(key(alloc, value)?, value).ok()?;
+        let fuse = owner.set(key(alloc, value)?, Ticks::new(value)).ok()?;
         let due = fuse.due();
         sender.expire(rt, port, fuse, due).ok()?;
     }

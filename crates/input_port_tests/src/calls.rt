@@ -4,9 +4,9 @@ ghost use Rattle.std.specs.Prelude.{◌≡◌};
 
 use inbox::{Entry, Fuse};
 use input_port::birth::port;
-use input_port::{Owner, Port, Sender};
+use input_port::{NewPort, Owner, Port, Sender};
 use port_model::{
-    Class, Got, Item, Pid, PortError, Selection, SignalId, Taken, TimerKey, Value, Values,
+    Class, Got, Item, Pid, PortError, Selection, SignalId, Taken, Ticks, TimerKey, Value, Values,
 };
 use std::alloc::Global;
 use std::process::Abort;
@@ -17,7 +17,11 @@ pub fn with_sender(rt: &impl Abort, alloc: Global, pid: u32) -> (Port, Owner, Se
     ensures owner { result.1.port ≡ result.0.queue }
     ensures sender { result.2.port ≡ result.0.queue }
 {
-    let (port, owner, mut desk) = port(alloc, pid).expect(rt, "memory");
+    let NewPort {
+        port,
+        owner,
+        mut desk,
+    } = port(alloc, pid).expect(rt, "memory");
     let sender = desk.sender(&port).expect(rt, "a sender");
     (port, owner, sender)
 }
@@ -75,7 +79,7 @@ pub fn are_left(list: &[Entry], wanted: &[(u32, i64)]) -> bool {
 pub fn fuse(list: &[Entry], index: usize) -> Option<(u32, u64, u64)> {
     match list.get(index)? {
         Entry::Signal(_) => None,
-        Entry::Timer(fuse) => Some((fuse.pid(), fuse.arm(), fuse.due())),
+        Entry::Timer(fuse) => Some((fuse.pid(), fuse.arm().get(), fuse.due().get())),
     }
 }
 
@@ -145,6 +149,7 @@ pub fn expire<R: Wait + Abort>(rt: &R, port: &Port, sender: &mut Sender, fuse: F
     requires { sender.old.port ≡ port.now.queue }
     ensures { sender.new.port ≡ sender.old.port }
 {
+    let at = Ticks::new(at);
     let expired = fuse.due() <= at && sender.expire(rt, port, fuse, at).is_ok();
     assert!(rt; expired);
 }

@@ -7,8 +7,8 @@ use crate::calls::{
     with_sender,
 };
 use input_port::birth::port;
-use input_port::{Held, Owner, Port, Sender};
-use port_model::Class;
+use input_port::{Held, NewPort, Owner, Port, Sender};
+use port_model::{Class, Ticks};
 use std::alloc::Global;
 use std::process::Abort;
 use std::sync::Wait;
@@ -33,7 +33,11 @@ fn drains(rt: HostRuntime) {
 #[test]
 fn stop_and_workers(rt: HostRuntime) {
     let alloc = rt.alloc();
-    let (port, owner, mut desk) = port(alloc, 1).expect(&rt, "memory");
+    let NewPort {
+        port,
+        owner,
+        mut desk,
+    } = port(alloc, 1).expect(&rt, "memory");
     let mut first = desk.sender(&port).expect(&rt, "a sender");
     let mut second = desk.sender(&port).expect(&rt, "a sender");
     put(&rt, alloc, &port, &mut first, &[(5, 1), (6, 2)]);
@@ -60,7 +64,7 @@ fn put_three<R: Wait + Abort>(
     ensures owner { owner.new.port ≡ owner.old.port }
     ensures sender { sender.new.port ≡ sender.old.port }
 {
-    let expiring = owner.set(key(alloc, 2), 5).expect(rt, "memory");
+    let expiring = owner.set(key(alloc, 2), Ticks::new(5)).expect(rt, "memory");
     put(rt, alloc, port, sender, &[(0, 1)]);
     expire(rt, port, sender, expiring, 6);
     put(rt, alloc, port, sender, &[(1, 2)]);
@@ -72,7 +76,9 @@ fn finish_gives_what_waits(rt: HostRuntime) {
     let alloc = rt.alloc();
     let saves = selection(&rt, alloc, &[Class::Saved, Class::Saved, Class::Saved]);
     let (port, mut owner, mut sender) = with_sender(&rt, alloc, 7);
-    let _running = owner.set(key(alloc, 3), 9).expect(&rt, "memory");
+    let _running = owner
+        .set(key(alloc, 3), Ticks::new(9))
+        .expect(&rt, "memory");
     put_three(&rt, alloc, &port, &mut owner, &mut sender);
     expect_nothing(&rt, &port, &mut owner, &saves);
     put(&rt, alloc, &port, &mut sender, &[(0, 3)]);

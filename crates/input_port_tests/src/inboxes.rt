@@ -5,18 +5,22 @@ ghost use Rattle.std.specs.Prelude.{◌≡◌, true};
 use crate::calls::{are_left, consumed, item, key, put, selection, with_sender};
 use inbox::{Alone, Fuse, Inbox};
 use input_port::Held;
-use port_model::Class;
+use port_model::{Class, Ticks};
 use std::alloc::Global;
 use std::process::Abort;
 
 /// What an inbox answers where a signal waits, two timers are set, and one of them is reset.
-fn uses_inbox<P: Inbox>(rt: &impl Abort, alloc: Global, inbox: &mut P) -> (bool, Option<u64>, bool)
+fn uses_inbox<P: Inbox>(
+    rt: &impl Abort,
+    alloc: Global,
+    inbox: &mut P,
+) -> (bool, Option<Ticks>, bool)
     requires { (P.owning inbox.old).state.alive ≡ true }
 {
     let inputs = selection(rt, alloc, &[Class::Input]);
     let (first, second) = (key(alloc, 1), key(alloc, 2));
-    inbox.set(key(alloc, 1), 5).expect(rt, "memory");
-    inbox.set(key(alloc, 2), 4).expect(rt, "memory");
+    inbox.set(key(alloc, 1), Ticks::new(5)).expect(rt, "memory");
+    inbox.set(key(alloc, 2), Ticks::new(4)).expect(rt, "memory");
     inbox.reset(&second);
     let (active, due) = (inbox.active(&first), inbox.next_due());
     let taken = consumed(inbox.take(&inputs)) == Some((0, 1));
@@ -29,7 +33,7 @@ fn uses_alone(rt: HostRuntime) {
     let alloc = rt.alloc();
     let mut alone = Alone::new(alloc, 7);
     assert!(rt; alone.put(item(&rt, alloc, 0, 1)).is_ok());
-    assert!(rt; uses_inbox(&rt, alloc, &mut alone) == (true, Some(5), true));
+    assert!(rt; uses_inbox(&rt, alloc, &mut alone) == (true, Some(Ticks::new(5)), true));
 }
 
 #[test]
@@ -38,7 +42,7 @@ fn uses_held(rt: HostRuntime) {
     let (port, owner, mut sender) = with_sender(&rt, alloc, 7);
     put(&rt, alloc, &port, &mut sender, &[(0, 1)]);
     let mut held = Held::new(rt, &port, owner);
-    assert!(rt; uses_inbox(&rt, alloc, &mut held) == (true, Some(5), true));
+    assert!(rt; uses_inbox(&rt, alloc, &mut held) == (true, Some(Ticks::new(5)), true));
     put(&rt, alloc, &port, &mut sender, &[(3, 1)]);
     let Ok(end) = held.finish() else {
         panic!(rt; "no memory to finish");
@@ -51,7 +55,8 @@ fn set(rt: &impl Abort, alloc: Global, port: &mut Alone, due: u64) -> Fuse
     requires { port.old.state.alive ≡ true }
     ensures { port.new.state.alive ≡ true }
 {
-    port.set(key(alloc, 2), due).expect(rt, "memory")
+    port.set(key(alloc, 2), Ticks::new(due))
+        .expect(rt, "memory")
 }
 
 /// Whether an expiry at this time sends the timer's signal, and whether the port then consumes it.
@@ -66,7 +71,7 @@ fn expires(
     ensures { port.new.state.alive ≡ true }
 {
     let inputs = selection(rt, alloc, &[Class::Discard, Class::Discard, Class::Input]);
-    let sent = port.expire(fuse, at).ok();
+    let sent = port.expire(fuse, Ticks::new(at)).ok();
     (sent, consumed(port.take(&inputs)) == Some((2, 0)))
 }
 

@@ -7,7 +7,7 @@ use crate::calls::{
     consumed, expect_empty, expect_takes, gather, item, put, selection, with_sender,
 };
 use input_port::birth::port;
-use input_port::{Owner, Port, Sender};
+use input_port::{NewPort, Owner, Port, Sender};
 use port_model::{Class, PortError, Selection};
 use std::alloc::Global;
 use std::process::Abort;
@@ -35,7 +35,7 @@ fn takes_ten<R: Wait>(rt: &R, port: &Port, owner: &mut Owner, selection: &Select
 
 /// The number of a sender, and how many signals it has sent.
 fn told(sender: &Sender) -> (u32, u64) {
-    (sender.number(), sender.sent())
+    (sender.number().get(), sender.sent())
 }
 
 /// Puts signals of one name with the values 1 to `times`.
@@ -87,7 +87,11 @@ fn put_by_two<R: Threads + Wait + Abort + Sync>(
 fn two_senders(rt: HostRuntime) {
     let alloc = rt.alloc();
     let inputs = selection(&rt, alloc, &[Class::Input, Class::Input]);
-    let (port, mut owner, mut desk) = port(alloc, 1).expect(&rt, "memory");
+    let NewPort {
+        port,
+        mut owner,
+        mut desk,
+    } = port(alloc, 1).expect(&rt, "memory");
     let first = desk.sender(&port).expect(&rt, "a sender");
     let second = desk.sender(&port).expect(&rt, "a sender");
     let (first, second) = put_by_two(&rt, alloc, &port, (first, second), (0, 1), 5);
@@ -129,10 +133,14 @@ fn meet(rt: HostRuntime) {
 
 #[test]
 fn refuses_the_1002nd_sender(rt: HostRuntime) {
-    let (port, owner, mut desk) = port(rt.alloc(), 1).expect(&rt, "memory");
+    let NewPort {
+        port,
+        owner,
+        mut desk,
+    } = port(rt.alloc(), 1).expect(&rt, "memory");
     drop(owner);
     for number in 1..1002 {
-        assert!(rt; desk.sender(&port).map(|s| s.number()) == Ok(number));
+        assert!(rt; desk.sender(&port).map(|s| s.number().get()) == Ok(number));
     }
     assert!(rt; desk.sender(&port).err() == Some(PortError::TooManySenders));
     assert!(rt; (desk.given(), port.pid()) == (1001, 1));
@@ -214,7 +222,11 @@ fn take_while_they_put<R: Threads + Wait + Abort + Sync>(
 #[test]
 fn four_senders_and_an_owner(rt: HostRuntime) {
     let alloc = rt.alloc();
-    let (port, owner, mut desk) = port(alloc, 1).expect(&rt, "memory");
+    let NewPort {
+        port,
+        owner,
+        mut desk,
+    } = port(alloc, 1).expect(&rt, "memory");
     let first = desk.sender(&port).expect(&rt, "a sender");
     let second = desk.sender(&port).expect(&rt, "a sender");
     let third = desk.sender(&port).expect(&rt, "a sender");

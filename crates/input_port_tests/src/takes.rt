@@ -7,7 +7,7 @@ use crate::calls::{
 };
 use inbox::Fuse;
 use input_port::Owner;
-use port_model::Class;
+use port_model::{Class, Ticks};
 use std::alloc::Global;
 use std::process::Abort;
 
@@ -37,9 +37,9 @@ fn priority_port(rt: HostRuntime) {
 fn set_twice(rt: &impl Abort, alloc: Global, owner: &mut Owner) -> (Fuse, Fuse)
     ensures { owner.new.port ≡ owner.old.port }
 {
-    let old = owner.set(key(alloc, 2), 5).expect(rt, "memory");
-    let new = owner.set(key(alloc, 2), 5).expect(rt, "memory");
-    assert!(rt; (old.pid(), old.arm(), new.arm(), new.due()) == (7, 1, 2, 5));
+    let old = owner.set(key(alloc, 2), Ticks::new(5)).expect(rt, "memory");
+    let new = owner.set(key(alloc, 2), Ticks::new(5)).expect(rt, "memory");
+    assert!(rt; (old.pid(), old.arm().get(), new.arm().get(), new.due().get()) == (7, 1, 2, 5));
     (old, new)
 }
 

@@ -1,7 +1,8 @@
 //! The port of one thread: puts, takes, timers, and what waits at the end.
 
 use port_model::{
-    Class, Got, Item, Pid, PlainPort, Selection, SignalId, Taken, TimerKey, Value, Values,
+    Arm, Class, Got, Item, Pid, PlainPort, PortParts, Selection, SignalId, Taken, Ticks, TimerKey,
+    Value, Values,
 };
 use std::alloc::Global;
 use std::process::Abort;
@@ -137,8 +138,9 @@ fn key(rt: &impl Abort, alloc: Global, number: i64) -> TimerKey {
 
 /// Sets a timer by a copy of its key.
 fn set(rt: &impl Abort, port: &mut PlainPort, key: &TimerKey, due: u64) -> u64 {
-    port.set(key.copied().expect(rt, "memory"), due)
+    port.set(key.copied().expect(rt, "memory"), Ticks::new(due))
         .expect(rt, "memory")
+        .get()
 }
 
 /// Expires a timer by a copy of its key.
@@ -150,6 +152,7 @@ fn expire(
     due: u64,
     at: u64,
 ) -> bool {
+    let (arm, due, at) = (Arm::new(arm), Ticks::new(due), Ticks::new(at));
     port.expire(key.copied().expect(rt, "memory"), arm, due, at)
         .expect(rt, "memory")
 }
@@ -160,7 +163,7 @@ fn a_timer_is_active_until_its_signal_is_taken(rt: HostRuntime) {
     let mut port = PlainPort::new(alloc);
     let timer = key(&rt, alloc, 1);
     let arm = set(&rt, &mut port, &timer, 10);
-    assert!(rt; arm == 1 && port.next_due() == Some(10));
+    assert!(rt; arm == 1 && port.next_due() == Some(Ticks::new(10)));
     for (at, expires) in [(9, false), (10, true), (11, false)] {
         assert!(rt; expire(&rt, &mut port, &timer, 1, 10, at) == expires);
         assert!(rt; port.active(&timer));
@@ -196,7 +199,7 @@ fn a_set_ends_the_one_before(rt: HostRuntime) {
         assert!(rt; expire(&rt, &mut port, &timer, 2, 20, 30) == (arm == 2));
     }
     expect_takes(&rt, alloc, &mut port, INPUTS, &[Told::Nothing]);
-    assert!(rt; port.next_due() == Some(20));
+    assert!(rt; port.next_due() == Some(Ticks::new(20)));
 }
 
 #[test]
@@ -206,10 +209,10 @@ fn keys_of_one_name_are_told_apart(rt: HostRuntime) {
     let (first, second) = (key(&rt, alloc, 1), key(&rt, alloc, 2));
     set(&rt, &mut port, &first, 10);
     set(&rt, &mut port, &second, 5);
-    assert!(rt; port.next_due() == Some(5));
+    assert!(rt; port.next_due() == Some(Ticks::new(5)));
     port.reset(&second);
     assert!(rt; port.active(&first) && !port.active(&second));
-    assert!(rt; port.next_due() == Some(10));
+    assert!(rt; port.next_due() == Some(Ticks::new(10)));
 }
 
 #[test]
@@ -218,8 +221,9 @@ fn room_once_made_holds_one_entry(rt: HostRuntime) {
     let mut port = PlainPort::new(alloc);
     let timer = key(&rt, alloc, 1);
     let arm = set(&rt, &mut port, &timer, 10);
+    let ten = Ticks::new(10);
     port.reserve().expect(&rt, "memory");
-    assert!(rt; port.expire_reserved(timer, arm, 10, 10));
+    assert!(rt; port.expire_reserved(timer, Arm::new(arm), ten, ten));
     port.reserve().expect(&rt, "memory");
     port.put_reserved(Item {
         name: SignalId(1),
@@ -246,13 +250,13 @@ fn what_waits_comes_out_in_order(rt: HostRuntime) {
     let timer = key(&rt, alloc, 7);
     let port = three(&rt, alloc, &timer);
     assert!(rt; port.waiting_len() == 3);
-    let (waiting, timers) = port.into_parts();
+    let PortParts { waiting, timers } = port.into_parts();
     assert!(rt; waiting.len() == 3);
     assert!(rt; name_and_value(&waiting[0]) == (1, Some(Value::Int(2))));
     assert!(rt; name_and_value(&waiting[2]) == (1, Some(Value::Int(3))));
     let armed = timers
         .get(&timer)
-        .map(|kept| (kept.arm, kept.due, kept.waits));
+        .map(|kept| (kept.arm.get(), kept.due.get(), kept.waits));
     assert!(rt; armed == Some((1, 10, true)));
     assert!(rt; waiting[1] == Got::Timer(timer));
 }

@@ -6,7 +6,7 @@ ghost use Rattle.sdl_around.specs.Around.{census_now};
 use crate::act::Act;
 use crate::census::Census;
 use inbox::Fuse;
-use port_model::{Item, SignalId, Values};
+use port_model::{Item, SignalId, Ticks, Values};
 use sdl_runs::World;
 use sdl_system::{Dest, ProcessId, Source, System, Target};
 use std::alloc::{AllocError, Global};
@@ -16,7 +16,7 @@ use std::alloc::{AllocError, Global};
 #[derive(Drop)]
 pub struct Around<'a> {
     pub system: &'a System,
-    pub clock: u64,
+    pub clock: Ticks,
     pub begun: &'a Census,
     pub changed: Option<Census>,
     pub acts: Vec<Act>,
@@ -24,7 +24,7 @@ pub struct Around<'a> {
 
 impl<'a> Around<'a> {
     /// Nothing is done so far.
-    pub fn new(alloc: Global, system: &'a System, clock: u64, census: &'a Census) -> Self
+    pub fn new(alloc: Global, system: &'a System, clock: Ticks, census: &'a Census) -> Self
         ensures system { result.system.now ≡ system.now }
         ensures clock { result.clock ≡ clock }
         ensures begun { result.begun.now ≡ census.now }
@@ -56,7 +56,7 @@ impl<'a> World for Around<'a> {
 
     ghost prepared = { λ w. nat_lt (vec_len w.acts) (vec_capacity w.acts) };
 
-    fn now(&mut self) -> u64 {
+    fn now(&mut self) -> Ticks {
         self.clock
     }
 

@@ -12,7 +12,7 @@ use crate::identity::Identity;
 use crate::sorts::sorts_of;
 use crate::store::Store;
 use inbox::Inbox;
-use port_model::{Pid, SignalId, TimerKey, Value, Values};
+use port_model::{Pid, SignalId, Ticks, TimerKey, Value, Values};
 use sdl_report::Failure;
 use sdl_system::{Chain, Expression, Link, PidExpression, Sort, System, in_sort, truth_of};
 use std::alloc::Global;
@@ -215,11 +215,11 @@ pub fn place(value: Value, sort: Option<Sort>) -> Result<Value, Failure>
     }
 }
 
-// A time in ticks as a value.
-fn time_value(ticks: u64) -> Result<Value, Failure>
-    ensures { result ≡ time_value ticks }
+// A time as a value.
+fn time_value(time: Ticks) -> Result<Value, Failure>
+    ensures { result ≡ time_value time }
 {
-    match i64::try_from(ticks) {
+    match i64::try_from(time.get()) {
         Ok(number) => Ok(Value::Time(number)),
         Err(_) => Err(Failure::Overflow),
     }

@@ -4,7 +4,7 @@ ghost use Rattle.std.specs.Prelude.{◌≡◌};
 ghost use Rattle.sdl_evaluation.specs.Environment.{initial_store};
 
 use crate::variables::Variables;
-use port_model::Pid;
+use port_model::{Pid, Ticks};
 
 /// What an instance knows besides who it is and what its port has.
 #[derive(Debug, Drop)]
@@ -14,8 +14,8 @@ pub struct Store {
     pub offspring: Pid,
     /// The sender of the latest consumed signal, or null.
     pub sender: Pid,
-    /// The time of the latest transition, in ticks.
-    pub time: u64,
+    /// The time of the latest transition.
+    pub time: Ticks,
     /// The statements of the running transition so far.
     pub done: u32,
 }
@@ -29,7 +29,7 @@ impl Store {
             variables,
             offspring: Pid::Null,
             sender: Pid::Null,
-            time: 0,
+            time: Ticks::new(0),
             done: 0,
         }
     }

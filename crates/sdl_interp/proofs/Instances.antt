@@ -4,7 +4,7 @@ use Rattle.inbox.specs.Calls.{ComesBack, after_entry}
 use Rattle.inbox.specs.Ends.{AloneState, OwnerState, single}
 use Rattle.inbox.specs.declared.entry.Entry.TheVariants.{Timer}
 use Rattle.inbox.specs.declared.entry.Fuse.{Fuse}
-use Rattle.inbox.specs.declared.refused.Refused.{Refused}
+use Rattle.port_model.specs.declared.refused.Refused.{Refused}
 use Rattle.port_model.specs.Port.{PortState, expire_in, put_into}
 use Rattle.port_model.specs.declared.item.Item.{Item}
 use Rattle.port_model.specs.declared.value.Value.{Value}

@@ -10,7 +10,7 @@ ghost use Rattle.sdl_interp.specs.Instance.{HasRunOf, IsAtRest, IsClosed, Keeps,
 
 use crate::stimulus::step_from;
 use inbox::{Alone, Fuse, Inbox, Refused};
-use port_model::{Item, Value, Values};
+use port_model::{Item, Ticks, Value, Values};
 use sdl_evaluation::{Identity, Store, Variables};
 use sdl_report::Record;
 use sdl_runs::World;
@@ -193,7 +193,7 @@ impl<'s> Instance<'s, Alone> {
 
     /// Expires a timer at a time, and says whether its signal was put: before its due time, after another set or a
     /// reset, and by the fuse of another port, nothing changes. For want of memory the fuse comes back.
-    pub fn expire(&mut self, fuse: Fuse, at: u64) -> Result<bool, Refused<Fuse>>
+    pub fn expire(&mut self, fuse: Fuse, at: Ticks) -> Result<bool, Refused<Fuse>>
         ensures expired { MatchResult result
             (λ expired. expired ≡ ((fuse.pid == self.old.owner.pid)
             && expires self.old.owner.state fuse.key fuse.arm fuse.due at))

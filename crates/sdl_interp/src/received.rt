@@ -13,7 +13,7 @@ ghost use Rattle.sdl_steps.specs.Machine.{identity_of};
 
 use crate::clock::read_clock;
 use inbox::Inbox;
-use port_model::{Got, Pid, PortError, Selection, SignalId, Taken, Value};
+use port_model::{Got, Pid, PortError, Selection, SignalId, Taken, Ticks, Value};
 use sdl_runs::World;
 use sdl_steps::Machine;
 use sdl_system::StateTable;
@@ -37,7 +37,7 @@ pub fn take<P: Inbox>(
 }
 
 /// What is known once a signal was consumed. The time of its transition is the answer.
-pub fn receive<W: World>(got: &Got, machine: &mut Machine, world: &mut W) -> u64
+pub fn receive<W: World>(got: &Got, machine: &mut Machine, world: &mut W) -> Ticks
     ensures store { machine.new.store ≡ receiving (identity_of machine.old.trace) result got.now machine.old.store }
     ensures trace { machine.new.trace ≡ machine.old.trace }
     ensures later { machine.old.store.time ≤ result }

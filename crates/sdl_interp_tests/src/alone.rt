@@ -4,7 +4,7 @@ use crate::case::{Play, identity};
 use crate::outside::{OWN, Outside};
 use crate::play::{Subject, finish, play};
 use inbox::{Alone, Fuse};
-use port_model::{Item, PortError};
+use port_model::{Item, PortError, Ticks};
 use sdl_interp::{Instance, Stepped};
 use sdl_report::Record;
 use std::alloc::{AllocError, Global};
@@ -18,7 +18,7 @@ impl Subject for Instance<'_, Alone> {
         self.put(item).map_err(|_| AllocError)
     }
 
-    fn hear_expiry(&mut self, fuse: Fuse, at: u64) -> Result<(), AllocError> {
+    fn hear_expiry(&mut self, fuse: Fuse, at: Ticks) -> Result<(), AllocError> {
         match self.expire(fuse, at) {
             Ok(_) => Ok(()),
             Err(_) => Err(AllocError),

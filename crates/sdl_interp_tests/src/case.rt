@@ -5,7 +5,7 @@ ghost use Rattle.std.specs.Prelude.{◌≡◌};
 use crate::alone::record_alone;
 use crate::outside::{OWN, Outside};
 use crate::shared::record_shared;
-use port_model::{Pid, Value, Values};
+use port_model::{Pid, Ticks, Value, Values};
 use sdl_build::build;
 use sdl_evaluation::Identity;
 use sdl_parse::parse;
@@ -102,7 +102,7 @@ pub fn play_of<'s>(alloc: Global, system: &'s System, case: Case<'_>) -> Result<
 fn text_of(alloc: Global, system: &System, trace: Record) -> Result<String, Fail> {
     let report = Report {
         records: vec![in alloc; trace]?,
-        end: 0,
+        end: Ticks::new(0),
         whole: true,
     };
     text_of_report(alloc, system, &report)

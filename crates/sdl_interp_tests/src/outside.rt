@@ -3,7 +3,7 @@
 ghost use Rattle.std.specs.Prelude.{None, Some, true};
 
 use inbox::Fuse;
-use port_model::{Item, SignalId, Values};
+use port_model::{Item, SignalId, Ticks, Values};
 use sdl_runs::World;
 use sdl_system::{Dest, ProcessId, Source, System, Target};
 use std::alloc::{AllocError, Global};
@@ -16,7 +16,7 @@ pub const OWN: u32 = 1;
 #[derive(Drop)]
 pub struct Outside<'s> {
     system: &'s System,
-    pub clock: u64,
+    pub clock: Ticks,
     pub fuses: Vec<Fuse>,
     pub own: Vec<Item>,
     pub done: String,
@@ -37,7 +37,7 @@ impl<'s> Outside<'s> {
         }
         Ok(Outside {
             system,
-            clock: 0,
+            clock: Ticks::new(0),
             fuses: Vec::new(alloc),
             own: Vec::new(alloc),
             done: String::new(alloc),
@@ -48,7 +48,7 @@ impl<'s> Outside<'s> {
     }
 
     /// When the next timer is due.
-    pub fn next_due(&self) -> Option<u64> {
+    pub fn next_due(&self) -> Option<Ticks> {
         self.fuses.iter().map(|fuse| fuse.due()).min()
     }
 
@@ -84,7 +84,7 @@ impl World for Outside<'_> {
 
     ghost prepared = { λ w. true };
 
-    fn now(&mut self) -> u64 {
+    fn now(&mut self) -> Ticks {
         self.clock
     }
 

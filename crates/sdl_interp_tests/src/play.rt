@@ -5,7 +5,7 @@ ghost use Rattle.std.specs.Prelude.{◌≤◌};
 
 use crate::outside::Outside;
 use inbox::{Fuse, Inbox};
-use port_model::Item;
+use port_model::{Item, Ticks};
 use sdl_interp::{Instance, Stepped};
 use sdl_report::Record;
 use sdl_script::Script;
@@ -23,7 +23,7 @@ pub trait Subject {
     fn hear(&mut self, item: Item) -> Result<(), AllocError>;
 
     /// Brings the expiry of a timer into the port.
-    fn hear_expiry(&mut self, fuse: Fuse, at: u64) -> Result<(), AllocError>
+    fn hear_expiry(&mut self, fuse: Fuse, at: Ticks) -> Result<(), AllocError>
         requires { fuse.due ≤ at };
 }
 
@@ -50,7 +50,7 @@ fn pass<S: Subject>(
     alloc: Global,
     subject: &mut S,
     outside: &mut Outside<'_>,
-    to: u64,
+    to: Ticks,
 ) -> Result<(), AllocError> {
     for _ in 0..MOST {
         settle(alloc, subject, outside)?;
@@ -87,7 +87,7 @@ fn expire<S: Subject>(subject: &mut S, outside: &mut Outside<'_>) -> Result<(), 
         let Some(fuse) = outside.take_due() else {
             break;
         };
-        let at = outside.clock.max(fuse.due());
+        let at = Ticks::later_of(outside.clock, fuse.due());
         subject.hear_expiry(fuse, at)?;
     }
     Ok(())

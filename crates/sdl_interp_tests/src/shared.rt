@@ -8,8 +8,8 @@ use crate::outside::{OWN, Outside};
 use crate::play::{Subject, finish, play};
 use inbox::Fuse;
 use input_port::birth::port;
-use input_port::{Held, Port, Sender};
-use port_model::{Item, PortError};
+use input_port::{Held, NewPort, Port, Sender};
+use port_model::{Item, PortError, Ticks};
 use sdl_interp::{Instance, Stepped};
 use sdl_report::Record;
 use std::alloc::{AllocError, Global};
@@ -36,7 +36,7 @@ impl<R: Wait + Copy> Subject for Sharing<'_, '_, R> {
             .map_err(|_| AllocError)
     }
 
-    fn hear_expiry(&mut self, fuse: Fuse, at: u64) -> Result<(), AllocError> {
+    fn hear_expiry(&mut self, fuse: Fuse, at: Ticks) -> Result<(), AllocError> {
         self.sender
             .expire(&self.rt, self.port, fuse, at)
             .map_err(|_| AllocError)
@@ -50,7 +50,11 @@ pub fn record_shared<R: Wait + Copy>(
     played: Play<'_>,
     outside: &mut Outside<'_>,
 ) -> Result<Record, PortError> {
-    let (port, owner, mut desk) = port(alloc, OWN)?;
+    let NewPort {
+        port,
+        owner,
+        mut desk,
+    } = port(alloc, OWN)?;
     let sender = desk.sender(&port)?;
     record_of(
         rt,

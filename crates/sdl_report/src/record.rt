@@ -8,7 +8,7 @@ ghost use Rattle.sdl_report.specs.Record.{noted, with_room};
 
 use crate::Failure;
 use crate::entry::{Entry, Stimulus, values_got};
-use port_model::{Got, Pid, SignalId, TimerKey, Value};
+use port_model::{Got, Pid, SignalId, Ticks, TimerKey, Value};
 use sdl_system::{Dest, ProcessId, StateId, Target, VariableId};
 use std::alloc::{AllocError, Global};
 use std::marker::Model;
@@ -46,12 +46,12 @@ impl Model for Record {
     ghost invariant = { λ r. IsKept r.entries.items r.values.items r.values_room (vec_capacity r.values) };
 }
 
-/// What a run did: the records by ascending number, the time at its end in ticks, and whether it is whole or was cut at
+/// What a run did: the records by ascending number, the time at its end, and whether it is whole or was cut at
 /// the limit of transitions.
 #[derive(Debug, Drop)]
 pub struct Report {
     pub records: Vec<Record>,
-    pub end: u64,
+    pub end: Ticks,
     pub whole: bool,
 }
 
@@ -126,60 +126,65 @@ impl Record {
     }
 
     /// Notes that the start transition begins.
-    pub fn start(&mut self, at: u64)
+    pub fn start(&mut self, at: Ticks)
         requires { 0 < self.old.room }
         ensures { self.new ≡ noted self.old (event.Start at) }
     {
-        self.note(Entry::Start { at });
+        self.note(Entry::Start { at: at.get() });
     }
 
     /// Notes that an input begins.
-    pub fn consumed(&mut self, at: u64, got: &Got)
+    pub fn consumed(&mut self, at: Ticks, got: &Got)
         requires room { 0 < self.old.room }
         requires values_room { length (values_got got.now) ≤ self.old.values_room }
         ensures { self.new ≡ noted self.old (event.Consumed at got.now) }
     {
         let values = values_got(got);
+        let at = at.get();
         let got = Stimulus::of(got, self.count(values));
         self.note_with(Entry::Consumed { at, got }, values);
     }
 
     /// Notes that a priority input begins.
-    pub fn prior(&mut self, at: u64, got: &Got)
+    pub fn prior(&mut self, at: Ticks, got: &Got)
         requires room { 0 < self.old.room }
         requires values_room { length (values_got got.now) ≤ self.old.values_room }
         ensures { self.new ≡ noted self.old (event.Prior at got.now) }
     {
         let values = values_got(got);
+        let at = at.get();
         let got = Stimulus::of(got, self.count(values));
         self.note_with(Entry::Prior { at, got }, values);
     }
 
     /// Notes that what the state neither inputs nor saves is gone.
-    pub fn discarded(&mut self, at: u64, got: &Got)
+    pub fn discarded(&mut self, at: Ticks, got: &Got)
         requires room { 0 < self.old.room }
         requires values_room { length (values_got got.now) ≤ self.old.values_room }
         ensures { self.new ≡ noted self.old (event.Discarded at got.now) }
     {
         let values = values_got(got);
+        let at = at.get();
         let got = Stimulus::of(got, self.count(values));
         self.note_with(Entry::Discarded { at, got }, values);
     }
 
     /// Notes that the transition of a continuous signal begins, by its number among those of the state, from 1 in the
     /// order of the text.
-    pub fn provided(&mut self, at: u64, number: u32)
+    pub fn provided(&mut self, at: Ticks, number: u32)
         requires { 0 < self.old.room }
         ensures { self.new ≡ noted self.old (event.Provided at number) }
     {
+        let at = at.get();
         self.note(Entry::Provided { at, number });
     }
 
     /// Notes that a condition or a take fails the instance.
-    pub fn failed_at(&mut self, at: u64, why: Failure)
+    pub fn failed_at(&mut self, at: Ticks, why: Failure)
         requires { 0 < self.old.room }
         ensures { self.new ≡ noted self.old (event.FailedAt at why) }
     {
+        let at = at.get();
         self.note(Entry::FailedAt { at, why });
     }
 
@@ -202,7 +207,7 @@ impl Record {
     }
 
     /// Notes that a timer is set for the time `due`.
-    pub fn set(&mut self, key: &TimerKey, due: u64)
+    pub fn set(&mut self, key: &TimerKey, due: Ticks)
         requires room { 0 < self.old.room }
         requires values_room { length key.now.values ≤ self.old.values_room }
         ensures { self.new ≡ noted self.old (event.Set key.now due) }
@@ -210,6 +215,7 @@ impl Record {
         let values = key.values.as_slice();
         let timer = key.name;
         let count = self.count(values);
+        let due = due.get();
         self.note_with(Entry::Set { timer, count, due }, values);
     }
 

@@ -102,7 +102,7 @@ fn push_end(text: &mut String, report: &Report) -> Result<(), AllocError>
     ensures { OnOk result (string_bytes text.new ≡ string_bytes text.old
         ++ line (end_text report.now)) }
 {
-    let end = report.end;
+    let end = report.end.get();
     if report.whole {
         writeln!(text, "end {end} whole")
     } else {

@@ -3,7 +3,7 @@
 ghost use Rattle.std.specs.Prelude.{◌≡◌, true, Bool, IfOk, OnOk, OnErr};
 
 use inbox::Fuse;
-use port_model::{Item, SignalId, Values};
+use port_model::{Item, SignalId, Ticks, Values};
 use sdl_system::{Dest, ProcessId, Target};
 use std::alloc::AllocError;
 
@@ -18,8 +18,8 @@ pub trait World {
     /// Whether there is room for one more fuse.
     ghost prepared: { Self → Bool };
 
-    /// The clock, in ticks.
-    fn now(&mut self) -> u64
+    /// The clock.
+    fn now(&mut self) -> Ticks
         ensures clock { IsClock (value self.old) result }
         ensures same { value self.new ≡ value self.old };
 

@@ -12,7 +12,7 @@ use crate::fault::Fault;
 use crate::line::split_line;
 use crate::meaning::signal_of;
 use crate::spelling::Spelling;
-use port_model::Item;
+use port_model::{Item, Ticks};
 use sdl_system::{Dest, System};
 use std::alloc::Global;
 use std::error::Error;
@@ -24,10 +24,10 @@ pub struct Script {
     pub lines: Vec<ScriptLine>,
 }
 
-/// A time in ticks, and the signal that the environment sends then, if there is one.
+/// A time, and the signal that the environment sends then, if there is one.
 #[derive(Debug, Drop)]
 pub struct ScriptLine {
-    pub at: u64,
+    pub at: Ticks,
     pub signal: Option<ScriptSignal>,
 }
 
@@ -77,11 +77,11 @@ impl fmt::Display for ScriptError {
 impl Error for ScriptError {}
 
 impl Script {
-    /// The time of the last line, in ticks, and 0 where there is none.
-    pub fn end(&self) -> u64
+    /// The time of the last line, and 0 where there is none.
+    pub fn end(&self) -> Ticks
         ensures { result ≡ end_of self.now.lines.items }
     {
-        self.lines.last().map_or(0, |line| line.at)
+        self.lines.last().map_or(Ticks::new(0), |line| line.at)
     }
 }
 
@@ -130,7 +130,7 @@ fn read_line(
     alloc: Global,
     system: &System,
     line: &[u8],
-    earliest: u64,
+    earliest: Ticks,
 ) -> Result<Option<ScriptLine>, Fault>
     ensures next { IfOk result (λ said. IfSome said (IsNext system.now earliest)) }
     ensures says { IfOk result (Says system.now line.now) }

@@ -8,6 +8,7 @@ ghost use Rattle.sdl_script.specs.Spelling.{IsNoSpelling, SpellsLine, SpellsSign
 use crate::cursor::Cursor;
 use crate::fault::Fault;
 use crate::value::SpelledValue;
+use port_model::Ticks;
 use sdl_tree::is_reserved;
 use std::alloc::Global;
 
@@ -17,7 +18,7 @@ pub const LATEST_TIME: u64 = 1_000_000_000_000_000;
 /// A line that is no comment and not blank: `TIME [NAME [ "(" value {"," value} ")" ] [ "to" ("#" NUMBER | NAME) ]]`.
 #[derive(Debug, Drop)]
 pub struct Spelling<'a> {
-    pub at: u64,
+    pub at: Ticks,
     pub signal: Option<SpelledSignal<'a>>,
 }
 
@@ -55,13 +56,13 @@ impl<'a> Spelling<'a> {
     }
 }
 
-fn read_time(cursor: &mut Cursor<'_>) -> Result<u64, Fault>
+fn read_time(cursor: &mut Cursor<'_>) -> Result<Ticks, Fault>
     ensures { MatchResult result
         (λ at. (reading.number cursor.old ≡ Some (at, cursor.new)) × (at ≤ latest_time))
         (λ fault. (fault ≡ Fault.Syntax) × reading.HasNoTime cursor.old) }
 {
     match cursor.number() {
-        Some(at) if at <= LATEST_TIME => Ok(at),
+        Some(at) if at <= LATEST_TIME => Ok(Ticks::new(at)),
         _ => Err(Fault::Syntax),
     }
 }

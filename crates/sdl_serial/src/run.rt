@@ -7,6 +7,7 @@ ghost use Rattle.sdl_system.specs.Behaviour.{Behaviour};
 
 use crate::error::RunError;
 use crate::instances::Instances;
+use port_model::Ticks;
 use sdl_report::Report;
 use sdl_script::Script;
 use sdl_sweeps::{Agents, Board, Sweeps};
@@ -30,11 +31,19 @@ pub fn run_serial(
     let mut sweeps = Sweeps::new(board, script.lines.as_slice(), instances.given(), limit);
     let last = script.end();
     let whole = sweeps.run(alloc, &mut instances, last)?;
-    let end = if whole { last } else { sweeps.board.clock };
+    let clock = clock_of(&sweeps);
+    let end = if whole { last } else { clock };
     let records = instances.close(alloc, whole)?;
     Ok(Report {
         records,
         end,
         whole,
     })
+}
+
+// The time at which a run stands.
+fn clock_of(sweeps: &Sweeps<'_>) -> Ticks
+    ensures { result ≡ sweeps.now.board.clock }
+{
+    sweeps.board.clock
 }

@@ -12,7 +12,7 @@ ghost use Rattle.sdl_system.specs.Table.{setting, timing, when_due};
 
 use crate::machine::{Machine, make_room};
 use inbox::Inbox;
-use port_model::PortError;
+use port_model::{PortError, Ticks};
 use sdl_evaluation::{Identity, Store, evaluate_at, evaluate_key};
 use sdl_report::Failure;
 use sdl_runs::World;
@@ -104,7 +104,7 @@ fn set<P: Inbox, W: World>(
     Ok(())
 }
 
-// When a timer is due, in ticks.
+// When a timer is due.
 fn due_by<P: Inbox>(
     alloc: Global,
     due: &Due,
@@ -112,7 +112,7 @@ fn due_by<P: Inbox>(
     who: &Identity,
     store: &Store,
     inbox: &P,
-) -> Result<u64, Failure>
+) -> Result<Ticks, Failure>
     requires { (P.owning inbox.now).state.alive ≡ true }
     ensures ok { let here = environment system.now who.now store.now (P.owning inbox.now).state in
         IfOk result (λ ticks. due_by here (when_due due.now) ≡ Ok ticks) }
@@ -130,17 +130,17 @@ fn due_by<P: Inbox>(
 }
 
 // A time from the start on; a negative one counts as 0.
-fn ticks(number: i64) -> u64
+fn ticks(number: i64) -> Ticks
     ensures { result ≡ ticks number }
 {
-    u64::try_from(number).unwrap_or(0)
+    Ticks::new(u64::try_from(number).unwrap_or(0))
 }
 
 // A time so many ticks later, or earlier.
-fn later(now: u64, duration: i64) -> Result<i64, Failure>
+fn later(now: Ticks, duration: i64) -> Result<i64, Failure>
     ensures { result ≡ later now duration }
 {
-    let Ok(now) = i64::try_from(now) else {
+    let Ok(now) = i64::try_from(now.get()) else {
         return Err(Failure::Overflow);
     };
     now.checked_add(duration).ok_or(Failure::Overflow)

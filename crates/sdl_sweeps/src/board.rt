@@ -3,6 +3,7 @@
 ghost use Rattle.std.specs.Prelude.{◌≡◌, []};
 
 use crate::awake::Awake;
+use port_model::Ticks;
 use sdl_timers::Wheel;
 use std::alloc::Global;
 
@@ -10,8 +11,7 @@ use std::alloc::Global;
 /// that wait.
 #[derive(Drop)]
 pub struct Board {
-    /// In ticks.
-    pub clock: u64,
+    pub clock: Ticks,
     pub awake: Awake,
     /// The fuses that wait for their time.
     pub fuses: Wheel,
@@ -25,7 +25,7 @@ impl Board {
         ensures fuses { result.fuses ≡ [] }
     {
         Board {
-            clock: 0,
+            clock: Ticks::new(0),
             awake: Awake::new(alloc),
             fuses: Wheel::new(alloc),
         }

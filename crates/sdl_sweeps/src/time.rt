@@ -5,6 +5,7 @@ ghost use Rattle.sdl_sweeps.specs.Sweeps.{IsNextTime, IsNoFuseBefore, IsNoLineBe
 
 use crate::agents::Agents;
 use crate::sweeps::Sweeps;
+use port_model::Ticks;
 use std::alloc::Global;
 
 impl<'s> Sweeps<'s> {
@@ -14,7 +15,7 @@ impl<'s> Sweeps<'s> {
         &mut self,
         alloc: Global,
         agents: &mut A,
-        last: u64,
+        last: Ticks,
     ) -> Result<bool, A::Error>
         requires fits { A.Fits self.old.board.awake agents.old }
         requires due { IsNothingDue (moment_of self.old) }
@@ -35,25 +36,26 @@ impl<'s> Sweeps<'s> {
 
     // The sooner of the least time of a fuse and the next line's. None where the script is at its end and no fuse is due
     // by the time `last` of its last line.
-    fn next_time(&self, last: u64) -> Option<u64>
+    fn next_time(&self, last: Ticks) -> Option<Ticks>
         ensures next { IfSome result (λ time. IsNextTime last (moment_of self.now) time) }
         ensures none { IfNone result ((self.now.script.now ≡ []) × IsNoFuseBefore (last + 1) self.now.board.fuses) }
     {
         let due = self.board.fuses.next_due();
         let Some(line) = self.script.first() else {
             return match due {
-                Some(due) if due <= last => Some(due),
-                _ => None,
+                None => None,
+                Some(due) if last < due => None,
+                Some(due) => Some(due),
             };
         };
         match due {
-            Some(due) => Some(due.min(line.at)),
+            Some(due) => Some(Ticks::earlier_of(due, line.at)),
             None => Some(line.at),
         }
     }
 
     // Moves the clock to the next time, and does what is due then. A new sweep begins behind it.
-    fn advance<A: Agents>(&mut self, agents: &mut A, time: u64) -> Result<(), A::Error>
+    fn advance<A: Agents>(&mut self, agents: &mut A, time: Ticks) -> Result<(), A::Error>
         requires fits { A.Fits self.old.board.awake agents.old }
         requires due { IsNothingDue (moment_of self.old) }
         requires rest { A.AllRest agents.old }

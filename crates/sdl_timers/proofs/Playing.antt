@@ -1,4 +1,4 @@
-use Rattle.std.proofs.Common.{◌≡◌, ◌≢◌, ◌⊎◌, ℕ, zero, suc, ◌+◌, ◌-◌, ◌*◌, ◌/◌, ◌%◌, ◌<◌, ◌≤◌, List, Option, None, length, replicate, drop, set, refl, sym, ap, ◌∙◌, subst, inl, inr, ⊎_elim, length-set, get_or-set_other, get_or-set_same, arith}
+use Rattle.std.proofs.Common.{◌≡◌, ◌≢◌, ◌⊎◌, ℕ, zero, suc, ◌+◌, ◌-◌, ◌*◌, ◌/◌, ◌%◌, ◌<◌, ◌≤◌, List, [], ◌∷◌, get_or, Option, None, length, replicate, drop, set, refl, sym, ap, ◌∙◌, subst, inl, inr, ⊎_elim, length-set, get_or-set_other, get_or-set_same, arith}
 use Rattle.std.proofs.lemmas.List.{drop-set-add, drop-set-lt, get_or-drop, get_or-replicate, length-replicate}
 use Rattle.std.proofs.lemmas.Bool.{cases_lt}
 use Rattle.std.proofs.Math.Decide.{ℕ_discrete}
@@ -50,6 +50,12 @@ a_leaf nodes played (suc more) node m h b =
     ⊎_elim (λ (e : earlier (at (2 * node)) (at (2 * node + 1)) ≡ at (2 * node)). subst (IsLeaf nodes) (sym (won ∙ e)) (a_leaf nodes played more (2 * node) (omega arith) (omega arith) (omega arith)))
     (λ (e : earlier (at (2 * node)) (at (2 * node + 1)) ≡ at (2 * node + 1)). subst (IsLeaf nodes) (sym (won ∙ e)) (a_leaf nodes played more (2 * node + 1) (omega arith) (omega arith) (omega arith)))
     (earlier_one (at (2 * node)) (at (2 * node + 1)))) (λ (leaf : 256 ≤ node). (node, leaf, b, refl)) (cases_lt node 256)
+
+-- a node is what is read there, whatever a read past the end would give
+pub node_read : (nodes : List (Option Due)) (node : ℕ) (read : Option Due) → node < length nodes → get_or nodes node read ≡ node_at nodes node
+node_read [] node read b = absurd (omega (arith, b))
+node_read (x ∷ xs) zero read b = refl
+node_read (x ∷ xs) (suc n) read b = node_read xs n read (omega (arith, b))
 
 -- so the root has the least of the entrants
 pub root_least : (nodes : List (Option Due)) → IsPlayed nodes → IsLeastOf (drop 256 nodes) (node_at nodes 1)

@@ -4,13 +4,14 @@ ghost use Rattle.std.specs.Prelude.{◌≡◌, ◌%◌};
 ghost use Rattle.sdl_timers.specs.DueOrder.{due_of, earlier};
 
 use inbox::Fuse;
+use port_model::{Arm, Ticks};
 
 /// Where a fuse stands in due order: by its time, then by the number of its port, then by that of its set.
 #[derive(Clone, Copy, Debug, PartialEq, Eq, PartialOrd, Ord)]
 pub struct Due {
-    pub time: u64,
+    pub time: Ticks,
     pub pid: u32,
-    pub arm: u64,
+    pub arm: Arm,
 }
 
 impl Due {
@@ -28,7 +29,7 @@ impl Due {
     pub fn slot(self) -> u8
         ensures { result ≡ self.time % 256 }
     {
-        (self.time % 256) as u8
+        (self.time.get() % 256) as u8
     }
 }
 

@@ -15,5 +15,5 @@ mod tournament;
 mod wheel;
 
 pub use reader::Reader;
-pub use ticker::{Ticker, clock};
+pub use ticker::{NewClock, Ticker, clock};
 pub use wheel::Wheel;

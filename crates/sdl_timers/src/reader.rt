@@ -4,11 +4,12 @@ ghost use Rattle.std.specs.Prelude.{◌≡◌, ◌≤◌, false, IfOk};
 ghost use Rattle.std.specs.Arc.{arc_value};
 
 use crate::rule::{Load, NewReader, Place, Word};
+use port_model::Ticks;
 use std::alloc::{AllocError, Global};
 use std::marker::Model;
 use std::sync::Arc;
 
-/// What reads a clock, in any thread. Its value is the latest time that it has seen, in ticks.
+/// What reads a clock, in any thread. Its value is the latest time that it has seen.
 #[derive(Drop)]
 pub struct Reader {
     word: Arc<Word, Global>,
@@ -39,12 +40,12 @@ impl Reader {
     }
 
     /// The clock's time, which is never before one that this reader has seen. Takes no memory.
-    pub fn now(&mut self) -> u64
+    pub fn now(&mut self) -> Ticks
         ensures seen { result ≡ self.new }
         ensures later { self.old ≤ self.new }
     {
         // Before: the word is at least what this reader has seen. After: the reader has seen the word as it was.
-        self.word.shared.load::<Load>(&mut self.seat, 0)
+        Ticks::new(self.word.shared.load::<Load>(&mut self.seat, 0))
     }
 
     /// One more reader, which has seen what this one has. Refused for want of memory; this one is as it was.

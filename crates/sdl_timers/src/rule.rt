@@ -1,5 +1,6 @@
 //! The rule of a clock, and what each atomic step on its word tells.
 use atomic_table::{Play, Seat, Split, Table, TableRule};
+use port_model::Ticks;
 use std::alloc::Global;
 
 /// What a seat at the clock's word knows. No value of it is made.
@@ -7,7 +8,7 @@ pub struct Hand {
     /// It is the ticker's, which alone moves the clock.
     pub ticks: bool,
     /// The greatest time that it has seen; the ticker's is the time.
-    pub seen: u64,
+    pub seen: Ticks,
 }
 
 /// One word, which never goes down.

@@ -5,7 +5,8 @@ ghost use Rattle.sdl_timers.specs.DueOrder.{first_of, with_fuse, IsInOrder};
 
 use crate::due::Due;
 use inbox::Fuse;
-use std::alloc::{AllocError, Global};
+use port_model::{PortError, Refused};
+use std::alloc::Global;
 use std::collections::VecDeque;
 use std::marker::Model;
 
@@ -49,16 +50,20 @@ impl Slot {
     }
 
     /// Puts a fuse behind all that it isn't due before. For want of memory it comes back.
-    pub fn arm(&mut self, fuse: Fuse) -> Result<(), (AllocError, Fuse)>
+    pub fn arm(&mut self, fuse: Fuse) -> Result<(), Refused<Fuse>>
         requires { IsInOrder self.old }
         ensures ok { OnOk result (self.new ≡ with_fuse fuse self.old) }
         ensures err { OnErr result (self.new ≡ self.old) }
-        ensures handed_back { IfErr result (λ refused. refused.1 ≡ fuse) }
+        ensures handed_back { IfErr result (λ refused. refused.value ≡ fuse) }
+        ensures memory { IfErr result (λ refused. refused.error ≡ PortError.Memory) }
     {
         let due = Due::of(&fuse);
         let place = self.fuses.partition_point(|other| Due::of(other) <= due);
         if let Err(refused) = self.fuses.insert(place, fuse) {
-            return Err((AllocError, refused.value));
+            return Err(Refused {
+                error: PortError::Memory,
+                value: refused.value,
+            });
         }
         Ok(())
     }

@@ -4,11 +4,12 @@ ghost use Rattle.std.specs.Prelude.{◌≡◌, max, IfOk};
 
 use crate::Reader;
 use crate::rule::{NewReader, Place, Raise, Word};
+use port_model::Ticks;
 use std::alloc::{AllocError, Global};
 use std::marker::Model;
 use std::sync::Arc;
 
-/// What moves a clock on. A clock has one, and its value is the clock's time, in ticks.
+/// What moves a clock on. A clock has one, and its value is the clock's time.
 #[derive(Drop)]
 pub struct Ticker {
     word: Arc<Word, Global>,
@@ -27,25 +28,35 @@ impl Model for Ticker {
     ghost invariant = { λ t. IsSeated (arc_value t.word).shared.table_id t.seat × (t.seat.me.0.ticks ≡ true) };
 }
 
-/// A clock at time 0: its ticker, and a reader. Refused for want of memory.
-pub fn clock(alloc: Global) -> Result<(Ticker, Reader), AllocError>
-    ensures { IfOk result (λ made. (made.0 ≡ 0) × (made.1 ≡ 0)) }
+/// A clock, as it is made: what moves it on, and its first reader.
+#[derive(Drop)]
+pub struct NewClock {
+    pub ticker: Ticker,
+    pub reader: Reader,
+}
+
+/// A clock at time 0. Refused for want of memory.
+pub fn clock(alloc: Global) -> Result<NewClock, AllocError>
+    ensures ticker { IfOk result (λ made. made.ticker ≡ 0) }
+    ensures reader { IfOk result (λ made. made.reader ≡ 0) }
 {
     let (table, seat) = Word::of_words(alloc, &[0], &())?;
     let word = Arc::new(alloc, table)?;
     let mut ticker = Ticker { word, seat };
     let reader = ticker.reader()?;
-    Ok((ticker, reader))
+    Ok(NewClock { ticker, reader })
 }
 
 impl Ticker {
     /// Moves the clock on to the time `to`. A time that is past already changes nothing. Takes no memory.
-    pub fn advance(&mut self, to: u64)
+    pub fn advance(&mut self, to: Ticks)
         ensures { self.new ≡ max self.old to }
     {
         // Before: the word is what the ticker has seen. After: it is the greater of that and `to`, and the ticker has
         // seen it.
-        self.word.shared.fetch_max::<Raise>(&mut self.seat, 0, to);
+        self.word
+            .shared
+            .fetch_max::<Raise>(&mut self.seat, 0, to.get());
     }
 
     /// A reader that has seen the clock's time. Refused for want of memory; the clock is as it was.

@@ -8,7 +8,8 @@ use crate::due::Due;
 use crate::slot::Slot;
 use crate::tournament::Tournament;
 use inbox::Fuse;
-use std::alloc::{AllocError, Global};
+use port_model::{PortError, Refused, Ticks};
+use std::alloc::Global;
 use std::array;
 use std::marker::Model;
 
@@ -44,10 +45,11 @@ impl Wheel {
 
     /// Arms a fuse: it waits behind all that it isn't due before. For want of memory the fuse comes back, and nothing
     /// changes.
-    pub fn arm(&mut self, fuse: Fuse) -> Result<(), (AllocError, Fuse)>
+    pub fn arm(&mut self, fuse: Fuse) -> Result<(), Refused<Fuse>>
         ensures ok { OnOk result (self.new ≡ with_fuse fuse self.old) }
         ensures err { OnErr result (self.new ≡ self.old) }
-        ensures handed_back { IfErr result (λ refused. refused.1 ≡ fuse) }
+        ensures handed_back { IfErr result (λ refused. refused.value ≡ fuse) }
+        ensures memory { IfErr result (λ refused. refused.error ≡ PortError.Memory) }
     {
         let slot = Due::of(&fuse).slot();
         let waiting = &mut self.slots[usize::from(slot)];
@@ -57,8 +59,8 @@ impl Wheel {
         Ok(())
     }
 
-    /// The least time at which a fuse is due, in ticks. Takes no memory.
-    pub fn next_due(&self) -> Option<u64>
+    /// The least time at which a fuse is due. Takes no memory.
+    pub fn next_due(&self) -> Option<Ticks>
         ensures { IsLeast (map (λ fuse. fuse.due) self.now) result }
     {
         match self.tournament.least() {
@@ -68,7 +70,7 @@ impl Wheel {
     }
 
     /// Takes out the first fuse in due order, where its time is `to` or before. Takes no memory.
-    pub fn fire(&mut self, to: u64) -> Option<Fuse>
+    pub fn fire(&mut self, to: Ticks) -> Option<Fuse>
         ensures fires { Fires self.old to result self.new }
         ensures first { IfSome result (λ fuse. All (λ other. is_before other fuse ≡ false) self.old) }
     {

@@ -1,4 +1,5 @@
-use Rattle.std.proofs.Common.{subst, arith}
+use Rattle.std.proofs.Common.{subst, rules}
+use Rattle.std.proofs.lemmas.Bool.Decides.{nat_tests}
 use Rattle.std.proofs.lemmas.Result.{err_from_is_err_and}
 use Rattle.sdl_script.specs.Spelled.{plain, plain_signal}
 use Rattle.sdl_script.specs.Spelling.{SpellsLine}
@@ -12,4 +13,4 @@ returns-in_err-signal_of-in-Some-clause-fault c =
     rw (p.1, p.2)
     (signal_fault c.args.system.now c.args.earliest spelling.at c.args.line.now (plain c.in-Some.spelled) c.in_err-signal_of-in-Some.field-0.0
     (subst (λ o. SpellsLine spelling.at (plain_signal o) c.args.line.now) c.in-Some.is c.in_ok-at.ensures.ok)
-    (omega arith) c.in_err-signal_of-in-Some.ensures.fault)
+    (search (rules, nat_tests)) c.in_err-signal_of-in-Some.ensures.fault)

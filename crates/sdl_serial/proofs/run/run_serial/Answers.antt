@@ -35,5 +35,5 @@ returns-clause-serial c = λ ps behaviours.
     (λ whole. subst (λ k. IsWhole k n b) c.end-last.ensures (done.whole whole)) done.cut c.in_ok-records.ensures
     (elim c.if-whole.branch [
       | then-whole w ↦ inl (w.if-whole.true, w.end-is ∙ c.end-last.ensures)
-      | else-whole w ↦ inr (w.if-whole.false, w.end-is)
+      | else-whole w ↦ inr (w.if-whole.false, w.end-is ∙ c.clock_of-clock.ensures)
     ])

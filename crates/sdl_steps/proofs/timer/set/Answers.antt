@@ -38,7 +38,7 @@ returns-clause-ok g c = λ more d is origin rest.
     (value_noted old mid _ _ c.make_room.ensures.same c.set-2.new.self mid.store old.store (event.Set key due) o after
     (c.set-2.ensures
     ∙ ap (λ (x : TimerKey). noted mid.trace (event.Set x due))
-    (c.key.ensures ∙ ap (λ (x : Fuse). x.key) c.in-Ok.ensures.set.fuse_is))
+    (c.key-2.ensures ∙ ap (λ (x : Fuse). x.key) c.in-Ok.ensures.set.fuse_is))
     (store_kept old mid _ _ c.make_room.ensures.same)
     ∙ ap (λ (x : OwnerState). with_event (record (value_of old o) { owner = x }) (event.Set key due))
     c.in-Ok.ensures.set.owner)

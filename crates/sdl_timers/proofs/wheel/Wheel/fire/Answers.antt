@@ -1,4 +1,4 @@
-use Rattle.std.proofs.Common.{◌≡◌, ◌<◌, ◌∙◌, [], Option, set, refl, subst, sym}
+use Rattle.std.proofs.Common.{◌≡◌, ◌<◌, ◌∙◌, [], Option, set, refl, rules, subst, sym}
 use Rattle.std.specs.List.{All}
 use Rattle.std.proofs.lemmas.List.Elements.{All-nil}
 use Rattle.inbox.specs.declared.entry.Fuse.{Fuse}
@@ -12,8 +12,8 @@ returns-in_err-due-clause-fires c =
     subst (λ (o : Option Fuse). Fires c.args.self.now c.args.to o c.args.self.now) (sym c.from_residual.ensures)
     (subst (All (λ fuse. c.args.to < fuse.due)) (sym none) (All-nil (λ fuse. c.args.to < fuse.due)), refl)
 
-pub returns-then-to-due-clause-fires : goal.returns-then-to-due-clause-fires
-returns-then-to-due-clause-fires c = (subst (All (λ fuse. c.args.to < fuse.due)) c.self.view_is (not_due _ _ _ c.args.to c.self.invariant c.in_ok-due.ensures c.if-to-due.true), refl)
+pub returns-then-lt-clause-fires : goal.returns-then-lt-clause-fires
+returns-then-lt-clause-fires c = (subst (All (λ fuse. c.args.to < fuse.due)) c.self.view_is (not_due _ _ _ c.args.to c.self.invariant c.in_ok-due.ensures (search rules)), refl)
 
 fired : (c : goal.After-set) → HasFired c.self.inside.slots (set c.self.inside.slots c.from.result c.take_first-fuse.new.self) c.set.new.self c.in_ok-due.due c.take_first-fuse.result
 fired c = fires_in c.self.inside.slots c.self.inside.tournament c.set.new.self c.in_ok-due.due c.slot-slot.result c.from.result c.index-self-from.result c.take_first-fuse.new.self c.first-first.result c.take_first-fuse.result c.self.invariant
@@ -23,7 +23,7 @@ pub invariant_of-self : goal.invariant_of-self
 invariant_of-self c = (fired c).wheel
 
 pub returns-clause-fires : goal.returns-clause-fires
-returns-clause-fires c = rw (← c.self.view_is) ((fired c).fires c.args.to c.if-to-due.false)
+returns-clause-fires c = rw (← c.self.view_is) ((fired c).fires c.args.to (search rules))
 
 pub returns-clause-first : goal.returns-clause-first
 returns-clause-first c = rw (← c.self.view_is) (fired c).first
