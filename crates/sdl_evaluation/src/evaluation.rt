@@ -6,7 +6,8 @@ ghost use Rattle.sdl_system.specs.System.{SystemValue};
 ghost use Rattle.sdl_system.specs.Term.{operand_of, term_of, term_of_chain};
 ghost use Rattle.sdl_evaluation.specs.Environment.{environment};
 ghost use Rattle.sdl_evaluation.specs.Memory.{FailsAs, list_wants_memory, wants_memory};
-ghost use Rattle.sdl_evaluation.specs.Value.{at_place, key_at, operated, pid_in, placed, time_value, truth_at, value_of, values_at};
+ghost use Rattle.sdl_evaluation.specs.Variables.{value_in};
+ghost use Rattle.sdl_evaluation.specs.Value.{accessed, at_place, key_at, operated, pid_in, placed, time_value, truth_at, value_of, values_at};
 
 use crate::identity::Identity;
 use crate::sorts::sorts_of;
@@ -14,7 +15,9 @@ use crate::store::Store;
 use inbox::Inbox;
 use port_model::{Pid, SignalId, Ticks, TimerKey, Value, Values};
 use sdl_report::Failure;
-use sdl_system::{Chain, Expression, Link, PidExpression, Sort, System, in_sort, truth_of};
+use sdl_system::{
+    Chain, Expression, Link, PidExpression, Sort, System, VariableId, in_sort, truth_of,
+};
 use std::alloc::Global;
 
 /// What an expression comes to for an instance of the system. Errors: `Overflow` for a number or a time past 64 bits,
@@ -22,6 +25,7 @@ use std::alloc::Global;
 /// whose parameter is a Natural; of several failures the first from the left. `Memory` only where the expression asks
 /// for a timer with values.
 #[cycle(evaluation)]
+#[inline(always)]
 pub fn evaluate<P: Inbox>(
     alloc: Global,
     expression: &Expression,
@@ -39,9 +43,33 @@ pub fn evaluate<P: Inbox>(
 {
     match expression {
         Expression::Value(value) => Ok(*value),
-        Expression::Variable(variable) => {
-            store.variables.get(*variable).ok_or(Failure::Undefined)
-        }
+        Expression::Variable(variable) => read(store, *variable),
+        _ => evaluate_any(alloc, expression, system, who, store, inbox),
+    }
+}
+
+// The same, in a frame that only some expressions need. Literals and variables, as most operands are, come to their
+// values without it.
+#[cycle(evaluation)]
+#[inline(never)]
+fn evaluate_any<P: Inbox>(
+    alloc: Global,
+    expression: &Expression,
+    system: &System,
+    who: &Identity,
+    store: &Store,
+    inbox: &P,
+) -> Result<Value, Failure>
+    requires { (P.owning inbox.now).state.alive ≡ true }
+    ensures ok { let here = environment system.now who.now store.now (P.owning inbox.now).state in
+        IfOk result (λ value. value_of here (term_of expression.now) ≡ Ok value) }
+    ensures err { let here = environment system.now who.now store.now (P.owning inbox.now).state in
+        let term = term_of expression.now in
+        IfErr result (λ why. FailsAs (wants_memory term) (value_of here term) why) }
+{
+    match expression {
+        Expression::Value(value) => Ok(*value),
+        Expression::Variable(variable) => read(store, *variable),
         Expression::Now => time_value(store.time),
         Expression::Pid(word) => Ok(Value::Pid(pid_of(*word, who, store))),
         Expression::Active { timer, values } => {
@@ -236,4 +264,12 @@ fn pid_of(word: PidExpression, who: &Identity, store: &Store) -> Pid
         PidExpression::Offspring => store.offspring,
         PidExpression::Sender => store.sender,
     }
+}
+
+// The value of a variable; one that was never assigned has none.
+#[inline(always)]
+fn read(store: &Store, variable: VariableId) -> Result<Value, Failure>
+    ensures { result ≡ accessed (value_in store.now.variables variable) }
+{
+    store.variables.get(variable).ok_or(Failure::Undefined)
 }

@@ -6,16 +6,16 @@ use Rattle.sdl_evaluation.proofs.ChainLemmas.{chain_fails_at, chain_fails_first,
 use Rattle.sdl_evaluation.proofs.ListLemmas.{active_fails, active_value}
 use Rattle.sdl_evaluation.proofs.evaluation.+evaluation.Goals as goal
 
-pub evaluate-returns-in_err-key-in-Active-clause-err : goal.evaluate-returns-in_err-key-in-Active-clause-err
-evaluate-returns-in_err-key-in-Active-clause-err g t c =
+pub evaluate_any-returns-in_err-key-in-Active-clause-err : goal.evaluate_any-returns-in_err-key-in-Active-clause-err
+evaluate_any-returns-in_err-key-in-Active-clause-err g t c =
     let port = (g.P.Inbox.owning c.args.inbox.now).state in
     let here = environment c.args.system.now c.args.who.now c.args.store.now port in
     let p = err_from_is_err_and c.from_residual.result c.from_residual.ensures.1 in
     rw (p.1, p.2) (active_fails here c.args.expression.now c.in-Active.timer c.in-Active.values
     c.deref.result.now _ c.in-Active.is c.deref.ensures.value c.in_err-key-in-Active.ensures.err)
 
-pub evaluate-returns-in_ok-key-in-Active-clause-ok : goal.evaluate-returns-in_ok-key-in-Active-clause-ok
-evaluate-returns-in_ok-key-in-Active-clause-ok g t c =
+pub evaluate_any-returns-in_ok-key-in-Active-clause-ok : goal.evaluate_any-returns-in_ok-key-in-Active-clause-ok
+evaluate_any-returns-in_ok-key-in-Active-clause-ok g t c =
     let port = (g.P.Inbox.owning c.args.inbox.now).state in
     let here = environment c.args.system.now c.args.who.now c.args.store.now port in
     active_value here c.args.expression.now c.in-Active.timer c.in-Active.values c.deref.result.now
