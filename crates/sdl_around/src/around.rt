@@ -4,6 +4,7 @@ ghost use Rattle.std.specs.Prelude.{◌≡◌, []};
 ghost use Rattle.sdl_around.specs.Around.{census_now};
 
 use crate::act::Act;
+use crate::acts::Acts;
 use crate::census::Census;
 use inbox::Fuse;
 use port_model::{Item, SignalId, Ticks, Values};
@@ -19,7 +20,7 @@ pub struct Around<'a> {
     pub clock: Ticks,
     pub begun: &'a Census,
     pub changed: Option<Census>,
-    pub acts: Vec<Act>,
+    pub acts: Acts,
 }
 
 impl<'a> Around<'a> {
@@ -36,7 +37,7 @@ impl<'a> Around<'a> {
             clock,
             begun: census,
             changed: None,
-            acts: Vec::new(alloc),
+            acts: Acts::new(alloc),
         }
     }
 
@@ -49,12 +50,11 @@ impl<'a> Around<'a> {
 }
 
 impl<'a> World for Around<'a> {
-    ghost use Rattle.std.specs.Prelude.{nat_lt, vec_capacity, vec_len};
     ghost use Rattle.sdl_around.specs.Around.{world_of};
 
     ghost value = { world_of };
 
-    ghost prepared = { λ w. nat_lt (vec_len w.acts) (vec_capacity w.acts) };
+    ghost prepared = { λ w. w.acts.has_room };
 
     fn now(&mut self) -> Ticks {
         self.clock
@@ -66,12 +66,11 @@ impl<'a> World for Around<'a> {
     }
 
     fn send(&mut self, target: Target, item: Item) -> Result<(), AllocError> {
-        self.acts.push(Act::Send { target, item })?;
-        Ok(())
+        self.acts.push(Act::Send { target, item })
     }
 
     fn prepare(&mut self) -> Result<(), AllocError> {
-        self.acts.reserve(1)
+        self.acts.prepare()
     }
 
     fn arm(&mut self, fuse: Fuse) {

@@ -5,9 +5,11 @@
 #![tactic(auto)]
 
 mod act;
+mod acts;
 mod around;
 mod census;
 
 pub use act::Act;
+pub use acts::Acts;
 pub use around::Around;
 pub use census::Census;

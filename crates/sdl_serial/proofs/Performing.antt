@@ -24,3 +24,10 @@ AreNumbered-more given (Create process number parent values ∷ rest) last all =
     ((all.0, later.0), later.1)
 AreNumbered-more given (Send target item ∷ rest) last all = AreNumbered-more given rest last all
 AreNumbered-more given (Arm fuse ∷ rest) last all = AreNumbered-more given rest last all
+
+-- the first act, and those behind it
+pub AreNumbered-first : (given : ℕ) (first : Act) (rest : List Act) → AreNumbered given (first ∷ rest)
+    → AreNumbered given (first ∷ []) × AreNumbered (given_after_one given first) rest
+AreNumbered-first given (Create process number parent values) rest all = ((all.0, tt), all.1)
+AreNumbered-first given (Send target item) rest all = (tt, all)
+AreNumbered-first given (Arm fuse) rest all = (tt, all)

@@ -13,7 +13,7 @@ use crate::error::RunError;
 use crate::instances::Instances;
 use inbox::{Alone, Fuse};
 use port_model::{Item, Pid, Values};
-use sdl_around::Act;
+use sdl_around::{Act, Acts};
 use sdl_evaluation::Identity;
 use sdl_interp::Instance;
 use sdl_script::ScriptLine;
@@ -23,7 +23,32 @@ use std::alloc::Global;
 
 impl<'s> Instances<'s> {
     /// Does what a step does outside, in its order.
+    #[inline(always)]
     pub fn perform_all(
+        &mut self,
+        alloc: Global,
+        board: &mut Board,
+        acts: Acts,
+    ) -> Result<(), RunError>
+        requires { IsSerial board.old.awake self.old }
+        ensures kept { OnOk result (IsSerial board.new.awake self.new) }
+        ensures system { self.new.system ≡ self.old.system }
+        ensures clock { board.new.clock ≡ board.old.clock }
+        ensures state { (m : Moment) → OnOk result (AreNumbered self.old.census.given (map act_of acts.items)
+            → state_of (at_board m board.new) self.new
+            ≡ after_acts (state_of (at_board m board.old) self.old) (map act_of acts.items)) }
+        ensures fuses { (until : ℕ) → until ≤ board.old.clock + 1 → IsNoFuseBefore until board.old.fuses
+            → OnOk result (IsNoFuseBefore until board.new.fuses) }
+    {
+        let Some((first, rest)) = acts.split_first() else {
+            return Ok(());
+        };
+        self.perform(alloc, board, first)?;
+        self.perform_rest(alloc, board, rest)
+    }
+
+    // Does what comes behind the first act.
+    fn perform_rest(
         &mut self,
         alloc: Global,
         board: &mut Board,
@@ -46,6 +71,7 @@ impl<'s> Instances<'s> {
     }
 
     // An act. An instance is made only of a process of the system.
+    #[inline(always)]
     fn perform(&mut self, alloc: Global, board: &mut Board, act: Act) -> Result<(), RunError>
         requires { IsSerial board.old.awake self.old }
         ensures kept { OnOk result (IsSerial board.new.awake self.new) }

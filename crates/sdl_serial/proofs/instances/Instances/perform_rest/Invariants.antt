@@ -5,7 +5,7 @@ use Rattle.sdl_courses.specs.Global.{after_acts}
 use Rattle.sdl_courses.specs.Told.{given_after}
 use Rattle.sdl_serial.specs.Serial.{IsSerial, state_of}
 use Rattle.sdl_sweeps.specs.Sweeps.{Moment, at_board}
-use Rattle.sdl_serial.proofs.instances.Instances.perform_all.Given as goal
+use Rattle.sdl_serial.proofs.instances.Instances.perform_rest.Given as goal
 
 abbrev pub invariant-loop-act : goal.invariant-loop-act
 invariant-loop-act l = record {
