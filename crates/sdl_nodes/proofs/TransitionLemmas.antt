@@ -2,7 +2,7 @@
 use Rattle.std.proofs.Common.{◌≡◌, ◌∙◌, ◌⊎◌, inl, inr, ◌++◌, List, Option, None, Some, append-nil, option_and_then, option_map, refl, ap, sym, subst}
 use Rattle.sdl_nodes.specs.Built.{Built, BuiltIf, Table, end_of, mark_if, marks_for, place_of, placed}
 use Rattle.sdl_nodes.specs.Contexts.{Context, label_in}
-use Rattle.sdl_nodes.specs.Decided.{Acts, Asks, BuiltOtherIf, BuiltParts, BuiltPieceIf, BuiltPiecesIf, HeadIf, IsDecision, IsDecisionIf}
+use Rattle.sdl_nodes.specs.Decided.{Acts, Asks, BuiltOtherIf, BuiltParts, BuiltPieceIf, BuiltPiecesIf, HeadIf, IsDecision, IsDecisionOrNone}
 use Rattle.sdl_nodes.specs.Transitions.{Head, Piece, acts, asks, before, labelled, parts_of}
 use Rattle.sdl_nodes.specs.declared.table.Mark.{Mark}
 use Rattle.sdl_nodes.proofs.BuiltLemmas.{Built-action, Built-decision, Built-ending, Built-label, with_node}
@@ -138,7 +138,7 @@ decided first new q bs ps way other statement to built is =
 pub decision-built : (first old new : Table) (question : Option Term) (branches : Option (List Branch))
     (pieces : Option (List Piece)) (way : Option Way) (other : Option (Option Body)) (statement : Option Statement)
     (to : Option NodeId) → BuiltPiecesIf first old branches pieces to → BuiltOtherIf old new way other to →
-    IsDecisionIf question branches way statement →
+    IsDecisionOrNone question branches way statement →
     HeadIf first new statement (both asks question (both parts_of pieces other)) to
 decision-built first old new None branches pieces way other statement to built last is = tt
 decision-built first old new (Some q) branches None way other statement to built last is = tt

@@ -95,7 +95,7 @@ BuiltOtherIf old new way (Some other) to = BuiltOther old new way other to
 
 -- ---- a statement before its node is added
 
--- the decision on a question with these branches, where all are there
+-- the decision on a question with these branches
 pub record IsDecision (question : Term) (branches : List Branch) (otherwise : Option Way)
     (statement : Option Statement) : Type 0 where
   pub asked : Decision
@@ -104,10 +104,11 @@ pub record IsDecision (question : Term) (branches : List Branch) (otherwise : Op
   pub branched : asked.branches.items ≡ branches
   pub other : asked.otherwise ≡ otherwise
 
-abbrev pub IsDecisionIf : Option Term → Option (List Branch) → Option Way → Option Statement → Type 0
-IsDecisionIf None branches otherwise statement = Unit {0}
-IsDecisionIf (Some question) None otherwise statement = Unit {0}
-IsDecisionIf (Some question) (Some branches) otherwise statement = IsDecision question branches otherwise statement
+-- the same where they may be missing: nothing then
+abbrev pub IsDecisionOrNone : Option Term → Option (List Branch) → Option Way → Option Statement → Type 0
+IsDecisionOrNone None branches otherwise statement = statement ≡ None
+IsDecisionOrNone (Some question) None otherwise statement = statement ≡ None
+IsDecisionOrNone (Some question) (Some branches) otherwise statement = IsDecision question branches otherwise statement
 
 -- the answers with where they lead
 abbrev pub branch_of : Way → Vec answers.Answer Global → Branch

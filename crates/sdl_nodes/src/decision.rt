@@ -2,7 +2,7 @@
 
 ghost use Rattle.std.specs.Prelude.{◌≡◌, flat_map, map, option_map, IfOk, OnOk};
 ghost use Rattle.sdl_nodes.specs.Contexts.{context_of};
-ghost use Rattle.sdl_nodes.specs.Decided.{IsDecisionIf, branch_of};
+ghost use Rattle.sdl_nodes.specs.Decided.{IsDecisionOrNone, branch_of};
 ghost use Rattle.sdl_nodes.specs.Faulty.{answers_faults};
 ghost use Rattle.sdl_nodes.specs.Statements.{answers_in, kind_in};
 ghost use Rattle.sdl_scope.specs.Faults.{least_of, told};
@@ -66,13 +66,13 @@ pub fn branch(answers: Option<Vec<sdl_system::Answer>>, way: Way) -> Option<Bran
     }
 }
 
-/// The decision, where its question and all its branches are there.
+/// The decision, where its question and all its branches are there; else nothing.
 pub fn decision(
     question: Option<Expression>,
     branches: Option<Vec<Branch>>,
     otherwise: Option<Way>,
 ) -> Option<Statement>
-    ensures { IsDecisionIf (option_map term_of question) (option_map (λ list. list.items) branches) otherwise result }
+    ensures { IsDecisionOrNone (option_map term_of question) (option_map (λ list. list.items) branches) otherwise result }
 {
     match (question, branches) {
         (Some(question), Some(branches)) => Some(Statement::Decision(Decision {

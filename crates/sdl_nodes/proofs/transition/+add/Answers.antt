@@ -4,7 +4,7 @@ use Rattle.std.proofs.lemmas.List.{drop_more, map-append}
 use Rattle.std.proofs.lemmas.Result.{IfOk-weaker, on_ok_weaker}
 use Rattle.sdl_nodes.specs.Built.{BuiltIf, table_of}
 use Rattle.sdl_nodes.specs.Contexts.{context_of}
-use Rattle.sdl_nodes.specs.Decided.{BuiltPiecesIf, HeadIf, IsDecisionIf}
+use Rattle.sdl_nodes.specs.Decided.{BuiltPiecesIf, HeadIf, IsDecisionOrNone}
 use Rattle.sdl_nodes.specs.Faulty.{asked_faults}
 use Rattle.sdl_nodes.specs.Later.{with_later}
 use Rattle.sdl_nodes.specs.Statements.{asked_in, kind_in}
@@ -172,7 +172,7 @@ add_head-returns-in_ok-other-in-Decision-clause-head t c =
     ∙ ap (λ l. all_some (map (piece_in context (kind_in typed)) (map answer_part_value l)))
     c.deref-in-Decision.ensures.value) c.in_ok-branches-in-Decision.ensures.built)
     c.in_ok-other-in-Decision.ensures.built
-    (subst (λ (x : Option Term). IsDecisionIf x branches way c.decision.result)
+    (subst (λ (x : Option Term). IsDecisionOrNone x branches way c.decision.result)
     (c.question_of.ensures ∙ ap term_in c.in_ok-asked-in-Decision.ensures.typed) c.decision.ensures)))
 
 pub add_head-returns-in_ok-other-in-Decision-clause-noted : goal.add_head-returns-in_ok-other-in-Decision-clause-noted
