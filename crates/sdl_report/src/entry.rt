@@ -12,7 +12,7 @@ use crate::Failure;
 use port_model::{Got, Pid, SignalId, Value};
 use sdl_system::{Dest, ProcessId, StateId, Target, VariableId};
 
-/// An event without its values. `count` is how many values it has.
+/// An event without its values. `count` is how many values it has; `at` and `due` are in ticks.
 #[derive(Clone, Copy, Debug)]
 pub enum Entry {
     Start {
