@@ -14,10 +14,10 @@ returns-clause-state c = λ m.
     let given = c.args.self.now.census.given in
     let later = map act_of c.in-Some.rest.items in
     on_ok_weaker c.perform_rest.result (λ others numbered.
-      let split = AreNumbered-first given (act_of c.in-Some.first) later (subst (AreNumbered given) acts numbered) in
-      others (subst (λ n. AreNumbered n later) (sym did.given) split.1)
-      ∙ ap (λ g. after_acts g later) (did.state m split.0)
-      ∙ sym (ap (after_acts (state_of (at_board m c.args.board.now) c.args.self.now)) acts))
+    let split = AreNumbered-first given (act_of c.in-Some.first) later (subst (AreNumbered given) acts numbered) in
+    others (subst (λ n. AreNumbered n later) (sym did.given) split.1)
+    ∙ ap (λ g. after_acts g later) (did.state m split.0)
+    ∙ sym (ap (after_acts (state_of (at_board m c.args.board.now) c.args.self.now)) acts))
     (c.perform_rest.ensures.state m)
 
 pub returns-clause-fuses : goal.returns-clause-fuses
