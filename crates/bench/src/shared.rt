@@ -146,11 +146,14 @@ fn raced<R: Threads + Wait + Sync>(
 /// Puts by four threads, a quarter each, and takes by the owner in a fifth.
 pub fn puts_by_four<R: Threads + Wait + Sync>(rt: &R, alloc: Global, times: u64) -> Option<u64> {
     let classes = selection(alloc, &[Class::Input])?;
+    let Ok(made) = port(alloc, 1) else {
+        return None;
+    };
     let NewPort {
         port,
         owner,
         mut desk,
-    } = port(alloc, 1).ok()?;
+    } = made;
     let early = two_senders(&mut desk, &port)?;
     let late = two_senders(&mut desk, &port)?;
     Some(raced(rt, alloc, &port, owner, early, late, &classes, times / 4))
