@@ -8,7 +8,7 @@ use inbox::{Fuse, Inbox};
 use port_model::{Item, Ticks};
 use sdl_interp::{Instance, Stepped};
 use sdl_report::Record;
-use sdl_script::Script;
+use sdl_script::{Script, ScriptLine};
 use std::alloc::{AllocError, Global};
 
 /// So many steps are made at one time, and so many timers expire, at most.
@@ -35,10 +35,11 @@ pub fn play<S: Subject>(
     script: Script,
 ) -> Result<(), AllocError> {
     for line in script.lines {
-        if outside.clock < line.at {
-            pass(alloc, subject, outside, line.at)?;
+        let ScriptLine { at, signal } = line;
+        if outside.clock < at {
+            pass(alloc, subject, outside, at)?;
         }
-        if let Some(signal) = line.signal {
+        if let Some(signal) = signal {
             subject.hear(signal.item)?;
         }
     }
