@@ -5,7 +5,8 @@ ghost use Rattle.inbox.specs.Ends.{is_signal_entry};
 
 use port_model::{Arm, Item, Ticks, TimerKey};
 
-/// A timer that was set: which port set it, its key, by which set of that port, and the time at which it expires. `Owner::set` makes it.
+/// A timer that was set: which port set it, its key, by which set of that port, and the time at which it expires.
+/// `Owner::set` makes it.
 #[derive(Debug, PartialEq, Eq, Drop)]
 pub struct Fuse {
     pid: u32,
