@@ -24,8 +24,5 @@ abbrev pub duration_faults : Scope → Option Expr → List Told
 duration_faults scope None = []
 duration_faults scope (Some expression) = constant_faults scope (Some sort.Duration) expression
 
-abbrev pub timer_duration : Scope → TimerDefinition → Option ℤ
-timer_duration scope timer = duration_in scope timer.duration
-
 abbrev pub timer_faults : Scope → TimerDefinition → List Told
 timer_faults scope timer = duration_faults scope timer.duration

@@ -1,21 +1,16 @@
 -- What the variables of a process begin with (Z.102: variable definition).
-use Rattle.std.specs.Prelude.{List, [], Option, None, Some, map, option_map}
-use Rattle.sdl_constants.specs.declared.variables.SortedGroup as the_group
+use Rattle.std.specs.Prelude.{List, [], Option, None, Some, option_map}
 use Rattle.sdl_scope.specs.Faults.{Told}
 use Rattle.sdl_sorts.specs.Constants.{constant_faults, constant_in}
 use Rattle.sdl_sorts.specs.Scope.{Scope}
 use Rattle.sdl_sorts.specs.declared.scope.Constant.{Constant}
 use Rattle.sdl_system.specs.declared.sort.Sort.{Sort}
 use Rattle.sdl_tree.specs.Tree.{Expr, VariableGroup}
-use Rattle.sdl_tree.specs.Views.{variables_value}
 
 -- variables of one sort; None where the name of the sort is no sort's
 pub record SortedGroup : Type 0 where
   pub sort : Option Sort
   pub group : VariableGroup
-
-abbrev pub sorted_value : the_group.SortedGroup → SortedGroup
-sorted_value sorted = record { sort = sorted.sort; group = variables_value sorted.group.now }
 
 -- what an initial value comes to at a place of this sort: None where none stands
 abbrev pub initial_in : Scope → Option Sort → Option Expr → Option Constant
@@ -25,9 +20,6 @@ abbrev pub initial_faults : Scope → Option Sort → Option Expr → List Told
 initial_faults scope sort None = []
 initial_faults scope sort (Some expression) = constant_faults scope sort expression
 
--- each variable of the group begins with the value that stands behind them all
-abbrev pub group_values : Scope → SortedGroup → List (Option Constant)
-group_values scope sorted = map (λ name. initial_in scope sorted.sort sorted.group.initial) sorted.group.names
-
+-- the faults of the value that stands behind the variables of a group
 abbrev pub group_faults : Scope → SortedGroup → List Told
 group_faults scope sorted = initial_faults scope sorted.sort sorted.group.initial

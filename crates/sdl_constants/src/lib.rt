@@ -13,5 +13,5 @@ mod timers;
 mod variables;
 
 pub use counts::{InstanceCounts, instance_counts};
-pub use timers::{default_duration, default_durations};
-pub use variables::{SortedGroup, initial_value, initial_values};
+pub use timers::default_duration;
+pub use variables::initial_value;

@@ -1,49 +1,16 @@
 //! The default durations of timers.
 
-ghost use Rattle.std.specs.Prelude.{◌≡◌, flat_map, map, option_map, IfOk, OnOk};
-ghost use Rattle.sdl_constants.specs.Timers.{duration_faults, duration_in, ticks_of, timer_duration, timer_faults};
+ghost use Rattle.std.specs.Prelude.{◌≡◌, option_map, IfOk, OnOk};
+ghost use Rattle.sdl_constants.specs.Timers.{duration_faults, duration_in, ticks_of};
 ghost use Rattle.sdl_scope.specs.Faults.{least_of, told};
 ghost use Rattle.sdl_sorts.specs.Scope.{scope_of};
-ghost use Rattle.sdl_tree.specs.Views.{expr_value, timer_value};
+ghost use Rattle.sdl_tree.specs.Views.{expr_value};
 
 use sdl_scope::Faults;
 use sdl_sorts::{Constant, Scope, constant};
 use sdl_system::{Sort, number_of};
-use sdl_tree::{Expression, TimerDefinition};
+use sdl_tree::Expression;
 use std::alloc::{AllocError, Global};
-
-/// The default durations of these timers, in ticks, in their order; see `default_duration`.
-pub fn default_durations<'t>(
-    alloc: Global,
-    scope: &Scope<'_, '_, 't>,
-    timers: &'t [TimerDefinition],
-    faults: &mut Faults<'t>,
-) -> Result<Vec<Option<i64>>, AllocError>
-    ensures durations { IfOk result (λ durations. durations.items
-        ≡ map (timer_duration (scope_of scope.now)) (map timer_value timers.now)) }
-    ensures noted { OnOk result (told faults.new ≡ least_of (told faults.old)
-        (flat_map (timer_faults (scope_of scope.now)) (map timer_value timers.now))) }
-{
-    let mut durations = Vec::new(alloc);
-    for timer in timers {
-        let duration = timer_duration(alloc, scope, timer, faults)?;
-        durations.push(duration)?;
-    }
-    Ok(durations)
-}
-
-fn timer_duration<'t>(
-    alloc: Global,
-    scope: &Scope<'_, '_, 't>,
-    timer: &'t TimerDefinition,
-    faults: &mut Faults<'t>,
-) -> Result<Option<i64>, AllocError>
-    ensures duration { IfOk result (λ ticks. ticks ≡ timer_duration (scope_of scope.now) (timer_value timer.now)) }
-    ensures noted { OnOk result (told faults.new ≡ least_of (told faults.old)
-        (timer_faults (scope_of scope.now) (timer_value timer.now))) }
-{
-    default_duration(alloc, scope, timer.duration.as_ref(), faults)
-}
 
 /// For how many ticks a timer is set where no time is told. It may be negative: such a timer is due at once. None where
 /// no default duration stands, and where a rule is broken in it.

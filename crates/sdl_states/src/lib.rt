@@ -21,6 +21,6 @@ pub use answers::Answers;
 pub use left_out::note_left_out;
 pub use named::Named;
 pub use order::{NumberedSignal, tried};
-pub use process::{NamedStates, ProcessStates, read_process};
+pub use process::NamedStates;
 pub use shared::{StateTables, read_states};
 pub use table::Table;
