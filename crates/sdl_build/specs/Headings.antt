@@ -53,10 +53,15 @@ variables_in process (row ∷ rows) (initial ∷ initials) =
 
 -- ---- counts
 
--- how many instances there are at the start, as a number of 32 bits; nothing is said where a rule is broken in the counts
+-- the number where it has 32 bits, else 0
+abbrev pub IsNarrowed : ℤ → ℕ → Type 0
+IsNarrowed number narrowed =
+    (FitsUnsignedBits 32 number → narrowed ≡ unsigned_abs number) × ((FitsUnsignedBits 32 number → ⊥) → narrowed ≡ 0)
+
+-- how many instances there are at the start, as a number of 32 bits; 0 where a rule is broken in the counts
 abbrev pub IsInitial : Option InstanceCounts → ℕ → Type 0
-IsInitial None initial = Unit {0}
-IsInitial (Some counts) initial = FitsUnsignedBits 32 counts.initial → initial ≡ unsigned_abs counts.initial
+IsInitial None initial = initial ≡ 0
+IsInitial (Some counts) initial = IsNarrowed counts.initial initial
 
 -- a bound past 32 bits bounds nothing
 abbrev pub IsBound : Option ℤ → Option ℕ → Type 0
@@ -64,7 +69,7 @@ IsBound None maximum = maximum ≡ None
 IsBound (Some bound) maximum = SomeIff maximum (FitsUnsignedBits 32 bound) (unsigned_abs bound)
 
 abbrev pub IsMaximum : Option InstanceCounts → Option ℕ → Type 0
-IsMaximum None maximum = Unit {0}
+IsMaximum None maximum = maximum ≡ None
 IsMaximum (Some counts) maximum = IsBound counts.maximum maximum
 
 -- ---- valid input sets

@@ -13,7 +13,7 @@ fn narrowed(number: i64) -> Option<u32>
     u32::try_from(number).ok()
 }
 
-/// How many instances there are at the start; 0 where a rule is broken in the counts.
+/// How many instances there are at the start; 0 where a rule is broken in the counts, or where they pass 32 bits.
 pub fn initial_of(counts: Option<InstanceCounts>) -> u32
     ensures { IsInitial counts result }
 {
@@ -23,7 +23,8 @@ pub fn initial_of(counts: Option<InstanceCounts>) -> u32
     }
 }
 
-/// How many instances there may be at most. A bound past 32 bits is none.
+/// How many instances there may be at most. A bound past 32 bits is none, and so is one where a rule is broken in the
+/// counts.
 pub fn maximum_of(counts: Option<InstanceCounts>) -> Option<u32>
     ensures { IsMaximum counts result }
 {

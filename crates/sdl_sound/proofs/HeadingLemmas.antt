@@ -236,7 +236,7 @@ counts-fit : (found : Option InstanceCounts) (initial : ℕ) (maximum : Option �
     IsInitial found initial → IsMaximum found maximum → IfSome maximum (λ m. (1 ≤ m) × (initial ≤ m))
 counts-fit None initial maximum good is most = absurd good
 counts-fit (Some counts) initial maximum good is most =
-    bound-fits counts.initial counts.maximum initial maximum good is most
+    bound-fits counts.initial counts.maximum initial maximum good is.0 most
 
 -- ---- a process of a system
 
