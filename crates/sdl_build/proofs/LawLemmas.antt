@@ -7,9 +7,9 @@ use Rattle.port_model.specs.declared.item.SignalId.{SignalId}
 use Rattle.sdl_build.specs.Built.{IsSystem, IsTold}
 use Rattle.sdl_build.specs.Laws.{ProcessesCanRun}
 use Rattle.sdl_build.specs.Signals.{signal_of, signals_from}
-use Rattle.sdl_build.specs.Lists.{AreMembers}
-use Rattle.sdl_build.specs.Surroundings.{surroundings}
-use Rattle.sdl_build.specs.Survey.{AreDefinitions, IsJoined, Survey, definitions_of}
+use Rattle.sdl_survey.specs.Lists.{AreMembers}
+use Rattle.sdl_survey.specs.Surroundings.{surroundings}
+use Rattle.sdl_survey.specs.Survey.{AreDefinitions, IsJoined, Survey, definitions_of}
 use Rattle.sdl_build.proofs.MadeLemmas.{get-below, same-one}
 use Rattle.sdl_build.proofs.WholeLemmas.{faultless, is-given}
 use Rattle.sdl_channels.specs.declared.network.Network.{Network}

@@ -1,9 +1,6 @@
-pub mod AroundLemmas
 pub mod LawLemmas
-pub mod ListLemmas
 pub mod MadeLemmas
 pub mod OwnLemmas
 pub mod ResolveLemmas
-pub mod StateLemmas
 pub mod TableLemmas
 pub mod WholeLemmas

@@ -1,33 +1,35 @@
 -- The processes of a specification, one after the other.
-use Rattle.std.proofs.Common.{◌≡◌, ◌∙◌, ◌+◌, ◌≤◌, ◌++◌, ℕ, Bool, zero, suc, All, Contains, List, [], ◌∷◌, Option, None, Some, IfNone, IfOk, IfSome, Result, Ok, Err, ap, arith, inl, inr, length, map, refl, slice_get, subst, sym}
+use Rattle.std.proofs.Common.{◌≡◌, ◌∙◌, ◌+◌, ◌<◌, ◌++◌, ℕ, Bool, zero, suc, Contains, List, [], ◌∷◌, Option, None, Some, IfOk, OnOk, Result, Ok, Err, ap, arith, inl, inr, length, map, refl, slice_get, subst, sym}
 use Rattle.std.proofs.lemmas.Option.{slice_get-get_or}
 use Rattle.std.specs.Global.{Vec}
-use Rattle.sdl_build.specs.Built.{IsMadeFrom}
-use Rattle.sdl_build.specs.Made.{AreMade, AreProcessesOr, WholeList}
-use Rattle.sdl_build.specs.Faulty.{NotesBodies}
+use Rattle.sdl_survey.specs.Processes.{IsMadeFrom}
+use Rattle.sdl_build.specs.Made.{AreMade, AreProcessesOr, IsMadeAt, WholeList}
+use Rattle.sdl_build.specs.Faulty.{NotesAt, NotesBodies}
 use Rattle.sdl_build.specs.Faulty as notes
-use Rattle.sdl_build.specs.Headings.{IsHeading}
-use Rattle.sdl_build.specs.Surroundings.{surroundings}
-use Rattle.sdl_build.specs.Survey.{IsNetwork, Survey}
+use Rattle.sdl_survey.proofs.ProcessLemmas.{length-map}
+use Rattle.sdl_survey.specs.Headings.{IsValidSet}
+use Rattle.sdl_survey.specs.Surroundings.{surroundings}
+use Rattle.sdl_survey.specs.Survey.{IsNetwork, Survey}
 use Rattle.sdl_declared.specs.Rows.{ProcessRow}
 use Rattle.sdl_declared.specs.Tables.{Rows}
 use Rattle.sdl_names.specs.declared.declared.Declared.{Declared}
 use Rattle.sdl_signal_lists.specs.Numbered.{numbered}
 use Rattle.sdl_process.specs.Faulty.{NotesBody}
-use Rattle.sdl_process.specs.Made.{IsHeaded}
-use Rattle.sdl_process.specs.Meant.{IsBehaviour}
-use Rattle.sdl_process.specs.Refused.{IsRefused}
-use Rattle.sdl_process.specs.Surroundings.{Surroundings}
-use Rattle.sdl_process.specs.declared.heading.Heading.{Heading}
 use Rattle.sdl_scope.specs.Faults.{Told}
-use Rattle.sdl_system.specs.Behaviour.{Behaviour, Means}
-use Rattle.sdl_system.specs.Soundness.{Keeps}
 use Rattle.sdl_routes.proofs.TableLemmas.{get_push}
 use Rattle.sdl_routes.specs.Valid.{AreValid}
 use Rattle.sdl_channels.specs.declared.network.Network.{Network}
 use Rattle.std.proofs.lemmas.Option.{none-some}
 use Rattle.sdl_system.specs.declared.id.ProcessId.{ProcessId}
 use Rattle.sdl_system.specs.declared.process.Process.{Process}
+
+-- ---- nothing is made any more
+
+pub noted-anyhow : {T E : Type 0} (result : Result T E) (P : Type 0) → P → OnOk result P
+noted-anyhow (Ok made) P is = is
+noted-anyhow (Err why) P is = tt
+
+-- ---- one after the other
 
 pub same-one : {A : Type 0} (x y : A) → Some x ≡ Some y → x ≡ y
 same-one x y is = ap (λ o. pick o x) is
@@ -54,10 +56,6 @@ made-more survey old new number row process known is at listed made n other foun
 -- the place of one that isn't there
 missing-at : (made : List (Option Process)) → Contains made None → (n : ℕ) × (slice_get made n ≡ Some None)
 missing-at made has = (has.0, slice_get-get_or made has.0 None has.1 ∙ ap Some has.2)
-
-pub length-map : {A B : Type 0} (f : A → B) (xs : List A) → length (map f xs) ≡ length xs
-length-map f [] = refl
-length-map f (x ∷ xs) = ap suc (length-map f xs)
 
 get-map : {A : Type 0} (xs : List A) (n : ℕ) (x : A) → slice_get xs n ≡ Some x → slice_get (map Some xs) n ≡ Some (Some x)
 get-map [] zero x is = absurd (none-some x is)
@@ -114,40 +112,52 @@ pub as-many : (rows : Rows) (declared : Declared) (network : Network) (valid : L
 as-many rows declared network valid is are =
     are.size ∙ ap length is.processes ∙ length-numbered _ 0 rows.processes
 
--- ---- one of them
+-- ---- the one at a place
 
-pub made-from : (survey : Survey) (number : ProcessId) (row : ProcessRow) (around : Surroundings) (heading : Heading)
-    (result : Option Process) → around ≡ surroundings survey number row.definition →
-    IsHeading survey number row heading → IfNone result (IsRefused around row.definition) →
-    IfSome result (IsHeaded heading) →
-    IfSome result (λ process. (behaviour : Behaviour) → IsBehaviour around row.definition heading behaviour
-    → Means process behaviour) →
-    IfSome result (λ process. length heading.valid ≤ around.signals
-    → All (Keeps around.signals process) process.tables.items) → IsMadeFrom survey number row result
-made-from survey number row around heading None same said refused headed means keeps =
-    subst (λ a. IsRefused a row.definition) same refused
-made-from survey number row around heading (Some process) same said refused headed means keeps = record {
-  heading = heading;
-  said = said;
-  headed = headed;
-  means = subst (λ a. (behaviour : Behaviour) → IsBehaviour a row.definition heading behaviour
-      → Means process behaviour) same means;
-  keeps = subst (λ (a : Surroundings). length heading.valid ≤ a.signals
-      → All (Keeps a.signals process) process.tables.items) same keeps (omega (arith, said.valid.size));
+pub less-than : (place rows entries many : ℕ) → place < rows → rows ≡ entries → many ≡ entries → place < many
+less-than place rows entries many below same all = omega (arith, below, same, all)
+
+pub below-at : (place yielded many : ℕ) → place ≡ yielded → yielded < many → place < many
+below-at place yielded many at below = omega (arith, at, below)
+
+-- a valid input set of the network is one for the process at its place
+pub valid-at : (survey : Survey) (valid : List (List Bool)) (yielded place : ℕ) (set : List Bool) →
+    AreValid survey.network (length survey.network.processes.items) valid →
+    survey.network.signals ≡ length survey.rows.signals → place ≡ yielded → slice_get valid yielded ≡ Some set →
+    IsValidSet survey (record { 0 = place }) set
+valid-at survey valid yielded place set are signals at stands =
+    let listed : slice_get valid place ≡ Some set = ap (slice_get valid) at ∙ stands in
+    record {
+      size = are.places (record { 0 = place }) set listed ∙ signals;
+      members = λ is signal found below. are.each (record { 0 = place }) is set signal found listed below;
+    }
+
+pub made-at-if : {E : Type 0} (survey : Survey) (number place : ℕ) (row : ProcessRow) (result : Result (Option Process) E) →
+    number ≡ place → slice_get survey.rows.processes place ≡ Some row →
+    IfOk result (IsMadeFrom survey (record { 0 = number }) row) → IfOk result (IsMadeAt survey place)
+made-at-if survey number place row (Ok process) at listed made = record {
+  row = row;
+  listed = listed;
+  made = subst (λ n. IsMadeFrom survey (record { 0 = n }) row process) at made;
 }
+made-at-if survey number place row (Err why) at listed made = tt
 
-pub made-if : {E : Type 0} (survey : Survey) (number : ProcessId) (row : ProcessRow) (around : Surroundings)
-    (heading : Heading) (result : Result (Option Process) E) → around ≡ surroundings survey number row.definition →
-    IsHeading survey number row heading →
-    IfOk result (λ made. IfNone made (IsRefused around row.definition)) →
-    IfOk result (λ made. IfSome made (IsHeaded heading)) →
-    IfOk result (λ made. IfSome made (λ process. (behaviour : Behaviour)
-    → IsBehaviour around row.definition heading behaviour → Means process behaviour)) →
-    IfOk result (λ made. IfSome made (λ process. length heading.valid ≤ around.signals
-    → All (Keeps around.signals process) process.tables.items)) → IfOk result (IsMadeFrom survey number row)
-made-if survey number row around heading (Ok made) same said refused headed means keeps =
-    made-from survey number row around heading made same said refused headed means keeps
-made-if survey number row around heading (Err why) same said refused headed means keeps = tt
+pub noted-at : {A E : Type 0} (survey : Survey) (number place : ℕ) (row : ProcessRow) (old new : Option Told)
+    (result : Result A E) → number ≡ place → slice_get survey.rows.processes place ≡ Some row →
+    OnOk result (NotesBody (surroundings survey (record { 0 = number }) row.definition) row.definition old new) →
+    OnOk result (NotesAt survey place old new)
+noted-at survey number place row old new (Ok made) at listed notes = record {
+  row = row;
+  listed = listed;
+  notes = subst (λ n. NotesBody (surroundings survey (record { 0 = n }) row.definition) row.definition old new) at notes;
+}
+noted-at survey number place row old new (Err why) at listed notes = tt
+
+pub made-next : (survey : Survey) (old new : List (Option Process)) (place : ℕ) (process : Option Process) →
+    AreMade survey old → new ≡ old ++ process ∷ [] → place ≡ length old → IsMadeAt survey place process →
+    AreMade survey new
+made-next survey old new place process known is at one =
+    made-more survey old new (record { 0 = place }) one.row process known is at one.listed one.made
 
 -- ---- one more is noted
 
@@ -161,6 +171,13 @@ bodies-more survey old mid new number row count known at listed body =
     subst (λ n. NotesBodies survey old n new) (suc-is count)
     (notes.more count mid new row known (ap (slice_get survey.rows.processes) (sym at) ∙ listed)
     (subst (λ n. NotesBody (surroundings survey (record { 0 = n }) row.definition) row.definition mid new) at body))
+
+pub bodies-next : (survey : Survey) (old mid new : Option Told) (place count many : ℕ) →
+    NotesBodies survey old count mid → place ≡ count → many ≡ count + 1 → NotesAt survey place mid new →
+    NotesBodies survey old many new
+bodies-next survey old mid new place count many known at grown one =
+    subst (λ n. NotesBodies survey old n new) (sym grown)
+    (bodies-more survey old mid new (record { 0 = place }) one.row count known at one.listed one.notes)
 
 -- ---- all of them
 

@@ -1,14 +1,14 @@
 -- From what is noted and made to what is answered.
-use Rattle.std.proofs.Common.{◌≡◌, ◌∙◌, ◌++◌, ℤ, Bool, true, false, List, Option, None, Some, IfOk, IsErrAnd, Result, Ok, Err, ap, refl, subst, sym, true≢false}
+use Rattle.std.proofs.Common.{◌≡◌, ◌∙◌, ◌++◌, ℤ, Bool, true, false, List, Option, None, Some, IfOk, Result, Ok, Err, ap, refl, subst, sym, true≢false}
 use Rattle.std.specs.Global.{Vec}
 use Rattle.sdl_build.specs.Built.{AreProcesses, IsBroken, IsBuilt, IsSystem, IsSystemOr}
 use Rattle.sdl_build.specs.Built as is_broken
 use Rattle.sdl_build.specs.Faulty.{NotesRest}
 use Rattle.sdl_build.specs.Made.{AreProcessesOr, IsComposedIf}
-use Rattle.sdl_build.specs.Outcome.{IsMadeOf, IsMadeOn, IsMadeWith, IsRefusedAs, Tells, is_limit, is_past_limit}
+use Rattle.sdl_build.specs.Outcome.{IsMadeBehind, IsMadeOf, IsMadeOn, IsMadeWith, IsRefusedAs, Tells, is_limit, is_past_limit}
 use Rattle.sdl_build.specs.Outcome as outcome
 use Rattle.sdl_build.specs.Signals.{signals_from}
-use Rattle.sdl_build.specs.Survey.{Definitions, IsJoined, Survey, definitions_of}
+use Rattle.sdl_survey.specs.Survey.{Definitions, IsJoined, Survey, definitions_of}
 use Rattle.sdl_build.specs.declared.error.BuildError.{BuildError}
 use Rattle.sdl_build.specs.declared.error.BuildError.TheVariants as error
 use Rattle.sdl_build.proofs.MadeLemmas.{same-one}
@@ -27,12 +27,6 @@ use Rattle.sdl_scope.specs.declared.fault.Kind.TheVariants as kind
 use Rattle.sdl_system.specs.System.{SystemValue}
 use Rattle.sdl_system.specs.declared.process.Process.{Process}
 use Rattle.sdl_tree.specs.Tree.{Tree}
-
--- ---- nothing is made
-
-pub not-made : {T E : Type 0} (result : Result T E) (P : T → Type 0) (Q : E → Type 0) → IsErrAnd result Q → IfOk result P
-not-made (Ok made) P Q is = absurd is
-not-made (Err why) P Q is = tt
 
 -- ---- the system
 
@@ -67,25 +61,32 @@ made-on-if survey old new durations processes (Ok system) joined rest are same i
 made-on-if survey old new durations processes (Err why) joined rest are same is = tt
 
 -- what is made of definitions that are looked at to the end
-pub to-the-end-if : {E : Type 0} (definitions : Definitions) (old mid new : Option Told)
+pub to-the-end-if : {E : Type 0} (definitions : Definitions) (before mid new : Option Told)
     (result : Result (Option SystemValue) E) → AreNamesOf definitions.rows definitions.declared →
     AreSynonymConstants definitions.rows definitions.declared definitions.constants →
-    mid ≡ least_of (least_of old (duplicate_faults definitions.rows))
-    (figures_faults definitions.rows definitions.declared definitions.constants) →
-    IfOk result (IsMadeOn definitions mid new) → IfOk result (IsMadeWith definitions.rows old new)
-to-the-end-if definitions old mid new (Ok system) names synonyms is made =
+    mid ≡ least_of before (figures_faults definitions.rows definitions.declared definitions.constants) →
+    IfOk result (IsMadeOn definitions mid new) → IfOk result (IsMadeBehind definitions.rows before new)
+to-the-end-if definitions before mid new (Ok system) names synonyms is made =
     let rows = definitions.rows in
     let same = sym made.defined in
-    outcome.to_the_end made.survey (ap (λ (d : Definitions). d.rows) made.defined)
+    λ old was. outcome.to_the_end made.survey (ap (λ (d : Definitions). d.rows) made.defined)
     (subst (λ (d : Definitions). AreNamesOf rows d.declared) same names)
     (subst (λ (d : Definitions). AreSynonymConstants rows d.declared d.constants) same synonyms)
     made.joined
-    (subst (λ before. NotesRest made.survey before new)
-    (is ∙ ap (λ (d : Definitions). least_of (least_of old (duplicate_faults rows))
+    (subst (λ begun. NotesRest made.survey begun new)
+    (is ∙ ap (λ begun. least_of begun (figures_faults rows definitions.declared definitions.constants)) was
+    ∙ ap (λ (d : Definitions). least_of (least_of old (duplicate_faults rows))
     (figures_faults rows d.declared d.constants)) same)
     made.noted)
     made.made
-to-the-end-if definitions old mid new (Err why) names synonyms is made = tt
+to-the-end-if definitions before mid new (Err why) names synonyms is made = tt
+
+-- what is made behind the names
+pub behind-if : {E : Type 0} (rows : Rows) (old mid new : Option Told) (result : Result (Option SystemValue) E) →
+    mid ≡ least_of old (duplicate_faults rows) → IfOk result (IsMadeBehind rows mid new) →
+    IfOk result (IsMadeWith rows old new)
+behind-if rows old mid new (Ok system) is made = made old is
+behind-if rows old mid new (Err why) is made = tt
 
 -- ---- what is told
 

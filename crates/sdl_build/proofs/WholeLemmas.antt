@@ -5,8 +5,8 @@ use Rattle.std.proofs.lemmas.Option.{slice_get_within}
 use Rattle.sdl_build.specs.Built.{IsMissing, IsTold}
 use Rattle.sdl_build.specs.Faulty.{NotesBodies, definition_faults}
 use Rattle.sdl_build.specs.Faulty as notes
-use Rattle.sdl_build.specs.Surroundings.{surroundings}
-use Rattle.sdl_build.specs.Survey.{AreDefinitions, Survey, definitions_of}
+use Rattle.sdl_survey.specs.Surroundings.{surroundings}
+use Rattle.sdl_survey.specs.Survey.{AreDefinitions, Survey, definitions_of}
 use Rattle.sdl_build.proofs.MadeLemmas.{same-one}
 use Rattle.sdl_complete.proofs.LabelLemmas.{labels-given}
 use Rattle.sdl_complete.proofs.ProcessLemmas.{process-given}

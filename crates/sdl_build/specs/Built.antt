@@ -1,44 +1,23 @@
 -- When a system is what a specification says.
-use Rattle.std.specs.Prelude.{◌≡◌, ℕ, ◌+◌, ◌++◌, All, List, [], ◌∷◌, Option, None, Some, length, map, slice_get}
+use Rattle.std.specs.Prelude.{◌≡◌, ℕ, ◌+◌, ◌++◌, List, [], ◌∷◌, Option, None, Some, length, map, slice_get}
 use Rattle.port_model.specs.declared.item.SignalId.{SignalId}
 use Rattle.sdl_build.specs.Faulty.{NotesRest, definition_faults}
-use Rattle.sdl_build.specs.Headings.{IsHeading}
 use Rattle.sdl_build.specs.Signals.{signal_of, signals_from}
-use Rattle.sdl_build.specs.Surroundings.{surroundings}
-use Rattle.sdl_build.specs.Survey.{AreDefinitions, Definitions, IsJoined, Survey, definitions_of}
+use Rattle.sdl_survey.specs.Processes.{IsProcess}
+use Rattle.sdl_survey.specs.Surroundings.{surroundings}
+use Rattle.sdl_survey.specs.Survey.{AreDefinitions, Definitions, IsJoined, Survey, definitions_of}
 use Rattle.sdl_declared.specs.Rows.{ProcessRow, SignalRow}
 use Rattle.sdl_figures.specs.Figures.{all_durations}
-use Rattle.sdl_process.specs.Made.{IsHeaded}
-use Rattle.sdl_process.specs.Meant.{IsBehaviour}
 use Rattle.sdl_process.specs.Refused.{IsRefused}
-use Rattle.sdl_process.specs.declared.heading.Heading.{Heading}
 use Rattle.sdl_scope.specs.Faults.{Told, least_of}
 use Rattle.sdl_scope.specs.Names.{first_of}
 use Rattle.sdl_scope.specs.declared.fault.Kind.TheVariants.{Limit}
 use Rattle.sdl_spaces.specs.Spaces.{entry_if, is_same_scope}
 use Rattle.sdl_spaces.specs.declared.scope.ScopeId.TheVariants as scope
-use Rattle.sdl_system.specs.Behaviour.{Behaviour, Means}
-use Rattle.sdl_system.specs.Soundness.{Keeps}
 use Rattle.sdl_system.specs.System.{SystemValue, meaning_of}
 use Rattle.sdl_system.specs.declared.id.ProcessId.{ProcessId}
 use Rattle.sdl_system.specs.declared.process.Process.{Process}
 use Rattle.sdl_tree.specs.Tree.{Tree}
-
--- The process of this number does what its text says: it has what its heading says, and means each behaviour that the
--- text has; and its tables agree with one another, for the signals of the system.
-pub record IsProcess (survey : Survey) (number : ProcessId) (row : ProcessRow) (process : Process) : Type 0 where
-  pub heading : Heading
-  pub said : IsHeading survey number row heading
-  pub headed : IsHeaded heading process
-  pub means : (behaviour : Behaviour)
-      → IsBehaviour (surroundings survey number row.definition) row.definition heading behaviour
-      → Means process behaviour
-  pub keeps : All (Keeps (length survey.rows.signals) process) process.tables.items
-
--- it, or why there is none
-abbrev pub IsMadeFrom : Survey → ProcessId → ProcessRow → Option Process → Type 0
-IsMadeFrom survey number row None = IsRefused (surroundings survey number row.definition) row.definition
-IsMadeFrom survey number row (Some process) = IsProcess survey number row process
 
 -- there is one for each row, by its number
 pub record AreProcesses (survey : Survey) (processes : List Process) : Type 0 where

@@ -1,7 +1,7 @@
 -- The rules that are broken in a specification, each with the word where it is.
 use Rattle.std.specs.Prelude.{◌≡◌, ℕ, suc, zero, ◌++◌, List, Option, Some, length, slice_get}
-use Rattle.sdl_build.specs.Surroundings.{surroundings}
-use Rattle.sdl_build.specs.Survey.{Definitions, Survey}
+use Rattle.sdl_survey.specs.Surroundings.{surroundings}
+use Rattle.sdl_survey.specs.Survey.{Definitions, Survey}
 use Rattle.sdl_declared.specs.Parts.{all_sort_faults}
 use Rattle.sdl_declared.specs.Rows.{ProcessRow}
 use Rattle.sdl_figures.specs.Figures.{figures_faults}
@@ -29,6 +29,12 @@ pub data NotesBodies (survey : Survey) (old : Option Told) : ℕ → Option Told
       → slice_get survey.rows.processes count ≡ Some row
       → NotesBody (surroundings survey (record { 0 = count }) row.definition) row.definition mid new
       → NotesBodies survey old (suc count) new
+
+-- those of the body of the process at this place
+pub record NotesAt (survey : Survey) (place : ℕ) (old new : Option Told) : Type 0 where
+  pub row : ProcessRow
+  pub listed : slice_get survey.rows.processes place ≡ Some row
+  pub notes : NotesBody (surroundings survey (record { 0 = place }) row.definition) row.definition old new
 
 -- those of what joins its agents, and then those of all processes
 pub record NotesRest (survey : Survey) (old new : Option Told) : Type 0 where

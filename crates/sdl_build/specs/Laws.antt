@@ -1,9 +1,9 @@
 -- What holds of each process of a system that is what a specification says.
 use Rattle.std.specs.Prelude.{◌≡◌, All, Some, length, slice_get}
 use Rattle.sdl_build.specs.Built.{IsBuilt}
-use Rattle.sdl_build.specs.Headings.{IsHeading}
-use Rattle.sdl_build.specs.Surroundings.{surroundings}
-use Rattle.sdl_build.specs.Survey.{Survey}
+use Rattle.sdl_survey.specs.Headings.{IsHeading}
+use Rattle.sdl_survey.specs.Surroundings.{surroundings}
+use Rattle.sdl_survey.specs.Survey.{Survey}
 use Rattle.sdl_declared.specs.Rows.{ProcessRow}
 use Rattle.sdl_process.specs.Made.{IsHeaded}
 use Rattle.sdl_process.specs.Meant.{IsBehaviour}

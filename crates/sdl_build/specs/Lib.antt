@@ -1,12 +1,7 @@
-pub mod Around
 pub mod Built
 pub mod ErrorText
 pub mod Faulty
-pub mod Headings
 pub mod Laws
-pub mod Lists
 pub mod Made
 pub mod Outcome
 pub mod Signals
-pub mod Surroundings
-pub mod Survey

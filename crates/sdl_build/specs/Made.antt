@@ -1,9 +1,10 @@
 -- What is made of the processes of a specification, step by step.
 use Rattle.std.specs.Prelude.{◌≡◌, ℕ, ℤ, List, Option, None, Some, Contains, map, slice_get}
 use Rattle.std.specs.Global.{Vec}
-use Rattle.sdl_build.specs.Built.{AreProcesses, IsMadeFrom, IsMissing, named_processes, own_from}
+use Rattle.sdl_build.specs.Built.{AreProcesses, IsMissing, named_processes, own_from}
+use Rattle.sdl_survey.specs.Processes.{IsMadeFrom}
 use Rattle.sdl_build.specs.Signals.{signal_of, signals_from}
-use Rattle.sdl_build.specs.Survey.{Survey}
+use Rattle.sdl_survey.specs.Survey.{Survey}
 use Rattle.sdl_declared.specs.Rows.{ProcessRow}
 use Rattle.sdl_declared.specs.Tables.{Rows}
 use Rattle.sdl_scope.specs.Names.{first_of}
@@ -18,6 +19,12 @@ AreMade survey made =
     (number : ProcessId) (row : ProcessRow) (process : Option Process)
     → slice_get survey.rows.processes number.0 ≡ Some row → slice_get made number.0 ≡ Some process
     → IsMadeFrom survey number row process
+
+-- what the process at this place is made of, as its row says
+pub record IsMadeAt (survey : Survey) (place : ℕ) (process : Option Process) : Type 0 where
+  pub row : ProcessRow
+  pub listed : slice_get survey.rows.processes place ≡ Some row
+  pub made : IsMadeFrom survey (record { 0 = place }) row process
 
 -- the list has each of these, or one of them isn't there
 abbrev pub WholeList : List (Option Process) → Option (Vec Process) → Type 0

@@ -2,7 +2,7 @@
 use Rattle.std.specs.Prelude.{◌≡◌, Bool, true, false, List, Option, None, Some}
 use Rattle.sdl_build.specs.Built.{IsBroken, IsSystemOr, IsTold}
 use Rattle.sdl_build.specs.Faulty.{NotesRest}
-use Rattle.sdl_build.specs.Survey.{AreDefinitions, Definitions, IsJoined, Survey, definitions_of}
+use Rattle.sdl_survey.specs.Survey.{AreDefinitions, Definitions, IsJoined, Survey, definitions_of}
 use Rattle.sdl_build.specs.declared.error.BuildError.{BuildError}
 use Rattle.sdl_build.specs.declared.error.BuildError.TheVariants as error
 use Rattle.sdl_declared.specs.Tables.{Rows}
@@ -49,6 +49,11 @@ pub data IsMadeWith (rows : Rows) (old new : Option Told) (system : Option Syste
       → NotesRest survey
       (least_of (least_of old (duplicate_faults rows)) (figures_faults rows survey.declared survey.constants)) new
       → IsSystemOr survey system → IsMadeWith rows old new system
+
+-- so where the names that are declared twice are noted before
+abbrev pub IsMadeBehind : Rows → Option Told → Option Told → Option SystemValue → Type 0
+IsMadeBehind rows mid new system =
+    (old : Option Told) → mid ≡ least_of old (duplicate_faults rows) → IsMadeWith rows old new system
 
 -- the specification is looked at to the end: this is told, and this is made
 pub record IsLookedAt (tree : Tree) (fault : Option Told) (system : Option SystemValue) : Type 0 where

@@ -1,23 +1,17 @@
 //! The system of a specification, with every check of it (Z.101 to Z.104).
 //!
 //! The definitions come first: their tables, their names, and what their constant expressions come to. Then what joins
-//! the agents, then the bodies of the processes, each in what stands around it. `specs/Survey` has what the definitions
-//! come to, `specs/Faulty` the rules that are broken, and `specs/Built` when a system is what the specification says.
+//! the agents, then the bodies of the processes, each in what stands around it. `specs/Faulty` has the rules that are
+//! broken, and `specs/Built` when a system is what the specification says.
 #![tactic(auto)]
 
+mod defined;
 mod error;
-mod heading;
-mod joined;
 pub mod laws;
-mod lists;
-mod narrow;
 mod own;
-mod process;
-mod reaching;
 mod resolve;
 mod signals;
 mod system;
-mod tables;
 
 pub use error::BuildError;
 pub use resolve::build;

@@ -1,20 +1,21 @@
 //! The system of a specification, or why there is none.
 
 ghost use Rattle.std.specs.Prelude.{◌≡◌, None, IfErr, IfOk};
-ghost use Rattle.sdl_build.specs.Around.{AreFigures, definitions_with};
+ghost use Rattle.sdl_survey.specs.Around.{AreFigures, definitions_with};
 ghost use Rattle.sdl_build.specs.Built.{IsBuilt};
-ghost use Rattle.sdl_build.specs.Outcome.{IsMadeOf, IsMadeOn, IsMadeWith, IsRefusedAs, is_past_limit};
+ghost use Rattle.sdl_build.specs.Outcome.{IsMadeBehind, IsMadeOf, IsMadeOn, IsMadeWith, IsRefusedAs, is_past_limit};
 ghost use Rattle.sdl_declared.specs.Tables.{rows_of};
+ghost use Rattle.sdl_names.specs.Spaces.{AreNamesOf};
 ghost use Rattle.sdl_scope.specs.Faults.{told};
 ghost use Rattle.sdl_tree.specs.Views.{tree_value};
 
 use crate::error::BuildError;
-use crate::joined::Joined;
 use crate::system::{processes_in, system_with};
 use sdl_declared::Tables;
 use sdl_figures::Figures;
 use sdl_names::Declared;
 use sdl_scope::{Faults, Kind, note_limits};
+use sdl_survey::Joined;
 use sdl_system::System;
 use sdl_tree::Tree;
 use std::alloc::{AllocError, Global};
@@ -65,11 +66,24 @@ fn look<'t>(
     ensures { IfOk result (IsMadeWith (rows_of tables.now) (told faults.old) (told faults.new)) }
 {
     let declared = Declared::of(alloc, tables, faults)?;
-    let figures = Figures::of(alloc, tables, &declared, faults)?;
+    look_behind_names(alloc, tables, &declared, faults)
+}
+
+/// The system with these tables and names; None behind a limit, and where a process means nothing.
+fn look_behind_names<'t>(
+    alloc: Global,
+    tables: &Tables<'t>,
+    declared: &Declared<'_, 't>,
+    faults: &mut Faults<'t>,
+) -> Result<Option<System>, AllocError>
+    requires { AreNamesOf (rows_of tables.now) declared.now }
+    ensures { IfOk result (IsMadeBehind (rows_of tables.now) (told faults.old) (told faults.new)) }
+{
+    let figures = Figures::of(alloc, tables, declared, faults)?;
     if is_past_limit(faults) {
         return Ok(None);
     }
-    look_on(alloc, tables, &declared, &figures, faults)
+    look_on(alloc, tables, declared, &figures, faults)
 }
 
 /// The system with these tables, names and figures; None where a process means nothing. Noted is what is broken in what

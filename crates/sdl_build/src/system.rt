@@ -1,23 +1,23 @@
 //! The system of a specification, from its definitions on.
 
-ghost use Rattle.std.specs.Prelude.{◌≡◌, length, IfOk, OnOk};
-ghost use Rattle.sdl_build.specs.Around.{AreKnown, survey_of};
-ghost use Rattle.sdl_build.specs.Faulty.{NotesBodies};
-ghost use Rattle.sdl_build.specs.Made.{AreMade, AreProcessesOr, IsComposed, IsComposedIf, WholeList};
+ghost use Rattle.std.specs.Prelude.{◌≡◌, ◌<◌, length, IfOk, OnOk};
+ghost use Rattle.sdl_survey.specs.Around.{AreKnown, survey_of};
+ghost use Rattle.sdl_build.specs.Faulty.{NotesAt, NotesBodies};
+ghost use Rattle.sdl_survey.specs.Headings.{IsValidSet};
+ghost use Rattle.sdl_build.specs.Made.{AreMade, AreProcessesOr, IsComposed, IsComposedIf, IsMadeAt, WholeList};
 ghost use Rattle.sdl_declared.specs.Tables.{rows_of};
 ghost use Rattle.sdl_channels.specs.SignalLists.{AreSets};
 ghost use Rattle.sdl_routes.specs.Valid.{AreValid};
 ghost use Rattle.sdl_scope.specs.Faults.{told};
 
-use crate::joined::Joined;
-use crate::own::{own_signals, process_names};
-use crate::process::{counted, process_at};
-use crate::signals::signals_of;
+use crate::defined::Defined;
 use sdl_declared::Tables;
 use sdl_figures::Figures;
 use sdl_names::Declared;
 use sdl_routes::valid_sets;
 use sdl_scope::Faults;
+use sdl_signal_lists::counted;
+use sdl_survey::{Joined, process_at};
 use sdl_system::{Process, ProcessId, Routes, SignalSet, System};
 use std::alloc::{AllocError, Global};
 
@@ -46,10 +46,14 @@ fn system_of(
 ) -> Result<System, AllocError>
     ensures { IfOk result (IsComposed (rows_of tables.now) figures.now.durations.items processes routes) }
 {
-    let signals = signals_of(alloc, &tables.signals, &figures.durations)?;
-    let own = own_signals(alloc, &tables.signals)?;
-    let names = process_names(alloc, &tables.processes)?;
-    Ok(System::new(signals, processes, routes, own, names))
+    let defined = Defined::of(alloc, tables, figures)?;
+    Ok(System::new(
+        defined.signals,
+        processes,
+        routes,
+        defined.own_signals,
+        defined.process_names,
+    ))
 }
 
 /// The processes; None where one means nothing. Noted is what is broken in their bodies.
@@ -93,22 +97,44 @@ fn each_process<'t>(
 {
     let mut made = Vec::new(alloc);
     for set in valid {
-        let number = counted(made.len())?;
-        let entry = &tables.processes[made.len()];
-        let process = process_at(
-            alloc,
-            tables,
-            declared,
-            figures,
-            joined,
-            ProcessId(number),
-            entry,
-            set,
-            faults,
-        )?;
+        let place = made.len();
+        let process = process_in(alloc, tables, declared, figures, joined, place, set, faults)?;
         made.push(process)?;
     }
     Ok(made)
+}
+
+/// What the process at this place is made of, with this valid input set.
+fn process_in<'t>(
+    alloc: Global,
+    tables: &Tables<'t>,
+    declared: &Declared<'_, 't>,
+    figures: &Figures,
+    joined: &Joined,
+    place: usize,
+    valid: SignalSet,
+    faults: &mut Faults<'t>,
+) -> Result<Option<Process>, AllocError>
+    requires known { AreKnown tables.now declared.now figures.now joined.now }
+    requires within { place < length (rows_of tables.now).processes }
+    requires valid { IsValidSet (survey_of tables.now declared.now figures.now joined.now) (record { 0 = place }) valid }
+    ensures made { IfOk result (IsMadeAt (survey_of tables.now declared.now figures.now joined.now) place) }
+    ensures noted { OnOk result (NotesAt (survey_of tables.now declared.now figures.now joined.now) place
+        (told faults.old) (told faults.new)) }
+{
+    let number = counted(place)?;
+    let entry = &tables.processes[place];
+    process_at(
+        alloc,
+        tables,
+        declared,
+        figures,
+        joined,
+        ProcessId(number),
+        entry,
+        valid,
+        faults,
+    )
 }
 
 /// All of them, where each is there.

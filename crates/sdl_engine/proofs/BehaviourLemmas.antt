@@ -4,8 +4,8 @@ use Rattle.std.proofs.lemmas.Option.{none-some}
 use Rattle.std.specs.List.{AllZip}
 use Rattle.sdl_build.specs.Built.{IsBuilt}
 use Rattle.sdl_build.specs.Laws.{CanRun}
-use Rattle.sdl_build.specs.Surroundings.{surroundings}
-use Rattle.sdl_build.specs.Survey.{Survey}
+use Rattle.sdl_survey.specs.Surroundings.{surroundings}
+use Rattle.sdl_survey.specs.Survey.{Survey}
 use Rattle.sdl_build.proofs.LawLemmas.{processes-can-run}
 use Rattle.sdl_courses.specs.Course.{AreBehaviours}
 use Rattle.sdl_declared.specs.Rows.{ProcessRow}

@@ -1,8 +1,8 @@
 -- The behaviours that the text of a specification gives its processes.
 use Rattle.std.specs.Prelude.{◌≡◌, List, Some, length, slice_get}
-use Rattle.sdl_build.specs.Headings.{IsHeading}
-use Rattle.sdl_build.specs.Surroundings.{surroundings}
-use Rattle.sdl_build.specs.Survey.{Survey}
+use Rattle.sdl_survey.specs.Headings.{IsHeading}
+use Rattle.sdl_survey.specs.Surroundings.{surroundings}
+use Rattle.sdl_survey.specs.Survey.{Survey}
 use Rattle.sdl_declared.specs.Rows.{ProcessRow}
 use Rattle.sdl_process.specs.Made.{IsHeaded}
 use Rattle.sdl_process.specs.Meant.{IsBehaviour}

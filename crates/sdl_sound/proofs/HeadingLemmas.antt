@@ -8,8 +8,8 @@ use Rattle.port_model.specs.declared.value.Value.{Value}
 use Rattle.sdl_build.proofs.MadeLemmas.{get-below}
 use Rattle.sdl_build.proofs.WholeLemmas.{faultless}
 use Rattle.sdl_build.specs.Built.{IsBuilt}
-use Rattle.sdl_build.specs.Headings.{IsBound, IsInitial, IsMaximum, value_in, variable_in, variable_of, variable_sort, variables_in}
-use Rattle.sdl_build.specs.Survey.{Survey}
+use Rattle.sdl_survey.specs.Headings.{IsBound, IsInitial, IsMaximum, value_in, variable_in, variable_of, variable_sort, variables_in}
+use Rattle.sdl_survey.specs.Survey.{Survey}
 use Rattle.sdl_complete.proofs.AnswerLemmas.{constant-given}
 use Rattle.sdl_complete.proofs.EmptyLemmas.{left-empty, not-broken, right-empty}
 use Rattle.sdl_complete.proofs.SeenLemmas.{scopes-complete}

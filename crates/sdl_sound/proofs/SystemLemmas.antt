@@ -12,12 +12,12 @@ use Rattle.sdl_build.proofs.WholeLemmas.{faultless, told-none}
 use Rattle.sdl_build.specs.Built.{IsBuilt, IsSystem, named_processes, own_from}
 use Rattle.sdl_build.specs.Faulty.{NotesBodies}
 use Rattle.sdl_build.specs.Faulty as notes
-use Rattle.sdl_build.specs.Headings.{IsInitial, IsMaximum, variables_in}
+use Rattle.sdl_survey.specs.Headings.{IsInitial, IsMaximum, variables_in}
 use Rattle.sdl_build.specs.Laws.{CanRun}
 use Rattle.sdl_build.specs.Signals.{signal_from, signal_of, signals_from, timer_at, timer_of}
 use Rattle.sdl_build.specs.Signals as made
-use Rattle.sdl_build.specs.Surroundings.{numbered_states, surroundings}
-use Rattle.sdl_build.specs.Survey.{Survey}
+use Rattle.sdl_survey.specs.Surroundings.{numbered_states, surroundings}
+use Rattle.sdl_survey.specs.Survey.{Survey}
 use Rattle.sdl_complete.proofs.SortLemmas.{sorts-given}
 use Rattle.sdl_complete.proofs.NameLemmas.{EachMeans}
 use Rattle.sdl_complete.specs.Complete.{IsThere}

@@ -4,7 +4,7 @@ use Rattle.std.proofs.Common.{◌≡◌, ◌∙◌, ◌++◌, ◌+◌, ◌==◌,
 use Rattle.std.proofs.lemmas.Bool.{eq-eqb, eqb-true}
 use Rattle.std.proofs.lemmas.Grind.{flat_map-append}
 use Rattle.std.proofs.lemmas.List.{append_assoc, length-append, length-map}
-use Rattle.sdl_build.specs.Headings.{variable_in, variable_of, variable_sort, variables_in}
+use Rattle.sdl_survey.specs.Headings.{variable_in, variable_of, variable_sort, variables_in}
 use Rattle.sdl_complete.specs.Complete.{IsThere}
 use Rattle.sdl_declared.specs.Parts.{Part, OfBlock, OfProcess, OfChannel, OfConnection, OfSignals, OfTimers, OfSignalList, OfSynonyms, OfSignalSet, OfParameters, OfVariables, Placed, groups_of, parameter_part, placed}
 use Rattle.sdl_declared.specs.Rows.{ProcessRow, ValueRow, after_synonyms, after_variables, group_sorts, process_row, repeated, synonym_values, value_rows, values_of, variable_rows}

@@ -6,7 +6,7 @@ use Rattle.port_model.specs.declared.item.SignalId.{SignalId}
 use Rattle.port_model.specs.declared.value.Value.{Value}
 use Rattle.sdl_build.specs.Built.{IsBuilt}
 use Rattle.sdl_build.specs.Laws.{CanRun}
-use Rattle.sdl_build.specs.Surroundings.{surroundings}
+use Rattle.sdl_survey.specs.Surroundings.{surroundings}
 use Rattle.sdl_channels.specs.declared.network.Source.{Source}
 use Rattle.sdl_evaluation.specs.declared.identity.Identity.{Identity}
 use Rattle.sdl_evaluation.specs.declared.store.Store.{Store}

@@ -1,37 +1,16 @@
-use Rattle.std.proofs.Common.{◌∙◌, ap, sym}
-use Rattle.sdl_build.proofs.ResolveLemmas.{not-made, to-the-end-if}
-use Rattle.sdl_build.specs.Around.{definitions_with}
-use Rattle.sdl_build.specs.Outcome as outcome
+use Rattle.sdl_build.proofs.ResolveLemmas.{behind-if}
+use Rattle.sdl_survey.proofs.ProcessLemmas.{not-made}
 use Rattle.sdl_declared.specs.Tables.{rows_of}
-use Rattle.sdl_figures.specs.Figures.{figures_faults}
-use Rattle.sdl_scope.specs.Faults.{least_of, told}
+use Rattle.sdl_scope.specs.Faults.{told}
 use Rattle.sdl_build.proofs.resolve.look.Goals as goal
 
-pub returns-then-is_past_limit : goal.returns-then-is_past_limit
-returns-then-is_past_limit c =
-    outcome.up_to_limit c.in_ok-declared.declared c.in_ok-figures.figures.constants.items
-    c.in_ok-declared.ensures.names c.in_ok-figures.ensures.constants
-    (c.in_ok-figures.ensures.noted
-    ∙ ap (λ old. least_of old (figures_faults (rows_of c.args.tables.now) c.in_ok-declared.declared
-    c.in_ok-figures.figures.constants.items)) c.in_ok-declared.ensures.noted)
-    (sym c.if-is_past_limit.ensures)
-
-pub look_on-requires : goal.look_on-requires
-look_on-requires c = record {
-  counts = c.in_ok-figures.ensures.counts;
-  initials = c.in_ok-figures.ensures.initials;
-  durations = c.in_ok-figures.ensures.durations;
-}
+pub look_behind_names-requires : goal.look_behind_names-requires
+look_behind_names-requires c = c.in_ok-declared.ensures.names
 
 pub returns : goal.returns
 returns c =
-    let figures = c.in_ok-figures.figures in
-    to-the-end-if (definitions_with c.args.tables.now c.in_ok-declared.declared figures) _
-    (told c.of-2.new.faults) _ c.look_on.result c.in_ok-declared.ensures.names c.in_ok-figures.ensures.constants
-    (c.in_ok-figures.ensures.noted
-    ∙ ap (λ old. least_of old (figures_faults (rows_of c.args.tables.now) c.in_ok-declared.declared
-    figures.constants.items)) c.in_ok-declared.ensures.noted)
-    c.look_on.ensures
+    behind-if (rows_of c.args.tables.now) _ (told c.of.new.faults) _ c.look_behind_names.result
+    c.in_ok-declared.ensures.noted c.look_behind_names.ensures
 
-pub returns-in_err-figures : goal.returns-in_err-figures
-returns-in_err-figures c = not-made c.from_residual-in_err-figures.result _ _ c.from_residual-in_err-figures.ensures.1
+pub returns-in_err-declared : goal.returns-in_err-declared
+returns-in_err-declared c = not-made c.from_residual.result _ _ c.from_residual.ensures.1

@@ -1,5 +1,6 @@
-use Rattle.sdl_build.proofs.ResolveLemmas.{made-on-if, not-made}
-use Rattle.sdl_build.specs.Around.{survey_of}
+use Rattle.sdl_build.proofs.ResolveLemmas.{made-on-if}
+use Rattle.sdl_survey.proofs.ProcessLemmas.{not-made}
+use Rattle.sdl_survey.specs.Around.{survey_of}
 use Rattle.sdl_scope.specs.Faults.{told}
 use Rattle.sdl_build.proofs.resolve.look_on.Goals as goal
 
@@ -31,3 +32,6 @@ returns c =
 pub returns-in_err-processes : goal.returns-in_err-processes
 returns-in_err-processes c =
     not-made c.from_residual-in_err-processes.result _ _ c.from_residual-in_err-processes.ensures.1
+
+pub returns-in_err-joined : goal.returns-in_err-joined
+returns-in_err-joined c = not-made c.from_residual.result _ _ c.from_residual.ensures.1

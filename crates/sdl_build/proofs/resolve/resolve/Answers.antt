@@ -1,5 +1,6 @@
 use Rattle.std.proofs.Common.{◌∙◌, ap}
 use Rattle.sdl_build.proofs.ResolveLemmas.{looked-at-if}
+use Rattle.sdl_survey.proofs.ProcessLemmas.{not-made}
 use Rattle.sdl_declared.specs.Parts.{all_sort_faults}
 use Rattle.sdl_declared.specs.Tables.{rows_of}
 use Rattle.sdl_scope.specs.Faults.{least_of}
@@ -14,3 +15,9 @@ returns c =
     (c.in_ok-tables.ensures.noted ∙ ap (λ old. least_of old (all_sort_faults tree))
     (c.in_ok-note_limits.ensures ∙ ap (λ old. least_of old (limit_faults tree)) c.requires))
     c.look.ensures
+
+pub returns-in_err-note_limits : goal.returns-in_err-note_limits
+returns-in_err-note_limits c = not-made c.from_residual.result _ _ c.from_residual.ensures.1
+
+pub returns-in_err-tables : goal.returns-in_err-tables
+returns-in_err-tables c = not-made c.from_residual-in_err-tables.result _ _ c.from_residual-in_err-tables.ensures.1

@@ -1,5 +1,5 @@
 use Rattle.std.proofs.Common.{◌≡◌, length}
-use Rattle.sdl_build.specs.Around.{survey_of}
+use Rattle.sdl_survey.specs.Around.{survey_of}
 use Rattle.sdl_build.specs.Faulty.{NotesBodies}
 use Rattle.sdl_build.specs.Made.{AreMade}
 use Rattle.sdl_scope.specs.Faults.{told}

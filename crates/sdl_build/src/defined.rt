@@ -1,0 +1,48 @@
+//! What a system has of the definitions of a specification beside its processes and routes.
+
+ghost use Rattle.std.specs.Prelude.{◌≡◌, ℕ, List, map, IfOk};
+ghost use Rattle.sdl_build.specs.Built.{named_processes, own_from};
+ghost use Rattle.sdl_build.specs.Signals.{signal_of, signals_from};
+ghost use Rattle.sdl_declared.specs.Tables.{rows_of};
+ghost use Rattle.sdl_scope.specs.Names.{first_of};
+ghost use Rattle.sdl_system.specs.System.{meaning_of, named};
+
+use crate::own::{own_signals, process_names};
+use crate::signals::signals_of;
+use indexmap::IndexMap;
+use port_model::SignalId;
+use sdl_declared::Tables;
+use sdl_figures::Figures;
+use sdl_system::{ProcessId, Signal};
+use std::alloc::{AllocError, Global};
+
+/// What a system has of the definitions of a specification beside its processes and routes.
+#[derive(Drop)]
+pub struct Defined {
+    pub signals: Vec<Signal>,
+    /// The signals of the system's own scope by their names.
+    pub own_signals: IndexMap<String, SignalId>,
+    /// The first process of each name.
+    pub process_names: IndexMap<String, ProcessId>,
+}
+
+impl Defined {
+    /// What these tables define, with the default durations of timers among these figures.
+    pub fn of(alloc: Global, tables: &Tables<'_>, figures: &Figures) -> Result<Self, AllocError>
+        ensures signals { IfOk result (λ defined. map signal_of defined.signals.items
+            ≡ signals_from (rows_of tables.now).signals figures.now.durations.items) }
+        ensures own_signals { IfOk result (λ defined. (text : List ℕ) → meaning_of (named defined.own_signals) text
+            ≡ first_of (own_from 0 (rows_of tables.now).signals) text) }
+        ensures process_names { IfOk result (λ defined. (text : List ℕ) → meaning_of (named defined.process_names) text
+            ≡ first_of (named_processes 0 (rows_of tables.now).processes) text) }
+    {
+        let signals = signals_of(alloc, &tables.signals, &figures.durations)?;
+        let own_signals = own_signals(alloc, &tables.signals)?;
+        let process_names = process_names(alloc, &tables.processes)?;
+        Ok(Defined {
+            signals,
+            own_signals,
+            process_names,
+        })
+    }
+}
