@@ -1,4 +1,5 @@
 pub mod CursorLemmas
 pub mod EntryLemmas
 pub mod GatheredLemmas
+pub mod PieceLemmas
 pub mod WriteLemmas

@@ -18,73 +18,73 @@ use std::alloc::AllocError;
 /// Appends the line of an event of the record, which is an entry with its values.
 pub fn push_event(
     text: &mut String,
-    entry: Entry,
+    entry: &Entry,
     values: &[Value],
     record: &Record,
     system: &System,
 ) -> Result<(), AllocError>
     ensures { OnOk result (string_bytes text.new ≡ string_bytes text.old
-        ++ event_line system.now «record».now (event_of entry values.now)) }
+        ++ event_line system.now «record».now (event_of entry.now values.now)) }
 {
     match entry {
         Entry::Start { at } => {
-            push_number(text, at)?;
+            push_number(text, *at)?;
             text.push_str(" start\n")
         }
         Entry::Consumed { at, got } => {
-            push_number(text, at)?;
+            push_number(text, *at)?;
             text.push_str(" input ")?;
-            push_stimulus(text, got, values, record, system)
+            push_stimulus(text, *got, values, record, system)
         }
         Entry::Prior { at, got } => {
-            push_number(text, at)?;
+            push_number(text, *at)?;
             text.push_str(" priority ")?;
-            push_stimulus(text, got, values, record, system)
+            push_stimulus(text, *got, values, record, system)
         }
         Entry::Discarded { at, got } => {
-            push_number(text, at)?;
+            push_number(text, *at)?;
             text.push_str(" discard ")?;
-            push_stimulus(text, got, values, record, system)
+            push_stimulus(text, *got, values, record, system)
         }
         Entry::Provided { at, number } => writeln!(text, "{at} provided {number}"),
         Entry::FailedAt { at, why } => writeln!(text, "{at} failed {why}"),
         Entry::Task { variable, value } => {
             text.push_str("  task ")?;
-            text.push_str(variable_name(system, record.process(), variable))?;
+            text.push_str(variable_name(system, record.process(), *variable))?;
             text.push_str(" := ")?;
-            push_value(text, &value)?;
+            push_value(text, value)?;
             text.push('\n')
         }
         Entry::OutputOnPath { signal, target, .. }
         | Entry::OutputToProcess { signal, target, .. }
         | Entry::OutputToPid { signal, target, .. } => {
-            push_output(text, signal, values, target, system)
+            push_output(text, *signal, values, *target, system)
         }
         Entry::Set { timer, due, .. } => {
             text.push_str("  set ")?;
-            push_signal(text, timer, values, system)?;
+            push_signal(text, *timer, values, system)?;
             text.push(' ')?;
-            push_number(text, due)?;
+            push_number(text, *due)?;
             text.push('\n')
         }
         Entry::Reset { timer, .. } => {
             text.push_str("  reset ")?;
-            push_signal(text, timer, values, system)?;
+            push_signal(text, *timer, values, system)?;
             text.push('\n')
         }
-        Entry::Create { process, pid } => push_create(text, process, pid, system),
+        Entry::Create { process, pid } => push_create(text, *process, *pid, system),
         Entry::NextState { state } => push_name(
             text,
             "  nextstate ",
-            state_name(system, record.process(), state),
+            state_name(system, record.process(), *state),
         ),
         Entry::Stop => text.push_str("  stop\n"),
         Entry::Failed { why } => writeln!(text, "  failed {why}"),
         Entry::Rest { state } => {
-            push_name(text, "rest ", state_name(system, record.process(), state))
+            push_name(text, "rest ", state_name(system, record.process(), *state))
         }
         Entry::Cut { state: Some(state) } => {
-            push_name(text, "cut ", state_name(system, record.process(), state))
+            push_name(text, "cut ", state_name(system, record.process(), *state))
         }
         Entry::Cut { state: None } => text.push_str("cut start\n"),
     }

@@ -1,7 +1,7 @@
 //! Numbers, Pids and values as pieces of a line. Most of a report's text is made of them, so they are appended as they
 //! are, and not by way of a formatter.
 
-ghost use Rattle.std.specs.Prelude.{◌≡◌, ◌++◌, codes, OnOk};
+ghost use Rattle.std.specs.Prelude.{◌≡◌, ◌<◌, ◌++◌, codes, OnOk};
 ghost use Rattle.std.specs.Fmt.{decimal, signed_decimal};
 ghost use Rattle.std.specs.String.{string_bytes};
 ghost use Rattle.port_model.specs.Text.{pid_text, value_text};
@@ -16,8 +16,53 @@ use std::alloc::AllocError;
 pub fn push_number(text: &mut String, number: u64) -> Result<(), AllocError>
     ensures { OnOk result (string_bytes text.new ≡ string_bytes text.old ++ decimal number) }
 {
+    // Most are short: the numbers of instances, and the times of a short run.
+    if number < 1_000 {
+        return push_short(text, number);
+    }
+    push_long(text, number)
+}
+
+#[inline(never)]
+fn push_long(text: &mut String, number: u64) -> Result<(), AllocError>
+    ensures { OnOk result (string_bytes text.new ≡ string_bytes text.old ++ decimal number) }
+{
     let mut buffer = Buffer::new();
     text.push_str(buffer.format(number))
+}
+
+// Appends a number of up to three digits.
+#[tactic(auto, using(crate::proofs::PieceLemmas::decimal_parts))]
+fn push_short(text: &mut String, number: u64) -> Result<(), AllocError>
+    requires { number < 1000 }
+    ensures { OnOk result (string_bytes text.new ≡ string_bytes text.old ++ decimal number) }
+{
+    if number < 10 {
+        return push_digit(text, number);
+    }
+    push_tens(text, number / 10)?;
+    push_digit(text, number % 10)
+}
+
+// Appends a number of up to two digits.
+#[tactic(auto, using(crate::proofs::PieceLemmas::decimal_parts))]
+fn push_tens(text: &mut String, number: u64) -> Result<(), AllocError>
+    requires { number < 100 }
+    ensures { OnOk result (string_bytes text.new ≡ string_bytes text.old ++ decimal number) }
+{
+    if number < 10 {
+        return push_digit(text, number);
+    }
+    push_digit(text, number / 10)?;
+    push_digit(text, number % 10)
+}
+
+#[tactic(auto, using(std::proofs::lemmas::Fmt::decimal_digit))]
+fn push_digit(text: &mut String, digit: u64) -> Result<(), AllocError>
+    requires { digit < 10 }
+    ensures { OnOk result (string_bytes text.new ≡ string_bytes text.old ++ decimal digit) }
+{
+    text.push((b'0' + digit as u8) as char)
 }
 
 // Appends a number, with `-` before a negative one.

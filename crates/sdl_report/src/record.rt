@@ -13,6 +13,11 @@ use sdl_system::{Dest, ProcessId, StateId, Target, VariableId};
 use std::alloc::{AllocError, Global};
 use std::marker::Model;
 
+// A record that has no room gets room for at least so many entries and values, since most records soon have more.
+const LEAST_ENTRIES: usize = 32;
+
+const LEAST_VALUES: usize = 32;
+
 /// What one instance did, one event after the other. It takes an event into room that `reserve` made, and needs no
 /// memory for it then.
 #[derive(Debug, Drop)]
@@ -116,12 +121,29 @@ impl Record {
         ensures values_room { self.old.values_room ≤ self.new.values_room }
         ensures enough { events ≤ self.old.room → values ≤ self.old.values_room → IsOk result }
     {
-        self.entries.reserve(events)?;
-        if values > self.values_room as usize {
-            let room = u16::try_from(values).map_err(|_| AllocError)?;
-            self.values.reserve(values)?;
-            self.values_room = room;
+        if self.entries.capacity() - self.entries.len() < events {
+            self.entries.reserve(events.max(LEAST_ENTRIES))?;
         }
+        if (self.values_room as usize) < values {
+            self.reserve_values(values)?;
+        }
+        Ok(())
+    }
+
+    // Makes room for so many values, where there is less.
+    #[inline(never)]
+    fn reserve_values(&mut self, values: usize) -> Result<(), AllocError>
+        requires { self.old.values_room < values }
+        ensures same { self.new ≡ with_room self.old self.old.room self.new.values_room }
+        ensures ok { OnOk result (values ≤ self.new.values_room) }
+        ensures values_room { self.old.values_room ≤ self.new.values_room }
+    {
+        if values > u16::MAX as usize {
+            return Err(AllocError);
+        }
+        self.values.reserve(values.max(LEAST_VALUES))?;
+        let spare = self.values.capacity() - self.values.len();
+        self.values_room = u16::try_from(spare).unwrap_or(u16::MAX);
         Ok(())
     }
 

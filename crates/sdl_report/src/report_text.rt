@@ -60,7 +60,7 @@ fn write_record<W: Write>(
     for entry in entries {
         let (own, more) = rest.split_at(entry.count());
         rest = more;
-        write_event(text, *entry, own, record, system, writer)?;
+        write_event(text, entry, own, record, system, writer)?;
     }
     Ok(())
 }
@@ -68,16 +68,16 @@ fn write_record<W: Write>(
 // Appends the line of an event, an entry with its values, to the gathered text, which goes out where it is a piece.
 fn write_event<W: Write>(
     text: &mut String,
-    entry: Entry,
+    entry: &Entry,
     values: &[Value],
     record: &Record,
     system: &System,
     writer: &mut W,
 ) -> Result<(), WriteFault>
     ensures ok { OnOk result (Grows (W.contents writer.old) (string_bytes text.old)
-        (W.contents writer.new) (string_bytes text.new) (event_line system.now «record».now (event_of entry values.now))) }
+        (W.contents writer.new) (string_bytes text.new) (event_line system.now «record».now (event_of entry.now values.now))) }
     ensures err { OnErr result (Breaks (W.contents writer.old) (string_bytes text.old)
-        (W.contents writer.new) (event_line system.now «record».now (event_of entry values.now))) }
+        (W.contents writer.new) (event_line system.now «record».now (event_of entry.now values.now))) }
 {
     push_event(text, entry, values, record, system)?;
     if text.len() >= PIECE {

@@ -9,6 +9,6 @@ returns-in_err-push_event-clause-err g c = OnErr-any c.from_residual.result (Bre
 
 pub returns-in_err-send-clause-err : goal.returns-in_err-send-clause-err
 returns-in_err-send-clause-err g c =
-    let bytes = event_line c.args.system.now c.args.record.now (event_of c.args.entry c.args.values.now) in
+    let bytes = event_line c.args.system.now c.args.record.now (event_of c.args.entry.now c.args.values.now) in
     OnErr-any c.from_residual-in_err-send.result
     (Breaks-gathered _ _ (string_bytes c.args.text.now) _ bytes c.in_ok-push_event.ensures c.in_err-send.ensures.err)
