@@ -82,6 +82,7 @@ pub enum Failure {
 impl Operation {
     /// What the operation gives of two values. Errors: `Overflow` exactly where the number is past 64 bits,
     /// `ZeroDivisor` exactly for `/`, `mod` and `rem` by zero.
+    #[inline(always)]
     pub fn apply(self, left: Value, right: Value) -> Result<Value, Failure>
         ensures { result ≡ applied self left right }
     {
@@ -100,6 +101,7 @@ impl Operation {
 
 impl UnaryOperation {
     /// What the operation gives of a value. Error: `Overflow` exactly for the least number with the other sign.
+    #[inline(always)]
     pub fn apply(self, operand: Value) -> Result<Value, Failure>
         ensures { result ≡ applied_to_one self operand }
     {
@@ -127,6 +129,7 @@ impl NumberSort {
 }
 
 /// Whether two values stand so to one another. Numbers are the same where they count the same, whatever their sort.
+#[inline(always)]
 pub fn compare(comparison: Comparison, left: Value, right: Value) -> bool
     ensures { result ≡ compared comparison left right }
 {
@@ -170,6 +173,7 @@ fn unsorted(value: Value) -> Value
     }
 }
 
+#[inline(always)]
 fn calculate(arithmetic: Arithmetic, left: i64, right: i64) -> Result<i64, Failure>
     ensures { result ≡ calculated arithmetic left right }
 {
@@ -183,6 +187,7 @@ fn calculate(arithmetic: Arithmetic, left: i64, right: i64) -> Result<i64, Failu
     }
 }
 
+#[inline(never)]
 fn divide(left: i64, right: i64) -> Result<i64, Failure>
     ensures { result ≡ divided right (int_div left right) }
 {
@@ -194,6 +199,7 @@ fn divide(left: i64, right: i64) -> Result<i64, Failure>
 }
 
 // All numbers are multiples of -1, and the least one by -1 has no quotient.
+#[inline(never)]
 fn modulo(left: i64, right: i64) -> Result<i64, Failure>
     ensures { result ≡ divided right (int_rem_euclid left right) }
 {
@@ -204,6 +210,7 @@ fn modulo(left: i64, right: i64) -> Result<i64, Failure>
     }
 }
 
+#[inline(never)]
 fn remainder(left: i64, right: i64) -> Result<i64, Failure>
     ensures { result ≡ divided right (int_rem left right) }
 {
