@@ -37,6 +37,7 @@ impl Alone {
     }
 
     /// Puts a signal behind all that waits. A stopped port drops it. For want of memory the signal comes back.
+    #[inline(always)]
     pub fn put(&mut self, item: Item) -> Result<(), Refused<Item>>
         ensures state { MatchResult result
             (λ _. self.new ≡ record self.old { state = put_into self.old.state item })

@@ -116,6 +116,14 @@ leaves Passed Wanted passed rest place got old now whole all first is left =
       subst Wanted (sym entry) first.wanted,
     )
 
+-- the first entry is taken out, where none was passed over
+pub leaves_first : (classes : List Class) (b new : BacklogValue) (c : Class) (got : Got) → b.passed ≡ []
+    → IsFirst (IsSaved classes) (HasClass c classes) b.rest 0 → got ≡ get_or b.rest 0 got → new.rest ≡ remove b.rest 0 → new.passed ≡ b.passed
+    → Leaves (IsSaved classes) (waiting_in b) got (waiting_in new) × HasClass c classes got
+leaves_first classes b new c got none first entry rest same =
+    leaves (IsSaved classes) (HasClass c classes) [] b.rest 0 got (waiting_in b) (waiting_in new) (ap (λ l. l ++ b.rest) none)
+    (All-nil (IsSaved classes)) first entry (ap (λ l. l ++ new.rest) (same ∙ none) ∙ rest)
+
 -- the first of the rest is passed over
 pub first_passed : (rest now : List Got) (got : Got) (passed : List Got) → 0 < length rest → got ≡ get_or rest 0 got → now ≡ remove rest 0
     → (passed ++ got ∷ []) ++ now ≡ passed ++ rest

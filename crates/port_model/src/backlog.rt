@@ -1,8 +1,9 @@
 //! What waits in a port. It remembers what it has looked at, as long as the names that it saw there keep their
 //! classes: so a take looks at no entry twice, however many wait.
-ghost use Rattle.std.specs.Prelude.{◌≡◌, ◌⊎◌, ◌==◌, ◌+◌, ◌<◌, ◌≤◌, [], ◌∷◌, ◌++◌, length, remove, slice_index_or, All, Contains, MatchOption, IsTrue, OnOk, OnErr};
+ghost use Rattle.std.specs.Prelude.{◌≡◌, ◌⊎◌, ◌==◌, ◌+◌, ◌<◌, ◌≤◌, [], ◌∷◌, ◌++◌, length, remove, slice_index_or, All, Contains, MatchOption, IfSome, IsTrue, OnOk, OnErr};
 ghost use Rattle.std.specs.VecDeque.{deque_capacity};
 ghost use Rattle.port_model.specs.Backlog.{looked_after, waiting_in, IsOrdinaryName, IsSavedName, Leaves};
+ghost use Rattle.port_model.specs.Search.{IsFirstUnsaved};
 ghost use Rattle.port_model.specs.Take.{HasClass, IsOrdinary, IsSaved};
 ghost use Rattle.port_model.specs.Timers.{without_signal};
 ghost use Rattle.port_model.specs.declared.selection.Class.TheVariants as class;
@@ -86,6 +87,7 @@ impl Backlog {
     }
 
     /// Puts an entry behind all that waits, into the room that was made. Takes no memory.
+    #[inline(always)]
     pub fn push_reserved(&mut self, got: Got)
         requires { 0 < self.old.room }
         ensures { waiting_in self.new ≡ waiting_in self.old ++ got ∷ [] }
@@ -94,6 +96,7 @@ impl Backlog {
     }
 
     /// Takes the first entry of a priority input out, if there is one. Needs no memory.
+    #[inline(always)]
     pub fn take_priority(&mut self, selection: &Selection) -> Option<Got>
         ensures { MatchOption result ((waiting_in self.new ≡ waiting_in self.old)
             × All (IsOrdinary selection.now) (waiting_in self.new))
@@ -103,6 +106,17 @@ impl Backlog {
         if !selection.has_priority() {
             return None;
         }
+        self.look_for_priority(selection)
+    }
+
+    // Takes the first entry of a priority input out, if there is one.
+    #[inline(never)]
+    fn look_for_priority(&mut self, selection: &Selection) -> Option<Got>
+        ensures { MatchOption result ((waiting_in self.new ≡ waiting_in self.old)
+            × All (IsOrdinary selection.now) (waiting_in self.new))
+            (λ got. Leaves (IsOrdinary selection.now) (waiting_in self.old) got (waiting_in self.new)
+            × HasClass class.Priority selection.now got) }
+    {
         self.recall_saved(selection);
         self.look_on(selection);
         match search::first_priority(&self.rest, self.looked, selection) {
@@ -112,7 +126,43 @@ impl Backlog {
     }
 
     /// Takes the first entry that isn't saved out, if there is one, with its class. Needs no memory.
+    #[inline(always)]
     pub fn take_unsaved(&mut self, selection: &Selection) -> Option<Unsaved>
+        ensures { MatchOption result ((waiting_in self.new ≡ waiting_in self.old)
+            × All (IsSaved selection.now) (waiting_in self.new))
+            (λ taken. Leaves (IsSaved selection.now) (waiting_in self.old) taken.got (waiting_in self.new)
+            × HasClass taken.class selection.now taken.got × (taken.class ≡ class.Saved → ⊥)) }
+    {
+        if let Some(class) = self.first_class(selection) {
+            return Some(Unsaved {
+                got: self.take_out(0),
+                class,
+            });
+        }
+        self.look_for_unsaved(selection)
+    }
+
+    // The class of the first entry. None: it is saved or was passed over, or there is none.
+    #[inline(always)]
+    fn first_class(&self, selection: &Selection) -> Option<Class>
+        ensures { IfSome result (λ class. (self.now.passed ≡ [])
+            × IsFirstUnsaved selection.now self.now.rest 0 class) }
+    {
+        if !self.passed.is_empty() {
+            return None;
+        }
+        let Some(got) = self.rest.front() else {
+            return None;
+        };
+        match selection.class_of(got.name()) {
+            Class::Saved => None,
+            class => Some(class),
+        }
+    }
+
+    // Takes the first entry that isn't saved out, if there is one, with its class.
+    #[inline(never)]
+    fn look_for_unsaved(&mut self, selection: &Selection) -> Option<Unsaved>
         ensures { MatchOption result ((waiting_in self.new ≡ waiting_in self.old)
             × All (IsSaved selection.now) (waiting_in self.new))
             (λ taken. Leaves (IsSaved selection.now) (waiting_in self.old) taken.got (waiting_in self.new)
@@ -276,6 +326,7 @@ impl Backlog {
     }
 
     // Takes the entry at `place` of the rest out.
+    #[inline(always)]
     fn take_out(&mut self, place: usize) -> Got
         requires { place < length self.old.rest }
         ensures entry { result ≡ slice_index_or self.old.rest place result }
@@ -290,6 +341,7 @@ impl Backlog {
 }
 
 // Takes the entry at `place` out. The first one leaves without moving the others.
+#[inline(always)]
 fn take_at(list: &mut VecDeque<Got>, place: usize) -> Got
     requires { place < length list.old.items }
     ensures entry { result ≡ slice_index_or list.old.items place result }

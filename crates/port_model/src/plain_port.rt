@@ -80,6 +80,7 @@ impl PlainPort {
 
     /// Puts a signal behind all that waits. A stopped port drops it, and takes no memory. For want of memory the signal
     /// comes back.
+    #[inline(always)]
     pub fn put(&mut self, item: Item) -> Result<(), Refused<Item>>
         ensures ok { OnOk result (self.new.state ≡ put_into self.old.state item) }
         ensures err { OnErr result (self.new.state ≡ self.old.state) }
@@ -103,6 +104,7 @@ impl PlainPort {
     }
 
     /// `put` into the room that `reserve` has made. Takes no memory.
+    #[inline(always)]
     pub fn put_reserved(&mut self, item: Item)
         requires { 0 < self.old.room }
         ensures state { self.new.state ≡ put_into self.old.state item }

@@ -52,6 +52,7 @@ impl Values {
     }
 
     /// Adds a value behind the others. Only memory can be wanting.
+    #[inline(always)]
     pub fn push(&mut self, value: Value) -> Result<(), AllocError>
         ensures ok { OnOk result (self.new ≡ self.old ++ value ∷ []) }
         ensures few { length self.old < 2 → IsOk result }
@@ -65,6 +66,7 @@ impl Values {
     }
 
     /// A copy. Only memory can be wanting.
+    #[inline(always)]
     pub fn copied(&self) -> Result<Self, AllocError>
         ensures ok { IfOk result (λ copy. copy ≡ self.now) }
         ensures few { length self.now ≤ 2 → IsOk result }
