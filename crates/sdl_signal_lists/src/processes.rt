@@ -1,6 +1,6 @@
 //! Processes, as a network has them.
 
-ghost use Rattle.std.specs.Prelude.{◌≡◌, ◌++◌, ◌+◌, ◌∷◌, [], length, map, IfOk, OnOk};
+ghost use Rattle.std.specs.Prelude.{◌≡◌, ◌++◌, ◌+◌, ◌^◌, ◌<◌, ◌≤◌, ◌∷◌, [], length, map, IfOk, IsOk, OnOk};
 ghost use Rattle.sdl_declared.specs.Seen.{process_seen};
 ghost use Rattle.sdl_signal_lists.specs.Processes.{faults_of, lists_of, named_items, process_at, process_lists, processes_faults, processes_from, scope_of, seen_within, timers_items, two_lists};
 ghost use Rattle.sdl_signal_lists.specs.Seen.{list_items, seen_of};
@@ -101,13 +101,15 @@ fn timer_list(
     Ok(list)
 }
 
-/// Notes the names in the signal sets of the processes that stand for nothing.
+/// Notes the names in the signal sets of the processes that stand for nothing. Refused only where there are more
+/// processes than numbers of 32 bits.
 pub fn note_processes<'t>(
     declared: &Declared<'_, 't>,
     entries: &[ProcessEntry<'t>],
     faults: &mut Faults<'t>,
 ) -> Result<(), AllocError>
-    ensures { OnOk result (told faults.new ≡ least_of (told faults.old) (processes_faults declared.now (map process_seen entries.now))) }
+    ensures noted { OnOk result (told faults.new ≡ least_of (told faults.old) (processes_faults declared.now (map process_seen entries.now))) }
+    ensures few { length entries.now ≤ 2 ^ 32 → IsOk result }
 {
     for (index, entry) in entries.iter().enumerate() {
         note_process(declared, index, entry, faults)?;
@@ -121,7 +123,8 @@ fn note_process<'t>(
     entry: &ProcessEntry<'t>,
     faults: &mut Faults<'t>,
 ) -> Result<(), AllocError>
-    ensures { OnOk result (told faults.new ≡ least_of (told faults.old) (faults_of declared.now index (process_seen entry.now))) }
+    ensures noted { OnOk result (told faults.new ≡ least_of (told faults.old) (faults_of declared.now index (process_seen entry.now))) }
+    ensures few { index < 2 ^ 32 → IsOk result }
 {
     let number = counted(index)?;
     let definition = entry.definition;

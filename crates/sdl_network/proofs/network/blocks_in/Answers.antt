@@ -12,7 +12,7 @@ loop-index-preserved c =
     let entry = c.index-entries-index.result in
     c.in_ok-push.ensures.items
     ∙ ap (λ b. c.loop-index.blocks.items ++ record { is_implied = b } ∷ []) c.is_empty_at-is_implied.ensures
-    ∙ ap (λ n. c.loop-index.blocks.items ++ block_at declared n (block_seen entry) ∷ []) c.in_ok-number.ensures
+    ∙ ap (λ n. c.loop-index.blocks.items ++ block_at declared n (block_seen entry) ∷ []) c.in_ok-number.ensures.same
     ∙ ap (λ blocks. blocks ++ block_at declared i (block_seen entry) ∷ []) c.loop-index.invariant
     ∙ sym (numbered-map-step entries i entry c.loop-index-test.true c.index-entries-index.is block_seen (block_at declared) 0 i
     (omega arith))

@@ -13,7 +13,7 @@ loop-index-preserved c =
     let i = c.loop-index.index in
     let entry = c.index-entries-index.result in
     let old = told c.args.faults.now in
-    c.in_ok-note_process.ensures
+    c.in_ok-note_process.ensures.noted
     ∙ ap (λ before. least_of before (faults_of declared i (process_seen entry))) c.loop-index.invariant
     ∙ both_noted old (processes_faults declared (map process_seen (take i entries))) (faults_of declared i (process_seen entry))
     ∙ ap (least_of old)
