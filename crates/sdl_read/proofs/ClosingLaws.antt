@@ -1,5 +1,5 @@
 -- The laws of what is followed by words that the node drops: ends, and what closes a construct.
-use Rattle.std.proofs.Common.{◌≡◌, ℕ, ◌⊎◌, inl, inr, Bool, true, false, true≢false, if◌then◌else◌, List, [], ◌∷◌, ◌++◌, Ok, Err, refl, sym, ap, ◌∙◌, subst}
+use Rattle.std.proofs.Common.{◌≡◌, ℕ, ◌⊎◌, inl, inr, Bool, true, false, true≢false, if◌then◌else◌, List, [], ◌∷◌, Ok, Err, refl, sym, ap, ◌∙◌, subst}
 use Rattle.std.specs.Str.{bytes_eq}
 use Rattle.std.proofs.lemmas.Slice.Eq.{bytes_eq-Decides}
 use Rattle.sdl_tree.specs.declared.mark.Mark.{Mark}
@@ -10,52 +10,42 @@ use Rattle.sdl_tree.specs.Spells.Parts.{Both, Behind, Followed, SpellsEnd, Ended
 use Rattle.sdl_tree.specs.Words.{Words, Spot, Fixed}
 use Rattle.sdl_tree.specs.Words as word
 use Rattle.sdl_read.specs.Parts.{followed_by, followed, ended, end_name, closing_by, closing, closed}
-use Rattle.sdl_read.specs.Reading.{Parser, Outcome, Refusal, Refused, Deep, and_then, front, rest, sees, sees_name}
-use Rattle.sdl_read.proofs.Laws.{Law, Anywhere, GoodAfter, Made, Tied, as_law, same_law, stops_law, tied_law, both_law, behind_law, made_law, either_law}
+use Rattle.sdl_read.specs.Reading.{Parser, Outcome, Refused, pure, front, rest, sees, sees_name}
+use Rattle.sdl_read.proofs.Laws.{Form, Gives, Law, Anywhere, GoodAfter, Made, Tied, as_law, same_law, stops_law, nothing_law, tied_law, both_law, behind_law, first_alone, made_law, either_law}
 use Rattle.sdl_read.proofs.PartLaws.{name_front, end_law, end_begins, whole}
-use Rattle.sdl_read.proofs.Steps.{read_as, same_rest, not_read, not_refused, not_deep, same_refusal, here_stands, chosen, if_true, true_or_false, sees_front, sees_at, alike_name, alike_from}
+use Rattle.sdl_read.proofs.Steps.{read_as, rest_here, if_true, sees_front, sees_at, alike_name, alike_from}
 
 -- ---- x and words that the node drops
 
-dropped : {A : Type 0} (x : A) (o : Outcome (Unit {0}))
-    → and_then {A = A × Unit {0}} (and_then o (λ u j. read_as (x, u) j)) (λ z j. read_as z.0 j) ≡ and_then o (λ _ j. read_as x j)
-dropped x (Ok p) = refl
-dropped x (Err r) = refl
-
-paired : {A : Type 0} (q : A → Parser (Unit {0})) (o : Outcome A)
-    → and_then {A = A × Unit {0}} (and_then o (λ x m. and_then (q x m) (λ u j. read_as (x, u) j))) (λ z j. read_as z.0 j) ≡ and_then o (λ x m. and_then (q x m) (λ _ j. read_as x j))
-paired q (Ok p) = dropped p.0 (q p.0 p.1)
-paired q (Err r) = refl
-
 -- x and words that the node drops, which may depend on x
-abbrev pub Drops : {A : Type 0} → (A → Words → Words → Type 0) → (A → Words → Words → Type 0) → A → Words → Words → Type 0
+abbrev pub Drops : {A : Type 0} → Form A → Form A → Form A
 Drops R D x i j = (m : Words) × R x i m × D x m j
 
-module _ {A : Type 0} {p : Parser A} {q : A → Parser (Unit {0})} {P M : A → Words → Words → Type 0} {D : A → Words → Words → Type 0} {S T : Words → Type 0} {e : A → A} where
+module _ {A : Type 0} {p : Parser A} {q : A → Parser (Unit {0})} {P M : Form A} {D : Form A} {S T : Words → Type 0} {e : A → A} where
   -- where the second begins the first stops, and what differs in places alone is followed by the same
   pub drops_law : Law p P M S e → ((x : A) → Law (q x) (λ _. D x) (λ _. D x) T whole) → ((x : A) (m j : Words) → D x m j → T j → S m)
       → ((x y : A) → e x ≡ e y → (i j : Words) → D x i j → D y i j) → Law (followed_by p q) (Drops P D) (Drops M D) T e
   drops_law a b ends same =
-      same_law (λ i. paired q (p i))
+      same_law (λ i. first_alone (p i) q)
       (as_law (drops_to P) drops_from (drops_to M)
       (made_law (λ (x : A × Unit {0}). x.0) (λ x y n. ap (λ (z : A × Unit {0}). z.0) n) (tied_law a b (λ x u m j s t. ends x m j s t) (λ x y n u i j s. same x y n i j s))))
     where
-      drops_to : (R : A → Words → Words → Type 0) (x : A) (i j : Words) → Made (λ (y : A × Unit {0}). y.0) (Tied R (λ y _. D y)) x i j → Drops R D x i j
+      drops_to : (R : Form A) (x : A) (i j : Words) → Made (λ (y : A × Unit {0}). y.0) (Tied R (λ y _. D y)) x i j → Drops R D x i j
       drops_to R x i j s = let Q : A → Type 0 = λ y. Drops R D y i j in subst Q (sym s.1) s.2
 
       drops_from : (x : A) (i j : Words) → Drops P D x i j → Made (λ (y : A × Unit {0}). y.0) (Tied P (λ y _. D y)) x i j
       drops_from x i j s = ((x, tt), refl, s)
 
-module _ {A : Type 0} {p : Parser A} {q : Parser (Unit {0})} {P M : A → Words → Words → Type 0} {D : Words → Words → Type 0} {S T : Words → Type 0} {e : A → A} where
+module _ {A : Type 0} {p : Parser A} {q : Parser (Unit {0})} {P M : Form A} {D : Words → Words → Type 0} {S T : Words → Type 0} {e : A → A} where
   pub followed_law : Law p P M S e → Law q (λ _. D) (λ _. D) T whole → ((m j : Words) → D m j → T j → S m) → Law (followed p q) (Followed P D) (Followed M D) T e
   followed_law a d ends = drops_law a (λ x. d) (λ x. ends) (λ x y n i j s. s)
 
 -- x end, where x stops at an end
-pub ended_law : {A : Type 0} {p : Parser A} {P M : A → Words → Words → Type 0} {S : Words → Type 0} {e : A → A} → Law p P M S e
+pub ended_law : {A : Type 0} {p : Parser A} {P M : Form A} {S : Words → Type 0} {e : A → A} → Law p P M S e
     → ((i j : Words) → SpellsEnd i j → S i) → Law (ended p) (Ended P) (Ended M) Anywhere e
 ended_law a at_end = followed_law a end_law (λ m j s t. at_end m j s)
 
-pub ended_at_law : {A : Type 0} {p : Parser A} {P M : A → Words → Words → Type 0} {S : Words → Type 0} {e : A → A} → Law p P M S e
+pub ended_at_law : {A : Type 0} {p : Parser A} {P M : Form A} {S : Words → Type 0} {e : A → A} → Law p P M S e
     → ((s : Spelling) (m : Words) → S (Fixed mark.Semicolon s ∷ m)) → ((s : Spelling) (m : Words) → S (Fixed mark.Comment s ∷ m)) → Law (ended p) (Ended P) (Ended M) Anywhere e
 ended_at_law {S = S} a at_semicolon at_comment = ended_law a (end_begins S at_semicolon at_comment)
 
@@ -66,12 +56,9 @@ Named good i j = (i ≡ j) ⊎ ((y : Spot) × (good y.text ≡ true) × (i ≡ w
 
 seen_name : (i : Words) → sees_name i ≡ true → (y : Spot) × (i ≡ word.Name y ∷ rest i)
 unfolding sees_name front rest
-seen_name [] e = absurd (true≢false (sym e))
-seen_name (Fixed m s ∷ i) e = absurd (true≢false (sym e))
 seen_name (word.Name y ∷ i) e = (y, refl)
-seen_name (word.Number n y ∷ i) e = absurd (true≢false (sym e))
-seen_name (word.Text y ∷ i) e = absurd (true≢false (sym e))
-seen_name (word.LeftOut lower y ∷ i) e = absurd (true≢false (sym e))
+seen_name [] e = absurd (true≢false (sym e))
+seen_name (w ∷ i) e = absurd (true≢false (sym e))
 
 abbrev pub tried : Bool → Spot → Parser (Unit {0})
 tried b y i = if b then Ok (tt, i) else Err (Refused (word.Name y ∷ i))
@@ -81,52 +68,36 @@ module _ {p : Parser (Unit {0})} (good : List ℕ → Bool) (at_name : (y : Spot
   abbrev Unnamed : Words → Type 0
   Unnamed j = sees_name j ≡ false
 
-  named_read : (i : Words) (u : Unit {0}) (j : Words) → p i ≡ read_as u j → ((i ≡ j) × (sees_name i ≡ false)) ⊎ ((y : Spot) × (good y.text ≡ true) × (i ≡ word.Name y ∷ j))
-  named_read i u j s = elim (true_or_false (sees_name i)) as (λ _. ((i ≡ j) × (sees_name i ≡ false)) ⊎ ((y : Spot) × (good y.text ≡ true) × (i ≡ word.Name y ∷ j))) [
-    | inl t ↦
-        let at = seen_name i t in
-        elim (chosen (good at.0.text) (Ok (tt, rest i)) (Err (Refused (word.Name at.0 ∷ rest i))) (read_as u j) (sym (at_name at.0 (rest i)) ∙ ap p (sym at.1) ∙ s))
-        as (λ _. ((i ≡ j) × (sees_name i ≡ false)) ⊎ ((y : Spot) × (good y.text ≡ true) × (i ≡ word.Name y ∷ j))) [
-          | inl v ↦ inr (at.0, v.0, at.1 ∙ ap (λ k. word.Name at.0 ∷ k) (same_rest tt u (rest i) j v.1))
-          | inr v ↦ not_read (Refused (word.Name at.0 ∷ rest i)) u j v.1
-        ]
-    | inr t ↦ inl (same_rest tt u i j (sym (elsewhere i t) ∙ s), t)
-  ]
-
-  named_refused : (i : Words) (r : Refusal) → p i ≡ Err r → r ≡ Refused i
-  named_refused i r s = elim (true_or_false (sees_name i)) as (λ _. r ≡ Refused i) [
-    | inl t ↦
-        let at = seen_name i t in
-        elim (chosen (good at.0.text) (Ok (tt, rest i)) (Err (Refused (word.Name at.0 ∷ rest i))) (Err r) (sym (at_name at.0 (rest i)) ∙ ap p (sym at.1) ∙ s)) as (λ _. r ≡ Refused i) [
-          | inl v ↦ not_refused {A = Unit {0}} tt (rest i) r v.1
-          | inr v ↦ same_refusal {A = Unit {0}} (Refused (word.Name at.0 ∷ rest i)) r v.1 ∙ ap Refused (sym at.1)
-        ]
-    | inr t ↦ not_refused {A = Unit {0}} tt i r (sym (elsewhere i t) ∙ s)
-  ]
-
-  named_sound : (i : Words) (u : Unit {0}) (j : Words) → p i ≡ read_as u j → Named good i j
-  named_sound i u j s = elim (named_read i u j s) as (λ _. Named good i j) [
-    | inl t ↦ inl t.0
-    | inr t ↦ inr t
-  ]
-
-  named_complete : (u : Unit {0}) (i j : Words) → Named good i j → Unnamed j → p i ≡ read_as u j
-  named_complete u i j (inl e) t = ap p e ∙ elsewhere j t
-  named_complete u i j (inr c) t = ap p c.2 ∙ at_name c.0 j ∙ if_true (good c.0.text) (Ok (tt, j)) (Err (Refused (word.Name c.0 ∷ j))) c.1
-
-  named_keeps : (u : Unit {0}) (i j : Words) → Named good i j → (w : Words) × (i ≡ w ++ j) × ((k : Words) → Unnamed k → Named good (w ++ k) k)
-  named_keeps u i j (inl e) = ([], e, λ k t. inl refl)
-  named_keeps u i j (inr c) = (word.Name c.0 ∷ [], c.2, λ k t. inr (c.0, c.1, refl))
+  abbrev Tries : Words → Outcome (Unit {0}) → Type 0
+  Tries = Gives p (λ _. Named good) (λ _. Named good) Unnamed
 
   unnamed_after : (j k : Words) → sees_name j ≡ false → GoodAfter Unnamed j k → sees_name k ≡ false
   unnamed_after j k none (inl same) = name_front k j same ∙ none
   unnamed_after j k none (inr t) = t
 
-  named_near : (i : Words) (u : Unit {0}) (j : Words) → p i ≡ read_as u j → (w : Words) × (i ≡ w ++ j) × ((k : Words) → GoodAfter Unnamed j k → p (w ++ k) ≡ read_as u k)
-  named_near i u j s = elim (named_read i u j s) as (λ _. (w : Words) × (i ≡ w ++ j) × ((k : Words) → GoodAfter Unnamed j k → p (w ++ k) ≡ read_as u k)) [
-    | inl t ↦ ([], t.0, λ k g. elsewhere k (unnamed_after j k (ap sees_name (sym t.0) ∙ t.1) g))
-    | inr t ↦ (word.Name t.0 ∷ [], t.2, λ k g. at_name t.0 k ∙ if_true (good t.0.text) (Ok (tt, k)) (Err (Refused (word.Name t.0 ∷ k))) t.1)
-  ]
+  named_try : (y : Spot) (i : Words) (b : Bool) → good y.text ≡ b → Tries (word.Name y ∷ i) (tried b y i)
+  named_try y i true e = record {
+    taken = word.Name y ∷ [];
+    at = refl;
+    again = λ k g. at_name y k ∙ if_true (good y.text) (Ok (tt, k)) (Err (Refused (word.Name y ∷ k))) e;
+    spelled = inr (y, e, refl);
+  }
+  named_try y i false e = rest_here (word.Name y ∷ i)
+
+  named_by : (i : Words) (b : Bool) → sees_name i ≡ b → Tries i (p i)
+  named_by i true e =
+      let at = seen_name i e in
+      let y : Spot = at.0 in
+      let F : Words → Type 0 = λ k. Tries k (p k) in
+      let G : Outcome (Unit {0}) → Type 0 = λ o. Tries (word.Name y ∷ rest i) o in
+      subst F (sym at.1) (subst G (sym (at_name y (rest i))) (named_try y (rest i) (good y.text) refl))
+  named_by i false e =
+      let G : Outcome (Unit {0}) → Type 0 = λ o. Tries i o in
+      subst G (sym (elsewhere i e)) (record { taken = []; at = refl; again = λ k g. elsewhere k (unnamed_after i k e g); spelled = inl refl })
+
+  named_complete : (u : Unit {0}) (i j : Words) → Named good i j → Unnamed j → p i ≡ read_as u j
+  named_complete u i j (inl e) t = ap p e ∙ elsewhere j t
+  named_complete u i j (inr c) t = ap p c.2 ∙ at_name c.0 j ∙ if_true (good c.0.text) (Ok (tt, j)) (Err (Refused (word.Name c.0 ∷ j))) c.1
 
   named_moves : (u : Unit {0}) (i j k : Words) → Named good i j → AreAlike i k → (v : Unit {0}) × (l : Words) × Named good k l × AreAlike j l × (whole v ≡ whole u)
   named_moves u i j k (inl e) t = (tt, k, inl refl, alike_from i j k e t, refl)
@@ -135,16 +106,7 @@ module _ {p : Parser (Unit {0})} (good : List ℕ → Bool) (at_name : (y : Spot
 
   pub named_law : Law p (λ _. Named good) (λ _. Named good) (λ j. sees_name j ≡ false) whole
   named_law = record {
-    rules = record {
-      sound = named_sound;
-      complete = named_complete;
-      keeps = named_keeps;
-      near = named_near;
-      stands = λ i r s. here_stands i r (named_refused i r s);
-      moves = named_moves;
-      more = λ u i j s. s;
-      deep = λ i left s. not_deep i left (named_refused i (Deep left) s);
-    };
+    rules = record { tells = λ i. named_by i (sees_name i) refl; complete = named_complete; moves = named_moves; more = λ u i j s. s };
     one = (tt, [], λ j t. inl refl);
   }
 
@@ -160,11 +122,8 @@ named_there x y i = refl
 named_elsewhere : (x : List ℕ) (i : Words) → sees_name i ≡ false → end_name x i ≡ read_as tt i
 unfolding end_name sees_name front
 named_elsewhere x [] e = refl
-named_elsewhere x (Fixed m s ∷ i) e = refl
 named_elsewhere x (word.Name y ∷ i) e = absurd (true≢false e)
-named_elsewhere x (word.Number n y ∷ i) e = refl
-named_elsewhere x (word.Text y ∷ i) e = refl
-named_elsewhere x (word.LeftOut lower y ∷ i) e = refl
+named_elsewhere x (w ∷ i) e = refl
 
 called_to : (x : List ℕ) (u : Unit {0}) (i j : Words) → Named (is_text x) i j → SpellsEndName x i j
 called_to x u i j (inl e) = inl e
@@ -183,20 +142,8 @@ end_name_law x = as_law (called_to x) (called_from x) (called_to x) (named_law (
 abbrev pub Nowhere : Unit {0} → Words → Words → Type 0
 Nowhere u i j = i ≡ j
 
-pub nowhere_law : (S : Words → Type 0) → Law (λ i. Ok (tt, i)) Nowhere Nowhere S whole
-nowhere_law S = record {
-  rules = record {
-    sound = λ i u j s. same_rest tt u i j s;
-    complete = λ u i j s t. ap (λ k. read_as tt k) s;
-    keeps = λ u i j s. ([], s, λ k t. refl);
-    near = λ i u j s. ([], same_rest tt u i j s, λ k g. refl);
-    stands = λ i r s. not_refused {A = Unit {0}} tt i r s;
-    moves = λ u i j k s t. (tt, k, refl, alike_from i j k s t, refl);
-    more = λ u i j s. s;
-    deep = λ i left s. not_refused {A = Unit {0}} tt i (Deep left) s;
-  };
-  one = (tt, [], λ j t. refl);
-}
+pub nowhere_law : (S : Words → Type 0) → Law (pure tt) Nowhere Nowhere S whole
+nowhere_law S = as_law (λ u i j s. s.1) (λ u i j s. (refl, s)) (λ u i j s. s.1) (nothing_law tt)
 
 end_unnamed : (i j : Words) → SpellsEnd i j → sees_name i ≡ false
 unfolding sees_name front

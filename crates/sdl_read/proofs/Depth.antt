@@ -6,6 +6,7 @@ use Rattle.sdl_tree.specs.declared.name.Spelling.{Spelling}
 use Rattle.sdl_tree.specs.Words.{Word, Words, Fixed}
 use Rattle.sdl_tree.specs.Depth.{IsOpening}
 use Rattle.sdl_read.specs.Reading.{front}
+use Rattle.sdl_read.proofs.Steps.{IsRest}
 
 -- the same stands next
 abbrev pub SameFront : Words → Words → Type 0
@@ -37,6 +38,20 @@ pub record TooMany {A : Type 0} (P More : A → Words → Words → Type 0) (S :
   pub more : (x : A) × (u : Words) × ((j : Words) → S j → More x (passed ++ (head ++ (u ++ j))) j)
   pub barred : (k : Words) (x : A) (j : Words) → P x (passed ++ (head ++ k)) j → S j → ⊥
 
+-- it stands in these words
+pub deep_rest : {A : Type 0} {P M : A → Words → Words → Type 0} {S : Words → Type 0} (i left : Words) → TooMany P M S i left → IsRest i left
+deep_rest i left t = by t.heads
+  where
+    by : IsHead t.head t.opening → IsRest i left
+    by (inl e) = (t.passed, t.at ∙ ap (λ h. t.passed ++ (h ++ t.back)) e ∙ ap (λ k. t.passed ++ k) (sym t.here))
+    by (inr e) =
+        let active : Words = Fixed mark.Active e.0 ∷ [] in
+        (t.passed ++ active, t.at ∙ ap (λ h. t.passed ++ (h ++ t.back)) e.1 ∙ ap (λ k. t.passed ++ (active ++ k)) (sym t.here) ∙ sym (append_assoc t.passed active left))
+
+-- none opens where the same is spelled with one more
+pub no_deeper : {A : Type 0} {P : A → Words → Words → Type 0} {S : Words → Type 0} (i left : Words) → S [] → TooMany P P S i left → ⊥
+no_deeper i left last t = t.barred (t.more.1 ++ []) t.more.0 [] (t.more.2 [] last) last
+
 head_front : (head : Words) (w : Word) → IsHead head w → (k m : Words) → SameFront (head ++ k) (head ++ m)
 unfolding front
 head_front head w (inl e) k m = let F : Words → Type 0 = λ h. front (h ++ k) ≡ front (h ++ m) in subst F (sym e) refl
@@ -57,6 +72,31 @@ same_behind (v ∷ u) k m e = refl
 pub front_behind : (v : Word) (u k m : Words) → SameFront (v ∷ u ++ k) (v ∷ u ++ m)
 unfolding front
 front_behind v u k m = refl
+
+-- ---- what is spelled by another name
+
+module _ {A B : Type 0} {P M : A → Words → Words → Type 0} {S : Words → Type 0} {U : Words → Type 0} (i left : Words) (R O : B → Words → Words → Type 0) (f : A → B)
+    (fewer : (j : Words) → U j → S j) (to : (x : A) (k j : Words) → P x k j → R (f x) k j) (to_more : (x : A) (k j : Words) → M x k j → O (f x) k j)
+    (t : TooMany P M S i left) (barred : (k : Words) (y : B) (j : Words) → R y (t.passed ++ (t.head ++ k)) j → U j → ⊥) where
+  renamed_goes : (t.passed ≡ []) ⊎ GoesOn P S t.passed → (t.passed ≡ []) ⊎ GoesOn R U t.passed
+  renamed_goes (inl e) = inl e
+  renamed_goes (inr g) = inr (f g.0, g.1, λ j u. to g.0 (t.passed ++ (g.1 ++ j)) j (g.2 j (fewer j u)))
+
+  -- where with the word nothing else is spelled either
+  pub renamed : TooMany R O U i left
+  renamed = record {
+    passed = t.passed;
+    head = t.head;
+    opening = t.opening;
+    back = t.back;
+    at = t.at;
+    here = t.here;
+    opens = t.opens;
+    heads = t.heads;
+    goes = renamed_goes t.goes;
+    more = (f t.more.0, t.more.1, λ j u. to_more t.more.0 (t.passed ++ (t.head ++ (t.more.1 ++ j))) j (t.more.2 j (fewer j u)));
+    barred = barred;
+  }
 
 -- ---- what stands within a larger node, with words behind it
 

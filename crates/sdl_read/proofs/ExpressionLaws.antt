@@ -1,5 +1,5 @@
 -- The laws of expressions.
-use Rattle.std.proofs.Common.{◌≡◌, ℕ, zero, suc, ◌<◌, ◌⊎◌, inl, inr, true, false, is_some, List, [], ◌∷◌, length, map, Some, Ok, Err, refl, sym, ap, ◌∙◌, subst, arith}
+use Rattle.std.proofs.Common.{◌≡◌, ℕ, zero, suc, ◌⊎◌, inl, inr, Bool, true, false, is_some, if◌then◌else◌, List, [], ◌∷◌, map, Some, Ok, Err, refl, sym, ap, ◌∙◌, subst, arith}
 use Rattle.sdl_tree.specs.declared.expressions.KeywordValue.{KeywordValue}
 use Rattle.sdl_tree.specs.declared.expressions.KeywordValue.TheVariants as value
 use Rattle.sdl_tree.specs.declared.expressions.UnaryOperator.{UnaryOperator}
@@ -13,15 +13,15 @@ use Rattle.sdl_tree.specs.Spells.Parts.{IsMark, Both, Behind, Before, Repeated, 
 use Rattle.sdl_tree.specs.Tree.{Expr, Numeral, Named, Keyword, Active, Paren, Unary, Chain, Exprs, NoExpr, AndExpr, exprs_in, Links, NoLink, AndLink, Link, links_in, exprs_of, links_of, Number}
 use Rattle.sdl_tree.specs.Words.{Words, Spot, Fixed}
 use Rattle.sdl_tree.specs.Words as word
-use Rattle.sdl_read.specs.Reading.{Parser, Refusal, Deep, too_deep, refuse, ◌⊗◌, made, either, is_number, front, rest, mark_at, sees, same_mark, sees_name, sees_number, expect, name, repeated, in_parentheses}
+use Rattle.sdl_read.specs.Reading.{Parser, Outcome, Refused, Deep, too_deep, refuse, ◌⊗◌, and_then, made, either, is_number, front, rest, mark_at, sees, same_mark, sees_name, sees_number, expect, name, repeated, in_parentheses}
 use Rattle.sdl_read.specs.Expressions.{by_mark, value_of, operator_at, value_at, unary_at, unary_of, marked, Readers, readers, keyword_with, paren_with, active_with, unary_with, link_with, chain_with, sees_value, sees_unary, sees_operator, primary, signed, link, chain, level, expr, paren_of, active_of, deep_active, no_args}
 use Rattle.sdl_tree.specs.Depth.{IsOpening}
-use Rattle.sdl_read.proofs.Depth.{SameFront, TooMany, closed}
-use Rattle.sdl_read.proofs.Laws.{Rules, Law, MaybeLaw, Anywhere, Takes, Made, left_behind, as_law, stops_law, never_rules, refused_rules, same_rules, same_law, shut, shut_first, shut_unread, shut_stands, shut_here, shut_rules, both_rules, both_law, behind_law, before_law, made_law, node_rules, node_law, either_rules, first_law, either_law, maybe_law}
+use Rattle.sdl_read.proofs.Depth.{SameFront, no_deeper, closed}
+use Rattle.sdl_read.proofs.Laws.{Form, Gives, Rules, Law, MaybeLaw, Anywhere, Takes, Made, still, as_law, stops_law, never_rules, refuse_rules, nothing_law, mark_law, same_rules, same_law, shut, shut_first, shut_rules, both_rules, both_law, behind_law, before_law, made_law, node_rules, node_law, either_rules, first_law, either_law, maybe_law}
 use Rattle.sdl_read.proofs.ListLaws.{repeated_law, repeated_begins}
 use Rattle.sdl_read.proofs.OperatorLaws.{value_at_again, unary_at_again, operator_at_ok, operator_at_again, Stops, operator_none, operator_front, operator_end, same_mark_at, stops_last, stops_before, stops_below, IsMarked, marked_rules, marked_law}
-use Rattle.sdl_read.proofs.PartLaws.{nameless, name_front, mark_law, name_law, number_law, in_parentheses_law, nothing_law, opens_list, listed_to, listed_from}
-use Rattle.sdl_read.proofs.Steps.{read_as, IsRest, StandsAt, stands_behind, rest_length, not_deep, here_stands, sees_front, bind_ok, bind_err, sees_at, expect_ok, expect_refused}
+use Rattle.sdl_read.proofs.PartLaws.{nameless, name_front, name_law, number_law, in_parentheses_law, opens_list, listed_to, listed_from}
+use Rattle.sdl_read.proofs.Steps.{no_words, sees_front, sees_ok, sees_at}
 
 abbrev pub erased_link : Link → Link
 erased_link l = record { operator = l.operator; word = erased_word l.word; operand = erased_expr l.operand }
@@ -66,13 +66,40 @@ number_begins : (x : Number) (i j : Words) → i ≡ word.Number x.value x.digit
 unfolding sees_number front
 number_begins x i j e = ap sees_number e
 
+module _ (Q : Words → Type 0) (at_name : (x : Spot) (k : Words) → Q (word.Name x ∷ k)) (at_number : (n : Number) (k : Words) → Q (word.Number n.value n.digits ∷ k))
+    (at_value : (v : KeywordValue) (s : Spelling) (k : Words) → Q (Fixed (value_mark v) s ∷ k)) (at_open : (s : Spelling) (k : Words) → Q (Fixed mark.Open s ∷ k))
+    (at_active : (s : Spelling) (k : Words) → Q (Fixed mark.Active s ∷ k)) (Inner : Form Expr) (Timer : Form (Spot × List Expr)) where
+  primary_begins : (x : Expr) (i j : Words) → SpellsPrimary Inner Timer x i j → Q i
+  primary_begins (Named x) i j s = subst Q (sym s) (at_name x j)
+  primary_begins (Numeral n) i j s = subst Q (sym s) (at_number n j)
+  primary_begins (Keyword v w) i j s = subst Q (sym s) (at_value v w j)
+  primary_begins (Paren w e) i j s = subst Q (sym s.1) (at_open w s.0)
+  primary_begins (Active w timer values) i j s = subst Q (sym s.1) (at_active w s.0)
+  primary_begins (Unary o w e) i j s = absurd s
+  primary_begins (Chain e links) i j s = absurd s
+
+  module _ (at_unary : (o : UnaryOperator) (s : Spelling) (k : Words) → Q (Fixed (unary_mark o) s ∷ k)) where
+    pub level_begins : (k : ℕ) (x : Expr) (i j : Words) → SpellsAt Inner Timer k x i j → Q i
+    level_begins zero x i j s = primary_begins x i j s
+    level_begins (suc zero) x i j (inl s) = primary_begins x i j s
+    level_begins (suc zero) (Unary o w e) i j (inr s) = subst Q (sym s.1) (at_unary o w s.0)
+    level_begins (suc zero) x i j (inr s) = absurd s
+    level_begins (suc (suc k)) x i j (inl s) = level_begins (suc k) x i j s
+    level_begins (suc (suc k)) (Chain e links) i j (inr s) = level_begins (suc k) e i s.0 s.1
+    level_begins (suc (suc k)) x i j (inr s) = absurd s
+
+pub expr_takes : (d : ℕ) → Takes (SpellsExpr d)
+expr_takes d x j s =
+    level_begins (λ i. i ≡ [] → ⊥) (λ y k e. no_words (sym e)) (λ n k e. no_words (sym e)) (λ v w k e. no_words (sym e)) (λ w k e. no_words (sym e)) (λ w k e. no_words (sym e))
+    (SpellsInner d) (SpellsTimer d) (λ o w k e. no_words (sym e)) loosest x [] j s refl
+
 -- ---- operands with operators between them
 
-module _ {operand : Parser Expr} {P M : Expr → Words → Words → Type 0} (l : ℕ) (a : Law operand P M (Stops l) erased_expr) (takes : Takes P) where
-  abbrev IsLink : (Expr → Words → Words → Type 0) → (Operator × Spelling) × Expr → Words → Words → Type 0
+module _ {operand : Parser Expr} {P M : Form Expr} (l : ℕ) (a : Law operand P M (Stops l) erased_expr) where
+  abbrev IsLink : Form Expr → Form ((Operator × Spelling) × Expr)
   IsLink R = Both (IsMarked operator_mark (λ o. looseness o ≡ suc l)) R
 
-  link_to : (R : Expr → Words → Words → Type 0) (x : Link) (i j : Words) → Made link_with (IsLink R) x i j → SpellsLink R (suc l) x i j
+  link_to : (R : Form Expr) (x : Link) (i j : Words) → Made link_with (IsLink R) x i j → SpellsLink R (suc l) x i j
   link_to R x i j s = let Q : Link → Type 0 = λ y. SpellsLink R (suc l) y i j in subst Q (sym s.1) (s.2.1.0, (s.2.0, s.2.1.1, s.2.2))
 
   link_from : (x : Link) (i j : Words) → SpellsLink P (suc l) x i j → Made link_with (IsLink P) x i j
@@ -81,9 +108,6 @@ module _ {operand : Parser Expr} {P M : Expr → Words → Words → Type 0} (l 
   link_begins : (x : Link) (i j : Words) → SpellsLink P (suc l) x i j → sees_operator (suc l) i ≡ true
   link_begins x i j s = ap (sees_operator (suc l)) s.1.1 ∙ ap is_some (operator_at_again (suc l) x.operator x.word s.1.0 s.0)
 
-  link_takes : Takes (SpellsLink P (suc l))
-  link_takes x i j s = let first = ap length s.1.1 in let more = rest_length s.1.0 j (left_behind a.rules x.operand s.1.0 j s.1.2) in omega (arith, first)
-
   pub link_law : MaybeLaw (link operand (suc l)) (SpellsLink P (suc l)) (SpellsLink M (suc l)) (Stops l) (sees_operator (suc l)) erased_link
   unfolding link
   link_law =
@@ -91,15 +115,15 @@ module _ {operand : Parser Expr} {P M : Expr → Words → Words → Type 0} (l 
       (node_rules link_with (SpellsLink P (suc l)) (SpellsLink M (suc l)) (λ x y e. ap link_with e) (link_to P) link_from (link_to M)
       (both_rules (marked_rules (operator_at (suc l)) operator_mark (λ o. looseness o ≡ suc l) (λ i o e. (operator_at_ok (suc l) i o e).1) (λ o s j e. operator_at_again (suc l) o s j e))
       a (λ y m j s t. tt)))
-      (operator_end (suc l)) link_begins link_takes
+      (operator_end (suc l)) link_begins
 
   links_law : Law (repeated (link operand (suc l))) (Repeated (SpellsLink P (suc l))) (Repeated (SpellsLink M (suc l))) (λ j. Stops l j × (sees_operator (suc l) j ≡ false)) (map erased_link)
   links_law = repeated_law link_law (λ i seen. stops_before l (suc l) i (omega arith) seen) (stops_last l)
 
-  abbrev IsChain : (Expr → Words → Words → Type 0) → Expr × List Link → Words → Words → Type 0
+  abbrev IsChain : Form Expr → Form (Expr × List Link)
   IsChain R = Both R (Repeated (SpellsLink R (suc l)))
 
-  chain_to : (R : Expr → Words → Words → Type 0) (x : Expr) (i j : Words) → Made (λ p. chain_with p.0 p.1) (IsChain R) x i j → R x i j ⊎ SpellsChain R (suc l) x i j
+  chain_to : (R : Form Expr) (x : Expr) (i j : Words) → Made (λ p. chain_with p.0 p.1) (IsChain R) x i j → R x i j ⊎ SpellsChain R (suc l) x i j
   chain_to R x i j s = let Q : Expr → Type 0 = λ y. R y i j ⊎ SpellsChain R (suc l) y i j in subst Q (sym s.1) (chained s.0.0 s.0.1 s.2)
     where
       chained : (e : Expr) (ls : List Link) → IsChain R (e, ls) i j → R (chain_with e ls) i j ⊎ SpellsChain R (suc l) (chain_with e ls) i j
@@ -112,12 +136,7 @@ module _ {operand : Parser Expr} {P M : Expr → Words → Words → Type 0} (l 
   chain_from x i j (inl s) = ((x, []), refl, (j, s, refl))
   chain_from (Chain e NoLink) i j (inr s) = absurd s.2
   chain_from (Chain e (AndLink o w f ls)) i j (inr s) = ((e, links_in (AndLink o w f ls)), ap (Chain e) (sym (links_again (AndLink o w f ls))), s)
-  chain_from (Numeral n) i j (inr s) = absurd s
-  chain_from (Named x) i j (inr s) = absurd s
-  chain_from (Keyword v w) i j (inr s) = absurd s
-  chain_from (Active w x vs) i j (inr s) = absurd s
-  chain_from (Paren w e) i j (inr s) = absurd s
-  chain_from (Unary o w e) i j (inr s) = absurd s
+  chain_from x i j (inr s) = absurd s
 
   like_chain : (x y : Expr × List Link) → ◌≡◌ {A = Expr × List Link} (erased_expr x.0, map erased_link x.1) (erased_expr y.0, map erased_link y.1)
       → erased_expr (chain_with x.0 x.1) ≡ erased_expr (chain_with y.0 y.1)
@@ -129,34 +148,28 @@ module _ {operand : Parser Expr} {P M : Expr → Words → Words → Type 0} (l 
       (node_law (λ p. chain_with p.0 p.1) (λ x i j. P x i j ⊎ SpellsChain P (suc l) x i j) (λ x i j. M x i j ⊎ SpellsChain M (suc l) x i j) like_chain (chain_to P) chain_from (chain_to M)
       (both_law a links_law (λ ls m j s t. repeated_begins link_law (λ i seen. stops_before l (suc l) i (omega arith) seen) (stops_last l) ls m j s t.0)))
 
-  pub chain_takes : Takes (λ x i j. P x i j ⊎ SpellsChain P (suc l) x i j)
-  chain_takes x i j s =
-      let t = chain_from x i j s in
-      let first = takes t.0.0 i t.2.0 t.2.1 in
-      let more = rest_length t.2.0 j (left_behind links_law.rules t.0.1 t.2.0 j t.2.2) in omega arith
-
 -- ---- primaries
 
-abbrev pub IsParen : (Expr → Words → Words → Type 0) → Expr → Words → Words → Type 0
+abbrev pub IsParen : Form Expr → Form Expr
 IsParen Inner = Made paren_with (Both (IsMark mark.Open) (Before Inner mark.Close))
 
-abbrev pub IsActive : (Spot × List Expr → Words → Words → Type 0) → Expr → Words → Words → Type 0
+abbrev pub IsActive : Form (Spot × List Expr) → Form Expr
 IsActive Timer = Made active_with (Both (IsMark mark.Active) (Behind mark.Open (Before Timer mark.Close)))
 
-abbrev IsKeyword : Expr → Words → Words → Type 0
+abbrev IsKeyword : Form Expr
 IsKeyword = Made keyword_with (IsMarked value_mark (λ v. Unit {0}))
 
-module _ (Inner : Expr → Words → Words → Type 0) (Timer : Spot × List Expr → Words → Words → Type 0) where
-  abbrev IsInside : Expr → Words → Words → Type 0
+module _ (Inner : Form Expr) (Timer : Form (Spot × List Expr)) where
+  abbrev IsInside : Form Expr
   IsInside x i j = IsParen Inner x i j ⊎ (IsActive Timer x i j ⊎ ⊥)
 
-  abbrev IsFixed : Expr → Words → Words → Type 0
+  abbrev IsFixed : Form Expr
   IsFixed x i j = IsKeyword x i j ⊎ IsInside x i j
 
-  abbrev IsNumeral : Expr → Words → Words → Type 0
+  abbrev IsNumeral : Form Expr
   IsNumeral x i j = Made Numeral SpellsNumber x i j ⊎ IsFixed x i j
 
-  abbrev IsPrimary : Expr → Words → Words → Type 0
+  abbrev IsPrimary : Form Expr
   IsPrimary x i j = Made Named SpellsName x i j ⊎ IsNumeral x i j
 
   inside_begins : (P : Words → Type 0) → ((s : Spelling) (k : Words) → P (Fixed mark.Open s ∷ k)) → ((s : Spelling) (k : Words) → P (Fixed mark.Active s ∷ k))
@@ -197,11 +210,9 @@ module _ (Inner : Expr → Words → Words → Type 0) (Timer : Spot × List Exp
       none value.Offspring = refl
       none value.Sender = refl
 
-  no_unary : (x : Expr) (i j : Words) → IsPrimary x i j → sees_unary i ≡ false
+  no_unary : (x : Expr) (i j : Words) → SpellsPrimary Inner Timer x i j → sees_unary i ≡ false
   unfolding unary_at mark_at front
-  no_unary x i j (inl s) = ap sees_unary s.2
-  no_unary x i j (inr (inl s)) = ap sees_unary s.2
-  no_unary x i j (inr (inr s)) = fixed_begins (λ i. sees_unary i ≡ false) no_unary_value (λ s k. refl) (λ s k. refl) x i j s
+  no_unary = primary_begins (λ i. sees_unary i ≡ false) (λ x k. refl) (λ n k. refl) no_unary_value (λ s k. refl) (λ s k. refl) Inner Timer
 
   primary_to : (x : Expr) (i j : Words) → IsPrimary x i j → SpellsPrimary Inner Timer x i j
   primary_to x i j s = let Q : Expr → Type 0 = λ y. SpellsPrimary Inner Timer y i j in elim s as (λ _. SpellsPrimary Inner Timer x i j) [
@@ -232,9 +243,6 @@ module _ (Inner : Expr → Words → Words → Type 0) (Timer : Spot × List Exp
   primary_from (Unary o w e) i j s = absurd s
   primary_from (Chain e links) i j s = absurd s
 
-refuse_rules : Rules refuse (λ x i j. ⊥) (λ x i j. ⊥) Anywhere erased_expr
-refuse_rules = refused_rules (λ i. refl) (λ x i j s. s)
-
 like_keyword : (x y : KeywordValue × Spelling) → ◌≡◌ {A = KeywordValue × Spelling} (x.0, erased_word x.1) (y.0, erased_word y.1)
     → erased_expr (keyword_with x) ≡ erased_expr (keyword_with y)
 like_keyword x y e = ap keyword_with e
@@ -242,7 +250,7 @@ like_keyword x y e = ap keyword_with e
 keyword_begins : (x : Expr) (i j : Words) → IsKeyword x i j → sees_value i ≡ true
 keyword_begins x i j s = ap sees_value s.2.1 ∙ ap is_some (value_at_again s.0.0 s.0.1 j)
 
-module _ (Timer : Spot × List Expr → Words → Words → Type 0) where
+module _ (Timer : Form (Spot × List Expr)) where
   sees_again_active : (x : Expr) (i j : Words) → IsActive Timer x i j → sees mark.Open i ≡ false
   unfolding sees front same_mark
   sees_again_active x i j s = ap (sees mark.Open) s.2.1
@@ -267,13 +275,13 @@ unary_front : (i k : Words) → SameFront i k → sees_unary i ≡ sees_unary k
 unfolding unary_at
 unary_front i k e = ap (λ m. is_some (by_mark unary_of m)) (same_mark_at i k e)
 
-module _ (r : Readers) (Inner MoreInner : Expr → Words → Words → Type 0) (Timer MoreTimer : Spot × List Expr → Words → Words → Type 0) where
+module _ (r : Readers) (Inner MoreInner : Form Expr) (Timer MoreTimer : Form (Spot × List Expr)) where
   -- where something may stand in parentheses
   inside_rules : Rules r.paren (IsParen Inner) (IsParen MoreInner) Anywhere erased_expr → Rules r.active (IsActive Timer) (IsActive MoreTimer) Anywhere erased_expr
       → Rules (inside r) (IsInside Inner Timer) (IsInside MoreInner MoreTimer) Anywhere erased_expr
   inside_rules paren active =
       either_rules (sees mark.Open) (sees_front mark.Open) paren
-      (either_rules (sees mark.Active) (sees_front mark.Active) active refuse_rules (λ x i j s. sees_at mark.Active s.0.0 i s.2.0 s.2.1) (λ x i j s t. absurd s))
+      (either_rules (sees mark.Active) (sees_front mark.Active) active (refuse_rules (λ x i j s. s)) (λ x i j s. sees_at mark.Active s.0.0 i s.2.0 s.2.1) (λ x i j s t. absurd s))
       (λ x i j s. sees_at mark.Open s.0.0 i s.2.0 s.2.1) (λ x i j s t. no_open Timer x i j s)
 
   pub primary_law : Rules (inside r) (IsInside Inner Timer) (IsInside MoreInner MoreTimer) Anywhere erased_expr
@@ -290,31 +298,12 @@ module _ (r : Readers) (Inner MoreInner : Expr → Words → Words → Type 0) (
       (λ x i j s. number_begins s.0 i j s.2) (λ x i j s t. no_number Inner Timer x i j s))
       (λ x i j s. name_begins s.0 i j s.2) (λ x i j s t. no_name Inner Timer x i j s))
 
-module _ {Inner : Expr → Words → Words → Type 0} {Timer : Spot × List Expr → Words → Words → Type 0}
-    (inner_rest : (x : Expr) (i j : Words) → Inner x i j → IsRest i j) (timer_rest : (x : Spot × List Expr) (i j : Words) → Timer x i j → IsRest i j) where
-  shorter_behind : (i m k j : Words) (v w : word.Word) → i ≡ v ∷ m → IsRest m (w ∷ j) → length j < length i
-  shorter_behind i m k j v w e a = let same = ap length e in let more = rest_length m (w ∷ j) a in omega (arith, same)
-
-  pub primary_takes : Takes (SpellsPrimary Inner Timer)
-  primary_takes (Named x) i j s = let same = ap length s in omega (arith, same)
-  primary_takes (Numeral n) i j s = let same = ap length s in omega (arith, same)
-  primary_takes (Keyword v w) i j s = let same = ap length s in omega (arith, same)
-  primary_takes (Paren w e) i j s = shorter_behind i s.0 j j (Fixed mark.Open w) (Fixed mark.Close s.2.0) s.1 (inner_rest e s.0 (Fixed mark.Close s.2.0 ∷ j) s.2.1)
-  primary_takes (Active w timer values) i j s =
-      let b = s.2 in
-      let first = ap length s.1 in
-      let second = ap length b.2 in
-      let more = rest_length b.1 (Fixed mark.Close b.3.0 ∷ j) (timer_rest (timer, exprs_in values) b.1 (Fixed mark.Close b.3.0 ∷ j) b.3.1) in
-      omega (arith, first, second)
-  primary_takes (Unary o w e) i j s = absurd s
-  primary_takes (Chain e links) i j s = absurd s
-
 -- ---- ("-" | "not") primary
 
-abbrev IsUnary : (Expr → Words → Words → Type 0) → Expr → Words → Words → Type 0
+abbrev IsUnary : Form Expr → Form Expr
 IsUnary P = Made unary_with (Both (IsMarked unary_mark (λ o. Unit {0})) P)
 
-module _ (P : Expr → Words → Words → Type 0) where
+module _ (P : Form Expr) where
   unary_to : (x : Expr) (i j : Words) → IsUnary P x i j ⊎ P x i j → P x i j ⊎ SpellsUnary P x i j
   unary_to x i j (inl s) =
       let Q : Expr → Type 0 = λ y. P y i j ⊎ SpellsUnary P y i j in subst Q (sym s.1) (inr (s.2.0, s.2.1.1, s.2.2))
@@ -323,12 +312,7 @@ module _ (P : Expr → Words → Words → Type 0) where
   unary_from : (x : Expr) (i j : Words) → P x i j ⊎ SpellsUnary P x i j → IsUnary P x i j ⊎ P x i j
   unary_from x i j (inl s) = inr s
   unary_from (Unary o w e) i j (inr s) = inl (((o, w), e), refl, (s.0, (tt, s.1), s.2))
-  unary_from (Numeral n) i j (inr s) = absurd s
-  unary_from (Named x) i j (inr s) = absurd s
-  unary_from (Keyword v w) i j (inr s) = absurd s
-  unary_from (Active w x vs) i j (inr s) = absurd s
-  unary_from (Paren w e) i j (inr s) = absurd s
-  unary_from (Chain e links) i j (inr s) = absurd s
+  unary_from x i j (inr s) = absurd s
 
   unary_begins : (x : Expr) (i j : Words) → IsUnary P x i j → sees_unary i ≡ true
   unary_begins x i j s = ap sees_unary s.2.1.1 ∙ ap is_some (unary_at_again s.0.0.0 s.0.0.1 s.2.0)
@@ -338,7 +322,7 @@ like_unary : (x y : (UnaryOperator × Spelling) × Expr)
     → erased_expr (unary_with x) ≡ erased_expr (unary_with y)
 like_unary x y e = ap unary_with e
 
-module _ {operand : Parser Expr} {P M : Expr → Words → Words → Type 0} (a : Law operand P M Anywhere erased_expr) where
+module _ {operand : Parser Expr} {P M : Form Expr} (a : Law operand P M Anywhere erased_expr) where
   pub unary_law : ((x : Expr) (i j : Words) → P x i j → sees_unary i ≡ false)
       → Law (either sees_unary (made unary_with (marked unary_at unary_mark ⊗ operand)) operand) (λ x i j. P x i j ⊎ SpellsUnary P x i j) (λ x i j. M x i j ⊎ SpellsUnary M x i j)
       Anywhere erased_expr
@@ -348,12 +332,6 @@ module _ {operand : Parser Expr} {P M : Expr → Words → Words → Type 0} (a 
       (made_law unary_with like_unary
       (both_law (marked_law unary_at unary_mark (λ o. Unit {0}) (λ i o e. tt) (λ o s j e. unary_at_again o s j) unary.Minus tt) a (λ y m j s t. tt)))
       a (unary_begins P) (λ x i j s t. none x i j s))
-
-  pub unary_takes : Takes P → Takes (λ x i j. P x i j ⊎ SpellsUnary P x i j)
-  unary_takes takes x i j s = elim (unary_from P x i j s) as (λ _. length j < length i) [
-    | inl t ↦ let first = ap length t.2.1.1 in let more = rest_length t.2.0 j (left_behind a.rules t.0.1 t.2.0 j t.2.2) in omega (arith, first)
-    | inr t ↦ takes x i j t
-  ]
 
 -- ---- levels
 
@@ -369,26 +347,14 @@ level_more : (r : Readers) (k : ℕ) → level r (suc (suc k)) ≡ chain (level 
 unfolding level
 level_more r k = refl
 
-module _ (r : Readers) (Inner MoreInner : Expr → Words → Words → Type 0) (Timer MoreTimer : Spot × List Expr → Words → Words → Type 0)
-    (within : Rules (inside r) (IsInside Inner Timer) (IsInside MoreInner MoreTimer) Anywhere erased_expr)
-    (inner_rest : (x : Expr) (i j : Words) → Inner x i j → IsRest i j) (timer_rest : (x : Spot × List Expr) (i j : Words) → Timer x i j → IsRest i j) where
-  levels : (k : ℕ) → Law (level r k) (SpellsAt Inner Timer k) (SpellsAt MoreInner MoreTimer k) (Stops k) erased_expr × Takes (SpellsAt Inner Timer k)
-  levels zero =
-      (same_law (λ i. sym (ap (λ p. p i) (level_zero r))) (stops_law (λ j t. tt) (primary_law r Inner MoreInner Timer MoreTimer within)), primary_takes inner_rest timer_rest)
-  levels (suc zero) = (
-    same_law (λ i. sym (ap (λ p. p i) (level_one r)))
-        (stops_law (λ j t. tt) (unary_law (primary_law r Inner MoreInner Timer MoreTimer within) (λ x i j s. no_unary Inner Timer x i j (primary_from Inner Timer x i j s)))),
-    unary_takes (primary_law r Inner MoreInner Timer MoreTimer within) (primary_takes inner_rest timer_rest),
-  )
-  levels (suc (suc k)) =
-      let below = levels (suc k) in
-      (same_law (λ i. sym (ap (λ p. p i) (level_more r k))) (chain_law (suc k) below.0 below.1), chain_takes (suc k) below.0 below.1)
-
+module _ (r : Readers) (Inner MoreInner : Form Expr) (Timer MoreTimer : Form (Spot × List Expr))
+    (within : Rules (inside r) (IsInside Inner Timer) (IsInside MoreInner MoreTimer) Anywhere erased_expr) where
   pub level_law : (k : ℕ) → Law (level r k) (SpellsAt Inner Timer k) (SpellsAt MoreInner MoreTimer k) (Stops k) erased_expr
-  level_law k = (levels k).0
-
-  pub level_takes : (k : ℕ) → Takes (SpellsAt Inner Timer k)
-  level_takes k = (levels k).1
+  level_law zero = same_law (λ i. sym (ap (λ p. p i) (level_zero r))) (stops_law (λ j t. tt) (primary_law r Inner MoreInner Timer MoreTimer within))
+  level_law (suc zero) =
+      same_law (λ i. sym (ap (λ p. p i) (level_one r)))
+      (stops_law (λ j t. tt) (unary_law (primary_law r Inner MoreInner Timer MoreTimer within) (no_unary Inner Timer)))
+  level_law (suc (suc k)) = same_law (λ i. sym (ap (λ p. p i) (level_more r k))) (chain_law (suc k) (level_law (suc k)))
 
 -- ---- inside one more pair of parentheses
 
@@ -428,20 +394,9 @@ args_more : (d : ℕ) → (readers (suc d)).args ≡ in_parentheses (expr d)
 unfolding readers
 args_more d = refl
 
-deep_active_unread : (i : Words) (x : Expr) (j : Words) → deep_active i ≡ read_as x j → ⊥
-unfolding deep_active
-deep_active_unread i x j e = let c = bind_ok (expect mark.Active i) (λ _ k. shut {A = Expr} mark.Open k) x j e in shut_unread mark.Open c.1 x j c.3
-
-deep_active_stands : (i : Words) (r : Refusal) → deep_active i ≡ Err r → StandsAt i r
-unfolding deep_active
-deep_active_stands i r e = elim (bind_err (expect mark.Active i) (λ _ k. shut {A = Expr} mark.Open k) r e) as (λ _. StandsAt i r) [
-  | inl t ↦ here_stands i r (expect_refused mark.Active i r t)
-  | inr t ↦ stands_behind (Fixed mark.Active t.0) i t.1 r (expect_ok mark.Active i t.0 t.1 t.2) (shut_stands {A = Expr} mark.Open t.1 r t.3)
-]
-
 -- ---- where nothing more may stand inside
 
-plain_name : (Inner : Expr → Words → Words → Type 0) (Timer : Spot × List Expr → Words → Words → Type 0) (k : ℕ) (j : Words)
+plain_name : (Inner : Form Expr) (Timer : Form (Spot × List Expr)) (k : ℕ) (j : Words)
     → SpellsAt Inner Timer k (Named nameless) (word.Name nameless ∷ j) j
 plain_name Inner Timer zero j = refl
 plain_name Inner Timer (suc zero) j = inl refl
@@ -454,31 +409,36 @@ active_one : (r s : Spelling) (j : Words)
     → IsActive (SpellsTimer (suc zero)) (active_with (r, (nameless, []))) (Fixed mark.Active r ∷ Fixed mark.Open s ∷ word.Name nameless ∷ Fixed mark.Close plain ∷ j) j
 active_one r s j = ((r, (nameless, [])), refl, (_, refl, (s, _, refl, (plain, (Fixed mark.Close plain ∷ j, refl, refl)))))
 
-deep_active_deep : (i left : Words) → deep_active i ≡ Err (Deep left) → TooMany (IsActive (SpellsTimer zero)) (IsActive (SpellsTimer (suc zero))) Anywhere i left
+abbrev DeepActive : Words → Outcome Expr → Type 0
+DeepActive = Gives deep_active (IsActive (SpellsTimer zero)) (IsActive (SpellsTimer (suc zero))) Anywhere
+
+active_by : (i : Words) (r : Spelling) (k : Words) → i ≡ Fixed mark.Active r ∷ k → (b : Bool) → sees mark.Open k ≡ b → DeepActive i (if b then Err (Deep k) else Err (Refused k))
+active_by i r k at true e =
+    let seen = sees_ok mark.Open k e in
+    let w : Spelling = seen.0 in
+    closed i k (Fixed mark.Active r ∷ Fixed mark.Open w ∷ []) (rest k) (Fixed mark.Open w) (at ∙ ap (λ l. Fixed mark.Active r ∷ l) seen.1) seen.1 (opens_paren w) (inr (r, refl))
+    (active_with (r, (nameless, [])), word.Name nameless ∷ Fixed mark.Close plain ∷ [], λ j u. active_one r w j)
+    (λ l x j n u. n.2.2.3.1)
+active_by i r k at false e = (Fixed mark.Active r ∷ [], at)
+
+active_first : (i : Words) (o : Outcome Spelling) → Gives (expect mark.Active) (IsMark mark.Active) (IsMark mark.Active) Anywhere i o → DeepActive i (and_then o (λ _ k. shut mark.Open k))
+active_first i (Ok z) t = active_by i z.0 z.1 t.spelled (sees mark.Open z.1) refl
+active_first i (Err r) t = still i r (λ left u. absurd (no_deeper i left tt u)) t
+
+deep_active_tells : (i : Words) → DeepActive i (deep_active i)
 unfolding deep_active
-deep_active_deep i left e =
-    elim (bind_err (expect mark.Active i) (λ _ k. shut {A = Expr} mark.Open k) (Deep left) e) as (λ _. TooMany (IsActive (SpellsTimer zero)) (IsActive (SpellsTimer (suc zero))) Anywhere i left) [
-      | inl t ↦ not_deep i left (expect_refused mark.Active i (Deep left) t)
-      | inr t ↦
-          let seen = shut_here {A = Expr} mark.Open t.1 left t.3 in
-          let w : Spelling = seen.1 in
-          let whole = expect_ok mark.Active i t.0 t.1 t.2 ∙ ap (λ k. Fixed mark.Active t.0 ∷ k) seen.2 in
-          closed i left (Fixed mark.Active t.0 ∷ Fixed mark.Open w ∷ []) (rest t.1) (Fixed mark.Open w) whole (seen.0 ∙ seen.2) (opens_paren w) (inr (t.0, refl))
-          (active_with (t.0, (nameless, [])), word.Name nameless ∷ Fixed mark.Close plain ∷ [], λ j u. active_one t.0 w j)
-          (λ k x j n u. n.2.2.3.1)
-    ]
+deep_active_tells i = active_first i (expect mark.Active i) ((mark_law mark.Active).rules.tells i)
 
 inside_none : Rules (either (sees mark.Open) too_deep (either (sees mark.Active) deep_active refuse)) (IsInside (SpellsInner zero) (SpellsTimer zero))
     (IsInside (SpellsInner (suc zero)) (SpellsTimer (suc zero))) Anywhere erased_expr
 inside_none =
     same_rules (shut_first mark.Open (either (sees mark.Active) deep_active refuse))
     (either_rules (sees mark.Open) (sees_front mark.Open)
-    (shut_rules mark.Open opens_paren
-    (λ s. (paren_with (s, Named nameless), word.Name nameless ∷ Fixed mark.Close plain ∷ [], λ j u. ((s, Named nameless), refl, (_, refl, (plain, plain_name (SpellsInner zero) (SpellsTimer zero) loosest (Fixed mark.Close plain ∷ j))))))
-    (λ x i j s. s.2.2.1))
+    (shut_rules mark.Open opens_paren (IsParen (SpellsInner zero)) (IsParen (SpellsInner (suc zero))) Anywhere (λ x i j s. s.2.2.1)
+    (λ s. (paren_with (s, Named nameless), word.Name nameless ∷ Fixed mark.Close plain ∷ [], λ j u. ((s, Named nameless), refl, (_, refl, (plain, plain_name (SpellsInner zero) (SpellsTimer zero) loosest (Fixed mark.Close plain ∷ j)))))))
     (either_rules (sees mark.Active) (sees_front mark.Active)
-    (never_rules deep_active_unread (λ x i j s. s.2.2.3.1) deep_active_stands deep_active_deep)
-    refuse_rules (λ x i j s. sees_at mark.Active s.0.0 i s.2.0 s.2.1) (λ x i j s t. absurd s))
+    (never_rules deep_active_tells (λ x i j s. s.2.2.3.1))
+    (refuse_rules (λ x i j s. s)) (λ x i j s. sees_at mark.Active s.0.0 i s.2.0 s.2.1) (λ x i j s t. absurd s))
     (λ x i j s. sees_at mark.Open s.0.0 i s.2.0 s.2.1) (λ x i j s t. no_open (SpellsTimer zero) x i j s))
 
 no_listed : (xs : List Expr) (i j : Words) → Enclosed (SpellsInner zero) xs i j → ⊥
@@ -493,24 +453,18 @@ no_args_law =
       rules =
           same_rules (shut_first mark.Open (λ i. Ok ([], i)))
           (either_rules (sees mark.Open) (sees_front mark.Open)
-          (shut_rules mark.Open opens_paren
-          (λ s. (Named nameless ∷ [], word.Name nameless ∷ Fixed mark.Close plain ∷ [], λ j u. (s, _, refl, (plain, plain_name (SpellsInner zero) (SpellsTimer zero) loosest (Fixed mark.Close plain ∷ j)))))
-          no_listed)
-          (nothing_law erased_expr).rules (opens_list (SpellsInner zero)) (λ xs i j s t. ap (sees mark.Open) s.1 ∙ t));
+          (shut_rules mark.Open opens_paren (Enclosed (SpellsInner zero)) (Enclosed (SpellsInner (suc zero))) (λ j. sees mark.Open j ≡ false) no_listed
+          (λ s. (Named nameless ∷ [], word.Name nameless ∷ Fixed mark.Close plain ∷ [], λ j u. (s, _, refl, (plain, plain_name (SpellsInner zero) (SpellsTimer zero) loosest (Fixed mark.Close plain ∷ j))))))
+          (nothing_law []).rules (opens_list (SpellsInner zero)) (λ xs i j s t. ap (sees mark.Open) s.1 ∙ t));
       one = ([], [], λ j t. inr (refl, refl));
     })
 
 pub record AreRead (d : ℕ) : Type 0 where
   pub within : Rules (inside (readers d)) (IsInside (SpellsInner d) (SpellsTimer d)) (IsInside (SpellsInner (suc d)) (SpellsTimer (suc d))) Anywhere erased_expr
   pub args : Law (readers d).args (InParentheses (SpellsInner d)) (InParentheses (SpellsInner (suc d))) (λ j. sees mark.Open j ≡ false) (map erased_expr)
-  pub inner_rest : (x : Expr) (i j : Words) → SpellsInner d x i j → IsRest i j
-  pub timer_rest : (x : Spot × List Expr) (i j : Words) → SpellsTimer d x i j → IsRest i j
 
 expr_in : (d : ℕ) → AreRead d → Law (expr d) (SpellsExpr d) (SpellsExpr (suc d)) (Stops loosest) erased_expr
-expr_in d a = level_law (readers d) (SpellsInner d) (SpellsInner (suc d)) (SpellsTimer d) (SpellsTimer (suc d)) a.within a.inner_rest a.timer_rest loosest
-
-expr_takes_in : (d : ℕ) → AreRead d → Takes (SpellsExpr d)
-expr_takes_in d a = level_takes (readers d) (SpellsInner d) (SpellsInner (suc d)) (SpellsTimer d) (SpellsTimer (suc d)) a.within a.inner_rest a.timer_rest loosest
+expr_in d a = level_law (readers d) (SpellsInner d) (SpellsInner (suc d)) (SpellsTimer d) (SpellsTimer (suc d)) a.within loosest
 
 timer_in : (d : ℕ) → AreRead d
     → Law (name ⊗ (readers d).args) (SpellsTimer (suc d)) (SpellsTimer (suc (suc d))) (λ j. sees mark.Open j ≡ false) (λ x. (erased_name x.0, map erased_expr x.1))
@@ -554,8 +508,6 @@ are_read : (d : ℕ) → AreRead d
 are_read zero = record {
   within = same_rules inside_zero inside_none;
   args = same_law (λ i. sym (ap (λ p. p i) args_none)) no_args_law;
-  inner_rest = λ x i j s. absurd s;
-  timer_rest = λ x i j s. absurd s;
 }
 are_read (suc d) =
     let below = are_read d in
@@ -563,9 +515,7 @@ are_read (suc d) =
       within = inside_more d below;
       args =
           same_law (λ i. sym (ap (λ p. p i) (args_more d)))
-          (in_parentheses_law (expr_in d below) (expr_takes_in d below) (stops_at_comma loosest) (stops_at_close loosest));
-      inner_rest = λ x i j s. left_behind (expr_in d below).rules x i j s;
-      timer_rest = λ x i j s. left_behind (timer_in d below).rules x i j s;
+          (in_parentheses_law (expr_in d below) (expr_takes d) (stops_at_comma loosest) (stops_at_close loosest) (stops_last loosest));
     }
 
 -- ---- expr
@@ -573,9 +523,6 @@ are_read (suc d) =
 pub expr_law : (d : ℕ) → Law (expr d) (SpellsExpr d) (SpellsExpr (suc d)) (Stops loosest) erased_expr
 expr_law d = expr_in d (are_read d)
 
-pub expr_takes : (d : ℕ) → Takes (SpellsExpr d)
-expr_takes d = expr_takes_in d (are_read d)
-
 -- [args]
 pub args_law : (d : ℕ) → Law (in_parentheses (expr d)) (InParentheses (SpellsExpr d)) (InParentheses (SpellsExpr (suc d))) (λ j. sees mark.Open j ≡ false) (map erased_expr)
-args_law d = in_parentheses_law (expr_law d) (expr_takes d) (stops_at_comma loosest) (stops_at_close loosest)
+args_law d = in_parentheses_law (expr_law d) (expr_takes d) (stops_at_comma loosest) (stops_at_close loosest) (stops_last loosest)

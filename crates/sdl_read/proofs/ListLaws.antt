@@ -1,302 +1,20 @@
--- The laws of lists, for any item.
-use Rattle.std.proofs.Common.{◌≡◌, ℕ, zero, suc, ◌+◌, ◌<◌, ◌≤◌, ◌⊎◌, inl, inr, Bool, true, false, if◌then◌else◌, List, [], ◌∷◌, ◌++◌, length, map, Option, Some, None, Err, true≢false, refl, sym, ap, ◌∙◌, subst, arith, append_assoc, append-nil, length-append}
+-- The laws of lists, for any item: items up to one that is the last, if such a one stands there; `{x}`; `x {"," x}`.
+use Rattle.std.proofs.Common.{◌≡◌, ℕ, zero, suc, ◌+◌, ◌<◌, ◌≤◌, ◌⊎◌, inl, inr, Bool, true, false, if◌then◌else◌, List, [], ◌∷◌, ◌++◌, length, map, Option, Some, None, option_map, Ok, Err, true≢false, refl, sym, ap, ◌∙◌, subst, arith, append_assoc, append-nil, length-append}
 use Rattle.sdl_tree.specs.Alike.{AreAlike}
 use Rattle.sdl_tree.specs.declared.mark.Mark.TheVariants as mark
 use Rattle.sdl_tree.specs.declared.name.Spelling.{Spelling}
-use Rattle.sdl_tree.specs.Spells.Parts.{Separated, Repeated}
+use Rattle.sdl_tree.specs.Spells.Parts.{Both, Behind, Optional, Separated, Repeated, Enclosed}
 use Rattle.sdl_tree.specs.Words.{Word, Words, Fixed}
-use Rattle.sdl_read.specs.Reading.{Parser, Refusal, Refused, Deep, front, rest, and_then, pure, sees, after, turns, separated_from, separated, repeated_by, repeated_from, repeated}
-use Rattle.sdl_read.proofs.Depth.{SameFront, GoesOn, TooMany, passed_front, front_behind, within, onward}
-use Rattle.sdl_read.proofs.Laws.{Rules, Law, MaybeLaw, GoodAfter, Takes, read_behind, same_tail, deep_begins}
-use Rattle.sdl_read.proofs.Steps.{read_as, some_as, StandsAt, stands_on, stands_behind, same_value, same_rest, not_read, not_refused, refused_at, not_deep, same_refusal, bind_ok, bind_err, bind_is, chosen_by, sees_again, sees_front, ate, eaten, not_eaten, after_other, alike_fixed, alike_from}
+use Rattle.sdl_read.specs.Reading.{Parser, Outcome, Refused, Deep, Barred, front, rest, and_then, pure, expect, same_mark, sees, after, ◌⊗◌, behind, before, made, maybe, turns, separated_from, separated, enclosed, repeated_by, repeated_from, repeated}
+use Rattle.sdl_read.proofs.Depth.{SameFront, TooMany, passed_front, front_behind, renamed, onward}
+use Rattle.sdl_read.proofs.Laws.{Form, GoodAfter, IsRead, Told, Gives, Rules, Law, MaybeLaw, Anywhere, Takes, Made, was_read, sound, spelled_again, later, as_law, same_law, both_law, behind_law, before_law, made_rules, made_law, as_rules, maybe_law, passes, some_read}
+use Rattle.sdl_read.proofs.Steps.{read_as, none_as, some_as, same_rest, as_read, not_read, not_refused, not_some, bind_is, if_true, if_false, sees_ok, sees_at, sees_front, after_seen, after_other, rest_again, expect_again, alike_from}
 
--- ---- x {"," x}
-
-pub turns_enough : (i : Words) → length i ≤ turns i
-unfolding turns
-turns_enough [] = omega arith
-turns_enough (w ∷ i) = omega arith
-
-pub separated_turn : {A : Type 0} (item : Parser A) (n : ℕ) (found : List A) (i : Words) → separated_from item (suc n) found i
-    ≡ and_then (item i) (λ x m. (if sees mark.Comma m then separated_from item n (found ++ x ∷ []) else pure (found ++ x ∷ [])) (after mark.Comma m))
-unfolding separated_from
-separated_turn item n found i = refl
-
-pub separated_none : {A : Type 0} (item : Parser A) (found : List A) (i : Words) → separated_from item zero found i ≡ Err (Refused i)
-unfolding separated_from
-separated_none item found i = refl
-
-module _ {A : Type 0} {item : Parser A} {P M : A → Words → Words → Type 0} {S : Words → Type 0} {e : A → A} (a : Rules item P M S e) (takes : Takes P)
-    (at_comma : (s : Spelling) (m : Words) → S (Fixed mark.Comma s ∷ m)) where
-  separated_more : (x : A) (ys : List A) (s : Spelling) (i m j : Words) → P x i (Fixed mark.Comma s ∷ m) → Separated P ys m j → Separated P (x ∷ ys) i j
-  separated_more x [] s i m j p t = absurd t
-  separated_more x (y ∷ ys) s i m j p t = (s, m, p, t)
-
-  separated_from_sound : (n : ℕ) (found : List A) (i : Words) (xs : List A) (j : Words) → separated_from item n found i ≡ read_as xs j
-      → (ys : List A) × (xs ≡ found ++ ys) × Separated P ys i j
-  separated_from_sound zero found i xs j s = not_read (Refused i) xs j (sym (separated_none item found i) ∙ s)
-  separated_from_sound (suc n) found i xs j s =
-      let c = bind_ok (item i) (λ x m. (if sees mark.Comma m then separated_from item n (found ++ x ∷ []) else pure (found ++ x ∷ [])) (after mark.Comma m)) xs j (sym (separated_turn item n found i) ∙ s) in
-      let x : A = c.0 in let m : Words = c.1 in
-      let first : P x i m = a.sound i x m c.2 in
-      elim (chosen_by (sees mark.Comma m) (separated_from item n (found ++ x ∷ [])) (pure (found ++ x ∷ [])) (after mark.Comma m) (read_as xs j) c.3)
-      as (λ _. (ys : List A) × (xs ≡ found ++ ys) × Separated P ys i j) [
-        | inl t ↦
-            let comma = ate mark.Comma m t.0 in
-            let more = separated_from_sound n (found ++ x ∷ []) (after mark.Comma m) xs j t.1 in
-            let R : Words → Type 0 = λ k. P x i k in
-            (x ∷ more.0, more.1 ∙ append_assoc found (x ∷ []) more.0, separated_more x more.0 comma.0 i (after mark.Comma m) j (subst R comma.1 first) more.2)
-        | inr t ↦
-            let R : Words → Type 0 = λ k. P x i k in
-            (x ∷ [], sym (same_value (found ++ x ∷ []) xs (after mark.Comma m) j t.1), subst R (sym (after_other mark.Comma m t.0) ∙ same_rest (found ++ x ∷ []) xs (after mark.Comma m) j t.1) first)
-      ]
-
-  separated_sound : (i : Words) (xs : List A) (j : Words) → separated item i ≡ read_as xs j → Separated P xs i j
-  separated_sound i xs j s =
-      let c = separated_from_sound (turns i) [] i xs j s in
-      let R : List A → Type 0 = λ ys. Separated P ys i j in subst R (sym c.1) c.2
-
-  separated_length : (xs : List A) (i j : Words) → Separated P xs i j → length xs + length j ≤ length i
-  separated_length [] i j s = absurd s
-  separated_length (x ∷ []) i j s = let less = takes x i j s in omega arith
-  separated_length (x ∷ y ∷ ys) i j s =
-      let less = takes x i (Fixed mark.Comma s.0 ∷ s.1) s.2 in
-      let more = separated_length (y ∷ ys) s.1 j s.3 in omega arith
-
-  separated_from_complete : (xs : List A) (n : ℕ) (found : List A) (i j : Words) → Separated P xs i j → S j → sees mark.Comma j ≡ false
-      → length xs ≤ n → separated_from item n found i ≡ read_as (found ++ xs) j
-  separated_from_complete [] n found i j s stop none le = absurd s
-  separated_from_complete (x ∷ []) zero found i j s stop none le = absurd (omega arith)
-  separated_from_complete (x ∷ y ∷ ys) zero found i j s stop none le = absurd (omega arith)
-  separated_from_complete (x ∷ []) (suc n) found i j s stop none le =
-      separated_turn item n found i
-      ∙ bind_is (item i) (λ x m. (if sees mark.Comma m then separated_from item n (found ++ x ∷ []) else pure (found ++ x ∷ [])) (after mark.Comma m)) x j (a.complete x i j s stop)
-      ∙ not_eaten mark.Comma j (separated_from item n (found ++ x ∷ [])) (pure (found ++ x ∷ [])) none
-  separated_from_complete (x ∷ y ∷ ys) (suc n) found i j s stop none le =
-      separated_turn item n found i
-      ∙ bind_is (item i) (λ x m. (if sees mark.Comma m then separated_from item n (found ++ x ∷ []) else pure (found ++ x ∷ [])) (after mark.Comma m)) x (Fixed mark.Comma s.0 ∷ s.1) (a.complete x i (Fixed mark.Comma s.0 ∷ s.1) s.2 (at_comma s.0 s.1))
-      ∙ eaten mark.Comma s.0 s.1 (separated_from item n (found ++ x ∷ [])) (pure (found ++ x ∷ []))
-      ∙ separated_from_complete (y ∷ ys) n (found ++ x ∷ []) s.1 j s.3 stop none (omega arith)
-      ∙ ap (λ zs. read_as zs j) (append_assoc found (x ∷ []) (y ∷ ys))
-
-  separated_complete : (xs : List A) (i j : Words) → Separated P xs i j → S j × (sees mark.Comma j ≡ false) → separated item i ≡ read_as xs j
-  separated_complete xs i j s t = let le = separated_length xs i j s in let enough = turns_enough i in separated_from_complete xs (turns i) [] i j s t.0 t.1 (omega (arith, enough))
-
-  separated_keeps : (xs : List A) (i j : Words) → Separated P xs i j
-      → (u : Words) × (i ≡ u ++ j) × ((k : Words) → S k × (sees mark.Comma k ≡ false) → Separated P xs (u ++ k) k)
-  separated_keeps [] i j s = absurd s
-  separated_keeps (x ∷ []) i j s = let r = a.keeps x i j s in (r.0, r.1, λ k t. r.2 k t.0)
-  separated_keeps (x ∷ y ∷ ys) i j s =
-      let first = a.keeps x i (Fixed mark.Comma s.0 ∷ s.1) s.2 in
-      let more = separated_keeps (y ∷ ys) s.1 j s.3 in (
-        first.0 ++ Fixed mark.Comma s.0 ∷ more.0,
-        first.1 ∙ ap (λ k. first.0 ++ Fixed mark.Comma s.0 ∷ k) more.1 ∙ sym (append_assoc first.0 (Fixed mark.Comma s.0 ∷ more.0) j),
-        λ k t.
-            let R : Words → Type 0 = λ l. Separated P (x ∷ y ∷ ys) l k in
-            subst R (sym (append_assoc first.0 (Fixed mark.Comma s.0 ∷ more.0) k)) (s.0, more.0 ++ k, first.2 (Fixed mark.Comma s.0 ∷ (more.0 ++ k)) (at_comma s.0 (more.0 ++ k)), more.2 k t),
-      )
-
-  separated_from_stands : (n : ℕ) (found : List A) (i : Words) (r : Refusal) → separated_from item n found i ≡ Err r → StandsAt i r
-  separated_from_stands zero found i r s = refused_at {A = List A} i r (sym (separated_none item found i) ∙ s)
-  separated_from_stands (suc n) found i r s =
-      elim (bind_err (item i) (λ x m. (if sees mark.Comma m then separated_from item n (found ++ x ∷ []) else pure (found ++ x ∷ [])) (after mark.Comma m)) r (sym (separated_turn item n found i) ∙ s))
-      as (λ _. StandsAt i r) [
-        | inl t ↦ a.stands i r t
-        | inr t ↦
-            let x : A = t.0 in let m : Words = t.1 in
-            let passed = read_behind a i x m t.2 in
-            elim (chosen_by (sees mark.Comma m) (separated_from item n (found ++ x ∷ [])) (pure (found ++ x ∷ [])) (after mark.Comma m) (Err r) t.3)
-            as (λ _. StandsAt i r) [
-              | inl u ↦
-                  let comma = ate mark.Comma m u.0 in
-                  stands_on i m r passed
-                  (stands_behind (Fixed mark.Comma comma.0) m (after mark.Comma m) r comma.1 (separated_from_stands n (found ++ x ∷ []) (after mark.Comma m) r u.1))
-              | inr u ↦ not_refused (found ++ x ∷ []) (after mark.Comma m) r u.1
-            ]
-      ]
-
-  separated_moves : (xs : List A) (i j k : Words) → Separated P xs i j → AreAlike i k
-      → (ys : List A) × (l : Words) × Separated P ys k l × AreAlike j l × (map e ys ≡ map e xs)
-  separated_moves [] i j k s t = absurd s
-  separated_moves (x ∷ []) i j k s t = let c = a.moves x i j k s t in (c.0 ∷ [], c.1, c.2, c.3, ap (λ y. y ∷ []) c.4)
-  separated_moves (x ∷ y ∷ ys) i j k s t =
-      let c = a.moves x i (Fixed mark.Comma s.0 ∷ s.1) k s.2 t in
-      let b = alike_fixed mark.Comma s.0 s.1 c.1 c.3 in
-      let more = separated_moves (y ∷ ys) s.1 j b.1 s.3 b.3 in
-      let R : Words → Type 0 = λ l. P c.0 k l in
-      (c.0 ∷ more.0, more.1, separated_more c.0 more.0 b.0 k b.1 more.1 (subst R b.2 c.2) more.2, more.3, λ n. (c.4 n ∷ more.4 n))
-
-  -- what takes an item takes a turn
-  one_turn : (n : ℕ) (i : Words) (x : A) (m : Words) → item i ≡ read_as x m → length i ≤ n → (l : ℕ) × (n ≡ suc l)
-  one_turn zero i x m s le = let less = takes x i m (a.sound i x m s) in absurd (omega arith)
-  one_turn (suc l) i x m s le = (l, refl)
-
-  good_at : (m j k : Words) → m ≡ j → GoodAfter (λ l. S l × (sees mark.Comma l ≡ false)) j k → GoodAfter S m k × (sees mark.Comma m ≡ false → sees mark.Comma k ≡ false)
-  good_at m j k e (inl same) = (inl (same ∙ ap front (sym e)), λ none. sees_front mark.Comma k j same ∙ ap (sees mark.Comma) (sym e) ∙ none)
-  good_at m j k e (inr t) = (inr t.0, λ none. t.1)
-
-  separated_from_near : (n : ℕ) (found : List A) (i : Words) (xs : List A) (j : Words) → separated_from item n found i ≡ read_as xs j
-      → (u : Words) × (i ≡ u ++ j) × ((k : Words) → GoodAfter (λ l. S l × (sees mark.Comma l ≡ false)) j k → (turns : ℕ) → length (u ++ k) ≤ turns
-      → separated_from item turns found (u ++ k) ≡ read_as xs k)
-  separated_from_near zero found i xs j s = not_read (Refused i) xs j (sym (separated_none item found i) ∙ s)
-  separated_from_near (suc n) found i xs j s =
-      let c = bind_ok (item i) (λ x m. (if sees mark.Comma m then separated_from item n (found ++ x ∷ []) else pure (found ++ x ∷ [])) (after mark.Comma m)) xs j (sym (separated_turn item n found i) ∙ s) in
-      let x : A = c.0 in let m : Words = c.1 in
-      let r = a.near i x m c.2 in
-      elim (chosen_by (sees mark.Comma m) (separated_from item n (found ++ x ∷ [])) (pure (found ++ x ∷ [])) (after mark.Comma m) (read_as xs j) c.3)
-      as (λ _. (u : Words) × (i ≡ u ++ j) × ((k : Words) → GoodAfter (λ l. S l × (sees mark.Comma l ≡ false)) j k → (turns : ℕ) → length (u ++ k) ≤ turns → separated_from item turns found (u ++ k) ≡ read_as xs k)) [
-        | inl t ↦
-            let comma = ate mark.Comma m t.0 in
-            let more = separated_from_near n (found ++ x ∷ []) (after mark.Comma m) xs j t.1 in (
-              r.0 ++ Fixed mark.Comma comma.0 ∷ more.0,
-              r.1 ∙ ap (λ k. r.0 ++ k) (comma.1 ∙ ap (λ k. Fixed mark.Comma comma.0 ∷ k) more.1) ∙ sym (append_assoc r.0 (Fixed mark.Comma comma.0 ∷ more.0) j),
-              λ k g turns le.
-                  let behind : Words = more.0 ++ k in
-                  let at : Words = Fixed mark.Comma comma.0 ∷ behind in
-                  let whole = append_assoc r.0 (Fixed mark.Comma comma.0 ∷ more.0) k in
-                  let read = r.2 at (inr (at_comma comma.0 behind)) in
-                  let same = ap length whole in
-                  let size = length-append r.0 at in
-                  let turn = one_turn turns (r.0 ++ at) x at read (omega (arith, same, le)) in
-                  let fewer = turn.1 in
-                  ap (separated_from item turns found) whole
-                  ∙ ap (λ l. separated_from item l found (r.0 ++ at)) turn.1
-                  ∙ separated_turn item turn.0 found (r.0 ++ at)
-                  ∙ bind_is (item (r.0 ++ at)) (λ x m. (if sees mark.Comma m then separated_from item turn.0 (found ++ x ∷ []) else pure (found ++ x ∷ [])) (after mark.Comma m)) x at read
-                  ∙ eaten mark.Comma comma.0 behind (separated_from item turn.0 (found ++ x ∷ [])) (pure (found ++ x ∷ []))
-                  ∙ more.2 k g turn.0 (omega (arith, same, size, fewer, le)),
-            )
-        | inr t ↦
-            let stays : m ≡ j = sym (after_other mark.Comma m t.0) ∙ same_rest (found ++ x ∷ []) xs (after mark.Comma m) j t.1 in
-            let made : found ++ x ∷ [] ≡ xs = same_value (found ++ x ∷ []) xs (after mark.Comma m) j t.1 in (
-              r.0,
-              r.1 ∙ ap (λ k. r.0 ++ k) stays,
-              λ k g turns le.
-                  let good = good_at m j k stays g in
-                  let read = r.2 k good.0 in
-                  let turn = one_turn turns (r.0 ++ k) x k read le in
-                  ap (λ l. separated_from item l found (r.0 ++ k)) turn.1
-                  ∙ separated_turn item turn.0 found (r.0 ++ k)
-                  ∙ bind_is (item (r.0 ++ k)) (λ x m. (if sees mark.Comma m then separated_from item turn.0 (found ++ x ∷ []) else pure (found ++ x ∷ [])) (after mark.Comma m)) x k read
-                  ∙ not_eaten mark.Comma k (separated_from item turn.0 (found ++ x ∷ [])) (pure (found ++ x ∷ [])) (good.1 t.0)
-                  ∙ ap (λ zs. read_as zs k) made,
-            )
-      ]
-
-  separated_more_of : (xs : List A) (i j : Words) → Separated P xs i j → Separated M xs i j
-  separated_more_of [] i j s = s
-  separated_more_of (x ∷ []) i j s = a.more x i j s
-  separated_more_of (x ∷ y ∷ ys) i j s = (s.0, s.1, a.more x i (Fixed mark.Comma s.0 ∷ s.1) s.2, separated_more_of (y ∷ ys) s.1 j s.3)
-
-module _ {A : Type 0} {item : Parser A} {P M : A → Words → Words → Type 0} {S : Words → Type 0} {e : A → A} (a : Law item P M S e) (takes : Takes P)
-    (at_comma : (s : Spelling) (m : Words) → S (Fixed mark.Comma s ∷ m)) where
-  abbrev ListStops : Words → Type 0
-  ListStops j = S j × (sees mark.Comma j ≡ false)
-
-  joined : (R : A → Words → Words → Type 0) (x : A) (ys : List A) (s : Spelling) (i m j : Words) → R x i (Fixed mark.Comma s ∷ m) → Separated R ys m j → Separated R (x ∷ ys) i j
-  joined R x [] s i m j p t = absurd t
-  joined R x (y ∷ ys) s i m j p t = (s, m, p, t)
-
-  item_of : (xs : List A) (k j : Words) → Separated P xs k j → ListStops j → (x : A) × (l : Words) × P x k l × S l
-  item_of [] k j s t = absurd s
-  item_of (x ∷ []) k j s t = (x, j, s, t.0)
-  item_of (x ∷ y ∷ ys) k j s t = (x, Fixed mark.Comma s.0 ∷ s.1, s.2, at_comma s.0 s.1)
-
-  -- behind an item and its comma
-  behind_item : (u : Words) (x : A) (s : Spelling) (m : Words) → ((k : Words) → item (u ++ Fixed mark.Comma s ∷ k) ≡ read_as x (Fixed mark.Comma s ∷ k))
-      → (zs : List A) (k j : Words) → Separated P zs (u ++ Fixed mark.Comma s ∷ k) j → ListStops j → (ys : List A) × (l : Words) × Separated P ys k l × ListStops l
-  behind_item u x s m read [] k j n t = absurd n
-  behind_item u x s m read (z ∷ []) k j n t =
-      let there : Fixed mark.Comma s ∷ k ≡ j = same_rest x z (Fixed mark.Comma s ∷ k) j (sym (read k) ∙ a.rules.complete z (u ++ Fixed mark.Comma s ∷ k) j n t.0) in
-      absurd (true≢false (sym (sees_again mark.Comma s k) ∙ ap (sees mark.Comma) there ∙ t.1))
-  behind_item u x s m read (z ∷ y ∷ ys) k j n t =
-      let there : Fixed mark.Comma s ∷ k ≡ Fixed mark.Comma n.0 ∷ n.1 =
-      same_rest x z (Fixed mark.Comma s ∷ k) (Fixed mark.Comma n.0 ∷ n.1)
-      (sym (read k) ∙ a.rules.complete z (u ++ Fixed mark.Comma s ∷ k) (Fixed mark.Comma n.0 ∷ n.1) n.2 (at_comma n.0 n.1))
-      in
-      let F : Words → Type 0 = λ l. Separated P (y ∷ ys) l j in
-      (y ∷ ys, j, subst F (sym (same_tail mark.Comma s n.0 k n.1 there)) n.3, t)
-
-  separated_from_deep : (n : ℕ) (found : List A) (i left : Words) → separated_from item n found i ≡ Err (Deep left) → TooMany (Separated P) (Separated M) ListStops i left
-  separated_from_deep zero found i left s = not_deep i left (same_refusal {A = List A} (Refused i) (Deep left) (sym (separated_none item found i) ∙ s))
-  separated_from_deep (suc n) found i left s =
-      elim (bind_err (item i) (λ x m. (if sees mark.Comma m then separated_from item n (found ++ x ∷ []) else pure (found ++ x ∷ [])) (after mark.Comma m)) (Deep left) (sym (separated_turn item n found i) ∙ s))
-      as (λ _. TooMany (Separated P) (Separated M) ListStops i left) [
-        | inl t ↦
-            within i left (a.rules.deep i left t) (λ x. (x ∷ [], [], λ k j u. (u.0, λ n. n))) (λ x. (x ∷ [], [], λ k j u. (u.0, λ n. n)))
-            (λ xs k j same n u. item_of xs k j n u)
-        | inr t ↦
-            let x : A = t.0 in let m : Words = t.1 in
-            let r = a.rules.near i x m t.2 in
-            elim (chosen_by (sees mark.Comma m) (separated_from item n (found ++ x ∷ [])) (pure (found ++ x ∷ [])) (after mark.Comma m) (Err (Deep left)) t.3)
-            as (λ _. TooMany (Separated P) (Separated M) ListStops i left) [
-              | inl u ↦
-                  let comma = ate mark.Comma m u.0 in
-                  let o = a.one in
-                  let C : Words → Words = λ k. Fixed mark.Comma comma.0 ∷ k in
-                  let read : (k : Words) → item (r.0 ++ C k) ≡ read_as x (C k) = λ k. r.2 (C k) (inr (at_comma comma.0 k)) in
-                  let cut : (k : Words) → (r.0 ++ C []) ++ k ≡ r.0 ++ C k = λ k. append_assoc r.0 (C []) k in
-                  onward (r.0 ++ C []) i (after mark.Comma m) left (r.1 ∙ ap (λ k. r.0 ++ k) comma.1 ∙ sym (cut (after mark.Comma m)))
-                  (separated_from_deep n (found ++ x ∷ []) (after mark.Comma m) left u.1) (λ ys. x ∷ ys) (λ j v. v)
-                  (λ ys k j same n v.
-                  let F : Words → Type 0 = λ l. P x l (C k) in
-                  joined P x ys comma.0 ((r.0 ++ C []) ++ k) k j (subst F (sym (cut k)) (a.rules.sound (r.0 ++ C k) x (C k) (read k))) n)
-                  (λ ys k j same n v.
-                  let F : Words → Type 0 = λ l. M x l (C k) in
-                  joined M x ys comma.0 ((r.0 ++ C []) ++ k) k j (subst F (sym (cut k)) (a.rules.more x (r.0 ++ C k) (C k) (a.rules.sound (r.0 ++ C k) x (C k) (read k)))) n) (
-                    x ∷ o.0 ∷ [],
-                    o.1,
-                    λ j v.
-                        let F : Words → Type 0 = λ l. P x l (C (o.1 ++ j)) in
-                        (comma.0, o.1 ++ j, subst F (sym (cut (o.1 ++ j))) (a.rules.sound (r.0 ++ C (o.1 ++ j)) x (C (o.1 ++ j)) (read (o.1 ++ j))), o.2 j v.0),
-                  )
-                  (λ zs k j same n v.
-                  let F : Words → Type 0 = λ l. Separated P zs l j in
-                  behind_item r.0 x comma.0 m read zs k j (subst F (cut k) n) v)
-              | inr u ↦ not_refused (found ++ x ∷ []) (after mark.Comma m) (Deep left) u.1
-            ]
-      ]
-
-  -- and not at a comma
-  pub separated_law : Law (separated item) (Separated P) (Separated M) (λ j. S j × (sees mark.Comma j ≡ false)) (map e)
-  separated_law = record {
-    rules = record {
-      sound = separated_sound a.rules takes at_comma;
-      complete = separated_complete a.rules takes at_comma;
-      keeps = separated_keeps a.rules takes at_comma;
-      near = λ i xs j s. let r = separated_from_near a.rules takes at_comma (turns i) [] i xs j s in (r.0, r.1, λ k g. r.2 k g (turns (r.0 ++ k)) (turns_enough (r.0 ++ k)));
-      stands = λ i r s. separated_from_stands a.rules takes at_comma (turns i) [] i r s;
-      moves = separated_moves a.rules takes at_comma;
-      more = separated_more_of a.rules takes at_comma;
-      deep = λ i left s. separated_from_deep (turns i) [] i left s;
-    };
-    one = let o = a.one in (o.0 ∷ [], o.1, λ j t. o.2 j t.0);
-  }
-
-module _ {A : Type 0} {P : A → Words → Words → Type 0} (takes : Takes P) where
-  pub separated_takes : Takes (Separated P)
-  separated_takes [] i j s = absurd s
-  separated_takes (x ∷ []) i j s = takes x i j s
-  separated_takes (x ∷ y ∷ ys) i j s =
-      let less = takes x i (Fixed mark.Comma s.0 ∷ s.1) s.2 in
-      let more = separated_takes (y ∷ ys) s.1 j s.3 in omega arith
-
--- ---- {x}
-
-pub repeated_turn : {A : Type 0} (item : Parser (Option A)) (n : ℕ) (found : List A) (i : Words) → repeated_from item (suc n) found i
-    ≡ and_then (item i) (λ o m. repeated_by found (repeated_from item n) o m)
-unfolding repeated_from
-repeated_turn item n found i = refl
-
-pub repeated_none : {A : Type 0} (item : Parser (Option A)) (found : List A) (i : Words) → repeated_from item zero found i ≡ read_as found i
-unfolding repeated_from
-repeated_none item found i = refl
-
+-- of two beginnings of the same words, which is the longer
 abbrev first_word : Word → Words → Word
 first_word v [] = v
 first_word v (w ∷ i) = w
 
--- of two beginnings of the same words, which is the longer
 split : (a b c d : Words) → a ++ b ≡ c ++ d
     → ((w : Words) × (c ≡ a ++ w) × (b ≡ w ++ d)) ⊎ ((v : Word) × (w : Words) × (a ≡ c ++ v ∷ w) × (d ≡ v ∷ (w ++ b)))
 unfolding rest
@@ -310,291 +28,640 @@ split (v ∷ a) b (z ∷ c) d e =
       | inr t ↦ inr (t.0, t.1, (λ n. first n ∷ t.2 n), t.3)
     ]
 
--- words that are not all of others have the same first word before any others
-some_words : (u m j : Words) → m ≡ u ++ j → length j < length m → (k : Words) → SameFront (u ++ k) m
-some_words [] m j at less k = let same = ap length at in absurd (omega (arith, same))
-some_words (v ∷ u) m j at less k = front_behind v u k j ∙ ap front (sym at)
+-- ---- what reads a word, where nothing is spelled by none
+
+module _ {A : Type 0} {p : Parser A} {P M : Form A} {S : Words → Type 0} {e : A → A} (a : Rules p P M S e) (takes : Takes P) (last : S []) where
+  took : (i : Words) (x : A) (m u : Words) → i ≡ u ++ m → P x (u ++ []) [] → length m < length i
+  took i x m [] at s = absurd (takes x [] s)
+  took i x m (w ∷ u) at s = let same = ap length at ∙ length-append (w ∷ u) m in omega (arith, same)
+
+  shorter : (i : Words) (x : A) (m : Words) → IsRead p P S i x m → length m < length i
+  shorter i x m r = took i x m r.taken r.at (spelled_again a x i m [] r (inr last))
+
+-- ---- items up to one that is the last
+
+-- what goes on and what is the last, each but for its places
+abbrev pub erased_both : {A B : Type 0} → (A → A) → (B → B) → A ⊎ B → A ⊎ B
+erased_both f g (inl x) = inl (f x)
+erased_both f g (inr y) = inr (g y)
+
+abbrev pub until_by : {A B : Type 0} → List A → (List A → Parser (List A × Option B)) → Option (A ⊎ B) → Parser (List A × Option B)
+until_by found more None i = Ok ((found, None), i)
+until_by found more (Some (inl x)) i = more (found ++ x ∷ []) i
+until_by found more (Some (inr y)) i = Ok ((found, Some y), i)
+
+abbrev list_of : {A B : Type 0} → List A → Option B → List A × Option B
+list_of xs o = (xs, o)
+
+-- a list of one item, or with nothing before the last
+abbrev single : {A B : Type 0} → A ⊎ B → List A × Option B
+single (inl x) = list_of (x ∷ []) None
+single (inr y) = list_of [] (Some y)
+
+abbrev left_or : {A B : Type 0} → A → A ⊎ B → A
+left_or d (inl x) = x
+left_or d (inr y) = d
+
+abbrev right_or : {A B : Type 0} → B → A ⊎ B → B
+right_or d (inl x) = d
+right_or d (inr y) = y
+
+abbrev is_left : {A B : Type 0} → A ⊎ B → Bool
+is_left (inl x) = true
+is_left (inr y) = false
+
+abbrev pub Until : {A B : Type 0} → Form (A ⊎ B) → Form (List A × Option B)
+Until P = Both (Repeated (λ x. P (inl x))) (Optional (λ y. P (inr y)))
 
 -- An item stops at some words (`S`), and can yet be followed by them where it has others of its own that say so: then what is
 -- spelled is read before all words of a larger kind (`W`).
-module _ {A : Type 0} {begins : Words → Bool} {item : Parser (Option A)} {P M : A → Words → Words → Type 0} {S W : Words → Type 0} {e : A → A} (a : MaybeLaw item P M S begins e)
-    (weak : (x : A) (i j : Words) → P x i j → W j → item i ≡ some_as x j) (at_start : (i : Words) → begins i ≡ true → W i) (weaker : (j : Words) → S j → W j) (stop_last : S []) where
-  abbrev ListEnds : Words → Type 0
-  ListEnds j = S j × (begins j ≡ false)
+module _ {A B : Type 0} {begins : Words → Bool} {p : Parser (Option (A ⊎ B))} {P M : Form (A ⊎ B)} {S W : Words → Type 0} {f : A → A} {g : B → B}
+    (a : MaybeLaw p P M S begins (erased_both f g)) (weak : (z : A ⊎ B) (i j : Words) → P z i j → W j → a.item i ≡ read_as z j)
+    (at_start : (i : Words) → begins i ≡ true → W i) (weaker : (j : Words) → S j → W j) (last : S []) (from : ℕ → List A → Parser (List A × Option B))
+    (none : (found : List A) (i : Words) → from zero found i ≡ read_as (list_of found None) i)
+    (turn : (n : ℕ) (found : List A) (i : Words) → from (suc n) found i ≡ and_then (p i) (λ o m. until_by found (from n) o m)) where
+  abbrev Ends : Words → Type 0
+  Ends j = S j × (begins j ≡ false)
 
-  repeated_end : (found xs : List A) (i j : Words) → read_as found i ≡ read_as xs j → (ys : List A) × (xs ≡ found ++ ys) × Repeated P ys i j
-  repeated_end found xs i j s = ([], sym (same_value found xs i j s) ∙ sym (append-nil found), same_rest found xs i j s)
+  no_item : (z : A ⊎ B) (j : Words) → P z [] j → ⊥
+  no_item z j s = true≢false (sym (a.starts z [] j s) ∙ a.ends)
 
-  repeated_by_sound : (found : List A) (more : List A → Parser (List A))
-      → ((done : List A) (m : Words) (xs : List A) (j : Words) → more done m ≡ read_as xs j → (ys : List A) × (xs ≡ done ++ ys) × Repeated P ys m j)
-      → (o : Option A) (i m : Words) (xs : List A) (j : Words) → item i ≡ read_as o m → repeated_by found more o m ≡ read_as xs j
-      → (ys : List A) × (xs ≡ found ++ ys) × Repeated P ys i j
-  repeated_by_sound found more known None i m xs j s t =
-      let R : Words → Type 0 = λ k. (ys : List A) × (xs ≡ found ++ ys) × Repeated P ys k j in
-      subst R (sym (a.none i m s).0) (repeated_end found xs m j t)
-  repeated_by_sound found more known (Some x) i m xs j s t =
-      let c = known (found ++ x ∷ []) m xs j t in
-      (x ∷ c.0, c.1 ∙ append_assoc found (x ∷ []) c.0, (m, a.sound i x m s, c.2))
-
-  repeated_from_sound : (n : ℕ) (found : List A) (i : Words) (xs : List A) (j : Words) → repeated_from item n found i ≡ read_as xs j
-      → (ys : List A) × (xs ≡ found ++ ys) × Repeated P ys i j
-  repeated_from_sound zero found i xs j s = repeated_end found xs i j (sym (repeated_none item found i) ∙ s)
-  repeated_from_sound (suc n) found i xs j s =
-      let c = bind_ok (item i) (λ o m. repeated_by found (repeated_from item n) o m) xs j (sym (repeated_turn item n found i) ∙ s) in
-      repeated_by_sound found (repeated_from item n) (repeated_from_sound n) c.0 i c.1 xs j c.2 c.3
-
-  repeated_sound : (i : Words) (xs : List A) (j : Words) → repeated item i ≡ read_as xs j → Repeated P xs i j
-  repeated_sound i xs j s =
-      let c = repeated_from_sound (length i) [] i xs j s in
-      let R : List A → Type 0 = λ ys. Repeated P ys i j in subst R (sym c.1) c.2
-
-  stops_inside : (xs : List A) (i j : Words) → Repeated P xs i j → W j → W i
-  stops_inside [] i j s stop = subst W (sym s) stop
-  stops_inside (x ∷ xs) i j s stop = at_start i (a.starts x i s.0 s.1)
-
-  repeated_length : (xs : List A) (i j : Words) → Repeated P xs i j → length xs + length j ≤ length i
-  repeated_length [] i j s = let same = ap length s in omega (arith, same)
-  repeated_length (x ∷ xs) i j s =
-      let less = a.shorter x i s.0 s.1 in
-      let more = repeated_length xs s.0 j s.2 in omega arith
-
-  repeated_from_complete : (xs : List A) (n : ℕ) (found : List A) (i j : Words) → Repeated P xs i j → W j → begins j ≡ false
-      → length xs ≤ n → repeated_from item n found i ≡ read_as (found ++ xs) j
-  repeated_from_complete [] zero found i j s stop none le = repeated_none item found i ∙ ap (λ k. read_as found k) s ∙ ap (λ ys. read_as ys j) (sym (append-nil found))
-  repeated_from_complete [] (suc n) found i j s stop none le =
-      ap (repeated_from item (suc n) found) s
-      ∙ repeated_turn item n found j
-      ∙ bind_is (item j) (λ o m. repeated_by found (repeated_from item n) o m) None j (a.passes j none)
-      ∙ ap (λ ys. read_as ys j) (sym (append-nil found))
-  repeated_from_complete (x ∷ xs) zero found i j s stop none le = absurd (omega arith)
-  repeated_from_complete (x ∷ xs) (suc n) found i j s stop none le =
-      repeated_turn item n found i
-      ∙ bind_is (item i) (λ o m. repeated_by found (repeated_from item n) o m) (Some x) s.0 (weak x i s.0 s.1 (stops_inside xs s.0 j s.2 stop))
-      ∙ repeated_from_complete xs n (found ++ x ∷ []) s.0 j s.2 stop none (omega arith)
-      ∙ ap (λ ys. read_as ys j) (append_assoc found (x ∷ []) xs)
-
-  repeated_complete : (xs : List A) (i j : Words) → Repeated P xs i j → W j → begins j ≡ false → repeated item i ≡ read_as xs j
-  repeated_complete xs i j s stop none = let le = repeated_length xs i j s in repeated_from_complete xs (length i) [] i j s stop none (omega arith)
-
-  repeated_keeps : (xs : List A) (i j : Words) → Repeated P xs i j → (u : Words) × (i ≡ u ++ j) × ((k : Words) → ListEnds k → Repeated P xs (u ++ k) k)
-  repeated_keeps [] i j s = ([], s, λ k t. refl)
-  repeated_keeps (x ∷ []) i j s = let r = a.keeps x i s.0 s.1 in (r.0, r.1 ∙ ap (λ k. r.0 ++ k) s.2, λ k t. (k, r.2 k t.0, refl))
-  repeated_keeps (x ∷ y ∷ ys) i j s =
-      let first = a.near i x s.0 (weak x i s.0 s.1 (at_start s.0 (a.starts y s.0 (s.2).0 (s.2).1))) in
-      let more = repeated_keeps (y ∷ ys) s.0 j s.2 in
-      let fewer = repeated_length (y ∷ ys) s.0 j s.2 in (
-        first.0 ++ more.0,
-        first.1 ∙ ap (λ k. first.0 ++ k) more.1 ∙ sym (append_assoc first.0 more.0 j),
-        λ k t.
-            let R : Words → Type 0 = λ l. Repeated P (x ∷ y ∷ ys) l k in
-            subst R (sym (append_assoc first.0 more.0 k))
-            (more.0 ++ k, a.sound (first.0 ++ (more.0 ++ k)) x (more.0 ++ k) (first.2 (more.0 ++ k) (inl (some_words more.0 s.0 j more.1 (omega (arith, fewer)) k))), more.2 k t),
-      )
-
-  repeated_by_stands : (found : List A) (more : List A → Parser (List A))
-      → ((done : List A) (m : Words) (r : Refusal) → more done m ≡ Err r → StandsAt m r)
-      → (o : Option A) (i m : Words) (r : Refusal) → item i ≡ read_as o m → repeated_by found more o m ≡ Err r → StandsAt i r
-  repeated_by_stands found more known None i m r s t = not_refused found m r t
-  repeated_by_stands found more known (Some x) i m r s t =
-      let kept = a.keeps x i m (a.sound i x m s) in stands_on i m r (kept.0, kept.1) (known (found ++ x ∷ []) m r t)
-
-  repeated_from_stands : (n : ℕ) (found : List A) (i : Words) (r : Refusal) → repeated_from item n found i ≡ Err r → StandsAt i r
-  repeated_from_stands zero found i r s = not_refused found i r (sym (repeated_none item found i) ∙ s)
-  repeated_from_stands (suc n) found i r s =
-      elim (bind_err (item i) (λ o m. repeated_by found (repeated_from item n) o m) r (sym (repeated_turn item n found i) ∙ s)) as (λ _. StandsAt i r) [
-        | inl t ↦ a.stands i r t
-        | inr t ↦ repeated_by_stands found (repeated_from item n) (repeated_from_stands n) t.0 i t.1 r t.2 t.3
-      ]
-
-  repeated_moves : (xs : List A) (i j k : Words) → Repeated P xs i j → AreAlike i k
-      → (ys : List A) × (l : Words) × Repeated P ys k l × AreAlike j l × (map e ys ≡ map e xs)
-  repeated_moves [] i j k s t = ([], k, refl, alike_from i j k s t, refl)
-  repeated_moves (x ∷ xs) i j k s t =
-      let c = a.moves x i s.0 k s.1 t in
-      let more = repeated_moves xs s.0 j c.1 s.2 c.3 in
-      (c.0 ∷ more.0, more.1, (c.1, c.2, more.2), more.3, λ n. (c.4 n ∷ more.4 n))
+  -- ---- one turn
 
   -- where none begins nothing is read
-  none_begins : (turns : ℕ) (found : List A) (k : Words) → begins k ≡ false → repeated_from item turns found k ≡ read_as found k
-  none_begins zero found k no_more = repeated_none item found k
-  none_begins (suc n) found k no_more =
-      repeated_turn item n found k ∙ bind_is (item k) (λ o m. repeated_by found (repeated_from item n) o m) None k (a.passes k no_more)
+  nothing_more : (n : ℕ) (found : List A) (i : Words) → begins i ≡ false → from n found i ≡ read_as (list_of found None) i
+  nothing_more zero found i no_more = none found i
+  nothing_more (suc n) found i no_more = turn n found i ∙ bind_is (p i) (λ o m. until_by found (from n) o m) None i (passes a i no_more)
 
-  begins_after : (j k : Words) → begins j ≡ false → GoodAfter ListEnds j k → begins k ≡ false
-  begins_after j k none (inl same) = a.looks k j same ∙ none
-  begins_after j k none (inr t) = t.1
+  -- an item is read in a turn, where as many are left as there are words
+  one_turn : (n : ℕ) (found : List A) (i : Words) (z : A ⊎ B) (m : Words) {o : Outcome (List A × Option B)} → a.item i ≡ read_as z m → length i ≤ n
+      → ((l : ℕ) → length m ≤ l → until_by found (from l) (Some z) m ≡ o) → from n found i ≡ o
+  one_turn zero found i z m s le known = let less = shorter a.rules no_item last i z m (was_read a.rules i z m s) in absurd (omega (arith, less, le))
+  one_turn (suc l) found i z m s le known =
+      let less = shorter a.rules no_item last i z m (was_read a.rules i z m s) in
+      turn l found i ∙ bind_is (p i) (λ q k. until_by found (from l) q k) (Some z) m (some_read a z i m s) ∙ known l (omega (arith, less, le))
 
-  no_words : (i : Words) → length i ≤ 0 → begins i ≡ false
-  no_words [] le = a.ends
-  no_words (w ∷ i) le = absurd (omega arith)
+  -- ---- what is read
 
-  abbrev IsNear : List A → Words → List A → Words → Type 0
-  IsNear found i xs j = (u : Words) × (i ≡ u ++ j) × ((k : Words) → GoodAfter ListEnds j k → (turns : ℕ) → length (u ++ k) ≤ turns → repeated_from item turns found (u ++ k) ≡ read_as xs k)
+  record IsListed (found : List A) (i : Words) (r : List A × Option B) (j : Words) : Type 0 where
+    taken : Words
+    at : i ≡ taken ++ j
+    again : (k : Words) → GoodAfter Ends j k → (n : ℕ) → length (taken ++ k) ≤ n → from n found (taken ++ k) ≡ read_as r k
+    items : List A
+    ending : Option B
+    are : r ≡ list_of (found ++ items) ending
+    spelled : Until P (list_of items ending) i j
 
-  near_end : (found xs : List A) (i j : Words) → begins i ≡ false → read_as found i ≡ read_as xs j → IsNear found i xs j
-  near_end found xs i j none s =
-      let stays = same_rest found xs i j s in
-      let F : Words → Type 0 = λ l. begins l ≡ false in
-      ([], stays, λ k g turns le. none_begins turns found k (begins_after j k (subst F stays none) g) ∙ ap (λ ys. read_as ys k) (same_value found xs i j s))
+  abbrev Lists : List A → Words → Outcome (List A × Option B) → Type 0
+  Lists found i (Ok r) = IsListed found i r.0 r.1
+  Lists found i (Err r) = Told (Until P) (Until M) Ends i r
 
-  item_turn : (n : ℕ) (i : Words) (x : A) (m : Words) → item i ≡ some_as x m → length i ≤ n → (l : ℕ) × (n ≡ suc l)
-  item_turn zero i x m s le = let less = a.shorter x i m (a.sound i x m s) in absurd (omega arith)
-  item_turn (suc l) i x m s le = (l, refl)
+  begins_after : (j k : Words) → begins j ≡ false → GoodAfter Ends j k → begins k ≡ false
+  begins_after j k no_more (inl same) = a.looks k j same ∙ no_more
+  begins_after j k no_more (inr t) = t.1
 
-  good_part : (u m j k : Words) → m ≡ u ++ j → GoodAfter ListEnds j k → GoodAfter S m (u ++ k)
+  lists_none : (found : List A) (i : Words) → begins i ≡ false → IsListed found i (list_of found None) i
+  lists_none found i no_more = record {
+    taken = [];
+    at = refl;
+    again = λ k h n le. nothing_more n found k (begins_after i k no_more h);
+    items = [];
+    ending = None;
+    are = ap (λ ys. list_of ys None) (sym (append-nil found));
+    spelled = (i, refl, refl);
+  }
+
+  good_part : (u m j k : Words) → m ≡ u ++ j → GoodAfter Ends j k → GoodAfter S m (u ++ k)
   good_part [] m j k at (inl same) = inl (same ∙ ap front (sym at))
   good_part [] m j k at (inr t) = inr t.0
-  good_part (v ∷ u) m j k at g = inl (front_behind v u k j ∙ ap front (sym at))
+  good_part (v ∷ u) m j k at h = inl (front_behind v u k j ∙ ap front (sym at))
 
-  near_more : (found : List A) (x : A) (xs : List A) (i m j : Words) → item i ≡ some_as x m → IsNear (found ++ x ∷ []) m xs j → IsNear found i xs j
-  near_more found x xs i m j s more =
-      let r = a.near i x m s in (
-        r.0 ++ more.0,
-        r.1 ∙ ap (λ k. r.0 ++ k) more.1 ∙ sym (append_assoc r.0 more.0 j),
-        λ k g turns le.
-            let behind : Words = more.0 ++ k in
-            let read = r.2 behind (good_part more.0 m j k more.1 g) in
-            let whole = append_assoc r.0 more.0 k in
-            let same = ap length whole in
-            let less = a.shorter x (r.0 ++ behind) behind (a.sound (r.0 ++ behind) x behind read) in
-            let turn = item_turn turns (r.0 ++ behind) x behind read (omega (arith, same, le)) in
-            let fewer = turn.1 in
-            ap (repeated_from item turns found) whole
-            ∙ ap (λ l. repeated_from item l found (r.0 ++ behind)) turn.1
-            ∙ repeated_turn item turn.0 found (r.0 ++ behind)
-            ∙ bind_is (item (r.0 ++ behind)) (λ o m. repeated_by found (repeated_from item turn.0) o m) (Some x) behind read
-            ∙ more.2 k g turn.0 (omega (arith, same, less, fewer, le)),
-      )
+  lists_last : (found : List A) (i : Words) (y : B) (m : Words) → IsRead a.item P S i (inr y) m → IsListed found i (list_of found (Some y)) m
+  lists_last found i y m r = record {
+    taken = r.taken;
+    at = r.at;
+    again = λ k h n le. one_turn n found (r.taken ++ k) (inr y) k (r.again k (good_part [] m m k refl h)) le (λ l fewer. refl);
+    items = [];
+    ending = Some y;
+    are = ap (λ ys. list_of ys (Some y)) (sym (append-nil found));
+    spelled = (i, refl, r.spelled);
+  }
 
-  near_by : (n : ℕ) (found : List A) (i : Words) (xs : List A) (j : Words) → length i ≤ suc n
-      → ((x : A) (m : Words) → length m ≤ n → repeated_from item n (found ++ x ∷ []) m ≡ read_as xs j → IsNear (found ++ x ∷ []) m xs j)
-      → (o : Option A) (m : Words) → item i ≡ read_as o m → repeated_by found (repeated_from item n) o m ≡ read_as xs j → IsNear found i xs j
-  near_by n found i xs j le known None m t u =
-      let stays = a.none i m t in
-      let F : Words → Type 0 = λ l. IsNear found l xs j in
-      let G : Words → Type 0 = λ l. begins l ≡ false in
-      subst F (sym stays.0) (near_end found xs m j (subst G stays.0 stays.1) u)
-  near_by n found i xs j le known (Some x) m t u =
-      let less = a.shorter x i m (a.sound i x m t) in near_more found x xs i m j t (known x m (omega (arith, less, le)) u)
+  lists_more : (found : List A) (i : Words) (x : A) (m : Words) (r : List A × Option B) (j : Words) → IsRead a.item P S i (inl x) m → IsListed (found ++ x ∷ []) m r j
+      → IsListed found i r j
+  lists_more found i x m r j q t = let b = t.spelled in record {
+    taken = q.taken ++ t.taken;
+    at = q.at ∙ ap (λ k. q.taken ++ k) t.at ∙ sym (append_assoc q.taken t.taken j);
+    again = λ k h n le.
+        let whole = append_assoc q.taken t.taken k in
+        let same = ap length whole in
+        ap (from n found) whole
+        ∙ one_turn n found (q.taken ++ (t.taken ++ k)) (inl x) (t.taken ++ k) (q.again (t.taken ++ k) (good_part t.taken m j k t.at h)) (omega (arith, same, le)) (t.again k h);
+    items = x ∷ t.items;
+    ending = t.ending;
+    are = t.are ∙ ap (λ ys. list_of ys t.ending) (append_assoc found (x ∷ []) t.items);
+    spelled = (b.0, (m, q.spelled, b.1), b.2);
+  }
 
-  repeated_from_near : (n : ℕ) (found : List A) (i : Words) (xs : List A) (j : Words) → length i ≤ n → repeated_from item n found i ≡ read_as xs j → IsNear found i xs j
-  repeated_from_near zero found i xs j le s = near_end found xs i j (no_words i le) (sym (repeated_none item found i) ∙ s)
-  repeated_from_near (suc n) found i xs j le s =
-      let c = bind_ok (item i) (λ o m. repeated_by found (repeated_from item n) o m) xs j (sym (repeated_turn item n found i) ∙ s) in
-      near_by n found i xs j le (λ x m le. repeated_from_near n (found ++ x ∷ []) m xs j le) c.0 c.1 c.2 c.3
+  -- ---- complete
 
-  repeated_more_of : (xs : List A) (i j : Words) → Repeated P xs i j → Repeated M xs i j
-  repeated_more_of [] i j s = s
-  repeated_more_of (x ∷ xs) i j s = (s.0, a.more x i s.0 s.1, repeated_more_of xs s.0 j s.2)
+  stops_inside : (xs : List A) (o : Option B) (i j : Words) → Until P (list_of xs o) i j → W j → W i
+  stops_inside [] None i j s stop = subst W (sym (s.1 ∙ s.2)) stop
+  stops_inside [] (Some y) i j s stop = subst W (sym s.1) (at_start s.0 (a.starts (inr y) s.0 j s.2))
+  stops_inside (x ∷ xs) o i j s stop = let b = s.1 in at_start i (a.starts (inl x) i b.0 b.1)
 
-  -- where an item opens one too many, no list stands either
-  cut_off : (i left : Words) → item i ≡ Err (Deep left) → (t : TooMany P M S i left) → (k : Words) (x : A) (m : Words) → P x (t.passed ++ (t.head ++ k)) m → W m → ⊥
-  cut_off i left s t k x m n w =
+  from_complete : (xs : List A) (o : Option B) (n : ℕ) (found : List A) (i j : Words) → Until P (list_of xs o) i j → W j → begins j ≡ false → length i ≤ n
+      → from n found i ≡ read_as (list_of (found ++ xs) o) j
+  from_complete [] None n found i j s stop no_more le =
+      ap (from n found) (s.1 ∙ s.2) ∙ nothing_more n found j no_more ∙ ap (λ ys. read_as (list_of ys None) j) (sym (append-nil found))
+  from_complete [] (Some y) n found i j s stop no_more le =
+      let F : Words → Type 0 = λ l. P (inr y) l j in
+      one_turn n found i (inr y) j (weak (inr y) i j (subst F (sym s.1) s.2) stop) le (λ l fewer. ap (λ ys. read_as (list_of ys (Some y)) j) (sym (append-nil found)))
+  from_complete (x ∷ xs) o n found i j s stop no_more le =
+      let b = s.1 in
+      let behind : Until P (list_of xs o) b.0 j = (s.0, b.2, s.2) in
+      one_turn n found i (inl x) b.0 (weak (inl x) i b.0 b.1 (stops_inside xs o b.0 j behind stop)) le
+      (λ l fewer. from_complete xs o l (found ++ x ∷ []) b.0 j behind stop no_more fewer ∙ ap (λ ys. read_as (list_of ys o) j) (append_assoc found (x ∷ []) xs))
+
+  -- ---- words that differ in places alone
+
+  is_item : (z : A ⊎ B) (x : A) (k l : Words) → P z k l → erased_both f g z ≡ inl (f x) → (y : A) × P (inl y) k l × (f y ≡ f x)
+  is_item (inl y) x k l s e = (y, s, ap (left_or {B = B} (f x)) e)
+  is_item (inr y) x k l s e = absurd (true≢false (sym (ap is_left e)))
+
+  is_last : (z : A ⊎ B) (x : B) (k l : Words) → P z k l → erased_both f g z ≡ inr (g x) → (y : B) × P (inr y) k l × (g y ≡ g x)
+  is_last (inl y) x k l s e = absurd (true≢false (ap is_left e))
+  is_last (inr y) x k l s e = (y, s, ap (right_or {A = A} (g x)) e)
+
+  abbrev erased_until : List A × Option B → List A × Option B
+  erased_until r = (map f r.0, option_map g r.1)
+
+  until_moves : (xs : List A) (o : Option B) (i j k : Words) → Until P (list_of xs o) i j → AreAlike i k
+      → (r : List A × Option B) × (l : Words) × Until P r k l × AreAlike j l × (erased_until r ≡ erased_until (list_of xs o))
+  until_moves [] None i j k s t = (list_of [] None, k, (k, refl, refl), alike_from i j k (s.1 ∙ s.2) t, refl)
+  until_moves [] (Some y) i j k s t =
+      let c = a.rules.moves (inr y) s.0 j k s.2 (alike_from i s.0 k s.1 t) in
+      let b = is_last c.0 y k c.1 c.2 c.4 in
+      (list_of [] (Some b.0), c.1, (k, refl, b.1), c.3, ap (λ z. list_of {A = A} [] (Some z)) b.2)
+  until_moves (x ∷ xs) o i j k s t =
+      let q = s.1 in
+      let c = a.rules.moves (inl x) i q.0 k q.1 t in
+      let b = is_item c.0 x k c.1 c.2 c.4 in
+      let more = until_moves xs o q.0 j c.1 (s.0, q.2, s.2) c.3 in
+      let v = more.2 in
+      (list_of (b.0 ∷ more.0.0) more.0.1, more.1, (v.0, (c.1, b.1, v.1), v.2), more.3, λ n. list_of (b.2 n ∷ (more.4 n).0) (more.4 n).1)
+
+  until_more : (xs : List A) (o : Option B) (i j : Words) → Until P (list_of xs o) i j → Until M (list_of xs o) i j
+  until_more [] None i j s = s
+  until_more [] (Some y) i j s = (s.0, s.1, a.rules.more (inr y) s.0 j s.2)
+  until_more (x ∷ xs) o i j s =
+      let b = s.1 in
+      let more = until_more xs o b.0 j (s.0, b.2, s.2) in (more.0, (b.0, a.rules.more (inl x) i b.0 b.1, more.1), more.2)
+
+  -- ---- one too many
+
+  single_is : (R : Form (A ⊎ B)) (z : A ⊎ B) (k j : Words) → R z k j → Until R (single z) k j
+  single_is R (inl x) k j s = (j, (j, s, refl), refl)
+  single_is R (inr y) k j s = (k, refl, s)
+
+  -- where an item opens one too many, none is spelled
+  cut_off : (i left : Words) → a.item i ≡ Err (Deep left) → (t : TooMany P M S i left) → (k : Words) (z : A ⊎ B) (m : Words) → P z (t.passed ++ (t.head ++ k)) m → W m → ⊥
+  cut_off i left s t k z m n w =
       let words : Words = t.passed ++ (t.head ++ k) in
-      let r = a.near words x m (weak x words m n w) in
+      let r = was_read a.rules words z m (weak z words m n w) in
       let F : Words = t.passed ++ t.head in
-      elim (split F k r.0 m (append_assoc t.passed t.head k ∙ r.1)) as (λ _. ⊥) [
+      elim (split F k r.taken m (append_assoc t.passed t.head k ∙ r.at)) as (λ _. ⊥) [
         | inl c ↦
-            let alone = a.sound (r.0 ++ []) x [] (r.2 [] (inr stop_last)) in
-            let G : Words → Type 0 = λ l. P x l [] in
-            let same : r.0 ++ [] ≡ t.passed ++ (t.head ++ (c.0 ++ [])) =
+            let G : Words → Type 0 = λ l. P z l [] in
+            let same : r.taken ++ [] ≡ t.passed ++ (t.head ++ (c.0 ++ [])) =
             ap (λ l. l ++ []) c.1 ∙ append_assoc F c.0 [] ∙ append_assoc t.passed t.head (c.0 ++ [])
             in
-            t.barred (c.0 ++ []) x [] (subst G same alone) stop_last
+            t.barred (c.0 ++ []) z [] (subst G same (spelled_again a.rules z words m [] r (inr last))) last
         | inr c ↦
             let behind : Words = c.0 ∷ (c.1 ++ t.back) in
             let same : SameFront behind m = front_behind c.0 c.1 t.back k ∙ ap front (sym c.3) in
-            let read = r.2 behind (inl same) in
-            let whole : i ≡ r.0 ++ behind =
-            t.at ∙ sym (append_assoc t.passed t.head t.back) ∙ ap (λ l. l ++ t.back) c.2 ∙ append_assoc r.0 (c.0 ∷ c.1) t.back
+            let whole : i ≡ r.taken ++ behind =
+            t.at ∙ sym (append_assoc t.passed t.head t.back) ∙ ap (λ l. l ++ t.back) c.2 ∙ append_assoc r.taken (c.0 ∷ c.1) t.back
             in
-            not_refused (Some x) behind (Deep left) (sym read ∙ ap item (sym whole) ∙ s)
+            not_refused z behind (Deep left) (sym (r.again behind (inl same)) ∙ ap a.item (sym whole) ∙ s)
       ]
 
-  goes_list : (passed : Words) → (passed ≡ []) ⊎ GoesOn P S passed → (passed ≡ []) ⊎ GoesOn (Repeated P) ListEnds passed
-  goes_list passed (inl n) = inl n
-  goes_list passed (inr g) = inr (g.0 ∷ [], g.1, λ j v. (j, g.2 j v.0, refl))
-
-  no_list : (i left : Words) → item i ≡ Err (Deep left) → (t : TooMany P M S i left) → (k : Words) (xs : List A) (j : Words) → Repeated P xs (t.passed ++ (t.head ++ k)) j → ListEnds j → ⊥
-  no_list i left s t k [] j n v =
+  no_list : (i left : Words) → a.item i ≡ Err (Deep left) → begins i ≡ true → (t : TooMany P M S i left) → (k : Words) (xs : List A) (o : Option B) (j : Words)
+      → Until P (list_of xs o) (t.passed ++ (t.head ++ k)) j → Ends j → ⊥
+  no_list i left s here t k [] None j n v =
       let same : SameFront (t.passed ++ (t.head ++ k)) i = passed_front t.passed t.head t.opening t.heads k t.back ∙ ap front (sym t.at) in
-      true≢false (sym (deep_begins a i left s) ∙ sym (a.looks (t.passed ++ (t.head ++ k)) i same) ∙ ap begins n ∙ v.1)
-  no_list i left s t k (x ∷ xs) j n v = cut_off i left s t k x n.0 n.1 (stops_inside xs n.0 j n.2 (weaker j v.0))
+      true≢false (sym here ∙ sym (a.looks (t.passed ++ (t.head ++ k)) i same) ∙ ap begins (n.1 ∙ n.2) ∙ v.1)
+  no_list i left s here t k [] (Some y) j n v =
+      let F : Words → Type 0 = λ l. P (inr y) l j in cut_off i left s t k (inr y) j (subst F (sym n.1) n.2) (weaker j v.0)
+  no_list i left s here t k (x ∷ xs) o j n v =
+      let b = n.1 in cut_off i left s t k (inl x) b.0 b.1 (stops_inside xs o b.0 j (n.0, b.2, n.2) (weaker j v.0))
 
-  deep_here : (i left : Words) → item i ≡ Err (Deep left) → TooMany (Repeated P) (Repeated M) ListEnds i left
-  deep_here i left s =
-      let t = a.deep i left s in
-      record {
-        passed = t.passed;
-        head = t.head;
-        opening = t.opening;
-        back = t.back;
-        at = t.at;
-        here = t.here;
-        opens = t.opens;
-        heads = t.heads;
-        goes = goes_list t.passed t.goes;
-        more = (t.more.0 ∷ [], t.more.1, λ j v. (j, t.more.2 j v.0, refl));
-        barred = no_list i left s t;
-      }
+  deep_here : (i left : Words) → a.item i ≡ Err (Deep left) → begins i ≡ true → TooMany P M S i left → TooMany (Until P) (Until M) Ends i left
+  deep_here i left s here t = renamed i left (Until P) (Until M) single (λ j v. v.0) (single_is P) (single_is M) t (λ k r j n v. no_list i left s here t k r.0 r.1 j n v)
 
-  other_items : (u : Words) (x : A) (k : Words) → item (u ++ k) ≡ some_as x k → (zs : List A) (j : Words) → Repeated P zs (u ++ k) j → ListEnds j
-      → (ys : List A) × (l : Words) × Repeated P ys k l × ListEnds l
-  other_items u x k read [] j n v = absurd (true≢false (sym (a.starts x (u ++ k) k (a.sound (u ++ k) x k read)) ∙ ap begins n ∙ v.1))
-  other_items u x k read (z ∷ zs) j n v =
-      let there : k ≡ n.0 =
-      same_rest {A = Option A} (Some x) (Some z) k n.0 (sym read ∙ weak z (u ++ k) n.0 n.1 (stops_inside zs n.0 j n.2 (weaker j v.0)))
+  other_items : (u : Words) (x : A) (k : Words) → a.item (u ++ k) ≡ read_as (inl x) k → (zs : List A) (o : Option B) (j : Words) → Until P (list_of zs o) (u ++ k) j → Ends j
+      → (r : List A × Option B) × (l : Words) × Until P r k l × Ends l
+  other_items u x k s [] None j n v =
+      absurd (true≢false (sym (a.starts (inl x) (u ++ k) k (sound a.rules (u ++ k) (inl x) k s)) ∙ ap begins (n.1 ∙ n.2) ∙ v.1))
+  other_items u x k s [] (Some y) j n v =
+      let F : Words → Type 0 = λ l. P (inr y) l j in
+      let G : A ⊎ B → Words → Type 0 = λ z l. is_left z ≡ true in
+      absurd (true≢false (sym (as_read G (inl x) (inr y) k j (sym s ∙ weak (inr y) (u ++ k) j (subst F (sym n.1) n.2) (weaker j v.0)) refl)))
+  other_items u x k s (z ∷ zs) o j n v =
+      let b = n.1 in
+      let there : k ≡ b.0 =
+      same_rest {A = A ⊎ B} (inl x) (inl z) k b.0 (sym s ∙ weak (inl z) (u ++ k) b.0 b.1 (stops_inside zs o b.0 j (n.0, b.2, n.2) (weaker j v.0)))
       in
-      let F : Words → Type 0 = λ l. Repeated P zs l j in
-      (zs, j, subst F (sym there) n.2, v)
+      let F : Words → Type 0 = λ l. Until P (list_of zs o) l j in
+      (list_of zs o, j, subst F (sym there) (n.0, b.2, n.2), v)
 
-  deep_behind : (i left : Words) (x : A) (m : Words) → item i ≡ some_as x m → TooMany (Repeated P) (Repeated M) ListEnds m left → TooMany (Repeated P) (Repeated M) ListEnds i left
-  deep_behind i left x m s t =
-      let r = a.near i x m s in
-      let first : (k : Words) → GoodAfter S m k → P x (r.0 ++ k) k = λ k g. a.sound (r.0 ++ k) x k (r.2 k g) in
-      onward r.0 i m left r.1 t (λ xs. x ∷ xs) (λ j v. v)
-      (λ xs k j same n v. (k, first k (inl same), n))
-      (λ xs k j same n v. (k, a.more x (r.0 ++ k) k (first k (inl same)), n))
-      (x ∷ [], [], λ j v. (j, first j (inr v.0), refl))
-      (λ zs k j same n v. other_items r.0 x k (r.2 k (inl same)) zs j n v)
+  deep_behind : (i : Words) (x : A) (m left : Words) → IsRead a.item P S i (inl x) m → TooMany (Until P) (Until M) Ends m left → TooMany (Until P) (Until M) Ends i left
+  deep_behind i x m left r t =
+      let first : (k : Words) → GoodAfter S m k → P (inl x) (r.taken ++ k) k = λ k h. spelled_again a.rules (inl x) i m k r h in
+      onward r.taken i m left r.at t (λ q. list_of (x ∷ q.0) q.1) (λ j v. v)
+      (λ q k j same n v. (n.0, (k, first k (inl same), n.1), n.2))
+      (λ q k j same n v. (n.0, (k, a.rules.more (inl x) (r.taken ++ k) k (first k (inl same)), n.1), n.2))
+      (list_of (x ∷ []) None, [], λ j v. (j, (j, first j (inr v.0), refl), refl))
+      (λ q k j same n v. other_items r.taken x k (r.again k (inl same)) q.0 q.1 j n v)
 
-  deep_by : (n : ℕ) (found : List A) (i left : Words)
-      → ((x : A) (m : Words) → repeated_from item n (found ++ x ∷ []) m ≡ Err (Deep left) → TooMany (Repeated P) (Repeated M) ListEnds m left)
-      → (o : Option A) (m : Words) → item i ≡ read_as o m → repeated_by found (repeated_from item n) o m ≡ Err (Deep left) → TooMany (Repeated P) (Repeated M) ListEnds i left
-  deep_by n found i left known None m t u = not_refused found m (Deep left) u
-  deep_by n found i left known (Some x) m t u = deep_behind i left x m t (known x m u)
+  -- ---- the whole list
 
-  repeated_from_deep : (n : ℕ) (found : List A) (i left : Words) → repeated_from item n found i ≡ Err (Deep left) → TooMany (Repeated P) (Repeated M) ListEnds i left
-  repeated_from_deep zero found i left s = not_refused found i (Deep left) (sym (repeated_none item found i) ∙ s)
-  repeated_from_deep (suc n) found i left s =
-      elim (bind_err (item i) (λ o m. repeated_by found (repeated_from item n) o m) (Deep left) (sym (repeated_turn item n found i) ∙ s)) as (λ _. TooMany (Repeated P) (Repeated M) ListEnds i left) [
-        | inl t ↦ deep_here i left t
-        | inr t ↦ deep_by n found i left (λ x m u. repeated_from_deep n (found ++ x ∷ []) m left u) t.0 t.1 t.2 t.3
-      ]
+  gives_more : (found : List A) (i : Words) (x : A) (m : Words) → IsRead a.item P S i (inl x) m → (o : Outcome (List A × Option B)) → Lists (found ++ x ∷ []) m o → Lists found i o
+  gives_more found i x m r (Ok q) t = lists_more found i x m q.0 q.1 r t
+  gives_more found i x m r (Err s) t = later i m s (r.taken, r.at) (λ left u. deep_behind i x m left r u) t
 
-  -- and where none begins
-  pub repeated_open_law : Law (repeated item) (Repeated P) (Repeated M) (λ j. S j × (begins j ≡ false)) (map e)
-  repeated_open_law = record {
+  gives_item : (n : ℕ) (found : List A) (i : Words) → length i ≤ suc n → begins i ≡ true → ((done : List A) (m : Words) → length m ≤ n → Lists done m (from n done m))
+      → (o : Outcome (A ⊎ B)) → a.item i ≡ o → Gives a.item P M S i o
+      → Lists found i (and_then (and_then o (λ z k. some_as z k)) (λ q m. until_by found (from n) q m))
+  gives_item n found i le here known (Ok (inl x, m)) s r =
+      let less = shorter a.rules no_item last i (inl x) m r in gives_more found i x m r (from n (found ++ x ∷ []) m) (known (found ++ x ∷ []) m (omega (arith, less, le)))
+  gives_item n found i le here known (Ok (inr y, m)) s r = lists_last found i y m r
+  gives_item n found i le here known (Err (Refused left)) s r = r
+  gives_item n found i le here known (Err (Deep left)) s r = deep_here i left s here r
+  gives_item n found i le here known (Err (Barred left)) s r = r
+
+  gives_turn : (n : ℕ) (found : List A) (i : Words) → length i ≤ suc n → ((done : List A) (m : Words) → length m ≤ n → Lists done m (from n done m))
+      → (b : Bool) → begins i ≡ b → Lists found i (and_then (if b then and_then (a.item i) (λ z k. some_as z k) else none_as i) (λ q m. until_by found (from n) q m))
+  gives_turn n found i le known true here = gives_item n found i le here known (a.item i) refl (a.rules.tells i)
+  gives_turn n found i le known false no_more = lists_none found i no_more
+
+  no_more_words : (i : Words) → length i ≤ 0 → begins i ≡ false
+  no_more_words [] le = a.ends
+  no_more_words (w ∷ i) le = absurd (omega arith)
+
+  gives_list : (n : ℕ) (found : List A) (i : Words) → length i ≤ n → Lists found i (from n found i)
+  gives_list zero found i le =
+      let F : Outcome (List A × Option B) → Type 0 = λ o. Lists found i o in subst F (sym (none found i)) (lists_none found i (no_more_words i le))
+  gives_list (suc n) found i le =
+      let F : Outcome (List A × Option B) → Type 0 = λ o. Lists found i o in
+      let G : Parser (Option (A ⊎ B)) → Type 0 = λ q. Lists found i (and_then (q i) (λ o m. until_by found (from n) o m)) in
+      subst F (sym (turn n found i)) (subst G a.is (gives_turn n found i le (λ done m fewer. gives_list n done m fewer) (begins i) refl))
+
+  gives_whole : (i : Words) (o : Outcome (List A × Option B)) → Lists [] i o → Gives (λ l. from (length l) [] l) (Until P) (Until M) Ends i o
+  gives_whole i (Ok r) t = record {
+    taken = t.taken;
+    at = t.at;
+    again = λ k h. t.again k h (length (t.taken ++ k)) (omega arith);
+    spelled = let F : List A × Option B → Type 0 = λ q. Until P q i r.1 in subst F (sym t.are) t.spelled;
+  }
+  gives_whole i (Err s) t = t
+
+  pub until_open_law : Law (λ i. from (length i) [] i) (Until P) (Until M) (λ j. S j × (begins j ≡ false)) (λ r. (map f r.0, option_map g r.1))
+  until_open_law = record {
     rules = record {
-      sound = repeated_sound;
-      complete = λ xs i j s t. repeated_complete xs i j s (weaker j t.0) t.1;
-      keeps = repeated_keeps;
-      near = λ i xs j s. let r = repeated_from_near (length i) [] i xs j (omega arith) s in (r.0, r.1, λ k g. r.2 k g (length (r.0 ++ k)) (omega arith));
-      stands = λ i r s. repeated_from_stands (length i) [] i r s;
-      moves = repeated_moves;
-      more = repeated_more_of;
-      deep = λ i left s. repeated_from_deep (length i) [] i left s;
+      tells = λ i. gives_whole i (from (length i) [] i) (gives_list (length i) [] i (omega arith));
+      complete = λ r i j s t. from_complete r.0 r.1 (length i) [] i j s (weaker j t.0) t.1 (omega arith);
+      moves = λ r i j k s t. until_moves r.0 r.1 i j k s t;
+      more = λ r i j s. until_more r.0 r.1 i j s;
     };
-    one = ([], [], λ j t. refl);
+    one = (list_of [] None, [], λ j t. (j, refl, refl));
   }
 
 -- an item stops where another begins
-module _ {A : Type 0} {begins : Words → Bool} {item : Parser (Option A)} {P M : A → Words → Words → Type 0} {S : Words → Type 0} {e : A → A} (a : MaybeLaw item P M S begins e)
-    (at_start : (i : Words) → begins i ≡ true → S i) (stop_last : S []) where
+module _ {A B : Type 0} {begins : Words → Bool} {p : Parser (Option (A ⊎ B))} {P M : Form (A ⊎ B)} {S : Words → Type 0} {f : A → A} {g : B → B}
+    (a : MaybeLaw p P M S begins (erased_both f g)) (at_start : (i : Words) → begins i ≡ true → S i) (last : S []) where
+  pub until_law : (from : ℕ → List A → Parser (List A × Option B)) → ((found : List A) (i : Words) → from zero found i ≡ read_as (list_of found None) i)
+      → ((n : ℕ) (found : List A) (i : Words) → from (suc n) found i ≡ and_then (p i) (λ o m. until_by found (from n) o m))
+      → Law (λ i. from (length i) [] i) (Until P) (Until M) (λ j. S j × (begins j ≡ false)) (λ r. (map f r.0, option_map g r.1))
+  until_law from none turn = until_open_law a a.rules.complete at_start (λ j t. t) last from none turn
+
+-- ---- {x}: items of which none is the last
+
+abbrev IsReadAs : {A : Type 0} → Outcome A → Option A → Words → Type 0
+IsReadAs o None k = Unit {0}
+IsReadAs o (Some x) k = o ≡ read_as x k
+
+some_item : {A : Type 0} (o : Outcome A) (x : A) (j : Words) → and_then o (λ y k. some_as y k) ≡ some_as x j → o ≡ read_as x j
+some_item {A} (Ok z) x j s = let F : Option A → Words → Type 0 = λ q k. IsReadAs (Ok z) q k in as_read F (Some z.0) (Some x) z.1 j s refl
+some_item (Err r) x j s = not_read r (Some x) j s
+
+item_by : {A : Type 0} (b : Bool) (i : Words) (o : Outcome A) (x : A) (j : Words) → (if b then and_then o (λ y k. some_as y k) else none_as i) ≡ some_as x j → o ≡ read_as x j
+item_by true i o x j s = some_item o x j s
+item_by false i o x j s = not_some x i j s
+
+abbrev goes_on : {A : Type 0} → A → A ⊎ ⊥
+goes_on x = inl x
+
+abbrev Alone : {A : Type 0} → Form A → Form (A ⊎ ⊥)
+Alone R (inl x) i j = R x i j
+Alone R (inr y) i j = ⊥
+
+alone_to : {A : Type 0} (R : Form A) (z : A ⊎ ⊥) (i j : Words) → Made goes_on R z i j → Alone R z i j
+alone_to {A} R z i j s = let F : A ⊎ ⊥ → Type 0 = λ y. Alone R y i j in subst F (sym s.1) s.2
+
+alone_from : {A : Type 0} (R : Form A) (z : A ⊎ ⊥) (i j : Words) → Alone R z i j → Made goes_on R z i j
+alone_from R (inl x) i j s = (x, refl, s)
+alone_from R (inr y) i j s = absurd s
+
+all_of : {A : Type 0} (R : Form A) (xs : List A) (o : Option ⊥) (i m j : Words) → Repeated R xs i m → Optional (λ y. Alone R (inr y)) o m j → Repeated R xs i j
+all_of R xs None i m j s t = let F : Words → Type 0 = λ l. Repeated R xs i l in subst F t s
+all_of R xs (Some y) i m j s t = absurd y
+
+module _ {A : Type 0} {begins : Words → Bool} {p : Parser (Option A)} {P M : Form A} {S W : Words → Type 0} {e : A → A} (a : MaybeLaw p P M S begins e)
+    (weak : (x : A) (i j : Words) → P x i j → W j → p i ≡ some_as x j) (at_start : (i : Words) → begins i ≡ true → W i) (weaker : (j : Words) → S j → W j) (last : S []) where
+  abbrev nothing_else : ⊥ → ⊥
+  nothing_else y = y
+
+  starts_alone : (z : A ⊎ ⊥) (i j : Words) → Alone P z i j → begins i ≡ true
+  starts_alone (inl x) i j s = a.starts x i j s
+  starts_alone (inr y) i j s = absurd s
+
+  abbrev alone : MaybeLaw (maybe begins (made goes_on a.item)) (Alone P) (Alone M) S begins (erased_both e nothing_else)
+  alone = record {
+    item = made goes_on a.item;
+    is = refl;
+    rules = as_rules (alone_to P) (alone_from P) (alone_to M) (made_rules goes_on (λ x y n. ap goes_on n) a.rules);
+    starts = starts_alone;
+    looks = a.looks;
+    ends = a.ends;
+  }
+
+  weak_alone : (z : A ⊎ ⊥) (i j : Words) → Alone P z i j → W j → made goes_on a.item i ≡ read_as z j
+  weak_alone (inl x) i j s t =
+      bind_is (a.item i) (λ y k. read_as (goes_on y) k) x j (item_by (begins i) i (a.item i) x j (ap (λ q. q i) a.is ∙ weak x i j s t))
+  weak_alone (inr y) i j s t = absurd s
+
+  abbrev paired : List A → Parser (List A × Option ⊥)
+  paired xs = λ j. read_as (list_of xs None) j
+
+  abbrev from : ℕ → List A → Parser (List A × Option ⊥)
+  from n found = λ i. and_then (repeated_from p n found i) paired
+
+  turn_by : (n : ℕ) (found : List A) (i : Words) (b : Bool) (o : Outcome A) →
+      and_then (and_then (if b then and_then o (λ x k. some_as x k) else none_as i) (λ q m. repeated_by found (repeated_from p n) q m)) paired
+      ≡ and_then (if b then and_then (and_then o (λ x k. read_as (goes_on x) k)) (λ z k. some_as z k) else none_as i) (λ q m. until_by found (from n) q m)
+  turn_by n found i true (Ok z) = refl
+  turn_by n found i true (Err r) = refl
+  turn_by n found i false o = refl
+
+  from_none : (found : List A) (i : Words) → from zero found i ≡ read_as (list_of found None) i
+  unfolding repeated_from
+  from_none found i = refl
+
+  from_turn : (n : ℕ) (found : List A) (i : Words) → from (suc n) found i ≡ and_then (maybe begins (made goes_on a.item) i) (λ q m. until_by found (from n) q m)
+  unfolding repeated_from
+  from_turn n found i =
+      ap (λ (r : Parser (Option A)). and_then (and_then (r i) (λ q m. repeated_by found (repeated_from p n) q m)) paired) (sym a.is) ∙ turn_by n found i (begins i) (a.item i)
+
+  unpaired : (o : Outcome (List A)) → and_then (and_then o paired) (λ r j. read_as r.0 j) ≡ o
+  unpaired (Ok z) = refl
+  unpaired (Err r) = refl
+
+  abbrev items : List A × Option ⊥ → List A
+  items r = r.0
+
+  all_to : (R : Form A) (xs : List A) (i j : Words) → Made items (Until (Alone R)) xs i j → Repeated R xs i j
+  all_to R xs i j s =
+      let b = s.2 in
+      let F : List A → Type 0 = λ ys. Repeated R ys i j in subst F (sym s.1) (all_of R s.0.0 s.0.1 i b.0 j b.1 b.2)
+
   -- and where none begins
-  pub repeated_law : Law (repeated item) (Repeated P) (Repeated M) (λ j. S j × (begins j ≡ false)) (map e)
-  repeated_law = repeated_open_law a a.complete at_start (λ j t. t) stop_last
+  pub repeated_open_law : Law (repeated p) (Repeated P) (Repeated M) (λ j. S j × (begins j ≡ false)) (map e)
+  repeated_open_law =
+      same_law (λ i. unpaired (repeated p i))
+      (as_law (all_to P) (λ xs i j s. (list_of xs None, refl, (j, s, refl))) (all_to M)
+      (made_law items (λ x y n. ap items n) (until_open_law alone weak_alone at_start weaker last from from_none from_turn)))
+
+-- an item stops where another begins
+module _ {A : Type 0} {begins : Words → Bool} {p : Parser (Option A)} {P M : Form A} {S : Words → Type 0} {e : A → A} (a : MaybeLaw p P M S begins e)
+    (at_start : (i : Words) → begins i ≡ true → S i) (last : S []) where
+  -- and where none begins
+  pub repeated_law : Law (repeated p) (Repeated P) (Repeated M) (λ j. S j × (begins j ≡ false)) (map e)
+  repeated_law = repeated_open_law a (λ x i j s t. some_read a x i j (a.rules.complete x i j s t)) at_start (λ j t. t) last
 
   -- what stands before a list stands before its end, or before an item
   pub repeated_begins : (xs : List A) (i j : Words) → Repeated P xs i j → S j → S i
-  repeated_begins = stops_inside a a.complete at_start (λ j t. t) stop_last
+  repeated_begins [] i j s stop = subst S (sym s) stop
+  repeated_begins (x ∷ xs) i j s stop = at_start i (a.starts x i s.0 s.1)
+
+-- ---- x {"," x}: an item, and others that each stand behind a comma
+
+no_comma_last : sees mark.Comma [] ≡ false
+unfolding sees front
+no_comma_last = refl
+
+no_comma_at_close : (s : Spelling) (j : Words) → sees mark.Comma (Fixed mark.Close s ∷ j) ≡ false
+unfolding sees front same_mark
+no_comma_at_close s j = refl
+
+-- steps of which the first is the same go on alike, where they do behind what it reads
+same_first : {A B C : Type 0} (o : Outcome A) (f g : A → Parser B) (h : B → Parser C) → ((x : A) (m : Words) → o ≡ read_as x m → and_then (f x m) h ≡ and_then (g x m) h)
+    → and_then (and_then o f) h ≡ and_then (and_then o g) h
+same_first (Ok z) f g h known = known z.0 z.1 refl
+same_first (Err r) f g h known = refl
+
+module _ {A : Type 0} (item : Parser A) where
+  -- another item, if a comma stands next
+  abbrev another : Parser (Option A)
+  another = maybe (sees mark.Comma) (behind mark.Comma item)
+
+  abbrev joined : A × List A → List A
+  joined p = p.0 ∷ p.1
+
+  -- what is read behind an item
+  abbrev tail : ℕ → List A → Parser (List A)
+  tail n found m = (if sees mark.Comma m then separated_from item n found else pure found) (after mark.Comma m)
+
+  tail_none : (n : ℕ) (found : List A) (m : Words) → sees mark.Comma m ≡ false → tail n found m ≡ read_as found m
+  tail_none n found m e =
+      ap (λ b. (if b then separated_from item n found else pure found) (after mark.Comma m)) e ∙ ap (λ k. read_as found k) (after_other mark.Comma m e)
+
+  tail_more : (n : ℕ) (found : List A) (s : Spelling) (l : Words) → tail n found (Fixed mark.Comma s ∷ l) ≡ separated_from item n found l
+  tail_more n found s l =
+      let e = sees_at mark.Comma s (Fixed mark.Comma s ∷ l) l refl in
+      ap (λ b. (if b then separated_from item n found else pure found) (after mark.Comma (Fixed mark.Comma s ∷ l))) e
+      ∙ ap (separated_from item n found) (after_seen mark.Comma (Fixed mark.Comma s ∷ l) e ∙ rest_again (Fixed mark.Comma s) l)
+
+  others_none : (k : ℕ) (found : List A) (m : Words) → sees mark.Comma m ≡ false → repeated_from another k found m ≡ read_as found m
+  unfolding repeated_from
+  others_none zero found m e = refl
+  others_none (suc k) found m e =
+      bind_is (another m) (λ q l. repeated_by found (repeated_from another k) q l) None m (if_false (sees mark.Comma m) (and_then (behind mark.Comma item m) (λ y j. some_as y j)) (none_as m) e)
+
+  with_some : (k : ℕ) (found : List A) (o : Outcome A)
+      → and_then (and_then o (λ y j. some_as y j)) (λ q l. repeated_by found (repeated_from another k) q l) ≡ and_then o (λ x m. repeated_from another k (found ++ x ∷ []) m)
+  with_some k found (Ok z) = refl
+  with_some k found (Err r) = refl
+
+  others_more : (k : ℕ) (found : List A) (s : Spelling) (l : Words)
+      → repeated_from another (suc k) found (Fixed mark.Comma s ∷ l) ≡ and_then (item l) (λ x m. repeated_from another k (found ++ x ∷ []) m)
+  unfolding repeated_from
+  others_more k found s l =
+      let m : Words = Fixed mark.Comma s ∷ l in
+      ap (λ (o : Outcome (Option A)). and_then o (λ q r. repeated_by found (repeated_from another k) q r))
+      (if_true (sees mark.Comma m) (and_then (behind mark.Comma item m) (λ y j. some_as y j)) (none_as m) (sees_at mark.Comma s m l refl)
+      ∙ ap (λ (o : Outcome Spelling). and_then (and_then o (λ _ j. item j)) (λ y j. some_as y j)) (expect_again mark.Comma s l))
+      ∙ with_some k found (item l)
+
+  cons_by : (k : ℕ) (x : A) (found : List A) → ((done : List A) (m : Words) → repeated_from another k (x ∷ done) m ≡ and_then (repeated_from another k done m) (λ ys j. read_as (x ∷ ys) j))
+      → (o : Outcome (Option A)) → and_then o (λ q l. repeated_by (x ∷ found) (repeated_from another k) q l)
+      ≡ and_then (and_then o (λ q l. repeated_by found (repeated_from another k) q l)) (λ ys j. read_as (x ∷ ys) j)
+  cons_by k x found known (Ok (None, m)) = refl
+  cons_by k x found known (Ok (Some y, m)) = known (found ++ y ∷ []) m
+  cons_by k x found known (Err r) = refl
+
+  -- what was found before stands before what is found
+  cons_others : (k : ℕ) (x : A) (found : List A) (m : Words) → repeated_from another k (x ∷ found) m ≡ and_then (repeated_from another k found m) (λ ys j. read_as (x ∷ ys) j)
+  unfolding repeated_from
+  cons_others zero x found m = refl
+  cons_others (suc k) x found m = cons_by k x found (cons_others k x) (another m)
+
+  pair_joined : (x : A) (o : Outcome (List A)) → and_then o (λ ys j. read_as (x ∷ ys) j) ≡ and_then (and_then o (λ ys j. read_as (x, ys) j)) (λ z j. read_as (joined z) j)
+  pair_joined x (Ok z) = refl
+  pair_joined x (Err r) = refl
+
+  -- Both readings of a list are the same where as many turns are left as there are words, or some (`spare`) fewer, if what
+  -- follows refuses the words where they are too few.
+  module _ {C : Type 0} (spare : ℕ) (h : List A → Parser C) (no_more : (i : Words) (x : A) (m : Words) → item i ≡ read_as x m → length m ≤ length i)
+      (at_end : (k : ℕ) (found : List A) (l : Words) → length l < spare
+      → and_then (separated_from item zero found l) h ≡ and_then (and_then (item l) (λ x m. repeated_from another k (found ++ x ∷ []) m)) h) where
+    tail_by : (n k : ℕ) (found : List A) (m : Words) → length m ≤ k
+        → ((j : ℕ) (s : Spelling) (l : Words) → m ≡ Fixed mark.Comma s ∷ l → length l ≤ j
+        → and_then (separated_from item n found l) h ≡ and_then (and_then (item l) (λ x r. repeated_from another j (found ++ x ∷ []) r)) h)
+        → (b : Bool) → sees mark.Comma m ≡ b → and_then (tail n found m) h ≡ and_then (repeated_from another k found m) h
+    tail_by n k found m le known false e = ap (λ o. and_then o h) (tail_none n found m e ∙ sym (others_none k found m e))
+    tail_by n zero found m le known true e = let at = sees_ok mark.Comma m e in let same = ap length at.1 in absurd (omega (arith, same, le))
+    tail_by n (suc j) found m le known true e =
+        let at = sees_ok mark.Comma m e in
+        let same = ap length at.1 in
+        let F : Words → Type 0 = λ r. and_then (tail n found r) h ≡ and_then (repeated_from another (suc j) found r) h in
+        subst F (sym at.1)
+        (ap (λ o. and_then o h) (tail_more n found at.0 (rest m))
+        ∙ known j at.0 (rest m) at.1 (omega (arith, same, le))
+        ∙ ap (λ o. and_then o h) (sym (others_more j found at.0 (rest m))))
+
+    same_tail : (n k : ℕ) (found : List A) (m : Words) → length m ≤ n + spare → length m ≤ k → and_then (tail n found m) h ≡ and_then (repeated_from another k found m) h
+    unfolding separated_from
+    same_tail zero k found m enough le =
+        tail_by zero k found m le (λ j s l at fewer. let same = ap length at in at_end j found l (omega (arith, same, enough))) (sees mark.Comma m) refl
+    same_tail (suc n) k found m enough le =
+        tail_by (suc n) k found m le
+        (λ j s l at fewer.
+        let same = ap length at in
+        same_first (item l) (λ x r. tail n (found ++ x ∷ []) r) (λ x r. repeated_from another j (found ++ x ∷ []) r) h
+        (λ x r read. let rests = no_more l x r read in same_tail n j (found ++ x ∷ []) r (omega (arith, same, enough, rests)) (omega (arith, fewer, rests))))
+        (sees mark.Comma m) refl
+
+    whole_by : (n : ℕ) (o : Outcome A) → ((x : A) (m : Words) → o ≡ read_as x m → length m ≤ n + spare)
+        → and_then (and_then o (λ x m. tail n (x ∷ []) m)) h
+        ≡ and_then (and_then (and_then o (λ x m. and_then (repeated another m) (λ ys j. read_as (x, ys) j))) (λ z j. read_as (joined z) j)) h
+    whole_by n (Ok z) known =
+        same_tail n (length z.1) (z.0 ∷ []) z.1 (known z.0 z.1 refl) (omega arith)
+        ∙ ap (λ o. and_then o h) (cons_others (length z.1) z.0 [] z.1 ∙ pair_joined z.0 (repeated another z.1))
+    whole_by n (Err r) known = refl
+
+    whole_same : (i : Words) → ((x : A) (m : Words) → item i ≡ read_as x m → length m < length i + spare)
+        → and_then (separated item i) h ≡ and_then (made joined (item ⊗ repeated another) i) h
+    unfolding separated_from turns
+    whole_same [] known = whole_by zero (item []) (λ x m read. let less = known x m read in omega (arith, less))
+    whole_same (w ∷ i) known = whole_by (length i) (item (w ∷ i)) (λ x m read. let less = known x m read in omega (arith, less))
+
+  unchanged : (o : Outcome (List A)) → and_then o (λ xs j. read_as xs j) ≡ o
+  unchanged (Ok z) = refl
+  unchanged (Err r) = refl
+
+module _ {A : Type 0} {item : Parser A} {P M : Form A} {S : Words → Type 0} {e : A → A} (a : Law item P M S e)
+    (at_comma : (s : Spelling) (m : Words) → S (Fixed mark.Comma s ∷ m)) (last : S []) where
+  abbrev Others : Form A → Form (List A)
+  Others R = Repeated (Behind mark.Comma R)
+
+  comma_stops : (i : Words) → sees mark.Comma i ≡ true → S i
+  comma_stops i e = let at = sees_ok mark.Comma i e in subst S (sym at.1) (at_comma at.0 (rest i))
+
+  another_law : MaybeLaw (another item) (Behind mark.Comma P) (Behind mark.Comma M) S (sees mark.Comma) e
+  another_law = maybe_law (sees mark.Comma) (sees_front mark.Comma) (behind_law mark.Comma a).rules no_comma_last (λ x i j s. sees_at mark.Comma s.0 i s.1 s.2)
+
+  others_stop : (ys : List A) (m j : Words) → Others P ys m j → S j × (sees mark.Comma j ≡ false) → S m
+  others_stop [] m j s t = subst S (sym s) t.0
+  others_stop (y ∷ ys) m j s t = let c = s.1 in subst S (sym c.2) (at_comma c.0 c.1)
+
+  list_to : (R : Form A) (x : A) (ys : List A) (i m j : Words) → R x i m → Others R ys m j → Separated R (x ∷ ys) i j
+  list_to R x [] i m j s t = let F : Words → Type 0 = λ l. R x i l in subst F t s
+  list_to R x (y ∷ ys) i m j s t = let c = t.1 in let F : Words → Type 0 = λ l. R x i l in (c.0, c.1, subst F c.2 s, list_to R y ys c.1 t.0 j c.3 t.2)
+
+  list_from : (x : A) (ys : List A) (i j : Words) → Separated P (x ∷ ys) i j → Both P (Others P) (x, ys) i j
+  list_from x [] i j s = (j, s, refl)
+  list_from x (y ∷ ys) i j s = let b = list_from y ys s.1 j s.3 in (Fixed mark.Comma s.0 ∷ s.1, s.2, (b.0, (s.0, s.1, refl, b.1), b.2))
+
+  joined_to : (R : Form A) (xs : List A) (i j : Words) → Made (joined item) (Both R (Others R)) xs i j → Separated R xs i j
+  joined_to R xs i j s =
+      let b = s.2 in
+      let F : List A → Type 0 = λ ys. Separated R ys i j in subst F (sym s.1) (list_to R s.0.0 s.0.1 i b.0 j b.1 b.2)
+
+  joined_from : (xs : List A) (i j : Words) → Separated P xs i j → Made (joined item) (Both P (Others P)) xs i j
+  joined_from [] i j s = absurd s
+  joined_from (x ∷ xs) i j s = ((x, xs), refl, list_from x xs i j s)
+
+  -- and not at a comma
+  joined_law : Law (made (joined item) (item ⊗ repeated (another item))) (Separated P) (Separated M) (λ j. S j × (sees mark.Comma j ≡ false)) (map e)
+  joined_law =
+      as_law (joined_to P) joined_from (joined_to M)
+      (made_law (joined item) (λ x y n. ap (joined item) n) (both_law a (repeated_law another_law comma_stops last) others_stop))
+
+  reads_on : (i : Words) (x : A) (m : Words) → item i ≡ read_as x m → length m ≤ length i
+  reads_on i x m s = let r = was_read a.rules i x m s in let same = ap length r.at ∙ length-append r.taken m in omega (arith, same)
+
+  -- The items of a list in parentheses may have no words, where one is read at the end of the text.
+  module _ (at_close : (s : Spelling) (m : Words) → S (Fixed mark.Close s ∷ m)) (c : A) (empty : item [] ≡ read_as c []) where
+    abbrev then_close : List A → Parser (List A)
+    then_close xs = λ k. and_then (expect mark.Close k) (λ _ j. read_as xs j)
+
+    none_left : (k : ℕ) (found : List A) (l : Words) → length l < 1
+        → and_then (separated_from item zero found l) then_close ≡ and_then (and_then (item l) (λ x m. repeated_from (another item) k (found ++ x ∷ []) m)) then_close
+    unfolding separated_from expect front
+    none_left k found [] less =
+        sym (ap (λ o. and_then (and_then o (λ x m. repeated_from (another item) k (found ++ x ∷ []) m)) then_close) empty
+        ∙ ap (λ o. and_then o then_close) (others_none item k (found ++ c ∷ []) [] no_comma_last))
+    none_left k found (w ∷ l) less = absurd (omega arith)
+
+    spaced_same : (i : Words) → before (separated item) mark.Close i ≡ before (made (joined item) (item ⊗ repeated (another item))) mark.Close i
+    spaced_same i = whole_same item 1 then_close reads_on none_left i (λ x m s. let le = reads_on i x m s in omega (arith, le))
+
+    both : before (separated item) mark.Close ≡ before (made (joined item) (item ⊗ repeated (another item))) mark.Close
+    both = λ n k. spaced_same k n
+
+    pub spaced_law : Law (enclosed item) (Enclosed P) (Enclosed M) Anywhere (map e)
+    spaced_law =
+        same_law (λ i. ap (λ (q : Parser (List A)). behind mark.Open q i) (sym both))
+        (behind_law mark.Open (before_law mark.Close joined_law (λ s j. (at_close s j, no_comma_at_close s j))))
+
+module _ {A : Type 0} {item : Parser A} {P M : Form A} {S : Words → Type 0} {e : A → A} (a : Law item P M S e) (takes : Takes P)
+    (at_comma : (s : Spelling) (m : Words) → S (Fixed mark.Comma s ∷ m)) (last : S []) where
+  too_few : (k : ℕ) (found : List A) (l : Words) → length l < 0
+      → and_then (separated_from item zero found l) (λ xs j. read_as xs j)
+      ≡ and_then (and_then (item l) (λ x m. repeated_from (another item) k (found ++ x ∷ []) m)) (λ xs j. read_as xs j)
+  too_few k found l less = absurd (omega arith)
+
+  separated_same : (i : Words) → separated item i ≡ made (joined item) (item ⊗ repeated (another item)) i
+  separated_same i =
+      sym (unchanged item (separated item i))
+      ∙ whole_same item 0 (λ xs j. read_as xs j) (reads_on a at_comma last) too_few i (λ x m s. let less = shorter a.rules takes last i x m (was_read a.rules i x m s) in omega (arith, less))
+      ∙ unchanged item (made (joined item) (item ⊗ repeated (another item)) i)
+
+  pub separated_law : Law (separated item) (Separated P) (Separated M) (λ j. S j × (sees mark.Comma j ≡ false)) (map e)
+  separated_law = same_law (λ i. sym (separated_same i)) (joined_law a at_comma last)
+
+pub separated_takes : {A : Type 0} (P : Form A) → Takes P → Takes (Separated P)
+separated_takes P takes [] j s = s
+separated_takes P takes (x ∷ []) j s = takes x j s
+separated_takes P takes (x ∷ y ∷ ys) j s = takes x (Fixed mark.Comma s.0 ∷ s.1) s.2

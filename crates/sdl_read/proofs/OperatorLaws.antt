@@ -1,5 +1,5 @@
 -- Operators and keyword operands, and their marks.
-use Rattle.std.proofs.Common.{◌≡◌, ℕ, ◌<◌, ◌≤◌, ◌==◌, inl, inr, true, false, is_some, [], ◌∷◌, ◌++◌, Option, Some, None, Err, refl, sym, ap, ◌∙◌, arith}
+use Rattle.std.proofs.Common.{◌≡◌, ℕ, ◌<◌, ◌≤◌, ◌==◌, inl, inr, true, false, is_some, [], ◌∷◌, Option, Some, None, Ok, Err, refl, sym, ap, ◌∙◌, arith}
 use Rattle.std.proofs.lemmas.Bool.Decides.{nat_tests}
 use Rattle.sdl_tree.specs.declared.expressions.KeywordValue.{KeywordValue}
 use Rattle.sdl_tree.specs.declared.expressions.KeywordValue.TheVariants as value
@@ -11,12 +11,13 @@ use Rattle.sdl_tree.specs.declared.mark.Mark.{Mark}
 use Rattle.sdl_tree.specs.declared.name.Spelling.{Spelling}
 use Rattle.sdl_tree.specs.Erased.{erased_word, plain}
 use Rattle.sdl_tree.specs.Spells.Expressions.{looseness, operator_mark, value_mark, unary_mark}
+use Rattle.sdl_tree.specs.Spells.Parts.{IsMark}
 use Rattle.sdl_tree.specs.Words.{Words, Fixed}
-use Rattle.sdl_read.specs.Reading.{Refusal, Refused, Deep, and_then, on, mark_by, front, mark_at, expect}
+use Rattle.sdl_read.specs.Reading.{Outcome, Refused, and_then, on, mark_by, front, mark_at, expect}
 use Rattle.sdl_read.specs.Expressions.{operator_of, by_mark, of_level, operator_at, value_of, value_at, unary_of, unary_at, marked, sees_operator}
-use Rattle.sdl_read.proofs.Depth.{SameFront}
-use Rattle.sdl_read.proofs.Laws.{Rules, Law, Anywhere, near_anywhere}
-use Rattle.sdl_read.proofs.Steps.{read_as, as_read, not_read, not_refused, same_refusal, here_stands, not_deep, bind_ok, bind_err, bind_is, chosen, on_ok, if_true, if_false, expect_ok, expect_again, expect_refused, alike_fixed, alike_from}
+use Rattle.sdl_read.proofs.Depth.{SameFront, no_deeper}
+use Rattle.sdl_read.proofs.Laws.{Form, Gives, Rules, Law, Anywhere, still, mark_law}
+use Rattle.sdl_read.proofs.Steps.{read_as, rest_here, bind_is, chosen, if_true, if_false, expect_again, alike_fixed, alike_from}
 
 pub operator_of_again : (o : Operator) → operator_of (operator_mark o) ≡ Some o
 operator_of_again operator.Implies = refl
@@ -127,19 +128,13 @@ operator_end l = refl
 
 -- ---- one of some marks
 
-abbrev pub IsMarked : {K : Type 0} → (K → Mark) → (K → Type 0) → K × Spelling → Words → Words → Type 0
+abbrev pub IsMarked : {K : Type 0} → (K → Mark) → (K → Type 0) → Form (K × Spelling)
 IsMarked mark_of Good x i j = Good x.0 × (i ≡ Fixed (mark_of x.0) x.1 ∷ j)
 
 module _ {K : Type 0} (find : Words → Option K) (mark_of : K → Mark) (Good : K → Type 0) (good : (i : Words) (v : K) → find i ≡ Some v → Good v)
     (again : (v : K) (s : Spelling) (j : Words) → Good v → find (Fixed (mark_of v) s ∷ j) ≡ Some v) where
-  marked_sound : (i : Words) (x : K × Spelling) (j : Words) → marked find mark_of i ≡ read_as x j → IsMarked mark_of Good x i j
-  marked_sound i x j e =
-      elim (on_ok (find i) (Err (Refused i)) (λ v. and_then (expect (mark_of v) i) (λ s k. read_as (v, s) k)) (read_as x j) e) as (λ _. IsMarked mark_of Good x i j) [
-        | inl t ↦ not_read (Refused i) x j t.1
-        | inr t ↦
-            let c = bind_ok (expect (mark_of t.0) i) (λ s k. read_as (t.0, s) k) x j t.2 in
-            as_read (λ y k. IsMarked mark_of Good y i k) (t.0, c.0) x c.1 j c.3 (good i t.0 t.1, expect_ok (mark_of t.0) i c.0 c.1 c.2)
-      ]
+  abbrev Marks : Words → Outcome (K × Spelling) → Type 0
+  Marks = Gives (marked find mark_of) (IsMarked mark_of Good) (IsMarked mark_of Good) Anywhere
 
   marked_complete : (x : K × Spelling) (i j : Words) → IsMarked mark_of Good x i j → marked find mark_of i ≡ read_as x j
   marked_complete x i j e =
@@ -148,30 +143,28 @@ module _ {K : Type 0} (find : Words → Option K) (mark_of : K → Mark) (Good :
       ∙ ap (λ o. on o (Err (Refused at)) (λ v. and_then (expect (mark_of v) at) (λ s k. read_as (v, s) k))) (again x.0 x.1 j e.0)
       ∙ bind_is (expect (mark_of x.0) at) (λ s k. read_as (x.0, s) k) x.1 j (expect_again (mark_of x.0) x.1 j)
 
-  marked_refused : (i : Words) (r : Refusal) → marked find mark_of i ≡ Err r → r ≡ Refused i
-  marked_refused i r e =
-      elim (on_ok (find i) (Err (Refused i)) (λ v. and_then (expect (mark_of v) i) (λ s k. read_as (v, s) k)) (Err r) e) as (λ _. r ≡ Refused i) [
-        | inl t ↦ same_refusal {A = K × Spelling} (Refused i) r t.1
-        | inr t ↦ elim (bind_err (expect (mark_of t.0) i) (λ s k. read_as (t.0, s) k) r t.2) as (λ _. r ≡ Refused i) [
-          | inl u ↦ expect_refused (mark_of t.0) i r u
-          | inr u ↦ not_refused {A = K × Spelling} (t.0, u.0) u.1 r u.3
-        ]
-      ]
+  -- the mark is the one that is found
+  marked_with : (i : Words) (v : K) → find i ≡ Some v → (o : Outcome Spelling) → Gives (expect (mark_of v)) (IsMark (mark_of v)) (IsMark (mark_of v)) Anywhere i o
+      → Marks i (and_then o (λ s k. read_as (v, s) k))
+  marked_with i v e (Ok z) t = record {
+    taken = Fixed (mark_of v) z.0 ∷ [];
+    at = t.spelled;
+    again = λ k g. marked_complete (v, z.0) (Fixed (mark_of v) z.0 ∷ k) k (good i v e, refl);
+    spelled = (good i v e, t.spelled);
+  }
+  marked_with i v e (Err r) t = still i r (λ left u. absurd (no_deeper i left tt u)) t
 
-  marked_keeps : (x : K × Spelling) (i j : Words) → IsMarked mark_of Good x i j → (u : Words) × (i ≡ u ++ j) × ((k : Words) → Anywhere k → IsMarked mark_of Good x (u ++ k) k)
-  marked_keeps x i j e = (Fixed (mark_of x.0) x.1 ∷ [], e.1, λ k t. (e.0, refl))
+  marked_by : (i : Words) (o : Option K) → find i ≡ o → Marks i (on o (Err (Refused i)) (λ v. and_then (expect (mark_of v) i) (λ s k. read_as (v, s) k)))
+  marked_by i None e = rest_here i
+  marked_by i (Some v) e = marked_with i v e (expect (mark_of v) i) ((mark_law (mark_of v)).rules.tells i)
 
   pub marked_rules : Rules (marked find mark_of) (IsMarked mark_of Good) (IsMarked mark_of Good) Anywhere (λ x. (x.0, erased_word x.1))
   marked_rules = record {
-    sound = marked_sound;
+    tells = λ i. marked_by i (find i) refl;
     complete = λ x i j e t. marked_complete x i j e;
-    keeps = marked_keeps;
-    near = near_anywhere marked_sound (λ x i j e t. marked_complete x i j e) marked_keeps;
-    stands = λ i r e. here_stands i r (marked_refused i r e);
     moves = λ x i j k e t.
         let a = alike_fixed (mark_of x.0) x.1 j k (alike_from i (Fixed (mark_of x.0) x.1 ∷ j) k e.1 t) in ((x.0, a.0), a.1, (e.0, a.2), a.3, refl);
     more = λ x i j e. e;
-    deep = λ i left e. not_deep i left (marked_refused i (Deep left) e);
   }
 
   -- where there is such a mark

@@ -1,65 +1,40 @@
 -- The laws of the productions that stand in many others.
-use Rattle.std.proofs.Common.{◌≡◌, ◌⊎◌, inl, inr, true, false, List, [], ◌∷◌, ◌++◌, length, map, Ok, Err, pos, refl, sym, ap, ◌∙◌, subst, arith}
-use Rattle.sdl_tree.specs.Alike.{AreAlike}
-use Rattle.sdl_tree.specs.declared.mark.Mark.{Mark}
+use Rattle.std.proofs.Common.{◌≡◌, ◌⊎◌, inl, inr, true, false, List, [], ◌∷◌, map, pos, refl, sym, ap, ◌∙◌, subst}
 use Rattle.sdl_tree.specs.declared.mark.Mark.TheVariants as mark
 use Rattle.sdl_tree.specs.declared.name.Spelling.{Spelling}
-use Rattle.sdl_tree.specs.Erased.{plain, erased_word, erased_name, erased_number, erased_item}
-use Rattle.sdl_tree.specs.Spells.Parts.{IsMark, Both, Behind, Before, Enclosed, InParentheses, SpellsName, SpellsNumber, SpellsEnd, Ended, SpellsSig}
-use Rattle.sdl_tree.specs.Tree.{SignalListItem, SignalItem, ListItem}
+use Rattle.sdl_tree.specs.Erased.{plain, erased_name, erased_number, erased_item}
+use Rattle.sdl_tree.specs.Spells.Parts.{IsMark, Both, Behind, Before, Enclosed, InParentheses, SpellsName, SpellsNumber, SpellsEnd, SpellsSig}
+use Rattle.sdl_tree.specs.Tree.{Number, SignalListItem, SignalItem, ListItem}
 use Rattle.sdl_tree.specs.Words.{Words, Spot, Fixed}
 use Rattle.sdl_tree.specs.Words as word
-use Rattle.sdl_read.specs.Reading.{Parser, Refusal, Refused, Deep, front, sees, same_mark, is_name, sees_name, expect, name, number, text, enclosed, in_parentheses}
+use Rattle.sdl_read.specs.Reading.{Parser, front, rest, sees, same_mark, is_name, sees_name, name, number, text, enclosed, in_parentheses}
 use Rattle.sdl_read.specs.Parts.{end, sig}
-use Rattle.sdl_read.proofs.Depth.{SameFront, HasOne}
-use Rattle.sdl_read.proofs.Laws.{Law, Anywhere, near_anywhere, Takes, Made, as_law, stops_law, both_law, behind_law, before_law, made_law, either_law}
+use Rattle.sdl_read.proofs.Depth.{SameFront}
+use Rattle.sdl_read.proofs.Laws.{Form, Gives, Law, Anywhere, Takes, Made, Nothing, as_law, stops_law, single_law, mark_law, nothing_law, both_law, behind_law, before_law, made_law, either_law}
 use Rattle.sdl_read.proofs.ListLaws.{separated_law}
-use Rattle.sdl_read.proofs.Steps.{read_as, same_value, same_rest, not_refused, here_stands, not_deep, sees_front, sees_at, expect_ok, expect_again, expect_refused, name_ok, name_again, name_refused, number_ok, number_again, number_refused, text_ok, text_again, text_refused, alike_fixed, alike_name, alike_number, alike_text, alike_from}
+use Rattle.sdl_read.proofs.Steps.{read_as, no_words, rest_here, sees_front, sees_at, alike_name, alike_number, alike_text, alike_from}
 
 -- ---- single words
-
--- one word
-module _ {A : Type 0} {p : Parser A} {P : A → Words → Words → Type 0} {e : A → A} where
-  pub single_law : (sound : (i : Words) (x : A) (j : Words) → p i ≡ read_as x j → P x i j)
-      → (complete : (x : A) (i j : Words) → P x i j → Anywhere j → p i ≡ read_as x j)
-      → (keeps : (x : A) (i j : Words) → P x i j → (u : Words) × (i ≡ u ++ j) × ((k : Words) → Anywhere k → P x (u ++ k) k))
-      → ((i : Words) (r : Refusal) → p i ≡ Err r → r ≡ Refused i)
-      → ((x : A) (i j k : Words) → P x i j → AreAlike i k → (y : A) × (l : Words) × P y k l × AreAlike j l × (e y ≡ e x))
-      → HasOne P Anywhere → Law p P P Anywhere e
-  single_law sound complete keeps refused moves one = record {
-    rules = record {
-      sound = sound;
-      complete = complete;
-      keeps = keeps;
-      near = near_anywhere sound complete keeps;
-      stands = λ i r s. here_stands i r (refused i r s);
-      moves = moves;
-      more = λ x i j s. s;
-      deep = λ i left s. not_deep i left (refused i (Deep left) s);
-    };
-    one = one;
-  }
-
-pub mark_law : (m : Mark) → Law (expect m) (IsMark m) (IsMark m) Anywhere erased_word
-mark_law m = single_law
-    (expect_ok m)
-    (λ s i j e t. ap (expect m) e ∙ expect_again m s j)
-    (λ s i j e. (Fixed m s ∷ [], e, λ k t. refl))
-    (expect_refused m)
-    (λ s i j k e t. let a = alike_fixed m s j k (alike_from i (Fixed m s ∷ j) k e t) in (a.0, a.1, a.2, a.3, refl))
-    (plain, Fixed m plain ∷ [], λ j t. refl)
 
 -- some name
 abbrev pub nameless : Spot
 nameless = record { text = []; place = plain.place }
 
+name_tells : (i : Words) → Gives name SpellsName SpellsName Anywhere i (name i)
+unfolding name front rest
+name_tells [] = rest_here []
+name_tells (word.Name x ∷ i) = record { taken = word.Name x ∷ []; at = refl; again = λ k g. refl; spelled = refl }
+name_tells (w ∷ i) = rest_here (w ∷ i)
+
+name_again : (x : Spot) (i : Words) → name (word.Name x ∷ i) ≡ read_as x i
+unfolding name front rest
+name_again x i = refl
+
 -- a name, of which what is kept depends on its text alone
 pub name_as : (erased : Spot → Spot) → ((x y : Spot) → x.text ≡ y.text → erased x ≡ erased y) → Law name SpellsName SpellsName Anywhere erased
 name_as erased same = single_law
-    name_ok
-    (λ x i j e t. ap name e ∙ name_again x j)
-    (λ x i j e. (word.Name x ∷ [], e, λ k t. refl))
-    name_refused
+    name_tells
+    (λ x i j e. ap name e ∙ name_again x j)
     (λ x i j k e t. let a = alike_name x j k (alike_from i (word.Name x ∷ j) k e t) in (a.0, a.1, a.2, a.3, same a.0 x a.4))
     (nameless, word.Name nameless ∷ [], λ j t. refl)
 
@@ -69,12 +44,20 @@ same_name x y e = λ i. record { text = e i; place = (erased_name x).place }
 pub name_law : Law name SpellsName SpellsName Anywhere erased_name
 name_law = name_as erased_name same_name
 
+number_tells : (i : Words) → Gives number SpellsNumber SpellsNumber Anywhere i (number i)
+unfolding number front rest
+number_tells [] = rest_here []
+number_tells (word.Number n x ∷ i) = record { taken = word.Number n x ∷ []; at = refl; again = λ k g. refl; spelled = refl }
+number_tells (w ∷ i) = rest_here (w ∷ i)
+
+number_again : (x : Number) (i : Words) → number (word.Number x.value x.digits ∷ i) ≡ read_as x i
+unfolding number front rest
+number_again x i = refl
+
 pub number_law : Law number SpellsNumber SpellsNumber Anywhere erased_number
 number_law = single_law
-    number_ok
-    (λ x i j e t. ap number e ∙ number_again x j)
-    (λ x i j e. (word.Number x.value x.digits ∷ [], e, λ k t. refl))
-    number_refused
+    number_tells
+    (λ x i j e. ap number e ∙ number_again x j)
     (λ x i j k e t.
     let a = alike_number x j k (alike_from i (word.Number x.value x.digits ∷ j) k e t) in
     (a.0, a.1, a.2, a.3, λ n. erased_number (record { value = a.4 n; digits = x.digits })))
@@ -87,12 +70,20 @@ SpellsText u i j = (x : Spot) × (i ≡ word.Text x ∷ j)
 abbrev pub whole : Unit {0} → Unit {0}
 whole u = u
 
+text_tells : (i : Words) → Gives text SpellsText SpellsText Anywhere i (text i)
+unfolding text front rest
+text_tells [] = rest_here []
+text_tells (word.Text x ∷ i) = record { taken = word.Text x ∷ []; at = refl; again = λ k g. refl; spelled = (x, refl) }
+text_tells (w ∷ i) = rest_here (w ∷ i)
+
+text_again : (x : Spot) (i : Words) → text (word.Text x ∷ i) ≡ read_as tt i
+unfolding text front rest
+text_again x i = refl
+
 text_law : Law text SpellsText SpellsText Anywhere whole
 text_law = single_law
-    text_ok
-    (λ u i j e t. ap text e.1 ∙ text_again e.0 j)
-    (λ u i j e. (word.Text e.0 ∷ [], e.1, λ k t. (e.0, refl)))
-    text_refused
+    text_tells
+    (λ u i j e. ap text e.1 ∙ text_again e.0 j)
     (λ u i j k e t. let a = alike_text e.0 j k (alike_from i (word.Text e.0 ∷ j) k e.1 t) in (tt, a.1, (a.0, a.2), a.3, refl))
     (tt, word.Text nameless ∷ [], λ j t. (nameless, refl))
 
@@ -101,10 +92,7 @@ unfolding sees_name
 name_front i k e = ap is_name e
 
 pub name_takes : Takes SpellsName
-name_takes x i j e = let same = ap length e in omega (arith, same)
-
-pub mark_takes : (m : Mark) → Takes (IsMark m)
-mark_takes m s i j e = let same = ap length e in omega (arith, same)
+name_takes x j e = no_words e
 
 -- ---- end
 
@@ -146,64 +134,41 @@ pub end_begins : (P : Words → Type 0) → ((s : Spelling) (m : Words) → P (F
 end_begins P at_semicolon at_comment i j (inl s) = subst P (sym s.1) (at_semicolon s.0 j)
 end_begins P at_semicolon at_comment i j (inr s) = subst P (sym s.3) (at_comment s.0 (word.Text s.2 ∷ Fixed mark.Semicolon s.1 ∷ j))
 
--- x end, by what an end drops
-module _ {A : Type 0} (P : A → Words → Words → Type 0) where
-  ended_to : (x : A) (i j : Words) → Made (λ (y : A × Unit {0}). y.0) (Both P DropsEnd) x i j → Ended P x i j
-  ended_to x i j s = let Q : A → Type 0 = λ y. Ended P y i j in subst Q (sym s.1) s.2
-
-  ended_from : (x : A) (i j : Words) → Ended P x i j → Made (λ (y : A × Unit {0}). y.0) (Both P DropsEnd) x i j
-  ended_from x i j s = ((x, tt), refl, s)
-
 -- ---- "(" x {"," x} ")"
 
 close_no_comma : (s : Spelling) (j : Words) → sees mark.Comma (Fixed mark.Close s ∷ j) ≡ false
 unfolding sees front same_mark
 close_no_comma s j = refl
 
-abbrev pub Nothing : {A : Type 0} → List A → Words → Words → Type 0
-Nothing xs i j = (xs ≡ []) × (i ≡ j)
-
-module _ {A : Type 0} (e : A → A) where
-  -- no list stands where none begins
-  pub nothing_law : Law (λ i. Ok ([], i)) Nothing Nothing (λ j. sees mark.Open j ≡ false) (map e)
-  nothing_law = record {
-    rules = record {
-      sound = λ i xs j s. (sym (same_value [] xs i j s), same_rest [] xs i j s);
-      complete = λ xs i j s t. ap (λ k. read_as [] k) s.1 ∙ ap (λ ys. read_as ys j) (sym s.0);
-      keeps = λ xs i j s. ([], s.1, λ k t. (s.0, refl));
-      near = λ i xs j s. ([], same_rest [] xs i j s, λ k g. ap (λ ys. read_as ys k) (same_value [] xs i j s));
-      stands = λ i r s. not_refused {A = List A} [] i r s;
-      moves = λ xs i j k s t. ([], k, (refl, refl), alike_from i j k s.1 t, ap (map e) (sym s.0));
-      more = λ xs i j s. s;
-      deep = λ i left s. not_refused {A = List A} [] i (Deep left) s;
-    };
-    one = ([], [], λ j t. (refl, refl));
-  }
-
 module _ {A : Type 0} (P : A → Words → Words → Type 0) where
   pub opens_list : (xs : List A) (i j : Words) → Enclosed P xs i j → sees mark.Open i ≡ true
   opens_list xs i j s = sees_at mark.Open s.0 i s.1 s.2
 
-  pub listed_to : (xs : List A) (i j : Words) → Enclosed P xs i j ⊎ Nothing xs i j → InParentheses P xs i j
+  pub listed_to : (xs : List A) (i j : Words) → Enclosed P xs i j ⊎ Nothing [] xs i j → InParentheses P xs i j
   listed_to [] i j (inl s) = absurd s.3.1
   listed_to (x ∷ xs) i j (inl s) = s
   listed_to [] i j (inr s) = s.1
   listed_to (x ∷ xs) i j (inr s) = absurd (let apart : x ∷ xs ≡ [] = s.0 in cc)
 
-  pub listed_from : (xs : List A) (i j : Words) → InParentheses P xs i j → Enclosed P xs i j ⊎ Nothing xs i j
+  pub listed_from : (xs : List A) (i j : Words) → InParentheses P xs i j → Enclosed P xs i j ⊎ Nothing [] xs i j
   listed_from [] i j s = inr (refl, s)
   listed_from (x ∷ xs) i j s = inl s
 
-module _ {A : Type 0} {item : Parser A} {P M : A → Words → Words → Type 0} {S : Words → Type 0} {e : A → A} (a : Law item P M S e) (takes : Takes P)
-    (at_comma : (s : Spelling) (m : Words) → S (Fixed mark.Comma s ∷ m)) (at_close : (s : Spelling) (m : Words) → S (Fixed mark.Close s ∷ m)) where
+-- no list stands where none begins
+pub maybe_enclosed : {A : Type 0} (item : Parser A) {P M : Form A} {e : A → A} → Law (enclosed item) (Enclosed P) (Enclosed M) Anywhere (map e)
+    → Law (in_parentheses item) (InParentheses P) (InParentheses M) (λ j. sees mark.Open j ≡ false) (map e)
+maybe_enclosed item {P = P} {M = M} a =
+    as_law (listed_to P) (listed_from P) (listed_to M)
+    (either_law (sees mark.Open) (sees_front mark.Open) (stops_law (λ j t. tt) a) (nothing_law []) (opens_list P) (λ xs i j s t. ap (sees mark.Open) s.1 ∙ t))
+
+module _ {A : Type 0} {item : Parser A} {P M : Form A} {S : Words → Type 0} {e : A → A} (a : Law item P M S e) (takes : Takes P)
+    (at_comma : (s : Spelling) (m : Words) → S (Fixed mark.Comma s ∷ m)) (at_close : (s : Spelling) (m : Words) → S (Fixed mark.Close s ∷ m)) (last : S []) where
   pub enclosed_law : Law (enclosed item) (Enclosed P) (Enclosed M) Anywhere (map e)
-  enclosed_law = behind_law mark.Open (before_law mark.Close (separated_law a takes at_comma) (λ s j. (at_close s j, close_no_comma s j)))
+  enclosed_law = behind_law mark.Open (before_law mark.Close (separated_law a takes at_comma last) (λ s j. (at_close s j, close_no_comma s j)))
 
   -- and not at a parenthesis
   pub in_parentheses_law : Law (in_parentheses item) (InParentheses P) (InParentheses M) (λ j. sees mark.Open j ≡ false) (map e)
-  in_parentheses_law =
-      as_law (listed_to P) (listed_from P) (listed_to M)
-      (either_law (sees mark.Open) (sees_front mark.Open) (stops_law (λ j t. tt) enclosed_law) (nothing_law e) (opens_list P) (λ xs i j s t. ap (sees mark.Open) s.1 ∙ t))
+  in_parentheses_law = maybe_enclosed item enclosed_law
 
 -- ---- sig
 

@@ -1,60 +1,41 @@
 -- The laws of more ways to put readings together, of what closes a construct, and of signals.
-use Rattle.std.proofs.Common.{◌≡◌, ◌⊎◌, inl, inr, Bool, true, false, ◌||◌, List, [], ◌∷◌, length, map, refl, sym, ap, ◌∙◌, subst, arith, true≢false}
+use Rattle.std.proofs.Common.{◌≡◌, ◌⊎◌, inl, inr, Bool, true, false, ◌||◌, List, [], ◌∷◌, map, refl, sym, ap, ◌∙◌, subst, true≢false}
 use Rattle.sdl_tree.specs.declared.mark.Mark.{Mark}
 use Rattle.sdl_tree.specs.declared.mark.Mark.TheVariants as mark
 use Rattle.sdl_tree.specs.declared.name.Spelling.{Spelling}
 use Rattle.sdl_tree.specs.Erased.{erased_name, erased_sort, erased_item, erased_signal, erased_signal_list, erased_signal_set}
 use Rattle.sdl_tree.specs.Spells.{SpellsSignalName, SpellsSignal, SpellsSignalList, SpellsSignalSet}
-use Rattle.sdl_tree.specs.Spells.Parts.{IsMark, Both, Behind, Separated, InParentheses, Begins, SpellsName, Ended, SpellsSig, SpellsSigs, sort_of}
+use Rattle.sdl_tree.specs.Spells.Parts.{Both, Behind, Separated, InParentheses, Begins, SpellsName, Ended, SpellsSig, SpellsSigs, sort_of}
 use Rattle.sdl_tree.specs.Tree.{SignalItem, ListItem}
 use Rattle.sdl_tree.specs.Words.{Words, Spot, Fixed}
 use Rattle.sdl_read.specs.Reading.{Parser, ◌⊗◌, behind, made, either, maybe, front, sees, same_mark, name, separated, in_parentheses}
 use Rattle.sdl_read.specs.Parts.{ended, sees_one, signal_with, signal_name, signal, sig, signal_list_with, signal_list, signal_set_with, signal_set}
 use Rattle.sdl_read.proofs.Depth.{SameFront}
-use Rattle.sdl_read.proofs.Laws.{Law, MaybeLaw, Anywhere, Takes, Made, left_behind, as_law, both_law, behind_law, made_law, either_law, maybe_law}
+use Rattle.sdl_read.proofs.Laws.{Form, Rules, Law, MaybeLaw, Anywhere, Takes, Made, Or, as_law, mark_law, both_law, behind_law, made_law, first_law, maybe_law}
 use Rattle.sdl_read.proofs.ListLaws.{separated_law}
-use Rattle.sdl_read.proofs.PartLaws.{mark_law, name_as, name_law, name_takes, in_parentheses_law, sig_law}
+use Rattle.sdl_read.proofs.PartLaws.{name_as, name_law, name_takes, in_parentheses_law, sig_law}
 use Rattle.sdl_read.proofs.ClosingLaws.{ended_at_law}
-use Rattle.sdl_read.proofs.Steps.{IsRest, rest_length, sees_at, sees_front}
+use Rattle.sdl_read.proofs.Steps.{no_words, sees_at, sees_front}
 
 -- ---- nodes that are records
 
 -- a record is made of its fields
-module _ {A B : Type 0} (f : A → B) (fields : B → A) {p : Parser A} {P M : A → Words → Words → Type 0} {S : Words → Type 0} {e : A → A} {g : B → B} where
+module _ {A B : Type 0} (f : A → B) (fields : B → A) {p : Parser A} {P M : Form A} {S : Words → Type 0} {e : A → A} {g : B → B} where
   pub record_law : ((x y : A) → e x ≡ e y → g (f x) ≡ g (f y)) → ((x : A) → fields (f x) ≡ x) → ((y : B) → f (fields y) ≡ y)
       → Law p P M S e → Law (made f p) (λ y i j. P (fields y) i j) (λ y i j. M (fields y) i j) S g
   record_law like again back a = as_law (spelled P) (λ y i j s. (fields y, sym (back y), s)) (spelled M) (made_law f like a)
     where
-      spelled : (R : A → Words → Words → Type 0) (y : B) (i j : Words) → Made f R y i j → R (fields y) i j
+      spelled : (R : Form A) (y : B) (i j : Words) → Made f R y i j → R (fields y) i j
       spelled R y i j s = let Q : A → Type 0 = λ x. R x i j in subst Q (sym (again s.0) ∙ ap fields (sym s.1)) s.2
 
 -- ---- what begins with a mark, and takes it
 
-abbrev pub Opens : {A : Type 0} → Mark → (A → Words → Words → Type 0) → Type 0
-Opens {A} m P = (x : A) (i j : Words) → P x i j → (s : Spelling) × (k : Words) × (i ≡ Fixed m s ∷ k) × IsRest k j
+abbrev pub Opens : {A : Type 0} → Mark → Form A → Type 0
+Opens {A} m P = (x : A) (i j : Words) → P x i j → Begins m i
 
-pub mark_opens : {B : Type 0} (m : Mark) {q : Parser B} {Q N : B → Words → Words → Type 0} {T : Words → Type 0} {f : B → B} → Law q Q N T f → Opens m (Both (IsMark m) Q)
-mark_opens m b x i j s = (x.0, s.0, s.1, left_behind b.rules x.1 s.0 j s.2)
-
-pub behind_opens : {B : Type 0} (m : Mark) {q : Parser B} {Q N : B → Words → Words → Type 0} {T : Words → Type 0} {f : B → B} → Law q Q N T f → Opens m (Behind m Q)
-behind_opens m b x i j s = (s.0, s.1, s.2, left_behind b.rules x s.1 j s.3)
-
-module _ {A : Type 0} (m : Mark) (P : A → Words → Words → Type 0) (opens : Opens m P) where
+module _ {A : Type 0} (m : Mark) (P : Form A) (opens : Opens m P) where
   pub opens_seen : (x : A) (i j : Words) → P x i j → sees m i ≡ true
   opens_seen x i j s = let o = opens x i j s in sees_at m o.0 i o.1 o.2
-
-  pub opens_takes : Takes P
-  opens_takes x i j s =
-      let o = opens x i j s in
-      let first = ap length o.2 in
-      let more = rest_length o.1 j o.3 in omega (arith, first)
-
--- what is spelled by the first, up to where the second begins, and by it
-pub both_takes : {A B : Type 0} {q : Parser B} {P : A → Words → Words → Type 0} {Q N : B → Words → Words → Type 0} {T : Words → Type 0} {f : B → B}
-    → Takes P → Law q Q N T f → Takes (Both P Q)
-both_takes takes b x i j s =
-    let less = takes x.0 i s.0 s.1 in
-    let more = rest_length s.0 j (left_behind b.rules x.1 s.0 j s.2) in omega arith
 
 -- ---- one of some productions, each of which begins with a mark of its own
 
@@ -110,49 +91,58 @@ none_at_end [] = refl
 none_at_end (m ∷ ms) = λ n. no_mark m n || none_at_end ms n
 
 -- [x], where x begins with this mark
-pub maybe_mark : {A : Type 0} (m : Mark) {p : Parser A} {P M : A → Words → Words → Type 0} {S : Words → Type 0} {e : A → A} → Law p P M S e → Opens m P
+pub maybe_mark : {A : Type 0} (m : Mark) {p : Parser A} {P M : Form A} {S : Words → Type 0} {e : A → A} → Law p P M S e → Opens m P
     → MaybeLaw (maybe (sees m) p) P M S (sees m) e
-maybe_mark m {P = P} a opens = maybe_law (sees m) (sees_front m) a.rules (no_mark m) (opens_seen m P opens) (opens_takes m P opens)
+maybe_mark m {P = P} a opens = maybe_law (sees m) (sees_front m) a.rules (no_mark m) (opens_seen m P opens)
 
 -- what is read, and the marks with one of which it begins
-pub record Choice {A : Type 0} (p : Parser A) (P M : A → Words → Words → Type 0) (marks : List Mark) (erased : A → A) : Type 0 where
+pub record Choice {A : Type 0} (p : Parser A) (P M : Form A) (marks : List Mark) (erased : A → A) : Type 0 where
   pub law : Law p P M Anywhere erased
-  pub takes : Takes P
   pub begins : (x : A) (i j : Words) → P x i j → BeginsOne marks i
 
-pub one_choice : {A : Type 0} (m : Mark) {p : Parser A} {P M : A → Words → Words → Type 0} {e : A → A} → Law p P M Anywhere e → Opens m P → Choice p P M (m ∷ []) e
-one_choice m {P = P} a opens =
-    record { law = a; takes = opens_takes m P opens; begins = λ x i j s. let o = opens x i j s in inl (o.0, o.1, o.2) }
+pub one_choice : {A : Type 0} (m : Mark) {p : Parser A} {P M : Form A} {e : A → A} → Law p P M Anywhere e → Opens m P → Choice p P M (m ∷ []) e
+one_choice m a opens = record { law = a; begins = λ x i j s. inl (opens x i j s) }
 
 -- the first, where its mark stands, and else one of the others
-module _ {A : Type 0} (m : Mark) (ms : List Mark) {p q : Parser A} {P M Q N : A → Words → Words → Type 0} {e : A → A} where
-  pub or_choice : has_mark m ms ≡ false → Law p P M Anywhere e → Opens m P → Choice q Q N ms e
-      → Choice (either (sees m) p q) (λ x i j. P x i j ⊎ Q x i j) (λ x i j. M x i j ⊎ N x i j) (m ∷ ms) e
-  or_choice none a opens b = record {
-    law = either_law (sees m) (sees_front m) a b.law (opens_seen m P opens) (λ x i j s t. begins_unseen m ms i none (b.begins x i j s));
-    takes = or_takes;
+module _ {A : Type 0} (m : Mark) (ms : List Mark) {p q : Parser A} {P M Q N : Form A} {e : A → A} where
+  pub or_rules : has_mark m ms ≡ false → Law p P M Anywhere e → Opens m P → Rules q Q N Anywhere e → ((x : A) (i j : Words) → Q x i j → BeginsOne ms i)
+      → Choice (either (sees m) p q) (Or P Q) (Or M N) (m ∷ ms) e
+  or_rules none a opens b begins = record {
+    law = first_law (sees m) (sees_front m) a b (opens_seen m P opens) (λ x i j s t. begins_unseen m ms i none (begins x i j s));
     begins = or_begins;
   }
     where
-      or_takes : Takes (λ (x : A) i j. P x i j ⊎ Q x i j)
-      or_takes x i j (inl s) = opens_takes m P opens x i j s
-      or_takes x i j (inr s) = b.takes x i j s
+      or_begins : (x : A) (i j : Words) → Or P Q x i j → BeginsOne (m ∷ ms) i
+      or_begins x i j (inl s) = inl (opens x i j s)
+      or_begins x i j (inr s) = inr (begins x i j s)
 
-      or_begins : (x : A) (i j : Words) → P x i j ⊎ Q x i j → BeginsOne (m ∷ ms) i
-      or_begins x i j (inl s) = let o = opens x i j s in inl (o.0, o.1, o.2)
-      or_begins x i j (inr s) = inr (b.begins x i j s)
+  pub or_choice : has_mark m ms ≡ false → Law p P M Anywhere e → Opens m P → Choice q Q N ms e → Choice (either (sees m) p q) (Or P Q) (Or M N) (m ∷ ms) e
+  or_choice none a opens b = or_rules none a opens b.law.rules b.begins
+
+pub made_opens : {A B : Type 0} (f : A → B) (m : Mark) (P : Form A) → Opens m P → Opens m (Made f P)
+made_opens f m P opens y i j s = opens s.0 i j s.2
+
+-- what holds at each of the marks holds where one of them begins
+abbrev pub AtEach : (Words → Type 0) → List Mark → Type 0
+AtEach Q [] = Unit {0}
+AtEach Q (m ∷ ms) = ((s : Spelling) (k : Words) → Q (Fixed m s ∷ k)) × AtEach Q ms
+
+pub at_one : (Q : Words → Type 0) (ms : List Mark) → AtEach Q ms → (i : Words) → BeginsOne ms i → Q i
+at_one Q [] at i b = absurd b
+at_one Q (m ∷ ms) at i (inl b) = subst Q (sym b.2) (at.0 b.0 b.1)
+at_one Q (m ∷ ms) at i (inr b) = at_one Q ms at.1 i b
 
 -- another name for a choice
-pub as_choice : {A : Type 0} {p : Parser A} {P M R O : A → Words → Words → Type 0} {ms : List Mark} {e : A → A}
+pub as_choice : {A : Type 0} {p : Parser A} {P M R O : Form A} {ms : List Mark} {e : A → A}
     → ((x : A) (i j : Words) → P x i j → R x i j) → ((x : A) (i j : Words) → R x i j → P x i j) → ((x : A) (i j : Words) → M x i j → O x i j)
     → Choice p P M ms e → Choice p R O ms e
 as_choice to from to_more c =
-    record { law = as_law to from to_more c.law; takes = λ x i j s. c.takes x i j (from x i j s); begins = λ x i j s. c.begins x i j (from x i j s) }
+    record { law = as_law to from to_more c.law; begins = λ x i j s. c.begins x i j (from x i j s) }
 
 -- [x], where x begins with one of these marks
-pub maybe_choice : {A : Type 0} (ms : List Mark) {p : Parser A} {P M : A → Words → Words → Type 0} {e : A → A} → Choice p P M ms e
+pub maybe_choice : {A : Type 0} (ms : List Mark) {p : Parser A} {P M : Form A} {e : A → A} → Choice p P M ms e
     → MaybeLaw (maybe (sees_one ms) p) P M Anywhere (sees_one ms) e
-maybe_choice ms c = maybe_law (sees_one ms) (one_front ms) c.law.rules (none_at_end ms) (λ x i j s. begins_seen ms i (c.begins x i j s)) c.takes
+maybe_choice ms c = maybe_law (sees_one ms) (one_front ms) c.law.rules (none_at_end ms) (λ x i j s. begins_seen ms i (c.begins x i j s))
 
 -- ---- signals
 
@@ -165,7 +155,7 @@ sort_law = name_as erased_sort same_sort
 
 -- [sorts]
 pub sorts_law : Law (in_parentheses name) (InParentheses SpellsName) (InParentheses SpellsName) (λ j. sees mark.Open j ≡ false) (map erased_sort)
-sorts_law = in_parentheses_law sort_law name_takes (λ s m. tt) (λ s m. tt)
+sorts_law = in_parentheses_law sort_law name_takes (λ s m. tt) (λ s m. tt) tt
 
 signal_name_law : Law signal_name SpellsSignalName SpellsSignalName (λ j. sees mark.Open j ≡ false) erased_signal
 unfolding signal_name
@@ -173,29 +163,27 @@ signal_name_law =
     record_law signal_with (λ y. (y.name, y.sorts)) (λ x y n. ap signal_with n) (λ x. refl) (λ y. refl) (both_law name_law sorts_law (λ y m j s t. tt))
 
 signal_name_takes : Takes SpellsSignalName
-signal_name_takes x i j s = both_takes name_takes sorts_law (x.name, x.sorts) i j s
+signal_name_takes x j s = no_words s.1
 
 signal_names_law : Law (ended (separated signal_name)) (Ended (Separated SpellsSignalName)) (Ended (Separated SpellsSignalName)) Anywhere (map erased_signal)
 unfolding sees front same_mark
-signal_names_law = ended_at_law (separated_law signal_name_law signal_name_takes (λ s m. refl)) (λ s m. (refl, refl)) (λ s m. (refl, refl))
+signal_names_law = ended_at_law (separated_law signal_name_law signal_name_takes (λ s m. refl) refl) (λ s m. (refl, refl)) (λ s m. (refl, refl))
 
 pub signal_law : Law signal SpellsSignal SpellsSignal Anywhere (map erased_signal)
 unfolding signal
 signal_law = behind_law mark.Signal signal_names_law
 
 pub signal_opens : Opens mark.Signal SpellsSignal
-signal_opens = behind_opens mark.Signal signal_names_law
+signal_opens x i j s = (s.0, s.1, s.2)
 
 pub sig_takes : Takes SpellsSig
-sig_takes (SignalItem x) i j s = name_takes x i j s
-sig_takes (ListItem x) i j s =
-    let first = ap length s.2 in
-    let second = ap length s.3.1 in omega (arith, first, second)
+sig_takes (SignalItem x) j s = no_words s
+sig_takes (ListItem x) j s = no_words s.2
 
 -- sigs end
 pub sigs_law : Law (ended (separated sig)) (Ended SpellsSigs) (Ended SpellsSigs) Anywhere (map erased_item)
 unfolding sees front same_mark
-sigs_law = ended_at_law (separated_law sig_law sig_takes (λ s m. tt)) (λ s m. (tt, refl)) (λ s m. (tt, refl))
+sigs_law = ended_at_law (separated_law sig_law sig_takes (λ s m. tt) tt) (λ s m. (tt, refl)) (λ s m. (tt, refl))
 
 named_sigs_law : Law (name ⊗ behind mark.Equal (ended (separated sig))) (Both SpellsName (Behind mark.Equal (Ended SpellsSigs))) (Both SpellsName (Behind mark.Equal (Ended SpellsSigs))) Anywhere (λ x. (erased_name x.0, map erased_item x.1))
 named_sigs_law = both_law name_law (behind_law mark.Equal sigs_law) (λ y m j s t. tt)
@@ -207,7 +195,7 @@ signal_list_law =
     (both_law (mark_law mark.SignalList) named_sigs_law (λ y m j s t. tt))
 
 pub signal_list_opens : Opens mark.SignalList SpellsSignalList
-signal_list_opens x i j s = mark_opens mark.SignalList named_sigs_law (x.word, (x.name, x.items)) i j s
+signal_list_opens x i j s = (x.word, s.0, s.1)
 
 pub signal_set_law : Law signal_set SpellsSignalSet SpellsSignalSet Anywhere erased_signal_set
 unfolding signal_set
@@ -216,4 +204,4 @@ signal_set_law =
     (both_law (mark_law mark.SignalSet) sigs_law (λ y m j s t. tt))
 
 pub signal_set_opens : Opens mark.SignalSet SpellsSignalSet
-signal_set_opens x i j s = mark_opens mark.SignalSet sigs_law (x.word, x.items) i j s
+signal_set_opens x i j s = (x.word, s.0, s.1)

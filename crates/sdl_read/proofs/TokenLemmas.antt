@@ -24,12 +24,6 @@ first_ordered from all t ts to is h = (opened from all t ts to is h).1
 pub first_within : (from : ℕ) (all : List Token) (t : Token) (ts : List Token) (to : ℕ) → all ≡ t ∷ ts → InOrder from all to → t.end ≤ to
 first_within from all t ts to is h = InOrder-up t.end ts to (opened from all t ts to is h).2
 
-pub rest_in_order : (from : ℕ) (all : List Token) (t : Token) (ts : List Token) (to : ℕ) → all ≡ t ∷ ts → InOrder from all to → InOrder from ts to
-rest_in_order from all t ts to is h =
-    let starts = first_starts from all t ts to is h in
-    let ordered = first_ordered from all t ts to is h in
-    InOrder-earlier from t.end ts to (omega arith) (opened from all t ts to is h).2
-
 pub rest_after : (from : ℕ) (all : List Token) (t : Token) (ts : List Token) (to : ℕ) → all ≡ t ∷ ts → InOrder from all to → InOrder t.start ts to
 rest_after from all t ts to is h =
     let ordered = first_ordered from all t ts to is h in
