@@ -1,63 +1,27 @@
 -- The law of answers.
-use Rattle.std.proofs.Common.{◌≡◌, ℕ, zero, suc, length, arith, ◌⊎◌, inl, inr, true, false, is_some, List, ◌∷◌, Option, Some, None, option_map, refl, sym, ap, ◌∙◌, subst}
+use Rattle.std.proofs.Common.{◌≡◌, ℕ, suc, ◌⊎◌, inl, inr, true, false, is_some, ◌∷◌, Option, Some, None, option_map, refl, sym, ap, ◌∙◌, subst}
 use Rattle.sdl_tree.specs.declared.expressions.KeywordValue.{KeywordValue}
 use Rattle.sdl_tree.specs.declared.expressions.KeywordValue.TheVariants as value
 use Rattle.sdl_tree.specs.declared.expressions.UnaryOperator.{UnaryOperator}
 use Rattle.sdl_tree.specs.declared.expressions.UnaryOperator.TheVariants as unary
-use Rattle.sdl_tree.specs.declared.expressions.Operator.{Operator}
 use Rattle.sdl_tree.specs.declared.expressions.Operator.TheVariants as operator
 use Rattle.sdl_tree.specs.declared.mark.Mark.TheVariants as mark
 use Rattle.sdl_tree.specs.declared.name.Spelling.{Spelling}
-use Rattle.sdl_tree.specs.Erased.{erased_word, erased_expr, erased_answer}
+use Rattle.sdl_tree.specs.Erased.{erased_expr, erased_answer}
 use Rattle.sdl_tree.specs.Spells.Behaviour.{SpellsAnswer}
-use Rattle.sdl_tree.specs.Spells.Expressions.{loosest, looseness, operator_mark, value_mark, unary_mark, SpellsPrimary, SpellsAt, SpellsInner, SpellsTimer, SpellsExpr}
+use Rattle.sdl_tree.specs.Spells.Expressions.{loosest, looseness, operator_mark, value_mark, unary_mark, SpellsInner, SpellsTimer, SpellsExpr}
 use Rattle.sdl_tree.specs.Spells.Parts.{Both, Behind, Optional}
-use Rattle.sdl_tree.specs.Tree.{Number, Expr, Numeral, Named, Keyword, Active, Paren, Unary, Chain, Answer, Value, Range, Compared}
-use Rattle.sdl_tree.specs.Words.{Words, Spot, Fixed}
-use Rattle.sdl_tree.specs.Words as word
+use Rattle.sdl_tree.specs.Tree.{Expr, Answer, Value, Range, Compared}
+use Rattle.sdl_tree.specs.Words.{Words, Fixed}
 use Rattle.sdl_behaviour.specs.Answers.{range_end, value_or_range, value_answer, compared_with, answer}
 use Rattle.sdl_read.specs.Expressions.{expr, operator_at, sees_operator}
 use Rattle.sdl_read.specs.Reading.{behind, front, mark_at, sees}
-use Rattle.sdl_read.proofs.ExpressionLaws.{expr_law, expr_takes}
-use Rattle.sdl_read.proofs.Laws.{Law, Takes, Made, left_behind, as_law, stops_law, both_law, behind_law, made_law, either_law, maybe_law, optional_law}
+use Rattle.sdl_read.proofs.ExpressionLaws.{level_begins, expr_law, expr_takes}
+use Rattle.sdl_read.proofs.Laws.{Law, Takes, Made, as_law, stops_law, both_law, behind_law, made_law, either_law, optional_law}
 use Rattle.sdl_read.proofs.OperatorLaws.{operator_at_ok, operator_at_again, operator_front, Stops, IsMarked, marked_law}
-use Rattle.sdl_read.proofs.Steps.{rest_length, sees_front, sees_at}
-use Rattle.sdl_read.proofs.OperatorLaws.{stops_last}
-use Rattle.sdl_behaviour.proofs.WayLaws.{stops_at, sees_last, takes_by}
-
--- ---- what expressions begin with
-
-module _ (Q : Words → Type 0) (at_name : (x : Spot) (k : Words) → Q (word.Name x ∷ k)) (at_number : (n : Number) (k : Words) → Q (word.Number n.value n.digits ∷ k))
-    (at_value : (v : KeywordValue) (s : Spelling) (k : Words) → Q (Fixed (value_mark v) s ∷ k)) (at_unary : (o : UnaryOperator) (s : Spelling) (k : Words) → Q (Fixed (unary_mark o) s ∷ k))
-    (at_open : (s : Spelling) (k : Words) → Q (Fixed mark.Open s ∷ k)) (at_active : (s : Spelling) (k : Words) → Q (Fixed mark.Active s ∷ k))
-    (Inner : Expr → Words → Words → Type 0) (Timer : Spot × List Expr → Words → Words → Type 0) where
-  primary_begins : (x : Expr) (i j : Words) → SpellsPrimary Inner Timer x i j → Q i
-  primary_begins (Named x) i j s = subst Q (sym s) (at_name x j)
-  primary_begins (Numeral n) i j s = subst Q (sym s) (at_number n j)
-  primary_begins (Keyword v w) i j s = subst Q (sym s) (at_value v w j)
-  primary_begins (Paren w e) i j s = subst Q (sym s.1) (at_open w s.0)
-  primary_begins (Active w timer values) i j s = subst Q (sym s.1) (at_active w s.0)
-  primary_begins (Unary o w e) i j s = absurd s
-  primary_begins (Chain e links) i j s = absurd s
-
-  level_begins : (k : ℕ) (x : Expr) (i j : Words) → SpellsAt Inner Timer k x i j → Q i
-  level_begins zero x i j s = primary_begins x i j s
-  level_begins (suc zero) x i j (inl s) = primary_begins x i j s
-  level_begins (suc zero) (Unary o w e) i j (inr s) = subst Q (sym s.1) (at_unary o w s.0)
-  level_begins (suc zero) (Named x) i j (inr s) = absurd s
-  level_begins (suc zero) (Numeral n) i j (inr s) = absurd s
-  level_begins (suc zero) (Keyword v w) i j (inr s) = absurd s
-  level_begins (suc zero) (Paren w e) i j (inr s) = absurd s
-  level_begins (suc zero) (Active w timer values) i j (inr s) = absurd s
-  level_begins (suc zero) (Chain e links) i j (inr s) = absurd s
-  level_begins (suc (suc k)) x i j (inl s) = level_begins (suc k) x i j s
-  level_begins (suc (suc k)) (Chain e links) i j (inr s) = level_begins (suc k) e i s.0 s.1
-  level_begins (suc (suc k)) (Named x) i j (inr s) = absurd s
-  level_begins (suc (suc k)) (Numeral n) i j (inr s) = absurd s
-  level_begins (suc (suc k)) (Keyword v w) i j (inr s) = absurd s
-  level_begins (suc (suc k)) (Paren w e) i j (inr s) = absurd s
-  level_begins (suc (suc k)) (Active w timer values) i j (inr s) = absurd s
-  level_begins (suc (suc k)) (Unary o w e) i j (inr s) = absurd s
+use Rattle.sdl_read.proofs.SignalLaws.{maybe_mark}
+use Rattle.sdl_read.proofs.Steps.{no_words}
+use Rattle.sdl_behaviour.proofs.WayLaws.{stops_at}
 
 value_compares : (v : KeywordValue) (s : Spelling) (k : Words) → sees_operator 4 (Fixed (value_mark v) s ∷ k) ≡ false
 unfolding operator_at mark_at front
@@ -79,16 +43,13 @@ unary_compares unary.Not s k = refl
 no_comparison : (d : ℕ) (x : Expr) (i j : Words) → SpellsExpr d x i j → sees_operator 4 i ≡ false
 unfolding operator_at mark_at front
 no_comparison d =
-    level_begins (λ i. sees_operator 4 i ≡ false) (λ x k. refl) (λ n k. refl) value_compares unary_compares (λ s k. refl) (λ s k. refl)
-    (SpellsInner d) (SpellsTimer d) loosest
+    level_begins (λ i. sees_operator 4 i ≡ false) (λ x k. refl) (λ n k. refl) value_compares (λ s k. refl) (λ s k. refl) (SpellsInner d) (SpellsTimer d)
+    unary_compares loosest
 
 -- ---- expr [":" expr]
 
 abbrev Last : ℕ → Expr → Words → Words → Type 0
 Last d = Behind mark.Colon (SpellsExpr d)
-
-last_begins : (d : ℕ) (x : Expr) (i j : Words) → Last d x i j → sees mark.Colon i ≡ true
-last_begins d x i j s = sees_at mark.Colon s.0 i s.1 s.2
 
 last_law : (d : ℕ) → Law (behind mark.Colon (expr d)) (Last d) (Last (suc d)) (Stops loosest) erased_expr
 last_law d = behind_law mark.Colon (expr_law d)
@@ -99,10 +60,7 @@ Answered j = Stops loosest j × (sees mark.Colon j ≡ false)
 
 range_law : (d : ℕ) → Law (range_end d) (Optional (Last d)) (Optional (Last (suc d))) Answered (option_map erased_expr)
 unfolding range_end
-range_law d =
-    optional_law
-    (maybe_law (sees mark.Colon) (sees_front mark.Colon) (last_law d).rules (sees_last mark.Colon) (last_begins d)
-    (takes_by (last_law d).rules (sees mark.Colon) (sees_last mark.Colon) (last_begins d) (stops_last loosest)))
+range_law d = optional_law (maybe_mark mark.Colon (last_law d) (λ x i j s. (s.0, s.1, s.2)))
 
 stops_before_last : (d : ℕ) (y : Option Expr) (m j : Words) → Optional (Last d) y m j → Answered j → Stops loosest m
 stops_before_last d None m j s t = subst (Stops loosest) (sym s) t.0
@@ -131,11 +89,6 @@ value_law d = made_law value_with like_value (both_law (expr_law d) (range_law d
 abbrev Compares : ℕ → Answer → Words → Words → Type 0
 Compares d = Made compared_with (Both (IsMarked operator_mark (λ o. looseness o ≡ 4)) (SpellsExpr d))
 
-like_compared : (x y : (Operator × Spelling) × Expr)
-    → ◌≡◌ {A = (Operator × Spelling) × Expr} ((x.0.0, erased_word x.0.1), erased_expr x.1) ((y.0.0, erased_word y.0.1), erased_expr y.1)
-    → erased_answer (compared_with x) ≡ erased_answer (compared_with y)
-like_compared x y e = ap compared_with e
-
 compares : (d : ℕ) (x : Answer) (i j : Words) → Compares d x i j → sees_operator 4 i ≡ true
 compares d x i j s = ap (sees_operator 4) s.2.1.1 ∙ ap is_some (operator_at_again 4 s.0.0.0 s.0.0.1 s.2.0 s.2.1.0)
 
@@ -160,16 +113,12 @@ answer_law d =
     as_law (answer_to d) (answer_from d) (answer_to (suc d))
     (either_law (sees_operator 4) (operator_front 4)
     (stops_law (λ j t. t.0)
-    (made_law compared_with like_compared
+    (made_law compared_with (λ x y n. ap compared_with n)
     (both_law (marked_law (operator_at 4) operator_mark (λ o. looseness o ≡ 4) (λ i o e. (operator_at_ok 4 i o e).1) (λ o s j e. operator_at_again 4 o s j e) operator.Equal refl)
     (expr_law d) (λ y m j s t. tt))))
     (value_law d) (compares d) (λ x i j s t. no_comparison d s.0.0 i s.2.0 s.2.1))
 
 pub answer_takes : (d : ℕ) → Takes (SpellsAnswer d)
-answer_takes d (Value e) i j s = expr_takes d e i j s
-answer_takes d (Range e f) i j s =
-    let first = expr_takes d e i s.0 s.1 in
-    let more = rest_length s.0 j (left_behind (last_law d).rules f s.0 j s.2) in omega arith
-answer_takes d (Compared o w e) i j s =
-    let first = ap length s.1.1 in
-    let more = rest_length s.1.0 j (left_behind (expr_law d).rules e s.1.0 j s.1.2) in omega (arith, first)
+answer_takes d (Value e) j s = expr_takes d e j s
+answer_takes d (Range e f) j s = expr_takes d e s.0 s.1
+answer_takes d (Compared o w e) j s = no_words s.1.1

@@ -2,7 +2,7 @@
 use Rattle.std.proofs.Common.{◌≡◌, ℕ, suc, ◌⊎◌, inl, inr, false, List, [], refl, sym, ap, subst}
 use Rattle.sdl_tree.specs.declared.mark.Mark.TheVariants as mark
 use Rattle.sdl_tree.specs.declared.name.Spelling.{Spelling}
-use Rattle.sdl_tree.specs.Erased.{erased_word, erased_name, erased_transition, erased_body_part}
+use Rattle.sdl_tree.specs.Erased.{erased_name, erased_transition, erased_body_part}
 use Rattle.sdl_tree.specs.Spells.Behaviour.{SpellsTrans, SpellsEndConnection}
 use Rattle.sdl_tree.specs.Spells.Parts.{IsMark, Both, Before, SpellsName, SpellsClosing}
 use Rattle.sdl_tree.specs.Tree.{Transition}
@@ -11,8 +11,8 @@ use Rattle.sdl_behaviour.specs.States.{end_connection, free_with, connection}
 use Rattle.sdl_behaviour.specs.Transitions.{begins_terminator, begins_action, begins_statement, trans}
 use Rattle.sdl_read.specs.Parts.{followed_by}
 use Rattle.sdl_read.specs.Reading.{◌⊗◌, before, name, front, sees, same_mark, sees_name}
-use Rattle.sdl_read.proofs.Laws.{Law, Made, stops_law, both_law, before_law, made_law}
-use Rattle.sdl_read.proofs.PartLaws.{whole, mark_law, name_law}
+use Rattle.sdl_read.proofs.Laws.{Form, Law, Made, mark_law, stops_law, both_law, before_law, made_law}
+use Rattle.sdl_read.proofs.PartLaws.{whole, name_law}
 use Rattle.sdl_read.proofs.ClosingLaws.{Drops, drops_law, end_name_law, closed_law}
 use Rattle.sdl_behaviour.proofs.StepLaws.{NoStatement}
 use Rattle.sdl_behaviour.proofs.TransitionLaws.{trans_law}
@@ -28,7 +28,7 @@ end_connection_law x = stops_law (λ j t. t.1) (closed_law mark.EndConnection (e
 
 -- ---- "connection" NAME ":" trans ["endconnection" [NAME] end]
 
-abbrev Labelled : ℕ → Spot × Transition → Words → Words → Type 0
+abbrev Labelled : ℕ → Form (Spot × Transition)
 Labelled d = Both (Before SpellsName mark.Colon) (SpellsTrans d)
 
 no_statement_before : (x : Spot × Transition) (m j : Words) → SpellsEndConnection x.0 m j → Connected j → NoStatement m
@@ -44,24 +44,19 @@ same_end x y e i j s =
     let R : List ℕ → Type 0 = λ t. (i ≡ j) ⊎ SpellsClosing mark.EndConnection t i j in
     let texts : x.0.text ≡ y.0.text = ap (λ (p : Spot × Transition). p.0.text) e in subst R texts s
 
-abbrev Whole : ℕ → Spot × Transition → Words → Words → Type 0
+abbrev Whole : ℕ → Form (Spot × Transition)
 Whole d = Drops (Labelled d) (λ x. SpellsEndConnection x.0)
 
 whole_law : (d : ℕ) → Law (followed_by (before name mark.Colon ⊗ trans d) (λ p. end_connection p.0.text)) (Whole d) (Whole (suc d)) Connected erased_labelled
 whole_law d =
     drops_law (both_law (before_law mark.Colon name_law (λ s j. tt)) (trans_law d) (λ y m j s t. tt)) (λ x. end_connection_law x.0) no_statement_before same_end
 
-abbrev pub Connects : ℕ → Spelling × (Spot × Transition) → Words → Words → Type 0
+abbrev pub Connects : ℕ → Form (Spelling × (Spot × Transition))
 Connects d = Both (IsMark mark.Connection) (Whole d)
-
-like_connection : (x y : Spelling × (Spot × Transition))
-    → ◌≡◌ {A = Spelling × (Spot × Transition)} (erased_word x.0, erased_labelled x.1) (erased_word y.0, erased_labelled y.1)
-    → erased_body_part (free_with x) ≡ erased_body_part (free_with y)
-like_connection x y e = ap free_with e
 
 pub connection_law : (d : ℕ) → Law (connection d) (Made free_with (Connects d)) (Made free_with (Connects (suc d))) Connected erased_body_part
 unfolding connection
-connection_law d = made_law free_with like_connection (both_law (mark_law mark.Connection) (whole_law d) (λ y m j s t. tt))
+connection_law d = made_law free_with (λ x y n. ap free_with n) (both_law (mark_law mark.Connection) (whole_law d) (λ y m j s t. tt))
 
 pub connected_last : Connected []
 unfolding begins_statement begins_action begins_terminator sees_name sees front

@@ -7,7 +7,6 @@ pub mod ConnectionLaws
 pub mod EndingLaws
 pub mod LookLemmas
 pub mod ReceptionLaws
-pub mod SpacedLaws
 pub mod StateLaws
 pub mod StateLemmas
 pub mod StepLaws
@@ -16,5 +15,4 @@ pub mod StimulusLaws
 pub mod TransitionLaws
 pub mod TransitionLemmas
 pub mod UnlessLaws
-pub mod UntilLaws
 pub mod WayLaws

@@ -1,14 +1,14 @@
 -- The law of a stimulus, where no condition and no priority stands behind it. Behind a stimulus that has no transition they may
 -- not stand in the grammar either, since they would be its own; behind others they may.
-use Rattle.std.proofs.Common.{◌≡◌, ℕ, suc, ◌⊎◌, inl, inr, true, false, ◌||◌, List, [], ◌∷◌, map, Option, Some, None, option_map, Bool, Ok, Err, if◌then◌else◌, refl, sym, ap, ◌∙◌, subst}
+use Rattle.std.proofs.Common.{◌≡◌, ℕ, suc, ◌⊎◌, inl, inr, true, false, ◌||◌, List, [], ◌∷◌, map, Option, Some, None, Bool, Ok, Err, if◌then◌else◌, refl, sym, ap, ◌∙◌, subst}
 use Rattle.sdl_tree.specs.declared.mark.Mark.{Mark}
 use Rattle.sdl_tree.specs.declared.mark.Mark.TheVariants as mark
 use Rattle.sdl_tree.specs.declared.name.Spelling.{Spelling}
-use Rattle.sdl_tree.specs.Erased.{erased_word, erased_number, erased_expr, erased_transition, erased_input, erased_inputs, erased_condition, erased_stimulus}
+use Rattle.sdl_tree.specs.Erased.{erased_word, erased_transition, erased_input, erased_stimulus}
 use Rattle.sdl_tree.specs.Spells.Behaviour.{SpellsLabel, SpellsTerminator, SpellsAction, SpellsTrans, SpellsIns, SpellsCondition, SpellsPriority, SpellsStimulus}
 use Rattle.sdl_tree.specs.Spells.Expressions.{SpellsExpr, loosest}
 use Rattle.sdl_tree.specs.Spells.Parts.{IsMark, Both, Unless, Wherever, SpellsEnd, Ended}
-use Rattle.sdl_tree.specs.Tree.{Number, Expr, Action, Terminator, Transition, Steps, NoAction, AndAction, Input, Inputs, Condition, Stimulus, InputPart, PriorityInput, SavePart, ContinuousSignal}
+use Rattle.sdl_tree.specs.Tree.{Action, Terminator, Transition, Steps, NoAction, AndAction, Input, Stimulus, InputPart, PriorityInput, SavePart, ContinuousSignal}
 use Rattle.sdl_tree.specs.Words.{Words, Spot, Fixed}
 use Rattle.sdl_behaviour.specs.Stimuli.{input_part_with, input_part, unless_by, priority_head, priority_input_with, priority_input_by, priority_input, save_with, continuous_with, continuous_signal, one_stimulus, begins_stimulus, stimulus}
 use Rattle.sdl_behaviour.specs.Transitions.{begins_statement, begins_action, begins_terminator, trans}
@@ -16,8 +16,7 @@ use Rattle.sdl_tree.specs.LeftOut.{PriorityHead}
 use Rattle.sdl_read.specs.Reading.{Refusal, Refused, Barred, Outcome, and_then, rest, front, sees, same_mark, sees_name}
 use Rattle.sdl_read.proofs.Depth.{SameFront}
 use Rattle.sdl_read.proofs.ExpressionLaws.{expr_law}
-use Rattle.sdl_read.proofs.Laws.{Law, MaybeLaw, Anywhere, read_behind, Made, as_law, stops_law, both_law, behind_law, made_law, either_law, maybe_law}
-use Rattle.sdl_read.proofs.PartLaws.{mark_law}
+use Rattle.sdl_read.proofs.Laws.{Law, MaybeLaw, Anywhere, Made, was_read, mark_law, as_law, stops_law, both_law, behind_law, made_law, either_law, maybe_law}
 use Rattle.sdl_read.proofs.Steps.{read_as, true_or_false, sees_ok, sees_front, sees_at}
 use Rattle.sdl_behaviour.proofs.BarredLaws.{Bars, barred_law}
 use Rattle.sdl_behaviour.proofs.EndingLaws.{name_no_mark, terminator_begins}
@@ -26,7 +25,7 @@ use Rattle.sdl_behaviour.proofs.StimulusLaws.{ins_law, inputs_law, Saves, save_l
 use Rattle.sdl_behaviour.proofs.TransitionLaws.{trans_law, action_begins}
 use Rattle.sdl_behaviour.proofs.UnlessLaws.{wherever_law, unless_law}
 use Rattle.sdl_read.proofs.ClosingLaws.{ended_law}
-use Rattle.sdl_behaviour.proofs.WayLaws.{stops_end, sees_other, end_other, takes_by}
+use Rattle.sdl_behaviour.proofs.WayLaws.{stops_end, sees_other, end_other}
 
 -- ---- a transition begins with no mark that begins none of its statements
 
@@ -46,14 +45,14 @@ module _ (m : Mark) (at_action : (d : ℕ) (x : Action) (i j : Words) → Spells
 pub provided_apart : (d : ℕ) (x : Transition) (i j : Words) → SpellsTrans d x i j → sees mark.Provided j ≡ false → sees mark.Provided i ≡ false
 unfolding sees front same_mark
 provided_apart =
-    trans_apart mark.Provided (action_begins (λ i. sees mark.Provided i ≡ false) (λ s k. refl) (λ s k. refl) (λ s k. refl) (λ s k. refl) (λ s k. refl) (λ s k. refl))
-    (terminator_begins (λ i. sees mark.Provided i ≡ false) (λ s k. refl) (λ s k. refl) (λ s k. refl))
+    trans_apart mark.Provided (λ d. action_begins d (λ i. sees mark.Provided i ≡ false) ((λ s k. refl), ((λ s k. refl), ((λ s k. refl), ((λ s k. refl), ((λ s k. refl), ((λ s k. refl), tt)))))))
+    (terminator_begins (λ i. sees mark.Provided i ≡ false) ((λ s k. refl), ((λ s k. refl), ((λ s k. refl), tt))))
 
 priority_apart : (d : ℕ) (x : Transition) (i j : Words) → SpellsTrans d x i j → sees mark.Priority j ≡ false → sees mark.Priority i ≡ false
 unfolding sees front same_mark
 priority_apart =
-    trans_apart mark.Priority (action_begins (λ i. sees mark.Priority i ≡ false) (λ s k. refl) (λ s k. refl) (λ s k. refl) (λ s k. refl) (λ s k. refl) (λ s k. refl))
-    (terminator_begins (λ i. sees mark.Priority i ≡ false) (λ s k. refl) (λ s k. refl) (λ s k. refl))
+    trans_apart mark.Priority (λ d. action_begins d (λ i. sees mark.Priority i ≡ false) ((λ s k. refl), ((λ s k. refl), ((λ s k. refl), ((λ s k. refl), ((λ s k. refl), ((λ s k. refl), tt)))))))
+    (terminator_begins (λ i. sees mark.Priority i ≡ false) ((λ s k. refl), ((λ s k. refl), ((λ s k. refl), tt))))
 
 -- where any stimulus stops
 abbrev pub Alone : Words → Type 0
@@ -80,26 +79,15 @@ pub inputs_end : (i j : Words) → SpellsEnd i j → (sees mark.Open i ≡ false
 unfolding same_mark
 inputs_end i j s = (end_other mark.Open refl refl i j s, end_other mark.Comma refl refl i j s)
 
-like_input : (x y : Spelling × (Inputs × (Option Condition × Transition)))
-    → ◌≡◌ {A = Spelling × (Inputs × (Option Condition × Transition))} (erased_word x.0, (erased_inputs x.1.0, (option_map erased_condition x.1.1.0, erased_transition x.1.1.1)))
-    (erased_word y.0, (erased_inputs y.1.0, (option_map erased_condition y.1.1.0, erased_transition y.1.1.1)))
-    → erased_stimulus (input_part_with x) ≡ erased_stimulus (input_part_with y)
-like_input x y e = ap input_part_with e
-
 input_law : (d : ℕ) → Law (input_part d) (IsInput d) (IsInput (suc d)) Alone erased_stimulus
 unfolding input_part
 input_law d =
-    made_law input_part_with like_input
+    made_law input_part_with (λ x y n. ap input_part_with n)
     (both_law (mark_law mark.Input)
     (both_law (ended_law ins_law inputs_end)
     (both_law (wherever_law mark.Provided (condition_law d)) (alone_trans d) (λ y m j s t. (tt, provided_apart d y m j s t.1)))
     (λ y m j s t. tt))
     (λ y m j s t. tt))
-
-like_priority : (x y : (Spelling × List Input) × Transition)
-    → ◌≡◌ {A = (Spelling × List Input) × Transition} ((erased_word x.0.0, map erased_input x.0.1), erased_transition x.1) ((erased_word y.0.0, map erased_input y.0.1), erased_transition y.1)
-    → erased_stimulus (priority_input_with x) ≡ erased_stimulus (priority_input_with y)
-like_priority x y e = ap priority_input_with e
 
 abbrev erased_head : Spelling × List Input → Spelling × List Input
 erased_head h = (erased_word h.0, map erased_input h.1)
@@ -110,7 +98,7 @@ head_law = both_law (mark_law mark.Priority) (behind_law mark.Input (ended_law i
 -- where what is behind the head is refused as any other word
 plain_law : (d : ℕ) → Law (priority_input_by Refused d) (IsPriority d) (IsPriority (suc d)) Alone erased_stimulus
 plain_law d =
-    made_law priority_input_with like_priority
+    made_law priority_input_with (λ x y n. ap priority_input_with n)
     (both_law head_law (stops_law {T = Alone} (λ j t. (t, t.1)) (unless_law mark.Provided (alone_trans d) (provided_apart d) (provided_apart (suc d)))) (λ y m j s t. tt))
 
 -- what is read behind a head, where a `provided` is told so
@@ -130,11 +118,12 @@ priority_bars d i = by (priority_head i) refl
     by (Ok q) e = elim (true_or_false (sees mark.Provided q.1)) as (λ _. Bars (priority_input_by Refused d) (priority_input_by Barred d) i) [
       | inl t ↦
           let at = sees_ok mark.Provided q.1 t in
+          let r = was_read head_law.rules i q.0 q.1 e in
           inr (
             q.1,
             ap (from_head Refused d) e ∙ ap (behind_head Refused d q.0 q.1) t,
             ap (from_head Barred d) e ∙ ap (behind_head Barred d q.0 q.1) t,
-            (read_behind head_law.rules i q.0 q.1 e, ([], i, refl, q.0, head_law.rules.sound i q.0 q.1 e, (at.0, rest q.1, at.1))),
+            ((r.taken, r.at), ([], i, refl, q.0, r.spelled, (at.0, rest q.1, at.1))),
           )
       | inr t ↦
           inl (ap (from_head Refused d) e ∙ ap (behind_head Refused d q.0 q.1) t ∙ sym (ap (from_head Barred d) e ∙ ap (behind_head Barred d q.0 q.1) t))
@@ -144,16 +133,10 @@ priority_input_law : (d : ℕ) → Law (priority_input d) (IsPriority d) (IsPrio
 unfolding priority_input
 priority_input_law d = barred_law (priority_bars d) (plain_law d)
 
-like_continuous : (x y : Spelling × (Expr × (Option Number × Transition)))
-    → ◌≡◌ {A = Spelling × (Expr × (Option Number × Transition))} (erased_word x.0, (erased_expr x.1.0, (option_map erased_number x.1.1.0, erased_transition x.1.1.1)))
-    (erased_word y.0, (erased_expr y.1.0, (option_map erased_number y.1.1.0, erased_transition y.1.1.1)))
-    → erased_stimulus (continuous_with x) ≡ erased_stimulus (continuous_with y)
-like_continuous x y e = ap continuous_with e
-
 continuous_law : (d : ℕ) → Law (continuous_signal d) (IsContinuous d) (IsContinuous (suc d)) Alone erased_stimulus
 unfolding continuous_signal
 continuous_law d =
-    made_law continuous_with like_continuous
+    made_law continuous_with (λ x y n. ap continuous_with n)
     (both_law (mark_law mark.Provided)
     (both_law (ended_law (expr_law d) (stops_end loosest))
     (both_law (wherever_law mark.Priority priority_law) (alone_trans d) (λ y m j s t. (tt, priority_apart d y m j s t.2)))
@@ -232,4 +215,3 @@ pub stimulus_law : (d : ℕ) → MaybeLaw (stimulus d) (SpellsStimulus d) (Spell
 unfolding stimulus
 stimulus_law d =
     maybe_law begins_stimulus stimulus_front (one_stimulus_law d).rules stimulus_last (stimulus_begins d)
-    (takes_by (one_stimulus_law d).rules begins_stimulus stimulus_last (stimulus_begins d) alone_last)

@@ -6,7 +6,7 @@ use Rattle.std.proofs.lemmas.List.Elements.{Contains-push, Contains-push_cases, 
 use Rattle.std.proofs.lemmas.Slice.Eq.{bytes_eq-Decides}
 use Rattle.sdl_tree.specs.declared.mark.Mark.TheVariants as mark
 use Rattle.sdl_tree.specs.declared.name.Spelling.{Spelling}
-use Rattle.sdl_tree.specs.Erased.{erased_word, erased_name, erased_states, erased_stimulus, erased_body_part}
+use Rattle.sdl_tree.specs.Erased.{erased_name, erased_states, erased_stimulus, erased_body_part}
 use Rattle.sdl_tree.specs.Spells.Behaviour.{SpellsStimulus, SpellsStates, SpellsEndStateName, SpellsEndState, SpellsBodyPart}
 use Rattle.sdl_tree.specs.Spells.Parts.{IsMark, Both, Behind, Separated, Repeated, InParentheses, SpellsName, SpellsEnd, Ended}
 use Rattle.sdl_tree.specs.Tree.{States, StateList, StateAll, Stimulus, BodyPart, StatePart, FreeAction}
@@ -18,16 +18,16 @@ use Rattle.sdl_behaviour.specs.Transitions.{begins_terminator, begins_action, be
 use Rattle.sdl_read.specs.Reading.{either, is_fixed, front, rest, sees, same_mark, sees_name}
 use Rattle.sdl_read.proofs.ClosingLaws.{tried, Named, named_law, nowhere_law, Drops, drops_law, ended_law, closed_law}
 use Rattle.sdl_read.proofs.Depth.{SameFront}
-use Rattle.sdl_read.proofs.Laws.{Law, MaybeLaw, Made, as_law, stops_law, both_law, behind_law, made_law, either_law, maybe_law}
+use Rattle.sdl_read.proofs.Laws.{Law, MaybeLaw, Made, mark_law, as_law, stops_law, both_law, behind_law, made_law, either_law, maybe_law}
 use Rattle.sdl_read.proofs.ListLaws.{separated_law}
-use Rattle.sdl_read.proofs.PartLaws.{whole, mark_law, name_law, name_takes, in_parentheses_law}
+use Rattle.sdl_read.proofs.PartLaws.{whole, name_law, name_takes, in_parentheses_law}
 use Rattle.sdl_read.proofs.Steps.{read_as, true_or_false, sees_front, sees_at, sees_ok}
 use Rattle.sdl_behaviour.proofs.ConnectionLaws.{Connected, Connects, connection_law, connected_last}
 use Rattle.sdl_behaviour.proofs.EndingLaws.{name_no_mark}
 use Rattle.sdl_behaviour.proofs.ReceptionLaws.{Alone, alone_last}
 use Rattle.sdl_behaviour.proofs.StepLaws.{NoStatement}
 use Rattle.sdl_behaviour.proofs.StimuliLaws.{stimuli_law}
-use Rattle.sdl_behaviour.proofs.WayLaws.{end_other, takes_by}
+use Rattle.sdl_behaviour.proofs.WayLaws.{end_other}
 
 -- ---- states = "*" ["(" NAME {"," NAME} ")"] | NAME {"," NAME}
 
@@ -53,18 +53,14 @@ names_no_asterisk [] i j s = absurd s
 names_no_asterisk (x ∷ []) i j s = name_no_mark mark.Asterisk x i j s
 names_no_asterisk (x ∷ y ∷ xs) i j s = name_no_mark mark.Asterisk x i (Fixed mark.Comma s.0 ∷ s.1) s.2
 
-like_all : (x y : Spelling × List Spot) → ◌≡◌ {A = Spelling × List Spot} (erased_word x.0, map erased_name x.1) (erased_word y.0, map erased_name y.1)
-    → erased_states (all_with x) ≡ erased_states (all_with y)
-like_all x y e = ap all_with e
-
 states_law : Law states SpellsStates SpellsStates Unlisted erased_states
 unfolding states
 states_law =
     as_law states_to states_from states_to
     (either_law (sees mark.Asterisk) (sees_front mark.Asterisk)
     (stops_law (λ j t. t.0)
-    (made_law all_with like_all (both_law (mark_law mark.Asterisk) (in_parentheses_law name_law name_takes (λ s m. tt) (λ s m. tt)) (λ y m j s t. tt))))
-    (stops_law (λ j t. (tt, t.1)) (made_law StateList (λ x y e. ap StateList e) (separated_law name_law name_takes (λ s m. tt))))
+    (made_law all_with (λ x y n. ap all_with n) (both_law (mark_law mark.Asterisk) (in_parentheses_law name_law name_takes (λ s m. tt) (λ s m. tt) tt) (λ y m j s t. tt))))
+    (stops_law (λ j t. (tt, t.1)) (made_law StateList (λ x y e. ap StateList e) (separated_law name_law name_takes (λ s m. tt) tt)))
     (λ x i j s. sees_at mark.Asterisk s.0.0 i s.2.0 s.2.1) (λ x i j s t. names_no_asterisk s.0 i j s.2))
 
 -- ---- [NAME] behind `endstate`
@@ -105,11 +101,8 @@ one_there xs y i = refl
 one_elsewhere : (xs : List Spot) (i : Words) → sees_name i ≡ false → one_of xs i ≡ read_as tt i
 unfolding one_of sees_name front
 one_elsewhere xs [] e = refl
-one_elsewhere xs (Fixed m s ∷ i) e = refl
 one_elsewhere xs (word.Name y ∷ i) e = absurd (true≢false e)
-one_elsewhere xs (word.Number n y ∷ i) e = refl
-one_elsewhere xs (word.Text y ∷ i) e = refl
-one_elsewhere xs (word.LeftOut lower y ∷ i) e = refl
+one_elsewhere xs (w ∷ i) e = refl
 
 one_to : (xs : List Spot) (i j : Words) → Named (is_named xs) i j → SpellsEndStateName (StateList xs) i j
 one_to xs i j (inl e) = inl e
@@ -185,13 +178,10 @@ unlisted_end : (i j : Words) → SpellsEnd i j → Unlisted i
 unfolding same_mark
 unlisted_end i j s = (end_other mark.Open refl refl i j s, end_other mark.Comma refl refl i j s)
 
-like_state : (x y : States × List Stimulus) → erased_stated x ≡ erased_stated y → erased_body_part (state_with x) ≡ erased_body_part (state_with y)
-like_state x y e = ap state_with e
-
 state_law : (d : ℕ) → Law (state_part d) (Made state_with (IsState d)) (Made state_with (IsState (suc d))) Stated erased_body_part
 unfolding state_part
 state_law d =
-    made_law state_with like_state
+    made_law state_with (λ x y n. ap state_with n)
     (behind_law mark.State
     (drops_law (both_law (ended_law states_law unlisted_end) (stimuli_law d) (λ y m j s t. tt)) (λ x. end_state_law x.0) no_stimulus_before same_state_ended))
 
@@ -240,7 +230,6 @@ pub body_part_law : (d : ℕ) → MaybeLaw (body_part d) (SpellsBodyPart d) (Spe
 unfolding body_part
 body_part_law d =
     maybe_law begins_body_part part_front (one_part_law d).rules none_last (part_begins d)
-    (takes_by (one_part_law d).rules begins_body_part none_last (part_begins d) part_last)
 
 -- ---- where a start and a part stop
 

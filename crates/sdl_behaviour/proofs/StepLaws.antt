@@ -9,12 +9,12 @@ use Rattle.sdl_tree.specs.Words.{Words, Spot, Fixed}
 use Rattle.sdl_behaviour.specs.Transitions.{label, terminator, begins_terminator, begins_action, begins_statement, ending_with, statement_with, steps_from, steps_with, trans_of}
 use Rattle.sdl_read.specs.Reading.{Parser, Outcome, and_then, ◌⊗◌, made, either, maybe, front, sees, sees_name}
 use Rattle.sdl_read.proofs.Depth.{SameFront}
-use Rattle.sdl_read.proofs.Laws.{Law, MaybeLaw, Anywhere, Made, stops_law, both_law, made_law, node_law, either_law, maybe_law}
+use Rattle.sdl_read.proofs.Laws.{Form, Law, MaybeLaw, Anywhere, Made, stops_law, both_law, made_law, node_law, either_law, maybe_law}
 use Rattle.sdl_read.proofs.Steps.{read_as, sees_front}
 use Rattle.sdl_behaviour.proofs.EndingLaws.{label_law, terminator_law, begins_a_terminator, terminator_front, terminator_unnamed}
-use Rattle.sdl_behaviour.proofs.UntilLaws.{erased_both, until_by, until_law}
+use Rattle.sdl_read.proofs.ListLaws.{erased_both, until_by, until_law}
 use Rattle.sdl_read.proofs.PartLaws.{name_front}
-use Rattle.sdl_behaviour.proofs.WayLaws.{name_begins, takes_by}
+use Rattle.sdl_behaviour.proofs.WayLaws.{name_begins}
 
 -- where a transition stops
 abbrev pub NoStatement : Words → Type 0
@@ -87,26 +87,26 @@ erased_kind = erased_both erased_action erased_terminator
 abbrev erased_step : Step → Step
 erased_step = erased_both erased_statement erased_ending
 
-abbrev IsStep : (Action → Words → Words → Type 0) → Step → Words → Words → Type 0
+abbrev IsStep : Form Action → Form Step
 IsStep Act (inl s) i j = SpellsStatement Act s i j
 IsStep Act (inr e) i j = SpellsEnding e i j
 
-abbrev IsKind : (Action → Words → Words → Type 0) → Kind → Words → Words → Type 0
+abbrev IsKind : Form Action → Form Kind
 IsKind Act x i j = Made ends_here SpellsTerminator x i j ⊎ Made goes_on Act x i j
 
-abbrev Labelled : (Action → Words → Words → Type 0) → Option Spot × Kind → Words → Words → Type 0
+abbrev Labelled : Form Action → Form (Option Spot × Kind)
 Labelled Act = Both SpellsLabel (IsKind Act)
 
-labelled_is : (Act : Action → Words → Words → Type 0) (l : Option Spot) (x : Kind) (i m j : Words) → SpellsLabel l i m → IsKind Act x m j → IsStep Act (step_with (l, x)) i j
+labelled_is : (Act : Form Action) (l : Option Spot) (x : Kind) (i m j : Words) → SpellsLabel l i m → IsKind Act x m j → IsStep Act (step_with (l, x)) i j
 labelled_is Act l x i m j s (inl t) = let F : Kind → Type 0 = λ y. IsStep Act (step_with (l, y)) i j in subst F (sym t.1) (m, s, t.2)
 labelled_is Act l x i m j s (inr t) = let F : Kind → Type 0 = λ y. IsStep Act (step_with (l, y)) i j in subst F (sym t.1) (m, s, t.2)
 
-step_to : (Act : Action → Words → Words → Type 0) (x : Step) (i j : Words) → Made step_with (Labelled Act) x i j → IsStep Act x i j
+step_to : (Act : Form Action) (x : Step) (i j : Words) → Made step_with (Labelled Act) x i j → IsStep Act x i j
 step_to Act x i j s =
     let F : Step → Type 0 = λ y. IsStep Act y i j in
     let b = s.2 in subst F (sym s.1) (labelled_is Act s.0.0 s.0.1 i b.0 j b.1 b.2)
 
-step_from : (Act : Action → Words → Words → Type 0) (x : Step) (i j : Words) → IsStep Act x i j → Made step_with (Labelled Act) x i j
+step_from : (Act : Form Action) (x : Step) (i j : Words) → IsStep Act x i j → Made step_with (Labelled Act) x i j
 step_from Act (inl s) i j t = ((s.label, inl s.action), refl, (t.0, t.1, inr (s.action, refl, t.2)))
 step_from Act (inr e) i j t = ((e.label, inr e.terminator), refl, (t.0, t.1, inl (e.terminator, refl, t.2)))
 
@@ -188,16 +188,16 @@ erased_listed : (statements : List Statement) → erased_actions (actions_of sta
 erased_listed [] = refl
 erased_listed (s ∷ statements) = ap (AndAction (option_map erased_name s.label) (erased_action s.action)) (erased_listed statements)
 
-abbrev AllSteps : (Action → Words → Words → Type 0) → List Statement × Option Ending → Words → Words → Type 0
+abbrev AllSteps : Form Action → Form (List Statement × Option Ending)
 AllSteps Act = Both (Repeated (SpellsStatement Act)) (Optional SpellsEnding)
 
-trans_to : (Act : Action → Words → Words → Type 0) (x : Transition) (i j : Words) → Made steps_with (AllSteps Act) x i j → SpellsTransBy Act x i j
+trans_to : (Act : Form Action) (x : Transition) (i j : Words) → Made steps_with (AllSteps Act) x i j → SpellsTransBy Act x i j
 trans_to Act x i j s =
     let Q : Transition → Type 0 = λ y. SpellsTransBy Act y i j in
     let R : List Statement → Type 0 = λ ss. AllSteps Act (ss, s.0.1) i j in
     subst Q (sym s.1) (subst R (sym (statements_are s.0.0)) s.2)
 
-trans_from : (Act : Action → Words → Words → Type 0) (x : Transition) (i j : Words) → SpellsTransBy Act x i j → Made steps_with (AllSteps Act) x i j
+trans_from : (Act : Form Action) (x : Transition) (i j : Words) → SpellsTransBy Act x i j → Made steps_with (AllSteps Act) x i j
 trans_from Act (Steps actions ending) i j s = ((statements_in actions, ending), ap (λ ss. Steps ss ending) (sym (actions_again actions)), s)
 
 erased_steps : (x : List Statement × Option Ending) → erased_transition (steps_with x) ≡ steps_with (map erased_statement x.0, option_map erased_ending x.1)
@@ -210,7 +210,7 @@ like_steps x y e = erased_steps x ∙ ap steps_with e ∙ sym (erased_steps y)
 
 -- ---- the law, where actions stop anywhere and begin as they do
 
-module _ {act : Parser Action} {Act More : Action → Words → Words → Type 0} (a : Law act Act More Anywhere erased_action)
+module _ {act : Parser Action} {Act More : Form Action} (a : Law act Act More Anywhere erased_action)
     (begins : (x : Action) (i j : Words) → Act x i j → begins_action i ≡ true) (unnamed : (x : Action) (i j : Words) → Act x i j → sees_name i ≡ false)
     (no_ending : (x : Action) (i j : Words) → Act x i j → begins_terminator i ≡ false) where
   kind_law : Law (kind act) (IsKind Act) (IsKind More) Anywhere erased_kind
@@ -237,9 +237,9 @@ module _ {act : Parser Action} {Act More : Action → Words → Words → Type 0
 
   step_law : MaybeLaw (step act) (IsStep Act) (IsStep More) Anywhere begins_statement erased_step
   step_law =
-      maybe_law begins_statement statement_front whole_step_law.rules statement_last step_begins (takes_by whole_step_law.rules begins_statement statement_last step_begins tt)
+      maybe_law begins_statement statement_front whole_step_law.rules statement_last step_begins
 
   pub trans_of_law : Law (trans_of act) (SpellsTransBy Act) (SpellsTransBy More) NoStatement erased_transition
   trans_of_law =
       node_law steps_with (SpellsTransBy Act) (SpellsTransBy More) like_steps (trans_to Act) (trans_from Act) (trans_to More)
-      (stops_law (λ j t. (tt, t)) (until_law step_law (λ i e. tt) (steps_from act) (steps_none act) (steps_turn act)))
+      (stops_law (λ j t. (tt, t)) (until_law step_law (λ i e. tt) tt (steps_from act) (steps_none act) (steps_turn act)))

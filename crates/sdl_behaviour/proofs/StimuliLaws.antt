@@ -35,9 +35,6 @@ both_read p q i m j x y e f = bind_is (p i) (λ z k. and_then (q k) (λ w l. rea
 mark_read : {B : Type 0} (n : Mark) (q : Parser B) (i m j : Words) (s : Spelling) (y : B) → i ≡ Fixed n s ∷ m → q m ≡ read_as y j → (expect n ⊗ q) i ≡ read_as (s, y) j
 mark_read n q i m j s y e f = both_read (expect n) q i m j s y (ap (expect n) e ∙ expect_again n s m) f
 
-behind_read : {A : Type 0} (n : Mark) (p : Parser A) (i k j : Words) (s : Spelling) (x : A) → i ≡ Fixed n s ∷ k → p k ≡ read_as x j → behind n p i ≡ read_as x j
-behind_read n p i k j s x e f = ap (behind n p) e ∙ bind_is (expect n (Fixed n s ∷ k)) (λ _ l. p l) s k (expect_again n s k) ∙ f
-
 made_read : {A B : Type 0} (f : A → B) (p : Parser A) (i j : Words) (x : A) → p i ≡ read_as x j → made f p i ≡ read_as (f x) j
 made_read f p i j x e = bind_is (p i) (λ z k. read_as (f z) k) x j e
 

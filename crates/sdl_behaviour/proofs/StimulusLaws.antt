@@ -1,52 +1,38 @@
 -- The laws of the parts of stimuli, and of the start.
-use Rattle.std.proofs.Common.{◌≡◌, ℕ, suc, ◌⊎◌, inl, inr, Bool, true, false, ◌||◌, List, [], ◌∷◌, map, Option, Some, None, option_map, Err, refl, sym, ap, ◌∙◌, subst}
+use Rattle.std.proofs.Common.{◌≡◌, ℕ, suc, ◌⊎◌, inl, inr, false, List, [], ◌∷◌, map, Option, Some, None, option_map, refl, sym, ap, subst}
 use Rattle.sdl_tree.specs.declared.mark.Mark.{Mark}
 use Rattle.sdl_tree.specs.declared.mark.Mark.TheVariants as mark
 use Rattle.sdl_tree.specs.declared.name.Spelling.{Spelling}
-use Rattle.sdl_tree.specs.Erased.{erased_word, erased_name, erased_number, erased_expr, erased_transition, erased_start, erased_input, erased_inputs, erased_item, erased_saved, erased_condition, erased_stimulus}
-use Rattle.sdl_tree.specs.Spells.Behaviour.{SpellsTrans, SpellsStart, SpellsIn1, SpellsIns, SpellsSaved, SpellsCondition, SpellsPriority}
-use Rattle.sdl_tree.specs.Spells.Expressions.{SpellsExpr, loosest}
-use Rattle.sdl_tree.specs.Spells.Parts.{IsMark, Both, Optional, Separated, Enclosed, InParentheses, SpellsName, SpellsSig, Ended}
-use Rattle.sdl_tree.specs.Tree.{Number, Expr, Transition, Start, SignalListItem, SignalItem, ListItem, Input, Inputs, InputList, InputAll, Saved, SaveList, SaveAll, Condition}
+use Rattle.sdl_tree.specs.Erased.{erased_name, erased_number, erased_start, erased_input, erased_inputs, erased_item, erased_saved, erased_condition, erased_stimulus}
+use Rattle.sdl_tree.specs.Spells.Behaviour.{SpellsStart, SpellsIn1, SpellsIns, SpellsSaved, SpellsCondition, SpellsPriority}
+use Rattle.sdl_tree.specs.Spells.Expressions.{loosest}
+use Rattle.sdl_tree.specs.Spells.Parts.{IsMark, Both, Optional, Separated, Enclosed, SpellsName, SpellsSig, Ended}
+use Rattle.sdl_tree.specs.Tree.{Start, SignalListItem, SignalItem, ListItem, Input, Inputs, InputList, InputAll, Saved, SaveList, SaveAll}
 use Rattle.sdl_tree.specs.Words.{Words, Spot, Fixed}
 use Rattle.sdl_tree.specs.Words as word
 use Rattle.sdl_behaviour.specs.States.{start_with, start}
 use Rattle.sdl_behaviour.specs.Stimuli.{variable, input_with, in1, ins, condition_with, condition, saved, save_with, save_part, priority}
 use Rattle.sdl_read.specs.Expressions.{expr}
 use Rattle.sdl_read.specs.Parts.{ended, sig}
-use Rattle.sdl_read.specs.Reading.{Deep, and_then, separated, ◌⊗◌, behind, made, expect, name, number, front, sees, same_mark, sees_name, enclosed, in_parentheses}
+use Rattle.sdl_read.specs.Reading.{and_then, separated, ◌⊗◌, behind, made, expect, name, number, front, sees, same_mark, sees_name, enclosed}
 use Rattle.sdl_read.proofs.ExpressionLaws.{expr_law}
-use Rattle.sdl_read.proofs.Laws.{Law, MaybeLaw, Anywhere, Takes, Made, as_law, stops_law, both_law, behind_law, made_law, node_law, either_law, maybe_law, optional_law}
-use Rattle.sdl_read.proofs.ListLaws.{separated_law}
-use Rattle.sdl_read.proofs.PartLaws.{mark_law, name_law, name_takes, number_law, nothing_law, opens_list, listed_to, listed_from, sig_law}
-use Rattle.sdl_read.proofs.Steps.{some_as, none_as, sees_front, sees_at, chosen, bind_err, not_refused, not_deep, name_refused}
+use Rattle.sdl_read.proofs.Laws.{Form, Law, MaybeLaw, Anywhere, Takes, Made, mark_law, as_law, stops_law, both_law, behind_law, made_law, either_law, maybe_law, optional_law}
+use Rattle.sdl_read.proofs.ListLaws.{separated_law, spaced_law}
+use Rattle.sdl_read.proofs.PartLaws.{name_front, name_law, number_law, maybe_enclosed, sig_law}
+use Rattle.sdl_read.proofs.SignalLaws.{record_law, maybe_mark, sig_takes}
+use Rattle.sdl_read.proofs.Steps.{read_as, none_as, no_words, if_false, sees_front, sees_at}
 use Rattle.sdl_behaviour.proofs.EndingLaws.{name_no_mark}
-use Rattle.sdl_behaviour.proofs.SpacedLaws.{spaced_law}
 use Rattle.sdl_behaviour.proofs.StepLaws.{NoStatement}
 use Rattle.sdl_behaviour.proofs.TransitionLaws.{trans_law}
 use Rattle.sdl_read.proofs.ClosingLaws.{ended_law}
-use Rattle.sdl_read.proofs.PartLaws.{name_front}
-use Rattle.sdl_behaviour.proofs.WayLaws.{stops_end, sees_other, sees_last, end_other, name_begins, name_last, no_name, takes_by}
+use Rattle.sdl_behaviour.proofs.WayLaws.{stops_end, sees_other, sees_last, end_other, name_begins, name_last, no_name}
 
 -- ---- start
-
-abbrev Starts : ℕ → Spelling × Transition → Words → Words → Type 0
-Starts d = Both (Ended (IsMark mark.Start)) (SpellsTrans d)
-
-start_to : (d : ℕ) (x : Start) (i j : Words) → Made start_with (Starts d) x i j → SpellsStart d x i j
-start_to d x i j s = let Q : Start → Type 0 = λ y. SpellsStart d y i j in subst Q (sym s.1) s.2
-
-start_from : (d : ℕ) (x : Start) (i j : Words) → SpellsStart d x i j → Made start_with (Starts d) x i j
-start_from d x i j s = ((x.word, x.transition), refl, s)
-
-like_start : (x y : Spelling × Transition) → ◌≡◌ {A = Spelling × Transition} (erased_word x.0, erased_transition x.1) (erased_word y.0, erased_transition y.1)
-    → erased_start (start_with x) ≡ erased_start (start_with y)
-like_start x y e = ap start_with e
 
 pub start_law : (d : ℕ) → Law (start d) (SpellsStart d) (SpellsStart (suc d)) NoStatement erased_start
 unfolding start
 start_law d =
-    node_law start_with (SpellsStart d) (SpellsStart (suc d)) like_start (start_to d) (start_from d) (start_to (suc d))
+    record_law start_with (λ y. (y.word, y.transition)) (λ x y n. ap start_with n) (λ x. refl) (λ y. refl)
     (both_law (ended_law (mark_law mark.Start) (λ i j s. tt)) (trans_law d) (λ y m j s t. tt))
 
 -- ---- in1
@@ -57,51 +43,29 @@ Variable = Optional SpellsName
 -- where no name stands next
 variable_law : Law variable Variable Variable (λ j. Unit {0} × (sees_name j ≡ false)) (option_map erased_name)
 unfolding variable
-variable_law = optional_law (maybe_law sees_name name_front name_law.rules name_last name_begins name_takes)
+variable_law = optional_law (maybe_law sees_name name_front name_law.rules name_last name_begins)
 
-variable_shallow : (i left : Words) → variable i ≡ Err (Deep left) → ⊥
+variable_last : variable [] ≡ read_as None []
 unfolding variable
-variable_shallow i left s = elim (chosen (sees_name i) (and_then (name i) (λ x j. some_as x j)) (none_as i) (Err (Deep left)) s) as (λ _. ⊥) [
-  | inl t ↦ elim (bind_err (name i) (λ x j. some_as x j) (Deep left) t.1) as (λ _. ⊥) [
-    | inl u ↦ not_deep i left (name_refused i (Deep left) u)
-    | inr u ↦ not_refused (Some u.0) u.1 (Deep left) u.3
-  ]
-  | inr t ↦ not_refused {A = Option Spot} None i (Deep left) t.1
-]
+variable_last = if_false (sees_name []) (and_then (name []) (λ x j. read_as (Some x) j)) (none_as []) name_last
 
 places_law : Law (enclosed variable) (Enclosed Variable) (Enclosed Variable) Anywhere (map (option_map erased_name))
-places_law = spaced_law variable_law (λ s m. (tt, no_name mark.Comma s m)) (λ s m. (tt, no_name mark.Close s m)) variable_shallow
-
-variables_law : Law (in_parentheses variable) (InParentheses Variable) (InParentheses Variable) (λ j. sees mark.Open j ≡ false) (map (option_map erased_name))
-variables_law =
-    as_law (listed_to Variable) (listed_from Variable) (listed_to Variable)
-    (either_law (sees mark.Open) (sees_front mark.Open) (stops_law (λ j t. tt) places_law) (nothing_law (option_map erased_name)) (opens_list Variable) (λ xs i j s t. ap (sees mark.Open) s.1 ∙ t))
-
-abbrev Receives : Spot × List (Option Spot) → Words → Words → Type 0
-Receives = Both SpellsName (InParentheses Variable)
-
-in1_to : (x : Input) (i j : Words) → Made input_with Receives x i j → SpellsIn1 x i j
-in1_to x i j s = let Q : Input → Type 0 = λ y. SpellsIn1 y i j in subst Q (sym s.1) s.2
-
-in1_from : (x : Input) (i j : Words) → SpellsIn1 x i j → Made input_with Receives x i j
-in1_from x i j s = ((x.signal, x.variables), refl, s)
-
-like_in1 : (x y : Spot × List (Option Spot))
-    → ◌≡◌ {A = Spot × List (Option Spot)} (erased_name x.0, map (option_map erased_name) x.1) (erased_name y.0, map (option_map erased_name) y.1)
-    → erased_input (input_with x) ≡ erased_input (input_with y)
-like_in1 x y e = ap input_with e
+places_law =
+    spaced_law variable_law (λ s m. (tt, no_name mark.Comma s m)) (tt, name_last) (λ s m. (tt, no_name mark.Close s m)) None variable_last
 
 pub in1_law : Law in1 SpellsIn1 SpellsIn1 (λ j. sees mark.Open j ≡ false) erased_input
 unfolding in1
-in1_law = node_law input_with SpellsIn1 SpellsIn1 like_in1 in1_to in1_from in1_to (both_law name_law variables_law (λ y m j s t. tt))
+in1_law =
+    record_law input_with (λ y. (y.signal, y.variables)) (λ x y n. ap input_with n) (λ x. refl) (λ y. refl)
+    (both_law name_law (maybe_enclosed variable places_law) (λ y m j s t. tt))
 
 in1_takes : Takes SpellsIn1
-in1_takes = takes_by in1_law.rules sees_name name_last (λ x i j s. name_begins x.signal i s.0 s.1) (sees_last mark.Open)
+in1_takes x j s = no_words s.1
 
 -- in1 {"," in1}
 pub inputs_law : Law (separated in1) (Separated SpellsIn1) (Separated SpellsIn1) (λ j. (sees mark.Open j ≡ false) × (sees mark.Comma j ≡ false)) (map erased_input)
 unfolding same_mark
-inputs_law = separated_law in1_law in1_takes (sees_other mark.Open mark.Comma refl)
+inputs_law = separated_law in1_law in1_takes (sees_other mark.Open mark.Comma refl) (sees_last mark.Open)
 
 -- ---- "*", or a list
 
@@ -139,17 +103,6 @@ sig_begins : (Q : Words → Type 0) → ((x : Spot) (k : Words) → Q (word.Name
 sig_begins Q at_name at_open (SignalItem x) i j s = subst Q (sym s) (at_name x j)
 sig_begins Q at_name at_open (ListItem x) i j s = subst Q (sym s.2) (at_open s.0 s.1)
 
-abbrev begins_sig : Words → Bool
-begins_sig i = sees_name i || sees mark.Open i
-
-sig_some : (x : SignalListItem) (i j : Words) → SpellsSig x i j → begins_sig i ≡ true
-unfolding sees_name sees front same_mark
-sig_some = sig_begins (λ i. begins_sig i ≡ true) (λ x k. refl) (λ s k. refl)
-
-sig_last : begins_sig [] ≡ false
-unfolding sees_name sees front
-sig_last = refl
-
 sig_no_asterisk : (x : SignalListItem) (i j : Words) → SpellsSig x i j → sees mark.Asterisk i ≡ false
 unfolding sees front same_mark
 sig_no_asterisk = sig_begins (λ i. sees mark.Asterisk i ≡ false) (λ x k. refl) (λ s k. refl)
@@ -160,7 +113,7 @@ sigs_no_asterisk (x ∷ []) i j s = sig_no_asterisk x i j s
 sigs_no_asterisk (x ∷ y ∷ ys) i j s = sig_no_asterisk x i (Fixed mark.Comma s.0 ∷ s.1) s.2
 
 sigs_law : Law (separated sig) (Separated SpellsSig) (Separated SpellsSig) (λ j. Unit {0} × (sees mark.Comma j ≡ false)) (map erased_item)
-sigs_law = separated_law sig_law (takes_by sig_law.rules begins_sig sig_last sig_some tt) (λ s m. tt)
+sigs_law = separated_law sig_law sig_takes (λ s m. tt) tt
 
 abbrev AllSaved : Saved → Words → Words → Type 0
 AllSaved = Made SaveAll (IsMark mark.Asterisk)
@@ -184,56 +137,29 @@ saved_law =
     (made_law SaveList (λ x y e. ap SaveList e) sigs_law)
     (λ x i j s. sees_at mark.Asterisk s.0 i j s.2) (λ x i j s t. sigs_no_asterisk s.0 i j s.2))
 
-abbrev pub Saves : Spelling × Saved → Words → Words → Type 0
+abbrev pub Saves : Form (Spelling × Saved)
 Saves = Both (IsMark mark.Save) (Ended SpellsSaved)
-
-like_save : (x y : Spelling × Saved) → ◌≡◌ {A = Spelling × Saved} (erased_word x.0, erased_saved x.1) (erased_word y.0, erased_saved y.1)
-    → erased_stimulus (save_with x) ≡ erased_stimulus (save_with y)
-like_save x y e = ap save_with e
 
 pub save_law : Law save_part (Made save_with Saves) (Made save_with Saves) Anywhere erased_stimulus
 unfolding save_part same_mark
 save_law =
-    made_law save_with like_save
+    made_law save_with (λ x y n. ap save_with n)
     (both_law (mark_law mark.Save) (ended_law saved_law (λ i j s. (tt, end_other mark.Comma refl refl i j s))) (λ y m j s t. tt))
 
 -- ---- conditions and priorities
 
-abbrev Conditions : ℕ → Spelling × Expr → Words → Words → Type 0
-Conditions d = Both (IsMark mark.Provided) (Ended (SpellsExpr d))
-
-condition_to : (d : ℕ) (x : Condition) (i j : Words) → Made condition_with (Conditions d) x i j → SpellsCondition d x i j
-condition_to d x i j s = let Q : Condition → Type 0 = λ y. SpellsCondition d y i j in subst Q (sym s.1) s.2
-
-condition_from : (d : ℕ) (x : Condition) (i j : Words) → SpellsCondition d x i j → Made condition_with (Conditions d) x i j
-condition_from d x i j s = ((x.word, x.condition), refl, s)
-
-like_condition : (x y : Spelling × Expr) → ◌≡◌ {A = Spelling × Expr} (erased_word x.0, erased_expr x.1) (erased_word y.0, erased_expr y.1)
-    → erased_condition (condition_with x) ≡ erased_condition (condition_with y)
-like_condition x y e = ap condition_with e
-
 one_condition_law : (d : ℕ) → Law (made condition_with (expect mark.Provided ⊗ ended (expr d))) (SpellsCondition d) (SpellsCondition (suc d)) Anywhere erased_condition
 one_condition_law d =
-    node_law condition_with (SpellsCondition d) (SpellsCondition (suc d)) like_condition (condition_to d) (condition_from d) (condition_to (suc d))
+    record_law condition_with (λ y. (y.word, y.condition)) (λ x y n. ap condition_with n) (λ x. refl) (λ y. refl)
     (both_law (mark_law mark.Provided) (ended_law (expr_law d) (stops_end loosest)) (λ y m j s t. tt))
-
-condition_begins : (d : ℕ) (x : Condition) (i j : Words) → SpellsCondition d x i j → sees mark.Provided i ≡ true
-condition_begins d x i j s = sees_at mark.Provided x.word i s.0 s.1
 
 pub condition_law : (d : ℕ) → MaybeLaw (condition d) (SpellsCondition d) (SpellsCondition (suc d)) Anywhere (sees mark.Provided) erased_condition
 unfolding condition
-condition_law d =
-    maybe_law (sees mark.Provided) (sees_front mark.Provided) (one_condition_law d).rules (sees_last mark.Provided) (condition_begins d)
-    (takes_by (one_condition_law d).rules (sees mark.Provided) (sees_last mark.Provided) (condition_begins d) tt)
+condition_law d = maybe_mark mark.Provided (one_condition_law d) (λ x i j s. (x.word, s.0, s.1))
 
 one_priority_law : Law (behind mark.Priority (ended number)) SpellsPriority SpellsPriority Anywhere erased_number
 one_priority_law = as_law (λ x i j s. s) (λ x i j s. s) (λ x i j s. s) (behind_law mark.Priority (ended_law number_law (λ i j s. tt)))
 
-priority_begins : (x : Number) (i j : Words) → SpellsPriority x i j → sees mark.Priority i ≡ true
-priority_begins x i j s = sees_at mark.Priority s.0 i s.1 s.2
-
 pub priority_law : MaybeLaw priority SpellsPriority SpellsPriority Anywhere (sees mark.Priority) erased_number
 unfolding priority
-priority_law =
-    maybe_law (sees mark.Priority) (sees_front mark.Priority) one_priority_law.rules (sees_last mark.Priority) priority_begins
-    (takes_by one_priority_law.rules (sees mark.Priority) (sees_last mark.Priority) priority_begins tt)
+priority_law = maybe_mark mark.Priority one_priority_law (λ x i j s. (s.0, s.1, s.2))

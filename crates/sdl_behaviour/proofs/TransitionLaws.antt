@@ -6,8 +6,8 @@ use Rattle.sdl_tree.specs.declared.name.Spelling.{Spelling}
 use Rattle.sdl_tree.specs.Erased.{plain, erased_word, erased_expr, erased_answer, erased_action, erased_transition, erased_parts, erased_otherwise}
 use Rattle.sdl_tree.specs.Spells.Behaviour.{SpellsAnswer, SpellsAction, SpellsTrans, SpellsPart, SpellsElse, SpellsDecision}
 use Rattle.sdl_tree.specs.Spells.Expressions.{loosest, SpellsAt, SpellsInner, SpellsTimer}
-use Rattle.sdl_tree.specs.Spells.Parts.{IsMark, Both, Behind, Before, Optional, Enclosed, Ended}
-use Rattle.sdl_tree.specs.Tree.{Expr, Named, Answer, Transition, Action, Task, Output, Set, Reset, Create, Decision, Part, Parts, NoPart, AndPart, parts_in, parts_of, Otherwise, NoElse, Else, else_in, else_of}
+use Rattle.sdl_tree.specs.Spells.Parts.{IsMark, Both, Before, Optional, Enclosed, Ended}
+use Rattle.sdl_tree.specs.Tree.{Expr, Named, Transition, Action, Task, Output, Set, Reset, Create, Decision, Part, Parts, NoPart, AndPart, parts_in, parts_of, Otherwise, NoElse, Else, else_in, else_of}
 use Rattle.sdl_tree.specs.Words.{Words, Spot, Fixed}
 use Rattle.sdl_tree.specs.Words as word
 use Rattle.sdl_behaviour.specs.Actions.{task_with, output_with, reset_with, create_with}
@@ -17,16 +17,18 @@ use Rattle.sdl_behaviour.specs.Transitions.{begins_terminator, begins_action, be
 use Rattle.sdl_tree.specs.Depth.{IsOpening}
 use Rattle.sdl_read.specs.Reading.{Parser, too_deep, refuse, ◌⊗◌, behind, made, either, front, sees, same_mark, sees_name, enclosed}
 use Rattle.sdl_read.proofs.ExpressionLaws.{expr_law}
-use Rattle.sdl_read.proofs.Laws.{Rules, Law, MaybeLaw, Anywhere, Made, refused_rules, same_rules, shut_first, shut_rules, as_law, both_law, behind_law, before_law, made_law, node_law, either_rules, first_law, maybe_law, optional_law}
+use Rattle.sdl_read.proofs.Laws.{Form, Rules, Law, MaybeLaw, Anywhere, Made, Or, mark_law, refuse_rules, same_rules, shut_first, shut_rules, as_law, both_law, behind_law, before_law, made_law, either_rules, optional_law}
 use Rattle.sdl_read.proofs.ListLaws.{repeated_law}
-use Rattle.sdl_read.proofs.PartLaws.{nameless, mark_law, enclosed_law, opens_list}
+use Rattle.sdl_read.proofs.PartLaws.{nameless, enclosed_law}
+use Rattle.sdl_read.proofs.SignalLaws.{record_law, maybe_mark, BeginsOne, Choice, or_rules, or_choice, as_choice, AtEach, at_one}
+use Rattle.sdl_read.proofs.OperatorLaws.{stops_last}
 use Rattle.sdl_read.proofs.Steps.{sees_front, sees_ok, sees_at}
 use Rattle.sdl_behaviour.proofs.ActionLaws.{Tasks, task_law, Outputs, output_law, Creates, create_law, Resets, reset_law}
 use Rattle.sdl_behaviour.proofs.AnswerLaws.{answer_law, answer_takes}
 use Rattle.sdl_behaviour.proofs.ClauseLaws.{Sets, set_law}
 use Rattle.sdl_behaviour.proofs.StepLaws.{NoStatement, trans_of_law}
 use Rattle.sdl_read.proofs.ClosingLaws.{ended_law}
-use Rattle.sdl_behaviour.proofs.WayLaws.{stops_at, stops_end, sees_other, sees_last, no_name, takes_by}
+use Rattle.sdl_behaviour.proofs.WayLaws.{stops_at, stops_end, sees_other, sees_last, no_name}
 
 -- ---- lists in the tree
 
@@ -86,31 +88,15 @@ unfolding begins_statement begins_action begins_terminator sees_name sees front
 no_statement_at m a b c d e f g h o s k = λ n. a n || (b n || (c n || (d n || (e n || f n)))) || (g n || (h n || o n))
 
 module _ (d : ℕ) (t : Law (trans d) (SpellsTrans d) (SpellsTrans (suc d)) NoStatement erased_transition) where
-  abbrev PartOf : ℕ → List Answer × Transition → Words → Words → Type 0
-  PartOf c = Both (Enclosed (SpellsAnswer c)) (Behind mark.Colon (SpellsTrans c))
-
-  part_to : (c : ℕ) (x : Part) (i j : Words) → Made part_with (PartOf c) x i j → SpellsPart c (SpellsTrans c) x i j
-  part_to c x i j s = let Q : Part → Type 0 = λ y. SpellsPart c (SpellsTrans c) y i j in subst Q (sym s.1) s.2
-
-  part_from : (x : Part) (i j : Words) → SpellsPart d (SpellsTrans d) x i j → Made part_with (PartOf d) x i j
-  part_from x i j s = ((x.answers, x.transition), refl, s)
-
-  part_begins : (x : Part) (i j : Words) → SpellsPart d (SpellsTrans d) x i j → sees mark.Open i ≡ true
-  part_begins x i j s = opens_list (SpellsAnswer d) x.answers i s.0 s.1
-
-  like_part : (x y : List Answer × Transition) → ◌≡◌ {A = List Answer × Transition} (map erased_answer x.0, erased_transition x.1) (map erased_answer y.0, erased_transition y.1)
-      → erased_part (part_with x) ≡ erased_part (part_with y)
-  like_part x y e = ap part_with e
-
   answers_law : Law (enclosed (answer d)) (Enclosed (SpellsAnswer d)) (Enclosed (SpellsAnswer (suc d))) Anywhere (map erased_answer)
   unfolding same_mark
   answers_law =
       enclosed_law (answer_law d) (answer_takes d) (λ s m. (stops_at mark.Comma refl loosest s m, sees_other mark.Colon mark.Comma refl s m))
-      (λ s m. (stops_at mark.Close refl loosest s m, sees_other mark.Colon mark.Close refl s m))
+      (λ s m. (stops_at mark.Close refl loosest s m, sees_other mark.Colon mark.Close refl s m)) (stops_last loosest, sees_last mark.Colon)
 
   one_part_law : Law (made part_with (enclosed (answer d) ⊗ behind mark.Colon (trans d))) (SpellsPart d (SpellsTrans d)) (SpellsPart (suc d) (SpellsTrans (suc d))) NoStatement erased_part
   one_part_law =
-      node_law part_with (SpellsPart d (SpellsTrans d)) (SpellsPart (suc d) (SpellsTrans (suc d))) like_part (part_to d) part_from (part_to (suc d))
+      record_law part_with (λ y. (y.answers, y.transition)) (λ x y n. ap part_with n) (λ x. refl) (λ y. refl)
       (both_law answers_law (behind_law mark.Colon t) (λ y m j s u. tt))
 
   no_statement_last : NoStatement []
@@ -119,9 +105,7 @@ module _ (d : ℕ) (t : Law (trans d) (SpellsTrans d) (SpellsTrans (suc d)) NoSt
 
   part_law : MaybeLaw (part d (trans d)) (SpellsPart d (SpellsTrans d)) (SpellsPart (suc d) (SpellsTrans (suc d))) NoStatement (sees mark.Open) erased_part
   unfolding part
-  part_law =
-      maybe_law (sees mark.Open) (sees_front mark.Open) one_part_law.rules (sees_last mark.Open) part_begins
-      (takes_by one_part_law.rules (sees mark.Open) (sees_last mark.Open) part_begins no_statement_last)
+  part_law = maybe_mark mark.Open one_part_law (λ x i j s. let b = s.1 in (b.0, b.1, b.2))
 
   open_begins_none : (i : Words) → sees mark.Open i ≡ true → NoStatement i
   unfolding same_mark
@@ -131,15 +115,9 @@ module _ (d : ℕ) (t : Law (trans d) (SpellsTrans d) (SpellsTrans (suc d)) NoSt
   one_else_law : Law (behind mark.Else (behind mark.Colon (trans d))) (SpellsElse (SpellsTrans d)) (SpellsElse (SpellsTrans (suc d))) NoStatement erased_transition
   one_else_law = behind_law mark.Else (behind_law mark.Colon t)
 
-  else_begins : (x : Transition) (i j : Words) → SpellsElse (SpellsTrans d) x i j → sees mark.Else i ≡ true
-  else_begins x i j s = sees_at mark.Else s.0 i s.1 s.2
-
   else_law : Law (otherwise (trans d)) (Optional (SpellsElse (SpellsTrans d))) (Optional (SpellsElse (SpellsTrans (suc d)))) (λ j. NoStatement j × (sees mark.Else j ≡ false)) (option_map erased_transition)
   unfolding otherwise
-  else_law =
-      optional_law
-      (maybe_law (sees mark.Else) (sees_front mark.Else) one_else_law.rules (sees_last mark.Else) else_begins
-      (takes_by one_else_law.rules (sees mark.Else) (sees_last mark.Else) else_begins no_statement_last))
+  else_law = optional_law (maybe_mark mark.Else one_else_law (λ x i j s. (s.0, s.1, s.2)))
 
   abbrev EndsDecision : Option Transition → Words → Words → Type 0
   EndsDecision = Ended (Before (Optional (SpellsElse (SpellsTrans d))) mark.EndDecision)
@@ -212,49 +190,35 @@ decision_more : (d : ℕ) → decision (suc d) ≡ decision_of d (trans d)
 unfolding decision
 decision_more d = refl
 
-refuse_rules : Rules refuse (λ x i j. ⊥) (λ x i j. ⊥) Anywhere erased_action
-refuse_rules = refused_rules (λ i. refl) (λ x i j s. s)
-
 abbrev IsDecision : ℕ → Action → Words → Words → Type 0
 IsDecision d x i j = Decides d x i j ⊎ ⊥
 
 abbrev perhaps : Parser Action → Parser Action
 perhaps inner = either (sees mark.Decision) inner refuse
 
+decision_begins : (d : ℕ) (x : Action) (i j : Words) → IsDecision d x i j → BeginsOne (mark.Decision ∷ []) i
+decision_begins (suc d) x i j (inl s) = let b = s.2 in inl (s.0.0, b.0, b.1)
+decision_begins zero x i j (inl s) = absurd s
+decision_begins d x i j (inr s) = absurd s
+
 none_rules : Rules (perhaps (decision zero)) (IsDecision zero) (IsDecision (suc zero)) Anywhere erased_action
 none_rules =
     same_rules (λ i. shut_first mark.Decision refuse i ∙ ap (λ p. perhaps p i) (sym decision_zero))
     (either_rules (sees mark.Decision) (sees_front mark.Decision)
-    (shut_rules mark.Decision opens_decision
-    (λ s. (decision_with (s, (Named nameless, ([], None))), word.Name nameless ∷ semicolon ∷ closing ∷ semicolon ∷ [], λ j u. shortest s j))
-    (λ x i j s. s))
-    refuse_rules (λ x i j s. absurd s) (λ x i j s t. absurd s))
-
-decision_begins : (d : ℕ) (x : Action) (i j : Words) → Decides (suc d) x i j → sees mark.Decision i ≡ true
-decision_begins d x i j s = let b = s.2 in sees_at mark.Decision s.0.0 i b.0 b.1
+    (shut_rules mark.Decision opens_decision (Decides zero) (Decides (suc zero)) Anywhere (λ x i j s. s)
+    (λ s. (decision_with (s, (Named nameless, ([], None))), word.Name nameless ∷ semicolon ∷ closing ∷ semicolon ∷ [], λ j u. shortest s j)))
+    (refuse_rules (λ x i j s. s)) (λ x i j s. absurd s) (λ x i j s t. absurd s))
 
 more_rules : (d : ℕ) → Law (trans d) (SpellsTrans d) (SpellsTrans (suc d)) NoStatement erased_transition
     → Rules (perhaps (decision (suc d))) (IsDecision (suc d)) (IsDecision (suc (suc d))) Anywhere erased_action
 more_rules d t =
     same_rules (λ i. ap (λ p. perhaps p i) (sym (decision_more d)))
-    (either_rules (sees mark.Decision) (sees_front mark.Decision) (decision_of_law d t).rules refuse_rules (decision_begins d) (λ x i j s t. absurd s))
+    (either_rules (sees mark.Decision) (sees_front mark.Decision) (decision_of_law d t).rules (refuse_rules (λ x i j s. s)) (λ x i j s. let b = s.2 in sees_at mark.Decision s.0.0 i b.0 b.1) (λ x i j s t. absurd s))
 
 -- ---- actions
 
-abbrev IsCreate : ℕ → Action → Words → Words → Type 0
-IsCreate d x i j = Made create_with (Creates d) x i j ⊎ IsDecision d x i j
-
-abbrev IsReset : ℕ → Action → Words → Words → Type 0
-IsReset d x i j = Made reset_with (Resets d) x i j ⊎ IsCreate d x i j
-
-abbrev IsSet : ℕ → Action → Words → Words → Type 0
-IsSet d x i j = Made set_with (Sets d) x i j ⊎ IsReset d x i j
-
-abbrev IsOutput : ℕ → Action → Words → Words → Type 0
-IsOutput d x i j = Made output_with (Outputs d) x i j ⊎ IsSet d x i j
-
-abbrev IsAction : ℕ → Action → Words → Words → Type 0
-IsAction d x i j = Made task_with (Tasks d) x i j ⊎ IsOutput d x i j
+abbrev IsAction : ℕ → Form Action
+IsAction d = Or (Made task_with (Tasks d)) (Or (Made output_with (Outputs d)) (Or (Made set_with (Sets d)) (Or (Made reset_with (Resets d)) (Or (Made create_with (Creates d)) (IsDecision d)))))
 
 decides_to : (d : ℕ) (x : Action) (i j : Words) → Decides d x i j → SpellsAction d x i j
 decides_to zero x i j s = absurd s
@@ -292,77 +256,33 @@ action_from (suc d) (Decision w question parts other) i j s =
       s,
     ))))))
 
--- what holds at the words of actions holds where one begins
-module _ (Q : Words → Type 0) (at_task : (s : Spelling) (k : Words) → Q (Fixed mark.Task s ∷ k)) (at_output : (s : Spelling) (k : Words) → Q (Fixed mark.Output s ∷ k))
-    (at_set : (s : Spelling) (k : Words) → Q (Fixed mark.Set s ∷ k)) (at_reset : (s : Spelling) (k : Words) → Q (Fixed mark.Reset s ∷ k))
-    (at_create : (s : Spelling) (k : Words) → Q (Fixed mark.Create s ∷ k)) (at_decision : (s : Spelling) (k : Words) → Q (Fixed mark.Decision s ∷ k)) where
-  pub action_begins : (d : ℕ) (x : Action) (i j : Words) → SpellsAction d x i j → Q i
-  action_begins d (Task w assignments) i j s = subst Q (sym s.1) (at_task w s.0)
-  action_begins d (Output w outputs destination) i j s = subst Q (sym s.1) (at_output w s.0)
-  action_begins d (Set w clauses) i j s = subst Q (sym s.1) (at_set w s.0)
-  action_begins d (Reset w groups) i j s = subst Q (sym s.1) (at_reset w s.0)
-  action_begins d (Create w process) i j s = subst Q (sym s.1) (at_create w s.0)
-  action_begins zero (Decision w question parts other) i j s = absurd s
-  action_begins (suc d) (Decision w question parts other) i j s = subst Q (sym s.1) (at_decision w s.0)
+abbrev action_marks : List Mark
+action_marks = mark.Task ∷ mark.Output ∷ mark.Set ∷ mark.Reset ∷ mark.Create ∷ mark.Decision ∷ []
 
-action_starts : (d : ℕ) (x : Action) (i j : Words) → SpellsAction d x i j → begins_action i ≡ true
-unfolding begins_action sees front same_mark
-action_starts = action_begins (λ i. begins_action i ≡ true) (λ s k. refl) (λ s k. refl) (λ s k. refl) (λ s k. refl) (λ s k. refl) (λ s k. refl)
-
-action_unnamed : (d : ℕ) (x : Action) (i j : Words) → SpellsAction d x i j → sees_name i ≡ false
-action_unnamed =
-    action_begins (λ i. sees_name i ≡ false) (no_name mark.Task) (no_name mark.Output) (no_name mark.Set) (no_name mark.Reset) (no_name mark.Create) (no_name mark.Decision)
-
-action_no_ending : (d : ℕ) (x : Action) (i j : Words) → SpellsAction d x i j → begins_terminator i ≡ false
-unfolding begins_terminator sees front same_mark
-action_no_ending = action_begins (λ i. begins_terminator i ≡ false) (λ s k. refl) (λ s k. refl) (λ s k. refl) (λ s k. refl) (λ s k. refl) (λ s k. refl)
-
--- an action does not begin as one before it
-decision_other : (m : Mark) → same_mark mark.Decision m ≡ false → (d : ℕ) (x : Action) (i j : Words) → IsDecision d x i j → sees m i ≡ false
-decision_other m e zero x i j (inl s) = absurd s
-decision_other m e (suc d) x i j (inl s) = let b = s.2 in ap (sees m) b.1 ∙ sees_other m mark.Decision e s.0.0 b.0
-decision_other m e d x i j (inr s) = absurd s
-
-create_other : (m : Mark) → same_mark mark.Create m ≡ false → same_mark mark.Decision m ≡ false → (d : ℕ) (x : Action) (i j : Words) → IsCreate d x i j → sees m i ≡ false
-create_other m e f d x i j (inl s) = let b = s.2 in ap (sees m) b.1 ∙ sees_other m mark.Create e s.0.0 b.0
-create_other m e f d x i j (inr s) = decision_other m f d x i j s
-
-reset_other : (m : Mark) → same_mark mark.Reset m ≡ false → same_mark mark.Create m ≡ false → same_mark mark.Decision m ≡ false
-    → (d : ℕ) (x : Action) (i j : Words) → IsReset d x i j → sees m i ≡ false
-reset_other m e f g d x i j (inl s) = let b = s.2 in ap (sees m) b.1 ∙ sees_other m mark.Reset e s.0.0 b.0
-reset_other m e f g d x i j (inr s) = create_other m f g d x i j s
-
-set_other : (m : Mark) → same_mark mark.Set m ≡ false → same_mark mark.Reset m ≡ false → same_mark mark.Create m ≡ false → same_mark mark.Decision m ≡ false
-    → (d : ℕ) (x : Action) (i j : Words) → IsSet d x i j → sees m i ≡ false
-set_other m e f g h d x i j (inl s) = let b = s.2 in ap (sees m) b.1 ∙ sees_other m mark.Set e s.0.0 b.0
-set_other m e f g h d x i j (inr s) = reset_other m f g h d x i j s
-
-output_other : (m : Mark) → same_mark mark.Output m ≡ false → same_mark mark.Set m ≡ false → same_mark mark.Reset m ≡ false → same_mark mark.Create m ≡ false
-    → same_mark mark.Decision m ≡ false → (d : ℕ) (x : Action) (i j : Words) → IsOutput d x i j → sees m i ≡ false
-output_other m e f g h o d x i j (inl s) = let b = s.2 in ap (sees m) b.1 ∙ sees_other m mark.Output e s.0.0 b.0
-output_other m e f g h o d x i j (inr s) = set_other m f g h o d x i j s
-
-action_law_by : (d : ℕ) → Rules (perhaps (decision d)) (IsDecision d) (IsDecision (suc d)) Anywhere erased_action
-    → Law (action d) (SpellsAction d) (SpellsAction (suc d)) Anywhere erased_action
+action_choice_by : (d : ℕ) → Rules (perhaps (decision d)) (IsDecision d) (IsDecision (suc d)) Anywhere erased_action
+    → Choice (action d) (SpellsAction d) (SpellsAction (suc d)) action_marks erased_action
 unfolding action_of same_mark
-action_law_by d r =
-    as_law (action_to d) (action_from d) (action_to (suc d))
-    (first_law (sees mark.Task) (sees_front mark.Task) (task_law d)
-    (first_law (sees mark.Output) (sees_front mark.Output) (output_law d)
-    (first_law (sees mark.Set) (sees_front mark.Set) (set_law d)
-    (first_law (sees mark.Reset) (sees_front mark.Reset) (reset_law d)
-    (first_law (sees mark.Create) (sees_front mark.Create) (create_law d) r
-    (λ x i j s. let b = s.2 in sees_at mark.Create s.0.0 i b.0 b.1) (λ x i j s t. decision_other mark.Create refl d x i j s)).rules
-    (λ x i j s. let b = s.2 in sees_at mark.Reset s.0.0 i b.0 b.1) (λ x i j s t. create_other mark.Reset refl refl d x i j s)).rules
-    (λ x i j s. let b = s.2 in sees_at mark.Set s.0.0 i b.0 b.1) (λ x i j s t. reset_other mark.Set refl refl refl d x i j s)).rules
-    (λ x i j s. let b = s.2 in sees_at mark.Output s.0.0 i b.0 b.1) (λ x i j s t. set_other mark.Output refl refl refl refl d x i j s)).rules
-    (λ x i j s. let b = s.2 in sees_at mark.Task s.0.0 i b.0 b.1) (λ x i j s t. output_other mark.Task refl refl refl refl refl d x i j s))
+action_choice_by d r =
+    as_choice (action_to d) (action_from d) (action_to (suc d))
+    (or_choice mark.Task _ refl (task_law d) (λ x i j s. let b = s.2 in (s.0.0, b.0, b.1))
+    (or_choice mark.Output _ refl (output_law d) (λ x i j s. let b = s.2 in (s.0.0, b.0, b.1))
+    (or_choice mark.Set _ refl (set_law d) (λ x i j s. let b = s.2 in (s.0.0, b.0, b.1))
+    (or_choice mark.Reset _ refl (reset_law d) (λ x i j s. let b = s.2 in (s.0.0, b.0, b.1))
+    (or_rules mark.Create _ refl (create_law d) (λ x i j s. let b = s.2 in (s.0.0, b.0, b.1)) r (decision_begins d))))))
+
+begins_by : (d : ℕ) → Rules (perhaps (decision d)) (IsDecision d) (IsDecision (suc d)) Anywhere erased_action → (Q : Words → Type 0) → AtEach Q action_marks
+    → (x : Action) (i j : Words) → SpellsAction d x i j → Q i
+begins_by d r Q at x i j s = at_one Q action_marks at i ((action_choice_by d r).begins x i j s)
 
 trans_law_by : (d : ℕ) → Rules (perhaps (decision d)) (IsDecision d) (IsDecision (suc d)) Anywhere erased_action
     → Law (trans d) (SpellsTrans d) (SpellsTrans (suc d)) NoStatement erased_transition
+unfolding begins_action begins_terminator sees front same_mark
 trans_law_by d r =
     as_law (λ x i j s. s) (λ x i j s. s) (λ x i j s. s)
-    (trans_of_law (action_law_by d r) (action_starts d) (action_unnamed d) (action_no_ending d))
+    (trans_of_law (action_choice_by d r).law
+    (begins_by d r (λ i. begins_action i ≡ true) ((λ s k. refl), ((λ s k. refl), ((λ s k. refl), ((λ s k. refl), ((λ s k. refl), ((λ s k. refl), tt)))))))
+    (begins_by d r (λ i. sees_name i ≡ false) (no_name mark.Task, (no_name mark.Output, (no_name mark.Set, (no_name mark.Reset, (no_name mark.Create, (no_name mark.Decision, tt)))))))
+    (begins_by d r (λ i. begins_terminator i ≡ false) ((λ s k. refl), ((λ s k. refl), ((λ s k. refl), ((λ s k. refl), ((λ s k. refl), ((λ s k. refl), tt))))))))
 
 -- ---- as many inside each other
 
@@ -370,8 +290,9 @@ decision_rules : (d : ℕ) → Rules (perhaps (decision d)) (IsDecision d) (IsDe
 decision_rules zero = none_rules
 decision_rules (suc d) = more_rules d (trans_law_by d (decision_rules d))
 
-pub action_law : (d : ℕ) → Law (action d) (SpellsAction d) (SpellsAction (suc d)) Anywhere erased_action
-action_law d = action_law_by d (decision_rules d)
+-- what holds at the words of actions holds where one begins
+pub action_begins : (d : ℕ) (Q : Words → Type 0) → AtEach Q action_marks → (x : Action) (i j : Words) → SpellsAction d x i j → Q i
+action_begins d = begins_by d (decision_rules d)
 
 pub trans_law : (d : ℕ) → Law (trans d) (SpellsTrans d) (SpellsTrans (suc d)) NoStatement erased_transition
 trans_law d = trans_law_by d (decision_rules d)

@@ -1,5 +1,5 @@
--- Where readings stop, what takes a word, and the law of what has an end.
-use Rattle.std.proofs.Common.{◌≡◌, ℕ, ◌<◌, Bool, true, false, true≢false, [], ◌∷◌, ◌++◌, length, Option, Some, None, refl, sym, ap, ◌∙◌, arith, length-append}
+-- Where readings stop.
+use Rattle.std.proofs.Common.{◌≡◌, ℕ, true, false, [], ◌∷◌, Option, Some, None, refl, sym, ap, ◌∙◌}
 use Rattle.sdl_tree.specs.declared.expressions.Operator.{Operator}
 use Rattle.sdl_tree.specs.declared.mark.Mark.{Mark}
 use Rattle.sdl_tree.specs.declared.mark.Mark.TheVariants as mark
@@ -7,9 +7,8 @@ use Rattle.sdl_tree.specs.declared.name.Spelling.{Spelling}
 use Rattle.sdl_tree.specs.Spells.Parts.{SpellsEnd}
 use Rattle.sdl_tree.specs.Words.{Words, Spot, Fixed}
 use Rattle.sdl_tree.specs.Words as word
-use Rattle.sdl_read.specs.Reading.{Parser, front, mark_at, sees, same_mark, sees_name}
+use Rattle.sdl_read.specs.Reading.{front, mark_at, sees, same_mark, sees_name}
 use Rattle.sdl_read.specs.Expressions.{operator_of}
-use Rattle.sdl_read.proofs.Laws.{Rules, Takes}
 use Rattle.sdl_read.proofs.OperatorLaws.{Stops}
 use Rattle.sdl_read.proofs.PartLaws.{end_begins}
 
@@ -46,14 +45,3 @@ name_last = refl
 pub no_name : (m : Mark) (s : Spelling) (j : Words) → sees_name (Fixed m s ∷ j) ≡ false
 unfolding sees_name front
 no_name m s j = refl
-
--- ---- what takes a word: what begins somehow, where no words begin so
-
-module _ {A : Type 0} {p : Parser A} {P M : A → Words → Words → Type 0} {S : Words → Type 0} {e : A → A} (a : Rules p P M S e) (begins : Words → Bool)
-    (none : begins [] ≡ false) (starts : (x : A) (i j : Words) → P x i j → begins i ≡ true) (stop : S []) where
-  takes_more : (x : A) (i j u : Words) → i ≡ u ++ j → ((k : Words) → S k → P x (u ++ k) k) → length j < length i
-  takes_more x i j [] at kept = absurd (true≢false (sym (starts x [] [] (kept [] stop)) ∙ none))
-  takes_more x i j (w ∷ u) at kept = let same = ap length at ∙ length-append (w ∷ u) j in omega (arith, same)
-
-  pub takes_by : Takes P
-  takes_by x i j s = let r = a.keeps x i j s in takes_more x i j r.0 r.1 r.2
