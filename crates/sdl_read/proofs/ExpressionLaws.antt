@@ -17,7 +17,8 @@ use Rattle.sdl_read.specs.Reading.{Parser, Outcome, Refused, Deep, too_deep, ref
 use Rattle.sdl_read.specs.Expressions.{by_mark, value_of, operator_at, value_at, unary_at, unary_of, marked, Readers, readers, keyword_with, paren_with, active_with, unary_with, link_with, chain_with, sees_value, sees_unary, sees_operator, primary, signed, link, chain, level, expr, paren_of, active_of, deep_active, no_args}
 use Rattle.sdl_tree.specs.Depth.{IsOpening}
 use Rattle.sdl_read.proofs.Depth.{SameFront, no_deeper, closed}
-use Rattle.sdl_read.proofs.Laws.{Form, Gives, Rules, Law, MaybeLaw, Anywhere, Takes, Made, still, as_law, stops_law, never_rules, refuse_rules, nothing_law, mark_law, same_rules, same_law, shut, shut_first, shut_rules, both_rules, both_law, behind_law, before_law, made_law, node_rules, node_law, either_rules, first_law, either_law, maybe_law}
+use Rattle.sdl_read.proofs.Laws.{Form, Never, Gives, Rules, Law, MaybeLaw, Anywhere, Takes, Made, still, as_law, stops_law, never_rules, refuse_rules, nothing_law, mark_law, same_rules, same_law, shut, shut_first, shut_rules, both_rules, both_law, behind_law, before_law, made_law, made_as, node_rules, node_law, Or, either_as, either_rules, first_law, either_law, maybe_law}
+use Rattle.sdl_read.proofs.LevelLemmas.{level_zero, level_one, level_clause, args_none, paren_clause, active_clause, args_clause}
 use Rattle.sdl_read.proofs.ListLaws.{repeated_law, repeated_begins}
 use Rattle.sdl_read.proofs.OperatorLaws.{value_at_again, unary_at_again, operator_at_ok, operator_at_again, Stops, operator_none, operator_front, operator_end, same_mark_at, stops_last, stops_before, stops_below, IsMarked, marked_rules, marked_law}
 use Rattle.sdl_read.proofs.PartLaws.{nameless, name_front, name_law, number_law, in_parentheses_law, opens_list, listed_to, listed_from}
@@ -161,16 +162,16 @@ IsKeyword = Made keyword_with (IsMarked value_mark (λ v. Unit {0}))
 
 module _ (Inner : Form Expr) (Timer : Form (Spot × List Expr)) where
   abbrev IsInside : Form Expr
-  IsInside x i j = IsParen Inner x i j ⊎ (IsActive Timer x i j ⊎ ⊥)
+  IsInside = Or (IsParen Inner) (Or (IsActive Timer) Never)
 
   abbrev IsFixed : Form Expr
-  IsFixed x i j = IsKeyword x i j ⊎ IsInside x i j
+  IsFixed = Or IsKeyword IsInside
 
   abbrev IsNumeral : Form Expr
-  IsNumeral x i j = Made Numeral SpellsNumber x i j ⊎ IsFixed x i j
+  IsNumeral = Or (Made Numeral SpellsNumber) IsFixed
 
   abbrev IsPrimary : Form Expr
-  IsPrimary x i j = Made Named SpellsName x i j ⊎ IsNumeral x i j
+  IsPrimary = Or (Made Named SpellsName) IsNumeral
 
   inside_begins : (P : Words → Type 0) → ((s : Spelling) (k : Words) → P (Fixed mark.Open s ∷ k)) → ((s : Spelling) (k : Words) → P (Fixed mark.Active s ∷ k))
       → (x : Expr) (i j : Words) → IsInside x i j → P i
@@ -202,37 +203,28 @@ module _ (Inner : Form Expr) (Timer : Form (Spot × List Expr)) where
     where
       none : (v : KeywordValue) → is_some (by_mark unary_of (Some (value_mark v))) ≡ false
       none value.True = refl
-      none value.False = refl
-      none value.Null = refl
-      none value.Now = refl
-      none value.SelfPid = refl
-      none value.Parent = refl
-      none value.Offspring = refl
-      none value.Sender = refl
+      none v = refl
 
   no_unary : (x : Expr) (i j : Words) → SpellsPrimary Inner Timer x i j → sees_unary i ≡ false
   unfolding unary_at mark_at front
   no_unary = primary_begins (λ i. sees_unary i ≡ false) (λ x k. refl) (λ n k. refl) no_unary_value (λ s k. refl) (λ s k. refl) Inner Timer
 
+  active_to : (x : Expr) (i j : Words) → IsActive Timer x i j → SpellsPrimary Inner Timer x i j
+  active_to x i j s =
+      let F : Expr → Type 0 = λ y. SpellsPrimary Inner Timer y i j in
+      let R : List Expr → Type 0 = λ es. Both (IsMark mark.Active) (Behind mark.Open (Before Timer mark.Close)) (s.0.0, (s.0.1.0, es)) i j in
+      subst F (sym s.1) (subst R (sym (exprs_are s.0.1.1)) s.2)
+
+  keyword_to : (x : Expr) (i j : Words) → IsKeyword x i j → SpellsPrimary Inner Timer x i j
+  keyword_to x i j s = let F : Expr → Type 0 = λ y. SpellsPrimary Inner Timer y i j in subst F (sym s.1) s.2.1
+
+  paren_to : (x : Expr) (i j : Words) → IsParen Inner x i j → SpellsPrimary Inner Timer x i j
+  paren_to x i j s = let F : Expr → Type 0 = λ y. SpellsPrimary Inner Timer y i j in subst F (sym s.1) s.2
+
   primary_to : (x : Expr) (i j : Words) → IsPrimary x i j → SpellsPrimary Inner Timer x i j
-  primary_to x i j s = let Q : Expr → Type 0 = λ y. SpellsPrimary Inner Timer y i j in elim s as (λ _. SpellsPrimary Inner Timer x i j) [
-    | inl t ↦ subst Q (sym t.1) t.2
-    | inr t ↦ elim t as (λ _. SpellsPrimary Inner Timer x i j) [
-      | inl u ↦ subst Q (sym u.1) u.2
-      | inr u ↦ elim u as (λ _. SpellsPrimary Inner Timer x i j) [
-        | inl v ↦ subst Q (sym v.1) v.2.1
-        | inr v ↦ elim v as (λ _. SpellsPrimary Inner Timer x i j) [
-          | inl w ↦ subst Q (sym w.1) w.2
-          | inr w ↦ elim w as (λ _. SpellsPrimary Inner Timer x i j) [
-            | inl y ↦
-                let R : List Expr → Type 0 = λ es. Both (IsMark mark.Active) (Behind mark.Open (Before Timer mark.Close)) (y.0.0, (y.0.1.0, es)) i j in
-                subst Q (sym y.1) (subst R (sym (exprs_are y.0.1.1)) y.2)
-            | inr y ↦ absurd y
-          ]
-        ]
-      ]
-    ]
-  ]
+  primary_to =
+      either_as (made_as (SpellsPrimary Inner Timer) Named) (either_as (made_as (SpellsPrimary Inner Timer) Numeral)
+      (either_as keyword_to (either_as paren_to (either_as active_to (λ x i j s. absurd s)))))
 
   primary_from : (x : Expr) (i j : Words) → SpellsPrimary Inner Timer x i j → IsPrimary x i j
   primary_from (Named x) i j s = inl (x, refl, s)
@@ -242,10 +234,6 @@ module _ (Inner : Form Expr) (Timer : Form (Spot × List Expr)) where
   primary_from (Active w timer values) i j s = inr (inr (inr (inr (inl ((w, (timer, exprs_in values)), ap (Active w timer) (sym (exprs_again values)), s)))))
   primary_from (Unary o w e) i j s = absurd s
   primary_from (Chain e links) i j s = absurd s
-
-like_keyword : (x y : KeywordValue × Spelling) → ◌≡◌ {A = KeywordValue × Spelling} (x.0, erased_word x.1) (y.0, erased_word y.1)
-    → erased_expr (keyword_with x) ≡ erased_expr (keyword_with y)
-like_keyword x y e = ap keyword_with e
 
 keyword_begins : (x : Expr) (i j : Words) → IsKeyword x i j → sees_value i ≡ true
 keyword_begins x i j s = ap sees_value s.2.1 ∙ ap is_some (value_at_again s.0.0 s.0.1 j)
@@ -292,7 +280,7 @@ module _ (r : Readers) (Inner MoreInner : Form Expr) (Timer MoreTimer : Form (Sp
       (either_law sees_name name_front (made_law Named (λ x y e. ap Named e) name_law)
       (either_law sees_number number_front (made_law Numeral (λ x y e. ap Numeral e) number_law)
       (first_law sees_value value_front
-      (made_law keyword_with like_keyword (marked_law value_at value_mark (λ v. Unit {0}) (λ i v e. tt) (λ v s j e. value_at_again v s j) value.Now tt))
+      (made_law keyword_with (λ x y n. ap keyword_with n) (marked_law value_at value_mark (λ v. Unit {0}) (λ i v e. tt) (λ v s j e. value_at_again v s j) value.Now tt))
       within
       keyword_begins (λ x i j s t. no_value Inner Timer x i j s))
       (λ x i j s. number_begins s.0 i j s.2) (λ x i j s t. no_number Inner Timer x i j s))
@@ -317,11 +305,6 @@ module _ (P : Form Expr) where
   unary_begins : (x : Expr) (i j : Words) → IsUnary P x i j → sees_unary i ≡ true
   unary_begins x i j s = ap sees_unary s.2.1.1 ∙ ap is_some (unary_at_again s.0.0.0 s.0.0.1 s.2.0)
 
-like_unary : (x y : (UnaryOperator × Spelling) × Expr)
-    → ◌≡◌ {A = (UnaryOperator × Spelling) × Expr} ((x.0.0, erased_word x.0.1), erased_expr x.1) ((y.0.0, erased_word y.0.1), erased_expr y.1)
-    → erased_expr (unary_with x) ≡ erased_expr (unary_with y)
-like_unary x y e = ap unary_with e
-
 module _ {operand : Parser Expr} {P M : Form Expr} (a : Law operand P M Anywhere erased_expr) where
   pub unary_law : ((x : Expr) (i j : Words) → P x i j → sees_unary i ≡ false)
       → Law (either sees_unary (made unary_with (marked unary_at unary_mark ⊗ operand)) operand) (λ x i j. P x i j ⊎ SpellsUnary P x i j) (λ x i j. M x i j ⊎ SpellsUnary M x i j)
@@ -329,32 +312,21 @@ module _ {operand : Parser Expr} {P M : Form Expr} (a : Law operand P M Anywhere
   unary_law none =
       as_law (unary_to P) (unary_from P) (unary_to M)
       (either_law sees_unary unary_front
-      (made_law unary_with like_unary
+      (made_law unary_with (λ x y n. ap unary_with n)
       (both_law (marked_law unary_at unary_mark (λ o. Unit {0}) (λ i o e. tt) (λ o s j e. unary_at_again o s j) unary.Minus tt) a (λ y m j s t. tt)))
       a (unary_begins P) (λ x i j s t. none x i j s))
 
 -- ---- levels
 
-level_zero : (r : Readers) → level r zero ≡ primary r
-unfolding level
-level_zero r = refl
-
-level_one : (r : Readers) → level r (suc zero) ≡ either sees_unary (made unary_with (marked unary_at unary_mark ⊗ primary r)) (primary r)
-unfolding level signed
-level_one r = refl
-
-level_more : (r : Readers) (k : ℕ) → level r (suc (suc k)) ≡ chain (level r (suc k)) (suc (suc k))
-unfolding level
-level_more r k = refl
-
 module _ (r : Readers) (Inner MoreInner : Form Expr) (Timer MoreTimer : Form (Spot × List Expr))
     (within : Rules (inside r) (IsInside Inner Timer) (IsInside MoreInner MoreTimer) Anywhere erased_expr) where
   pub level_law : (k : ℕ) → Law (level r k) (SpellsAt Inner Timer k) (SpellsAt MoreInner MoreTimer k) (Stops k) erased_expr
-  level_law zero = same_law (λ i. sym (ap (λ p. p i) (level_zero r))) (stops_law (λ j t. tt) (primary_law r Inner MoreInner Timer MoreTimer within))
+  unfolding signed
+  level_law zero = same_law (λ i. sym (level_zero r zero i refl)) (stops_law (λ j t. tt) (primary_law r Inner MoreInner Timer MoreTimer within))
   level_law (suc zero) =
-      same_law (λ i. sym (ap (λ p. p i) (level_one r)))
+      same_law (λ i. sym (level_one r (suc zero) i refl))
       (stops_law (λ j t. tt) (unary_law (primary_law r Inner MoreInner Timer MoreTimer within) (no_unary Inner Timer)))
-  level_law (suc (suc k)) = same_law (λ i. sym (ap (λ p. p i) (level_more r k))) (chain_law (suc k) (level_law (suc k)))
+  level_law (suc (suc k)) = same_law (λ i. sym (level_clause r k i)) (chain_law (suc k) (level_law (suc k)))
 
 -- ---- inside one more pair of parentheses
 
@@ -369,30 +341,6 @@ stops_at_close k s j o e = absurd cc
 close_no_open : (s : Spelling) (j : Words) → sees mark.Open (Fixed mark.Close s ∷ j) ≡ false
 unfolding sees front same_mark
 close_no_open s j = refl
-
-paren_none : (readers zero).paren ≡ too_deep
-unfolding readers
-paren_none = refl
-
-active_none : (readers zero).active ≡ deep_active
-unfolding readers
-active_none = refl
-
-args_none : (readers zero).args ≡ no_args
-unfolding readers
-args_none = refl
-
-paren_more : (d : ℕ) → (readers (suc d)).paren ≡ paren_of (expr d)
-unfolding readers
-paren_more d = refl
-
-active_more : (d : ℕ) → (readers (suc d)).active ≡ active_of (readers d).args
-unfolding readers
-active_more d = refl
-
-args_more : (d : ℕ) → (readers (suc d)).args ≡ in_parentheses (expr d)
-unfolding readers
-args_more d = refl
 
 -- ---- where nothing more may stand inside
 
@@ -470,10 +418,6 @@ timer_in : (d : ℕ) → AreRead d
     → Law (name ⊗ (readers d).args) (SpellsTimer (suc d)) (SpellsTimer (suc (suc d))) (λ j. sees mark.Open j ≡ false) (λ x. (erased_name x.0, map erased_expr x.1))
 timer_in d a = as_law (λ x i j s. s) (λ x i j s. s) (λ x i j s. s) (both_law name_law a.args (λ y m j s t. tt))
 
-like_paren : (x y : Spelling × Expr) → ◌≡◌ {A = Spelling × Expr} (erased_word x.0, erased_expr x.1) (erased_word y.0, erased_expr y.1)
-    → erased_expr (paren_with x) ≡ erased_expr (paren_with y)
-like_paren x y e = ap paren_with e
-
 erased_active : (x : Spelling × (Spot × List Expr)) → erased_expr (active_with x) ≡ active_with (erased_word x.0, (erased_name x.1.0, map erased_expr x.1.1))
 erased_active x = ap (Active (erased_word x.0) (erased_name x.1.0)) (erased_listed x.1.1)
 
@@ -485,7 +429,7 @@ like_active x y e = erased_active x ∙ ap active_with e ∙ sym (erased_active 
 paren_of_law : (d : ℕ) → AreRead d → Law (paren_of (expr d)) (IsParen (SpellsInner (suc d))) (IsParen (SpellsInner (suc (suc d)))) Anywhere erased_expr
 unfolding paren_of
 paren_of_law d a =
-    made_law paren_with like_paren (both_law (mark_law mark.Open) (before_law mark.Close (expr_in d a) (stops_at_close loosest)) (λ y m j s t. tt))
+    made_law paren_with (λ x y n. ap paren_with n) (both_law (mark_law mark.Open) (before_law mark.Close (expr_in d a) (stops_at_close loosest)) (λ y m j s t. tt))
 
 active_of_law : (d : ℕ) → AreRead d → Law (active_of (readers d).args) (IsActive (SpellsTimer (suc d))) (IsActive (SpellsTimer (suc (suc d)))) Anywhere erased_expr
 unfolding active_of
@@ -497,8 +441,8 @@ inside_more : (d : ℕ) → AreRead d
     → Rules (inside (readers (suc d))) (IsInside (SpellsInner (suc d)) (SpellsTimer (suc d))) (IsInside (SpellsInner (suc (suc d))) (SpellsTimer (suc (suc d)))) Anywhere erased_expr
 inside_more d a =
     inside_rules (readers (suc d)) (SpellsInner (suc d)) (SpellsInner (suc (suc d))) (SpellsTimer (suc d)) (SpellsTimer (suc (suc d)))
-    (same_rules (λ i. sym (ap (λ p. p i) (paren_more d))) (paren_of_law d a).rules)
-    (same_rules (λ i. sym (ap (λ p. p i) (active_more d))) (active_of_law d a).rules)
+    (same_rules (λ i. sym (paren_clause d i)) (paren_of_law d a).rules)
+    (same_rules (λ i. sym (active_clause d i)) (active_of_law d a).rules)
 
 inside_zero : (i : Words) → either (sees mark.Open) too_deep (either (sees mark.Active) deep_active refuse) i ≡ inside (readers zero) i
 unfolding readers
@@ -507,14 +451,14 @@ inside_zero i = refl
 are_read : (d : ℕ) → AreRead d
 are_read zero = record {
   within = same_rules inside_zero inside_none;
-  args = same_law (λ i. sym (ap (λ p. p i) args_none)) no_args_law;
+  args = same_law (λ i. sym (args_none zero i refl)) no_args_law;
 }
 are_read (suc d) =
     let below = are_read d in
     record {
       within = inside_more d below;
       args =
-          same_law (λ i. sym (ap (λ p. p i) (args_more d)))
+          same_law (λ i. sym (args_clause d i))
           (in_parentheses_law (expr_in d below) (expr_takes d) (stops_at_comma loosest) (stops_at_close loosest) (stops_last loosest));
     }
 

@@ -17,6 +17,10 @@ use Rattle.sdl_read.proofs.Steps.{read_as, IsRest, rest_here, rest_on, StandsAt,
 abbrev pub Form : Type 0 → Type 1
 Form A = A → Words → Words → Type 0
 
+-- spelled by no words
+abbrev pub Never : {A : Type 0} → Form A
+Never x i j = ⊥
+
 -- wherever
 abbrev pub Anywhere : Words → Type 0
 Anywhere j = Unit {0}
@@ -336,6 +340,10 @@ module _ {A B : Type 0} {p : Parser A} {q : Parser B} {P M : Form A} {Q N : Form
 abbrev pub Made : {A B : Type 0} → (A → B) → Form A → Form B
 Made {A} f P y i j = (x : A) × (y ≡ f x) × P x i j
 
+-- a node that is spelled as what it is made of
+pub made_as : {A B : Type 0} (R : Form B) (f : A → B) (y : B) (i j : Words) → Made f (λ x. R (f x)) y i j → R y i j
+made_as {B = B} R f y i j s = let F : B → Type 0 = λ z. R z i j in subst F (sym s.1) s.2
+
 module _ {A B : Type 0} (f : A → B) {p : Parser A} {P M : Form A} {S : Words → Type 0} {e : A → A} (a : Rules p P M S e) where
   made_gives : (i : Words) (o : Outcome A) → Gives p P M S i o → Gives (made f p) (Made f P) (Made f M) S i (and_then o (λ x j. read_as (f x) j))
   made_gives i (Ok z) t = record {
@@ -423,6 +431,11 @@ module _ {A : Type 0} (m : Mark) {p : Parser A} {P M : Form A} {S : Words → Ty
 -- the one or the other
 abbrev pub Or : {A : Type 0} → Form A → Form A → Form A
 Or P Q x i j = P x i j ⊎ Q x i j
+
+pub either_as : {A : Type 0} {P Q R : Form A} → ((x : A) (i j : Words) → P x i j → R x i j) → ((x : A) (i j : Words) → Q x i j → R x i j)
+    → (x : A) (i j : Words) → Or P Q x i j → R x i j
+either_as this that x i j (inl s) = this x i j s
+either_as this that x i j (inr s) = that x i j s
 
 -- the first where the test holds, and else the second, where it holds before other words too
 module _ {A : Type 0} (begins : Words → Bool) {p q : Parser A} {P M Q N : Form A} {S : Words → Type 0} {e : A → A} (a : Rules p P M S e) (b : Rules q Q N S e)

@@ -12,7 +12,7 @@ pub level_one : (r : Readers) (k : ℕ) (i : Words) → k ≡ 1 → level r k i 
 unfolding level
 level_one r k i e = ap (λ n. level r n i) e
 
-level_clause : (r : Readers) (n : ℕ) (i : Words) → level r (suc (suc n)) i ≡ chain (level r (suc n)) (suc (suc n)) i
+pub level_clause : (r : Readers) (n : ℕ) (i : Words) → level r (suc (suc n)) i ≡ chain (level r (suc n)) (suc (suc n)) i
 unfolding level
 level_clause r n i = refl
 
@@ -38,15 +38,15 @@ pub args_none : (d : ℕ) (i : Words) → d ≡ 0 → (readers d).args i ≡ no_
 unfolding readers
 args_none d i e = ap (λ n. (readers n).args i) e
 
-paren_clause : (n : ℕ) (i : Words) → (readers (suc n)).paren i ≡ paren_of (expr n) i
+pub paren_clause : (n : ℕ) (i : Words) → (readers (suc n)).paren i ≡ paren_of (expr n) i
 unfolding readers
 paren_clause n i = refl
 
-active_clause : (n : ℕ) (i : Words) → (readers (suc n)).active i ≡ active_of (readers n).args i
+pub active_clause : (n : ℕ) (i : Words) → (readers (suc n)).active i ≡ active_of (readers n).args i
 unfolding readers
 active_clause n i = refl
 
-args_clause : (n : ℕ) (i : Words) → (readers (suc n)).args i ≡ in_parentheses (expr n) i
+pub args_clause : (n : ℕ) (i : Words) → (readers (suc n)).args i ≡ in_parentheses (expr n) i
 unfolding readers
 args_clause n i = refl
 

@@ -21,35 +21,15 @@ use Rattle.sdl_read.proofs.Steps.{read_as, rest_here, bind_is, chosen, if_true, 
 
 pub operator_of_again : (o : Operator) → operator_of (operator_mark o) ≡ Some o
 operator_of_again operator.Implies = refl
-operator_of_again operator.Or = refl
-operator_of_again operator.Xor = refl
-operator_of_again operator.And = refl
-operator_of_again operator.Equal = refl
-operator_of_again operator.NotEqual = refl
-operator_of_again operator.Less = refl
-operator_of_again operator.LessOrEqual = refl
-operator_of_again operator.Greater = refl
-operator_of_again operator.GreaterOrEqual = refl
-operator_of_again operator.Plus = refl
-operator_of_again operator.Minus = refl
-operator_of_again operator.Times = refl
-operator_of_again operator.Divide = refl
-operator_of_again operator.Mod = refl
-operator_of_again operator.Rem = refl
+operator_of_again o = refl
 
 pub value_of_again : (v : KeywordValue) → value_of (value_mark v) ≡ Some v
 value_of_again value.True = refl
-value_of_again value.False = refl
-value_of_again value.Null = refl
-value_of_again value.Now = refl
-value_of_again value.SelfPid = refl
-value_of_again value.Parent = refl
-value_of_again value.Offspring = refl
-value_of_again value.Sender = refl
+value_of_again v = refl
 
 pub unary_of_again : (o : UnaryOperator) → unary_of (unary_mark o) ≡ Some o
 unary_of_again unary.Minus = refl
-unary_of_again unary.Not = refl
+unary_of_again o = refl
 
 pub value_at_again : (v : KeywordValue) (s : Spelling) (j : Words) → value_at (Fixed (value_mark v) s ∷ j) ≡ Some v
 unfolding value_at mark_at front

@@ -11,7 +11,7 @@ use Rattle.sdl_tree.specs.Words.{Words, Spot, Fixed}
 use Rattle.sdl_read.specs.Reading.{Parser, ◌⊗◌, behind, made, either, maybe, front, sees, same_mark, name, separated, in_parentheses}
 use Rattle.sdl_read.specs.Parts.{ended, sees_one, signal_with, signal_name, signal, sig, signal_list_with, signal_list, signal_set_with, signal_set}
 use Rattle.sdl_read.proofs.Depth.{SameFront}
-use Rattle.sdl_read.proofs.Laws.{Form, Rules, Law, MaybeLaw, Anywhere, Takes, Made, Or, as_law, mark_law, both_law, behind_law, made_law, first_law, maybe_law}
+use Rattle.sdl_read.proofs.Laws.{Form, Rules, Law, MaybeLaw, Anywhere, Takes, Made, Or, either_as, as_law, mark_law, both_law, behind_law, made_law, first_law, maybe_law}
 use Rattle.sdl_read.proofs.ListLaws.{separated_law}
 use Rattle.sdl_read.proofs.PartLaws.{name_as, name_law, name_takes, in_parentheses_law, sig_law}
 use Rattle.sdl_read.proofs.ClosingLaws.{ended_at_law}
@@ -47,10 +47,10 @@ abbrev pub has_mark : Mark → List Mark → Bool
 has_mark m [] = false
 has_mark m (n ∷ ns) = same_mark n m || has_mark m ns
 
-or_left : (a b : Bool) → a ≡ true → (a || b) ≡ true
+pub or_left : (a b : Bool) → a ≡ true → (a || b) ≡ true
 or_left a b e = ap (λ c. c || b) e
 
-or_right : (a b : Bool) → b ≡ true → (a || b) ≡ true
+pub or_right : (a b : Bool) → b ≡ true → (a || b) ≡ true
 or_right true b e = refl
 or_right false b e = e
 
@@ -96,27 +96,23 @@ pub maybe_mark : {A : Type 0} (m : Mark) {p : Parser A} {P M : Form A} {S : Word
 maybe_mark m {P = P} a opens = maybe_law (sees m) (sees_front m) a.rules (no_mark m) (opens_seen m P opens)
 
 -- what is read, and the marks with one of which it begins
-pub record Choice {A : Type 0} (p : Parser A) (P M : Form A) (marks : List Mark) (erased : A → A) : Type 0 where
-  pub law : Law p P M Anywhere erased
+pub record Choice {A : Type 0} (p : Parser A) (P M : Form A) (S : Words → Type 0) (marks : List Mark) (erased : A → A) : Type 0 where
+  pub law : Law p P M S erased
   pub begins : (x : A) (i j : Words) → P x i j → BeginsOne marks i
 
-pub one_choice : {A : Type 0} (m : Mark) {p : Parser A} {P M : Form A} {e : A → A} → Law p P M Anywhere e → Opens m P → Choice p P M (m ∷ []) e
+pub one_choice : {A : Type 0} (m : Mark) {p : Parser A} {P M : Form A} {S : Words → Type 0} {e : A → A} → Law p P M S e → Opens m P → Choice p P M S (m ∷ []) e
 one_choice m a opens = record { law = a; begins = λ x i j s. inl (opens x i j s) }
 
 -- the first, where its mark stands, and else one of the others
-module _ {A : Type 0} (m : Mark) (ms : List Mark) {p q : Parser A} {P M Q N : Form A} {e : A → A} where
-  pub or_rules : has_mark m ms ≡ false → Law p P M Anywhere e → Opens m P → Rules q Q N Anywhere e → ((x : A) (i j : Words) → Q x i j → BeginsOne ms i)
-      → Choice (either (sees m) p q) (Or P Q) (Or M N) (m ∷ ms) e
+module _ {A : Type 0} (m : Mark) (ms : List Mark) {p q : Parser A} {P M Q N : Form A} {S : Words → Type 0} {e : A → A} where
+  pub or_rules : has_mark m ms ≡ false → Law p P M S e → Opens m P → Rules q Q N S e → ((x : A) (i j : Words) → Q x i j → BeginsOne ms i)
+      → Choice (either (sees m) p q) (Or P Q) (Or M N) S (m ∷ ms) e
   or_rules none a opens b begins = record {
     law = first_law (sees m) (sees_front m) a b (opens_seen m P opens) (λ x i j s t. begins_unseen m ms i none (begins x i j s));
-    begins = or_begins;
+    begins = either_as (λ x i j s. inl (opens x i j s)) (λ x i j s. inr (begins x i j s));
   }
-    where
-      or_begins : (x : A) (i j : Words) → Or P Q x i j → BeginsOne (m ∷ ms) i
-      or_begins x i j (inl s) = inl (opens x i j s)
-      or_begins x i j (inr s) = inr (begins x i j s)
 
-  pub or_choice : has_mark m ms ≡ false → Law p P M Anywhere e → Opens m P → Choice q Q N ms e → Choice (either (sees m) p q) (Or P Q) (Or M N) (m ∷ ms) e
+  pub or_choice : has_mark m ms ≡ false → Law p P M S e → Opens m P → Choice q Q N S ms e → Choice (either (sees m) p q) (Or P Q) (Or M N) S (m ∷ ms) e
   or_choice none a opens b = or_rules none a opens b.law.rules b.begins
 
 pub made_opens : {A B : Type 0} (f : A → B) (m : Mark) (P : Form A) → Opens m P → Opens m (Made f P)
@@ -133,15 +129,14 @@ at_one Q (m ∷ ms) at i (inl b) = subst Q (sym b.2) (at.0 b.0 b.1)
 at_one Q (m ∷ ms) at i (inr b) = at_one Q ms at.1 i b
 
 -- another name for a choice
-pub as_choice : {A : Type 0} {p : Parser A} {P M R O : Form A} {ms : List Mark} {e : A → A}
+pub as_choice : {A : Type 0} {p : Parser A} {P M R O : Form A} {S : Words → Type 0} {ms : List Mark} {e : A → A}
     → ((x : A) (i j : Words) → P x i j → R x i j) → ((x : A) (i j : Words) → R x i j → P x i j) → ((x : A) (i j : Words) → M x i j → O x i j)
-    → Choice p P M ms e → Choice p R O ms e
-as_choice to from to_more c =
-    record { law = as_law to from to_more c.law; begins = λ x i j s. c.begins x i j (from x i j s) }
+    → Choice p P M S ms e → Choice p R O S ms e
+as_choice to from to_more c = record { law = as_law to from to_more c.law; begins = λ x i j s. c.begins x i j (from x i j s) }
 
 -- [x], where x begins with one of these marks
-pub maybe_choice : {A : Type 0} (ms : List Mark) {p : Parser A} {P M : Form A} {e : A → A} → Choice p P M ms e
-    → MaybeLaw (maybe (sees_one ms) p) P M Anywhere (sees_one ms) e
+pub maybe_choice : {A : Type 0} (ms : List Mark) {p : Parser A} {P M : Form A} {S : Words → Type 0} {e : A → A} → Choice p P M S ms e
+    → MaybeLaw (maybe (sees_one ms) p) P M S (sees_one ms) e
 maybe_choice ms c = maybe_law (sees_one ms) (one_front ms) c.law.rules (none_at_end ms) (λ x i j s. begins_seen ms i (c.begins x i j s))
 
 -- ---- signals
