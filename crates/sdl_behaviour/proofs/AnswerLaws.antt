@@ -26,18 +26,12 @@ use Rattle.sdl_behaviour.proofs.WayLaws.{stops_at}
 value_compares : (v : KeywordValue) (s : Spelling) (k : Words) → sees_operator 4 (Fixed (value_mark v) s ∷ k) ≡ false
 unfolding operator_at mark_at front
 value_compares value.True s k = refl
-value_compares value.False s k = refl
-value_compares value.Null s k = refl
-value_compares value.Now s k = refl
-value_compares value.SelfPid s k = refl
-value_compares value.Parent s k = refl
-value_compares value.Offspring s k = refl
-value_compares value.Sender s k = refl
+value_compares v s k = refl
 
 unary_compares : (o : UnaryOperator) (s : Spelling) (k : Words) → sees_operator 4 (Fixed (unary_mark o) s ∷ k) ≡ false
 unfolding operator_at mark_at front
 unary_compares unary.Minus s k = refl
-unary_compares unary.Not s k = refl
+unary_compares o s k = refl
 
 -- no expression begins with a comparison
 no_comparison : (d : ℕ) (x : Expr) (i j : Words) → SpellsExpr d x i j → sees_operator 4 i ≡ false

@@ -28,37 +28,17 @@ name_passes x n i = refl
 value_passes : (v : KeywordValue) (s : Spelling) (n : ℕ) (i : Words) → comma_ahead n (Fixed (value_mark v) s ∷ i) ≡ comma_ahead n i
 unfolding comma_ahead look_at same_mark
 value_passes value.True s n i = refl
-value_passes value.False s n i = refl
-value_passes value.Null s n i = refl
-value_passes value.Now s n i = refl
-value_passes value.SelfPid s n i = refl
-value_passes value.Parent s n i = refl
-value_passes value.Offspring s n i = refl
-value_passes value.Sender s n i = refl
+value_passes v s n i = refl
 
 unary_passes : (o : UnaryOperator) (s : Spelling) (n : ℕ) (i : Words) → comma_ahead n (Fixed (unary_mark o) s ∷ i) ≡ comma_ahead n i
 unfolding comma_ahead look_at same_mark
 unary_passes unary.Minus s n i = refl
-unary_passes unary.Not s n i = refl
+unary_passes o s n i = refl
 
 operator_passes : (o : Operator) (s : Spelling) (n : ℕ) (i : Words) → comma_ahead n (Fixed (operator_mark o) s ∷ i) ≡ comma_ahead n i
 unfolding comma_ahead look_at same_mark
 operator_passes operator.Implies s n i = refl
-operator_passes operator.Or s n i = refl
-operator_passes operator.Xor s n i = refl
-operator_passes operator.And s n i = refl
-operator_passes operator.Equal s n i = refl
-operator_passes operator.NotEqual s n i = refl
-operator_passes operator.Less s n i = refl
-operator_passes operator.LessOrEqual s n i = refl
-operator_passes operator.Greater s n i = refl
-operator_passes operator.GreaterOrEqual s n i = refl
-operator_passes operator.Plus s n i = refl
-operator_passes operator.Minus s n i = refl
-operator_passes operator.Times s n i = refl
-operator_passes operator.Divide s n i = refl
-operator_passes operator.Mod s n i = refl
-operator_passes operator.Rem s n i = refl
+operator_passes o s n i = refl
 
 active_passes : (s : Spelling) (n : ℕ) (i : Words) → comma_ahead n (Fixed mark.Active s ∷ i) ≡ comma_ahead n i
 unfolding comma_ahead look_at same_mark
@@ -132,22 +112,12 @@ module _ (Inner : Expr → Words → Words → Type 0) (Timer : Spot × List Exp
   level_passes zero n x i j s = primary_passes n x i j s
   level_passes (suc zero) n x i j (inl s) = primary_passes n x i j s
   level_passes (suc zero) n (Unary o w e) i j (inr s) = ap (comma_ahead n) s.1 ∙ unary_passes o w n s.0 ∙ primary_passes n e s.0 j s.2
-  level_passes (suc zero) n (Named x) i j (inr s) = absurd s
-  level_passes (suc zero) n (Numeral x) i j (inr s) = absurd s
-  level_passes (suc zero) n (Keyword v w) i j (inr s) = absurd s
-  level_passes (suc zero) n (Paren w e) i j (inr s) = absurd s
-  level_passes (suc zero) n (Active w x values) i j (inr s) = absurd s
-  level_passes (suc zero) n (Chain e links) i j (inr s) = absurd s
+  level_passes (suc zero) n x i j (inr s) = absurd s
   level_passes (suc (suc k)) n x i j (inl s) = level_passes (suc k) n x i j s
   level_passes (suc (suc k)) n (Chain e links) i j (inr s) =
       level_passes (suc k) n e i s.0 s.1
       ∙ once_passes (SpellsLink (SpellsAt Inner Timer (suc k)) (suc (suc k))) (link_passes (suc k) (level_passes (suc k)) (suc (suc k))) n (links_in links) s.0 j s.2
-  level_passes (suc (suc k)) n (Named x) i j (inr s) = absurd s
-  level_passes (suc (suc k)) n (Numeral x) i j (inr s) = absurd s
-  level_passes (suc (suc k)) n (Keyword v w) i j (inr s) = absurd s
-  level_passes (suc (suc k)) n (Paren w e) i j (inr s) = absurd s
-  level_passes (suc (suc k)) n (Active w x values) i j (inr s) = absurd s
-  level_passes (suc (suc k)) n (Unary o w e) i j (inr s) = absurd s
+  level_passes (suc (suc k)) n x i j (inr s) = absurd s
 
 mutual
   inner_passes : (d : ℕ) → Passes (SpellsInner d)
@@ -207,20 +177,10 @@ module _ (Inner : Expr → Words → Words → Type 0) (Timer : Spot × List Exp
   behind_level zero x i j s y l e = behind_primary x i j s y l e
   behind_level (suc zero) x i j (inl s) y l e = behind_primary x i j s y l e
   behind_level (suc zero) (Unary o w f) i j (inr s) y l e = named_apart y i l e (ap sees_name s.1 ∙ no_name (unary_mark o) w s.0)
-  behind_level (suc zero) (Named x) i j (inr s) y l e = absurd s
-  behind_level (suc zero) (Numeral x) i j (inr s) y l e = absurd s
-  behind_level (suc zero) (Keyword v w) i j (inr s) y l e = absurd s
-  behind_level (suc zero) (Paren w f) i j (inr s) y l e = absurd s
-  behind_level (suc zero) (Active w x values) i j (inr s) y l e = absurd s
-  behind_level (suc zero) (Chain f links) i j (inr s) y l e = absurd s
+  behind_level (suc zero) x i j (inr s) y l e = absurd s
   behind_level (suc (suc k)) x i j (inl s) y l e = behind_level (suc k) x i j s y l e
   behind_level (suc (suc k)) (Chain f links) i j (inr s) y l e = at_link (suc k) links l s.0 j s.2 (behind_level (suc k) f i s.0 s.1 y l e)
-  behind_level (suc (suc k)) (Named x) i j (inr s) y l e = absurd s
-  behind_level (suc (suc k)) (Numeral x) i j (inr s) y l e = absurd s
-  behind_level (suc (suc k)) (Keyword v w) i j (inr s) y l e = absurd s
-  behind_level (suc (suc k)) (Paren w f) i j (inr s) y l e = absurd s
-  behind_level (suc (suc k)) (Active w x values) i j (inr s) y l e = absurd s
-  behind_level (suc (suc k)) (Unary o w f) i j (inr s) y l e = absurd s
+  behind_level (suc (suc k)) x i j (inr s) y l e = absurd s
 
 -- a parenthesis
 abbrev pub at_parenthesis : Words → Bool
@@ -229,21 +189,7 @@ at_parenthesis i = sees mark.Open i || sees mark.Close i
 operator_elsewhere : (o : Operator) (w : Spelling) (m : Words) → at_parenthesis (Fixed (operator_mark o) w ∷ m) ≡ false
 unfolding sees front same_mark
 operator_elsewhere operator.Implies w m = refl
-operator_elsewhere operator.Or w m = refl
-operator_elsewhere operator.Xor w m = refl
-operator_elsewhere operator.And w m = refl
-operator_elsewhere operator.Equal w m = refl
-operator_elsewhere operator.NotEqual w m = refl
-operator_elsewhere operator.Less w m = refl
-operator_elsewhere operator.LessOrEqual w m = refl
-operator_elsewhere operator.Greater w m = refl
-operator_elsewhere operator.GreaterOrEqual w m = refl
-operator_elsewhere operator.Plus w m = refl
-operator_elsewhere operator.Minus w m = refl
-operator_elsewhere operator.Times w m = refl
-operator_elsewhere operator.Divide w m = refl
-operator_elsewhere operator.Mod w m = refl
-operator_elsewhere operator.Rem w m = refl
+operator_elsewhere o w m = refl
 
 at_close : (s : Spelling) (j : Words) → at_parenthesis (Fixed mark.Close s ∷ j) ≡ true
 unfolding sees front same_mark

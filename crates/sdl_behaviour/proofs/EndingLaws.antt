@@ -1,5 +1,5 @@
 -- The laws of labels and terminators.
-use Rattle.std.proofs.Common.{◌≡◌, ◌⊎◌, inl, inr, true, false, ◌||◌, List, [], ◌∷◌, option_map, refl, sym, ap, subst}
+use Rattle.std.proofs.Common.{◌≡◌, ◌⊎◌, inl, inr, true, false, ◌||◌, List, [], ◌∷◌, option_map, refl, ap}
 use Rattle.sdl_tree.specs.declared.mark.Mark.{Mark}
 use Rattle.sdl_tree.specs.declared.mark.Mark.TheVariants as mark
 use Rattle.sdl_tree.specs.Erased.{erased_name, erased_next_state, erased_terminator}
@@ -12,7 +12,7 @@ use Rattle.sdl_behaviour.specs.Transitions.{label, next_state, next_with, next, 
 use Rattle.sdl_read.specs.Reading.{before, name, front, sees, same_mark, sees_name}
 use Rattle.sdl_read.proofs.ClosingLaws.{ended_law}
 use Rattle.sdl_read.proofs.Depth.{SameFront}
-use Rattle.sdl_read.proofs.Laws.{Form, Law, Anywhere, Made, Or, as_law, mark_law, both_law, before_law, made_law, either_law, maybe_law, optional_law}
+use Rattle.sdl_read.proofs.Laws.{Form, Law, Anywhere, Made, Or, made_as, either_as, as_law, mark_law, both_law, before_law, made_law, either_law, maybe_law, optional_law}
 use Rattle.sdl_read.proofs.PartLaws.{name_front, name_law}
 use Rattle.sdl_read.proofs.SignalLaws.{Choice, one_choice, or_choice, as_choice, AtEach, at_one}
 use Rattle.sdl_read.proofs.Steps.{sees_front, sees_at}
@@ -35,9 +35,8 @@ label_law =
 
 -- ---- terminators
 
-next_state_to : (x : NextState) (i j : Words) → Made Same (IsMark mark.Minus) x i j ⊎ Made To SpellsName x i j → SpellsNextState x i j
-next_state_to x i j (inl s) = let Q : NextState → Type 0 = λ y. SpellsNextState y i j in subst Q (sym s.1) s.2
-next_state_to x i j (inr s) = let Q : NextState → Type 0 = λ y. SpellsNextState y i j in subst Q (sym s.1) s.2
+next_state_to : (x : NextState) (i j : Words) → Or (Made Same (IsMark mark.Minus)) (Made To SpellsName) x i j → SpellsNextState x i j
+next_state_to = either_as (made_as SpellsNextState Same) (made_as SpellsNextState To)
 
 next_state_from : (x : NextState) (i j : Words) → SpellsNextState x i j → Made Same (IsMark mark.Minus) x i j ⊎ Made To SpellsName x i j
 next_state_from (Same w) i j s = inl (w, refl, s)
@@ -59,9 +58,7 @@ IsTerminator = Or (Made next_with (Both (IsMark mark.NextState) (Ended SpellsNex
     (Or (Made Stop (Ended (IsMark mark.Stop))) (Made join_with (Both (IsMark mark.Join) (Ended SpellsName))))
 
 terminator_to : (x : Terminator) (i j : Words) → IsTerminator x i j → SpellsTerminator x i j
-terminator_to x i j (inl s) = let Q : Terminator → Type 0 = λ y. SpellsTerminator y i j in subst Q (sym s.1) s.2
-terminator_to x i j (inr (inl s)) = let Q : Terminator → Type 0 = λ y. SpellsTerminator y i j in subst Q (sym s.1) s.2
-terminator_to x i j (inr (inr s)) = let Q : Terminator → Type 0 = λ y. SpellsTerminator y i j in subst Q (sym s.1) s.2
+terminator_to = either_as (made_as SpellsTerminator next_with) (either_as (made_as SpellsTerminator Stop) (made_as SpellsTerminator join_with))
 
 terminator_from : (x : Terminator) (i j : Words) → SpellsTerminator x i j → IsTerminator x i j
 terminator_from (Next w state) i j s = inl ((w, state), refl, s)
@@ -71,7 +68,7 @@ terminator_from (Join w label) i j s = inr (inr ((w, label), refl, s))
 abbrev terminator_marks : List Mark
 terminator_marks = mark.NextState ∷ mark.Stop ∷ mark.Join ∷ []
 
-terminator_choice : Choice terminator SpellsTerminator SpellsTerminator terminator_marks erased_terminator
+terminator_choice : Choice terminator SpellsTerminator SpellsTerminator Anywhere terminator_marks erased_terminator
 unfolding terminator next stop join same_mark
 terminator_choice =
     as_choice terminator_to terminator_from terminator_to

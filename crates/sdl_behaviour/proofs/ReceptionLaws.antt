@@ -1,6 +1,6 @@
 -- The law of a stimulus, where no condition and no priority stands behind it. Behind a stimulus that has no transition they may
 -- not stand in the grammar either, since they would be its own; behind others they may.
-use Rattle.std.proofs.Common.{◌≡◌, ℕ, suc, ◌⊎◌, inl, inr, true, false, ◌||◌, List, [], ◌∷◌, map, Option, Some, None, Bool, Ok, Err, if◌then◌else◌, refl, sym, ap, ◌∙◌, subst}
+use Rattle.std.proofs.Common.{◌≡◌, ℕ, suc, inl, inr, true, false, ◌||◌, List, [], ◌∷◌, map, Option, Some, None, Bool, Ok, Err, if◌then◌else◌, refl, sym, ap, ◌∙◌, subst}
 use Rattle.sdl_tree.specs.declared.mark.Mark.{Mark}
 use Rattle.sdl_tree.specs.declared.mark.Mark.TheVariants as mark
 use Rattle.sdl_tree.specs.declared.name.Spelling.{Spelling}
@@ -16,8 +16,9 @@ use Rattle.sdl_tree.specs.LeftOut.{PriorityHead}
 use Rattle.sdl_read.specs.Reading.{Refusal, Refused, Barred, Outcome, and_then, rest, front, sees, same_mark, sees_name}
 use Rattle.sdl_read.proofs.Depth.{SameFront}
 use Rattle.sdl_read.proofs.ExpressionLaws.{expr_law}
-use Rattle.sdl_read.proofs.Laws.{Law, MaybeLaw, Anywhere, Made, was_read, mark_law, as_law, stops_law, both_law, behind_law, made_law, either_law, maybe_law}
-use Rattle.sdl_read.proofs.Steps.{read_as, true_or_false, sees_ok, sees_front, sees_at}
+use Rattle.sdl_read.proofs.Laws.{Form, Law, MaybeLaw, Anywhere, Made, made_as, Or, either_as, was_read, mark_law, stops_law, both_law, behind_law, made_law, maybe_law}
+use Rattle.sdl_read.proofs.SignalLaws.{Choice, one_choice, or_choice, as_choice, at_one}
+use Rattle.sdl_read.proofs.Steps.{read_as, true_or_false, sees_ok, sees_front}
 use Rattle.sdl_behaviour.proofs.BarredLaws.{Bars, barred_law}
 use Rattle.sdl_behaviour.proofs.EndingLaws.{name_no_mark, terminator_begins}
 use Rattle.sdl_behaviour.proofs.StepLaws.{NoStatement}
@@ -25,7 +26,7 @@ use Rattle.sdl_behaviour.proofs.StimulusLaws.{ins_law, inputs_law, Saves, save_l
 use Rattle.sdl_behaviour.proofs.TransitionLaws.{trans_law, action_begins}
 use Rattle.sdl_behaviour.proofs.UnlessLaws.{wherever_law, unless_law}
 use Rattle.sdl_read.proofs.ClosingLaws.{ended_law}
-use Rattle.sdl_behaviour.proofs.WayLaws.{stops_end, sees_other, end_other}
+use Rattle.sdl_behaviour.proofs.WayLaws.{stops_end, end_other}
 
 -- ---- a transition begins with no mark that begins none of its statements
 
@@ -60,16 +61,16 @@ Alone j = NoStatement j × (sees mark.Provided j ≡ false) × (sees mark.Priori
 
 -- ---- the four stimuli
 
-abbrev IsInput : ℕ → Stimulus → Words → Words → Type 0
+abbrev IsInput : ℕ → Form Stimulus
 IsInput d = Made input_part_with (Both (IsMark mark.Input) (Both (Ended SpellsIns) (Both (Wherever mark.Provided (SpellsCondition d)) (SpellsTrans d))))
 
-abbrev IsPriority : ℕ → Stimulus → Words → Words → Type 0
+abbrev IsPriority : ℕ → Form Stimulus
 IsPriority d = Made priority_input_with (Both PriorityHead (Unless mark.Provided (SpellsTrans d)))
 
-abbrev IsSave : Stimulus → Words → Words → Type 0
+abbrev IsSave : Form Stimulus
 IsSave = Made save_with Saves
 
-abbrev IsContinuous : ℕ → Stimulus → Words → Words → Type 0
+abbrev IsContinuous : ℕ → Form Stimulus
 IsContinuous d = Made continuous_with (Both (IsMark mark.Provided) (Both (Ended (SpellsExpr d)) (Both (Wherever mark.Priority SpellsPriority) (SpellsTrans d))))
 
 alone_trans : (d : ℕ) → Law (trans d) (SpellsTrans d) (SpellsTrans (suc d)) Alone erased_transition
@@ -145,22 +146,18 @@ continuous_law d =
 
 -- ---- one of them
 
-abbrev SaveOrContinuous : ℕ → Stimulus → Words → Words → Type 0
-SaveOrContinuous d x i j = IsSave x i j ⊎ IsContinuous d x i j
+abbrev IsStimulus : ℕ → Form Stimulus
+IsStimulus d = Or (IsInput d) (Or (IsPriority d) (Or IsSave (IsContinuous d)))
 
-abbrev NoInput : ℕ → Stimulus → Words → Words → Type 0
-NoInput d x i j = IsPriority d x i j ⊎ SaveOrContinuous d x i j
-
-abbrev IsStimulus : ℕ → Stimulus → Words → Words → Type 0
-IsStimulus d x i j = IsInput d x i j ⊎ NoInput d x i j
-
-stimulus_to : (d : ℕ) (x : Stimulus) (i j : Words) → IsStimulus d x i j → SpellsStimulus d x i j
-stimulus_to d x i j (inl s) = let Q : Stimulus → Type 0 = λ y. SpellsStimulus d y i j in subst Q (sym s.1) s.2
-stimulus_to d x i j (inr (inl s)) =
+priority_to : (d : ℕ) (x : Stimulus) (i j : Words) → IsPriority d x i j → SpellsStimulus d x i j
+priority_to d x i j s =
     let h = s.2.1 in
     let Q : Stimulus → Type 0 = λ y. SpellsStimulus d y i j in subst Q (sym s.1) (h.0, h.1, (h.2.0, h.2.1, h.2.2, (s.2.0, h.2.3, s.2.2)))
-stimulus_to d x i j (inr (inr (inl s))) = let Q : Stimulus → Type 0 = λ y. SpellsStimulus d y i j in subst Q (sym s.1) s.2
-stimulus_to d x i j (inr (inr (inr s))) = let Q : Stimulus → Type 0 = λ y. SpellsStimulus d y i j in subst Q (sym s.1) s.2
+
+stimulus_to : (d : ℕ) (x : Stimulus) (i j : Words) → IsStimulus d x i j → SpellsStimulus d x i j
+stimulus_to d =
+    either_as (made_as (SpellsStimulus d) input_part_with)
+    (either_as (priority_to d) (either_as (made_as (SpellsStimulus d) save_with) (made_as (SpellsStimulus d) continuous_with)))
 
 stimulus_from : (d : ℕ) (x : Stimulus) (i j : Words) → SpellsStimulus d x i j → IsStimulus d x i j
 stimulus_from d (InputPart w inputs c t) i j s = inl ((w, (inputs, (c, t))), refl, s)
@@ -169,35 +166,22 @@ stimulus_from d (PriorityInput w inputs t) i j s =
 stimulus_from d (SavePart w items) i j s = inr (inr (inl ((w, items), refl, s)))
 stimulus_from d (ContinuousSignal w c n t) i j s = inr (inr (inr ((w, (c, (n, t))), refl, s)))
 
-continuous_other : (m : Mark) → same_mark mark.Provided m ≡ false → (d : ℕ) (x : Stimulus) (i j : Words) → IsContinuous d x i j → sees m i ≡ false
-continuous_other m e d x i j s = let b = s.2 in ap (sees m) b.1 ∙ sees_other m mark.Provided e s.0.0 b.0
+abbrev stimulus_marks : List Mark
+stimulus_marks = mark.Input ∷ mark.Priority ∷ mark.Save ∷ mark.Provided ∷ []
 
-save_other : (m : Mark) → same_mark mark.Save m ≡ false → same_mark mark.Provided m ≡ false → (d : ℕ) (x : Stimulus) (i j : Words) → SaveOrContinuous d x i j → sees m i ≡ false
-save_other m e f d x i j (inl s) = let b = s.2 in ap (sees m) b.1 ∙ sees_other m mark.Save e s.0.0 b.0
-save_other m e f d x i j (inr s) = continuous_other m f d x i j s
-
-priority_other : (m : Mark) → same_mark mark.Priority m ≡ false → same_mark mark.Save m ≡ false → same_mark mark.Provided m ≡ false
-    → (d : ℕ) (x : Stimulus) (i j : Words) → NoInput d x i j → sees m i ≡ false
-priority_other m e f g d x i j (inl s) = let h = s.2.1 in ap (sees m) h.1 ∙ sees_other m mark.Priority e s.0.0.0 h.0
-priority_other m e f g d x i j (inr s) = save_other m f g d x i j s
-
-one_stimulus_law : (d : ℕ) → Law (one_stimulus d) (SpellsStimulus d) (SpellsStimulus (suc d)) Alone erased_stimulus
+stimulus_choice : (d : ℕ) → Choice (one_stimulus d) (SpellsStimulus d) (SpellsStimulus (suc d)) Alone stimulus_marks erased_stimulus
 unfolding one_stimulus same_mark
-one_stimulus_law d =
-    as_law (stimulus_to d) (stimulus_from d) (stimulus_to (suc d))
-    (either_law (sees mark.Input) (sees_front mark.Input) (input_law d)
-    (either_law (sees mark.Priority) (sees_front mark.Priority) (priority_input_law d)
-    (either_law (sees mark.Save) (sees_front mark.Save) (stops_law (λ j t. tt) save_law) (continuous_law d)
-    (λ x i j s. let b = s.2 in sees_at mark.Save s.0.0 i b.0 b.1) (λ x i j s t. continuous_other mark.Save refl d x i j s))
-    (λ x i j s. let h = s.2.1 in sees_at mark.Priority s.0.0.0 i h.0 h.1) (λ x i j s t. save_other mark.Priority refl refl d x i j s))
-    (λ x i j s. let b = s.2 in sees_at mark.Input s.0.0 i b.0 b.1) (λ x i j s t. priority_other mark.Input refl refl refl d x i j s))
+stimulus_choice d =
+    as_choice (stimulus_to d) (stimulus_from d) (stimulus_to (suc d))
+    (or_choice mark.Input _ refl (input_law d) (λ x i j s. let b = s.2 in (s.0.0, b.0, b.1))
+    (or_choice mark.Priority _ refl (priority_input_law d) (λ x i j s. let h = s.2.1 in (s.0.0.0, h.0, h.1))
+    (or_choice mark.Save _ refl (stops_law (λ j t. tt) save_law) (λ x i j s. let b = s.2 in (s.0.0, b.0, b.1))
+    (one_choice mark.Provided (continuous_law d) (λ x i j s. let b = s.2 in (s.0.0, b.0, b.1))))))
 
 pub stimulus_begins : (d : ℕ) (x : Stimulus) (i j : Words) → SpellsStimulus d x i j → begins_stimulus i ≡ true
 unfolding begins_stimulus sees front same_mark
-stimulus_begins d (InputPart w inputs c t) i j s = ap begins_stimulus s.1
-stimulus_begins d (PriorityInput w inputs t) i j s = ap begins_stimulus s.1
-stimulus_begins d (SavePart w items) i j s = ap begins_stimulus s.1
-stimulus_begins d (ContinuousSignal w c n t) i j s = ap begins_stimulus s.1
+stimulus_begins d x i j s =
+    at_one (λ k. begins_stimulus k ≡ true) stimulus_marks ((λ s k. refl), ((λ s k. refl), ((λ s k. refl), ((λ s k. refl), tt)))) i ((stimulus_choice d).begins x i j s)
 
 stimulus_front : (i k : Words) → SameFront i k → begins_stimulus i ≡ begins_stimulus k
 unfolding begins_stimulus
@@ -214,4 +198,4 @@ alone_last = (refl, refl, refl)
 pub stimulus_law : (d : ℕ) → MaybeLaw (stimulus d) (SpellsStimulus d) (SpellsStimulus (suc d)) Alone begins_stimulus erased_stimulus
 unfolding stimulus
 stimulus_law d =
-    maybe_law begins_stimulus stimulus_front (one_stimulus_law d).rules stimulus_last (stimulus_begins d)
+    maybe_law begins_stimulus stimulus_front (stimulus_choice d).law.rules stimulus_last (stimulus_begins d)

@@ -18,9 +18,10 @@ use Rattle.sdl_behaviour.specs.Transitions.{begins_terminator, begins_action, be
 use Rattle.sdl_read.specs.Reading.{either, is_fixed, front, rest, sees, same_mark, sees_name}
 use Rattle.sdl_read.proofs.ClosingLaws.{tried, Named, named_law, nowhere_law, Drops, drops_law, ended_law, closed_law}
 use Rattle.sdl_read.proofs.Depth.{SameFront}
-use Rattle.sdl_read.proofs.Laws.{Law, MaybeLaw, Made, mark_law, as_law, stops_law, both_law, behind_law, made_law, either_law, maybe_law}
+use Rattle.sdl_read.proofs.Laws.{Law, MaybeLaw, Made, Or, made_as, either_as, mark_law, as_law, stops_law, both_law, behind_law, made_law, either_law, maybe_law}
 use Rattle.sdl_read.proofs.ListLaws.{separated_law}
 use Rattle.sdl_read.proofs.PartLaws.{whole, name_law, name_takes, in_parentheses_law}
+use Rattle.sdl_read.proofs.SignalLaws.{or_left, or_right}
 use Rattle.sdl_read.proofs.Steps.{read_as, true_or_false, sees_front, sees_at, sees_ok}
 use Rattle.sdl_behaviour.proofs.ConnectionLaws.{Connected, Connects, connection_law, connected_last}
 use Rattle.sdl_behaviour.proofs.EndingLaws.{name_no_mark}
@@ -40,9 +41,8 @@ IsAll = Made all_with (Both (IsMark mark.Asterisk) (InParentheses SpellsName))
 abbrev IsList : States → Words → Words → Type 0
 IsList = Made StateList (Separated SpellsName)
 
-states_to : (x : States) (i j : Words) → IsAll x i j ⊎ IsList x i j → SpellsStates x i j
-states_to x i j (inl s) = let Q : States → Type 0 = λ y. SpellsStates y i j in subst Q (sym s.1) s.2
-states_to x i j (inr s) = let Q : States → Type 0 = λ y. SpellsStates y i j in subst Q (sym s.1) s.2
+states_to : (x : States) (i j : Words) → Or IsAll IsList x i j → SpellsStates x i j
+states_to = either_as (made_as SpellsStates all_with) (made_as SpellsStates StateList)
 
 states_from : (x : States) (i j : Words) → SpellsStates x i j → IsAll x i j ⊎ IsList x i j
 states_from (StateList names) i j s = inr (names, refl, s)
@@ -74,13 +74,6 @@ named_among (y ∷ ys) t e =
       | inr s ↦ let found = named_among ys t (sym (ap (λ b. b || is_named ys t) s) ∙ e) in (found.0, Contains-append_right (y ∷ []) ys found.0 found.1, found.2)
     ]
 
-or_first : (b c : Bool) → b ≡ true → (b || c) ≡ true
-or_first b c e = ap (λ a. a || c) e
-
-or_second : (b c : Bool) → c ≡ true → (b || c) ≡ true
-or_second true c e = refl
-or_second false c e = e
-
 among_named : (xs : List Spot) (t : List ℕ) (x : Spot) → Contains xs x → t ≡ x.text → is_named xs t ≡ true
 unfolding is_named
 among_named [] t x c e = absurd (let less = c.1 in omega (arith, less))
@@ -89,9 +82,9 @@ among_named (y ∷ ys) t x c e = elim (Contains-append_cases (y ∷ []) ys x c) 
       elim (Contains-push_cases [] y x s) as (λ _. (bytes_eq y.text t || is_named ys t) ≡ true) [
         | inl none ↦ absurd (let less = none.1 in omega (arith, less))
         | inr same ↦
-            or_first (bytes_eq y.text t) (is_named ys t) ((bytes_eq-Decides y.text t).1 (ap (λ (z : Spot). z.text) same ∙ sym e))
+            or_left (bytes_eq y.text t) (is_named ys t) ((bytes_eq-Decides y.text t).1 (ap (λ (z : Spot). z.text) same ∙ sym e))
       ]
-  | inr s ↦ or_second (bytes_eq y.text t) (is_named ys t) (among_named ys t x s e)
+  | inr s ↦ or_right (bytes_eq y.text t) (is_named ys t) (among_named ys t x s e)
 ]
 
 one_there : (xs : List Spot) (y : Spot) (i : Words) → one_of xs (word.Name y ∷ i) ≡ tried (is_named xs y.text) y i
@@ -191,9 +184,8 @@ state_law d =
 abbrev pub PartStops : Words → Type 0
 PartStops j = Stated j × Connected j
 
-part_to : (d : ℕ) (x : BodyPart) (i j : Words) → Made state_with (IsState d) x i j ⊎ Made free_with (Connects d) x i j → SpellsBodyPart d x i j
-part_to d x i j (inl s) = let Q : BodyPart → Type 0 = λ y. SpellsBodyPart d y i j in subst Q (sym s.1) s.2
-part_to d x i j (inr s) = let Q : BodyPart → Type 0 = λ y. SpellsBodyPart d y i j in subst Q (sym s.1) s.2
+part_to : (d : ℕ) (x : BodyPart) (i j : Words) → Or (Made state_with (IsState d)) (Made free_with (Connects d)) x i j → SpellsBodyPart d x i j
+part_to d = either_as (made_as (SpellsBodyPart d) state_with) (made_as (SpellsBodyPart d) free_with)
 
 part_from : (d : ℕ) (x : BodyPart) (i j : Words) → SpellsBodyPart d x i j → Made state_with (IsState d) x i j ⊎ Made free_with (Connects d) x i j
 part_from d (StatePart names stimuli) i j s = inl ((names, stimuli), refl, s)
@@ -219,8 +211,8 @@ none_last = refl
 
 part_begins : (d : ℕ) (x : BodyPart) (i j : Words) → SpellsBodyPart d x i j → begins_body_part i ≡ true
 unfolding begins_body_part
-part_begins d (StatePart names stimuli) i j s = or_first (sees mark.State i) (sees mark.Connection i) (sees_at mark.State s.0 i s.1 s.2)
-part_begins d (FreeAction w label transition) i j s = or_second (sees mark.State i) (sees mark.Connection i) (sees_at mark.Connection w i s.0 s.1)
+part_begins d (StatePart names stimuli) i j s = or_left (sees mark.State i) (sees mark.Connection i) (sees_at mark.State s.0 i s.1 s.2)
+part_begins d (FreeAction w label transition) i j s = or_right (sees mark.State i) (sees mark.Connection i) (sees_at mark.Connection w i s.0 s.1)
 
 pub part_last : PartStops []
 unfolding begins_stimulus sees front

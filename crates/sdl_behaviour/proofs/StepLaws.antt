@@ -10,6 +10,7 @@ use Rattle.sdl_behaviour.specs.Transitions.{label, terminator, begins_terminator
 use Rattle.sdl_read.specs.Reading.{Parser, Outcome, and_then, ◌⊗◌, made, either, maybe, front, sees, sees_name}
 use Rattle.sdl_read.proofs.Depth.{SameFront}
 use Rattle.sdl_read.proofs.Laws.{Form, Law, MaybeLaw, Anywhere, Made, stops_law, both_law, made_law, node_law, either_law, maybe_law}
+use Rattle.sdl_read.proofs.SignalLaws.{or_right}
 use Rattle.sdl_read.proofs.Steps.{read_as, sees_front}
 use Rattle.sdl_behaviour.proofs.EndingLaws.{label_law, terminator_law, begins_a_terminator, terminator_front, terminator_unnamed}
 use Rattle.sdl_read.proofs.ListLaws.{erased_both, until_by, until_law}
@@ -19,10 +20,6 @@ use Rattle.sdl_behaviour.proofs.WayLaws.{name_begins}
 -- where a transition stops
 abbrev pub NoStatement : Words → Type 0
 NoStatement j = begins_statement j ≡ false
-
-or_right : (b c : Bool) → c ≡ true → (b || c) ≡ true
-or_right true c e = refl
-or_right false c e = e
 
 action_front : (i k : Words) → SameFront i k → begins_action i ≡ begins_action k
 unfolding begins_action

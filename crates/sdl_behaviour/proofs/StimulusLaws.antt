@@ -16,7 +16,7 @@ use Rattle.sdl_read.specs.Expressions.{expr}
 use Rattle.sdl_read.specs.Parts.{ended, sig}
 use Rattle.sdl_read.specs.Reading.{and_then, separated, ◌⊗◌, behind, made, expect, name, number, front, sees, same_mark, sees_name, enclosed}
 use Rattle.sdl_read.proofs.ExpressionLaws.{expr_law}
-use Rattle.sdl_read.proofs.Laws.{Form, Law, MaybeLaw, Anywhere, Takes, Made, mark_law, as_law, stops_law, both_law, behind_law, made_law, either_law, maybe_law, optional_law}
+use Rattle.sdl_read.proofs.Laws.{Form, Law, MaybeLaw, Anywhere, Takes, Made, Or, made_as, either_as, mark_law, as_law, stops_law, both_law, behind_law, made_law, either_law, maybe_law, optional_law}
 use Rattle.sdl_read.proofs.ListLaws.{separated_law, spaced_law}
 use Rattle.sdl_read.proofs.PartLaws.{name_front, name_law, number_law, maybe_enclosed, sig_law}
 use Rattle.sdl_read.proofs.SignalLaws.{record_law, maybe_mark, sig_takes}
@@ -80,9 +80,8 @@ AllInputs = Made InputAll (IsMark mark.Asterisk)
 abbrev SomeInputs : Inputs → Words → Words → Type 0
 SomeInputs = Made InputList (Separated SpellsIn1)
 
-ins_to : (x : Inputs) (i j : Words) → AllInputs x i j ⊎ SomeInputs x i j → SpellsIns x i j
-ins_to x i j (inl s) = let Q : Inputs → Type 0 = λ y. SpellsIns y i j in subst Q (sym s.1) s.2
-ins_to x i j (inr s) = let Q : Inputs → Type 0 = λ y. SpellsIns y i j in subst Q (sym s.1) s.2
+ins_to : (x : Inputs) (i j : Words) → Or AllInputs SomeInputs x i j → SpellsIns x i j
+ins_to = either_as (made_as SpellsIns InputAll) (made_as SpellsIns InputList)
 
 ins_from : (x : Inputs) (i j : Words) → SpellsIns x i j → AllInputs x i j ⊎ SomeInputs x i j
 ins_from (InputAll asterisk) i j s = inl (asterisk, refl, s)
@@ -121,9 +120,8 @@ AllSaved = Made SaveAll (IsMark mark.Asterisk)
 abbrev SomeSaved : Saved → Words → Words → Type 0
 SomeSaved = Made SaveList (Separated SpellsSig)
 
-saved_to : (x : Saved) (i j : Words) → AllSaved x i j ⊎ SomeSaved x i j → SpellsSaved x i j
-saved_to x i j (inl s) = let Q : Saved → Type 0 = λ y. SpellsSaved y i j in subst Q (sym s.1) s.2
-saved_to x i j (inr s) = let Q : Saved → Type 0 = λ y. SpellsSaved y i j in subst Q (sym s.1) s.2
+saved_to : (x : Saved) (i j : Words) → Or AllSaved SomeSaved x i j → SpellsSaved x i j
+saved_to = either_as (made_as SpellsSaved SaveAll) (made_as SpellsSaved SaveList)
 
 saved_from : (x : Saved) (i j : Words) → SpellsSaved x i j → AllSaved x i j ⊎ SomeSaved x i j
 saved_from (SaveAll asterisk) i j s = inl (asterisk, refl, s)

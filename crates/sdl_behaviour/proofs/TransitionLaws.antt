@@ -1,5 +1,5 @@
 -- The laws of actions, decisions and transitions.
-use Rattle.std.proofs.Common.{◌≡◌, ℕ, zero, suc, ◌⊎◌, inl, inr, true, false, ◌||◌, List, [], ◌∷◌, map, Option, Some, None, option_map, refl, sym, ap, ◌∙◌, subst}
+use Rattle.std.proofs.Common.{◌≡◌, ℕ, zero, suc, inl, inr, true, false, ◌||◌, List, [], ◌∷◌, map, Option, Some, None, option_map, refl, sym, ap, ◌∙◌, subst}
 use Rattle.sdl_tree.specs.declared.mark.Mark.{Mark}
 use Rattle.sdl_tree.specs.declared.mark.Mark.TheVariants as mark
 use Rattle.sdl_tree.specs.declared.name.Spelling.{Spelling}
@@ -17,7 +17,7 @@ use Rattle.sdl_behaviour.specs.Transitions.{begins_terminator, begins_action, be
 use Rattle.sdl_tree.specs.Depth.{IsOpening}
 use Rattle.sdl_read.specs.Reading.{Parser, too_deep, refuse, ◌⊗◌, behind, made, either, front, sees, same_mark, sees_name, enclosed}
 use Rattle.sdl_read.proofs.ExpressionLaws.{expr_law}
-use Rattle.sdl_read.proofs.Laws.{Form, Rules, Law, MaybeLaw, Anywhere, Made, Or, mark_law, refuse_rules, same_rules, shut_first, shut_rules, as_law, both_law, behind_law, before_law, made_law, either_rules, optional_law}
+use Rattle.sdl_read.proofs.Laws.{Form, Never, Rules, Law, MaybeLaw, Anywhere, Made, Or, made_as, either_as, mark_law, refuse_rules, same_rules, shut_first, shut_rules, as_law, both_law, behind_law, before_law, made_law, either_rules, optional_law}
 use Rattle.sdl_read.proofs.ListLaws.{repeated_law}
 use Rattle.sdl_read.proofs.PartLaws.{nameless, enclosed_law}
 use Rattle.sdl_read.proofs.SignalLaws.{record_law, maybe_mark, BeginsOne, Choice, or_rules, or_choice, as_choice, AtEach, at_one}
@@ -190,8 +190,8 @@ decision_more : (d : ℕ) → decision (suc d) ≡ decision_of d (trans d)
 unfolding decision
 decision_more d = refl
 
-abbrev IsDecision : ℕ → Action → Words → Words → Type 0
-IsDecision d x i j = Decides d x i j ⊎ ⊥
+abbrev IsDecision : ℕ → Form Action
+IsDecision d = Or (Decides d) Never
 
 abbrev perhaps : Parser Action → Parser Action
 perhaps inner = either (sees mark.Decision) inner refuse
@@ -230,13 +230,9 @@ decides_to (suc d) x i j s =
     subst Q (sym s.1) (subst F (sym (parts_are z.1.1.0)) (subst G (sym (else_are z.1.1.1)) s.2))
 
 action_to : (d : ℕ) (x : Action) (i j : Words) → IsAction d x i j → SpellsAction d x i j
-action_to d x i j (inl s) = let Q : Action → Type 0 = λ y. SpellsAction d y i j in subst Q (sym s.1) s.2
-action_to d x i j (inr (inl s)) = let Q : Action → Type 0 = λ y. SpellsAction d y i j in subst Q (sym s.1) s.2
-action_to d x i j (inr (inr (inl s))) = let Q : Action → Type 0 = λ y. SpellsAction d y i j in subst Q (sym s.1) s.2
-action_to d x i j (inr (inr (inr (inl s)))) = let Q : Action → Type 0 = λ y. SpellsAction d y i j in subst Q (sym s.1) s.2
-action_to d x i j (inr (inr (inr (inr (inl s))))) = let Q : Action → Type 0 = λ y. SpellsAction d y i j in subst Q (sym s.1) s.2
-action_to d x i j (inr (inr (inr (inr (inr (inl s)))))) = decides_to d x i j s
-action_to d x i j (inr (inr (inr (inr (inr (inr s)))))) = absurd s
+action_to d =
+    either_as (made_as (SpellsAction d) task_with) (either_as (made_as (SpellsAction d) output_with) (either_as (made_as (SpellsAction d) set_with)
+    (either_as (made_as (SpellsAction d) reset_with) (either_as (made_as (SpellsAction d) create_with) (either_as (decides_to d) (λ x i j s. absurd s))))))
 
 decision_again : (w : Spelling) (question : Expr) (parts : Parts) (other : Otherwise)
     → decision_with (w, (question, (parts_in parts, else_in other))) ≡ Decision w question parts other
@@ -260,7 +256,7 @@ abbrev action_marks : List Mark
 action_marks = mark.Task ∷ mark.Output ∷ mark.Set ∷ mark.Reset ∷ mark.Create ∷ mark.Decision ∷ []
 
 action_choice_by : (d : ℕ) → Rules (perhaps (decision d)) (IsDecision d) (IsDecision (suc d)) Anywhere erased_action
-    → Choice (action d) (SpellsAction d) (SpellsAction (suc d)) action_marks erased_action
+    → Choice (action d) (SpellsAction d) (SpellsAction (suc d)) Anywhere action_marks erased_action
 unfolding action_of same_mark
 action_choice_by d r =
     as_choice (action_to d) (action_from d) (action_to (suc d))

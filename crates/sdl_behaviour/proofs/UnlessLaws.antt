@@ -8,7 +8,7 @@ use Rattle.sdl_tree.specs.Words.{Words, Fixed}
 use Rattle.sdl_behaviour.specs.Stimuli.{unless}
 use Rattle.sdl_read.specs.Reading.{Parser, Outcome, Refused, sees}
 use Rattle.sdl_read.proofs.Depth.{within}
-use Rattle.sdl_read.proofs.Laws.{Form, Gives, Law, MaybeLaw, Or, still, read_here, as_law, stops_rules, refuse_rules, either_rules, optional_law, none_begins, passes, some_read}
+use Rattle.sdl_read.proofs.Laws.{Form, Never, Gives, Law, MaybeLaw, Or, still, read_here, as_law, stops_rules, refuse_rules, either_rules, optional_law, none_begins, passes, some_read}
 use Rattle.sdl_read.proofs.Steps.{read_as, not_read, if_true, if_false, true_or_false, sees_ok, sees_at, sees_again, sees_front}
 
 module _ (m : Mark) where
@@ -107,9 +107,6 @@ module _ {A : Type 0} (m : Mark) {p : Parser A} {P M : Form A} {S : Words → Ty
     (apart : (x : A) (i j : Words) → P x i j → sees m j ≡ false → sees m i ≡ false) (apart_more : (x : A) (i j : Words) → M x i j → sees m j ≡ false → sees m i ≡ false) where
   abbrev Behind : Words → Type 0
   Behind j = S j × (sees m j ≡ false)
-
-  abbrev Never : Form A
-  Never x i j = ⊥
 
   -- either the mark is refused, or it is read
   tried_law : Law (unless m p) (Or Never P) (Or Never M) Behind e
