@@ -1,34 +1,31 @@
 -- The laws of channels and their connections.
-use Rattle.std.proofs.Common.{◌≡◌, ◌⊎◌, inl, inr, Bool, true, false, is_some, map, Option, Some, None, option_map, refl, sym, ap, ◌∙◌, subst}
+use Rattle.std.proofs.Common.{◌≡◌, ◌⊎◌, inl, inr, Bool, true, false, [], ◌∷◌, map, Option, option_map, refl, sym, ap, ◌∙◌, subst}
+use Rattle.sdl_tree.specs.Alike.{AreAlike}
 use Rattle.sdl_tree.specs.declared.mark.Mark.TheVariants as mark
 use Rattle.sdl_tree.specs.declared.name.Spelling.{Spelling}
-use Rattle.sdl_tree.specs.Erased.{erased_word, erased_name, erased_end, erased_item, erased_path, erased_channel, erased_connection}
+use Rattle.sdl_tree.specs.Erased.{erased_name, erased_end, erased_item, erased_path, erased_channel, erased_connection}
 use Rattle.sdl_tree.specs.Spells.{SpellsPoint, SpellsPath, SpellsNoDelay, SpellsChannel, SpellsConnect}
 use Rattle.sdl_tree.specs.Spells.Parts.{IsMark, Both, Behind, Followed, Optional, Separated, SpellsName, Ended, SpellsClosing, SpellsSigs}
 use Rattle.sdl_tree.specs.Tree.{ChannelEnd, Env, Agent, ChannelPath}
-use Rattle.sdl_tree.specs.Words.{Words, Spot}
-use Rattle.sdl_read.specs.Reading.{Parser, and_then, ◌⊗◌, behind, made, maybe, eat, front, rest, sees, same_mark, expect, name, separated}
+use Rattle.sdl_tree.specs.Words.{Words, Spot, Fixed}
+use Rattle.sdl_read.specs.Reading.{Outcome, ◌⊗◌, behind, eat, front, rest, sees, same_mark, name, separated}
 use Rattle.sdl_read.specs.Parts.{ended, tied, sig}
 use Rattle.sdl_parse.specs.Channels.{point, path_with, path, second_path, paths, channel_with, channel, connection_with, connect}
-use Rattle.sdl_read.proofs.Laws.{Law, Anywhere, Made, as_law, same_law, stops_law, Tied, tied_law, both_law, behind_law, made_law, either_law, maybe_law, optional_law}
-use Rattle.sdl_read.proofs.PartLaws.{mark_law, mark_takes, name_law}
+use Rattle.sdl_read.proofs.Laws.{GoodAfter, Gives, Law, Anywhere, Made, made_as, either_as, mark_law, as_law, Tied, tied_law, both_law, behind_law, made_law, either_law, optional_law}
+use Rattle.sdl_read.proofs.PartLaws.{name_law}
 use Rattle.sdl_read.proofs.ClosingLaws.{closing_begins, closing_law, ended_at_law, followed_law}
-use Rattle.sdl_read.proofs.SignalLaws.{record_law, Opens, mark_opens, behind_opens, maybe_mark, no_mark, sigs_law}
-use Rattle.sdl_read.proofs.Steps.{read_as, none_as, some_as, true_or_false, if_true, if_false, sees_at, sees_front, sees_ok, expect_again, after_seen, after_other}
+use Rattle.sdl_read.proofs.SignalLaws.{record_law, Opens, maybe_mark, sigs_law}
+use Rattle.sdl_read.proofs.Steps.{read_as, sees_at, sees_front, sees_ok, sees_again, after_seen, after_other, rest_again, alike_fixed, alike_from}
 use Rattle.sdl_parse.proofs.Stops.{opens_unseen, names_law, closed_same}
 
 pub point_law : Law point SpellsPoint SpellsPoint Anywhere erased_end
 unfolding point sees front same_mark
 point_law =
-    as_law point_to point_from point_to
+    as_law (either_as (made_as SpellsPoint Env) (made_as SpellsPoint Agent)) point_from (either_as (made_as SpellsPoint Env) (made_as SpellsPoint Agent))
     (either_law (sees mark.Env) (sees_front mark.Env) (made_law Env (λ x y n. ap Env n) (mark_law mark.Env)) (made_law Agent (λ x y n. ap Agent n) name_law)
     (λ x i j s. sees_at mark.Env s.0 i j s.2)
     (λ x i j s t. ap (sees mark.Env) s.2))
   where
-    point_to : (x : ChannelEnd) (i j : Words) → Made Env (IsMark mark.Env) x i j ⊎ Made Agent SpellsName x i j → SpellsPoint x i j
-    point_to x i j (inl s) = let Q : ChannelEnd → Type 0 = λ y. SpellsPoint y i j in subst Q (sym s.1) s.2
-    point_to x i j (inr s) = let Q : ChannelEnd → Type 0 = λ y. SpellsPoint y i j in subst Q (sym s.1) s.2
-
     point_from : (x : ChannelEnd) (i j : Words) → SpellsPoint x i j → Made Env (IsMark mark.Env) x i j ⊎ Made Agent SpellsName x i j
     point_from (Env w) i j s = inl (w, refl, s)
     point_from (Agent x) i j s = inr (x, refl, s)
@@ -48,67 +45,54 @@ path_law =
     record_law path_with (λ y. (y.from, (y.to, y.signals))) (λ x y n. ap path_with n) (λ x. refl) (λ y. refl) (behind_law mark.From points_law)
 
 path_opens : Opens mark.From SpellsPath
-path_opens x i j s = behind_opens mark.From points_law (x.from, (x.to, x.signals)) i j s
+path_opens x i j s = (s.0, s.1, s.2)
 
 second_law : Law second_path (Optional SpellsPath) (Optional SpellsPath) (λ j. Anywhere j × (sees mark.From j ≡ false)) (option_map erased_path)
 second_law = optional_law (maybe_mark mark.From path_law path_opens)
 
 -- ---- ["nodelay"]
 
--- whether there is one
-abbrev there : Parser (Option Spelling) → Parser Bool
-there p = made is_some p
+abbrev NoDelays : Words → Outcome Bool → Type 0
+NoDelays = Gives (eat mark.NoDelay) SpellsNoDelay SpellsNoDelay (λ j. sees mark.NoDelay j ≡ false)
 
-eat_seen : (i : Words) → sees mark.NoDelay i ≡ true → there (maybe (sees mark.NoDelay) (expect mark.NoDelay)) i ≡ eat mark.NoDelay i
-eat_seen i e =
-    let w = sees_ok mark.NoDelay i e in
-    ap (λ o. and_then o (λ x j. read_as (is_some x) j))
-    (if_true (sees mark.NoDelay i) (and_then (expect mark.NoDelay i) (λ x j. some_as x j)) (none_as i) e
-    ∙ ap (λ k. and_then (expect mark.NoDelay k) (λ x j. some_as x j)) w.1
-    ∙ ap (λ o. and_then o (λ x j. some_as x j)) (expect_again mark.NoDelay w.0 (rest i)))
-    ∙ ap (λ b. read_as b (rest i)) (sym e)
-    ∙ ap (λ k. read_as (sees mark.NoDelay i) k) (sym (after_seen mark.NoDelay i e))
+there : (s : Spelling) (k : Words) → eat mark.NoDelay (Fixed mark.NoDelay s ∷ k) ≡ read_as true k
+there s k =
+    let e = sees_again mark.NoDelay s k in
+    let rests = after_seen mark.NoDelay (Fixed mark.NoDelay s ∷ k) e ∙ rest_again (Fixed mark.NoDelay s) k in
+    λ n. read_as (e n) (rests n)
 
-eat_other : (i : Words) → sees mark.NoDelay i ≡ false → there (maybe (sees mark.NoDelay) (expect mark.NoDelay)) i ≡ eat mark.NoDelay i
-eat_other i e =
-    ap (λ o. and_then o (λ x j. read_as (is_some x) j)) (if_false (sees mark.NoDelay i) (and_then (expect mark.NoDelay i) (λ x j. some_as x j)) (none_as i) e)
-    ∙ ap (λ b. read_as b i) (sym e)
-    ∙ ap (λ k. read_as (sees mark.NoDelay i) k) (sym (after_other mark.NoDelay i e))
+not_there : (k : Words) → sees mark.NoDelay k ≡ false → eat mark.NoDelay k ≡ read_as false k
+not_there k e = let same = after_other mark.NoDelay k e in λ n. read_as (e n) (same n)
 
-eat_same : (i : Words) → there (maybe (sees mark.NoDelay) (expect mark.NoDelay)) i ≡ eat mark.NoDelay i
-eat_same i = elim (true_or_false (sees mark.NoDelay i)) as (λ _. there (maybe (sees mark.NoDelay) (expect mark.NoDelay)) i ≡ eat mark.NoDelay i) [
-  | inl e ↦ eat_seen i e
-  | inr e ↦ eat_other i e
-]
+not_there_after : (i k : Words) → sees mark.NoDelay i ≡ false → GoodAfter (λ j. sees mark.NoDelay j ≡ false) i k → sees mark.NoDelay k ≡ false
+not_there_after i k e (inl same) = sees_front mark.NoDelay k i same ∙ e
+not_there_after i k e (inr t) = t
 
-abbrev same_flag : Bool → Bool
-same_flag b = b
+nodelay_by : (i : Words) (b : Bool) → sees mark.NoDelay i ≡ b → NoDelays i (eat mark.NoDelay i)
+nodelay_by i true e =
+    let at = sees_ok mark.NoDelay i e in
+    let F : Words → Type 0 = λ k. NoDelays k (eat mark.NoDelay k) in
+    let G : Outcome Bool → Type 0 = λ o. NoDelays (Fixed mark.NoDelay at.0 ∷ rest i) o in
+    subst F (sym at.1)
+    (subst G (sym (there at.0 (rest i))) (record { taken = Fixed mark.NoDelay at.0 ∷ []; at = refl; again = λ k g. there at.0 k; spelled = (at.0, refl) }))
+nodelay_by i false e =
+    let G : Outcome Bool → Type 0 = λ o. NoDelays i o in
+    subst G (sym (not_there i e)) (record { taken = []; at = refl; again = λ k g. not_there k (not_there_after i k e g); spelled = refl })
 
-is_there : (x : Option Spelling) → is_some (option_map erased_word x) ≡ is_some x
-is_there None = refl
-is_there (Some w) = refl
+nodelay_complete : (b : Bool) (i j : Words) → SpellsNoDelay b i j → sees mark.NoDelay j ≡ false → eat mark.NoDelay i ≡ read_as b j
+nodelay_complete false i j s t = ap (eat mark.NoDelay) s ∙ not_there j t
+nodelay_complete true i j s t = ap (eat mark.NoDelay) s.1 ∙ there s.0 j
 
-like_there : (x y : Option Spelling) → option_map erased_word x ≡ option_map erased_word y → same_flag (is_some x) ≡ same_flag (is_some y)
-like_there x y n = sym (is_there x) ∙ ap is_some n ∙ is_there y
+nodelay_moves : (b : Bool) (i j k : Words) → SpellsNoDelay b i j → AreAlike i k → (c : Bool) × (l : Words) × SpellsNoDelay c k l × AreAlike j l × (c ≡ b)
+nodelay_moves false i j k s t = (false, k, refl, alike_from i j k s t, refl)
+nodelay_moves true i j k s t =
+    let a = alike_fixed mark.NoDelay s.0 j k (alike_from i (Fixed mark.NoDelay s.0 ∷ j) k s.1 t) in (true, a.1, (a.0, a.2), a.3, refl)
 
-nodelay_law : Law (eat mark.NoDelay) SpellsNoDelay SpellsNoDelay (λ j. sees mark.NoDelay j ≡ false) same_flag
-nodelay_law =
-    same_law eat_same
-    (as_law nodelay_to nodelay_from nodelay_to
-    (made_law is_some like_there
-    (stops_law (λ j t. (tt, t))
-    (optional_law (maybe_law (sees mark.NoDelay) (sees_front mark.NoDelay) (mark_law mark.NoDelay).rules (no_mark mark.NoDelay) (λ x i j s. sees_at mark.NoDelay x i j s) (mark_takes mark.NoDelay))))))
-  where
-    spelled : (x : Option Spelling) (i j : Words) → Optional (IsMark mark.NoDelay) x i j → SpellsNoDelay (is_some x) i j
-    spelled None i j s = s
-    spelled (Some w) i j s = (w, s)
-
-    nodelay_to : (b : Bool) (i j : Words) → Made is_some (Optional (IsMark mark.NoDelay)) b i j → SpellsNoDelay b i j
-    nodelay_to b i j s = let Q : Bool → Type 0 = λ c. SpellsNoDelay c i j in subst Q (sym s.1) (spelled s.0 i j s.2)
-
-    nodelay_from : (b : Bool) (i j : Words) → SpellsNoDelay b i j → Made is_some (Optional (IsMark mark.NoDelay)) b i j
-    nodelay_from false i j s = (None, refl, s)
-    nodelay_from true i j s = (Some s.0, refl, s.1)
+nodelay_law : Law (eat mark.NoDelay) SpellsNoDelay SpellsNoDelay (λ j. sees mark.NoDelay j ≡ false) (λ b. b)
+nodelay_law = record {
+  rules = record { tells = λ i. nodelay_by i (sees mark.NoDelay i) refl; complete = nodelay_complete; moves = nodelay_moves; more = λ b i j s. s };
+  one = (false, [], λ j t. refl);
+}
 
 -- ---- channels
 
@@ -140,7 +124,7 @@ channel_law =
     (both_law (mark_law mark.Channel) named_paths_law (λ y m j s t. tt))
 
 pub channel_opens : Opens mark.Channel SpellsChannel
-channel_opens x i j s = mark_opens mark.Channel named_paths_law (x.word, (x.name, (x.is_nodelay, (x.first, x.second)))) i j s
+channel_opens x i j s = (x.word, s.0, s.1)
 
 -- ---- connections
 
@@ -149,8 +133,7 @@ unfolding sees front same_mark
 inner_law = behind_law mark.And (ended_at_law names_law (λ s m. (tt, refl)) (λ s m. (tt, refl)))
 
 inner_opens : Opens mark.And (Behind mark.And (Ended (Separated SpellsName)))
-unfolding sees front same_mark
-inner_opens = behind_opens mark.And (ended_at_law names_law (λ s m. (tt, refl)) (λ s m. (tt, refl)))
+inner_opens x i j s = (s.0, s.1, s.2)
 
 joined_law : Law
     (separated name ⊗ behind mark.And (ended (separated name)))
@@ -168,4 +151,4 @@ connect_law =
     (both_law (mark_law mark.Connect) joined_law (λ y m j s t. tt))
 
 pub connect_opens : Opens mark.Connect SpellsConnect
-connect_opens x i j s = mark_opens mark.Connect joined_law (x.word, (x.outer, x.inner)) i j s
+connect_opens x i j s = (x.word, s.0, s.1)

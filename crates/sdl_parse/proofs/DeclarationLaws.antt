@@ -13,12 +13,13 @@ use Rattle.sdl_read.specs.Reading.{◌⊗◌, behind, front, sees, same_mark, na
 use Rattle.sdl_read.specs.Parts.{ended}
 use Rattle.sdl_parse.specs.Declarations.{parameters_with, parameters, fpar_with, fpar, some_fpar, initial, variables_with, variables, dcl, timer_with, one, timers_with, timer}
 use Rattle.sdl_read.proofs.ExpressionLaws.{expr_law}
-use Rattle.sdl_read.proofs.Laws.{Law, Anywhere, Takes, stops_law, both_law, behind_law, optional_law}
+use Rattle.sdl_read.proofs.Laws.{Law, Anywhere, Takes, mark_law, stops_law, both_law, behind_law, optional_law}
 use Rattle.sdl_read.proofs.ListLaws.{separated_law}
-use Rattle.sdl_read.proofs.OperatorLaws.{Stops}
-use Rattle.sdl_read.proofs.PartLaws.{mark_law, name_law, name_takes}
+use Rattle.sdl_read.proofs.OperatorLaws.{Stops, stops_last}
+use Rattle.sdl_read.proofs.PartLaws.{name_law}
 use Rattle.sdl_read.proofs.ClosingLaws.{ended_at_law}
-use Rattle.sdl_read.proofs.SignalLaws.{record_law, Opens, mark_opens, behind_opens, maybe_mark, both_takes, sort_law, sorts_law}
+use Rattle.sdl_read.proofs.SignalLaws.{record_law, Opens, maybe_mark, sort_law, sorts_law}
+use Rattle.sdl_read.proofs.Steps.{no_words}
 use Rattle.sdl_parse.proofs.Stops.{at_comma, at_semicolon, at_comment, opens_unseen, name_no_comma, optional_at, names_law, names_take}
 
 -- ---- ["fpar" vars end]
@@ -30,11 +31,11 @@ parameters_law =
     (both_law names_law sort_law (λ y m j s t. (tt, name_no_comma y m j s)))
 
 parameters_take : Takes SpellsParameters
-parameters_take x i j s = both_takes names_take sort_law (x.names, x.sort) i j s
+parameters_take x j s = names_take x.names s.0 s.1
 
 groups_law : Law (ended (separated parameters)) (Ended (Separated SpellsParameters)) (Ended (Separated SpellsParameters)) Anywhere (map erased_parameters)
 unfolding sees front same_mark
-groups_law = ended_at_law (separated_law parameters_law parameters_take (λ s m. tt)) (λ s m. (tt, refl)) (λ s m. (tt, refl))
+groups_law = ended_at_law (separated_law parameters_law parameters_take (λ s m. tt) tt) (λ s m. (tt, refl)) (λ s m. (tt, refl))
 
 fpar_law : Law fpar SpellsFpar SpellsFpar Anywhere erased_fpar
 unfolding fpar
@@ -43,7 +44,7 @@ fpar_law =
     (both_law (mark_law mark.Fpar) groups_law (λ y m j s t. tt))
 
 fpar_opens : Opens mark.Fpar SpellsFpar
-fpar_opens x i j s = mark_opens mark.Fpar groups_law (x.word, x.groups) i j s
+fpar_opens x i j s = (x.word, s.0, s.1)
 
 pub some_fpar_law : Law some_fpar (Optional SpellsFpar) (Optional SpellsFpar) (λ j. Anywhere j × (sees mark.Fpar j ≡ false)) (option_map erased_fpar)
 some_fpar_law = optional_law (maybe_mark mark.Fpar fpar_law fpar_opens)
@@ -54,7 +55,7 @@ assigned_law : (d : ℕ) → Law (behind mark.Assign (expr d)) (Behind mark.Assi
 assigned_law d = behind_law mark.Assign (expr_law d)
 
 assigned_opens : (d : ℕ) → Opens mark.Assign (Behind mark.Assign (SpellsExpr d))
-assigned_opens d = behind_opens mark.Assign (expr_law d)
+assigned_opens d x i j s = (s.0, s.1, s.2)
 
 -- where an initial value stops, and none begins
 abbrev pub BehindInitial : Words → Type 0
@@ -87,19 +88,19 @@ variables_law d =
     (both_law names_law (typed_law d) (λ y m j s t. (tt, name_no_comma y.0 m s.0 s.1)))
 
 variables_take : (d : ℕ) → Takes (SpellsVariables d)
-variables_take d x i j s = both_takes names_take (typed_law d) (x.names, (x.sort, x.initial)) i j s
+variables_take d x j s = names_take x.names s.0 s.1
 
 variable_groups_law : (d : ℕ) → Law (ended (separated (variables d))) (Ended (Separated (SpellsVariables d))) (Ended (Separated (SpellsVariables (suc d)))) Anywhere (map erased_variables)
 unfolding sees front same_mark
 variable_groups_law d =
-    ended_at_law (separated_law (variables_law d) (variables_take d) initial_comma) (λ s m. (initial_semicolon s m, refl)) (λ s m. (initial_comment s m, refl))
+    ended_at_law (separated_law (variables_law d) (variables_take d) initial_comma (stops_last loosest, refl)) (λ s m. (initial_semicolon s m, refl)) (λ s m. (initial_comment s m, refl))
 
 pub dcl_law : (d : ℕ) → Law (dcl d) (SpellsDcl d) (SpellsDcl (suc d)) Anywhere (map erased_variables)
 unfolding dcl
 dcl_law d = behind_law mark.Dcl (variable_groups_law d)
 
 pub dcl_opens : (d : ℕ) → Opens mark.Dcl (SpellsDcl d)
-dcl_opens d = behind_opens mark.Dcl (variable_groups_law d)
+dcl_opens d x i j s = (s.0, s.1, s.2)
 
 -- ---- timers
 
@@ -124,12 +125,12 @@ one_law d =
     (both_law name_law (timed_law d) (λ y m j s t. tt))
 
 one_takes : (d : ℕ) → Takes (SpellsOne d)
-one_takes d x i j s = both_takes name_takes (timed_law d) (x.name, (x.sorts, x.duration)) i j s
+one_takes d x j s = no_words s.1
 
 ones_law : (d : ℕ) → Law (ended (separated (one d))) (Ended (Separated (SpellsOne d))) (Ended (Separated (SpellsOne (suc d)))) Anywhere (map erased_timer)
 unfolding sees front same_mark
 ones_law d =
-    ended_at_law (separated_law (one_law d) (one_takes d) (λ s m. (initial_comma s m, refl)))
+    ended_at_law (separated_law (one_law d) (one_takes d) (λ s m. (initial_comma s m, refl)) ((stops_last loosest, refl), refl))
     (λ s m. ((initial_semicolon s m, refl), refl)) (λ s m. ((initial_comment s m, refl), refl))
 
 pub timer_law : (d : ℕ) → Law (timer d) (SpellsTimer d) (SpellsTimer (suc d)) Anywhere erased_timers
@@ -139,4 +140,4 @@ timer_law d =
     (both_law (mark_law mark.Timer) (ones_law d) (λ y m j s t. tt))
 
 pub timer_opens : (d : ℕ) → Opens mark.Timer (SpellsTimer d)
-timer_opens d x i j s = mark_opens mark.Timer (ones_law d) (x.word, x.timers) i j s
+timer_opens d x i j s = (x.word, s.0, s.1)

@@ -1,4 +1,3 @@
-pub mod BehaviourLaws
 pub mod ChannelLaws
 pub mod DeclarationLaws
 pub mod ProcessLaws

@@ -1,5 +1,5 @@
 -- What a fault of the reading says of the text.
-use Rattle.std.proofs.Common.{◌≡◌, ◌≤◌, ℕ, Bool, List, [], ◌∷◌, ◌++◌, Option, Some, length, codes, Err, refl, ap, ◌∙◌, subst}
+use Rattle.std.proofs.Common.{◌≡◌, ◌≤◌, ℕ, List, [], ◌∷◌, ◌++◌, Option, Some, length, codes, Err, refl, ap, ◌∙◌, subst}
 use Rattle.std.specs.String.{string_bytes}
 use Rattle.sdl_lex.specs.declared.place.Place.{Place}
 use Rattle.sdl_lex.specs.declared.token.Token.{Token}
@@ -20,7 +20,6 @@ use Rattle.sdl_parse.specs.declared.error.ParseError.{ParseError}
 use Rattle.sdl_parse.specs.declared.error.ParseError.TheVariants.{Lex, Expected, LeftOut, TooDeep, Memory}
 use Rattle.sdl_parse.specs.Parser.{HasNoTree, StandsAt, TooMany, SpellsText, Refuses, TellsWord, IsPlaceOf, Tells}
 use Rattle.sdl_parse.specs.Systems.{specification}
-use Rattle.sdl_parse.proofs.ProcessLaws.{Behaves}
 use Rattle.sdl_parse.proofs.SystemLaws.{specification_sound, specification_one, specification_refused, specification_told, specification_stands}
 
 -- a text has one list of tokens
@@ -31,12 +30,12 @@ front_of : (w : Word) (i : Words) → front (w ∷ i) ≡ Some w
 unfolding front
 front_of w i = refl
 
-module _ (begins : Words → Bool) (S T : Words → Type 0) (b : Behaves limit begins S T) (text : List ℕ) (tokens : List Token) where
+module _ (text : List ℕ) (tokens : List Token) where
   abbrev whole : Words
   whole = words_of text tokens
 
   no_tree : (r : Refusal) → specification limit whole ≡ Err r → HasNoTree whole
-  no_tree r e t s = specification_refused limit begins S T b whole r e t s
+  no_tree r e t s = specification_refused limit whole r e t s
 
   at_place : (place : Place) (left : Words) (w : Word) (back : Words) → left ≡ w ∷ back → IsPlaceOf place (front left) → place ≡ word_place w
   at_place place left w back e at = let F : Option Word → Type 0 = λ o. IsPlaceOf place o in subst F (ap front e ∙ front_of w back) at
@@ -62,7 +61,7 @@ module _ (begins : Words → Bool) (S T : Words → Type 0) (b : Behaves limit b
 
   deep_told : (place : Place) (left : Words) → specification limit whole ≡ Err (Deep left) → IsPlaceOf place (front left) → StandsAt place TooMany whole
   deep_told place left e at =
-      let c = specification_told limit begins S T b whole left e in
+      let c = specification_told limit whole left e in
       (c.0, c.2, c.1, c.3, at_place place left c.2 c.1 c.4 at, c.5)
 
   pub refuses : length text ≤ 1048576 → Lexes text tokens → (e : ParseError) (f : Fault) (left : Words) → Fails (specification limit whole) f left → Tells e f (front left) → Refuses e text
@@ -72,9 +71,9 @@ module _ (begins : Words → Bool) (S T : Words → Type 0) (b : Behaves limit b
   refuses short lexes (Expected place wanted) fault.TooDeep left o t = absurd t
   refuses short lexes (Expected place wanted) fault.Memory left o t = absurd t
   refuses short lexes (LeftOut place s) (fault.Expected w) left o t =
-      (short, tokens, lexes, (no_tree (Refused left) o, word_told place (string_bytes s) left (specification_stands limit begins S T b whole (Refused left) o) t))
+      (short, tokens, lexes, (no_tree (Refused left) o, word_told place (string_bytes s) left (specification_stands limit whole (Refused left) o) t))
   refuses short lexes (LeftOut place s) fault.Condition left o t =
-      let at = specification_stands limit begins S T b whole (Barred left) o in
+      let at = specification_stands limit whole (Barred left) o in
       (short, tokens, lexes, (no_tree (Barred left) o, barred_told place (string_bytes s) left at.0 at.1 t.0 t.1))
   refuses short lexes (LeftOut place s) fault.TooDeep left o t = absurd t
   refuses short lexes (LeftOut place s) fault.Memory left o t = absurd t
@@ -85,10 +84,10 @@ module _ (begins : Words → Bool) (S T : Words → Type 0) (b : Behaves limit b
   refuses short lexes Memory f left o t = tt
 
   pub found : length text ≤ 1048576 → Lexes text tokens → (t : Tree) (j : Words) → specification limit whole ≡ read_as t j → SpellsText t text
-  found short lexes t j e = (short, tokens, lexes, specification_sound limit begins S T b whole t j e)
+  found short lexes t j e = (short, tokens, lexes, specification_sound limit whole t j e)
 
 -- a text has one tree
-pub one : (begins : Words → Bool) (S T : Words → Type 0) → Behaves limit begins S T → OneList → (t other : Tree) (text : List ℕ) → SpellsText t text → SpellsText other text → t ≡ other
-one begins S T b lists t other text s o =
+pub one : OneList → (t other : Tree) (text : List ℕ) → SpellsText t text → SpellsText other text → t ≡ other
+one lists t other text s o =
     let F : List Token → Type 0 = λ tokens. SpellsTree limit other (words_of text tokens) in
-    specification_one limit begins S T b t other (words_of text s.1) s.3 (subst F (lists text o.1 s.1 o.2 s.2) o.3)
+    specification_one limit t other (words_of text s.1) s.3 (subst F (lists text o.1 s.1 o.2 s.2) o.3)

@@ -1,79 +1,54 @@
--- The laws of processes, for each reading of their behaviour that has its laws.
-use Rattle.std.proofs.Common.{◌≡◌, ℕ, zero, suc, ◌⊎◌, inl, inr, Bool, true, false, List, [], ◌∷◌, map, Option, option_map, refl, sym, ap, subst}
+-- The laws of processes.
+use Rattle.std.proofs.Common.{◌≡◌, ℕ, suc, inl, inr, true, false, List, [], ◌∷◌, map, Option, option_map, refl, ap, subst}
+use Rattle.sdl_tree.specs.declared.expressions.KeywordValue.{KeywordValue}
 use Rattle.sdl_tree.specs.declared.expressions.KeywordValue.TheVariants as value
+use Rattle.sdl_tree.specs.declared.expressions.UnaryOperator.{UnaryOperator}
 use Rattle.sdl_tree.specs.declared.expressions.UnaryOperator.TheVariants as unary
 use Rattle.sdl_tree.specs.declared.mark.Mark.TheVariants as mark
 use Rattle.sdl_tree.specs.declared.name.Spelling.{Spelling}
 use Rattle.sdl_tree.specs.Erased.{erased_name, erased_expr, erased_bound, erased_counts, erased_fpar, erased_local, erased_start, erased_body_part, erased_process}
 use Rattle.sdl_tree.specs.Spells.{SpellsBound, SpellsCounts, SpellsFpar, SpellsSignal, SpellsSignalList, SpellsSynonym, SpellsSignalSet, SpellsDcl, SpellsTimer, SpellsPdef, SpellsProcess}
 use Rattle.sdl_tree.specs.Spells.Behaviour.{SpellsStart, SpellsBodyPart}
-use Rattle.sdl_tree.specs.Spells.Expressions.{loosest, SpellsPrimary, SpellsUnary, SpellsAt, SpellsInner, SpellsTimer as SpellsKeys, SpellsExpr}
+use Rattle.sdl_tree.specs.Spells.Expressions.{loosest, value_mark, unary_mark, SpellsInner, SpellsTimer as SpellsKeys, SpellsExpr}
 use Rattle.sdl_tree.specs.Spells.Parts.{Both, Before, Followed, Optional, Repeated, SpellsName, Ended, SpellsClosing}
-use Rattle.sdl_tree.specs.Tree.{Expr, Numeral, Named, Keyword, Active, Paren, Unary, Chain, Counts, FormalParameters, LocalDefinition, LocalSignals, LocalSignalList, LocalSynonyms, LocalSignalSet, Variables, Timers, Start, BodyPart}
+use Rattle.sdl_tree.specs.Tree.{Expr, Counts, FormalParameters, LocalDefinition, LocalSignals, LocalSignalList, LocalSynonyms, LocalSignalSet, Variables, Timers, Start, BodyPart}
 use Rattle.sdl_tree.specs.Words.{Words, Spot, Fixed}
 use Rattle.sdl_read.specs.Reading.{◌⊗◌, behind, before, made, front, sees, same_mark, expect, name, repeated}
 use Rattle.sdl_read.specs.Parts.{ended, tied, sees_one}
-use Rattle.sdl_behaviour.specs.States.{start, body_part}
+use Rattle.sdl_behaviour.specs.States.{start, begins_body_part}
+use Rattle.sdl_behaviour.proofs.StateLaws.{PartStops, body_part_law, start_stops, part_stops, part_last, start_ends, part_ends, no_part}
+use Rattle.sdl_behaviour.proofs.StepLaws.{NoStatement}
+use Rattle.sdl_behaviour.proofs.StimulusLaws.{start_law}
 use Rattle.sdl_parse.specs.Processes.{begins_expression_by, begins_expression, count, bound_with, bound, counts_with, counts, local_marks, some_local, local_definition, body, inside, process_with, process}
-use Rattle.sdl_read.proofs.ExpressionLaws.{expr_law, expr_takes}
+use Rattle.sdl_read.proofs.ExpressionLaws.{level_begins, expr_law}
 use Rattle.sdl_read.proofs.Depth.{SameFront}
-use Rattle.sdl_read.proofs.Laws.{Law, MaybeLaw, Anywhere, Made, Tied, tied_law, both_law, behind_law, before_law, made_law, maybe_law, optional_law}
+use Rattle.sdl_read.proofs.Laws.{Form, Law, MaybeLaw, Anywhere, Made, Or, made_as, either_as, Tied, mark_law, tied_law, both_law, behind_law, before_law, made_law, maybe_law, optional_law}
 use Rattle.sdl_read.proofs.ListLaws.{repeated_law}
 use Rattle.sdl_read.proofs.OperatorLaws.{Stops}
-use Rattle.sdl_read.proofs.PartLaws.{mark_law, name_law}
+use Rattle.sdl_read.proofs.PartLaws.{name_law}
 use Rattle.sdl_read.proofs.ClosingLaws.{closing_begins, closing_law, ended_at_law, followed_law}
-use Rattle.sdl_read.proofs.SignalLaws.{record_law, Opens, mark_opens, behind_opens, begins_unseen, maybe_mark, Choice, one_choice, or_choice, as_choice, maybe_choice, signal_law, signal_opens, signal_list_law, signal_list_opens, signal_set_law, signal_set_opens}
+use Rattle.sdl_read.proofs.SignalLaws.{record_law, Opens, made_opens, begins_unseen, maybe_mark, Choice, one_choice, or_choice, as_choice, maybe_choice, signal_law, signal_opens, signal_list_law, signal_list_opens, signal_set_law, signal_set_opens}
 use Rattle.sdl_parse.proofs.DeclarationLaws.{some_fpar_law, dcl_law, dcl_opens, timer_law, timer_opens}
-use Rattle.sdl_parse.proofs.Stops.{at_comma, at_close, opens_at, made_opens, optional_at, repeated_at}
+use Rattle.sdl_parse.proofs.Stops.{at_comma, at_close, opens_at, optional_at, repeated_at}
 use Rattle.sdl_parse.proofs.SynonymLaws.{synonym_law, synonym_opens}
 
 -- ---- [expr]
 
+value_opens : (v : KeywordValue) (s : Spelling) (k : Words) → begins_expression (Fixed (value_mark v) s ∷ k) ≡ true
+unfolding begins_expression front
+value_opens value.True s k = refl
+value_opens v s k = refl
+
+unary_opens : (o : UnaryOperator) (s : Spelling) (k : Words) → begins_expression (Fixed (unary_mark o) s ∷ k) ≡ true
+unfolding begins_expression front
+unary_opens unary.Minus s k = refl
+unary_opens o s k = refl
+
 -- what spells an expression begins one
-module _ (Inner : Expr → Words → Words → Type 0) (Timer : Spot × List Expr → Words → Words → Type 0) where
-  primary_begins : (e : Expr) (i j : Words) → SpellsPrimary Inner Timer e i j → begins_expression i ≡ true
-  unfolding begins_expression front
-  primary_begins (Numeral n) i j s = ap begins_expression s
-  primary_begins (Named x) i j s = ap begins_expression s
-  primary_begins (Keyword value.True w) i j s = ap begins_expression s
-  primary_begins (Keyword value.False w) i j s = ap begins_expression s
-  primary_begins (Keyword value.Null w) i j s = ap begins_expression s
-  primary_begins (Keyword value.Now w) i j s = ap begins_expression s
-  primary_begins (Keyword value.SelfPid w) i j s = ap begins_expression s
-  primary_begins (Keyword value.Parent w) i j s = ap begins_expression s
-  primary_begins (Keyword value.Offspring w) i j s = ap begins_expression s
-  primary_begins (Keyword value.Sender w) i j s = ap begins_expression s
-  primary_begins (Active w x vs) i j s = ap begins_expression s.1
-  primary_begins (Paren w e) i j s = ap begins_expression s.1
-  primary_begins (Unary o w e) i j s = absurd s
-  primary_begins (Chain e ls) i j s = absurd s
-
-  unary_begins : (e : Expr) (i j : Words) → SpellsUnary (SpellsPrimary Inner Timer) e i j → begins_expression i ≡ true
-  unfolding begins_expression front
-  unary_begins (Unary unary.Minus w e) i j s = ap begins_expression s.1
-  unary_begins (Unary unary.Not w e) i j s = ap begins_expression s.1
-  unary_begins (Numeral n) i j s = absurd s
-  unary_begins (Named x) i j s = absurd s
-  unary_begins (Keyword v w) i j s = absurd s
-  unary_begins (Active w x vs) i j s = absurd s
-  unary_begins (Paren w e) i j s = absurd s
-  unary_begins (Chain e ls) i j s = absurd s
-
-  level_begins : (k : ℕ) (e : Expr) (i j : Words) → SpellsAt Inner Timer k e i j → begins_expression i ≡ true
-  level_begins zero e i j s = primary_begins e i j s
-  level_begins (suc zero) e i j (inl s) = primary_begins e i j s
-  level_begins (suc zero) e i j (inr s) = unary_begins e i j s
-  level_begins (suc (suc k)) e i j (inl s) = level_begins (suc k) e i j s
-  level_begins (suc (suc k)) (Chain e ls) i j (inr s) = level_begins (suc k) e i s.0 s.1
-  level_begins (suc (suc k)) (Numeral n) i j (inr s) = absurd s
-  level_begins (suc (suc k)) (Named x) i j (inr s) = absurd s
-  level_begins (suc (suc k)) (Keyword v w) i j (inr s) = absurd s
-  level_begins (suc (suc k)) (Active w x vs) i j (inr s) = absurd s
-  level_begins (suc (suc k)) (Paren w e) i j (inr s) = absurd s
-  level_begins (suc (suc k)) (Unary o w e) i j (inr s) = absurd s
-
 expression_begins : (d : ℕ) (e : Expr) (i j : Words) → SpellsExpr d e i j → begins_expression i ≡ true
-expression_begins d e i j s = level_begins (SpellsInner d) (SpellsKeys d) loosest e i j s
+unfolding begins_expression front
+expression_begins d =
+    level_begins (λ i. begins_expression i ≡ true) (λ x k. refl) (λ n k. refl) value_opens (λ s k. refl) (λ s k. refl) (SpellsInner d) (SpellsKeys d) unary_opens loosest
 
 expression_front : (i k : Words) → SameFront i k → begins_expression i ≡ begins_expression k
 unfolding begins_expression
@@ -88,7 +63,7 @@ abbrev BehindCount : Words → Type 0
 BehindCount j = Stops loosest j × (begins_expression j ≡ false)
 
 count_law : (d : ℕ) → Law (count d) (Optional (SpellsExpr d)) (Optional (SpellsExpr (suc d))) BehindCount (option_map erased_expr)
-count_law d = optional_law (maybe_law begins_expression expression_front (expr_law d).rules no_expression (expression_begins d) (expr_takes d))
+count_law d = optional_law (maybe_law begins_expression expression_front (expr_law d).rules no_expression (expression_begins d))
 
 count_comma : (s : Spelling) (j : Words) → BehindCount (Fixed mark.Comma s ∷ j)
 unfolding begins_expression front
@@ -105,7 +80,7 @@ maximum_law d =
     record_law bound_with (λ b. b.maximum) (λ x y n. ap bound_with n) (λ x. refl) (λ b. refl) (behind_law mark.Comma (count_law d))
 
 maximum_opens : (d : ℕ) → Opens mark.Comma (SpellsBound d)
-maximum_opens d b i j s = behind_opens mark.Comma (count_law d) b.maximum i j s
+maximum_opens d b i j s = (s.0, s.1, s.2)
 
 abbrev BehindBound : Words → Type 0
 BehindBound j = BehindCount j × (sees mark.Comma j ≡ false)
@@ -139,7 +114,7 @@ some_counts_law d =
     (both_law (mark_law mark.Open) (enclosed_counts_law d) (λ y m j s t. tt))
 
 counts_open : (d : ℕ) → Opens mark.Open (SpellsCounts d)
-counts_open d c i j s = mark_opens mark.Open (enclosed_counts_law d) (c.parenthesis, (c.initial, c.bound)) i j s
+counts_open d c i j s = (c.parenthesis, s.0, s.1)
 
 counts_law : (d : ℕ) → Law (counts d) (Optional (SpellsCounts d)) (Optional (SpellsCounts (suc d))) (λ j. Anywhere j × (sees mark.Open j ≡ false)) (option_map erased_counts)
 counts_law d = optional_law (maybe_mark mark.Open (some_counts_law d) (counts_open d))
@@ -150,17 +125,14 @@ ended_counts_law d = ended_at_law (counts_law d) (λ s m. (tt, refl)) (λ s m. (
 
 -- ---- what a process defines for itself
 
-abbrev IsLocal : ℕ → LocalDefinition → Words → Words → Type 0
-IsLocal d x i j = Made LocalSignals SpellsSignal x i j ⊎ (Made LocalSignalList SpellsSignalList x i j ⊎ (Made LocalSynonyms (SpellsSynonym d) x i j
-    ⊎ (Made LocalSignalSet SpellsSignalSet x i j ⊎ (Made Variables (SpellsDcl d) x i j ⊎ Made Timers (SpellsTimer d) x i j))))
+abbrev IsLocal : ℕ → Form LocalDefinition
+IsLocal d = Or (Made LocalSignals SpellsSignal) (Or (Made LocalSignalList SpellsSignalList) (Or (Made LocalSynonyms (SpellsSynonym d))
+    (Or (Made LocalSignalSet SpellsSignalSet) (Or (Made Variables (SpellsDcl d)) (Made Timers (SpellsTimer d))))))
 
 local_to : (d : ℕ) (x : LocalDefinition) (i j : Words) → IsLocal d x i j → SpellsPdef d x i j
-local_to d x i j (inl s) = let Q : LocalDefinition → Type 0 = λ y. SpellsPdef d y i j in subst Q (sym s.1) s.2
-local_to d x i j (inr (inl s)) = let Q : LocalDefinition → Type 0 = λ y. SpellsPdef d y i j in subst Q (sym s.1) s.2
-local_to d x i j (inr (inr (inl s))) = let Q : LocalDefinition → Type 0 = λ y. SpellsPdef d y i j in subst Q (sym s.1) s.2
-local_to d x i j (inr (inr (inr (inl s)))) = let Q : LocalDefinition → Type 0 = λ y. SpellsPdef d y i j in subst Q (sym s.1) s.2
-local_to d x i j (inr (inr (inr (inr (inl s))))) = let Q : LocalDefinition → Type 0 = λ y. SpellsPdef d y i j in subst Q (sym s.1) s.2
-local_to d x i j (inr (inr (inr (inr (inr s))))) = let Q : LocalDefinition → Type 0 = λ y. SpellsPdef d y i j in subst Q (sym s.1) s.2
+local_to d =
+    either_as (made_as (SpellsPdef d) LocalSignals) (either_as (made_as (SpellsPdef d) LocalSignalList) (either_as (made_as (SpellsPdef d) LocalSynonyms)
+    (either_as (made_as (SpellsPdef d) LocalSignalSet) (either_as (made_as (SpellsPdef d) Variables) (made_as (SpellsPdef d) Timers)))))
 
 local_from : (d : ℕ) (x : LocalDefinition) (i j : Words) → SpellsPdef d x i j → IsLocal d x i j
 local_from d (LocalSignals x) i j s = inl (x, refl, s)
@@ -170,7 +142,7 @@ local_from d (LocalSignalSet x) i j s = inr (inr (inr (inl (x, refl, s))))
 local_from d (Variables x) i j s = inr (inr (inr (inr (inl (x, refl, s)))))
 local_from d (Timers x) i j s = inr (inr (inr (inr (inr (x, refl, s)))))
 
-local_choice : (d : ℕ) → Choice (some_local d) (SpellsPdef d) (SpellsPdef (suc d)) local_marks erased_local
+local_choice : (d : ℕ) → Choice (some_local d) (SpellsPdef d) (SpellsPdef (suc d)) Anywhere local_marks erased_local
 unfolding same_mark
 local_choice d =
     as_choice (local_to d) (local_from d) (local_to (suc d))
@@ -190,19 +162,8 @@ locals_law d = repeated_law (local_law d) (λ i t. tt) tt
 
 -- ---- processes
 
--- The laws that the behaviour of a process has: `S` says where a start stops, and `T` where a part behind it does.
-pub record Behaves (d : ℕ) (begins : Words → Bool) (S T : Words → Type 0) : Type 0 where
-  pub start_law : Law (start d) (SpellsStart d) (SpellsStart (suc d)) S erased_start
-  pub start_opens : Opens mark.Start (SpellsStart d)
-  pub part_law : MaybeLaw (body_part d) (SpellsBodyPart d) (SpellsBodyPart (suc d)) T begins erased_body_part
-  -- a start, and a part, stop where a part begins, and where the process ends
-  pub start_stops : (i : Words) → begins i ≡ true → S i
-  pub part_stops : (i : Words) → begins i ≡ true → T i
-  pub part_last : T []
-  pub start_ends : (s : Spelling) (j : Words) → S (Fixed mark.EndProcess s ∷ j)
-  pub part_ends : (s : Spelling) (j : Words) → T (Fixed mark.EndProcess s ∷ j)
-  -- where it ends, no part begins
-  pub no_part : (s : Spelling) (j : Words) → begins (Fixed mark.EndProcess s ∷ j) ≡ false
+start_opens : (d : ℕ) → Opens mark.Start (SpellsStart d)
+start_opens d x i j s = let first = s.1 in (x.word, first.0, first.1)
 
 abbrev SpellsBodyOf : ℕ → Spot → List BodyPart → Words → Words → Type 0
 SpellsBodyOf d x = Followed (Repeated (SpellsBodyPart d)) (SpellsClosing mark.EndProcess x.text)
@@ -229,24 +190,24 @@ local_no_fpar : (d : ℕ) (x : LocalDefinition) (i j : Words) → SpellsPdef d x
 unfolding same_mark
 local_no_fpar d x i j s = begins_unseen mark.Fpar local_marks i refl ((local_choice d).begins x i j s)
 
-module _ (d : ℕ) (begins : Words → Bool) (S T : Words → Type 0) (b : Behaves d begins S T) where
+module _ (d : ℕ) where
   body_law : (x : Spot) → Law (body d x) (SpellsBodyOf d x) (SpellsBodyOf (suc d) x) Anywhere (map erased_body_part)
   body_law x =
-      followed_law (repeated_law b.part_law b.part_stops b.part_last) (closing_law mark.EndProcess x.text)
-      (λ m j s t. closing_begins (λ k. T k × (begins k ≡ false)) mark.EndProcess (λ w k. (b.part_ends w k, b.no_part w k)) x.text m j s)
+      followed_law (repeated_law (body_part_law d) part_stops part_last) (closing_law mark.EndProcess x.text)
+      (λ m j s t. closing_begins (λ k. PartStops k × (begins_body_part k ≡ false)) mark.EndProcess (λ w k. (part_ends w k, no_part w k)) x.text m j s)
 
   -- what stands behind a start
-  body_stops : (x : Spot) (y : List BodyPart) (m j : Words) → SpellsBodyOf d x y m j → S m
+  body_stops : (x : Spot) (y : List BodyPart) (m j : Words) → SpellsBodyOf d x y m j → NoStatement m
   body_stops x y m j s =
-      repeated_at (SpellsBodyPart d) S (λ p i k t. b.start_stops i (b.part_law.starts p i k t)) y m s.0 s.1
-      (closing_begins S mark.EndProcess b.start_ends x.text s.0 j s.2)
+      repeated_at (SpellsBodyPart d) NoStatement (λ p i k t. start_stops i ((body_part_law d).starts p i k t)) y m s.0 s.1
+      (closing_begins NoStatement mark.EndProcess start_ends x.text s.0 j s.2)
 
   start_and_body_law : (x : Spot) → Law (start d ⊗ body d x) (SpellsStartAndBody d x) (SpellsStartAndBody (suc d) x) Anywhere (λ y. (erased_start y.0, map erased_body_part y.1))
-  start_and_body_law x = both_law b.start_law (body_law x) (λ y m j s t. body_stops x y m j s)
+  start_and_body_law x = both_law (start_law d) (body_law x) (λ y m j s t. body_stops x y m j s)
 
   started_at : (x : Spot) (C : Words → Type 0) → ((s : Spelling) (k : Words) → C (Fixed mark.Start s ∷ k))
       → (y : Start × List BodyPart) (m j : Words) → SpellsStartAndBody d x y m j → C m
-  started_at x C at y m j s = opens_at mark.Start (SpellsStart d) C b.start_opens at y.0 m s.0 s.1
+  started_at x C at y m j s = opens_at mark.Start (SpellsStart d) C (start_opens d) at y.0 m s.0 s.1
 
   defined_law : (x : Spot) → Law
       (repeated (local_definition d) ⊗ (start d ⊗ body d x))
@@ -286,4 +247,4 @@ module _ (d : ℕ) (begins : Words → Bool) (S T : Words → Type 0) (b : Behav
       (both_law (mark_law mark.Process) named_inside_law (λ y m j s t. tt))
 
   pub process_opens : Opens mark.Process (SpellsProcess d)
-  process_opens p i j s = mark_opens mark.Process named_inside_law (p.word, (p.name, (p.counts, (p.parameters, (p.definitions, (p.start, p.body)))))) i j s
+  process_opens p i j s = (p.word, s.0, s.1)

@@ -8,7 +8,7 @@ use Rattle.sdl_tree.specs.Spells.Expressions.{loosest}
 use Rattle.sdl_tree.specs.Spells.Parts.{Followed, Optional, Separated, Repeated, SpellsName, SpellsClosing}
 use Rattle.sdl_tree.specs.Words.{Words, Spot, Fixed}
 use Rattle.sdl_read.specs.Reading.{same_mark, mark_at, front, sees, name, separated}
-use Rattle.sdl_read.proofs.Laws.{Law, Anywhere, Takes, Made}
+use Rattle.sdl_read.proofs.Laws.{Form, Law, Anywhere, Takes}
 use Rattle.sdl_read.proofs.ListLaws.{separated_law, separated_takes}
 use Rattle.sdl_read.proofs.OperatorLaws.{Stops}
 use Rattle.sdl_read.proofs.PartLaws.{name_law, name_takes}
@@ -39,16 +39,13 @@ unfolding sees front
 other_seen n m s j e = e
 
 -- another mark doesn't stand there
-pub opens_unseen : {A : Type 0} (n m : Mark) (P : A → Words → Words → Type 0) → Opens m P → same_mark m n ≡ false → (x : A) (i j : Words) → P x i j → sees n i ≡ false
+pub opens_unseen : {A : Type 0} (n m : Mark) (P : Form A) → Opens m P → same_mark m n ≡ false → (x : A) (i j : Words) → P x i j → sees n i ≡ false
 opens_unseen n m P opens other x i j s = let o = opens x i j s in ap (sees n) o.2 ∙ other_seen n m o.0 o.1 other
 
 -- what holds before the mark
-pub opens_at : {A : Type 0} (m : Mark) (P : A → Words → Words → Type 0) (C : Words → Type 0) → Opens m P → ((s : Spelling) (k : Words) → C (Fixed m s ∷ k))
+pub opens_at : {A : Type 0} (m : Mark) (P : Form A) (C : Words → Type 0) → Opens m P → ((s : Spelling) (k : Words) → C (Fixed m s ∷ k))
     → (x : A) (i j : Words) → P x i j → C i
 opens_at m P C opens at x i j s = let o = opens x i j s in subst C (sym o.2) (at o.0 o.1)
-
-pub made_opens : {A B : Type 0} (f : A → B) (m : Mark) (P : A → Words → Words → Type 0) → Opens m P → Opens m (Made f P)
-made_opens f m P opens y i j s = opens s.0 i j s.2
 
 -- no comma stands before a name
 pub name_no_comma : (x : Spot) (i j : Words) → SpellsName x i j → sees mark.Comma i ≡ false
@@ -57,12 +54,12 @@ name_no_comma x i j s = ap (sees mark.Comma) s
 
 -- ---- what holds before a part that may be left out, or before a list
 
-pub optional_at : {A : Type 0} (P : A → Words → Words → Type 0) (C : Words → Type 0) → ((x : A) (i j : Words) → P x i j → C i)
+pub optional_at : {A : Type 0} (P : Form A) (C : Words → Type 0) → ((x : A) (i j : Words) → P x i j → C i)
     → (x : Option A) (i j : Words) → Optional P x i j → C j → C i
 optional_at P C some None i j s t = subst C (sym s) t
 optional_at P C some (Some x) i j s t = some x i j s
 
-pub repeated_at : {A : Type 0} (P : A → Words → Words → Type 0) (C : Words → Type 0) → ((x : A) (i j : Words) → P x i j → C i)
+pub repeated_at : {A : Type 0} (P : Form A) (C : Words → Type 0) → ((x : A) (i j : Words) → P x i j → C i)
     → (xs : List A) (i j : Words) → Repeated P xs i j → C j → C i
 repeated_at P C some [] i j s t = subst C (sym s) t
 repeated_at P C some (x ∷ xs) i j s t = some x i s.0 s.1
@@ -70,12 +67,12 @@ repeated_at P C some (x ∷ xs) i j s t = some x i s.0 s.1
 -- ---- names
 
 pub names_law : Law (separated name) (Separated SpellsName) (Separated SpellsName) (λ j. Anywhere j × (sees mark.Comma j ≡ false)) (map erased_name)
-names_law = separated_law name_law name_takes (λ s m. tt)
+names_law = separated_law name_law name_takes (λ s m. tt) tt
 
 pub names_take : Takes (Separated SpellsName)
-names_take = separated_takes name_takes
+names_take = separated_takes SpellsName name_takes
 
 -- what is closed by a name is closed by another that differs in places alone
-pub closed_same : {B : Type 0} (P : B → Words → Words → Type 0) (m : Mark) (x y : Spot) → erased_name x ≡ erased_name y
+pub closed_same : {B : Type 0} (P : Form B) (m : Mark) (x y : Spot) → erased_name x ≡ erased_name y
     → (z : B) (i j : Words) → Followed P (SpellsClosing m x.text) z i j → Followed P (SpellsClosing m y.text) z i j
 closed_same P m x y e z i j s = let R : Spot → Type 0 = λ w. Followed P (SpellsClosing m w.text) z i j in subst R e s

@@ -1,5 +1,5 @@
--- The laws of blocks and of the system, for each reading of behaviour that has its laws.
-use Rattle.std.proofs.Common.{◌≡◌, ℕ, suc, ◌⊎◌, inl, inr, Bool, false, List, [], ◌∷◌, ◌++◌, map, Option, Some, None, Err, refl, sym, ap, ◌∙◌, subst}
+-- The laws of blocks and of the system.
+use Rattle.std.proofs.Common.{◌≡◌, ℕ, suc, ◌⊎◌, inl, inr, false, List, [], ◌∷◌, ◌++◌, map, Option, Some, None, Err, refl, sym, ap, ◌∙◌, subst}
 use Rattle.sdl_tree.specs.Alike.{AreAlike}
 use Rattle.sdl_tree.specs.declared.mark.Mark.TheVariants as mark
 use Rattle.sdl_tree.specs.declared.name.Spelling.{Spelling}
@@ -8,19 +8,19 @@ use Rattle.sdl_tree.specs.Spells.{SpellsSignal, SpellsSignalList, SpellsSynonym,
 use Rattle.sdl_tree.specs.Spells.Parts.{Behind, Followed, Repeated, SpellsName, Ended, SpellsClosing}
 use Rattle.sdl_tree.specs.Tree.{Definition, Signals, SignalList, Synonyms, Channel, Process, BlockPart, InBlock, Connect, SystemDefinition, InSystem, Block, Tree}
 use Rattle.sdl_tree.specs.Words.{Word, Words, Spot, Fixed}
-use Rattle.sdl_read.specs.Reading.{Refusal, Refused, Deep, made, front, sees, same_mark, name}
+use Rattle.sdl_read.specs.Reading.{Refusal, Deep, made, front, sees, same_mark, name}
 use Rattle.sdl_read.specs.Parts.{ended, tied, sees_one}
 use Rattle.sdl_parse.specs.Systems.{definition_marks, definition, block_part, block_parts, block_with, block, system_definition, system_definitions, at_end, tree_with, system, specification}
 use Rattle.sdl_read.proofs.Depth.{SameFront}
-use Rattle.sdl_read.proofs.Laws.{Law, MaybeLaw, Anywhere, GoodAfter, Made, Tied, tied_law, behind_law, both_law, made_law}
+use Rattle.sdl_read.proofs.Laws.{Form, Gives, Law, MaybeLaw, Anywhere, GoodAfter, Made, Or, made_as, either_as, Tied, sound, stands, was_told, mark_law, tied_law, behind_law, both_law, made_law}
 use Rattle.sdl_read.proofs.ListLaws.{repeated_law}
-use Rattle.sdl_read.proofs.PartLaws.{mark_law, name_law, whole}
+use Rattle.sdl_read.proofs.PartLaws.{name_law, whole}
 use Rattle.sdl_read.proofs.ClosingLaws.{closing_begins, closing_law, ended_at_law, followed_law}
-use Rattle.sdl_read.proofs.SignalLaws.{record_law, Opens, mark_opens, Choice, one_choice, or_choice, as_choice, maybe_choice, signal_law, signal_opens, signal_list_law, signal_list_opens}
-use Rattle.sdl_read.proofs.Steps.{read_as, StandsAt, same_value, same_rest, not_read, not_refused, not_deep, same_refusal, here_stands}
+use Rattle.sdl_read.proofs.SignalLaws.{record_law, Opens, made_opens, Choice, one_choice, or_choice, as_choice, maybe_choice, signal_law, signal_opens, signal_list_law, signal_list_opens}
+use Rattle.sdl_read.proofs.Steps.{read_as, rest_here, StandsAt, same_value, not_refused}
 use Rattle.sdl_parse.proofs.ChannelLaws.{channel_law, channel_opens, connect_law, connect_opens}
-use Rattle.sdl_parse.proofs.ProcessLaws.{Behaves, process_law, process_opens}
-use Rattle.sdl_parse.proofs.Stops.{made_opens, closed_same}
+use Rattle.sdl_parse.proofs.ProcessLaws.{process_law, process_opens}
+use Rattle.sdl_parse.proofs.Stops.{closed_same}
 use Rattle.sdl_tree.specs.Depth.{OpensTooMany}
 use Rattle.sdl_parse.proofs.TooDeepLemmas.{told}
 use Rattle.sdl_parse.proofs.SynonymLaws.{synonym_law, synonym_opens}
@@ -30,19 +30,9 @@ use Rattle.sdl_parse.proofs.SynonymLaws.{synonym_law, synonym_opens}
 abbrev pub IsEnd : Words → Words → Type 0
 IsEnd i j = (i ≡ []) × (j ≡ [])
 
-at_end_sound : (i : Words) (u : Unit {0}) (j : Words) → at_end i ≡ read_as u j → IsEnd i j
-unfolding at_end
-at_end_sound [] u j e = (refl, sym (same_rest tt u [] j e))
-at_end_sound (w ∷ i) u j e = not_read (Refused (w ∷ i)) u j e
-
 at_end_complete : (u : Unit {0}) (i j : Words) → IsEnd i j → at_end i ≡ read_as u j
 unfolding at_end
 at_end_complete u i j s = ap at_end s.0 ∙ ap (λ k. read_as u k) (sym s.1)
-
-at_end_refused : (i : Words) (r : Refusal) → at_end i ≡ Err r → r ≡ Refused i
-unfolding at_end
-at_end_refused [] r e = not_refused {A = Unit {0}} tt [] r e
-at_end_refused (w ∷ i) r e = same_refusal {A = Unit {0}} (Refused (w ∷ i)) r e
 
 -- where the text ends, it ends still, where the same stands next
 still_end : (k : Words) → SameFront k [] → k ≡ []
@@ -50,15 +40,14 @@ unfolding front
 still_end [] same = refl
 still_end (w ∷ k) same = absurd (let apart : ◌≡◌ {A = Option Word} (Some w) None = same in cc)
 
-end_after : (m k : Words) → m ≡ [] → GoodAfter (λ j. j ≡ []) m k → k ≡ []
-end_after m k e (inl same) = let F : Words → Type 0 = λ l. SameFront k l in still_end k (subst F e same)
-end_after m k e (inr t) = t
+end_after : (k : Words) → GoodAfter (λ j. j ≡ []) [] k → k ≡ []
+end_after k (inl same) = still_end k same
+end_after k (inr t) = t
 
-at_end_near : (i : Words) (u : Unit {0}) (m : Words) → at_end i ≡ read_as u m
-    → (w : Words) × (i ≡ w ++ m) × ((k : Words) → GoodAfter (λ j. j ≡ []) m k → at_end (w ++ k) ≡ read_as u k)
-at_end_near i u m e =
-    let s = at_end_sound i u m e in
-    ([], s.0 ∙ sym s.1, λ k g. let t = end_after m k s.1 g in at_end_complete u k k (t, t))
+at_end_tells : (i : Words) → Gives at_end (λ _. IsEnd) (λ _. IsEnd) (λ j. j ≡ []) i (at_end i)
+unfolding at_end
+at_end_tells [] = record { taken = []; at = refl; again = λ k g. let t = end_after k g in at_end_complete tt k k (t, t); spelled = (refl, refl) }
+at_end_tells (w ∷ i) = rest_here (w ∷ i)
 
 -- words like none are none
 none_alike : (i k : Words) → i ≡ [] → AreAlike i k → k ≡ []
@@ -69,30 +58,23 @@ none_alike (v ∷ i) k e a = absurd (let apart : v ∷ i ≡ [] = e in cc)
 at_end_law : Law at_end (λ _. IsEnd) (λ _. IsEnd) (λ j. j ≡ []) whole
 at_end_law = record {
   rules = record {
-    sound = at_end_sound;
+    tells = at_end_tells;
     complete = λ u i j s t. at_end_complete u i j s;
-    keeps = λ u i j s. ([], s.0 ∙ sym s.1, λ k t. (t, t));
-    near = at_end_near;
-    stands = λ i r s. here_stands i r (at_end_refused i r s);
     moves = λ u i j k s t. (tt, k, (none_alike i k s.0 t, none_alike i k s.0 t), subst (λ (l : Words). AreAlike l k) (s.0 ∙ sym s.1) t, refl);
     more = λ u i j s. s;
-    deep = λ i left s. not_deep i left (at_end_refused i (Deep left) s);
   };
   one = (tt, [], λ j t. (t, t));
 }
 
 -- ---- what both a system and a block define
 
-abbrev IsDefinition : ℕ → Definition → Words → Words → Type 0
-IsDefinition d x i j = Made Signals SpellsSignal x i j ⊎ (Made SignalList SpellsSignalList x i j ⊎ (Made Synonyms (SpellsSynonym d) x i j
-    ⊎ (Made Channel SpellsChannel x i j ⊎ Made Process (SpellsProcess d) x i j)))
+abbrev IsDefinition : ℕ → Form Definition
+IsDefinition d = Or (Made Signals SpellsSignal) (Or (Made SignalList SpellsSignalList) (Or (Made Synonyms (SpellsSynonym d)) (Or (Made Channel SpellsChannel) (Made Process (SpellsProcess d)))))
 
 definition_to : (d : ℕ) (x : Definition) (i j : Words) → IsDefinition d x i j → SpellsDef d x i j
-definition_to d x i j (inl s) = let Q : Definition → Type 0 = λ y. SpellsDef d y i j in subst Q (sym s.1) s.2
-definition_to d x i j (inr (inl s)) = let Q : Definition → Type 0 = λ y. SpellsDef d y i j in subst Q (sym s.1) s.2
-definition_to d x i j (inr (inr (inl s))) = let Q : Definition → Type 0 = λ y. SpellsDef d y i j in subst Q (sym s.1) s.2
-definition_to d x i j (inr (inr (inr (inl s)))) = let Q : Definition → Type 0 = λ y. SpellsDef d y i j in subst Q (sym s.1) s.2
-definition_to d x i j (inr (inr (inr (inr s)))) = let Q : Definition → Type 0 = λ y. SpellsDef d y i j in subst Q (sym s.1) s.2
+definition_to d =
+    either_as (made_as (SpellsDef d) Signals) (either_as (made_as (SpellsDef d) SignalList) (either_as (made_as (SpellsDef d) Synonyms)
+    (either_as (made_as (SpellsDef d) Channel) (made_as (SpellsDef d) Process))))
 
 definition_from : (d : ℕ) (x : Definition) (i j : Words) → SpellsDef d x i j → IsDefinition d x i j
 definition_from d (Signals x) i j s = inl (x, refl, s)
@@ -123,28 +105,24 @@ endsystem_no_part : (s : Spelling) (j : Words) → sees_one (mark.Block ∷ defi
 unfolding sees front same_mark
 endsystem_no_part s j = refl
 
-block_part_to : (d : ℕ) (x : BlockPart) (i j : Words) → Made Connect SpellsConnect x i j ⊎ Made InBlock (SpellsDef d) x i j → SpellsBlockPart d x i j
-block_part_to d x i j (inl s) = let Q : BlockPart → Type 0 = λ y. SpellsBlockPart d y i j in subst Q (sym s.1) s.2
-block_part_to d x i j (inr s) = let Q : BlockPart → Type 0 = λ y. SpellsBlockPart d y i j in subst Q (sym s.1) s.2
+block_part_to : (d : ℕ) (x : BlockPart) (i j : Words) → Or (Made Connect SpellsConnect) (Made InBlock (SpellsDef d)) x i j → SpellsBlockPart d x i j
+block_part_to d = either_as (made_as (SpellsBlockPart d) Connect) (made_as (SpellsBlockPart d) InBlock)
 
 block_part_from : (d : ℕ) (x : BlockPart) (i j : Words) → SpellsBlockPart d x i j → Made Connect SpellsConnect x i j ⊎ Made InBlock (SpellsDef d) x i j
 block_part_from d (Connect x) i j s = inl (x, refl, s)
 block_part_from d (InBlock x) i j s = inr (x, refl, s)
 
-system_definition_to : (d : ℕ) (x : SystemDefinition) (i j : Words) → Made Block (SpellsBlock d) x i j ⊎ Made InSystem (SpellsDef d) x i j → SpellsSystemDef d x i j
-system_definition_to d x i j (inl s) = let Q : SystemDefinition → Type 0 = λ y. SpellsSystemDef d y i j in subst Q (sym s.1) s.2
-system_definition_to d x i j (inr s) = let Q : SystemDefinition → Type 0 = λ y. SpellsSystemDef d y i j in subst Q (sym s.1) s.2
+system_definition_to : (d : ℕ) (x : SystemDefinition) (i j : Words) → Or (Made Block (SpellsBlock d)) (Made InSystem (SpellsDef d)) x i j → SpellsSystemDef d x i j
+system_definition_to d = either_as (made_as (SpellsSystemDef d) Block) (made_as (SpellsSystemDef d) InSystem)
 
 system_definition_from : (d : ℕ) (x : SystemDefinition) (i j : Words) → SpellsSystemDef d x i j → Made Block (SpellsBlock d) x i j ⊎ Made InSystem (SpellsDef d) x i j
 system_definition_from d (Block x) i j s = inl (x, refl, s)
 system_definition_from d (InSystem x) i j s = inr (x, refl, s)
 
--- ---- one too many inside each other
-
 -- ---- from the definitions to the text
 
-module _ (d : ℕ) (begins : Words → Bool) (S T : Words → Type 0) (b : Behaves d begins S T) where
-  definition_choice : Choice (definition d) (SpellsDef d) (SpellsDef (suc d)) definition_marks erased_definition
+module _ (d : ℕ) where
+  definition_choice : Choice (definition d) (SpellsDef d) (SpellsDef (suc d)) Anywhere definition_marks erased_definition
   unfolding definition same_mark
   definition_choice =
       as_choice (definition_to d) (definition_from d) (definition_to (suc d))
@@ -152,14 +130,13 @@ module _ (d : ℕ) (begins : Words → Bool) (S T : Words → Type 0) (b : Behav
       (or_choice mark.SignalList _ refl (made_law SignalList (λ x y n. ap SignalList n) signal_list_law) (made_opens SignalList mark.SignalList SpellsSignalList signal_list_opens)
       (or_choice mark.Synonym _ refl (made_law Synonyms (λ x y n. ap Synonyms n) (synonym_law d)) (made_opens Synonyms mark.Synonym (SpellsSynonym d) (synonym_opens d))
       (or_choice mark.Channel _ refl (made_law Channel (λ x y n. ap Channel n) channel_law) (made_opens Channel mark.Channel SpellsChannel channel_opens)
-      (one_choice mark.Process (made_law Process (λ x y n. ap Process n) (process_law d begins S T b)) (made_opens Process mark.Process (SpellsProcess d) (process_opens d begins S T b)))))))
+      (one_choice mark.Process (made_law Process (λ x y n. ap Process n) (process_law d)) (made_opens Process mark.Process (SpellsProcess d) (process_opens d)))))))
 
   -- the same definitions inside another node
   inside_choice : {B : Type 0} (f : Definition → B) {g : B → B} → ((x y : Definition) → erased_definition x ≡ erased_definition y → g (f x) ≡ g (f y))
-      → Choice (made f (definition d)) (Made f (SpellsDef d)) (Made f (SpellsDef (suc d))) definition_marks g
+      → Choice (made f (definition d)) (Made f (SpellsDef d)) (Made f (SpellsDef (suc d))) Anywhere definition_marks g
   inside_choice f like = record {
     law = made_law f like definition_choice.law;
-    takes = λ y i j s. definition_choice.takes s.0 i j s.2;
     begins = λ y i j s. definition_choice.begins s.0 i j s.2;
   }
 
@@ -186,7 +163,7 @@ module _ (d : ℕ) (begins : Words → Bool) (S T : Words → Type 0) (b : Behav
       (both_law (mark_law mark.Block) named_parts_law (λ y m j s t. tt))
 
   block_opens : Opens mark.Block (SpellsBlock d)
-  block_opens x i j s = mark_opens mark.Block named_parts_law (x.word, (x.name, x.definitions)) i j s
+  block_opens x i j s = (x.word, s.0, s.1)
 
   system_definition_law : MaybeLaw (system_definition d) (SpellsSystemDef d) (SpellsSystemDef (suc d)) Anywhere (sees_one (mark.Block ∷ definition_marks)) erased_system_definition
   unfolding system_definition same_mark
@@ -217,7 +194,7 @@ module _ (d : ℕ) (begins : Words → Bool) (S T : Words → Type 0) (b : Behav
   -- what is read spells the words, and leaves none
   pub specification_sound : (i : Words) (t : Tree) (j : Words) → specification d i ≡ read_as t j → SpellsTree d t i
   specification_sound i t j e =
-      let s = specification_law.rules.sound i t j e in
+      let s = sound specification_law.rules i t j e in
       let R : Words → Type 0 = λ k. SpellsSystem d t i k in subst R s.2.0 s.1
 
   -- what words spell is read from them
@@ -240,7 +217,7 @@ module _ (d : ℕ) (begins : Words → Bool) (S T : Words → Type 0) (b : Behav
 
   -- a refusal stands at a word of the text, or at its end
   pub specification_stands : (i : Words) (r : Refusal) → specification d i ≡ Err r → StandsAt i r
-  specification_stands = specification_law.rules.stands
+  specification_stands = stands specification_law.rules
 
   as_tree : (n : ℕ) (t : Tree) (i : Words) → Followed (SpellsSystem n) IsEnd t i [] → SpellsTree n t i
   as_tree n t i s = let R : Words → Type 0 = λ k. SpellsSystem n t i k in subst R s.2.0 s.1
@@ -251,4 +228,4 @@ module _ (d : ℕ) (begins : Words → Bool) (S T : Words → Type 0) (b : Behav
   -- where one too many is told, the word that stands first in what is left opens it
   pub specification_told : (i left : Words) → specification d i ≡ Err (Deep left)
       → (front : Words) × (back : Words) × (w : Word) × (i ≡ front ++ w ∷ back) × (left ≡ w ∷ back) × OpensTooMany d front w
-  specification_told i left e = told d (as_tree d) as_whole (as_tree (suc d)) i left (specification_law.rules.deep i left e)
+  specification_told i left e = told d (as_tree d) as_whole (as_tree (suc d)) i left (was_told specification_law.rules i (Deep left) e)

@@ -6,10 +6,6 @@ use Rattle.sdl_tree.specs.Words.{Words, words_of}
 use Rattle.sdl_read.specs.Reads.{Fails}
 use Rattle.sdl_read.proofs.Steps.{read_as}
 use Rattle.sdl_parse.specs.Systems.{specification}
-use Rattle.sdl_behaviour.specs.States.{begins_body_part}
-use Rattle.sdl_behaviour.proofs.StateLaws.{PartStops}
-use Rattle.sdl_behaviour.proofs.StepLaws.{NoStatement}
-use Rattle.sdl_parse.proofs.BehaviourLaws.{behaves}
 use Rattle.sdl_parse.proofs.ParserLemmas.{found, refuses}
 use Rattle.sdl_parse.proofs.parser.parse.Goals as goal
 
@@ -18,11 +14,11 @@ returns-in-Ok-specification-clause-found c =
     let is : c.new-cursor.result ≡ words_of c.args.text.now c.in-Ok.tokens.items = first_of (search rules, grind (arith, common_steps)) in
     let short : length c.args.text.now ≤ 1048576 = first_of (search rules, grind (arith, common_steps)) in
     let P : Words → Type 0 = λ i. specification limit i ≡ read_as (tree_value c.in-Ok-specification.tree) c.specification.new.cursor in
-    found begins_body_part NoStatement PartStops behaves c.args.text.now c.in-Ok.tokens.items short c.in-Ok.ensures.tokens (tree_value c.in-Ok-specification.tree) c.specification.new.cursor (subst P is c.in-Ok-specification.ensures)
+    found c.args.text.now c.in-Ok.tokens.items short c.in-Ok.ensures.tokens (tree_value c.in-Ok-specification.tree) c.specification.new.cursor (subst P is c.in-Ok-specification.ensures)
 
 pub returns-clause-refused : goal.returns-clause-refused
 returns-clause-refused c =
     let is : c.new-cursor.result ≡ words_of c.args.text.now c.in-Ok.tokens.items = first_of (search rules, grind (arith, common_steps)) in
     let short : length c.args.text.now ≤ 1048576 = first_of (search rules, grind (arith, common_steps)) in
     let P : Words → Type 0 = λ i. Fails (specification limit i) c.in-Err-specification.fault c.specification.new.cursor in
-    refuses begins_body_part NoStatement PartStops behaves c.args.text.now c.in-Ok.tokens.items short c.in-Ok.ensures.tokens c.refusal.result c.in-Err-specification.fault c.specification.new.cursor (subst P is c.in-Err-specification.ensures) c.refusal.ensures
+    refuses c.args.text.now c.in-Ok.tokens.items short c.in-Ok.ensures.tokens c.refusal.result c.in-Err-specification.fault c.specification.new.cursor (subst P is c.in-Err-specification.ensures) c.refusal.ensures
