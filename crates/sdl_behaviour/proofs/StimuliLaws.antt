@@ -13,7 +13,7 @@ use Rattle.sdl_behaviour.specs.Stimuli.{ins, condition, input_part_with, input_p
 use Rattle.sdl_behaviour.specs.Transitions.{begins_terminator, begins_action, begins_statement, trans}
 use Rattle.sdl_read.specs.Expressions.{expr}
 use Rattle.sdl_read.specs.Parts.{ended}
-use Rattle.sdl_read.specs.Reading.{Parser, and_then, ◌⊗◌, behind, made, either, front, sees, same_mark, sees_name, expect, repeated}
+use Rattle.sdl_read.specs.Reading.{Parser, and_then, ◌⊗◌, made, either, front, sees, same_mark, sees_name, expect, repeated}
 use Rattle.sdl_read.proofs.ExpressionLaws.{expr_law}
 use Rattle.sdl_read.proofs.Laws.{Law}
 use Rattle.sdl_read.proofs.Steps.{read_as, none_as, some_as, bind_is, if_true, if_false, sees_ok, sees_at, expect_again}

@@ -7,7 +7,7 @@ use Rattle.sdl_tree.specs.Erased.{erased_name, erased_number, erased_start, eras
 use Rattle.sdl_tree.specs.Spells.Behaviour.{SpellsStart, SpellsIn1, SpellsIns, SpellsSaved, SpellsCondition, SpellsPriority}
 use Rattle.sdl_tree.specs.Spells.Expressions.{loosest}
 use Rattle.sdl_tree.specs.Spells.Parts.{IsMark, Both, Optional, Separated, Enclosed, SpellsName, SpellsSig, Ended}
-use Rattle.sdl_tree.specs.Tree.{Start, SignalListItem, SignalItem, ListItem, Input, Inputs, InputList, InputAll, Saved, SaveList, SaveAll}
+use Rattle.sdl_tree.specs.Tree.{SignalListItem, SignalItem, ListItem, Input, Inputs, InputList, InputAll, Saved, SaveList, SaveAll}
 use Rattle.sdl_tree.specs.Words.{Words, Spot, Fixed}
 use Rattle.sdl_tree.specs.Words as word
 use Rattle.sdl_behaviour.specs.States.{start_with, start}
