@@ -1,6 +1,5 @@
 -- What a state selects and tries, by the table of the state.
 use Rattle.std.specs.Prelude.{◌≡◌, ◌<◌, ◌≤◌, ℕ, Bool, false, List, [], ◌∷◌, Option, None, Some, length, slice_get}
-use Rattle.port_model.specs.Class.{ClassList}
 use Rattle.port_model.specs.History.{Stop}
 use Rattle.port_model.specs.Port.{PortState}
 use Rattle.port_model.specs.Selection as selection
@@ -33,11 +32,6 @@ IsTried entries None none_true = Unit {0}
 IsTried entries (Some signal) (begins number body) =
     (signal.number ≡ number) × (slice_get entries body ≡ Some signal.begin)
 IsTried entries found answer = ⊥
-
--- the classes that are made for the state, or those of its table where no condition stands in it
-abbrev pub classes_of : Option ClassList → StateTable → List Class
-classes_of (Some own) table = own
-classes_of None table = table.selection
 
 -- these are the classes of each state that has the table
 abbrev pub SelectsBy : SystemValue → Process → StateTable → Identity → Store → PortState → List Class → Type 0

@@ -45,6 +45,7 @@ pub fn is_condition_true<P: Inbox>(
 
 /// The truths of the enabling conditions of a state, in their order. Errors: those of the first condition that fails,
 /// and `Memory`.
+#[inline(never)]
 pub fn truths<P: Inbox>(
     alloc: Global,
     conditions: &[Enabling],

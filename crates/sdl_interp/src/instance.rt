@@ -181,6 +181,7 @@ impl<'s> Instance<'s, Alone> {
     }
 
     /// Puts a signal into the port. A stopped port drops it. For want of memory the signal comes back.
+    #[inline(always)]
     pub fn put(&mut self, item: Item) -> Result<(), Refused<Item>>
         ensures { MatchResult result
             (λ _. self.new ≡ record self.old {

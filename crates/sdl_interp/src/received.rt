@@ -1,10 +1,8 @@
-//! What is taken from the port, and what is known once it is consumed (Z.101: input).
+//! What came from the port, and what is known once it is consumed (Z.101: input).
 
-ghost use Rattle.std.specs.Prelude.{◌≡◌, ◌≤◌, true};
-ghost use Rattle.inbox.specs.Calls.{TakeIs};
+ghost use Rattle.std.specs.Prelude.{◌≡◌, ◌≤◌};
 ghost use Rattle.port_model.specs.Take as port;
 ghost use Rattle.sdl_evaluation.specs.declared.identity.Identity.{Identity};
-ghost use Rattle.sdl_interp.specs.Selected.{classes_of};
 ghost use Rattle.sdl_report.specs.Event.{values_got};
 ghost use Rattle.sdl_runs.specs.Reception as reception;
 ghost use Rattle.sdl_runs.specs.Reception.{receiving};
@@ -12,29 +10,9 @@ ghost use Rattle.sdl_runs.specs.World.{IsReading};
 ghost use Rattle.sdl_steps.specs.Machine.{identity_of};
 
 use crate::clock::read_clock;
-use inbox::Inbox;
-use port_model::{Got, Pid, PortError, Selection, SignalId, Taken, Ticks, Value};
+use port_model::{Got, Pid, SignalId, Ticks, Value};
 use sdl_runs::World;
 use sdl_steps::Machine;
-use sdl_system::StateTable;
-
-/// Takes from the port under the classes that were made for the state, or under those of its table. For want of memory
-/// nothing is taken.
-pub fn take<P: Inbox>(
-    inbox: &mut P,
-    own: &Option<Selection>,
-    table: &StateTable,
-) -> Result<Taken, PortError>
-    requires { (P.owning inbox.old).state.alive ≡ true }
-    ensures take { TakeIs (classes_of own.now table.now) (P.owning inbox.old) (P.owning inbox.new) result }
-    ensures since { P.since inbox.new ≡ P.since inbox.old }
-    ensures alive { (P.owning inbox.new).state.alive ≡ true }
-{
-    match own {
-        Some(own) => inbox.take(own),
-        None => inbox.take(&table.selection),
-    }
-}
 
 /// What is known once a signal was consumed. The time of its transition is the answer.
 pub fn receive<W: World>(got: &Got, machine: &mut Machine, world: &mut W) -> Ticks

@@ -3,7 +3,7 @@
 ghost use Rattle.std.specs.Prelude.{◌≡◌, ◌<◌, IfErr, IfOk, length, slice_set, true};
 ghost use Rattle.port_model.specs.Selection as selection;
 ghost use Rattle.port_model.specs.declared.item.SignalId.{SignalId};
-ghost use Rattle.sdl_interp.specs.Selected.{AreShut, SelectsBy, SelectsNone, classes_of};
+ghost use Rattle.sdl_interp.specs.Selected.{AreShut, SelectsBy, SelectsNone};
 ghost use Rattle.sdl_steps.specs.Machine.{identity_of};
 ghost use Rattle.sdl_system.specs.Soundness.{IsEnabled};
 
@@ -15,8 +15,8 @@ use sdl_steps::Machine;
 use sdl_system::{Enabled, Process, StateTable, System};
 use std::alloc::Global;
 
-/// What a state with this table selects, where conditions stand in it; None: what the table does. Errors: those of the
-/// first enabling condition that fails, and `Memory`.
+/// What a state with this table selects, by its enabling conditions. Errors: those of the first one that fails, and
+/// `Memory`.
 pub fn select<P: Inbox>(
     alloc: Global,
     table: &StateTable,
@@ -24,24 +24,20 @@ pub fn select<P: Inbox>(
     process: &Process,
     machine: &Machine,
     inbox: &P,
-) -> Result<Option<Selection>, Failure>
+) -> Result<Selection, Failure>
     requires { (P.owning inbox.now).state.alive ≡ true }
     ensures ok { let q = (P.owning inbox.now).state in
-        IfOk result (λ own. SelectsBy system.now process.now table.now (identity_of machine.now.trace)
-        machine.now.store q (classes_of own table.now)) }
+        IfOk result (SelectsBy system.now process.now table.now (identity_of machine.now.trace) machine.now.store q) }
     ensures err { let q = (P.owning inbox.now).state in
         IfErr result (SelectsNone system.now process.now table.now (identity_of machine.now.trace) machine.now.store
         q) }
 {
-    if table.conditions.is_empty() {
-        return Ok(None);
-    }
     let truths = truths(alloc, &table.conditions, system, process, machine, inbox)?;
     let Ok(count) = u32::try_from(system.signals().len()) else {
         return Err(Failure::Memory);
     };
     let classes = classes(alloc, table, process, &truths, count)?;
-    Ok(Some(Selection::new(classes)))
+    Ok(Selection::new(classes))
 }
 
 // The classes of the signals of a system, of which there are so many, where the conditions have these truths.

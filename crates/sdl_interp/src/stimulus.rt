@@ -3,20 +3,21 @@
 
 ghost use Rattle.std.specs.Prelude.{◌≡◌, ◌≢◌, ◌≤◌, ◌<◌, Some, length, true};
 ghost use Rattle.port_model.specs.declared.taken.Taken.TheVariants as taken;
+ghost use Rattle.sdl_interp.specs.Selected.{SelectsBy};
 ghost use Rattle.sdl_interp.specs.Stimulus.{BeginsWith, ContinuesWith, FailsThen, IsAnswered, IsLed, IsStepped, LeadsFrom, ProvidesBy, Reacts, Responds, StepsFrom};
 ghost use Rattle.sdl_runs.specs.Place as place;
-ghost use Rattle.sdl_steps.specs.Machine.{IsGoing, IsPositionIn, IsReady, IsSameInstance, value_of};
+ghost use Rattle.sdl_steps.specs.Machine.{IsGoing, IsPositionIn, IsReady, IsSameInstance, identity_of, value_of};
 ghost use Rattle.sdl_system.specs.Process.{table_of};
 ghost use Rattle.sdl_system.specs.System.{SystemValue};
 ghost use Rattle.sdl_system.specs.declared.process.Process.{Process};
 
 use crate::clock::read_clock;
 use crate::continuous::first_true;
-use crate::received::{name_of, receive, sender_of, take, values_of};
+use crate::received::{name_of, receive, sender_of, values_of};
 use crate::reception::hand_out;
 use crate::selection::select;
 use inbox::Inbox;
-use port_model::{Got, Pid, Taken};
+use port_model::{Got, Pid, Selection, Taken};
 use sdl_report::Failure;
 use sdl_runs::World;
 use sdl_steps::{Machine, Position, fail, make, make_room};
@@ -59,6 +60,7 @@ pub fn step_from<P: Inbox, W: World>(
 }
 
 // Makes the start transition.
+#[inline(never)]
 fn start<P: Inbox, W: World>(
     alloc: Global,
     system: &System,
@@ -117,22 +119,90 @@ fn respond<P: Inbox, W: World>(
     let Some(table) = process.table(state) else {
         return None;
     };
-    let own = match select(alloc, table, system, process, machine, inbox) {
-        Ok(own) => own,
-        Err(why) => return Some(fail_at(machine, inbox, world, why)),
-    };
+    if !table.conditions.is_empty() {
+        return select_and_take(alloc, system, process, state, table, machine, inbox, world);
+    }
+    take_by(
+        alloc,
+        system,
+        process,
+        state,
+        table,
+        &table.selection,
+        machine,
+        inbox,
+        world,
+    )
+}
+
+// The enabling conditions of the state tell what is taken.
+#[inline(never)]
+fn select_and_take<P: Inbox, W: World>(
+    alloc: Global,
+    system: &System,
+    process: &Process,
+    state: StateId,
+    table: &StateTable,
+    machine: &mut Machine,
+    inbox: &mut P,
+    world: &mut W,
+) -> Option<Led>
+    requires going { IsGoing machine.old (P.owning inbox.old) }
+    requires table { table_of process.now state ≡ Some table.now }
+    ensures answered { IsAnswered process.now result machine.new (P.owning inbox.new) }
+    ensures kept { IsSameInstance (value_of machine.old (P.owning inbox.old))
+        (value_of machine.new (P.owning inbox.new)) }
+    ensures since { P.since inbox.new ≡ P.since inbox.old }
+    ensures responds { let old = value_of machine.old (P.owning inbox.old) in
+        let new = value_of machine.new (P.owning inbox.new) in
+        Responds system.now process.now state old (W.value world.old) result new (W.value world.new) }
+{
+    match select(alloc, table, system, process, machine, inbox) {
+        Ok(own) => take_by(
+            alloc, system, process, state, table, &own, machine, inbox, world,
+        ),
+        Err(why) => Some(fail_at(machine, inbox, world, why)),
+    }
+}
+
+// Takes from the port what the state selects.
+#[inline(always)]
+fn take_by<P: Inbox, W: World>(
+    alloc: Global,
+    system: &System,
+    process: &Process,
+    state: StateId,
+    table: &StateTable,
+    selection: &Selection,
+    machine: &mut Machine,
+    inbox: &mut P,
+    world: &mut W,
+) -> Option<Led>
+    requires going { IsGoing machine.old (P.owning inbox.old) }
+    requires table { table_of process.now state ≡ Some table.now }
+    requires selects { SelectsBy system.now process.now table.now (identity_of machine.old.trace) machine.old.store
+        (P.owning inbox.old).state selection.now }
+    ensures answered { IsAnswered process.now result machine.new (P.owning inbox.new) }
+    ensures kept { IsSameInstance (value_of machine.old (P.owning inbox.old))
+        (value_of machine.new (P.owning inbox.new)) }
+    ensures since { P.since inbox.new ≡ P.since inbox.old }
+    ensures responds { let old = value_of machine.old (P.owning inbox.old) in
+        let new = value_of machine.new (P.owning inbox.new) in
+        Responds system.now process.now state old (W.value world.old) result new (W.value world.new) }
+{
     if let Err(why) = make_room(machine, 0) {
         return Some(fail_at(machine, inbox, world, why));
     }
-    match take(inbox, &own, table) {
+    match inbox.take(selection) {
         Ok(taken) => react(
-            alloc, system, process, state, table, taken, machine, inbox, world,
+            alloc, system, process, state, table, &taken, machine, inbox, world,
         ),
         Err(_) => Some(fail_at(machine, inbox, world, Failure::Memory)),
     }
 }
 
 // A condition or a take fails.
+#[inline(never)]
 fn fail_at<P: Inbox, W: World>(
     machine: &mut Machine,
     inbox: &mut P,
@@ -161,7 +231,7 @@ fn react<P: Inbox, W: World>(
     process: &Process,
     state: StateId,
     table: &StateTable,
-    taken: Taken,
+    taken: &Taken,
     machine: &mut Machine,
     inbox: &mut P,
     world: &mut W,
@@ -175,13 +245,13 @@ fn react<P: Inbox, W: World>(
     ensures since { P.since inbox.new ≡ P.since inbox.old }
     ensures reacts { let old = value_of machine.old (P.owning inbox.old) in
         let new = value_of machine.new (P.owning inbox.new) in
-        Reacts system.now process.now state taken old (W.value world.old) result new (W.value world.new) }
+        Reacts system.now process.now state taken.now old (W.value world.old) result new (W.value world.new) }
 {
     match taken {
         Taken::Consumed(got) => Some(consume(
-            alloc, system, process, state, &got, machine, inbox, world,
+            alloc, system, process, state, got, machine, inbox, world,
         )),
-        Taken::Discarded(got) => Some(discard(state, &got, machine, inbox, world)),
+        Taken::Discarded(got) => Some(discard(state, got, machine, inbox, world)),
         Taken::Nothing => try_continuous(
             alloc,
             system,
@@ -196,6 +266,7 @@ fn react<P: Inbox, W: World>(
 }
 
 // The state has no input of the signal, and doesn't save it.
+#[inline(never)]
 fn discard<P: Inbox, W: World>(
     state: StateId,
     got: &Got,
@@ -272,6 +343,7 @@ fn consume<P: Inbox, W: World>(
 }
 
 // The values go to the variables of the input, and its transition is made.
+#[inline(always)]
 fn begin<P: Inbox, W: World>(
     alloc: Global,
     system: &System,
@@ -315,6 +387,7 @@ fn begin<P: Inbox, W: World>(
 }
 
 // The port gave nothing.
+#[inline(never)]
 fn try_continuous<P: Inbox, W: World>(
     alloc: Global,
     system: &System,

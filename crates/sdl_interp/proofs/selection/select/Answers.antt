@@ -1,20 +1,13 @@
-use Rattle.std.proofs.Common.{◌≡◌, ◌∙◌, Bool, List, Ok, ap, length, map, refl, rules, subst, sym, tests}
+use Rattle.std.proofs.Common.{◌≡◌, ◌∙◌, Bool, List, Ok, ap, length, map, refl, subst, sym}
 use Rattle.std.proofs.lemmas.Result.{err_from_is_err_and}
 use Rattle.port_model.specs.declared.selection.Class.{Class}
-use Rattle.sdl_interp.proofs.SelectionLemmas.{cannot_by_condition, cannot_for_memory, made_selects, none_listed, plain_selects}
+use Rattle.sdl_interp.proofs.SelectionLemmas.{cannot_by_condition, cannot_for_memory, made_selects}
 use Rattle.sdl_interp.specs.Condition.{are_conditions}
 use Rattle.sdl_report.specs.declared.failure.Failure.TheVariants.{Memory}
 use Rattle.sdl_runs.specs.Leads.{Selecting}
 use Rattle.sdl_steps.specs.Machine.{identity_of}
 use Rattle.sdl_system.specs.declared.signal.Signal.{Signal}
 use Rattle.sdl_interp.proofs.selection.select.Goals as goal
-
-pub returns-then-is_empty-clause-ok : goal.returns-then-is_empty-clause-ok
-returns-then-is_empty-clause-ok g c =
-    let machine = c.args.machine.now in
-    let none : length c.args.table.now.conditions.items ≡ 0 = search (rules, tests) in
-    plain_selects c.args.system.now c.args.process.now c.args.table.now (identity_of machine.trace) machine.store
-    (g.P.Inbox.owning c.args.inbox.now).state (none_listed c.args.table.now.conditions.items none)
 
 pub returns-in_err-truths-clause-err : goal.returns-in_err-truths-clause-err
 returns-in_err-truths-clause-err g c =
