@@ -40,6 +40,7 @@ impl Acts {
     }
 
     /// An act more. Refused for want of memory, but never where there is room; nothing has changed then.
+    #[inline(always)]
     pub fn push(&mut self, act: Act) -> Result<(), AllocError>
         ensures ok { OnOk result (self.new.items ≡ self.old.items ++ act ∷ []) }
         ensures err { OnErr result (self.new.items ≡ self.old.items) }
@@ -54,6 +55,7 @@ impl Acts {
     }
 
     /// Makes room for one act more. Refused for want of memory, but never where there is room.
+    #[inline(always)]
     pub fn prepare(&mut self) -> Result<(), AllocError>
         ensures ok { OnOk result (self.new.has_room ≡ true) }
         ensures items { self.new.items ≡ self.old.items }
@@ -66,6 +68,7 @@ impl Acts {
     }
 
     /// An act more, for which there is room. Takes no memory.
+    #[inline(always)]
     pub fn push_reserved(&mut self, act: Act)
         requires { self.old.has_room ≡ true }
         ensures { self.new.items ≡ self.old.items ++ act ∷ [] }
@@ -78,6 +81,7 @@ impl Acts {
     }
 
     /// The first act, and those behind it. None: there is no act.
+    #[inline(always)]
     pub fn split_first(self) -> Option<(Act, Vec<Act>)>
         ensures some { IfSome result (λ parts. self.items ≡ parts.0 ∷ parts.1.items) }
         ensures none { IfNone result (self.items ≡ []) }

@@ -44,10 +44,14 @@ impl<'s> Instances<'s> {
             return Ok(());
         };
         self.perform(alloc, board, first)?;
+        if rest.is_empty() {
+            return Ok(());
+        }
         self.perform_rest(alloc, board, rest)
     }
 
     // Does what comes behind the first act.
+    #[inline(never)]
     fn perform_rest(
         &mut self,
         alloc: Global,
@@ -141,6 +145,7 @@ impl<'s> Instances<'s> {
 
     // Puts a signal into the port of its target. What goes to the environment, to null, to nobody or to a number that
     // nobody has is gone.
+    #[inline(always)]
     fn send(&mut self, board: &mut Board, target: Target, item: Item) -> Result<(), RunError>
         requires { IsSerial board.old.awake self.old }
         ensures kept { OnOk result (IsSerial board.new.awake self.new) }

@@ -1,4 +1,5 @@
-use Rattle.std.proofs.Common.{◌+◌, ◌≤◌, map, ap, ◌∙◌, arith, subst, sym}
+use Rattle.std.proofs.Common.{◌≡◌, ◌+◌, ◌≤◌, ◌∷◌, [], map, ap, ◌∙◌, arith, rules, subst, sym, tests}
+use Rattle.std.proofs.lemmas.List.{nil_from_length}
 use Rattle.std.proofs.lemmas.Result.{on_ok_weaker}
 use Rattle.sdl_around.specs.Around.{AreNumbered, act_of}
 use Rattle.sdl_courses.specs.Global.{after_acts}
@@ -24,3 +25,12 @@ pub returns-clause-fuses : goal.returns-clause-fuses
 returns-clause-fuses c = λ until low all.
     let within : until ≤ c.perform.new.board.clock + 1 = omega (arith, low, c.perform.ensures.clock) in
     c.perform_rest.ensures.fuses until within (c.in_ok-perform.ensures.fuses until low all)
+
+-- there is no other act
+
+pub returns-then-is_empty-clause-state : goal.returns-then-is_empty-clause-state
+returns-then-is_empty-clause-state c = λ m numbered.
+    let none : c.in-Some.rest.items ≡ [] = nil_from_length c.in-Some.rest.items (search (rules, tests)) in
+    let acts = ap (map act_of) (c.in-Some.ensures.some ∙ ap (λ rest. c.in-Some.first ∷ rest) none) in
+    c.in_ok-perform.ensures.state m (subst (AreNumbered c.args.self.now.census.given) acts numbered)
+    ∙ sym (ap (after_acts (state_of (at_board m c.args.board.now) c.args.self.now)) acts)
