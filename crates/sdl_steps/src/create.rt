@@ -20,6 +20,7 @@ use std::alloc::Global;
 
 /// Makes an instance with the values of its parameters, or none where no more may live; the values are evaluated all
 /// the same.
+#[inline(never)]
 pub fn create<P: Inbox, W: World>(
     alloc: Global,
     creation: &Creation,

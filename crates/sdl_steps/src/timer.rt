@@ -20,6 +20,7 @@ use sdl_system::{Due, Setting, Sort, System, TimerUse, number_of};
 use std::alloc::Global;
 
 /// Sets each timer, one after the other.
+#[inline(never)]
 pub fn set_all<P: Inbox, W: World>(
     alloc: Global,
     settings: &[Setting],
@@ -147,6 +148,7 @@ fn later(now: Ticks, duration: i64) -> Result<i64, Failure>
 }
 
 /// Resets each timer, one after the other.
+#[inline(never)]
 pub fn reset_all<P: Inbox>(
     alloc: Global,
     timers: &[TimerUse],
