@@ -1,16 +1,17 @@
 -- The value of a chain, operand by operand.
-use Rattle.std.proofs.Common.{◌≡◌, ◌∙◌, ◌<◌, ◌≤◌, ◌+◌, ◌++◌, ◌||◌, ℕ, Bool, true, false, refl, sym, ap, subst, inl, inr, Ok, List, [], ◌∷◌, length, get_or, take, drop, map}
+use Rattle.std.proofs.Common.{◌≡◌, ◌∙◌, ◌<◌, ◌≤◌, ◌+◌, ◌++◌, ◌||◌, ℕ, Bool, true, false, arith, refl, sym, ap, subst, inl, inr, Err, IfErr, IfOk, Ok, Result, List, [], ◌∷◌, length, get_or, take, drop, map}
 use Rattle.std.proofs.lemmas.Grind.{take_at_read}
 use Rattle.std.proofs.lemmas.List.{map-append, take-append-drop, take_all}
 use Rattle.port_model.specs.declared.value.Value.{Value}
 use Rattle.sdl_system.specs.Term.{Operand, Term, binary, chain_step, chained, expression_step, link_step, operand_of, term_of, term_of_chain}
 use Rattle.sdl_system.specs.declared.expression.Chain.{Chain, out-Chain}
-use Rattle.sdl_system.specs.declared.expression.Expression.TheFolds.{fold_out-Chain}
-use Rattle.sdl_system.specs.declared.expression.Link.{Link}
+use Rattle.sdl_system.specs.declared.expression.Expression.TheFolds.{fold_out-Chain, fold_out-Link}
+use Rattle.sdl_system.specs.declared.expression.Link.{Link, out-Link}
 use Rattle.sdl_report.specs.declared.failure.Failure.{Failure}
 use Rattle.sdl_evaluation.specs.Environment.{Environment}
 use Rattle.sdl_evaluation.specs.Memory.{FailsAs, wants_memory}
-use Rattle.sdl_evaluation.specs.Value.{operated, value_of}
+use Rattle.sdl_evaluation.specs.Value.{given, operated, value_of}
+use Rattle.sdl_system.specs.Operation.{applied}
 
 -- the evaluation of a term may end in this failure
 abbrev pub Fails : Environment → Term → Failure → Type 0
@@ -127,3 +128,35 @@ chain_value here chain links count value are all known =
     ap (value_of here) (chain_is chain)
     ∙ ap (λ list. value_of here (chained first (map operand_of list))) (sym (take_all count links all ∙ are))
     ∙ known
+
+-- a link as an operand
+link_is : (link : Link) →
+    operand_of link ≡ record { operation = (out-Link link).operation; term = term_of (out-Link link).operand }
+link_is link = fold_out-Link Term Term Operand expression_step chain_step link_step link
+
+-- a chain of two operands that have values
+pub pair_value : (here : Environment) (chain : Chain) (links : List Link) (link : Link) (left right : Value) →
+    links ≡ (out-Chain chain).rest.items → length links ≡ 1 → link ≡ get_or links 0 link →
+    value_of here (term_of (out-Chain chain).first) ≡ Ok left →
+    value_of here (term_of (out-Link link).operand) ≡ Ok right →
+    value_of here (term_of_chain chain) ≡ given (applied (out-Link link).operation left right)
+pair_value here chain links link left right are one is knows_left knows_right =
+    let first = term_of (out-Chain chain).first in
+    ap (value_of here) (chain_is chain)
+    ∙ ap (λ list. value_of here (chained first (map operand_of list)))
+    (sym (take_all 1 links (omega (arith, one)) ∙ are))
+    ∙ ap (value_of here) (up_to-more first links 0 link (omega (arith, one)) is)
+    ∙ ap (λ (right : Operand). operated right.operation (value_of here first) (value_of here right.term)) (link_is link)
+    ∙ ap (λ answer. operated (out-Link link).operation answer (value_of here (term_of (out-Link link).operand)))
+    knows_left
+    ∙ ap (operated (out-Link link).operation (Ok left)) knows_right
+
+-- what is meant is the answer, so a value of it is meant, and so is a failure
+pub answers_value : (meant answer : Result Value Failure) → meant ≡ answer → IfOk answer (λ value. meant ≡ Ok value)
+answers_value meant (Ok value) is = is
+answers_value meant (Err why) is = tt
+
+pub answers_failure : (wants : Bool) (meant answer : Result Value Failure) → meant ≡ answer →
+    IfErr answer (FailsAs wants meant)
+answers_failure wants meant (Ok value) is = tt
+answers_failure wants meant (Err why) is = inl is

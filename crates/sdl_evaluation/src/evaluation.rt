@@ -1,12 +1,13 @@
 //! The evaluation of expressions (Z.104: expressions).
 
-ghost use Rattle.std.specs.Prelude.{◌≡◌, Ok, IfErr, IfOk, map, true};
+ghost use Rattle.std.specs.Prelude.{◌≡◌, Ok, IfErr, IfOk, IfSome, map, true};
 ghost use Rattle.port_model.specs.Port.{PortState};
 ghost use Rattle.sdl_system.specs.System.{SystemValue};
 ghost use Rattle.sdl_system.specs.Term.{operand_of, term_of, term_of_chain};
 ghost use Rattle.sdl_evaluation.specs.Environment.{environment};
 ghost use Rattle.sdl_evaluation.specs.Memory.{FailsAs, list_wants_memory, wants_memory};
 ghost use Rattle.sdl_evaluation.specs.Variables.{value_in};
+ghost use Rattle.sdl_evaluation.specs.declared.identity.Identity as identity;
 ghost use Rattle.sdl_evaluation.specs.Value.{accessed, at_place, key_at, operated, pid_in, placed, time_value, truth_at, value_of, values_at};
 
 use crate::identity::Identity;
@@ -41,9 +42,11 @@ pub fn evaluate<P: Inbox>(
         let term = term_of expression.now in
         IfErr result (λ why. FailsAs (wants_memory term) (value_of here term) why) }
 {
+    if let Some(value) = known(expression, store) {
+        return Ok(value);
+    }
     match expression {
-        Expression::Value(value) => Ok(*value),
-        Expression::Variable(variable) => read(store, *variable),
+        Expression::Chain(chain) => evaluate_chain(alloc, chain, system, who, store, inbox),
         _ => evaluate_any(alloc, expression, system, who, store, inbox),
     }
 }
@@ -84,9 +87,52 @@ fn evaluate_any<P: Inbox>(
     }
 }
 
-// The operands from left to right.
+// The operands from left to right. Most chains are of two operands that are known.
 #[cycle(evaluation)]
+#[inline(always)]
 fn evaluate_chain<P: Inbox>(
+    alloc: Global,
+    chain: &Chain,
+    system: &System,
+    who: &Identity,
+    store: &Store,
+    inbox: &P,
+) -> Result<Value, Failure>
+    requires { (P.owning inbox.now).state.alive ≡ true }
+    ensures ok { let here = environment system.now who.now store.now (P.owning inbox.now).state in
+        IfOk result (λ value. value_of here (term_of_chain chain.now) ≡ Ok value) }
+    ensures err { let here = environment system.now who.now store.now (P.owning inbox.now).state in
+        let term = term_of_chain chain.now in
+        IfErr result (λ why. FailsAs (wants_memory term) (value_of here term) why) }
+{
+    match evaluate_pair(chain, store) {
+        Some(answer) => answer,
+        None => evaluate_links(alloc, chain, system, who, store, inbox),
+    }
+}
+
+// What a chain of two operands that are known comes to. None: it is another one.
+#[inline(always)]
+fn evaluate_pair(chain: &Chain, store: &Store) -> Option<Result<Value, Failure>>
+    ensures { (system : SystemValue) (who : identity.Identity) (port : PortState)
+        → IfSome result (λ answer. value_of (environment system who store.now port) (term_of_chain chain.now) ≡ answer) }
+{
+    if chain.rest.len() != 1 {
+        return None;
+    }
+    let link = &chain.rest[0];
+    let left = known(&chain.first, store)?;
+    let right = known(&link.operand, store)?;
+    match link.operation.apply(left, right) {
+        Ok(value) => Some(Ok(value)),
+        Err(why) => Some(Err(Failure::from(why))),
+    }
+}
+
+// The operands one after the other.
+#[cycle(evaluation)]
+#[inline(never)]
+fn evaluate_links<P: Inbox>(
     alloc: Global,
     chain: &Chain,
     system: &System,
@@ -110,6 +156,7 @@ fn evaluate_chain<P: Inbox>(
 
 // One more operation on the value of what stands before it.
 #[cycle(evaluation)]
+#[inline(always)]
 fn evaluate_link<P: Inbox>(
     alloc: Global,
     left: Value,
@@ -135,6 +182,7 @@ fn evaluate_link<P: Inbox>(
 /// What an expression comes to at a place of a sort: a number takes the sort of its place. Where there is no
 /// such place it stays what it is. Errors: those of `evaluate`, and then `NotNatural` for a negative value at a Natural
 /// place.
+#[inline(always)]
 pub fn evaluate_at<P: Inbox>(
     alloc: Global,
     expression: &Expression,
@@ -159,6 +207,7 @@ pub fn evaluate_at<P: Inbox>(
 /// stays what it is. Errors: the first failure, that of an expression or of its place. `Memory` only where there are
 /// values.
 #[cycle(evaluation)]
+#[inline(always)]
 pub fn evaluate_all<P: Inbox>(
     alloc: Global,
     expressions: &[Expression],
@@ -188,6 +237,7 @@ pub fn evaluate_all<P: Inbox>(
 
 /// The key of a timer with these values, each at its place. Errors: those of `evaluate_all`.
 #[cycle(evaluation)]
+#[inline(never)]
 pub fn evaluate_key<P: Inbox>(
     alloc: Global,
     timer: SignalId,
@@ -266,8 +316,20 @@ fn pid_of(word: PidExpression, who: &Identity, store: &Store) -> Pid
     }
 }
 
-// The value of a variable; one that was never assigned has none.
+// What a literal, or a variable that has a value, comes to. None: it is another expression.
 #[inline(always)]
+fn known(expression: &Expression, store: &Store) -> Option<Value>
+    ensures { (system : SystemValue) (who : identity.Identity) (port : PortState)
+        → IfSome result (λ value. value_of (environment system who store.now port) (term_of expression.now) ≡ Ok value) }
+{
+    match expression {
+        Expression::Value(value) => Some(*value),
+        Expression::Variable(variable) => store.variables.get(*variable),
+        _ => None,
+    }
+}
+
+// The value of a variable; one that was never assigned has none.
 fn read(store: &Store, variable: VariableId) -> Result<Value, Failure>
     ensures { result ≡ accessed (value_in store.now.variables variable) }
 {

@@ -7,8 +7,8 @@ use Rattle.sdl_system.specs.Term.{term_of}
 use Rattle.sdl_system.specs.declared.expression.Chain.{out-Chain}
 use Rattle.sdl_evaluation.proofs.evaluation.+evaluation.Given as goal
 
-abbrev pub invariant-evaluate_chain-loop-link : goal.invariant-evaluate_chain-loop-link
-invariant-evaluate_chain-loop-link g l =
+abbrev pub invariant-evaluate_links-loop-link : goal.invariant-evaluate_links-loop-link
+invariant-evaluate_links-loop-link g l =
     value_of (environment l.system l.who l.store (g.P.Inbox.owning l.inbox).state)
     (up_to (term_of (out-Chain l.chain).first) l.link-index l.link-items) ≡ Ok l.value
 
