@@ -1,0 +1,2 @@
+pub mod Signals
+mod Told
