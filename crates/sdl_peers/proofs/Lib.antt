@@ -1,0 +1,5 @@
+pub mod Kept
+mod LawLemmas
+pub mod SenderLemmas
+pub mod SentLemmas
+pub mod TraceLemmas

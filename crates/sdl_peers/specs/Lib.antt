@@ -1,0 +1,3 @@
+pub mod Laws
+pub mod Peers
+pub mod Sent

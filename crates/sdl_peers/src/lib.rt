@@ -1,0 +1,18 @@
+//! The sending side of an instance in a run on threads (Z.101: input port; Z.102: output, timer).
+//!
+//! `Peers` has a sender into the port of each instance, from the first signal on that finds a port there. By the
+//! contract of each call, what was put into a port stays the end of what a record sends there, where it is so before:
+//! a signal is put, and then its output is recorded. `Sending` has a record beside its peers, and this fact in its
+//! type. `laws` has where it leads, once a port has gathered its senders.
+#![tactic(auto)]
+
+pub mod laws;
+mod peer;
+mod peers;
+mod run;
+mod sending;
+
+pub use peer::Peer;
+pub use peers::Peers;
+pub use run::Run;
+pub use sending::{Released, Sending};
