@@ -15,7 +15,7 @@ index-entry-requires c =
 pub process_at-requires-clause-listed : goal.process_at-requires-clause-listed
 process_at-requires-clause-listed c =
     let entries = c.args.tables.now.processes.items in
-    ap (slice_get (map process_seen entries)) c.in_ok-number.ensures
+    ap (slice_get (map process_seen entries)) c.in_ok-number.ensures.same
     ∙ mapped-get process_seen entries c.args.place c.index-entry.result.now
     (slice_get_read entries (length entries) c.args.place c.index-entry.result.now refl
     (less-than c.args.place _ _ (length entries) c.requires.within (length-map process_seen entries) refl)
@@ -24,13 +24,13 @@ process_at-requires-clause-listed c =
 pub process_at-requires-clause-valid : goal.process_at-requires-clause-valid
 process_at-requires-clause-valid c =
     subst (λ n. IsValidSet (survey_of c.args.tables.now c.args.declared.now c.args.figures.now c.args.joined.now)
-    (record { 0 = n }) c.args.valid) (sym c.in_ok-number.ensures) c.requires.valid
+    (record { 0 = n }) c.args.valid) (sym c.in_ok-number.ensures.same) c.requires.valid
 
 pub returns-clause-made : goal.returns-clause-made
 returns-clause-made c =
     let entries = c.args.tables.now.processes.items in
     made-at-if (survey_of c.args.tables.now c.args.declared.now c.args.figures.now c.args.joined.now)
-    c.in_ok-number.number c.args.place (process_seen c.index-entry.result.now) c.process_at.result c.in_ok-number.ensures
+    c.in_ok-number.number c.args.place (process_seen c.index-entry.result.now) c.process_at.result c.in_ok-number.ensures.same
     (mapped-get process_seen entries c.args.place c.index-entry.result.now
     (slice_get_read entries (length entries) c.args.place c.index-entry.result.now refl
     (less-than c.args.place _ _ (length entries) c.requires.within (length-map process_seen entries) refl)
@@ -42,7 +42,7 @@ returns-clause-noted c =
     let entries = c.args.tables.now.processes.items in
     noted-at (survey_of c.args.tables.now c.args.declared.now c.args.figures.now c.args.joined.now)
     c.in_ok-number.number c.args.place (process_seen c.index-entry.result.now) _ _ c.process_at.result
-    c.in_ok-number.ensures
+    c.in_ok-number.ensures.same
     (mapped-get process_seen entries c.args.place c.index-entry.result.now
     (slice_get_read entries (length entries) c.args.place c.index-entry.result.now refl
     (less-than c.args.place _ _ (length entries) c.requires.within (length-map process_seen entries) refl)

@@ -21,6 +21,6 @@ returns-clause-network c =
 pub returns-clause-members : goal.returns-clause-members
 returns-clause-members c =
     members-if c.in_ok-lists.lists _ c.over.result
-    (c.in_ok-lists.ensures ∙ c.len.ensures ∙ c.args.tables.now.lists.ok.0
+    (c.in_ok-lists.ensures.same ∙ c.len.ensures ∙ c.args.tables.now.lists.ok.0
     ∙ sym (length-map signal_list_seen c.args.tables.now.lists.items))
     c.over.ensures.members
