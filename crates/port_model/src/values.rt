@@ -71,7 +71,11 @@ impl Values {
         ensures ok { IfOk result (λ copy. copy ≡ self.now) }
         ensures few { length self.now ≤ 2 → IsOk result }
     {
-        Self::from_slice(*self.list.allocator(), self.list.as_slice())
+        let mut copy = Self::none(*self.list.allocator());
+        for value in self.list.as_slice() {
+            copy.push(*value)?;
+        }
+        Ok(copy)
     }
 
     /// The value of the parameter at `index`, from 0.
