@@ -1,5 +1,5 @@
 //! The port of one thread as an inbox.
-ghost use Rattle.std.specs.Prelude.{◌≡◌, ◌==◌, ◌&&◌, [], MatchResult};
+ghost use Rattle.std.specs.Prelude.{◌≡◌, ◌==◌, ◌&&◌, [], true, MatchResult, OnErr};
 ghost use Rattle.port_model.specs.Port.{empty_port, expires, put_into};
 ghost use Rattle.inbox.specs.Calls.{after_entry, ComesBack};
 ghost use Rattle.inbox.specs.declared.entry.Entry.TheVariants.{Timer};
@@ -43,6 +43,7 @@ impl Alone {
             (λ _. self.new ≡ record self.old { state = put_into self.old.state item })
             (λ back. ComesBack back item × (self.new ≡ self.old)) }
         ensures alive { self.new.state.alive ≡ self.old.state.alive }
+        ensures refused { OnErr result (self.old.state.alive ≡ true) }
     {
         self.plain.put(item)
     }
@@ -57,6 +58,8 @@ impl Alone {
             (λ _. self.new ≡ record self.old { state = after_entry self.old.pid self.old.state at (Timer fuse) })
             (λ _. self.new ≡ self.old) }
         ensures alive { self.new.state.alive ≡ self.old.state.alive }
+        ensures refused { OnErr result ((fuse.pid ≡ self.old.pid)
+            × (expires self.old.state fuse.key fuse.arm fuse.due at ≡ true)) }
     {
         if fuse.pid() != self.pid {
             return Ok(false);

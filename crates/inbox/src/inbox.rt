@@ -1,5 +1,5 @@
 //! The owner's calls, whatever stands behind the port.
-ghost use Rattle.std.specs.Prelude.{◌≡◌, ◌↔◌, Bool, true, List, IsErrOf, MatchResult};
+ghost use Rattle.std.specs.Prelude.{◌≡◌, ◌↔◌, Bool, false, true, List, IsErrOf, IsOk, MatchResult};
 ghost use Rattle.port_model.specs.Timers.{due_times, is_active, IsLeast};
 ghost use Rattle.port_model.specs.declared.plain_port.TheConstants.{MOST_SETS};
 ghost use Rattle.inbox.specs.Calls.{after_reset, after_stop, SetIs, TakeIs};
@@ -21,12 +21,14 @@ pub trait Inbox {
     /// Whether all that comes into the port from outside is drawn from a queue that threads share.
     ghost shared: { Bool };
 
-    /// Takes from the port (Z.102, priority input, save). For want of memory nothing is taken.
+    /// Takes from the port (Z.102, priority input, save). For want of memory nothing is taken; where nothing comes in
+    /// from a queue, none is wanted.
     fn take(&mut self, selection: &Selection) -> Result<Taken, PortError>
         requires { (Self.owning self.old).state.alive ≡ true }
         ensures since { Self.since self.new ≡ Self.since self.old }
         ensures alive { (Self.owning self.new).state.alive ≡ true }
-        ensures take { TakeIs selection.now (Self.owning self.old) (Self.owning self.new) result };
+        ensures take { TakeIs selection.now (Self.owning self.old) (Self.owning self.new) result }
+        ensures unshared { Self.shared ≡ false → IsOk result };
 
     /// Sets a timer for the time `due`, after a reset.
     fn set(&mut self, key: TimerKey, due: Ticks) -> Result<Fuse, PortError>

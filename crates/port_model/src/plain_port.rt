@@ -130,6 +130,7 @@ impl PlainPort {
         ensures err { OnErr result (self.new.state ≡ self.old.state) }
         ensures handed_back { IfErr result (λ refused. refused.value ≡ key) }
         ensures memory { IfErr result (λ refused. refused.error ≡ PortError.Memory) }
+        ensures refused_due { OnErr result (expires self.old.state key arm due at ≡ true) }
         ensures armed { self.new.armed ≡ self.old.armed }
         ensures full { OnErr result (self.old.room ≡ 0) }
     {

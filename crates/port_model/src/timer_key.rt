@@ -1,6 +1,6 @@
 //! What tells timers apart.
 
-ghost use Rattle.std.specs.Prelude.{◌≡◌, IfOk};
+ghost use Rattle.std.specs.Prelude.{◌≡◌, ◌≤◌, length, IfOk, IsOk};
 
 use crate::{SignalId, Values};
 use std::alloc::AllocError;
@@ -13,9 +13,10 @@ pub struct TimerKey {
 }
 
 impl TimerKey {
-    /// A copy. Only memory can be wanting.
+    /// A copy. Only memory can be wanting, and never for up to two values.
     pub fn copied(&self) -> Result<Self, AllocError>
-        ensures { IfOk result (λ copy. copy ≡ self.now) }
+        ensures ok { IfOk result (λ copy. copy ≡ self.now) }
+        ensures few { length self.now.values ≤ 2 → IsOk result }
     {
         Ok(TimerKey {
             name: self.name,

@@ -1,5 +1,5 @@
 //! The table of a port's active timers. Each call takes a time that is logarithmic in their number.
-ghost use Rattle.std.specs.Prelude.{◌≡◌, ◌==◌, ◌&&◌, not, ◌<◌, ◌++◌, ◌∷◌, [], true, false, if◌then◌else◌, All, MatchOption, MatchResult, IfOk};
+ghost use Rattle.std.specs.Prelude.{◌≡◌, ◌==◌, ◌&&◌, not, ◌<◌, ◌++◌, ◌∷◌, [], true, false, if◌then◌else◌, All, MatchOption, MatchResult, IfOk, IfSome};
 ghost use Rattle.std.specs.BTreeSet.{contains};
 ghost use Rattle.port_model.specs.Table.{deadline_order, is_until};
 ghost use Rattle.port_model.specs.Timers.{armed_for, due_times, is_active, is_running, waits, with_waiting, without_armed, without_key, Armed, IsLeast};
@@ -88,6 +88,7 @@ impl Timers {
               arm = timer.arm;
               due = timer.due;
             } ∷ []) }
+        ensures waiting { IfSome result (λ timer. timer.waits ≡ waits key.now self.now.timers) }
     {
         match self.table.get(key) {
             None => None,
