@@ -5,4 +5,5 @@ pub mod NameLemmas
 pub mod OperationLemmas
 pub mod RouteLemmas
 pub mod SoundnessLemmas
+mod StateLemmas
 pub mod WalkLemmas

@@ -23,6 +23,9 @@ pub struct StateTable {
     pub continuous: Vec<Continuous>,
 }
 
+// So few signals are compared one by one, which is sooner done than to look for one by its hash.
+const FEW: usize = 8;
+
 /// What is done with each signal that a state names.
 #[derive(Debug, Drop)]
 pub struct Reactions {
@@ -51,7 +54,18 @@ impl Reactions {
     pub fn get(&self, signal: SignalId) -> Option<&Reaction>
         ensures { option_copied result ≡ named_reaction self.now signal }
     {
-        self.by_signal.get(&signal)
+        if self.by_signal.len() > FEW {
+            return self.by_signal.get(&signal);
+        }
+        for place in 0..self.by_signal.len() {
+            let Some((name, reaction)) = self.by_signal.get_index(place) else {
+                unreachable!()
+            };
+            if signal == *name {
+                return Some(reaction);
+            }
+        }
+        None
     }
 }
 
