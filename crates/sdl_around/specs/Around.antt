@@ -23,6 +23,7 @@ world_of w = record {
   clock = Some w.clock;
   census = Some (census_now w.changed w.begun.now);
   acts = Some (map act_of w.acts.items);
+  sent = None;
 }
 
 -- the instances that are made have the numbers behind those that were given, one after the other

@@ -4,11 +4,11 @@ use Rattle.std.proofs.lemmas.Option.{same_Some}
 use Rattle.port_model.specs.History.{PortEvent}
 use Rattle.port_model.specs.Port.{empty_port}
 use Rattle.inbox.specs.declared.placed.Placed.{Placed}
-use Rattle.sdl_courses.proofs.Acting.{all_own, later_none, runs_acts}
 use Rattle.sdl_courses.proofs.Beginnings.{known_beginning}
 use Rattle.sdl_courses.proofs.Known.{AreKnown, IsKnown, acts_known, acts_moment, are_known_as, expiry_known, known_as, moment_of, same_known}
 use Rattle.sdl_courses.proofs.Made.{MakeNext, deeds_make}
 use Rattle.sdl_courses.proofs.Numbers.{at_with, eq_of, length-change, length-with, other_is, within}
+use Rattle.sdl_courses.proofs.Own.{all_own, later_none}
 use Rattle.sdl_courses.specs.Course.{AreBehaviours, Course, Expired, Follows, Happening, Heard, Hears, Moved, Steps, Ticked, begins, goes}
 use Rattle.sdl_courses.specs.Global.{Global, after_acts, around, beginning, census_of, heard_acts, instance_at, with_expiry, with_instance}
 use Rattle.sdl_courses.specs.Laws.{EachIsTold}
@@ -16,6 +16,7 @@ use Rattle.sdl_courses.specs.Told.{Moment, comes_by, deeds_of, deeds_of_one, fir
 use Rattle.sdl_evaluation.specs.declared.identity.Identity.{Identity}
 use Rattle.sdl_interp.specs.Instance.{InstanceValue}
 use Rattle.sdl_report.specs.Event.{Event}
+use Rattle.sdl_runs.proofs.Acting.{runs_acts}
 use Rattle.sdl_runs.proofs.Deeds.{events_of-append}
 use Rattle.sdl_runs.proofs.Runs.{Runs-append}
 use Rattle.sdl_runs.specs.Act.{Act, Deed, acts_of, calls_of, events_of}

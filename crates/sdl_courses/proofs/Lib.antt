@@ -1,4 +1,3 @@
-pub mod Acting
 mod Beginnings
 mod Clocks
 mod Histories
@@ -6,4 +5,5 @@ mod Known
 pub mod Made
 mod Matching
 mod Numbers
+pub mod Own
 mod Scripts

@@ -6,7 +6,6 @@ use Rattle.port_model.specs.History.{Expire, PortEvent, Put, Reset, Set, Stop, T
 use Rattle.port_model.specs.declared.item.Item.{Item}
 use Rattle.port_model.specs.declared.pid.Pid.{Pid}
 use Rattle.port_model.specs.declared.pid.Pid.TheVariants as pid
-use Rattle.sdl_courses.proofs.Acting.{AreActs, AreActsOf, runs_acts}
 use Rattle.sdl_courses.proofs.Scripts.{script_goes}
 use Rattle.sdl_courses.specs.Course.{Course, Expired, Follows, Happening, Heard, Moved, Steps, Ticked, begins, goes}
 use Rattle.sdl_courses.specs.Global.{Global, beginning, heard_acts}
@@ -15,6 +14,7 @@ use Rattle.sdl_courses.specs.Told.{Moment, acts_by, comes_by, comes_by_one, expi
 use Rattle.sdl_evaluation.specs.declared.identity.Identity.{Identity}
 use Rattle.sdl_report.specs.Event as event
 use Rattle.sdl_report.specs.Event.{Event}
+use Rattle.sdl_runs.proofs.Acting.{AreActs, AreActsOf, runs_acts}
 use Rattle.sdl_runs.specs.Act.{Act, Arm, Create, Deed, Send, acts_of, calls_of}
 use Rattle.sdl_runs.specs.Leads.{created}
 use Rattle.sdl_runs.specs.Place.{Definition}

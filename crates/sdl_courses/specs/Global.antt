@@ -73,6 +73,7 @@ around g = record {
   clock = Some g.clock;
   census = Some (census_of g.system g.instances);
   acts = Some [];
+  sent = None;
 }
 
 -- ---- instances by their numbers

@@ -80,7 +80,7 @@ fn name_of(system: &System, signal: SignalId) -> &str {
 }
 
 impl World for Outside<'_> {
-    ghost value = { λ w. record { system = w.system.now; clock = Some w.clock; census = None; acts = None } };
+    ghost value = { λ w. record { system = w.system.now; clock = Some w.clock; census = None; acts = None; sent = None } };
 
     ghost prepared = { λ w. true };
 

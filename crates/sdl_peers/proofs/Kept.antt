@@ -14,7 +14,7 @@ use Rattle.sdl_system.specs.declared.route.Dest.{Dest}
 use Rattle.sdl_peers.proofs.SenderLemmas.{IsSet, put_in, put_to-puts, put_to-set, sender_to-last}
 use Rattle.sdl_peers.proofs.SentLemmas.{sent_by_one-output, sent_to-append}
 use Rattle.sdl_peers.specs.Peers.{AreLast, ArePeers, PeersState, PutsTo, put_by, put_to, sender_to}
-use Rattle.sdl_peers.specs.Sent.{output_of, sent_by_one, sent_to}
+use Rattle.sdl_runs.specs.Sent.{output_of, sent_by_one, sent_to}
 
 -- nothing is the last of anything
 pub last_none : (who : ℕ) (events : List Event) (number : ℕ) → AreLast who events number []

@@ -10,7 +10,7 @@ use Rattle.sdl_counts.proofs.Signals.{signals_in-append}
 use Rattle.sdl_peers.proofs.Kept.{last_more, last_none}
 use Rattle.sdl_peers.specs.Laws.{NobodyPuts, OthersPutNothing, SendersFillRows}
 use Rattle.sdl_peers.specs.Peers.{AreLast, put_by, put_to}
-use Rattle.sdl_peers.specs.Sent.{sent_by_one}
+use Rattle.sdl_runs.specs.Sent.{sent_by_one}
 
 pub nobody_puts : NobodyPuts
 nobody_puts = last_none

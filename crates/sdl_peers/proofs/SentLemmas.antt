@@ -6,7 +6,7 @@ use Rattle.port_model.specs.declared.pid.Pid.{Pid}
 use Rattle.port_model.specs.declared.pid.Pid.TheVariants.{Of}
 use Rattle.sdl_report.specs.Event.{Event}
 use Rattle.sdl_system.specs.declared.route.Dest.{Dest}
-use Rattle.sdl_peers.specs.Sent.{output_of, sent_by_one, sent_to}
+use Rattle.sdl_runs.specs.Sent.{output_of, sent_by_one, sent_to}
 
 pub sent_to-append : (who : ℕ) (events : List Event) (happened : Event) (number : ℕ)
     → sent_to who (events ++ happened ∷ []) number ≡ sent_to who events number ++ sent_by_one who number happened

@@ -7,7 +7,7 @@ use Rattle.sdl_report.specs.Record.{RecordValue, noted, with_room}
 use Rattle.sdl_system.specs.declared.route.Dest.{Dest}
 use Rattle.sdl_system.specs.declared.route.Target.TheVariants.{Instance}
 use Rattle.sdl_peers.specs.Peers.{GoesOn, IsButForRoom}
-use Rattle.sdl_peers.specs.Sent.{output_of}
+use Rattle.sdl_runs.specs.Sent.{output_of}
 
 but_for_room : (old new : RecordValue) (room values_room : ℕ) → new ≡ with_room old room values_room → IsButForRoom old new
 but_for_room old new room values_room is =

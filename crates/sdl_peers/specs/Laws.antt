@@ -9,7 +9,7 @@ use Rattle.port_model.specs.declared.pid.Pid.TheVariants.{Of}
 use Rattle.sdl_counts.specs.Rows.{Holds}
 use Rattle.sdl_report.specs.Event.{Event}
 use Rattle.sdl_peers.specs.Peers.{AreLast, ArePeers, PeersState, put_by, put_to}
-use Rattle.sdl_peers.specs.Sent.{sent_by_one, sent_to}
+use Rattle.sdl_runs.specs.Sent.{sent_by_one, sent_to}
 
 -- Without senders nothing was put, whatever the events are.
 abbrev pub NobodyPuts : Type 0

@@ -14,7 +14,7 @@ use Rattle.port_model.specs.declared.pid.Pid.TheVariants.{Of}
 use Rattle.sdl_counts.specs.Rows.{EndsWith}
 use Rattle.sdl_report.specs.Event.{Event}
 use Rattle.sdl_report.specs.Record.{RecordValue, with_room}
-use Rattle.sdl_peers.specs.Sent.{sent_to}
+use Rattle.sdl_runs.specs.Sent.{sent_to}
 
 -- ---- the senders
 

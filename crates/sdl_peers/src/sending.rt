@@ -5,7 +5,7 @@ ghost use Rattle.inbox.specs.Calls.{ComesBack};
 ghost use Rattle.inbox.specs.declared.entry.Entry.TheVariants.{Signal, Timer};
 ghost use Rattle.port_model.specs.declared.pid.Pid.TheVariants.{Of};
 ghost use Rattle.sdl_peers.specs.Peers.{is_known, put_by, put_to, ArePeers, GoesOn, IsButForRoom, PutsTo};
-ghost use Rattle.sdl_peers.specs.Sent.{output_of};
+ghost use Rattle.sdl_runs.specs.Sent.{output_of};
 
 use crate::{Peers, Run};
 use inbox::{Fuse, Refused};

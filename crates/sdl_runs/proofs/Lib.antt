@@ -1,3 +1,4 @@
+pub mod Acting
 pub mod Deeds
 pub mod Ends
 pub mod Failing
@@ -6,3 +7,4 @@ pub mod Histories
 pub mod Outside
 pub mod Runs
 pub mod Same
+pub mod Sent

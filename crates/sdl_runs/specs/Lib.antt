@@ -9,4 +9,5 @@ pub mod Reception
 pub mod RunLaws
 pub mod Runs
 pub mod Selection
+pub mod Sent
 pub mod World

@@ -1,5 +1,5 @@
 -- Laws of runs.
-use Rattle.std.specs.Prelude.{◌≡◌, ℕ, List, [], ◌++◌}
+use Rattle.std.specs.Prelude.{◌≡◌, ℕ, List, [], ◌++◌, Some}
 use Rattle.inbox.specs.Calls.{after_draws}
 use Rattle.inbox.specs.declared.placed.Placed.{Placed}
 use Rattle.port_model.specs.History.{PortEvent}
@@ -8,11 +8,13 @@ use Rattle.port_model.specs.declared.selection.Class.{Class}
 use Rattle.sdl_evaluation.specs.Environment.{environment}
 use Rattle.sdl_evaluation.specs.declared.identity.Identity.{Identity}
 use Rattle.sdl_evaluation.specs.declared.store.Store.{Store}
-use Rattle.sdl_runs.specs.Act.{Deed}
+use Rattle.sdl_runs.specs.Act.{Deed, events_of}
 use Rattle.sdl_runs.specs.Leads.{Selecting}
 use Rattle.sdl_runs.specs.Place.{Closed, Definition, Ended, Place}
 use Rattle.sdl_runs.specs.Runs.{Runs}
 use Rattle.sdl_runs.specs.Selection.{tried}
+use Rattle.sdl_runs.specs.Sent.{sent_with}
+use Rattle.sdl_runs.specs.World.{Sent, WorldValue, after_deeds}
 use Rattle.sdl_system.specs.Behaviour.{ContinuousSignal}
 use Rattle.sdl_system.specs.declared.id.StateId.{StateId}
 
@@ -33,6 +35,15 @@ GoesNoFurther place =
 -- so it is with an instance that has ended, and with a record that is closed
 abbrev pub EndsForGood : Type 0
 EndsForGood = GoesNoFurther Ended × GoesNoFurther Closed
+
+-- Where it is known what was sent before a run, it is known behind it: to each instance that has a port, in addition what
+-- the events of the run send there.
+abbrev pub OutputsAreSent : Type 0
+OutputsAreSent =
+    (d : Definition) (who : Identity) (from to : Place) (s t : Store) (q r : PortState) (deeds : List Deed)
+    (history : List PortEvent) (w : WorldValue) (sent : Sent)
+    → Runs d who from s q deeds history to t r → w.sent ≡ Some sent
+    → (after_deeds w deeds).sent ≡ Some (sent_with who.pid (events_of deeds) sent)
 
 -- What is drawn, of signals and expiries, changes neither the classes that a state selects nor which of its continuous
 -- signals begins.

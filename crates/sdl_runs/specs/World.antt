@@ -1,17 +1,19 @@
 -- What lies outside of an instance, as it makes its steps: the clock, who lives, and what it did to it.
-use Rattle.std.specs.Prelude.{◌≡◌, ◌+◌, ◌||◌, max, nat_le, ℕ, Bool, true, false, List, [], ◌∷◌, ◌++◌, Option, None, Some, IfSome, if◌then◌else◌, slice_get, slice_set, unwrap_or}
+use Rattle.std.specs.Prelude.{◌≡◌, ◌==◌, ◌+◌, ◌&&◌, ◌||◌, max, nat_le, ℕ, Bool, true, false, List, [], ◌∷◌, ◌++◌, Option, None, Some, IfSome, if◌then◌else◌, slice_get, slice_set, unwrap_or}
 use Rattle.std.specs.Option.{option_map, option_map_or}
+use Rattle.port_model.specs.declared.item.Item.{Item}
 use Rattle.port_model.specs.declared.item.SignalId.{SignalId}
 use Rattle.sdl_evaluation.specs.declared.identity.Identity.{Identity}
 use Rattle.sdl_report.specs.Event.{Event}
 use Rattle.sdl_report.specs.Event as event
-use Rattle.sdl_runs.specs.Act.{Act, Create, Deed}
+use Rattle.sdl_runs.specs.Act.{Act, Create, Deed, Send}
 use Rattle.sdl_system.specs.Route.{living_in, or_later, target_in}
 use Rattle.sdl_system.specs.System.{SystemValue}
 use Rattle.sdl_system.specs.declared.id.ProcessId.{ProcessId}
 use Rattle.sdl_system.specs.declared.route.Dest.{Dest}
 use Rattle.sdl_system.specs.declared.route.Source.TheVariants as source
 use Rattle.sdl_system.specs.declared.route.Target.{Target}
+use Rattle.sdl_system.specs.declared.route.Target.TheVariants.{Instance}
 
 -- ---- who lives
 
@@ -53,15 +55,31 @@ with_one_more census process = record {
   given = census.given + 1;
 }
 
+-- ---- what was sent
+
+-- whether an instance of this number has a port: each number that may be given has one
+abbrev pub has_port : ℕ → Bool
+has_port number = nat_le 1 number && nat_le number most_instances
+
+-- the signals that were sent to each instance, in their order
+abbrev pub Sent : Type 0
+Sent = ℕ → List Item
+
+-- once this signal was sent to the instance `to`, if that has a port
+abbrev pub sent_on : Sent → ℕ → Item → Sent
+sent_on sent to item number =
+    if has_port number && (to == number) then sent number ++ item ∷ [] else sent number
+
 -- ---- the world
 
--- The system that is run; the clock's time, who lives, and what was done so far, in order, each where it is known. Where
--- something isn't known, any answer may come.
+-- The system that is run; the clock's time, who lives, what was done so far, in order, and what was sent so far, each
+-- where it is known. Where something isn't known, any answer may come.
 pub record WorldValue : Type 0 where
   pub system : SystemValue
   pub clock : Option ℕ
   pub census : Option Census
   pub acts : Option (List Act)
+  pub sent : Option Sent
 
 -- the clock shows this time
 abbrev pub IsClock : WorldValue → ℕ → Type 0
@@ -91,11 +109,16 @@ abbrev pub census_after : Census → Act → Census
 census_after census (Create process number parent values) = with_one_more census process
 census_after census act = census
 
+abbrev pub sent_after : Sent → Act → Sent
+sent_after sent (Send (Instance to) item) = sent_on sent to item
+sent_after sent act = sent
+
 -- the world, once this was done
 abbrev pub after_act : WorldValue → Act → WorldValue
 after_act w act = record w {
   census = option_map (λ census. census_after census act) w.census;
   acts = option_map (λ done. done ++ act ∷ []) w.acts;
+  sent = option_map (λ sent. sent_after sent act) w.sent;
 }
 
 abbrev pub after_acts : WorldValue → List Act → WorldValue

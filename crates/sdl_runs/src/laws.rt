@@ -1,6 +1,6 @@
 //! What holds of all runs, as functions that do nothing.
 
-ghost use Rattle.sdl_runs.specs.RunLaws.{EndsForGood, RunsAppend, SelectsWhateverIsDrawn, TriesWhateverIsDrawn};
+ghost use Rattle.sdl_runs.specs.RunLaws.{EndsForGood, OutputsAreSent, RunsAppend, SelectsWhateverIsDrawn, TriesWhateverIsDrawn};
 
 /// Two runs, of which the second begins where the first ends, are one run.
 pub fn runs_append()
@@ -10,6 +10,11 @@ pub fn runs_append()
 /// An instance that has ended does nothing any more, and to a closed record nothing is added (Z.101: agent).
 pub fn ends_for_good()
     ensures { EndsForGood }
+{}
+
+/// What a run sends is what its events say (Z.102: output).
+pub fn outputs_are_sent()
+    ensures { OutputsAreSent }
 {}
 
 /// What a state selects stays the same, whatever comes into the port meanwhile (Z.101: state).

@@ -8,14 +8,15 @@ use Rattle.port_model.specs.Port.{PortState}
 use Rattle.port_model.specs.declared.taken.Taken.TheVariants.{Nothing}
 use Rattle.sdl_around.specs.Around.{AreNumbered, act_of, census_now, world_of}
 use Rattle.sdl_around.specs.declared.around.Around.{Around}
-use Rattle.sdl_courses.proofs.Acting.{later_none, runs_acts}
 use Rattle.sdl_courses.proofs.Made.{MakeNext, deeds_make}
+use Rattle.sdl_courses.proofs.Own.{later_none}
 use Rattle.sdl_courses.specs.Course.{AreBehaviours, Moved, Steps, is_transition}
 use Rattle.sdl_courses.specs.Global.{Global, after_acts, around, census_of, instance_at, with_instance}
 use Rattle.sdl_evaluation.specs.declared.identity.Identity.{Identity}
 use Rattle.sdl_evaluation.specs.declared.store.Store.{Store}
 use Rattle.sdl_interp.specs.Instance.{InstanceValue, IsAtRest, IsIdle, IsQuietAt, IsRunAs, Keeps, Moves, work_of}
 use Rattle.sdl_interp.specs.Stimulus.{WaitsAt}
+use Rattle.sdl_runs.proofs.Acting.{runs_acts}
 use Rattle.sdl_runs.proofs.Deeds.{after_deeds-acts}
 use Rattle.sdl_runs.proofs.Outside.{outside_of-append}
 use Rattle.sdl_runs.specs.Act.{Act, Arm, Create, Deed, Send, acts_of}
@@ -317,4 +318,5 @@ around_is m s w serial system clock begun changed performed =
       clock = Some (clock i);
       census = Some (census_now (changed i) (census i));
       acts = Some (map act_of (performed i));
+      sent = None;
     }

@@ -2,7 +2,7 @@
 use Rattle.std.proofs.Common.{◌≡◌, ◌∙◌, refl, subst, sym, Bool, List, []}
 use Rattle.std.proofs.lemmas.Option.{same_Some}
 use Rattle.port_model.specs.Port.{PortState}
-use Rattle.sdl_courses.proofs.Acting.{later_none}
+use Rattle.sdl_courses.proofs.Own.{later_none}
 use Rattle.sdl_courses.specs.Course.{IsMeant, Rests, Steps, is_transition}
 use Rattle.sdl_courses.specs.Global.{Global, around, census_of}
 use Rattle.sdl_evaluation.specs.declared.identity.Identity.{Identity}

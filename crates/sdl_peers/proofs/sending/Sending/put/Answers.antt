@@ -5,7 +5,7 @@ use Rattle.sdl_report.specs.Record.{RecordValue}
 use Rattle.sdl_peers.proofs.Kept.{kept_same}
 use Rattle.sdl_peers.proofs.TraceLemmas.{goes_on}
 use Rattle.sdl_peers.specs.Peers.{ArePeers, GoesOn, SendingState}
-use Rattle.sdl_peers.specs.Sent.{output_of}
+use Rattle.sdl_runs.specs.Sent.{output_of}
 use Rattle.sdl_peers.proofs.sending.Sending.put.Goals as goal
 
 pub invariant_of-self : goal.invariant_of-self

@@ -1,10 +1,11 @@
 -- What the record of an instance says that it sends to another (Z.102: output).
-use Rattle.std.specs.Prelude.{◌==◌, ℕ, List, [], ◌∷◌, if◌then◌else◌}
+use Rattle.std.specs.Prelude.{◌==◌, ℕ, List, [], ◌∷◌, ◌++◌, if◌then◌else◌}
 use Rattle.std.specs.List.{flat_map}
 use Rattle.port_model.specs.declared.item.Item.{Item}
 use Rattle.port_model.specs.declared.pid.Pid.TheVariants.{Of}
 use Rattle.sdl_report.specs.Event.{Event}
 use Rattle.sdl_report.specs.Event as event
+use Rattle.sdl_runs.specs.World.{Sent, has_port}
 use Rattle.sdl_system.specs.declared.route.Dest.{Dest}
 use Rattle.sdl_system.specs.declared.route.Target.TheVariants.{Instance}
 
@@ -21,3 +22,7 @@ sent_to who events number = flat_map (sent_by_one who number) events
 -- the output of a signal to the instance `number`, which names the destination
 abbrev pub output_of : Item → Dest → ℕ → Event
 output_of item named number = event.Output item.name named item.values (Instance number)
+
+-- what was sent to each instance that has a port, once these events of the instance `who` have sent what they send
+abbrev pub sent_with : ℕ → List Event → Sent → Sent
+sent_with who events sent number = if has_port number then sent number ++ sent_to who events number else sent number

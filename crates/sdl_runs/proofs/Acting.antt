@@ -1,7 +1,7 @@
--- What deeds do outside, by their events; and that their calls are all that happened to a port which draws nothing.
+-- What deeds do outside, by their events.
 use Rattle.std.proofs.Common.{◌≡◌, ◌∙◌, ◌+◌, ap, refl, sym, ℕ, List, [], ◌∷◌, ◌++◌, None, Some}
 use Rattle.inbox.specs.declared.entry.Fuse.{Fuse}
-use Rattle.port_model.specs.History.{Expire, PortEvent, Put, Reset, Set, Stop, Take}
+use Rattle.port_model.specs.History.{PortEvent}
 use Rattle.port_model.specs.Port.{PortState}
 use Rattle.port_model.specs.declared.item.Item.{Item}
 use Rattle.port_model.specs.declared.pid.Pid.TheVariants.{Of}
@@ -13,7 +13,7 @@ use Rattle.sdl_report.specs.Event.{Event}
 use Rattle.sdl_runs.specs.Act.{Act, Arm, Deed, Send}
 use Rattle.sdl_runs.specs.Leads.{Happens, created}
 use Rattle.sdl_runs.specs.Place.{Amid, AtStart, Closed, Definition, Doing, Ended, In, Place, Receiving}
-use Rattle.sdl_runs.specs.Runs.{Runs, acts, hears, outside_of, own_of, still, turns, waits}
+use Rattle.sdl_runs.specs.Runs.{Runs, acts, hears, still, turns, waits}
 use Rattle.sdl_system.specs.Body as body
 
 -- What an event does outside: an output sends a signal of the instance, a set arms a fuse, a create makes the instance
@@ -21,6 +21,7 @@ use Rattle.sdl_system.specs.Body as body
 abbrev pub AreActsOf : ℕ → Event → List Act → Type 0
 AreActsOf pid (event.Output signal named values target) done =
     (item : Item) × (done ≡ Send target item ∷ []) × (item.sender ≡ Of pid)
+    × (item ≡ record { name = signal; values = values; sender = Of pid })
 AreActsOf pid (event.Set key due) done = (fuse : Fuse) × (done ≡ Arm fuse ∷ [])
 AreActsOf pid (event.Create process number) done = (values : List Value) × (done ≡ created process pid values number)
 AreActsOf pid happened done = done ≡ []
@@ -75,7 +76,7 @@ module _ (d : Definition) (who : Identity) (q : PortState) where
   happens_acts (Amid origin (body.output [] whom) rest) s happened calls done to t happens = absurd happens
   happens_acts (Amid origin (body.output (one ∷ more) whom) rest) s (event.Output signal named values target) calls done
       to t happens =
-      (record { name = signal; values = values; sender = Of who.pid }, happens.3.acts_are, refl)
+      (record { name = signal; values = values; sender = Of who.pid }, happens.3.acts_are, refl, refl)
   happens_acts (Amid origin (body.output (one ∷ more) whom) rest) s (event.Failed why) calls done to t happens =
       happens.1
   happens_acts (Amid origin (body.output (one ∷ more) whom) rest) s happened calls done to t happens = absurd happens
@@ -121,21 +122,3 @@ module _ (d : Definition) (who : Identity) (from : Place) (s : Store) (q : PortS
   runs_acts (turns before to t turn) = runs_acts before
   runs_acts (hears before heard r outside step) = runs_acts before
   runs_acts (waits before classes quiet step) = runs_acts before
-
--- ---- nothing is drawn
-
--- where nothing is drawn, all that happens to the port are the owner's calls
-pub all_own : (history : List PortEvent) → outside_of history ≡ [] → own_of history ≡ history
-all_own [] none = refl
-all_own (Take classes taken ∷ rest) none =
-    ap (λ (calls : List PortEvent). Take classes taken ∷ calls) (all_own rest none)
-all_own (Set key due arm ∷ rest) none = ap (λ (calls : List PortEvent). Set key due arm ∷ calls) (all_own rest none)
-all_own (Reset key ∷ rest) none = ap (λ (calls : List PortEvent). Reset key ∷ calls) (all_own rest none)
-all_own (Stop ∷ rest) none = ap (λ (calls : List PortEvent). Stop ∷ calls) (all_own rest none)
-all_own (Put item ∷ rest) none = let wrong : ⊥ = cc in absurd wrong
-all_own (Expire key arm due at ∷ rest) none = let wrong : ⊥ = cc in absurd wrong
-
--- two lists that give none
-pub later_none : {X : Type 0} (first later : List X) → first ++ later ≡ [] → later ≡ []
-later_none [] later none = none
-later_none (x ∷ rest) later none = let wrong : ⊥ = cc in absurd wrong
