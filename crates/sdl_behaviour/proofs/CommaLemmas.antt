@@ -85,6 +85,7 @@ module _ (Inner : Expr → Words → Words → Type 0) (Timer : Spot × List Exp
 
 mutual
   unfolding comma_ahead look_at same_mark
+
   inner_passes : (d : ℕ) → Passes (SpellsInner d)
   inner_passes zero n x i j s = absurd s
   inner_passes (suc d) n x i j s = level_passes (SpellsInner d) (SpellsTimer d) (inner_passes d) (timer_passes d) loosest n x i j s
