@@ -83,7 +83,8 @@ census_bare system xs =
 
 pub around_bare : (g : Global) → around (bare_whole g) ≡ around g
 around_bare g =
-    ap (λ census. record { system = g.system; clock = Some g.clock; census = Some census; acts = Some [] })
+    ap (λ census.
+    record { system = g.system; clock = Some g.clock; census = Some census; acts = Some []; sent = None })
     (census_bare g.system g.instances)
 
 -- ---- what is done
