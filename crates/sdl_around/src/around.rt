@@ -65,6 +65,7 @@ impl<'a> World for Around<'a> {
         self.system.route(signal, Source::Process(from), to, living)
     }
 
+    #[inline(always)]
     fn send(&mut self, target: Target, item: Item) -> Result<(), AllocError> {
         self.acts.push(Act::Send { target, item })
     }

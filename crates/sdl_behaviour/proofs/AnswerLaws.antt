@@ -1,27 +1,13 @@
 -- The law of answers.
-use Rattle.std.proofs.Common.{◌≡◌, ℕ, suc, ◌⊎◌, inl, inr, true, false, is_some, ◌∷◌, Option, Some, None, option_map, refl, sym, ap, ◌∙◌, subst}
-use Rattle.sdl_tree.specs.declared.expressions.KeywordValue.{KeywordValue}
+use Rattle.std.proofs.Common.{◌≡◌, ℕ, suc, ◌⊎◌, inl, inr, false, is_some, ◌∷◌, Option, Some, None, option_map, refl, sym, ap, ◌∙◌, subst}
+use Rattle.sdl_read.proofs.Grammar.{KeywordValue, UnaryOperator, Spelling, erased_expr, erased_answer, SpellsAnswer, loosest, looseness, operator_mark, value_mark, unary_mark, SpellsInner, SpellsExpr, Both, Behind, Optional, Expr, Answer, Value, Range, Compared, Words, Fixed, operator_at, sees_operator, front, mark_at, sees}
 use Rattle.sdl_tree.specs.declared.expressions.KeywordValue.TheVariants as value
-use Rattle.sdl_tree.specs.declared.expressions.UnaryOperator.{UnaryOperator}
 use Rattle.sdl_tree.specs.declared.expressions.UnaryOperator.TheVariants as unary
 use Rattle.sdl_tree.specs.declared.expressions.Operator.TheVariants as operator
 use Rattle.sdl_tree.specs.declared.mark.Mark.TheVariants as mark
-use Rattle.sdl_tree.specs.declared.name.Spelling.{Spelling}
-use Rattle.sdl_tree.specs.Erased.{erased_expr, erased_answer}
-use Rattle.sdl_tree.specs.Spells.Behaviour.{SpellsAnswer}
-use Rattle.sdl_tree.specs.Spells.Expressions.{loosest, looseness, operator_mark, value_mark, unary_mark, SpellsInner, SpellsTimer, SpellsExpr}
-use Rattle.sdl_tree.specs.Spells.Parts.{Both, Behind, Optional}
-use Rattle.sdl_tree.specs.Tree.{Expr, Answer, Value, Range, Compared}
-use Rattle.sdl_tree.specs.Words.{Words, Fixed}
+use Rattle.sdl_tree.specs.Spells.Expressions.{SpellsTimer}
 use Rattle.sdl_behaviour.specs.Answers.{range_end, value_or_range, value_answer, compared_with, answer}
-use Rattle.sdl_read.specs.Expressions.{expr, operator_at, sees_operator}
-use Rattle.sdl_read.specs.Reading.{behind, front, mark_at, sees}
-use Rattle.sdl_read.proofs.ExpressionLaws.{level_begins, expr_law, expr_takes}
-use Rattle.sdl_read.proofs.Laws.{Law, Takes, Made, as_law, stops_law, both_law, behind_law, made_law, either_law, optional_law}
-use Rattle.sdl_read.proofs.OperatorLaws.{operator_at_ok, operator_at_again, operator_front, Stops, IsMarked, marked_law}
-use Rattle.sdl_read.proofs.SignalLaws.{maybe_mark}
-use Rattle.sdl_read.proofs.Steps.{no_words}
-use Rattle.sdl_behaviour.proofs.WayLaws.{stops_at}
+use Rattle.sdl_read.proofs.AllLaws.{level_begins, expr_law, expr_takes, Law, Takes, Made, as_law, stops_law, both_law, behind_law, made_law, either_law, optional_law, operator_at_ok, operator_at_again, operator_front, Stops, IsMarked, marked_law, maybe_mark, no_words, stops_at, then_law}
 
 value_compares : (v : KeywordValue) (s : Spelling) (k : Words) → sees_operator 4 (Fixed (value_mark v) s ∷ k) ≡ false
 unfolding operator_at mark_at front
@@ -45,16 +31,9 @@ no_comparison d =
 abbrev Last : ℕ → Expr → Words → Words → Type 0
 Last d = Behind mark.Colon (SpellsExpr d)
 
-last_law : (d : ℕ) → Law (behind mark.Colon (expr d)) (Last d) (Last (suc d)) (Stops loosest) erased_expr
-last_law d = behind_law mark.Colon (expr_law d)
-
 -- where an answer stops
 abbrev pub Answered : Words → Type 0
 Answered j = Stops loosest j × (sees mark.Colon j ≡ false)
-
-range_law : (d : ℕ) → Law (range_end d) (Optional (Last d)) (Optional (Last (suc d))) Answered (option_map erased_expr)
-unfolding range_end
-range_law d = optional_law (maybe_mark mark.Colon (last_law d) (λ x i j s. (s.0, s.1, s.2)))
 
 stops_before_last : (d : ℕ) (y : Option Expr) (m j : Words) → Optional (Last d) y m j → Answered j → Stops loosest m
 stops_before_last d None m j s t = subst (Stops loosest) (sym s) t.0
@@ -70,21 +49,10 @@ erased_value : (x : Expr) (y : Option Expr) → erased_answer (value_or_range x 
 erased_value x None = refl
 erased_value x (Some y) = refl
 
-like_value : (x y : Expr × Option Expr) → ◌≡◌ {A = Expr × Option Expr} (erased_expr x.0, option_map erased_expr x.1) (erased_expr y.0, option_map erased_expr y.1)
-    → erased_answer (value_with x) ≡ erased_answer (value_with y)
-like_value x y e = erased_value x.0 x.1 ∙ ap value_with e ∙ sym (erased_value y.0 y.1)
-
-value_law : (d : ℕ) → Law (value_answer d) (Valued d) (Valued (suc d)) Answered erased_answer
-unfolding value_answer
-value_law d = made_law value_with like_value (both_law (expr_law d) (range_law d) (stops_before_last d))
-
 -- ---- a comparison
 
 abbrev Compares : ℕ → Answer → Words → Words → Type 0
 Compares d = Made compared_with (Both (IsMarked operator_mark (λ o. looseness o ≡ 4)) (SpellsExpr d))
-
-compares : (d : ℕ) (x : Answer) (i j : Words) → Compares d x i j → sees_operator 4 i ≡ true
-compares d x i j s = ap (sees_operator 4) s.2.1.1 ∙ ap is_some (operator_at_again 4 s.0.0.0 s.0.0.1 s.2.0 s.2.1.0)
 
 -- ---- answers
 
@@ -102,15 +70,15 @@ answer_from d (Range e f) i j s = inr ((e, Some f), refl, s)
 answer_from d (Compared o w e) i j s = inl (((o, w), e), refl, (s.1.0, (s.0, s.1.1), s.1.2))
 
 pub answer_law : (d : ℕ) → Law (answer d) (SpellsAnswer d) (SpellsAnswer (suc d)) Answered erased_answer
-unfolding answer
+unfolding answer value_answer range_end
 answer_law d =
     as_law (answer_to d) (answer_from d) (answer_to (suc d))
     (either_law (sees_operator 4) (operator_front 4)
     (stops_law (λ j t. t.0)
-    (made_law compared_with (λ x y n. ap compared_with n)
-    (both_law (marked_law (operator_at 4) operator_mark (λ o. looseness o ≡ 4) (λ i o e. (operator_at_ok 4 i o e).1) (λ o s j e. operator_at_again 4 o s j e) operator.Equal refl)
-    (expr_law d) (λ y m j s t. tt))))
-    (value_law d) (compares d) (λ x i j s t. no_comparison d s.0.0 i s.2.0 s.2.1))
+    (made_law compared_with (λ x. refl)
+    (then_law (marked_law (operator_at 4) operator_mark (λ o. looseness o ≡ 4) (λ i o e. (operator_at_ok 4 i o e).1) (λ o s j e. operator_at_again 4 o s j e) operator.Equal refl)
+    (expr_law d))))
+    (made_law value_with (λ x. erased_value x.0 x.1) (both_law (expr_law d) (optional_law (maybe_mark mark.Colon (behind_law mark.Colon (expr_law d)) (λ x i j s. (s.0, s.1, s.2)))) (stops_before_last d))) (λ x i j s. ap (sees_operator 4) s.2.1.1 ∙ ap is_some (operator_at_again 4 s.0.0.0 s.0.0.1 s.2.0 s.2.1.0)) (λ x i j s t. no_comparison d s.0.0 i s.2.0 s.2.1))
 
 pub answer_takes : (d : ℕ) → Takes (SpellsAnswer d)
 answer_takes d (Value e) j s = expr_takes d e j s

@@ -2,26 +2,12 @@
 -- many opens is shown not to begin the other.
 use Rattle.std.proofs.Common.{◌≡◌, ℕ, suc, ◌⊎◌, inl, inr, true, false, true≢false, ◌||◌, List, [], ◌∷◌, ◌++◌, Option, Some, None, refl, sym, ap, ◌∙◌, subst}
 use Rattle.sdl_tree.specs.declared.mark.Mark.TheVariants as mark
-use Rattle.sdl_tree.specs.declared.name.Spelling.{Spelling}
-use Rattle.sdl_tree.specs.Erased.{erased_clause, erased_action}
-use Rattle.sdl_tree.specs.Spells.Behaviour.{SpellsClause}
-use Rattle.sdl_tree.specs.Spells.Expressions.{loosest, SpellsExpr, SpellsApplied}
-use Rattle.sdl_tree.specs.Spells.Parts.{IsMark, Both, Behind, Before, Optional, Separated, Ended}
-use Rattle.sdl_tree.specs.Tree.{Expr, Applied, SetClause}
-use Rattle.sdl_tree.specs.Words.{Word, Words, Spot, Fixed}
+use Rattle.sdl_read.proofs.Grammar.{Spelling, erased_clause, erased_action, SpellsClause, loosest, SpellsExpr, SpellsApplied, IsMark, Both, Behind, Before, Optional, Separated, Ended, Expr, Applied, SetClause, Word, Words, Spot, Fixed, IsOpening, either, front, rest, same_mark, sees_name}
 use Rattle.sdl_tree.specs.Words as word
 use Rattle.sdl_behaviour.specs.Clauses.{comma_ahead, timed_with, timed, untimed_with, untimed, clause, set_with, set}
-use Rattle.sdl_tree.specs.Depth.{IsOpening}
-use Rattle.sdl_read.specs.Reading.{either, front, rest, same_mark, sees_name}
-use Rattle.sdl_read.proofs.Depth.{SameFront, IsHead, TooMany, passed_front, renamed}
-use Rattle.sdl_read.proofs.ExpressionLaws.{expr_law}
-use Rattle.sdl_read.proofs.Laws.{Form, Law, Anywhere, Made, spelled_again, mark_law, as_law, both_law, behind_law, before_law, made_law, far_rules}
-use Rattle.sdl_read.proofs.ListLaws.{separated_law}
-use Rattle.sdl_read.proofs.Steps.{no_words, sees_front}
+use Rattle.sdl_read.proofs.AllLaws.{SameFront, IsHead, TooMany, passed_front, renamed, expr_law, Form, Law, Anywhere, Made, spelled_again, mark_law, as_law, behind_law, before_law, made_law, far_rules, separated_law, no_words, sees_front, ended_law, stops_at, sees_other, end_other, name_begins, no_name, then_law, first_word}
 use Rattle.sdl_behaviour.proofs.ActionLaws.{applied_law}
 use Rattle.sdl_behaviour.proofs.CommaLemmas.{at_parenthesis, time_comma, timer_no_comma, time_elsewhere, timer_there}
-use Rattle.sdl_read.proofs.ClosingLaws.{ended_law}
-use Rattle.sdl_behaviour.proofs.WayLaws.{stops_at, sees_other, end_other, name_begins, no_name}
 
 -- ---- words with the same beginning, up to an opening word
 
@@ -36,10 +22,6 @@ head_unnamed : (head : Words) (w : Word) → IsOpening w → IsHead head w → (
 head_unnamed head w o (inl h) k = ap (λ g. sees_name (g ++ k)) h ∙ opening_unnamed w o k
 head_unnamed head w o (inr h) k = ap (λ g. sees_name (g ++ k)) h.1 ∙ no_name mark.Active h.0 (w ∷ k)
 
-abbrev first_word : Word → Words → Word
-first_word v [] = v
-first_word v (w ∷ i) = w
-
 -- where the one begin with a name, the others do, and have the same behind it
 shared : (passed head : Words) (w : Word) → IsOpening w → IsHead head w → (k m : Words) (y : Spot) (l : Words) → passed ++ (head ++ k) ≡ word.Name y ∷ l
     → (n : Words) × (passed ++ (head ++ m) ≡ word.Name y ∷ n) × SameFront l n
@@ -51,24 +33,19 @@ shared (v ∷ passed) head w o h k m y l e = (
   ap front (sym (ap rest e)) ∙ passed_front passed head w h k m,
 )
 
-parenthesis_front : (i k : Words) → SameFront i k → at_parenthesis i ≡ at_parenthesis k
-parenthesis_front i k e = λ n. sees_front mark.Open i k e n || sees_front mark.Close i k e n
-
 -- no words begin a time and a timer alone
 clash : (d c : ℕ) (x : Expr) (a : Applied) (s t : Spelling) (i j k l : Words) → SpellsExpr d x i (Fixed mark.Comma s ∷ j) → SpellsApplied c a k (Fixed mark.Close t ∷ l)
     → ((y : Spot) (m : Words) → k ≡ word.Name y ∷ m → (n : Words) × (i ≡ word.Name y ∷ n) × SameFront m n) → ⊥
 clash d c x a s t i j k l time timer same =
     let there = timer_there c a t k l timer in
     let other = same a.name there.0 there.1 in
-    true≢false (sym there.2 ∙ parenthesis_front there.0 other.0 other.2 ∙ time_elsewhere d x s i j time a.name other.0 other.1)
+    let fronts : at_parenthesis there.0 ≡ at_parenthesis other.0 = λ n. sees_front mark.Open there.0 other.0 other.2 n || sees_front mark.Close there.0 other.0 other.2 n in
+    true≢false (sym there.2 ∙ fronts ∙ time_elsewhere d x s i j time a.name other.0 other.1)
 
 -- ---- the two clauses behind their parenthesis
 
-abbrev Times : ℕ → Form (Expr × Applied)
-Times d = Before (Both (Before (SpellsExpr d) mark.Comma) (SpellsApplied d)) mark.Close
-
 abbrev Timed : ℕ → Form SetClause
-Timed d = Made timed_with (Times d)
+Timed d = Made timed_with (Before (Both (Before (SpellsExpr d) mark.Comma) (SpellsApplied d)) mark.Close)
 
 abbrev Untimed : ℕ → Form SetClause
 Untimed d = Made untimed_with (Before (SpellsApplied d) mark.Close)
@@ -79,12 +56,12 @@ IsClause d x i j = Timed d x i j ⊎ Untimed d x i j
 timed_law : (d : ℕ) → Law (timed d) (Timed d) (Timed (suc d)) Anywhere erased_clause
 unfolding timed same_mark
 timed_law d =
-    made_law timed_with (λ x y n. ap timed_with n)
-    (before_law mark.Close (both_law (before_law mark.Comma (expr_law d) (stops_at mark.Comma refl loosest)) (applied_law d) (λ y m j s t. tt)) (sees_other mark.Open mark.Close refl))
+    made_law timed_with (λ x. refl)
+    (before_law mark.Close (then_law (before_law mark.Comma (expr_law d) (stops_at mark.Comma refl loosest)) (applied_law d)) (sees_other mark.Open mark.Close refl))
 
 untimed_law : (d : ℕ) → Law (untimed d) (Untimed d) (Untimed (suc d)) Anywhere erased_clause
 unfolding untimed same_mark
-untimed_law d = made_law untimed_with (λ x y e. ap untimed_with e) (before_law mark.Close (applied_law d) (sees_other mark.Open mark.Close refl))
+untimed_law d = made_law untimed_with (λ x. refl) (before_law mark.Close (applied_law d) (sees_other mark.Open mark.Close refl))
 
 module _ (d : ℕ) (i left : Words) where
   timed_bars : (t : TooMany (Timed d) (Timed (suc d)) Anywhere i left) (k : Words) (x : SetClause) (j : Words) → IsClause d x (t.passed ++ (t.head ++ k)) j → Anywhere j → ⊥
@@ -101,23 +78,16 @@ module _ (d : ℕ) (i left : Words) where
       clash d (suc d) n.0.0 m.0 times.1.0 timer.0 (t.passed ++ (t.head ++ k)) times.0 (t.passed ++ (t.head ++ (t.more.1 ++ []))) [] times.1.1 timer.1
       (λ y l e. shared t.passed t.head t.opening t.opens t.heads (t.more.1 ++ []) k y l e)
 
-  timed_deep : TooMany (Timed d) (Timed (suc d)) Anywhere i left → TooMany (IsClause d) (IsClause (suc d)) Anywhere i left
-  timed_deep t = renamed i left (IsClause d) (IsClause (suc d)) (λ x. x) (λ j u. u) (λ x k j n. inl n) (λ x k j n. inl n) t (timed_bars t)
-
-  untimed_deep : TooMany (Untimed d) (Untimed (suc d)) Anywhere i left → TooMany (IsClause d) (IsClause (suc d)) Anywhere i left
-  untimed_deep t = renamed i left (IsClause d) (IsClause (suc d)) (λ x. x) (λ j u. u) (λ x k j n. inr n) (λ x k j n. inr n) t (untimed_bars t)
-
-timed_begins : (d : ℕ) (x : SetClause) (i j : Words) → Timed d x i j → comma_ahead 0 i ≡ true
-timed_begins d x i j s = let t = s.2.1 in time_comma d s.0.0 t.1.0 i t.0 t.1.1
-
 untimed_begins : (d : ℕ) (x : SetClause) (i j : Words) → Untimed d x i j → comma_ahead 0 i ≡ false
 untimed_begins d x i j s = timer_no_comma d s.0 s.2.0 i j s.2.1
 
 inside_law : (d : ℕ) → Law (either (comma_ahead 0) (timed d) (untimed d)) (IsClause d) (IsClause (suc d)) Anywhere erased_clause
 inside_law d = record {
   rules =
-      far_rules (comma_ahead 0) (timed_law d).rules (untimed_law d).rules (timed_begins d) (λ x i j s t. untimed_begins d x i j s)
-      (λ i x m k r t g. untimed_begins d x (r.taken ++ k) k (spelled_again (untimed_law d).rules x i m k r g)) (λ i left t u. timed_deep d i left u) (λ i left t u. untimed_deep d i left u);
+      far_rules (comma_ahead 0) (timed_law d).rules (untimed_law d).rules (λ x i j s. let t = s.2.1 in time_comma d s.0.0 t.1.0 i t.0 t.1.1) (λ x i j s t. untimed_begins d x i j s)
+      (λ i x m k r t g. untimed_begins d x (r.taken ++ k) k (spelled_again (untimed_law d).rules x i m k r g))
+      (λ i left t u. renamed i left (IsClause d) (IsClause (suc d)) (λ x. x) (λ j v. v) (λ x k j n. inl n) (λ x k j n. inl n) u (timed_bars d i left u))
+      (λ i left t u. renamed i left (IsClause d) (IsClause (suc d)) (λ x. x) (λ j v. v) (λ x k j n. inr n) (λ x k j n. inr n) u (untimed_bars d i left u));
   one = let o = (timed_law d).one in (o.0, o.1, λ j t. inl (o.2 j t));
 }
 
@@ -152,7 +122,6 @@ Sets d = Both (IsMark mark.Set) (Ended (Separated (SpellsClause d)))
 pub set_law : (d : ℕ) → Law (set d) (Made set_with (Sets d)) (Made set_with (Sets (suc d))) Anywhere erased_action
 unfolding set same_mark
 set_law d =
-    made_law set_with (λ x y n. ap set_with n)
-    (both_law (mark_law mark.Set)
-    (ended_law (separated_law (clause_law d) (λ x j s. no_words s.2) (λ s m. tt) tt) (λ i j s. (tt, end_other mark.Comma refl refl i j s)))
-    (λ y m j s t. tt))
+    made_law set_with (λ x. refl)
+    (then_law (mark_law mark.Set)
+    (ended_law (separated_law (clause_law d) (λ x j s. no_words s.2) (λ s m. tt) tt) (λ i j s. (tt, end_other mark.Comma refl refl i j s))))

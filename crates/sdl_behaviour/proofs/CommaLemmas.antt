@@ -1,29 +1,14 @@
 -- What a look for the comma of a clause passes: expressions, and all that stands in parentheses.
 use Rattle.std.proofs.Common.{◌≡◌, ℕ, zero, suc, ◌⊎◌, inl, inr, Bool, true, false, true≢false, ◌||◌, List, [], ◌∷◌, refl, sym, ap, ◌∙◌}
-use Rattle.sdl_tree.specs.declared.expressions.KeywordValue.{KeywordValue}
+use Rattle.sdl_read.proofs.Grammar.{KeywordValue, UnaryOperator, Operator, Spelling, loosest, operator_mark, value_mark, unary_mark, SpellsPrimary, SpellsLink, SpellsAt, SpellsInner, SpellsExpr, SpellsApplied, Separated, Repeated, RepeatedOnce, InParentheses, Expr, Numeral, Named, Keyword, Active, Paren, Unary, Chain, exprs_in, Links, NoLink, AndLink, links_in, Applied, Words, Spot, Fixed, front, rest, sees, same_mark, sees_name}
 use Rattle.sdl_tree.specs.declared.expressions.KeywordValue.TheVariants as value
-use Rattle.sdl_tree.specs.declared.expressions.UnaryOperator.{UnaryOperator}
 use Rattle.sdl_tree.specs.declared.expressions.UnaryOperator.TheVariants as unary
-use Rattle.sdl_tree.specs.declared.expressions.Operator.{Operator}
 use Rattle.sdl_tree.specs.declared.expressions.Operator.TheVariants as operator
 use Rattle.sdl_tree.specs.declared.mark.Mark.TheVariants as mark
-use Rattle.sdl_tree.specs.declared.name.Spelling.{Spelling}
-use Rattle.sdl_tree.specs.Spells.Expressions.{loosest, operator_mark, value_mark, unary_mark, SpellsPrimary, SpellsLink, SpellsAt, SpellsInner, SpellsTimer, SpellsExpr, SpellsApplied}
-use Rattle.sdl_tree.specs.Spells.Parts.{Separated, Repeated, RepeatedOnce, InParentheses}
-use Rattle.sdl_tree.specs.Tree.{Number, Expr, Numeral, Named, Keyword, Active, Paren, Unary, Chain, exprs_in, Links, NoLink, AndLink, links_in, Applied}
-use Rattle.sdl_tree.specs.Words.{Words, Spot, Fixed}
+use Rattle.sdl_tree.specs.Spells.Expressions.{SpellsTimer}
 use Rattle.sdl_tree.specs.Words as word
 use Rattle.sdl_behaviour.specs.Clauses.{look_at, comma_ahead}
-use Rattle.sdl_read.specs.Reading.{front, rest, sees, same_mark, sees_name}
-use Rattle.sdl_behaviour.proofs.WayLaws.{name_begins, no_name}
-
-number_passes : (x : Number) (n : ℕ) (i : Words) → comma_ahead n (word.Number x.value x.digits ∷ i) ≡ comma_ahead n i
-unfolding comma_ahead look_at
-number_passes x n i = refl
-
-name_passes : (x : Spot) (n : ℕ) (i : Words) → comma_ahead n (word.Name x ∷ i) ≡ comma_ahead n i
-unfolding comma_ahead look_at
-name_passes x n i = refl
+use Rattle.sdl_read.proofs.AllLaws.{name_begins, no_name}
 
 value_passes : (v : KeywordValue) (s : Spelling) (n : ℕ) (i : Words) → comma_ahead n (Fixed (value_mark v) s ∷ i) ≡ comma_ahead n i
 unfolding comma_ahead look_at same_mark
@@ -40,30 +25,6 @@ unfolding comma_ahead look_at same_mark
 operator_passes operator.Implies s n i = refl
 operator_passes o s n i = refl
 
-active_passes : (s : Spelling) (n : ℕ) (i : Words) → comma_ahead n (Fixed mark.Active s ∷ i) ≡ comma_ahead n i
-unfolding comma_ahead look_at same_mark
-active_passes s n i = refl
-
-open_opens : (s : Spelling) (n : ℕ) (i : Words) → comma_ahead n (Fixed mark.Open s ∷ i) ≡ comma_ahead (suc n) i
-unfolding comma_ahead look_at same_mark
-open_opens s n i = refl
-
-close_closes : (s : Spelling) (n : ℕ) (i : Words) → comma_ahead (suc n) (Fixed mark.Close s ∷ i) ≡ comma_ahead n i
-unfolding comma_ahead look_at same_mark
-close_closes s n i = refl
-
-comma_inside : (s : Spelling) (n : ℕ) (i : Words) → comma_ahead (suc n) (Fixed mark.Comma s ∷ i) ≡ comma_ahead (suc n) i
-unfolding comma_ahead look_at same_mark
-comma_inside s n i = refl
-
-comma_found : (s : Spelling) (i : Words) → comma_ahead 0 (Fixed mark.Comma s ∷ i) ≡ true
-unfolding comma_ahead look_at same_mark
-comma_found s i = refl
-
-close_ends : (s : Spelling) (i : Words) → comma_ahead 0 (Fixed mark.Close s ∷ i) ≡ false
-unfolding comma_ahead look_at same_mark
-close_ends s i = refl
-
 -- what a look passes, inside as many parentheses
 abbrev Passes : {A : Type 0} → (A → Words → Words → Type 0) → Type 0
 Passes {A} P = (n : ℕ) (x : A) (i j : Words) → P x i j → comma_ahead n i ≡ comma_ahead n j
@@ -78,29 +39,32 @@ module _ {A : Type 0} (P : A → Words → Words → Type 0) (passes : Passes P)
   once_passes n (x ∷ xs) i j s = repeated_passes n (x ∷ xs) i j s
 
   separated_passes : (n : ℕ) (xs : List A) (i j : Words) → Separated P xs i j → comma_ahead (suc n) i ≡ comma_ahead (suc n) j
+  unfolding comma_ahead look_at same_mark
   separated_passes n [] i j s = absurd s
   separated_passes n (x ∷ []) i j s = passes (suc n) x i j s
   separated_passes n (x ∷ y ∷ ys) i j s =
-      passes (suc n) x i (Fixed mark.Comma s.0 ∷ s.1) s.2 ∙ comma_inside s.0 n s.1 ∙ separated_passes n (y ∷ ys) s.1 j s.3
+      passes (suc n) x i (Fixed mark.Comma s.0 ∷ s.1) s.2 ∙ separated_passes n (y ∷ ys) s.1 j s.3
 
   listed_passes : Passes (InParentheses P)
+  unfolding comma_ahead look_at same_mark
   listed_passes n [] i j s = ap (comma_ahead n) s
   listed_passes n (x ∷ xs) i j s =
       let inner = s.3 in
-      ap (comma_ahead n) s.2 ∙ open_opens s.0 n s.1 ∙ separated_passes n (x ∷ xs) s.1 (Fixed mark.Close inner.0 ∷ j) inner.1 ∙ close_closes inner.0 n j
+      ap (comma_ahead n) s.2 ∙ separated_passes n (x ∷ xs) s.1 (Fixed mark.Close inner.0 ∷ j) inner.1
 
 module _ (Inner : Expr → Words → Words → Type 0) (Timer : Spot × List Expr → Words → Words → Type 0) (inner : Passes Inner) (timer : Passes Timer) where
   primary_passes : Passes (SpellsPrimary Inner Timer)
-  primary_passes n (Numeral x) i j s = ap (comma_ahead n) s ∙ number_passes x n j
-  primary_passes n (Named x) i j s = ap (comma_ahead n) s ∙ name_passes x n j
+  unfolding comma_ahead look_at same_mark
+  primary_passes n (Numeral x) i j s = ap (comma_ahead n) s
+  primary_passes n (Named x) i j s = ap (comma_ahead n) s
   primary_passes n (Keyword v w) i j s = ap (comma_ahead n) s ∙ value_passes v w n j
   primary_passes n (Paren w e) i j s =
       let b = s.2 in
-      ap (comma_ahead n) s.1 ∙ open_opens w n s.0 ∙ inner (suc n) e s.0 (Fixed mark.Close b.0 ∷ j) b.1 ∙ close_closes b.0 n j
+      ap (comma_ahead n) s.1 ∙ inner (suc n) e s.0 (Fixed mark.Close b.0 ∷ j) b.1
   primary_passes n (Active w x values) i j s =
       let b = s.2 in let c = b.3 in
-      ap (comma_ahead n) s.1 ∙ active_passes w n s.0 ∙ ap (comma_ahead n) b.2 ∙ open_opens b.0 n b.1
-      ∙ timer (suc n) (x, exprs_in values) b.1 (Fixed mark.Close c.0 ∷ j) c.1 ∙ close_closes c.0 n j
+      ap (comma_ahead n) s.1 ∙ ap (comma_ahead n) b.2
+      ∙ timer (suc n) (x, exprs_in values) b.1 (Fixed mark.Close c.0 ∷ j) c.1
   primary_passes n (Unary o w e) i j s = absurd s
   primary_passes n (Chain e links) i j s = absurd s
 
@@ -120,6 +84,8 @@ module _ (Inner : Expr → Words → Words → Type 0) (Timer : Spot × List Exp
   level_passes (suc (suc k)) n x i j (inr s) = absurd s
 
 mutual
+  unfolding comma_ahead look_at same_mark
+
   inner_passes : (d : ℕ) → Passes (SpellsInner d)
   inner_passes zero n x i j s = absurd s
   inner_passes (suc d) n x i j s = level_passes (SpellsInner d) (SpellsTimer d) (inner_passes d) (timer_passes d) loosest n x i j s
@@ -127,19 +93,21 @@ mutual
   timer_passes : (d : ℕ) → Passes (SpellsTimer d)
   timer_passes zero n x i j s = absurd s
   timer_passes (suc d) n x i j s =
-      ap (comma_ahead n) s.1 ∙ name_passes x.0 n s.0 ∙ listed_passes (SpellsInner d) (inner_passes d) n x.1 s.0 j s.2
+      ap (comma_ahead n) s.1 ∙ listed_passes (SpellsInner d) (inner_passes d) n x.1 s.0 j s.2
 
 expr_passes : (d : ℕ) → Passes (SpellsExpr d)
 expr_passes d = level_passes (SpellsInner d) (SpellsTimer d) (inner_passes d) (timer_passes d) loosest
 
 -- a comma stands ahead of a time
 pub time_comma : (d : ℕ) (x : Expr) (s : Spelling) (i j : Words) → SpellsExpr d x i (Fixed mark.Comma s ∷ j) → comma_ahead 0 i ≡ true
-time_comma d x s i j t = expr_passes d 0 x i (Fixed mark.Comma s ∷ j) t ∙ comma_found s j
+unfolding comma_ahead look_at same_mark
+time_comma d x s i j t = expr_passes d 0 x i (Fixed mark.Comma s ∷ j) t
 
 -- and none of a timer alone
 pub timer_no_comma : (d : ℕ) (x : Applied) (s : Spelling) (i j : Words) → SpellsApplied d x i (Fixed mark.Close s ∷ j) → comma_ahead 0 i ≡ false
+unfolding comma_ahead look_at same_mark
 timer_no_comma d x s i j t =
-    ap (comma_ahead 0) t.1 ∙ name_passes x.name 0 t.0 ∙ listed_passes (SpellsExpr d) (expr_passes d) 0 x.values t.0 (Fixed mark.Close s ∷ j) t.2 ∙ close_ends s j
+    ap (comma_ahead 0) t.1 ∙ listed_passes (SpellsExpr d) (expr_passes d) 0 x.values t.0 (Fixed mark.Close s ∷ j) t.2
 
 -- ---- behind a name that begins an expression stands the end of the expression, or an operator
 
@@ -150,21 +118,14 @@ IsBehind l j = (l ≡ j) ⊎ ((o : Operator) × (w : Spelling) × (m : Words) ×
 named_apart : {X : Type 0} (y : Spot) (i l : Words) → i ≡ word.Name y ∷ l → sees_name i ≡ false → X
 named_apart y i l e none = absurd (true≢false (sym (name_begins y i l e) ∙ none))
 
-tail_of : (x y : Spot) (i j l : Words) → i ≡ word.Name x ∷ j → i ≡ word.Name y ∷ l → l ≡ j
-unfolding rest
-tail_of x y i j l e f = ap rest (sym f ∙ e)
-
-numeral_unnamed : (x : Number) (j : Words) → sees_name (word.Number x.value x.digits ∷ j) ≡ false
-unfolding sees_name front
-numeral_unnamed x j = refl
-
 module _ (Inner : Expr → Words → Words → Type 0) (Timer : Spot × List Expr → Words → Words → Type 0) where
   behind_primary : (x : Expr) (i j : Words) → SpellsPrimary Inner Timer x i j → (y : Spot) (l : Words) → i ≡ word.Name y ∷ l → IsBehind l j
-  behind_primary (Named x) i j s y l e = inl (tail_of x y i j l s e)
-  behind_primary (Numeral x) i j s y l e = named_apart y i l e (ap sees_name s ∙ numeral_unnamed x j)
-  behind_primary (Keyword v w) i j s y l e = named_apart y i l e (ap sees_name s ∙ no_name (value_mark v) w j)
-  behind_primary (Paren w f) i j s y l e = named_apart y i l e (ap sees_name s.1 ∙ no_name mark.Open w s.0)
-  behind_primary (Active w x values) i j s y l e = named_apart y i l e (ap sees_name s.1 ∙ no_name mark.Active w s.0)
+  unfolding sees_name rest front
+  behind_primary (Named x) i j s y l e = inl (ap rest (sym e ∙ s))
+  behind_primary (Numeral x) i j s y l e = named_apart y i l e (ap sees_name s)
+  behind_primary (Keyword v w) i j s y l e = named_apart y i l e (ap sees_name s)
+  behind_primary (Paren w f) i j s y l e = named_apart y i l e (ap sees_name s.1)
+  behind_primary (Active w x values) i j s y l e = named_apart y i l e (ap sees_name s.1)
   behind_primary (Unary o w f) i j s y l e = absurd s
   behind_primary (Chain f links) i j s y l e = absurd s
 
@@ -191,30 +152,20 @@ unfolding sees front same_mark
 operator_elsewhere operator.Implies w m = refl
 operator_elsewhere o w m = refl
 
-at_close : (s : Spelling) (j : Words) → at_parenthesis (Fixed mark.Close s ∷ j) ≡ true
-unfolding sees front same_mark
-at_close s j = refl
-
-at_open : (s : Spelling) (j : Words) → at_parenthesis (Fixed mark.Open s ∷ j) ≡ true
-unfolding sees front same_mark
-at_open s j = refl
-
-comma_elsewhere : (s : Spelling) (j : Words) → at_parenthesis (Fixed mark.Comma s ∷ j) ≡ false
-unfolding sees front same_mark
-comma_elsewhere s j = refl
-
 -- behind a name that begins a time stands no parenthesis
 pub time_elsewhere : (d : ℕ) (x : Expr) (s : Spelling) (i j : Words) → SpellsExpr d x i (Fixed mark.Comma s ∷ j) → (y : Spot) (l : Words) → i ≡ word.Name y ∷ l → at_parenthesis l ≡ false
+unfolding sees front same_mark
 time_elsewhere d x s i j t y l e =
     elim (behind_level (SpellsInner d) (SpellsTimer d) loosest x i (Fixed mark.Comma s ∷ j) t y l e) as (λ _. at_parenthesis l ≡ false) [
-      | inl b ↦ ap at_parenthesis b ∙ comma_elsewhere s j
+      | inl b ↦ ap at_parenthesis b
       | inr b ↦ ap at_parenthesis b.3 ∙ operator_elsewhere b.0 b.1 b.2
     ]
 
 -- behind the name of a timer stands one
 pub timer_there : (d : ℕ) (x : Applied) (s : Spelling) (i j : Words) → SpellsApplied d x i (Fixed mark.Close s ∷ j) → (l : Words) × (i ≡ word.Name x.name ∷ l) × (at_parenthesis l ≡ true)
+unfolding sees front same_mark
 timer_there d x s i j t = (t.0, t.1, listed x.values t.0 t.2)
   where
     listed : (es : List Expr) (m : Words) → InParentheses (SpellsExpr d) es m (Fixed mark.Close s ∷ j) → at_parenthesis m ≡ true
-    listed [] m u = ap at_parenthesis u ∙ at_close s j
-    listed (f ∷ fs) m u = ap at_parenthesis u.2 ∙ at_open u.0 u.1
+    listed [] m u = ap at_parenthesis u
+    listed (f ∷ fs) m u = ap at_parenthesis u.2

@@ -1,9 +1,8 @@
 -- A look over a clause, one word on.
 use Rattle.std.proofs.Common.{◌≡◌, ℕ, ◌-◌, ◌<◌, true, false, [], ◌∷◌, length, refl, ap, ◌∙◌, arith}
-use Rattle.sdl_tree.specs.Words.{Words}
+use Rattle.sdl_read.proofs.Grammar.{Words, front, rest, mark_at}
 use Rattle.sdl_behaviour.specs.declared.clauses.Look.TheVariants as looks
 use Rattle.sdl_behaviour.specs.Clauses.{look_at, found_by, comma_ahead}
-use Rattle.sdl_read.specs.Reading.{front, rest, mark_at}
 
 ahead_turn : (n : ℕ) (i : Words) → 0 < length i → comma_ahead n i ≡ found_by (look_at n (mark_at i)) (λ now. comma_ahead now (rest i))
 unfolding comma_ahead mark_at front rest

@@ -1,52 +1,27 @@
 -- The law of transitions, over that of actions: actions with their labels, and what ends them.
-use Rattle.std.proofs.Common.{◌≡◌, ℕ, zero, suc, ◌⊎◌, inl, inr, Bool, true, false, ◌||◌, if◌then◌else◌, List, [], ◌∷◌, ◌++◌, map, Option, Some, None, option_map, Ok, Err, refl, sym, ap, ◌∙◌, subst}
+use Rattle.std.proofs.Common.{◌≡◌, ℕ, suc, ◌⊎◌, inl, inr, Bool, true, false, ◌||◌, if◌then◌else◌, List, [], ◌∷◌, ◌++◌, map, Option, Some, None, option_map, Ok, Err, refl, sym, ap, ◌∙◌, subst}
 use Rattle.sdl_tree.specs.declared.mark.Mark.TheVariants as mark
-use Rattle.sdl_tree.specs.Erased.{erased_name, erased_terminator, erased_ending, erased_action, erased_actions, erased_transition}
-use Rattle.sdl_tree.specs.Spells.Behaviour.{SpellsLabel, SpellsTerminator, SpellsEnding, SpellsStatement, SpellsTransBy}
-use Rattle.sdl_tree.specs.Spells.Parts.{Both, Optional, Repeated}
-use Rattle.sdl_tree.specs.Tree.{Terminator, Ending, Action, Transition, Steps, Actions, NoAction, AndAction, Statement, statements_in, actions_of}
-use Rattle.sdl_tree.specs.Words.{Words, Spot, Fixed}
-use Rattle.sdl_behaviour.specs.Transitions.{label, terminator, begins_terminator, begins_action, begins_statement, ending_with, statement_with, steps_from, steps_with, trans_of}
-use Rattle.sdl_read.specs.Reading.{Parser, Outcome, and_then, ◌⊗◌, made, either, maybe, front, sees, sees_name}
-use Rattle.sdl_read.proofs.Depth.{SameFront}
-use Rattle.sdl_read.proofs.Laws.{Form, Law, MaybeLaw, Anywhere, Made, stops_law, both_law, made_law, node_law, either_law, maybe_law}
-use Rattle.sdl_read.proofs.SignalLaws.{or_right}
-use Rattle.sdl_read.proofs.Steps.{read_as, sees_front}
-use Rattle.sdl_behaviour.proofs.EndingLaws.{label_law, terminator_law, begins_a_terminator, terminator_front, terminator_unnamed}
-use Rattle.sdl_read.proofs.ListLaws.{erased_both, until_by, until_law}
-use Rattle.sdl_read.proofs.PartLaws.{name_front}
-use Rattle.sdl_behaviour.proofs.WayLaws.{name_begins}
+use Rattle.sdl_read.proofs.Grammar.{erased_name, erased_terminator, erased_ending, erased_action, erased_actions, erased_transition, SpellsLabel, SpellsTerminator, SpellsEnding, SpellsStatement, SpellsTransBy, Both, Optional, Repeated, Terminator, Ending, Action, Transition, Steps, Actions, NoAction, AndAction, Statement, statements_in, actions_of, Words, Spot, Fixed, Mark, same_mark, Parser, Outcome, and_then, ◌⊗◌, made, either, maybe, front, sees, sees_name}
+use Rattle.sdl_behaviour.specs.Transitions.{label, terminator, terminator_marks, begins_terminator, action_marks, begins_action, begins_statement, ending_with, statement_with, steps_from, steps_with, trans_of}
+use Rattle.sdl_read.proofs.AllLaws.{SameFront, Form, Law, MaybeLaw, Anywhere, Made, stops_law, both_law, made_law, node_law, either_law, maybe_law, or_right, one_front, begins_seen, begins_unnamed, others_unseen, have_mark, BeginsOne, Choice, read_as, erased_both, until_by, until_law, name_front, name_begins}
+use Rattle.sdl_behaviour.proofs.EndingLaws.{label_law, terminator_choice}
 
 -- where a transition stops
 abbrev pub NoStatement : Words → Type 0
 NoStatement j = begins_statement j ≡ false
 
-action_front : (i k : Words) → SameFront i k → begins_action i ≡ begins_action k
-unfolding begins_action
-action_front i k e = λ n.
-    sees_front mark.Task i k e n
-    || (sees_front mark.Output i k e n
-    || (sees_front mark.Set i k e n || (sees_front mark.Reset i k e n || (sees_front mark.Create i k e n || sees_front mark.Decision i k e n))))
-
 statement_front : (i k : Words) → SameFront i k → begins_statement i ≡ begins_statement k
-unfolding begins_statement
-statement_front i k e = λ n. name_front i k e n || (action_front i k e n || terminator_front i k e n)
+unfolding begins_statement begins_action begins_terminator
+statement_front i k e = λ n. name_front i k e n || (one_front action_marks i k e n || one_front terminator_marks i k e n)
 
-statement_last : begins_statement [] ≡ false
+pub statement_last : NoStatement []
 unfolding begins_statement begins_action begins_terminator sees_name sees front
 statement_last = refl
 
-name_is_statement : (i : Words) → sees_name i ≡ true → begins_statement i ≡ true
-unfolding begins_statement
-name_is_statement i e = ap (λ b. b || (begins_action i || begins_terminator i)) e
-
-action_is_statement : (i : Words) → begins_action i ≡ true → begins_statement i ≡ true
-unfolding begins_statement
-action_is_statement i e = or_right (sees_name i) (begins_action i || begins_terminator i) (ap (λ b. b || begins_terminator i) e)
-
-terminator_is_statement : (i : Words) → begins_terminator i ≡ true → begins_statement i ≡ true
-unfolding begins_statement
-terminator_is_statement i e = or_right (sees_name i) (begins_action i || begins_terminator i) (or_right (begins_action i) (begins_terminator i) e)
+-- where a mark stands that begins none, a transition stops
+pub no_statement : (ms : List Mark) (i : Words) → have_mark action_marks ms ≡ false → have_mark terminator_marks ms ≡ false → BeginsOne ms i → NoStatement i
+unfolding begins_statement begins_action begins_terminator
+no_statement ms i a t b = λ n. begins_unnamed ms i b n || (others_unseen action_marks ms i a b n || others_unseen terminator_marks ms i t b n)
 
 -- ---- a statement or an ending, if one stands next
 
@@ -111,10 +86,6 @@ erased_labelled : (l : Option Spot) (x : Kind) → erased_step (step_with (l, x)
 erased_labelled l (inl a) = refl
 erased_labelled l (inr t) = refl
 
-like_step : (x y : Option Spot × Kind) → ◌≡◌ {A = Option Spot × Kind} (option_map erased_name x.0, erased_kind x.1) (option_map erased_name y.0, erased_kind y.1)
-    → erased_step (step_with x) ≡ erased_step (step_with y)
-like_step x y e = erased_labelled x.0 x.1 ∙ ap step_with e ∙ sym (erased_labelled y.0 y.1)
-
 -- ---- one turn
 
 module _ (act : Parser Action) (n : ℕ) (found : List Statement) where
@@ -133,18 +104,12 @@ module _ (act : Parser Action) (n : ℕ) (found : List Statement) where
   abbrev as_some : Step → Parser (Option Step)
   as_some x = λ j. read_as (Some x) j
 
-  abbrev as_end : Terminator → Parser Kind
-  as_end t = λ j. read_as (ends_here t) j
-
-  abbrev as_action : Action → Parser Kind
-  as_action a = λ j. read_as (goes_on a) j
-
   abbrev by_step : Option Step → Parser (List Statement × Option Ending)
   by_step o = λ m. until_by found (steps_from act n) o m
 
   by_kind : (b : Bool) (l : Option Spot) (t : Outcome Terminator) (c : Outcome Action) →
       (if b then and_then t (end_here l) else and_then c (go_on l))
-      ≡ and_then (and_then (and_then (and_then (if b then and_then t as_end else and_then c as_action) (with_label l)) as_step) as_some) by_step
+      ≡ and_then (and_then (and_then (and_then (if b then and_then t (λ y j. read_as (ends_here y) j) else and_then c (λ y j. read_as (goes_on y) j)) (with_label l)) as_step) as_some) by_step
   by_kind true l (Ok p) c = refl
   by_kind true l (Err r) c = refl
   by_kind false l t (Ok p) = refl
@@ -166,10 +131,6 @@ module _ (act : Parser Action) (n : ℕ) (found : List Statement) where
   steps_turn : (i : Words) → steps_from act (suc n) found i ≡ and_then (step act i) by_step
   unfolding steps_from
   steps_turn i = by_begin (begins_statement i) i (label i)
-
-steps_none : (act : Parser Action) (found : List Statement) (i : Words) → steps_from act zero found i ≡ read_as (found, None) i
-unfolding steps_from
-steps_none act found i = refl
 
 -- ---- statements in the tree
 
@@ -200,43 +161,37 @@ trans_from Act (Steps actions ending) i j s = ((statements_in actions, ending), 
 erased_steps : (x : List Statement × Option Ending) → erased_transition (steps_with x) ≡ steps_with (map erased_statement x.0, option_map erased_ending x.1)
 erased_steps x = ap (λ ss. Steps ss (option_map erased_ending x.1)) (erased_listed x.0)
 
-like_steps : (x y : List Statement × Option Ending)
-    → ◌≡◌ {A = List Statement × Option Ending} (map erased_statement x.0, option_map erased_ending x.1) (map erased_statement y.0, option_map erased_ending y.1)
-    → erased_transition (steps_with x) ≡ erased_transition (steps_with y)
-like_steps x y e = erased_steps x ∙ ap steps_with e ∙ sym (erased_steps y)
-
 -- ---- the law, where actions stop anywhere and begin as they do
 
-module _ {act : Parser Action} {Act More : Form Action} (a : Law act Act More Anywhere erased_action)
-    (begins : (x : Action) (i j : Words) → Act x i j → begins_action i ≡ true) (unnamed : (x : Action) (i j : Words) → Act x i j → sees_name i ≡ false)
-    (no_ending : (x : Action) (i j : Words) → Act x i j → begins_terminator i ≡ false) where
+module _ {act : Parser Action} {Act More : Form Action} (a : Choice act Act More Anywhere action_marks erased_action) where
   kind_law : Law (kind act) (IsKind Act) (IsKind More) Anywhere erased_kind
+  unfolding begins_terminator same_mark
   kind_law =
-      either_law begins_terminator terminator_front (made_law ends_here (λ x y e. ap ends_here e) terminator_law) (made_law goes_on (λ x y e. ap goes_on e) a)
-      (λ x i j s. begins_a_terminator s.0 i j s.2) (λ x i j s t. no_ending s.0 i j s.2)
+      either_law begins_terminator (one_front terminator_marks) (made_law ends_here (λ x. refl) terminator_choice.law) (made_law goes_on (λ x. refl) a.law)
+      (λ x i j s. begins_seen terminator_marks i (terminator_choice.begins s.0 i j s.2)) (λ x i j s t. others_unseen terminator_marks action_marks i refl (a.begins s.0 i j s.2))
 
   kind_unnamed : (x : Kind) (i j : Words) → IsKind Act x i j → sees_name i ≡ false
-  kind_unnamed x i j (inl s) = terminator_unnamed s.0 i j s.2
-  kind_unnamed x i j (inr s) = unnamed s.0 i j s.2
+  kind_unnamed x i j (inl s) = begins_unnamed terminator_marks i (terminator_choice.begins s.0 i j s.2)
+  kind_unnamed x i j (inr s) = begins_unnamed action_marks i (a.begins s.0 i j s.2)
 
-  labelled_begins : (l : Option Spot) (i m : Words) → SpellsLabel l i m → begins_statement m ≡ true → begins_statement i ≡ true
-  labelled_begins None i m s e = ap begins_statement s ∙ e
-  labelled_begins (Some x) i m s e = name_is_statement i (name_begins x i (Fixed mark.Colon s.0 ∷ m) s.1)
+  labelled_begins : (l : Option Spot) (i m : Words) → SpellsLabel l i m → (begins_action m || begins_terminator m) ≡ true → begins_statement i ≡ true
+  unfolding begins_statement
+  labelled_begins None i m s e = ap begins_statement s ∙ or_right (sees_name m) (begins_action m || begins_terminator m) e
+  labelled_begins (Some x) i m s e = ap (λ b. b || (begins_action i || begins_terminator i)) (name_begins x i (Fixed mark.Colon s.0 ∷ m) s.1)
 
   step_begins : (x : Step) (i j : Words) → IsStep Act x i j → begins_statement i ≡ true
-  step_begins (inl s) i j t = labelled_begins s.label i t.0 t.1 (action_is_statement t.0 (begins s.action t.0 j t.2))
-  step_begins (inr e) i j t = labelled_begins e.label i t.0 t.1 (terminator_is_statement t.0 (begins_a_terminator e.terminator t.0 j t.2))
-
-  whole_step_law : Law (made step_with (label ⊗ kind act)) (IsStep Act) (IsStep More) Anywhere erased_step
-  whole_step_law =
-      node_law step_with (IsStep Act) (IsStep More) like_step (step_to Act) (step_from Act) (step_to More)
-      (both_law label_law kind_law (λ y m j s t. (tt, kind_unnamed y m j s)))
+  unfolding begins_action begins_terminator
+  step_begins (inl s) i j t = labelled_begins s.label i t.0 t.1 (ap (λ b. b || begins_terminator t.0) (begins_seen action_marks t.0 (a.begins s.action t.0 j t.2)))
+  step_begins (inr e) i j t = labelled_begins e.label i t.0 t.1 (or_right (begins_action t.0) (begins_terminator t.0) (begins_seen terminator_marks t.0 (terminator_choice.begins e.terminator t.0 j t.2)))
 
   step_law : MaybeLaw (step act) (IsStep Act) (IsStep More) Anywhere begins_statement erased_step
   step_law =
-      maybe_law begins_statement statement_front whole_step_law.rules statement_last step_begins
+      maybe_law begins_statement statement_front
+      (node_law step_with (IsStep Act) (IsStep More) (λ x. erased_labelled x.0 x.1) (step_to Act) (step_from Act) (step_to More) (both_law label_law kind_law (λ y m j s t. (tt, kind_unnamed y m j s)))).rules
+      statement_last step_begins
 
   pub trans_of_law : Law (trans_of act) (SpellsTransBy Act) (SpellsTransBy More) NoStatement erased_transition
+  unfolding steps_from
   trans_of_law =
-      node_law steps_with (SpellsTransBy Act) (SpellsTransBy More) like_steps (trans_to Act) (trans_from Act) (trans_to More)
-      (stops_law (λ j t. (tt, t)) (until_law step_law (λ i e. tt) tt (steps_from act) (steps_none act) (steps_turn act)))
+      node_law steps_with (SpellsTransBy Act) (SpellsTransBy More) erased_steps (trans_to Act) (trans_from Act) (trans_to More)
+      (stops_law (λ j t. (tt, t)) (until_law step_law (λ i e. tt) tt (steps_from act) (λ found i. refl) (steps_turn act)))

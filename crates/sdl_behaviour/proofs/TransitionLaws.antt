@@ -1,34 +1,17 @@
 -- The laws of actions, decisions and transitions.
-use Rattle.std.proofs.Common.{◌≡◌, ℕ, zero, suc, inl, inr, true, false, ◌||◌, List, [], ◌∷◌, map, Option, Some, None, option_map, refl, sym, ap, ◌∙◌, subst}
-use Rattle.sdl_tree.specs.declared.mark.Mark.{Mark}
+use Rattle.std.proofs.Common.{◌≡◌, ℕ, zero, suc, inl, inr, false, List, [], ◌∷◌, map, Option, Some, None, option_map, refl, sym, ap, subst}
+use Rattle.sdl_read.proofs.Grammar.{Spelling, plain, erased_word, erased_expr, erased_answer, erased_action, erased_transition, erased_parts, erased_otherwise, SpellsAction, SpellsTrans, SpellsPart, SpellsElse, SpellsDecision, loosest, SpellsInner, IsMark, Both, Before, Optional, Ended, Expr, Named, Transition, Action, Task, Output, Set, Reset, Create, Decision, Part, Parts, NoPart, AndPart, parts_in, parts_of, Otherwise, NoElse, Else, else_in, else_of, Words, Fixed, Parser, refuse, either, front, sees, same_mark}
 use Rattle.sdl_tree.specs.declared.mark.Mark.TheVariants as mark
-use Rattle.sdl_tree.specs.declared.name.Spelling.{Spelling}
-use Rattle.sdl_tree.specs.Erased.{plain, erased_word, erased_expr, erased_answer, erased_action, erased_transition, erased_parts, erased_otherwise}
-use Rattle.sdl_tree.specs.Spells.Behaviour.{SpellsAnswer, SpellsAction, SpellsTrans, SpellsPart, SpellsElse, SpellsDecision}
-use Rattle.sdl_tree.specs.Spells.Expressions.{loosest, SpellsAt, SpellsInner, SpellsTimer}
-use Rattle.sdl_tree.specs.Spells.Parts.{IsMark, Both, Before, Optional, Enclosed, Ended}
-use Rattle.sdl_tree.specs.Tree.{Expr, Named, Transition, Action, Task, Output, Set, Reset, Create, Decision, Part, Parts, NoPart, AndPart, parts_in, parts_of, Otherwise, NoElse, Else, else_in, else_of}
-use Rattle.sdl_tree.specs.Words.{Words, Spot, Fixed}
+use Rattle.sdl_tree.specs.Spells.Expressions.{SpellsTimer}
 use Rattle.sdl_tree.specs.Words as word
 use Rattle.sdl_behaviour.specs.Actions.{task_with, output_with, reset_with, create_with}
-use Rattle.sdl_behaviour.specs.Answers.{answer}
 use Rattle.sdl_behaviour.specs.Clauses.{set_with}
-use Rattle.sdl_behaviour.specs.Transitions.{begins_terminator, begins_action, begins_statement, part_with, part, otherwise, decision_with, decision_of, action_of, decision, action, trans}
-use Rattle.sdl_tree.specs.Depth.{IsOpening}
-use Rattle.sdl_read.specs.Reading.{Parser, too_deep, refuse, ◌⊗◌, behind, made, either, front, sees, same_mark, sees_name, enclosed}
-use Rattle.sdl_read.proofs.ExpressionLaws.{expr_law}
-use Rattle.sdl_read.proofs.Laws.{Form, Never, Rules, Law, MaybeLaw, Anywhere, Made, Or, made_as, either_as, mark_law, refuse_rules, same_rules, shut_first, shut_rules, as_law, both_law, behind_law, before_law, made_law, either_rules, optional_law}
-use Rattle.sdl_read.proofs.ListLaws.{repeated_law}
-use Rattle.sdl_read.proofs.PartLaws.{nameless, enclosed_law}
-use Rattle.sdl_read.proofs.SignalLaws.{record_law, maybe_mark, BeginsOne, Choice, or_rules, or_choice, as_choice, AtEach, at_one}
-use Rattle.sdl_read.proofs.OperatorLaws.{stops_last}
-use Rattle.sdl_read.proofs.Steps.{sees_front, sees_ok, sees_at}
+use Rattle.sdl_behaviour.specs.Transitions.{part_with, part, otherwise, decision_with, decision_of, action_of, decision, action, trans, action_marks}
+use Rattle.sdl_read.proofs.AllLaws.{expr_law, Form, Never, Rules, Law, MaybeLaw, Anywhere, Made, Or, made_as, either_as, mark_law, refuse_rules, same_rules, shut_first, shut_rules, as_law, both_law, behind_law, before_law, made_law, either_rules, optional_law, repeated_law, nameless, enclosed_law, record_law, maybe_mark, BeginsOne, Choice, or_rules, or_choice, as_choice, stops_last, sees_front, sees_ok, sees_at, ended_law, stops_at, stops_end, sees_other, sees_last, then_law, plain_name}
 use Rattle.sdl_behaviour.proofs.ActionLaws.{Tasks, task_law, Outputs, output_law, Creates, create_law, Resets, reset_law}
 use Rattle.sdl_behaviour.proofs.AnswerLaws.{answer_law, answer_takes}
 use Rattle.sdl_behaviour.proofs.ClauseLaws.{Sets, set_law}
-use Rattle.sdl_behaviour.proofs.StepLaws.{NoStatement, trans_of_law}
-use Rattle.sdl_read.proofs.ClosingLaws.{ended_law}
-use Rattle.sdl_behaviour.proofs.WayLaws.{stops_at, stops_end, sees_other, sees_last, no_name}
+use Rattle.sdl_behaviour.proofs.StepLaws.{NoStatement, trans_of_law, no_statement, statement_last}
 
 -- ---- lists in the tree
 
@@ -78,84 +61,43 @@ erased_question x = (erased_word x.0, (erased_expr x.1.0, (map erased_part x.1.1
 decision_erased : (x : Question) → erased_action (decision_with x) ≡ decision_with (erased_question x)
 decision_erased x = λ n. Decision (erased_word x.0) (erased_expr x.1.0) (parts_erased x.1.1.0 n) (else_erased x.1.1.1 n)
 
-like_decision : (x y : Question) → erased_question x ≡ erased_question y → erased_action (decision_with x) ≡ erased_action (decision_with y)
-like_decision x y e = decision_erased x ∙ ap decision_with e ∙ sym (decision_erased y)
-
-no_statement_at : (m : Mark) → same_mark m mark.Task ≡ false → same_mark m mark.Output ≡ false → same_mark m mark.Set ≡ false → same_mark m mark.Reset ≡ false
-    → same_mark m mark.Create ≡ false → same_mark m mark.Decision ≡ false → same_mark m mark.NextState ≡ false → same_mark m mark.Stop ≡ false → same_mark m mark.Join ≡ false
-    → (s : Spelling) (k : Words) → NoStatement (Fixed m s ∷ k)
-unfolding begins_statement begins_action begins_terminator sees_name sees front
-no_statement_at m a b c d e f g h o s k = λ n. a n || (b n || (c n || (d n || (e n || f n)))) || (g n || (h n || o n))
-
 module _ (d : ℕ) (t : Law (trans d) (SpellsTrans d) (SpellsTrans (suc d)) NoStatement erased_transition) where
-  answers_law : Law (enclosed (answer d)) (Enclosed (SpellsAnswer d)) (Enclosed (SpellsAnswer (suc d))) Anywhere (map erased_answer)
-  unfolding same_mark
-  answers_law =
-      enclosed_law (answer_law d) (answer_takes d) (λ s m. (stops_at mark.Comma refl loosest s m, sees_other mark.Colon mark.Comma refl s m))
-      (λ s m. (stops_at mark.Close refl loosest s m, sees_other mark.Colon mark.Close refl s m)) (stops_last loosest, sees_last mark.Colon)
-
-  one_part_law : Law (made part_with (enclosed (answer d) ⊗ behind mark.Colon (trans d))) (SpellsPart d (SpellsTrans d)) (SpellsPart (suc d) (SpellsTrans (suc d))) NoStatement erased_part
-  one_part_law =
-      record_law part_with (λ y. (y.answers, y.transition)) (λ x y n. ap part_with n) (λ x. refl) (λ y. refl)
-      (both_law answers_law (behind_law mark.Colon t) (λ y m j s u. tt))
-
-  no_statement_last : NoStatement []
-  unfolding begins_statement begins_action begins_terminator sees_name sees front
-  no_statement_last = refl
-
   part_law : MaybeLaw (part d (trans d)) (SpellsPart d (SpellsTrans d)) (SpellsPart (suc d) (SpellsTrans (suc d))) NoStatement (sees mark.Open) erased_part
-  unfolding part
-  part_law = maybe_mark mark.Open one_part_law (λ x i j s. let b = s.1 in (b.0, b.1, b.2))
-
-  open_begins_none : (i : Words) → sees mark.Open i ≡ true → NoStatement i
-  unfolding same_mark
-  open_begins_none i e =
-      let at = sees_ok mark.Open i e in subst NoStatement (sym at.1) (no_statement_at mark.Open refl refl refl refl refl refl refl refl refl at.0 _)
-
-  one_else_law : Law (behind mark.Else (behind mark.Colon (trans d))) (SpellsElse (SpellsTrans d)) (SpellsElse (SpellsTrans (suc d))) NoStatement erased_transition
-  one_else_law = behind_law mark.Else (behind_law mark.Colon t)
+  unfolding part same_mark
+  part_law =
+      maybe_mark mark.Open
+      (record_law part_with (λ y. (y.answers, y.transition)) (λ x. refl) (λ x. refl) (λ y. refl)
+      (then_law
+      (enclosed_law (answer_law d) (answer_takes d) (λ s m. (stops_at mark.Comma refl loosest s m, sees_other mark.Colon mark.Comma refl s m))
+      (λ s m. (stops_at mark.Close refl loosest s m, sees_other mark.Colon mark.Close refl s m)) (stops_last loosest, sees_last mark.Colon))
+      (behind_law mark.Colon t)))
+      (λ x i j s. (s.1.0, s.1.1, s.1.2))
 
   else_law : Law (otherwise (trans d)) (Optional (SpellsElse (SpellsTrans d))) (Optional (SpellsElse (SpellsTrans (suc d)))) (λ j. NoStatement j × (sees mark.Else j ≡ false)) (option_map erased_transition)
   unfolding otherwise
-  else_law = optional_law (maybe_mark mark.Else one_else_law (λ x i j s. (s.0, s.1, s.2)))
-
-  abbrev EndsDecision : Option Transition → Words → Words → Type 0
-  EndsDecision = Ended (Before (Optional (SpellsElse (SpellsTrans d))) mark.EndDecision)
+  else_law = optional_law (maybe_mark mark.Else (behind_law mark.Else (behind_law mark.Colon t)) (λ x i j s. (s.0, s.1, s.2)))
 
   -- where the parts of a decision end
-  abbrev PartsEnd : Words → Type 0
-  PartsEnd j = NoStatement j × (sees mark.Open j ≡ false)
-
-  ends_parts : (o : Option Transition) (m j : Words) → EndsDecision o m j → PartsEnd m
-  unfolding same_mark
-  ends_parts None m j s =
-      let b = s.1 in
-      subst PartsEnd (sym b.1) (no_statement_at mark.EndDecision refl refl refl refl refl refl refl refl refl b.0 s.0, sees_other mark.Open mark.EndDecision refl b.0 s.0)
-  ends_parts (Some x) m j s =
-      let c = s.1.1 in
-      subst PartsEnd (sym c.2) (no_statement_at mark.Else refl refl refl refl refl refl refl refl refl c.0 c.1, sees_other mark.Open mark.Else refl c.0 c.1)
+  ends_parts : (o : Option Transition) (m j : Words) → Ended (Before (Optional (SpellsElse (SpellsTrans d))) mark.EndDecision) o m j → NoStatement m × (sees mark.Open m ≡ false)
+  unfolding sees front same_mark
+  ends_parts None m j s = let b = s.1 in (no_statement (mark.EndDecision ∷ []) m refl refl (inl (b.0, s.0, b.1)), ap (sees mark.Open) b.1)
+  ends_parts (Some x) m j s = let c = s.1.1 in (no_statement (mark.Else ∷ []) m refl refl (inl (c.0, c.1, c.2)), ap (sees mark.Open) c.2)
 
   decision_of_law : Law (decision_of d (trans d)) (Decides (suc d)) (Decides (suc (suc d))) Anywhere erased_action
   unfolding decision_of same_mark
   decision_of_law =
-      made_law decision_with like_decision
-      (both_law (mark_law mark.Decision)
-      (both_law (ended_law (expr_law d) (stops_end loosest))
-      (both_law (repeated_law part_law open_begins_none no_statement_last)
+      made_law decision_with decision_erased
+      (then_law (mark_law mark.Decision)
+      (then_law (ended_law (expr_law d) (stops_end loosest))
+      (both_law
+      (repeated_law part_law (λ i e. let at = sees_ok mark.Open i e in no_statement (mark.Open ∷ []) i refl refl (inl (at.0, _, at.1))) statement_last)
       (ended_law
       (before_law mark.EndDecision else_law
-      (λ s k. (no_statement_at mark.EndDecision refl refl refl refl refl refl refl refl refl s k, sees_other mark.Else mark.EndDecision refl s k)))
+      (λ s k. (no_statement (mark.EndDecision ∷ []) _ refl refl (inl (s, k, refl)), sees_other mark.Else mark.EndDecision refl s k)))
       (λ i j s. tt))
-      (λ o m j s u. ends_parts o m j s))
-      (λ y m j s u. tt))
-      (λ y m j s u. tt))
+      (λ o m j s u. ends_parts o m j s))))
 
 -- ---- where no decision may stand
-
-plain_name : (Inner : Expr → Words → Words → Type 0) (Timer : Spot × List Expr → Words → Words → Type 0) (k : ℕ) (j : Words) → SpellsAt Inner Timer k (Named nameless) (word.Name nameless ∷ j) j
-plain_name Inner Timer zero j = refl
-plain_name Inner Timer (suc zero) j = inl refl
-plain_name Inner Timer (suc (suc k)) j = inl (plain_name Inner Timer (suc k) j)
 
 abbrev semicolon : word.Word
 semicolon = Fixed mark.Semicolon plain
@@ -179,17 +121,6 @@ shortest s j = (
   ),
 )
 
-opens_decision : (s : Spelling) → IsOpening (Fixed mark.Decision s)
-opens_decision s = (s, inr refl)
-
-decision_zero : decision zero ≡ too_deep
-unfolding decision
-decision_zero = refl
-
-decision_more : (d : ℕ) → decision (suc d) ≡ decision_of d (trans d)
-unfolding decision
-decision_more d = refl
-
 abbrev IsDecision : ℕ → Form Action
 IsDecision d = Or (Decides d) Never
 
@@ -202,18 +133,20 @@ decision_begins zero x i j (inl s) = absurd s
 decision_begins d x i j (inr s) = absurd s
 
 none_rules : Rules (perhaps (decision zero)) (IsDecision zero) (IsDecision (suc zero)) Anywhere erased_action
+unfolding decision
 none_rules =
-    same_rules (λ i. shut_first mark.Decision refuse i ∙ ap (λ p. perhaps p i) (sym decision_zero))
+    same_rules (shut_first mark.Decision refuse)
     (either_rules (sees mark.Decision) (sees_front mark.Decision)
-    (shut_rules mark.Decision opens_decision (Decides zero) (Decides (suc zero)) Anywhere (λ x i j s. s)
+    (shut_rules mark.Decision (λ s. (s, inr refl)) (Decides zero) (Decides (suc zero)) Anywhere (λ x i j s. s)
     (λ s. (decision_with (s, (Named nameless, ([], None))), word.Name nameless ∷ semicolon ∷ closing ∷ semicolon ∷ [], λ j u. shortest s j)))
     (refuse_rules (λ x i j s. s)) (λ x i j s. absurd s) (λ x i j s t. absurd s))
 
 more_rules : (d : ℕ) → Law (trans d) (SpellsTrans d) (SpellsTrans (suc d)) NoStatement erased_transition
     → Rules (perhaps (decision (suc d))) (IsDecision (suc d)) (IsDecision (suc (suc d))) Anywhere erased_action
+unfolding decision
 more_rules d t =
-    same_rules (λ i. ap (λ p. perhaps p i) (sym (decision_more d)))
-    (either_rules (sees mark.Decision) (sees_front mark.Decision) (decision_of_law d t).rules (refuse_rules (λ x i j s. s)) (λ x i j s. let b = s.2 in sees_at mark.Decision s.0.0 i b.0 b.1) (λ x i j s t. absurd s))
+    either_rules (sees mark.Decision) (sees_front mark.Decision) (decision_of_law d t).rules (refuse_rules (λ x i j s. s)) (λ x i j s. let b = s.2 in sees_at mark.Decision s.0.0 i b.0 b.1)
+    (λ x i j s t. absurd s)
 
 -- ---- actions
 
@@ -252,9 +185,6 @@ action_from (suc d) (Decision w question parts other) i j s =
       s,
     ))))))
 
-abbrev action_marks : List Mark
-action_marks = mark.Task ∷ mark.Output ∷ mark.Set ∷ mark.Reset ∷ mark.Create ∷ mark.Decision ∷ []
-
 action_choice_by : (d : ℕ) → Rules (perhaps (decision d)) (IsDecision d) (IsDecision (suc d)) Anywhere erased_action
     → Choice (action d) (SpellsAction d) (SpellsAction (suc d)) Anywhere action_marks erased_action
 unfolding action_of same_mark
@@ -266,19 +196,9 @@ action_choice_by d r =
     (or_choice mark.Reset _ refl (reset_law d) (λ x i j s. let b = s.2 in (s.0.0, b.0, b.1))
     (or_rules mark.Create _ refl (create_law d) (λ x i j s. let b = s.2 in (s.0.0, b.0, b.1)) r (decision_begins d))))))
 
-begins_by : (d : ℕ) → Rules (perhaps (decision d)) (IsDecision d) (IsDecision (suc d)) Anywhere erased_action → (Q : Words → Type 0) → AtEach Q action_marks
-    → (x : Action) (i j : Words) → SpellsAction d x i j → Q i
-begins_by d r Q at x i j s = at_one Q action_marks at i ((action_choice_by d r).begins x i j s)
-
 trans_law_by : (d : ℕ) → Rules (perhaps (decision d)) (IsDecision d) (IsDecision (suc d)) Anywhere erased_action
     → Law (trans d) (SpellsTrans d) (SpellsTrans (suc d)) NoStatement erased_transition
-unfolding begins_action begins_terminator sees front same_mark
-trans_law_by d r =
-    as_law (λ x i j s. s) (λ x i j s. s) (λ x i j s. s)
-    (trans_of_law (action_choice_by d r).law
-    (begins_by d r (λ i. begins_action i ≡ true) ((λ s k. refl), ((λ s k. refl), ((λ s k. refl), ((λ s k. refl), ((λ s k. refl), ((λ s k. refl), tt)))))))
-    (begins_by d r (λ i. sees_name i ≡ false) (no_name mark.Task, (no_name mark.Output, (no_name mark.Set, (no_name mark.Reset, (no_name mark.Create, (no_name mark.Decision, tt)))))))
-    (begins_by d r (λ i. begins_terminator i ≡ false) ((λ s k. refl), ((λ s k. refl), ((λ s k. refl), ((λ s k. refl), ((λ s k. refl), ((λ s k. refl), tt))))))))
+trans_law_by d r = as_law (λ x i j s. s) (λ x i j s. s) (λ x i j s. s) (trans_of_law (action_choice_by d r))
 
 -- ---- as many inside each other
 
@@ -286,9 +206,8 @@ decision_rules : (d : ℕ) → Rules (perhaps (decision d)) (IsDecision d) (IsDe
 decision_rules zero = none_rules
 decision_rules (suc d) = more_rules d (trans_law_by d (decision_rules d))
 
--- what holds at the words of actions holds where one begins
-pub action_begins : (d : ℕ) (Q : Words → Type 0) → AtEach Q action_marks → (x : Action) (i j : Words) → SpellsAction d x i j → Q i
-action_begins d = begins_by d (decision_rules d)
+pub action_choice : (d : ℕ) → Choice (action d) (SpellsAction d) (SpellsAction (suc d)) Anywhere action_marks erased_action
+action_choice d = action_choice_by d (decision_rules d)
 
 pub trans_law : (d : ℕ) → Law (trans d) (SpellsTrans d) (SpellsTrans (suc d)) NoStatement erased_transition
 trans_law d = trans_law_by d (decision_rules d)

@@ -1,15 +1,8 @@
 -- The laws of what stands wherever its first mark does, and of what doesn't begin with a mark.
 use Rattle.std.proofs.Common.{◌≡◌, inl, inr, true, false, true≢false, [], ◌∷◌, ◌++◌, Option, Some, None, option_map, Ok, Err, sym, ap, ◌∙◌, subst}
-use Rattle.sdl_tree.specs.Alike.{AreAlike}
-use Rattle.sdl_tree.specs.declared.mark.Mark.{Mark}
-use Rattle.sdl_tree.specs.declared.name.Spelling.{Spelling}
-use Rattle.sdl_tree.specs.Spells.Parts.{Optional, Begins, Unless, Wherever}
-use Rattle.sdl_tree.specs.Words.{Words, Fixed}
+use Rattle.sdl_read.proofs.Grammar.{AreAlike, Mark, Spelling, Optional, Begins, Unless, Wherever, Words, Fixed, Parser, Outcome, Refused, sees}
 use Rattle.sdl_behaviour.specs.Stimuli.{unless}
-use Rattle.sdl_read.specs.Reading.{Parser, Outcome, Refused, sees}
-use Rattle.sdl_read.proofs.Depth.{within}
-use Rattle.sdl_read.proofs.Laws.{Form, Never, Gives, Law, MaybeLaw, Or, still, read_here, as_law, stops_rules, refuse_rules, either_rules, optional_law, none_begins, passes, some_read}
-use Rattle.sdl_read.proofs.Steps.{read_as, not_read, if_true, if_false, true_or_false, sees_ok, sees_at, sees_again, sees_front}
+use Rattle.sdl_read.proofs.AllLaws.{within, Form, Never, Gives, Law, MaybeLaw, Or, still, read_here, as_law, stops_rules, refuse_rules, either_rules, optional_law, none_begins, passes, some_read, read_as, not_read, if_true, if_false, true_or_false, sees_ok, sees_at, sees_again, sees_front}
 
 module _ (m : Mark) where
   -- what isn't seen begins nothing
@@ -121,18 +114,11 @@ module _ {A : Type 0} (m : Mark) {p : Parser A} {P M : Form A} {S : Words → Ty
   unless_read x i j s t = if_false (sees m i) (Err (Refused i)) (p i) (not_seen m i s.0) ∙ a.rules.complete x i j s.1 t
 
   read_unless : (i : Words) (x : A) (j : Words) → unless m p i ≡ read_as x j → ¬ Begins m i
-  read_unless i x j s b = refused_there (sees_at m b.0 i b.1 b.2)
-    where
-      refused_there : sees m i ≡ true → ⊥
-      refused_there t = not_read (Refused i) x j (sym (if_true (sees m i) (Err (Refused i)) (p i) t) ∙ s)
+  read_unless i x j s b = not_read (Refused i) x j (sym (if_true (sees m i) (Err (Refused i)) (p i) (sees_at m b.0 i b.1 b.2)) ∙ s)
 
-  unbegun : (x : A) (i j : Words) → Or Never P x i j → Behind j → ¬ Begins m i
-  unbegun x i j (inl s) t = absurd s
-  unbegun x i j (inr s) t = not_begun m i (apart x i j s t.1)
-
-  unbegun_more : (x : A) (i j : Words) → Or Never M x i j → Behind j → ¬ Begins m i
-  unbegun_more x i j (inl s) t = absurd s
-  unbegun_more x i j (inr s) t = not_begun m i (apart_more x i j s t.1)
+  unbegun : (R : Form A) → ((x : A) (i j : Words) → R x i j → sees m j ≡ false → sees m i ≡ false) → (x : A) (i j : Words) → Or Never R x i j → Behind j → ¬ Begins m i
+  unbegun R never x i j (inl s) t = absurd s
+  unbegun R never x i j (inr s) t = not_begun m i (never x i j s t.1)
 
   only : (R : Form A) (x : A) (i j : Words) → (¬ Begins m i) × Or Never R x i j → Unless m R x i j
   only R x i j s = elim s.1 as (λ _. Unless m R x i j) [
@@ -143,4 +129,4 @@ module _ {A : Type 0} (m : Mark) {p : Parser A} {P M : Form A} {S : Words → Ty
   pub unless_law : Law (unless m p) (Unless m P) (Unless m M) (λ j. S j × (sees m j ≡ false)) e
   unless_law =
       as_law (only P) (λ x i j s. (s.0, inr s.1)) (only M)
-      (given_law (λ x i. ¬ Begins m i) tried_law read_unless unbegun unbegun_more (λ x y i k t n s. alike_not_begun m i k t s))
+      (given_law (λ x i. ¬ Begins m i) tried_law read_unless (unbegun P apart) (unbegun M apart_more) (λ x y i k t n s. alike_not_begun m i k t s))

@@ -1,6 +1,7 @@
 -- Reading of the start, of states and of connections. A reading is a device of the proofs: what the grammar spells, `sdl_tree` says.
 use Rattle.std.specs.Prelude.{ℕ, Bool, false, ◌||◌, if◌then◌else◌, List, [], ◌∷◌, Option, Some, None, Ok, Err}
 use Rattle.std.specs.Str.{bytes_eq}
+use Rattle.sdl_tree.specs.declared.mark.Mark.{Mark}
 use Rattle.sdl_tree.specs.declared.mark.Mark.TheVariants as mark
 use Rattle.sdl_tree.specs.declared.name.Spelling.{Spelling}
 use Rattle.sdl_tree.specs.Tree.{Transition, Start, Stimulus, States, StateList, StateAll, BodyPart, StatePart, FreeAction}
@@ -8,7 +9,7 @@ use Rattle.sdl_tree.specs.Words.{Word, Words, Spot, Fixed}
 use Rattle.sdl_tree.specs.Words as word
 use Rattle.sdl_behaviour.specs.Stimuli.{stimulus}
 use Rattle.sdl_behaviour.specs.Transitions.{trans}
-use Rattle.sdl_read.specs.Parts.{followed_by, ended, end_name, closed}
+use Rattle.sdl_read.specs.Parts.{followed_by, ended, end_name, closed, sees_one}
 use Rattle.sdl_read.specs.Reading.{Parser, Refused, pure, ◌⊗◌, behind, before, made, either, maybe, front, rest, sees, expect, name, separated, repeated, in_parentheses}
 
 abbrev pub start_with : Spelling × Transition → Start
@@ -73,8 +74,11 @@ unfoldable pub connection : ℕ → Parser BodyPart
 connection depth =
     made free_with (expect mark.Connection ⊗ followed_by (before name mark.Colon ⊗ trans depth) (λ p. end_connection p.0.text))
 
+abbrev pub body_part_marks : List Mark
+body_part_marks = mark.State ∷ mark.Connection ∷ []
+
 unfoldable pub begins_body_part : Words → Bool
-begins_body_part i = sees mark.State i || sees mark.Connection i
+begins_body_part i = sees_one body_part_marks i
 
 -- state | connection, if one stands next
 unfoldable pub body_part : ℕ → Parser (Option BodyPart)

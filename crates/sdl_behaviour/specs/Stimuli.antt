@@ -1,5 +1,5 @@
 -- Reading of stimuli. A reading is a device of the proofs: what the grammar spells, `sdl_tree` says.
-use Rattle.std.specs.Prelude.{ℕ, Bool, ◌||◌, if◌then◌else◌, List, Option, Err}
+use Rattle.std.specs.Prelude.{ℕ, Bool, if◌then◌else◌, List, [], ◌∷◌, Option, Err}
 use Rattle.sdl_tree.specs.declared.mark.Mark.{Mark}
 use Rattle.sdl_tree.specs.declared.mark.Mark.TheVariants as mark
 use Rattle.sdl_tree.specs.declared.name.Spelling.{Spelling}
@@ -7,7 +7,7 @@ use Rattle.sdl_tree.specs.Tree.{Number, Expr, Transition, Input, Inputs, InputLi
 use Rattle.sdl_tree.specs.Words.{Words, Spot}
 use Rattle.sdl_behaviour.specs.Transitions.{trans}
 use Rattle.sdl_read.specs.Expressions.{expr}
-use Rattle.sdl_read.specs.Parts.{ended, sig}
+use Rattle.sdl_read.specs.Parts.{ended, sees_one, sig}
 use Rattle.sdl_read.specs.Reading.{Parser, Refusal, Refused, Barred, ◌⊗◌, behind, made, either, maybe, sees, sees_name, expect, name, number, separated, in_parentheses}
 
 -- [NAME]
@@ -88,8 +88,11 @@ one_stimulus depth =
     (either (sees mark.Priority) (priority_input depth)
     (either (sees mark.Save) save_part (continuous_signal depth)))
 
+abbrev pub stimulus_marks : List Mark
+stimulus_marks = mark.Input ∷ mark.Priority ∷ mark.Save ∷ mark.Provided ∷ []
+
 unfoldable pub begins_stimulus : Words → Bool
-begins_stimulus i = sees mark.Input i || (sees mark.Priority i || (sees mark.Save i || sees mark.Provided i))
+begins_stimulus i = sees_one stimulus_marks i
 
 -- one of the stimuli, if one stands next
 unfoldable pub stimulus : ℕ → Parser (Option Stimulus)

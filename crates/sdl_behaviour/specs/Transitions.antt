@@ -1,5 +1,6 @@
 -- Reading of transitions. A reading is a device of the proofs: what the grammar spells, `sdl_tree` says.
 use Rattle.std.specs.Prelude.{ℕ, zero, suc, Bool, ◌||◌, if◌then◌else◌, List, [], ◌∷◌, ◌++◌, length, Option, Some, None, Ok}
+use Rattle.sdl_tree.specs.declared.mark.Mark.{Mark}
 use Rattle.sdl_tree.specs.declared.mark.Mark.TheVariants as mark
 use Rattle.sdl_tree.specs.declared.name.Spelling.{Spelling}
 use Rattle.sdl_tree.specs.Tree.{Expr, Answer, NextState, Same, To, Terminator, Next, Stop, Join, Ending, Transition, Steps, Action, Decision, Statement, actions_of, Part, parts_of, else_of}
@@ -8,7 +9,7 @@ use Rattle.sdl_behaviour.specs.Actions.{task, output, reset, create}
 use Rattle.sdl_behaviour.specs.Answers.{answer}
 use Rattle.sdl_behaviour.specs.Clauses.{set}
 use Rattle.sdl_read.specs.Expressions.{expr}
-use Rattle.sdl_read.specs.Parts.{ended}
+use Rattle.sdl_read.specs.Parts.{ended, sees_one}
 use Rattle.sdl_read.specs.Reading.{Parser, ◌>>=◌, pure, too_deep, refuse, ◌⊗◌, behind, before, made, either, maybe, sees, sees_name, expect, name, repeated, enclosed}
 
 -- ---- labels and terminators
@@ -43,14 +44,19 @@ join = made join_with (expect mark.Join ⊗ ended name)
 unfoldable pub terminator : Parser Terminator
 terminator = either (sees mark.NextState) next (either (sees mark.Stop) stop join)
 
+abbrev pub terminator_marks : List Mark
+terminator_marks = mark.NextState ∷ mark.Stop ∷ mark.Join ∷ []
+
 unfoldable pub begins_terminator : Words → Bool
-begins_terminator i = sees mark.NextState i || (sees mark.Stop i || sees mark.Join i)
+begins_terminator i = sees_one terminator_marks i
 
 -- ---- statements, over the reading of actions
 
+abbrev pub action_marks : List Mark
+action_marks = mark.Task ∷ mark.Output ∷ mark.Set ∷ mark.Reset ∷ mark.Create ∷ mark.Decision ∷ []
+
 unfoldable pub begins_action : Words → Bool
-begins_action i =
-    sees mark.Task i || (sees mark.Output i || (sees mark.Set i || (sees mark.Reset i || (sees mark.Create i || sees mark.Decision i))))
+begins_action i = sees_one action_marks i
 
 unfoldable pub begins_statement : Words → Bool
 begins_statement i = sees_name i || (begins_action i || begins_terminator i)

@@ -13,6 +13,7 @@ use sdl_system::{Process, VariableId};
 
 /// Gives the values to the variables, one after the other. A value without a variable is dropped. Refused with
 /// `NotNatural` at a negative value for a variable of the sort Natural; those before it have theirs then.
+#[inline(always)]
 pub fn hand_out(
     variables: &[Option<VariableId>],
     values: &[Value],

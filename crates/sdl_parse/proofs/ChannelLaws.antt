@@ -1,28 +1,16 @@
 -- The laws of channels and their connections.
-use Rattle.std.proofs.Common.{◌≡◌, ◌⊎◌, inl, inr, Bool, true, false, [], ◌∷◌, map, Option, option_map, refl, sym, ap, ◌∙◌, subst}
-use Rattle.sdl_tree.specs.Alike.{AreAlike}
+use Rattle.std.proofs.Common.{◌≡◌, ◌⊎◌, inl, inr, Bool, true, false, true≢false, if◌then◌else◌, [], ◌∷◌, Option, option_map, Ok, Err, refl, sym, ap, ◌∙◌}
 use Rattle.sdl_tree.specs.declared.mark.Mark.TheVariants as mark
-use Rattle.sdl_tree.specs.declared.name.Spelling.{Spelling}
-use Rattle.sdl_tree.specs.Erased.{erased_name, erased_end, erased_item, erased_path, erased_channel, erased_connection}
-use Rattle.sdl_tree.specs.Spells.{SpellsPoint, SpellsPath, SpellsNoDelay, SpellsChannel, SpellsConnect}
-use Rattle.sdl_tree.specs.Spells.Parts.{IsMark, Both, Behind, Followed, Optional, Separated, SpellsName, Ended, SpellsClosing, SpellsSigs}
-use Rattle.sdl_tree.specs.Tree.{ChannelEnd, Env, Agent, ChannelPath}
-use Rattle.sdl_tree.specs.Words.{Words, Spot, Fixed}
-use Rattle.sdl_read.specs.Reading.{Outcome, ◌⊗◌, behind, eat, front, rest, sees, same_mark, name, separated}
-use Rattle.sdl_read.specs.Parts.{ended, tied, sig}
-use Rattle.sdl_parse.specs.Channels.{point, path_with, path, second_path, paths, channel_with, channel, connection_with, connect}
-use Rattle.sdl_read.proofs.Laws.{GoodAfter, Gives, Law, Anywhere, Made, made_as, either_as, mark_law, as_law, Tied, tied_law, both_law, behind_law, made_law, either_law, optional_law}
-use Rattle.sdl_read.proofs.PartLaws.{name_law}
-use Rattle.sdl_read.proofs.ClosingLaws.{closing_begins, closing_law, ended_at_law, followed_law}
-use Rattle.sdl_read.proofs.SignalLaws.{record_law, Opens, maybe_mark, sigs_law}
-use Rattle.sdl_read.proofs.Steps.{read_as, sees_at, sees_front, sees_ok, sees_again, after_seen, after_other, rest_again, alike_fixed, alike_from}
-use Rattle.sdl_parse.proofs.Stops.{opens_unseen, names_law, closed_same}
+use Rattle.sdl_read.proofs.Grammar.{erased_end, erased_path, erased_channel, erased_connection, SpellsPoint, SpellsPath, SpellsNoDelay, SpellsChannel, SpellsConnect, IsMark, Both, Followed, Optional, SpellsName, SpellsClosing, ChannelEnd, Env, Agent, ChannelPath, Words, Spot, Fixed, Refused, and_then, pure, either, made, expect, eat, after, front, rest, sees, same_mark}
+use Rattle.sdl_parse.specs.Channels.{point, path_with, path, paths, channel_with, channel, connection_with, connect}
+use Rattle.sdl_read.proofs.AllLaws.{Form, Law, Anywhere, Made, Nothing, made_as, either_as, mark_law, as_law, same_law, stops_law, nothing_law, tied_law, both_law, then_law, behind_law, made_law, either_law, optional_law, name_law, closing_begins, closing_law, ended_law, end_other, followed_law, record_law, maybe_mark, sigs_law, read_as, sees_at, sees_front}
+use Rattle.sdl_parse.proofs.Stops.{names_law, closed_same}
 
 pub point_law : Law point SpellsPoint SpellsPoint Anywhere erased_end
 unfolding point sees front same_mark
 point_law =
     as_law (either_as (made_as SpellsPoint Env) (made_as SpellsPoint Agent)) point_from (either_as (made_as SpellsPoint Env) (made_as SpellsPoint Agent))
-    (either_law (sees mark.Env) (sees_front mark.Env) (made_law Env (λ x y n. ap Env n) (mark_law mark.Env)) (made_law Agent (λ x y n. ap Agent n) name_law)
+    (either_law (sees mark.Env) (sees_front mark.Env) (made_law Env (λ x. refl) (mark_law mark.Env)) (made_law Agent (λ x. refl) name_law)
     (λ x i j s. sees_at mark.Env s.0 i j s.2)
     (λ x i j s t. ap (sees mark.Env) s.2))
   where
@@ -30,125 +18,66 @@ point_law =
     point_from (Env w) i j s = inl (w, refl, s)
     point_from (Agent x) i j s = inr (x, refl, s)
 
--- point "to" point "with" sigs end
-points_law : Law
-    (point ⊗ behind mark.To (point ⊗ behind mark.With (ended (separated sig))))
-    (Both SpellsPoint (Behind mark.To (Both SpellsPoint (Behind mark.With (Ended SpellsSigs)))))
-    (Both SpellsPoint (Behind mark.To (Both SpellsPoint (Behind mark.With (Ended SpellsSigs)))))
-    Anywhere
-    (λ x. (erased_end x.0, (erased_end x.1.0, map erased_item x.1.1)))
-points_law = both_law point_law (behind_law mark.To (both_law point_law (behind_law mark.With sigs_law) (λ y m j s t. tt))) (λ y m j s t. tt)
-
+-- "from" point "to" point "with" sigs end
 pub path_law : Law path SpellsPath SpellsPath Anywhere erased_path
 unfolding path
 path_law =
-    record_law path_with (λ y. (y.from, (y.to, y.signals))) (λ x y n. ap path_with n) (λ x. refl) (λ y. refl) (behind_law mark.From points_law)
-
-path_opens : Opens mark.From SpellsPath
-path_opens x i j s = (s.0, s.1, s.2)
-
-second_law : Law second_path (Optional SpellsPath) (Optional SpellsPath) (λ j. Anywhere j × (sees mark.From j ≡ false)) (option_map erased_path)
-second_law = optional_law (maybe_mark mark.From path_law path_opens)
+    record_law path_with (λ y. (y.from, (y.to, y.signals))) (λ x. refl) (λ x. refl) (λ y. refl)
+    (behind_law mark.From (then_law point_law (behind_law mark.To (then_law point_law (behind_law mark.With sigs_law)))))
 
 -- ---- ["nodelay"]
 
-abbrev NoDelays : Words → Outcome Bool → Type 0
-NoDelays = Gives (eat mark.NoDelay) SpellsNoDelay SpellsNoDelay (λ j. sees mark.NoDelay j ≡ false)
-
-there : (s : Spelling) (k : Words) → eat mark.NoDelay (Fixed mark.NoDelay s ∷ k) ≡ read_as true k
-there s k =
-    let e = sees_again mark.NoDelay s k in
-    let rests = after_seen mark.NoDelay (Fixed mark.NoDelay s ∷ k) e ∙ rest_again (Fixed mark.NoDelay s) k in
-    λ n. read_as (e n) (rests n)
-
-not_there : (k : Words) → sees mark.NoDelay k ≡ false → eat mark.NoDelay k ≡ read_as false k
-not_there k e = let same = after_other mark.NoDelay k e in λ n. read_as (e n) (same n)
-
-not_there_after : (i k : Words) → sees mark.NoDelay i ≡ false → GoodAfter (λ j. sees mark.NoDelay j ≡ false) i k → sees mark.NoDelay k ≡ false
-not_there_after i k e (inl same) = sees_front mark.NoDelay k i same ∙ e
-not_there_after i k e (inr t) = t
-
-nodelay_by : (i : Words) (b : Bool) → sees mark.NoDelay i ≡ b → NoDelays i (eat mark.NoDelay i)
-nodelay_by i true e =
-    let at = sees_ok mark.NoDelay i e in
-    let F : Words → Type 0 = λ k. NoDelays k (eat mark.NoDelay k) in
-    let G : Outcome Bool → Type 0 = λ o. NoDelays (Fixed mark.NoDelay at.0 ∷ rest i) o in
-    subst F (sym at.1)
-    (subst G (sym (there at.0 (rest i))) (record { taken = Fixed mark.NoDelay at.0 ∷ []; at = refl; again = λ k g. there at.0 k; spelled = (at.0, refl) }))
-nodelay_by i false e =
-    let G : Outcome Bool → Type 0 = λ o. NoDelays i o in
-    subst G (sym (not_there i e)) (record { taken = []; at = refl; again = λ k g. not_there k (not_there_after i k e g); spelled = refl })
-
-nodelay_complete : (b : Bool) (i j : Words) → SpellsNoDelay b i j → sees mark.NoDelay j ≡ false → eat mark.NoDelay i ≡ read_as b j
-nodelay_complete false i j s t = ap (eat mark.NoDelay) s ∙ not_there j t
-nodelay_complete true i j s t = ap (eat mark.NoDelay) s.1 ∙ there s.0 j
-
-nodelay_moves : (b : Bool) (i j k : Words) → SpellsNoDelay b i j → AreAlike i k → (c : Bool) × (l : Words) × SpellsNoDelay c k l × AreAlike j l × (c ≡ b)
-nodelay_moves false i j k s t = (false, k, refl, alike_from i j k s t, refl)
-nodelay_moves true i j k s t =
-    let a = alike_fixed mark.NoDelay s.0 j k (alike_from i (Fixed mark.NoDelay s.0 ∷ j) k s.1 t) in (true, a.1, (a.0, a.2), a.3, refl)
+eat_same : (i : Words) → either (sees mark.NoDelay) (made (λ _. true) (expect mark.NoDelay)) (pure false) i ≡ eat mark.NoDelay i
+unfolding expect sees after front rest
+eat_same [] = refl
+eat_same (Fixed n s ∷ i) = by (same_mark n mark.NoDelay)
+  where
+    by : (b : Bool) → (if b then and_then (if b then Ok (s, i) else Err (Refused (Fixed n s ∷ i))) (λ _ j. read_as true j) else read_as false (Fixed n s ∷ i))
+        ≡ read_as b (if b then i else Fixed n s ∷ i)
+    by true = refl
+    by false = refl
+eat_same (w ∷ i) = refl
 
 nodelay_law : Law (eat mark.NoDelay) SpellsNoDelay SpellsNoDelay (λ j. sees mark.NoDelay j ≡ false) (λ b. b)
-nodelay_law = record {
-  rules = record { tells = λ i. nodelay_by i (sees mark.NoDelay i) refl; complete = nodelay_complete; moves = nodelay_moves; more = λ b i j s. s };
-  one = (false, [], λ j t. refl);
-}
+nodelay_law =
+    same_law eat_same
+    (as_law to from to
+    (either_law (sees mark.NoDelay) (sees_front mark.NoDelay) (stops_law (λ j t. tt) (made_law (λ _. true) (λ x. refl) (mark_law mark.NoDelay))) (nothing_law false)
+    (λ b i j s. sees_at mark.NoDelay s.0 i j s.2) (λ b i j s t. ap (sees mark.NoDelay) s.1 ∙ t)))
+  where
+    to : (b : Bool) (i j : Words) → Made (λ _. true) (IsMark mark.NoDelay) b i j ⊎ Nothing false b i j → SpellsNoDelay b i j
+    to true i j (inl s) = (s.0, s.2)
+    to false i j (inl s) = absurd (true≢false (sym s.1))
+    to true i j (inr s) = absurd (true≢false s.0)
+    to false i j (inr s) = s.1
+
+    from : (b : Bool) (i j : Words) → SpellsNoDelay b i j → Made (λ _. true) (IsMark mark.NoDelay) b i j ⊎ Nothing false b i j
+    from true i j s = inl (s.0, refl, s.1)
+    from false i j s = inr (refl, s)
 
 -- ---- channels
 
-abbrev SpellsPathsOf : Spot → Bool × (ChannelPath × Option ChannelPath) → Words → Words → Type 0
+abbrev SpellsPathsOf : Spot → Form (Bool × (ChannelPath × Option ChannelPath))
 SpellsPathsOf x = Followed (Both SpellsNoDelay (Both SpellsPath (Optional SpellsPath))) (SpellsClosing mark.EndChannel x.text)
 
-abbrev erased_paths : Bool × (ChannelPath × Option ChannelPath) → Bool × (ChannelPath × Option ChannelPath)
-erased_paths x = (x.0, (erased_path x.1.0, option_map erased_path x.1.1))
-
-two_paths_law : Law (path ⊗ second_path) (Both SpellsPath (Optional SpellsPath)) (Both SpellsPath (Optional SpellsPath)) (λ j. Anywhere j × (sees mark.From j ≡ false)) (λ x. (erased_path x.0, option_map erased_path x.1))
-two_paths_law = both_law path_law second_law (λ y m j s t. tt)
-
-paths_law : (x : Spot) → Law (paths x) (SpellsPathsOf x) (SpellsPathsOf x) Anywhere erased_paths
-unfolding sees front same_mark
-paths_law x =
-    followed_law
-    (both_law nodelay_law two_paths_law (λ y m j s t. opens_unseen mark.NoDelay mark.From SpellsPath path_opens refl y.0 m s.0 s.1))
-    (closing_law mark.EndChannel x.text)
-    (λ m j s t. closing_begins (λ k. Anywhere k × (sees mark.From k ≡ false)) mark.EndChannel (λ w k. (tt, refl)) x.text m j s)
-
-named_paths_law : Law (tied name paths) (Tied SpellsName SpellsPathsOf) (Tied SpellsName SpellsPathsOf) Anywhere (λ x. (erased_name x.0, erased_paths x.1))
-named_paths_law =
-    tied_law name_law paths_law (λ x y m j s t. tt) (closed_same (Both SpellsNoDelay (Both SpellsPath (Optional SpellsPath))) mark.EndChannel)
-
 pub channel_law : Law channel SpellsChannel SpellsChannel Anywhere erased_channel
-unfolding channel
+unfolding channel sees front same_mark
 channel_law =
-    record_law channel_with (λ y. (y.word, (y.name, (y.is_nodelay, (y.first, y.second))))) (λ x y n. ap channel_with n) (λ x. refl) (λ y. refl)
-    (both_law (mark_law mark.Channel) named_paths_law (λ y m j s t. tt))
-
-pub channel_opens : Opens mark.Channel SpellsChannel
-channel_opens x i j s = (x.word, s.0, s.1)
+    record_law channel_with (λ y. (y.word, (y.name, (y.is_nodelay, (y.first, y.second))))) (λ x. refl) (λ x. refl) (λ y. refl)
+    (then_law (mark_law mark.Channel)
+    (tied_law name_law paths_law (λ x y m j s t. tt) (closed_same (Both SpellsNoDelay (Both SpellsPath (Optional SpellsPath))) mark.EndChannel)))
+  where
+    paths_law : (x : Spot) → Law (paths x) (SpellsPathsOf x) (SpellsPathsOf x) Anywhere (λ y. (y.0, (erased_path y.1.0, option_map erased_path y.1.1)))
+    paths_law x =
+        followed_law (both_law nodelay_law (then_law path_law (optional_law (maybe_mark mark.From path_law (λ z i j s. (s.0, s.1, s.2))))) (λ y m j s t. ap (sees mark.NoDelay) s.1.2))
+        (closing_law mark.EndChannel x.text)
+        (λ m j s t. closing_begins (λ k. Anywhere k × (sees mark.From k ≡ false)) mark.EndChannel (λ w k. (tt, refl)) x.text m j s)
 
 -- ---- connections
 
-inner_law : Law (behind mark.And (ended (separated name))) (Behind mark.And (Ended (Separated SpellsName))) (Behind mark.And (Ended (Separated SpellsName))) Anywhere (map erased_name)
-unfolding sees front same_mark
-inner_law = behind_law mark.And (ended_at_law names_law (λ s m. (tt, refl)) (λ s m. (tt, refl)))
-
-inner_opens : Opens mark.And (Behind mark.And (Ended (Separated SpellsName)))
-inner_opens x i j s = (s.0, s.1, s.2)
-
-joined_law : Law
-    (separated name ⊗ behind mark.And (ended (separated name)))
-    (Both (Separated SpellsName) (Behind mark.And (Ended (Separated SpellsName))))
-    (Both (Separated SpellsName) (Behind mark.And (Ended (Separated SpellsName))))
-    Anywhere
-    (λ x. (map erased_name x.0, map erased_name x.1))
-unfolding same_mark
-joined_law = both_law names_law inner_law (λ y m j s t. (tt, opens_unseen mark.Comma mark.And (Behind mark.And (Ended (Separated SpellsName))) inner_opens refl y m j s))
-
 pub connect_law : Law connect SpellsConnect SpellsConnect Anywhere erased_connection
-unfolding connect
+unfolding connect sees front same_mark
 connect_law =
-    record_law connection_with (λ y. (y.word, (y.outer, y.inner))) (λ x y n. ap connection_with n) (λ x. refl) (λ y. refl)
-    (both_law (mark_law mark.Connect) joined_law (λ y m j s t. tt))
-
-pub connect_opens : Opens mark.Connect SpellsConnect
-connect_opens x i j s = (x.word, s.0, s.1)
+    record_law connection_with (λ y. (y.word, (y.outer, y.inner))) (λ x. refl) (λ x. refl) (λ y. refl)
+    (then_law (mark_law mark.Connect)
+    (both_law names_law (behind_law mark.And (ended_law names_law (λ i j s. (tt, end_other mark.Comma refl refl i j s)))) (λ y m j s t. (tt, ap (sees mark.Comma) s.2))))

@@ -5,22 +5,16 @@ use Rattle.sdl_lex.specs.declared.place.Place.{Place}
 use Rattle.sdl_lex.specs.declared.token.Token.{Token}
 use Rattle.sdl_lex.specs.Part.{Lexes}
 use Rattle.sdl_tree.specs.declared.mark.Mark.TheVariants as mark
-use Rattle.sdl_tree.specs.LeftOut.{IsLeftOut, IsBarred}
-use Rattle.sdl_tree.specs.Spells.{SpellsTree}
-use Rattle.sdl_tree.specs.Spells.Expressions.{limit}
-use Rattle.sdl_tree.specs.Tree.{Tree}
-use Rattle.sdl_tree.specs.Words.{Word, Words, Fixed, words_of, word_place}
+use Rattle.sdl_read.proofs.Grammar.{IsLeftOut, IsBarred, SpellsTree, limit, Tree, Word, Words, Fixed, words_of, word_place, Refusal, Refused, Deep, Barred, front, Fails}
 use Rattle.sdl_tree.specs.Words as word
 use Rattle.sdl_read.specs.declared.fault.Fault.{Fault}
 use Rattle.sdl_read.specs.declared.fault.Fault.TheVariants as fault
-use Rattle.sdl_read.specs.Reading.{Refusal, Refused, Deep, Barred, front}
-use Rattle.sdl_read.specs.Reads.{Fails}
-use Rattle.sdl_read.proofs.Steps.{read_as, IsRest}
+use Rattle.sdl_read.proofs.AllLaws.{read_as, IsRest, stands}
 use Rattle.sdl_parse.specs.declared.error.ParseError.{ParseError}
 use Rattle.sdl_parse.specs.declared.error.ParseError.TheVariants.{Lex, Expected, LeftOut, TooDeep, Memory}
 use Rattle.sdl_parse.specs.Parser.{HasNoTree, StandsAt, TooMany, SpellsText, Refuses, TellsWord, IsPlaceOf, Tells}
 use Rattle.sdl_parse.specs.Systems.{specification}
-use Rattle.sdl_parse.proofs.SystemLaws.{specification_sound, specification_one, specification_refused, specification_told, specification_stands}
+use Rattle.sdl_parse.proofs.SystemLaws.{specification_sound, specification_one, specification_refused, specification_told, specification_law}
 
 -- a text has one list of tokens
 abbrev pub OneList : Type 0
@@ -71,9 +65,9 @@ module _ (text : List ℕ) (tokens : List Token) where
   refuses short lexes (Expected place wanted) fault.TooDeep left o t = absurd t
   refuses short lexes (Expected place wanted) fault.Memory left o t = absurd t
   refuses short lexes (LeftOut place s) (fault.Expected w) left o t =
-      (short, tokens, lexes, (no_tree (Refused left) o, word_told place (string_bytes s) left (specification_stands limit whole (Refused left) o) t))
+      (short, tokens, lexes, (no_tree (Refused left) o, word_told place (string_bytes s) left (stands (specification_law limit).rules whole (Refused left) o) t))
   refuses short lexes (LeftOut place s) fault.Condition left o t =
-      let at = specification_stands limit whole (Barred left) o in
+      let at = stands (specification_law limit).rules whole (Barred left) o in
       (short, tokens, lexes, (no_tree (Barred left) o, barred_told place (string_bytes s) left at.0 at.1 t.0 t.1))
   refuses short lexes (LeftOut place s) fault.TooDeep left o t = absurd t
   refuses short lexes (LeftOut place s) fault.Memory left o t = absurd t

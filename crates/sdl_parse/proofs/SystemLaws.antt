@@ -1,29 +1,14 @@
 -- The laws of blocks and of the system.
-use Rattle.std.proofs.Common.{◌≡◌, ℕ, suc, ◌⊎◌, inl, inr, false, List, [], ◌∷◌, ◌++◌, map, Option, Some, None, Err, refl, sym, ap, ◌∙◌, subst}
-use Rattle.sdl_tree.specs.Alike.{AreAlike}
+use Rattle.std.proofs.Common.{◌≡◌, ℕ, suc, ◌⊎◌, inl, inr, List, [], ◌∷◌, ◌++◌, Option, Some, None, Err, refl, sym, ap, ◌∙◌, subst}
+use Rattle.sdl_read.proofs.Grammar.{AreAlike, erased_definition, erased_block_part, erased_block, erased_system_definition, erased, SpellsSignal, SpellsSignalList, SpellsSynonym, SpellsChannel, SpellsProcess, SpellsConnect, SpellsDef, SpellsBlockPart, SpellsBlock, SpellsSystemDef, SpellsTree, Behind, Followed, Repeated, SpellsName, Ended, SpellsClosing, Definition, Signals, SignalList, Synonyms, Channel, Process, BlockPart, InBlock, Connect, SystemDefinition, InSystem, Block, Tree, Word, Words, Spot, Refusal, Deep, made, front, sees, same_mark, name, sees_one, OpensTooMany}
 use Rattle.sdl_tree.specs.declared.mark.Mark.TheVariants as mark
-use Rattle.sdl_tree.specs.declared.name.Spelling.{Spelling}
-use Rattle.sdl_tree.specs.Erased.{erased_name, erased_definition, erased_block_part, erased_block, erased_system_definition, erased}
-use Rattle.sdl_tree.specs.Spells.{SpellsSignal, SpellsSignalList, SpellsSynonym, SpellsChannel, SpellsProcess, SpellsConnect, SpellsDef, SpellsBlockPart, SpellsBlock, SpellsSystemDef, SpellsTree}
-use Rattle.sdl_tree.specs.Spells.Parts.{Behind, Followed, Repeated, SpellsName, Ended, SpellsClosing}
-use Rattle.sdl_tree.specs.Tree.{Definition, Signals, SignalList, Synonyms, Channel, Process, BlockPart, InBlock, Connect, SystemDefinition, InSystem, Block, Tree}
-use Rattle.sdl_tree.specs.Words.{Word, Words, Spot, Fixed}
-use Rattle.sdl_read.specs.Reading.{Refusal, Deep, made, front, sees, same_mark, name}
-use Rattle.sdl_read.specs.Parts.{ended, tied, sees_one}
-use Rattle.sdl_parse.specs.Systems.{definition_marks, definition, block_part, block_parts, block_with, block, system_definition, system_definitions, at_end, tree_with, system, specification}
-use Rattle.sdl_read.proofs.Depth.{SameFront}
-use Rattle.sdl_read.proofs.Laws.{Form, Gives, Law, MaybeLaw, Anywhere, GoodAfter, Made, Or, made_as, either_as, Tied, sound, stands, was_told, mark_law, tied_law, behind_law, both_law, made_law}
-use Rattle.sdl_read.proofs.ListLaws.{repeated_law}
-use Rattle.sdl_read.proofs.PartLaws.{name_law, whole}
-use Rattle.sdl_read.proofs.ClosingLaws.{closing_begins, closing_law, ended_at_law, followed_law}
-use Rattle.sdl_read.proofs.SignalLaws.{record_law, Opens, made_opens, Choice, one_choice, or_choice, as_choice, maybe_choice, signal_law, signal_opens, signal_list_law, signal_list_opens}
-use Rattle.sdl_read.proofs.Steps.{read_as, rest_here, StandsAt, same_value, not_refused}
-use Rattle.sdl_parse.proofs.ChannelLaws.{channel_law, channel_opens, connect_law, connect_opens}
-use Rattle.sdl_parse.proofs.ProcessLaws.{process_law, process_opens}
+use Rattle.sdl_parse.specs.Systems.{definition_marks, definition, block_part, block_with, block, system_definition, at_end, tree_with, system, specification}
+use Rattle.sdl_read.proofs.AllLaws.{Form, Gives, Law, MaybeLaw, Anywhere, GoodAfter, Made, Or, made_as, either_as, Tied, sound, was_told, mark_law, tied_law, then_law, behind_law, made_law, name_law, whole, closed_list_law, ended_law, followed_law, record_law, Choice, one_choice, or_choice, as_choice, maybe_choice, signal_law, signal_list_law, read_as, rest_here, same_value, not_refused}
+use Rattle.sdl_parse.proofs.ChannelLaws.{channel_law, connect_law}
+use Rattle.sdl_parse.proofs.ProcessLaws.{process_law}
 use Rattle.sdl_parse.proofs.Stops.{closed_same}
-use Rattle.sdl_tree.specs.Depth.{OpensTooMany}
 use Rattle.sdl_parse.proofs.TooDeepLemmas.{told}
-use Rattle.sdl_parse.proofs.SynonymLaws.{synonym_law, synonym_opens}
+use Rattle.sdl_parse.proofs.DeclarationLaws.{synonym_law}
 
 -- ---- the end of the text
 
@@ -35,14 +20,11 @@ unfolding at_end
 at_end_complete u i j s = ap at_end s.0 ∙ ap (λ k. read_as u k) (sym s.1)
 
 -- where the text ends, it ends still, where the same stands next
-still_end : (k : Words) → SameFront k [] → k ≡ []
-unfolding front
-still_end [] same = refl
-still_end (w ∷ k) same = absurd (let apart : ◌≡◌ {A = Option Word} (Some w) None = same in cc)
-
 end_after : (k : Words) → GoodAfter (λ j. j ≡ []) [] k → k ≡ []
-end_after k (inl same) = still_end k same
+unfolding front
 end_after k (inr t) = t
+end_after [] (inl same) = refl
+end_after (w ∷ k) (inl same) = absurd (let apart : ◌≡◌ {A = Option Word} (Some w) None = same in cc)
 
 at_end_tells : (i : Words) → Gives at_end (λ _. IsEnd) (λ _. IsEnd) (λ j. j ≡ []) i (at_end i)
 unfolding at_end
@@ -85,35 +67,15 @@ definition_from d (Process x) i j s = inr (inr (inr (inr (x, refl, s))))
 
 -- ---- blocks and the system
 
-abbrev SpellsPartsOf : ℕ → Spot → List BlockPart → Words → Words → Type 0
-SpellsPartsOf d x = Followed (Repeated (SpellsBlockPart d)) (SpellsClosing mark.EndBlock x.text)
-
 abbrev SpellsDefsOf : ℕ → Spot → List SystemDefinition → Words → Words → Type 0
 SpellsDefsOf d x = Followed (Repeated (SpellsSystemDef d)) (SpellsClosing mark.EndSystem x.text)
 
 abbrev pub SpellsSystem : ℕ → Tree → Words → Words → Type 0
 SpellsSystem d t i j = Behind mark.System (Tied (Ended SpellsName) (SpellsDefsOf d)) (t.name, t.definitions) i j
 
-ended_name_law : Law (ended name) (Ended SpellsName) (Ended SpellsName) Anywhere erased_name
-ended_name_law = ended_at_law name_law (λ s m. tt) (λ s m. tt)
-
-endblock_no_part : (s : Spelling) (j : Words) → sees_one (mark.Connect ∷ definition_marks) (Fixed mark.EndBlock s ∷ j) ≡ false
-unfolding sees front same_mark
-endblock_no_part s j = refl
-
-endsystem_no_part : (s : Spelling) (j : Words) → sees_one (mark.Block ∷ definition_marks) (Fixed mark.EndSystem s ∷ j) ≡ false
-unfolding sees front same_mark
-endsystem_no_part s j = refl
-
-block_part_to : (d : ℕ) (x : BlockPart) (i j : Words) → Or (Made Connect SpellsConnect) (Made InBlock (SpellsDef d)) x i j → SpellsBlockPart d x i j
-block_part_to d = either_as (made_as (SpellsBlockPart d) Connect) (made_as (SpellsBlockPart d) InBlock)
-
 block_part_from : (d : ℕ) (x : BlockPart) (i j : Words) → SpellsBlockPart d x i j → Made Connect SpellsConnect x i j ⊎ Made InBlock (SpellsDef d) x i j
 block_part_from d (Connect x) i j s = inl (x, refl, s)
 block_part_from d (InBlock x) i j s = inr (x, refl, s)
-
-system_definition_to : (d : ℕ) (x : SystemDefinition) (i j : Words) → Or (Made Block (SpellsBlock d)) (Made InSystem (SpellsDef d)) x i j → SpellsSystemDef d x i j
-system_definition_to d = either_as (made_as (SpellsSystemDef d) Block) (made_as (SpellsSystemDef d) InSystem)
 
 system_definition_from : (d : ℕ) (x : SystemDefinition) (i j : Words) → SpellsSystemDef d x i j → Made Block (SpellsBlock d) x i j ⊎ Made InSystem (SpellsDef d) x i j
 system_definition_from d (Block x) i j s = inl (x, refl, s)
@@ -126,17 +88,17 @@ module _ (d : ℕ) where
   unfolding definition same_mark
   definition_choice =
       as_choice (definition_to d) (definition_from d) (definition_to (suc d))
-      (or_choice mark.Signal _ refl (made_law Signals (λ x y n. ap Signals n) signal_law) (made_opens Signals mark.Signal SpellsSignal signal_opens)
-      (or_choice mark.SignalList _ refl (made_law SignalList (λ x y n. ap SignalList n) signal_list_law) (made_opens SignalList mark.SignalList SpellsSignalList signal_list_opens)
-      (or_choice mark.Synonym _ refl (made_law Synonyms (λ x y n. ap Synonyms n) (synonym_law d)) (made_opens Synonyms mark.Synonym (SpellsSynonym d) (synonym_opens d))
-      (or_choice mark.Channel _ refl (made_law Channel (λ x y n. ap Channel n) channel_law) (made_opens Channel mark.Channel SpellsChannel channel_opens)
-      (one_choice mark.Process (made_law Process (λ x y n. ap Process n) (process_law d)) (made_opens Process mark.Process (SpellsProcess d) (process_opens d)))))))
+      (or_choice mark.Signal _ refl (made_law Signals (λ x. refl) signal_law) (λ x i j s. (s.2.0, s.2.1, s.2.2))
+      (or_choice mark.SignalList _ refl (made_law SignalList (λ x. refl) signal_list_law) (λ x i j s. (s.0.word, s.2.0, s.2.1))
+      (or_choice mark.Synonym _ refl (made_law Synonyms (λ x. refl) (synonym_law d)) (λ x i j s. (s.0.word, s.2.0, s.2.1))
+      (or_choice mark.Channel _ refl (made_law Channel (λ x. refl) channel_law) (λ x i j s. (s.0.word, s.2.0, s.2.1))
+      (one_choice mark.Process (made_law Process (λ x. refl) (process_law d)) (λ x i j s. (s.0.word, s.2.0, s.2.1)))))))
 
   -- the same definitions inside another node
-  inside_choice : {B : Type 0} (f : Definition → B) {g : B → B} → ((x y : Definition) → erased_definition x ≡ erased_definition y → g (f x) ≡ g (f y))
+  inside_choice : {B : Type 0} (f : Definition → B) {g : B → B} → ((x : Definition) → g (f x) ≡ f (erased_definition x))
       → Choice (made f (definition d)) (Made f (SpellsDef d)) (Made f (SpellsDef (suc d))) Anywhere definition_marks g
-  inside_choice f like = record {
-    law = made_law f like definition_choice.law;
+  inside_choice f same = record {
+    law = made_law f same definition_choice.law;
     begins = λ y i j s. definition_choice.begins s.0 i j s.2;
   }
 
@@ -144,46 +106,35 @@ module _ (d : ℕ) where
   unfolding block_part same_mark
   block_part_law =
       maybe_choice (mark.Connect ∷ definition_marks)
-      (as_choice (block_part_to d) (block_part_from d) (block_part_to (suc d))
-      (or_choice mark.Connect definition_marks refl (made_law Connect (λ x y n. ap Connect n) connect_law) (made_opens Connect mark.Connect SpellsConnect connect_opens)
-      (inside_choice InBlock (λ x y n. ap InBlock n))))
-
-  block_parts_law : (x : Spot) → Law (block_parts d x) (SpellsPartsOf d x) (SpellsPartsOf (suc d) x) Anywhere (map erased_block_part)
-  block_parts_law x =
-      followed_law (repeated_law block_part_law (λ i t. tt) tt) (closing_law mark.EndBlock x.text)
-      (λ m j s t. closing_begins (λ k. Anywhere k × (sees_one (mark.Connect ∷ definition_marks) k ≡ false)) mark.EndBlock (λ w k. (tt, endblock_no_part w k)) x.text m j s)
-
-  named_parts_law : Law (tied (ended name) (block_parts d)) (Tied (Ended SpellsName) (SpellsPartsOf d)) (Tied (Ended SpellsName) (SpellsPartsOf (suc d))) Anywhere (λ x. (erased_name x.0, map erased_block_part x.1))
-  named_parts_law = tied_law ended_name_law block_parts_law (λ x y m j s t. tt) (closed_same (Repeated (SpellsBlockPart d)) mark.EndBlock)
+      (as_choice (either_as (made_as (SpellsBlockPart d) Connect) (made_as (SpellsBlockPart d) InBlock)) (block_part_from d)
+      (either_as (made_as (SpellsBlockPart (suc d)) Connect) (made_as (SpellsBlockPart (suc d)) InBlock))
+      (or_choice mark.Connect definition_marks refl (made_law Connect (λ x. refl) connect_law) (λ x i j s. (s.0.word, s.2.0, s.2.1))
+      (inside_choice InBlock (λ x. refl))))
 
   block_law : Law (block d) (SpellsBlock d) (SpellsBlock (suc d)) Anywhere erased_block
-  unfolding block
+  unfolding block sees front same_mark
   block_law =
-      record_law block_with (λ y. (y.word, (y.name, y.definitions))) (λ x y n. ap block_with n) (λ x. refl) (λ y. refl)
-      (both_law (mark_law mark.Block) named_parts_law (λ y m j s t. tt))
-
-  block_opens : Opens mark.Block (SpellsBlock d)
-  block_opens x i j s = (x.word, s.0, s.1)
+      record_law block_with (λ y. (y.word, (y.name, y.definitions))) (λ x. refl) (λ x. refl) (λ y. refl)
+      (then_law (mark_law mark.Block)
+      (tied_law (ended_law name_law (λ i j s. tt)) (λ x. closed_list_law mark.EndBlock block_part_law (λ i t. tt) tt (λ s k. (tt, refl)) x.text)
+      (λ x y m j s t. tt) (closed_same (Repeated (SpellsBlockPart d)) mark.EndBlock)))
 
   system_definition_law : MaybeLaw (system_definition d) (SpellsSystemDef d) (SpellsSystemDef (suc d)) Anywhere (sees_one (mark.Block ∷ definition_marks)) erased_system_definition
   unfolding system_definition same_mark
   system_definition_law =
       maybe_choice (mark.Block ∷ definition_marks)
-      (as_choice (system_definition_to d) (system_definition_from d) (system_definition_to (suc d))
-      (or_choice mark.Block definition_marks refl (made_law Block (λ x y n. ap Block n) block_law) (made_opens Block mark.Block (SpellsBlock d) block_opens)
-      (inside_choice InSystem (λ x y n. ap InSystem n))))
-
-  system_definitions_law : (x : Spot) → Law (system_definitions d x) (SpellsDefsOf d x) (SpellsDefsOf (suc d) x) Anywhere (map erased_system_definition)
-  system_definitions_law x =
-      followed_law (repeated_law system_definition_law (λ i t. tt) tt) (closing_law mark.EndSystem x.text)
-      (λ m j s t. closing_begins (λ k. Anywhere k × (sees_one (mark.Block ∷ definition_marks) k ≡ false)) mark.EndSystem (λ w k. (tt, endsystem_no_part w k)) x.text m j s)
-
-  named_definitions_law : Law (tied (ended name) (system_definitions d)) (Tied (Ended SpellsName) (SpellsDefsOf d)) (Tied (Ended SpellsName) (SpellsDefsOf (suc d))) Anywhere (λ x. (erased_name x.0, map erased_system_definition x.1))
-  named_definitions_law = tied_law ended_name_law system_definitions_law (λ x y m j s t. tt) (closed_same (Repeated (SpellsSystemDef d)) mark.EndSystem)
+      (as_choice (either_as (made_as (SpellsSystemDef d) Block) (made_as (SpellsSystemDef d) InSystem)) (system_definition_from d)
+      (either_as (made_as (SpellsSystemDef (suc d)) Block) (made_as (SpellsSystemDef (suc d)) InSystem))
+      (or_choice mark.Block definition_marks refl (made_law Block (λ x. refl) block_law) (λ x i j s. (s.0.word, s.2.0, s.2.1))
+      (inside_choice InSystem (λ x. refl))))
 
   pub system_law : Law (system d) (SpellsSystem d) (SpellsSystem (suc d)) Anywhere erased
+  unfolding sees front same_mark
   system_law =
-      record_law tree_with (λ t. (t.name, t.definitions)) (λ x y n. ap tree_with n) (λ x. refl) (λ t. refl) (behind_law mark.System named_definitions_law)
+      record_law tree_with (λ t. (t.name, t.definitions)) (λ x. refl) (λ x. refl) (λ t. refl)
+      (behind_law mark.System
+      (tied_law (ended_law name_law (λ i j s. tt)) (λ x. closed_list_law mark.EndSystem system_definition_law (λ i t. tt) tt (λ s k. (tt, refl)) x.text)
+      (λ x y m j s t. tt) (closed_same (Repeated (SpellsSystemDef d)) mark.EndSystem)))
 
   pub specification_law : Law (specification d) (Followed (SpellsSystem d) IsEnd) (Followed (SpellsSystem (suc d)) IsEnd) (λ j. j ≡ []) erased
   unfolding specification
@@ -191,11 +142,12 @@ module _ (d : ℕ) where
 
   -- ---- whole texts
 
+  as_tree : (n : ℕ) (t : Tree) (i : Words) → Followed (SpellsSystem n) IsEnd t i [] → SpellsTree n t i
+  as_tree n t i s = let R : Words → Type 0 = λ k. SpellsSystem n t i k in subst R s.2.0 s.1
+
   -- what is read spells the words, and leaves none
   pub specification_sound : (i : Words) (t : Tree) (j : Words) → specification d i ≡ read_as t j → SpellsTree d t i
-  specification_sound i t j e =
-      let s = sound specification_law.rules i t j e in
-      let R : Words → Type 0 = λ k. SpellsSystem d t i k in subst R s.2.0 s.1
+  specification_sound i t j e = let s = sound specification_law.rules i t j e in as_tree d t i (s.0, s.1, (s.2.0, refl))
 
   -- what words spell is read from them
   pub specification_complete : (t : Tree) (i : Words) → SpellsTree d t i → specification d i ≡ read_as t []
@@ -204,8 +156,7 @@ module _ (d : ℕ) where
   -- words that differ in places and spellings alone from what spells a tree spell one that differs in these alone
   pub specification_moves : (t : Tree) (i k : Words) → SpellsTree d t i → AreAlike i k → (u : Tree) × SpellsTree d u k × (erased u ≡ erased t)
   specification_moves t i k s a =
-      let c = specification_law.rules.moves t i [] k ([], s, (refl, refl)) a in
-      let R : Words → Type 0 = λ l. SpellsSystem d c.0 k l in (c.0, subst R c.2.2.0 c.2.1, c.4)
+      let c = specification_law.rules.moves t i [] k ([], s, (refl, refl)) a in (c.0, as_tree d c.0 k (c.2.0, c.2.1, (c.2.2.0, refl)), c.4)
 
   -- two trees that the same words spell are one
   pub specification_one : (t u : Tree) (i : Words) → SpellsTree d t i → SpellsTree d u i → t ≡ u
@@ -215,17 +166,7 @@ module _ (d : ℕ) where
   pub specification_refused : (i : Words) (r : Refusal) → specification d i ≡ Err r → (t : Tree) → SpellsTree d t i → ⊥
   specification_refused i r e t s = not_refused t [] r (sym (specification_complete t i s) ∙ e)
 
-  -- a refusal stands at a word of the text, or at its end
-  pub specification_stands : (i : Words) (r : Refusal) → specification d i ≡ Err r → StandsAt i r
-  specification_stands = stands specification_law.rules
-
-  as_tree : (n : ℕ) (t : Tree) (i : Words) → Followed (SpellsSystem n) IsEnd t i [] → SpellsTree n t i
-  as_tree n t i s = let R : Words → Type 0 = λ k. SpellsSystem n t i k in subst R s.2.0 s.1
-
-  as_whole : (t : Tree) (i : Words) → SpellsTree d t i → Followed (SpellsSystem d) IsEnd t i []
-  as_whole t i s = ([], s, (refl, refl))
-
   -- where one too many is told, the word that stands first in what is left opens it
   pub specification_told : (i left : Words) → specification d i ≡ Err (Deep left)
       → (front : Words) × (back : Words) × (w : Word) × (i ≡ front ++ w ∷ back) × (left ≡ w ∷ back) × OpensTooMany d front w
-  specification_told i left e = told d (as_tree d) as_whole (as_tree (suc d)) i left (was_told specification_law.rules i (Deep left) e)
+  specification_told i left e = told d (as_tree d) (λ t k s. ([], s, (refl, refl))) (as_tree (suc d)) i left (was_told specification_law.rules i (Deep left) e)

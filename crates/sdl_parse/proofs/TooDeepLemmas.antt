@@ -1,17 +1,9 @@
 -- One too many inside each other, in a whole text.
 use Rattle.std.proofs.Common.{◌≡◌, ℕ, suc, ◌⊎◌, inl, inr, [], ◌∷◌, ◌++◌, refl, sym, ap, ◌∙◌, subst, append_assoc, append-nil}
 use Rattle.sdl_tree.specs.declared.mark.Mark.TheVariants as mark
-use Rattle.sdl_tree.specs.declared.name.Spelling.{Spelling}
-use Rattle.sdl_tree.specs.Depth.{IsOpening, OpensTooMany}
+use Rattle.sdl_read.proofs.Grammar.{Spelling, IsOpening, OpensTooMany, SpellsTree, Tree, Word, Words, Fixed}
 use Rattle.sdl_tree.specs.Depth as depth
-use Rattle.sdl_tree.specs.Spells.{SpellsTree}
-use Rattle.sdl_tree.specs.Tree.{Tree}
-use Rattle.sdl_tree.specs.Words.{Word, Words, Fixed}
-use Rattle.sdl_read.proofs.Depth.{IsHead, GoesOn, TooMany}
-
-abbrev first_word : Word → Words → Word
-first_word w [] = w
-first_word w (v ∷ i) = v
+use Rattle.sdl_read.proofs.AllLaws.{IsHead, GoesOn, TooMany, first_word}
 
 abbrev behind_first : Words → Words
 behind_first [] = []

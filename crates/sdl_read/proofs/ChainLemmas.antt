@@ -3,10 +3,8 @@ use Rattle.std.proofs.Common.{◌≡◌, ◌<◌, List, [], ◌∷◌, length, m
 use Rattle.sdl_tree.specs.declared.expressions.Chain.{roll-Chain}
 use Rattle.sdl_tree.specs.declared.expressions.Expression.{Expression}
 use Rattle.sdl_tree.specs.declared.expressions.Link.{Link}
-use Rattle.sdl_tree.specs.Tree.{Expr, Chain, links_of}
-use Rattle.sdl_tree.specs.Views.{expr_value, chain_value, link_value}
+use Rattle.sdl_read.proofs.Grammar.{Expr, Chain, links_of, expr_value, chain_value, link_value, chain_with}
 use Rattle.sdl_tree.proofs.ViewLemmas.{chained_value}
-use Rattle.sdl_read.specs.Expressions.{chain_with}
 
 pub alone : (e : Expr) (links : List Link) → length links ≡ 0 → chain_with e (map link_value links) ≡ e
 alone e [] none = refl

@@ -1,18 +1,14 @@
 -- The laws of what is followed by words that the node drops: ends, and what closes a construct.
-use Rattle.std.proofs.Common.{◌≡◌, ℕ, ◌⊎◌, inl, inr, Bool, true, false, true≢false, if◌then◌else◌, List, [], ◌∷◌, Ok, Err, refl, sym, ap, ◌∙◌, subst}
+use Rattle.std.proofs.Common.{◌≡◌, ℕ, ◌⊎◌, inl, inr, Bool, true, false, true≢false, if◌then◌else◌, List, [], ◌∷◌, map, Option, Ok, Err, refl, sym, ap, ◌∙◌, subst}
 use Rattle.std.specs.Str.{bytes_eq}
 use Rattle.std.proofs.lemmas.Slice.Eq.{bytes_eq-Decides}
-use Rattle.sdl_tree.specs.declared.mark.Mark.{Mark}
+use Rattle.sdl_read.proofs.Grammar.{Mark, Spelling, AreAlike, Both, Behind, Followed, SpellsEnd, Ended, SpellsEndName, SpellsClosing, Words, Spot, Fixed, followed_by, followed, ended, end_name, closing_by, closing, closed, Repeated, repeated, Parser, Outcome, Refused, pure, front, rest, sees, sees_name}
 use Rattle.sdl_tree.specs.declared.mark.Mark.TheVariants as mark
-use Rattle.sdl_tree.specs.declared.name.Spelling.{Spelling}
-use Rattle.sdl_tree.specs.Alike.{AreAlike}
-use Rattle.sdl_tree.specs.Spells.Parts.{Both, Behind, Followed, SpellsEnd, Ended, SpellsEndName, SpellsClosing}
-use Rattle.sdl_tree.specs.Words.{Words, Spot, Fixed}
 use Rattle.sdl_tree.specs.Words as word
-use Rattle.sdl_read.specs.Parts.{followed_by, followed, ended, end_name, closing_by, closing, closed}
-use Rattle.sdl_read.specs.Reading.{Parser, Outcome, Refused, pure, front, rest, sees, sees_name}
-use Rattle.sdl_read.proofs.Laws.{Form, Gives, Law, Anywhere, GoodAfter, Made, Tied, as_law, same_law, stops_law, nothing_law, tied_law, both_law, behind_law, first_alone, made_law, either_law}
+use Rattle.sdl_read.proofs.Laws.{Form, Gives, Law, MaybeLaw, Anywhere, GoodAfter, Made, Tied, as_law, same_law, stops_law, nothing_law, tied_law, both_law, behind_law, first_alone, made_law, either_law}
+use Rattle.sdl_read.proofs.ListLaws.{repeated_law}
 use Rattle.sdl_read.proofs.PartLaws.{name_front, end_law, end_begins, whole}
+use Rattle.sdl_read.proofs.WayLaws.{no_name}
 use Rattle.sdl_read.proofs.Steps.{read_as, rest_here, if_true, sees_front, sees_at, alike_name, alike_from}
 
 -- ---- x and words that the node drops
@@ -28,7 +24,7 @@ module _ {A : Type 0} {p : Parser A} {q : A → Parser (Unit {0})} {P M : Form A
   drops_law a b ends same =
       same_law (λ i. first_alone (p i) q)
       (as_law (drops_to P) drops_from (drops_to M)
-      (made_law (λ (x : A × Unit {0}). x.0) (λ x y n. ap (λ (z : A × Unit {0}). z.0) n) (tied_law a b (λ x u m j s t. ends x m j s t) (λ x y n u i j s. same x y n i j s))))
+      (made_law (λ (x : A × Unit {0}). x.0) (λ x. refl) (tied_law a b (λ x u m j s t. ends x m j s t) (λ x y n u i j s. same x y n i j s))))
     where
       drops_to : (R : Form A) (x : A) (i j : Words) → Made (λ (y : A × Unit {0}). y.0) (Tied R (λ y _. D y)) x i j → Drops R D x i j
       drops_to R x i j s = let Q : A → Type 0 = λ y. Drops R D y i j in subst Q (sym s.1) s.2
@@ -115,10 +111,6 @@ module _ {p : Parser (Unit {0})} (good : List ℕ → Bool) (at_name : (y : Spot
 abbrev is_text : List ℕ → List ℕ → Bool
 is_text x y = bytes_eq y x
 
-named_there : (x : List ℕ) (y : Spot) (i : Words) → end_name x (word.Name y ∷ i) ≡ tried (is_text x y.text) y i
-unfolding end_name front rest
-named_there x y i = refl
-
 named_elsewhere : (x : List ℕ) (i : Words) → sees_name i ≡ false → end_name x i ≡ read_as tt i
 unfolding end_name sees_name front
 named_elsewhere x [] e = refl
@@ -135,7 +127,8 @@ called_from x u i j (inr c) = inr (c.0, (bytes_eq-Decides c.0.text x).1 c.1, c.2
 
 -- and not before a name
 pub end_name_law : (x : List ℕ) → Law (end_name x) (λ _. SpellsEndName x) (λ _. SpellsEndName x) (λ j. sees_name j ≡ false) whole
-end_name_law x = as_law (called_to x) (called_from x) (called_to x) (named_law (is_text x) (named_there x) (named_elsewhere x))
+unfolding end_name front rest
+end_name_law x = as_law (called_to x) (called_from x) (called_to x) (named_law (is_text x) (λ y i. refl) (named_elsewhere x))
 
 -- ---- MARK .. end
 
@@ -145,10 +138,6 @@ Nowhere u i j = i ≡ j
 pub nowhere_law : (S : Words → Type 0) → Law (pure tt) Nowhere Nowhere S whole
 nowhere_law S = as_law (λ u i j s. s.1) (λ u i j s. (refl, s)) (λ u i j s. s.1) (nothing_law tt)
 
-end_unnamed : (i j : Words) → SpellsEnd i j → sees_name i ≡ false
-unfolding sees_name front
-end_unnamed = end_begins (λ i. sees_name i ≡ false) (λ s m. refl) (λ s m. refl)
-
 -- what stands between the mark and the end
 abbrev pub Closes : Mark → (Words → Words → Type 0) → Words → Words → Type 0
 Closes m D i j = (s : Spelling) × (k l : Words) × (i ≡ Fixed m s ∷ k) × D k l × SpellsEnd l j
@@ -157,7 +146,7 @@ module _ (m : Mark) {p : Parser (Unit {0})} {D : Words → Words → Type 0} (a 
   pub closing_by_law : Law (closing_by m p) (λ _. Closes m D) (λ _. Closes m D) Anywhere whole
   closing_by_law =
       as_law closing_to (λ u i j s. (s.0, s.1, s.3, ((tt, tt), refl, (s.2, s.4, s.5)))) closing_to
-      (behind_law m (made_law (λ _. tt) (λ y z n. refl) (both_law a end_law (λ u k j s t. end_unnamed k j s))))
+      (behind_law m (made_law (λ _. tt) (λ x. refl) (both_law a end_law (λ u k j s t. end_begins (λ i. sees_name i ≡ false) (no_name mark.Semicolon) (no_name mark.Comment) k j s))))
     where
       closing_to : (u : Unit {0}) (i j : Words) → Behind m (Made (λ _. tt) (Both (λ (_ : Unit {0}). D) (λ (_ : Unit {0}). SpellsEnd))) u i j → Closes m D i j
       closing_to u i j s = (s.0, s.1, s.3.2.0, s.2, s.3.2.1, s.3.2.2)
@@ -184,3 +173,10 @@ closing_law m x = closing_by_law m (end_name_law x)
 -- what is closed by its mark stops there
 pub closing_begins : (P : Words → Type 0) (m : Mark) → ((s : Spelling) (k : Words) → P (Fixed m s ∷ k)) → (x : List ℕ) (i j : Words) → SpellsClosing m x i j → P i
 closing_begins P m at x i j s = subst P (sym s.3) (at s.0 s.1)
+
+-- {x} MARK [NAME] end, where no x begins at the mark
+pub closed_list_law : {A : Type 0} (m : Mark) {begins : Words → Bool} {p : Parser (Option A)} {P M : Form A} {S : Words → Type 0} {e : A → A} → MaybeLaw p P M S begins e
+    → ((i : Words) → begins i ≡ true → S i) → S [] → ((s : Spelling) (k : Words) → S (Fixed m s ∷ k) × (begins (Fixed m s ∷ k) ≡ false)) → (x : List ℕ)
+    → Law (followed (repeated p) (closing m x)) (Followed (Repeated P) (SpellsClosing m x)) (Followed (Repeated M) (SpellsClosing m x)) Anywhere (map e)
+closed_list_law m {begins = begins} {S = S} a at_start last ends x =
+    followed_law (repeated_law a at_start last) (closing_law m x) (λ k j s t. closing_begins (λ l. S l × (begins l ≡ false)) m ends x k j s)

@@ -2,10 +2,7 @@
 -- one more.
 use Rattle.std.proofs.Common.{◌≡◌, ◌⊎◌, inl, inr, [], ◌∷◌, ◌++◌, refl, sym, ap, ◌∙◌, subst, append_assoc, append-nil}
 use Rattle.sdl_tree.specs.declared.mark.Mark.TheVariants as mark
-use Rattle.sdl_tree.specs.declared.name.Spelling.{Spelling}
-use Rattle.sdl_tree.specs.Words.{Word, Words, Fixed}
-use Rattle.sdl_tree.specs.Depth.{IsOpening}
-use Rattle.sdl_read.specs.Reading.{front}
+use Rattle.sdl_read.proofs.Grammar.{Spelling, Word, Words, Fixed, IsOpening, front, behind}
 use Rattle.sdl_read.proofs.Steps.{IsRest}
 
 -- the same stands next

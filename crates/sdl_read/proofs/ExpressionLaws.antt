@@ -1,24 +1,15 @@
 -- The laws of expressions.
 use Rattle.std.proofs.Common.{◌≡◌, ℕ, zero, suc, ◌⊎◌, inl, inr, Bool, true, false, is_some, if◌then◌else◌, List, [], ◌∷◌, map, Some, Ok, Err, refl, sym, ap, ◌∙◌, subst, arith}
-use Rattle.sdl_tree.specs.declared.expressions.KeywordValue.{KeywordValue}
+use Rattle.sdl_read.proofs.Grammar.{KeywordValue, UnaryOperator, Operator, Spelling, plain, erased_word, erased_name, erased_expr, erased_exprs, erased_links, looseness, loosest, operator_mark, value_mark, unary_mark, SpellsPrimary, SpellsUnary, SpellsLink, SpellsChain, SpellsAt, SpellsInner, SpellsExpr, IsMark, Both, Behind, Before, Repeated, Enclosed, InParentheses, SpellsName, SpellsNumber, Expr, Numeral, Named, Keyword, Active, Paren, Unary, Chain, Exprs, NoExpr, AndExpr, exprs_in, Links, NoLink, AndLink, links_in, exprs_of, links_of, Number, Words, Spot, Fixed, Parser, Outcome, Refused, Deep, too_deep, refuse, ◌⊗◌, and_then, made, either, is_number, front, rest, mark_at, sees, same_mark, sees_name, sees_number, expect, in_parentheses, by_mark, value_of, operator_at, value_at, unary_at, unary_of, marked, Readers, readers, keyword_with, paren_with, active_with, unary_with, link_with, chain_with, sees_value, sees_unary, sees_operator, primary, signed, link, chain, level, expr, paren_of, active_of, deep_active, no_args, IsOpening}
 use Rattle.sdl_tree.specs.declared.expressions.KeywordValue.TheVariants as value
-use Rattle.sdl_tree.specs.declared.expressions.UnaryOperator.{UnaryOperator}
 use Rattle.sdl_tree.specs.declared.expressions.UnaryOperator.TheVariants as unary
-use Rattle.sdl_tree.specs.declared.expressions.Operator.{Operator}
 use Rattle.sdl_tree.specs.declared.mark.Mark.TheVariants as mark
-use Rattle.sdl_tree.specs.declared.name.Spelling.{Spelling}
-use Rattle.sdl_tree.specs.Erased.{plain, erased_word, erased_name, erased_expr, erased_exprs, erased_links}
-use Rattle.sdl_tree.specs.Spells.Expressions.{looseness, loosest, operator_mark, value_mark, unary_mark, SpellsPrimary, SpellsUnary, SpellsLink, SpellsChain, SpellsAt, SpellsInner, SpellsTimer, SpellsExpr}
-use Rattle.sdl_tree.specs.Spells.Parts.{IsMark, Both, Behind, Before, Repeated, Enclosed, InParentheses, SpellsName, SpellsNumber}
-use Rattle.sdl_tree.specs.Tree.{Expr, Numeral, Named, Keyword, Active, Paren, Unary, Chain, Exprs, NoExpr, AndExpr, exprs_in, Links, NoLink, AndLink, Link, links_in, exprs_of, links_of, Number}
-use Rattle.sdl_tree.specs.Words.{Words, Spot, Fixed}
+use Rattle.sdl_tree.specs.Spells.Expressions.{SpellsTimer}
+use Rattle.sdl_tree.specs.Tree.{Link}
 use Rattle.sdl_tree.specs.Words as word
-use Rattle.sdl_read.specs.Reading.{Parser, Outcome, Refused, Deep, too_deep, refuse, ◌⊗◌, and_then, made, either, is_number, front, rest, mark_at, sees, same_mark, sees_name, sees_number, expect, name, repeated, in_parentheses}
-use Rattle.sdl_read.specs.Expressions.{by_mark, value_of, operator_at, value_at, unary_at, unary_of, marked, Readers, readers, keyword_with, paren_with, active_with, unary_with, link_with, chain_with, sees_value, sees_unary, sees_operator, primary, signed, link, chain, level, expr, paren_of, active_of, deep_active, no_args}
-use Rattle.sdl_tree.specs.Depth.{IsOpening}
-use Rattle.sdl_read.proofs.Depth.{SameFront, no_deeper, closed}
-use Rattle.sdl_read.proofs.Laws.{Form, Never, Gives, Rules, Law, MaybeLaw, Anywhere, Takes, Made, still, as_law, stops_law, never_rules, refuse_rules, nothing_law, mark_law, same_rules, same_law, shut, shut_first, shut_rules, both_rules, both_law, behind_law, before_law, made_law, made_as, node_rules, node_law, Or, either_as, either_rules, first_law, either_law, maybe_law}
-use Rattle.sdl_read.proofs.LevelLemmas.{level_zero, level_one, level_clause, args_none, paren_clause, active_clause, args_clause}
+use Rattle.sdl_read.proofs.Depth.{no_deeper, closed}
+use Rattle.sdl_read.proofs.Laws.{Form, Never, Gives, Rules, Law, MaybeLaw, Anywhere, Takes, Made, still, as_law, stops_law, never_rules, refuse_rules, nothing_law, mark_law, same_rules, shut, shut_first, shut_rules, both_rules, both_law, then_law, behind_law, before_law, made_law, made_as, node_rules, node_law, Or, either_as, either_rules, first_law, either_law, maybe_law}
+use Rattle.sdl_read.proofs.WayLaws.{name_begins, stops_at, sees_other}
 use Rattle.sdl_read.proofs.ListLaws.{repeated_law, repeated_begins}
 use Rattle.sdl_read.proofs.OperatorLaws.{value_at_again, unary_at_again, operator_at_ok, operator_at_again, Stops, operator_none, operator_front, operator_end, same_mark_at, stops_last, stops_before, stops_below, IsMarked, marked_rules, marked_law}
 use Rattle.sdl_read.proofs.PartLaws.{nameless, name_front, name_law, number_law, in_parentheses_law, opens_list, listed_to, listed_from}
@@ -59,14 +50,6 @@ erased_chain e (l ∷ ls) = ap (Chain (erased_expr e)) (erased_linked (l ∷ ls)
 
 -- ---- what expressions begin with
 
-name_begins : (x : Spot) (i j : Words) → i ≡ word.Name x ∷ j → sees_name i ≡ true
-unfolding sees_name front
-name_begins x i j e = ap sees_name e
-
-number_begins : (x : Number) (i j : Words) → i ≡ word.Number x.value x.digits ∷ j → sees_number i ≡ true
-unfolding sees_number front
-number_begins x i j e = ap sees_number e
-
 module _ (Q : Words → Type 0) (at_name : (x : Spot) (k : Words) → Q (word.Name x ∷ k)) (at_number : (n : Number) (k : Words) → Q (word.Number n.value n.digits ∷ k))
     (at_value : (v : KeywordValue) (s : Spelling) (k : Words) → Q (Fixed (value_mark v) s ∷ k)) (at_open : (s : Spelling) (k : Words) → Q (Fixed mark.Open s ∷ k))
     (at_active : (s : Spelling) (k : Words) → Q (Fixed mark.Active s ∷ k)) (Inner : Form Expr) (Timer : Form (Spot × List Expr)) where
@@ -106,20 +89,14 @@ module _ {operand : Parser Expr} {P M : Form Expr} (l : ℕ) (a : Law operand P 
   link_from : (x : Link) (i j : Words) → SpellsLink P (suc l) x i j → Made link_with (IsLink P) x i j
   link_from x i j s = (((x.operator, x.word), x.operand), refl, (s.1.0, (s.0, s.1.1), s.1.2))
 
-  link_begins : (x : Link) (i j : Words) → SpellsLink P (suc l) x i j → sees_operator (suc l) i ≡ true
-  link_begins x i j s = ap (sees_operator (suc l)) s.1.1 ∙ ap is_some (operator_at_again (suc l) x.operator x.word s.1.0 s.0)
-
   pub link_law : MaybeLaw (link operand (suc l)) (SpellsLink P (suc l)) (SpellsLink M (suc l)) (Stops l) (sees_operator (suc l)) erased_link
   unfolding link
   link_law =
       maybe_law (sees_operator (suc l)) (operator_front (suc l))
-      (node_rules link_with (SpellsLink P (suc l)) (SpellsLink M (suc l)) (λ x y e. ap link_with e) (link_to P) link_from (link_to M)
+      (node_rules link_with (SpellsLink P (suc l)) (SpellsLink M (suc l)) (λ x. refl) (link_to P) link_from (link_to M)
       (both_rules (marked_rules (operator_at (suc l)) operator_mark (λ o. looseness o ≡ suc l) (λ i o e. (operator_at_ok (suc l) i o e).1) (λ o s j e. operator_at_again (suc l) o s j e))
       a (λ y m j s t. tt)))
-      (operator_end (suc l)) link_begins
-
-  links_law : Law (repeated (link operand (suc l))) (Repeated (SpellsLink P (suc l))) (Repeated (SpellsLink M (suc l))) (λ j. Stops l j × (sees_operator (suc l) j ≡ false)) (map erased_link)
-  links_law = repeated_law link_law (λ i seen. stops_before l (suc l) i (omega arith) seen) (stops_last l)
+      (operator_end (suc l)) (λ x i j s. ap (sees_operator (suc l)) s.1.1 ∙ ap is_some (operator_at_again (suc l) x.operator x.word s.1.0 s.0))
 
   abbrev IsChain : Form Expr → Form (Expr × List Link)
   IsChain R = Both R (Repeated (SpellsLink R (suc l)))
@@ -139,15 +116,11 @@ module _ {operand : Parser Expr} {P M : Form Expr} (l : ℕ) (a : Law operand P 
   chain_from (Chain e (AndLink o w f ls)) i j (inr s) = ((e, links_in (AndLink o w f ls)), ap (Chain e) (sym (links_again (AndLink o w f ls))), s)
   chain_from x i j (inr s) = absurd s
 
-  like_chain : (x y : Expr × List Link) → ◌≡◌ {A = Expr × List Link} (erased_expr x.0, map erased_link x.1) (erased_expr y.0, map erased_link y.1)
-      → erased_expr (chain_with x.0 x.1) ≡ erased_expr (chain_with y.0 y.1)
-  like_chain x y e = erased_chain x.0 x.1 ∙ ap (λ (p : Expr × List Link). chain_with p.0 p.1) e ∙ sym (erased_chain y.0 y.1)
-
   pub chain_law : Law (chain operand (suc l)) (λ x i j. P x i j ⊎ SpellsChain P (suc l) x i j) (λ x i j. M x i j ⊎ SpellsChain M (suc l) x i j) (Stops (suc l)) erased_expr
   chain_law =
       stops_law (λ j t. (stops_below l (suc l) j (omega arith) t, operator_none (suc l) j t))
-      (node_law (λ p. chain_with p.0 p.1) (λ x i j. P x i j ⊎ SpellsChain P (suc l) x i j) (λ x i j. M x i j ⊎ SpellsChain M (suc l) x i j) like_chain (chain_to P) chain_from (chain_to M)
-      (both_law a links_law (λ ls m j s t. repeated_begins link_law (λ i seen. stops_before l (suc l) i (omega arith) seen) (stops_last l) ls m j s t.0)))
+      (node_law (λ p. chain_with p.0 p.1) (λ x i j. P x i j ⊎ SpellsChain P (suc l) x i j) (λ x i j. M x i j ⊎ SpellsChain M (suc l) x i j) (λ x. erased_chain x.0 x.1) (chain_to P) chain_from (chain_to M)
+      (both_law a (repeated_law link_law (λ i seen. stops_before l (suc l) i (omega arith) seen) (stops_last l)) (λ ls m j s t. repeated_begins link_law (λ i seen. stops_before l (suc l) i (omega arith) seen) (stops_last l) ls m j s t.0)))
 
 -- ---- primaries
 
@@ -218,13 +191,10 @@ module _ (Inner : Form Expr) (Timer : Form (Spot × List Expr)) where
   keyword_to : (x : Expr) (i j : Words) → IsKeyword x i j → SpellsPrimary Inner Timer x i j
   keyword_to x i j s = let F : Expr → Type 0 = λ y. SpellsPrimary Inner Timer y i j in subst F (sym s.1) s.2.1
 
-  paren_to : (x : Expr) (i j : Words) → IsParen Inner x i j → SpellsPrimary Inner Timer x i j
-  paren_to x i j s = let F : Expr → Type 0 = λ y. SpellsPrimary Inner Timer y i j in subst F (sym s.1) s.2
-
   primary_to : (x : Expr) (i j : Words) → IsPrimary x i j → SpellsPrimary Inner Timer x i j
   primary_to =
       either_as (made_as (SpellsPrimary Inner Timer) Named) (either_as (made_as (SpellsPrimary Inner Timer) Numeral)
-      (either_as keyword_to (either_as paren_to (either_as active_to (λ x i j s. absurd s)))))
+      (either_as keyword_to (either_as (made_as (SpellsPrimary Inner Timer) paren_with) (either_as active_to (λ x i j s. absurd s)))))
 
   primary_from : (x : Expr) (i j : Words) → SpellsPrimary Inner Timer x i j → IsPrimary x i j
   primary_from (Named x) i j s = inl (x, refl, s)
@@ -235,55 +205,36 @@ module _ (Inner : Form Expr) (Timer : Form (Spot × List Expr)) where
   primary_from (Unary o w e) i j s = absurd s
   primary_from (Chain e links) i j s = absurd s
 
-keyword_begins : (x : Expr) (i j : Words) → IsKeyword x i j → sees_value i ≡ true
-keyword_begins x i j s = ap sees_value s.2.1 ∙ ap is_some (value_at_again s.0.0 s.0.1 j)
-
-module _ (Timer : Form (Spot × List Expr)) where
-  sees_again_active : (x : Expr) (i j : Words) → IsActive Timer x i j → sees mark.Open i ≡ false
-  unfolding sees front same_mark
-  sees_again_active x i j s = ap (sees mark.Open) s.2.1
-
-  no_open : (x : Expr) (i j : Words) → IsActive Timer x i j ⊎ ⊥ → sees mark.Open i ≡ false
-  no_open x i j (inl s) = sees_again_active x i j s
-  no_open x i j (inr s) = absurd s
+no_open : (Timer : Form (Spot × List Expr)) (x : Expr) (i j : Words) → IsActive Timer x i j ⊎ ⊥ → sees mark.Open i ≡ false
+unfolding sees front same_mark
+no_open Timer x i j (inl s) = ap (sees mark.Open) s.2.1
+no_open Timer x i j (inr s) = absurd s
 
 -- what is read inside parentheses
 abbrev pub inside : Readers → Parser Expr
 inside r = either (sees mark.Open) r.paren (either (sees mark.Active) r.active refuse)
 
-number_front : (i k : Words) → SameFront i k → sees_number i ≡ sees_number k
-unfolding sees_number
-number_front i k e = ap is_number e
-
-value_front : (i k : Words) → SameFront i k → sees_value i ≡ sees_value k
-unfolding value_at
-value_front i k e = ap (λ m. is_some (by_mark value_of m)) (same_mark_at i k e)
-
-unary_front : (i k : Words) → SameFront i k → sees_unary i ≡ sees_unary k
-unfolding unary_at
-unary_front i k e = ap (λ m. is_some (by_mark unary_of m)) (same_mark_at i k e)
-
-module _ (r : Readers) (Inner MoreInner : Form Expr) (Timer MoreTimer : Form (Spot × List Expr)) where
+module _ (Inner MoreInner : Form Expr) (Timer MoreTimer : Form (Spot × List Expr)) where
   -- where something may stand in parentheses
-  inside_rules : Rules r.paren (IsParen Inner) (IsParen MoreInner) Anywhere erased_expr → Rules r.active (IsActive Timer) (IsActive MoreTimer) Anywhere erased_expr
-      → Rules (inside r) (IsInside Inner Timer) (IsInside MoreInner MoreTimer) Anywhere erased_expr
+  inside_rules : {p q : Parser Expr} → Rules p (IsParen Inner) (IsParen MoreInner) Anywhere erased_expr → Rules q (IsActive Timer) (IsActive MoreTimer) Anywhere erased_expr
+      → Rules (either (sees mark.Open) p (either (sees mark.Active) q refuse)) (IsInside Inner Timer) (IsInside MoreInner MoreTimer) Anywhere erased_expr
   inside_rules paren active =
       either_rules (sees mark.Open) (sees_front mark.Open) paren
       (either_rules (sees mark.Active) (sees_front mark.Active) active (refuse_rules (λ x i j s. s)) (λ x i j s. sees_at mark.Active s.0.0 i s.2.0 s.2.1) (λ x i j s t. absurd s))
       (λ x i j s. sees_at mark.Open s.0.0 i s.2.0 s.2.1) (λ x i j s t. no_open Timer x i j s)
 
-  pub primary_law : Rules (inside r) (IsInside Inner Timer) (IsInside MoreInner MoreTimer) Anywhere erased_expr
+  primary_law : (r : Readers) → Rules (inside r) (IsInside Inner Timer) (IsInside MoreInner MoreTimer) Anywhere erased_expr
       → Law (primary r) (SpellsPrimary Inner Timer) (SpellsPrimary MoreInner MoreTimer) Anywhere erased_expr
-  unfolding primary
-  primary_law within =
+  unfolding primary sees_number value_at front
+  primary_law r within =
       as_law (primary_to Inner Timer) (primary_from Inner Timer) (primary_to MoreInner MoreTimer)
-      (either_law sees_name name_front (made_law Named (λ x y e. ap Named e) name_law)
-      (either_law sees_number number_front (made_law Numeral (λ x y e. ap Numeral e) number_law)
-      (first_law sees_value value_front
-      (made_law keyword_with (λ x y n. ap keyword_with n) (marked_law value_at value_mark (λ v. Unit {0}) (λ i v e. tt) (λ v s j e. value_at_again v s j) value.Now tt))
+      (either_law sees_name name_front (made_law Named (λ x. refl) name_law)
+      (either_law sees_number (λ i k e. ap is_number e) (made_law Numeral (λ x. refl) number_law)
+      (first_law sees_value (λ i k e. ap (λ m. is_some (by_mark value_of m)) (same_mark_at i k e))
+      (made_law keyword_with (λ x. refl) (marked_law value_at value_mark (λ v. Unit {0}) (λ i v e. tt) (λ v s j e. value_at_again v s j) value.Now tt))
       within
-      keyword_begins (λ x i j s t. no_value Inner Timer x i j s))
-      (λ x i j s. number_begins s.0 i j s.2) (λ x i j s t. no_number Inner Timer x i j s))
+      (λ x i j s. ap sees_value s.2.1 ∙ ap is_some (value_at_again s.0.0 s.0.1 j)) (λ x i j s t. no_value Inner Timer x i j s))
+      (λ x i j s. ap sees_number s.2) (λ x i j s t. no_number Inner Timer x i j s))
       (λ x i j s. name_begins s.0 i j s.2) (λ x i j s t. no_name Inner Timer x i j s))
 
 -- ---- ("-" | "not") primary
@@ -302,49 +253,30 @@ module _ (P : Form Expr) where
   unary_from (Unary o w e) i j (inr s) = inl (((o, w), e), refl, (s.0, (tt, s.1), s.2))
   unary_from x i j (inr s) = absurd s
 
-  unary_begins : (x : Expr) (i j : Words) → IsUnary P x i j → sees_unary i ≡ true
-  unary_begins x i j s = ap sees_unary s.2.1.1 ∙ ap is_some (unary_at_again s.0.0.0 s.0.0.1 s.2.0)
-
-module _ {operand : Parser Expr} {P M : Form Expr} (a : Law operand P M Anywhere erased_expr) where
-  pub unary_law : ((x : Expr) (i j : Words) → P x i j → sees_unary i ≡ false)
-      → Law (either sees_unary (made unary_with (marked unary_at unary_mark ⊗ operand)) operand) (λ x i j. P x i j ⊎ SpellsUnary P x i j) (λ x i j. M x i j ⊎ SpellsUnary M x i j)
-      Anywhere erased_expr
-  unary_law none =
-      as_law (unary_to P) (unary_from P) (unary_to M)
-      (either_law sees_unary unary_front
-      (made_law unary_with (λ x y n. ap unary_with n)
-      (both_law (marked_law unary_at unary_mark (λ o. Unit {0}) (λ i o e. tt) (λ o s j e. unary_at_again o s j) unary.Minus tt) a (λ y m j s t. tt)))
-      a (unary_begins P) (λ x i j s t. none x i j s))
+unary_law : {operand : Parser Expr} {P M : Form Expr} → Law operand P M Anywhere erased_expr → ((x : Expr) (i j : Words) → P x i j → sees_unary i ≡ false)
+    → Law (either sees_unary (made unary_with (marked unary_at unary_mark ⊗ operand)) operand) (λ x i j. P x i j ⊎ SpellsUnary P x i j) (λ x i j. M x i j ⊎ SpellsUnary M x i j)
+    Anywhere erased_expr
+unfolding unary_at
+unary_law {P = P} {M = M} a none =
+    as_law (unary_to P) (unary_from P) (unary_to M)
+    (either_law sees_unary (λ i k e. ap (λ m. is_some (by_mark unary_of m)) (same_mark_at i k e))
+    (made_law unary_with (λ x. refl)
+    (then_law (marked_law unary_at unary_mark (λ o. Unit {0}) (λ i o e. tt) (λ o s j e. unary_at_again o s j) unary.Minus tt) a))
+    a (λ x i j s. ap sees_unary s.2.1.1 ∙ ap is_some (unary_at_again s.0.0.0 s.0.0.1 s.2.0)) (λ x i j s t. none x i j s))
 
 -- ---- levels
 
 module _ (r : Readers) (Inner MoreInner : Form Expr) (Timer MoreTimer : Form (Spot × List Expr))
     (within : Rules (inside r) (IsInside Inner Timer) (IsInside MoreInner MoreTimer) Anywhere erased_expr) where
-  pub level_law : (k : ℕ) → Law (level r k) (SpellsAt Inner Timer k) (SpellsAt MoreInner MoreTimer k) (Stops k) erased_expr
-  unfolding signed
-  level_law zero = same_law (λ i. sym (level_zero r zero i refl)) (stops_law (λ j t. tt) (primary_law r Inner MoreInner Timer MoreTimer within))
-  level_law (suc zero) =
-      same_law (λ i. sym (level_one r (suc zero) i refl))
-      (stops_law (λ j t. tt) (unary_law (primary_law r Inner MoreInner Timer MoreTimer within) (no_unary Inner Timer)))
-  level_law (suc (suc k)) = same_law (λ i. sym (level_clause r k i)) (chain_law (suc k) (level_law (suc k)))
-
--- ---- inside one more pair of parentheses
-
-stops_at_comma : (k : ℕ) (s : Spelling) (j : Words) → Stops k (Fixed mark.Comma s ∷ j)
-unfolding mark_at front
-stops_at_comma k s j o e = absurd cc
-
-stops_at_close : (k : ℕ) (s : Spelling) (j : Words) → Stops k (Fixed mark.Close s ∷ j)
-unfolding mark_at front
-stops_at_close k s j o e = absurd cc
-
-close_no_open : (s : Spelling) (j : Words) → sees mark.Open (Fixed mark.Close s ∷ j) ≡ false
-unfolding sees front same_mark
-close_no_open s j = refl
+  level_law : (k : ℕ) → Law (level r k) (SpellsAt Inner Timer k) (SpellsAt MoreInner MoreTimer k) (Stops k) erased_expr
+  unfolding level signed
+  level_law zero = stops_law (λ j t. tt) (primary_law Inner MoreInner Timer MoreTimer r within)
+  level_law (suc zero) = stops_law (λ j t. tt) (unary_law (primary_law Inner MoreInner Timer MoreTimer r within) (no_unary Inner Timer))
+  level_law (suc (suc k)) = chain_law (suc k) (level_law (suc k))
 
 -- ---- where nothing more may stand inside
 
-plain_name : (Inner : Form Expr) (Timer : Form (Spot × List Expr)) (k : ℕ) (j : Words)
+pub plain_name : (Inner : Form Expr) (Timer : Form (Spot × List Expr)) (k : ℕ) (j : Words)
     → SpellsAt Inner Timer k (Named nameless) (word.Name nameless ∷ j) j
 plain_name Inner Timer zero j = refl
 plain_name Inner Timer (suc zero) j = inl refl
@@ -381,13 +313,10 @@ inside_none : Rules (either (sees mark.Open) too_deep (either (sees mark.Active)
     (IsInside (SpellsInner (suc zero)) (SpellsTimer (suc zero))) Anywhere erased_expr
 inside_none =
     same_rules (shut_first mark.Open (either (sees mark.Active) deep_active refuse))
-    (either_rules (sees mark.Open) (sees_front mark.Open)
+    (inside_rules (SpellsInner zero) (SpellsInner (suc zero)) (SpellsTimer zero) (SpellsTimer (suc zero))
     (shut_rules mark.Open opens_paren (IsParen (SpellsInner zero)) (IsParen (SpellsInner (suc zero))) Anywhere (λ x i j s. s.2.2.1)
     (λ s. (paren_with (s, Named nameless), word.Name nameless ∷ Fixed mark.Close plain ∷ [], λ j u. ((s, Named nameless), refl, (_, refl, (plain, plain_name (SpellsInner zero) (SpellsTimer zero) loosest (Fixed mark.Close plain ∷ j)))))))
-    (either_rules (sees mark.Active) (sees_front mark.Active)
-    (never_rules deep_active_tells (λ x i j s. s.2.2.3.1))
-    (refuse_rules (λ x i j s. s)) (λ x i j s. sees_at mark.Active s.0.0 i s.2.0 s.2.1) (λ x i j s t. absurd s))
-    (λ x i j s. sees_at mark.Open s.0.0 i s.2.0 s.2.1) (λ x i j s t. no_open (SpellsTimer zero) x i j s))
+    (never_rules deep_active_tells (λ x i j s. s.2.2.3.1)))
 
 no_listed : (xs : List Expr) (i j : Words) → Enclosed (SpellsInner zero) xs i j → ⊥
 no_listed [] i j s = s.3.1
@@ -414,52 +343,29 @@ pub record AreRead (d : ℕ) : Type 0 where
 expr_in : (d : ℕ) → AreRead d → Law (expr d) (SpellsExpr d) (SpellsExpr (suc d)) (Stops loosest) erased_expr
 expr_in d a = level_law (readers d) (SpellsInner d) (SpellsInner (suc d)) (SpellsTimer d) (SpellsTimer (suc d)) a.within loosest
 
-timer_in : (d : ℕ) → AreRead d
-    → Law (name ⊗ (readers d).args) (SpellsTimer (suc d)) (SpellsTimer (suc (suc d))) (λ j. sees mark.Open j ≡ false) (λ x. (erased_name x.0, map erased_expr x.1))
-timer_in d a = as_law (λ x i j s. s) (λ x i j s. s) (λ x i j s. s) (both_law name_law a.args (λ y m j s t. tt))
-
 erased_active : (x : Spelling × (Spot × List Expr)) → erased_expr (active_with x) ≡ active_with (erased_word x.0, (erased_name x.1.0, map erased_expr x.1.1))
 erased_active x = ap (Active (erased_word x.0) (erased_name x.1.0)) (erased_listed x.1.1)
 
-like_active : (x y : Spelling × (Spot × List Expr))
-    → ◌≡◌ {A = Spelling × (Spot × List Expr)} (erased_word x.0, (erased_name x.1.0, map erased_expr x.1.1)) (erased_word y.0, (erased_name y.1.0, map erased_expr y.1.1))
-    → erased_expr (active_with x) ≡ erased_expr (active_with y)
-like_active x y e = erased_active x ∙ ap active_with e ∙ sym (erased_active y)
-
 paren_of_law : (d : ℕ) → AreRead d → Law (paren_of (expr d)) (IsParen (SpellsInner (suc d))) (IsParen (SpellsInner (suc (suc d)))) Anywhere erased_expr
 unfolding paren_of
-paren_of_law d a =
-    made_law paren_with (λ x y n. ap paren_with n) (both_law (mark_law mark.Open) (before_law mark.Close (expr_in d a) (stops_at_close loosest)) (λ y m j s t. tt))
+paren_of_law d a = made_law paren_with (λ x. refl) (then_law (mark_law mark.Open) (before_law mark.Close (expr_in d a) (stops_at mark.Close refl loosest)))
 
 active_of_law : (d : ℕ) → AreRead d → Law (active_of (readers d).args) (IsActive (SpellsTimer (suc d))) (IsActive (SpellsTimer (suc (suc d)))) Anywhere erased_expr
-unfolding active_of
+unfolding active_of same_mark
 active_of_law d a =
-    made_law active_with like_active
-    (both_law (mark_law mark.Active) (behind_law mark.Open (before_law mark.Close (timer_in d a) close_no_open)) (λ y m j s t. tt))
-
-inside_more : (d : ℕ) → AreRead d
-    → Rules (inside (readers (suc d))) (IsInside (SpellsInner (suc d)) (SpellsTimer (suc d))) (IsInside (SpellsInner (suc (suc d))) (SpellsTimer (suc (suc d)))) Anywhere erased_expr
-inside_more d a =
-    inside_rules (readers (suc d)) (SpellsInner (suc d)) (SpellsInner (suc (suc d))) (SpellsTimer (suc d)) (SpellsTimer (suc (suc d)))
-    (same_rules (λ i. sym (paren_clause d i)) (paren_of_law d a).rules)
-    (same_rules (λ i. sym (active_clause d i)) (active_of_law d a).rules)
-
-inside_zero : (i : Words) → either (sees mark.Open) too_deep (either (sees mark.Active) deep_active refuse) i ≡ inside (readers zero) i
-unfolding readers
-inside_zero i = refl
+    made_law active_with erased_active
+    (then_law (mark_law mark.Active) (behind_law mark.Open (before_law mark.Close (then_law name_law a.args) (sees_other mark.Open mark.Close refl))))
 
 are_read : (d : ℕ) → AreRead d
-are_read zero = record {
-  within = same_rules inside_zero inside_none;
-  args = same_law (λ i. sym (args_none zero i refl)) no_args_law;
-}
+unfolding readers
+are_read zero = record { within = inside_none; args = no_args_law }
 are_read (suc d) =
     let below = are_read d in
     record {
-      within = inside_more d below;
-      args =
-          same_law (λ i. sym (args_clause d i))
-          (in_parentheses_law (expr_in d below) (expr_takes d) (stops_at_comma loosest) (stops_at_close loosest) (stops_last loosest));
+      within =
+          inside_rules (SpellsInner (suc d)) (SpellsInner (suc (suc d))) (SpellsTimer (suc d)) (SpellsTimer (suc (suc d)))
+          (paren_of_law d below).rules (active_of_law d below).rules;
+      args = in_parentheses_law (expr_in d below) (expr_takes d) (stops_at mark.Comma refl loosest) (stops_at mark.Close refl loosest) (stops_last loosest);
     }
 
 -- ---- expr
@@ -469,4 +375,5 @@ expr_law d = expr_in d (are_read d)
 
 -- [args]
 pub args_law : (d : ℕ) → Law (in_parentheses (expr d)) (InParentheses (SpellsExpr d)) (InParentheses (SpellsExpr (suc d))) (λ j. sees mark.Open j ≡ false) (map erased_expr)
-args_law d = in_parentheses_law (expr_law d) (expr_takes d) (stops_at_comma loosest) (stops_at_close loosest) (stops_last loosest)
+unfolding readers
+args_law d = (are_read (suc d)).args

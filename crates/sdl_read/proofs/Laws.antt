@@ -1,15 +1,6 @@
 -- The laws of a reading, and of the ways in which readings are put together.
 use Rattle.std.proofs.Common.{◌≡◌, ◌⊎◌, inl, inr, Bool, true, false, true≢false, if◌then◌else◌, [], ◌∷◌, ◌++◌, Option, Some, None, option_map, Ok, Err, refl, sym, ap, ◌∙◌, subst, append_assoc}
-use Rattle.sdl_tree.specs.Alike.{AreAlike}
-use Rattle.sdl_tree.specs.declared.mark.Mark.{Mark}
-use Rattle.sdl_tree.specs.declared.name.Spelling.{Spelling}
-use Rattle.sdl_tree.specs.Depth.{IsOpening}
-use Rattle.sdl_tree.specs.Erased.{plain, erased_word}
-use Rattle.sdl_tree.specs.LeftOut.{IsBarred}
-use Rattle.sdl_tree.specs.Spells.Parts.{IsMark, Both, Behind, Before, Optional}
-use Rattle.sdl_tree.specs.Words.{Words, Fixed}
-use Rattle.sdl_read.specs.Parts.{tied}
-use Rattle.sdl_read.specs.Reading.{Parser, Refusal, Refused, Deep, Barred, Outcome, and_then, pure, too_deep, refuse, expect, same_mark, sees, front, rest, ◌⊗◌, behind, before, made, either, maybe}
+use Rattle.sdl_read.proofs.Grammar.{AreAlike, Mark, Spelling, IsOpening, plain, erased_word, IsBarred, IsMark, Both, Behind, Before, Optional, Words, Fixed, tied, Parser, Refusal, Refused, Deep, Barred, Outcome, and_then, pure, too_deep, refuse, expect, same_mark, sees, front, rest, ◌⊗◌, behind, before, made, either, maybe}
 use Rattle.sdl_read.proofs.Depth.{SameFront, HasOne, TooMany, same_behind, deep_rest, within, onward, closed}
 use Rattle.sdl_read.proofs.Steps.{read_as, IsRest, rest_here, rest_on, StandsAt, stands_on, same_value, as_read, not_read, bind_is, if_true, if_false, sees_ok, same_mark_ok, expect_again, alike_fixed, alike_from}
 
@@ -57,6 +48,10 @@ pub record Rules {A : Type 0} (p : Parser A) (P M : Form A) (S : Words → Type 
   pub moves : (x : A) (i j k : Words) → P x i j → AreAlike i k → (y : A) × (l : Words) × P y k l × AreAlike j l × (erased y ≡ erased x)
   -- what is spelled so is with one more inside each other
   pub more : (x : A) (i j : Words) → P x i j → M x i j
+
+-- what is spelled, before words where it stops, is read
+abbrev pub Complete : {A : Type 0} → Parser A → Form A → (Words → Type 0) → Type 0
+Complete {A} p P S = (x : A) (i j : Words) → P x i j → S j → p i ≡ read_as x j
 
 -- the rules of what is spelled by some words
 pub record Law {A : Type 0} (p : Parser A) (P M : Form A) (S : Words → Type 0) (erased : A → A) : Type 0 where
@@ -334,6 +329,15 @@ module _ {A B : Type 0} {p : Parser A} {q : Parser B} {P M : Form A} {Q N : Form
   pub both_law : Law p P M S e → Law q Q N T f → ((y : B) (m j : Words) → Q y m j → T j → S m) → Law (p ⊗ q) (Both P Q) (Both M N) T (λ x. (e x.0, f x.1))
   both_law a b ends = tied_law a (λ x. b) (λ x. ends) (λ x y same z i j s. s)
 
+pub then_complete : {A B : Type 0} {p : Parser A} {q : Parser B} {P : Form A} {Q : Form B} {T : Words → Type 0} → Complete p P Anywhere → Complete q Q T → Complete (p ⊗ q) (Both P Q) T
+then_complete {p = p} {q = q} a b x i j s t =
+    bind_is (p i) (λ y m. and_then (q m) (λ z k. read_as (y, z) k)) x.0 s.0 (a x.0 i s.0 s.1 tt) ∙ bind_is (q s.0) (λ z k. read_as (x.0, z) k) x.1 j (b x.1 s.0 j s.2 t)
+
+module _ {A B : Type 0} {p : Parser A} {q : Parser B} {P M : Form A} {Q N : Form B} {T : Words → Type 0} {e : A → A} {f : B → B} where
+  -- where the first stops anywhere
+  pub then_law : Law p P M Anywhere e → Law q Q N T f → Law (p ⊗ q) (Both P Q) (Both M N) T (λ x. (e x.0, f x.1))
+  then_law a b = both_law a b (λ y m j s t. tt)
+
 -- ---- nodes
 
 -- a node that is made of what is spelled
@@ -343,6 +347,9 @@ Made {A} f P y i j = (x : A) × (y ≡ f x) × P x i j
 -- a node that is spelled as what it is made of
 pub made_as : {A B : Type 0} (R : Form B) (f : A → B) (y : B) (i j : Words) → Made f (λ x. R (f x)) y i j → R y i j
 made_as {B = B} R f y i j s = let F : B → Type 0 = λ z. R z i j in subst F (sym s.1) s.2
+
+pub made_complete : {A B : Type 0} (f : A → B) {p : Parser A} {P : Form A} {S : Words → Type 0} → Complete p P S → Complete (made f p) (Made f P) S
+made_complete f {p = p} a y i j s t = bind_is (p i) (λ x k. read_as (f x) k) s.0 j (a s.0 i j s.2 t) ∙ ap (λ z. read_as z j) (sym s.1)
 
 module _ {A B : Type 0} (f : A → B) {p : Parser A} {P M : Form A} {S : Words → Type 0} {e : A → A} (a : Rules p P M S e) where
   made_gives : (i : Words) (o : Outcome A) → Gives p P M S i o → Gives (made f p) (Made f P) (Made f M) S i (and_then o (λ x j. read_as (f x) j))
@@ -358,30 +365,29 @@ module _ {A B : Type 0} (f : A → B) {p : Parser A} {P M : Form A} {S : Words �
       t
 
 module _ {A B : Type 0} (f : A → B) {p : Parser A} {P M : Form A} {S : Words → Type 0} {e : A → A} {g : B → B} where
-  -- nodes made of what differs in places alone differ in these alone
-  module _ (like : (x y : A) → e x ≡ e y → g (f x) ≡ g (f y)) (a : Rules p P M S e) where
+  -- a node but for its places is made of what it is made of, but for its places
+  module _ (same : (x : A) → g (f x) ≡ f (e x)) (a : Rules p P M S e) where
     pub made_rules : Rules (made f p) (Made f P) (Made f M) S g
     made_rules = record {
       tells = λ i. made_gives f a i (p i) (a.tells i);
-      complete = λ y i j s t.
-          bind_is (p i) (λ x k. read_as (f x) k) s.0 j (a.complete s.0 i j s.2 t) ∙ ap (λ z. read_as z j) (sym s.1);
+      complete = made_complete f a.complete;
       moves = λ y i j k s t.
           let c = a.moves s.0 i j k s.2 t in
-          (f c.0, c.1, (c.0, refl, c.2), c.3, like c.0 s.0 c.4 ∙ sym (ap g s.1));
+          (f c.0, c.1, (c.0, refl, c.2), c.3, same c.0 ∙ ap f c.4 ∙ sym (same s.0) ∙ sym (ap g s.1));
       more = λ y i j s. (s.0, s.1, a.more s.0 i j s.2);
     }
 
-  pub made_law : ((x y : A) → e x ≡ e y → g (f x) ≡ g (f y)) → Law p P M S e → Law (made f p) (Made f P) (Made f M) S g
-  made_law like a = record { rules = made_rules like a.rules; one = let o = a.one in (f o.0, o.1, λ j t. (o.0, refl, o.2 j t)) }
+  pub made_law : ((x : A) → g (f x) ≡ f (e x)) → Law p P M S e → Law (made f p) (Made f P) (Made f M) S g
+  made_law same a = record { rules = made_rules same a.rules; one = let o = a.one in (f o.0, o.1, λ j t. (o.0, refl, o.2 j t)) }
 
   -- the node is spelled as what it is made of, with one more inside each other too
-  module _ (R O : Form B) (like : (x y : A) → e x ≡ e y → g (f x) ≡ g (f y)) (to : (y : B) (i j : Words) → Made f P y i j → R y i j)
+  module _ (R O : Form B) (same : (x : A) → g (f x) ≡ f (e x)) (to : (y : B) (i j : Words) → Made f P y i j → R y i j)
       (from : (y : B) (i j : Words) → R y i j → Made f P y i j) (to_more : (y : B) (i j : Words) → Made f M y i j → O y i j) where
     pub node_rules : Rules p P M S e → Rules (made f p) R O S g
-    node_rules a = as_rules to from to_more (made_rules like a)
+    node_rules a = as_rules to from to_more (made_rules same a)
 
     pub node_law : Law p P M S e → Law (made f p) R O S g
-    node_law a = as_law to from to_more (made_law like a)
+    node_law a = as_law to from to_more (made_law same a)
 
 -- ---- marks that the node drops
 
@@ -411,7 +417,7 @@ module _ {A : Type 0} (m : Mark) {p : Parser A} {P M : Form A} {S : Words → Ty
   behind_law =
       same_law (λ i. second_alone (expect m i) p)
       (as_law (behind_to P) (λ x i j s. ((s.0, x), refl, (s.1, s.2, s.3))) (behind_to M)
-      (made_law (λ (z : Spelling × A). z.1) (λ x y n. ap (λ (z : Spelling × A). z.1) n) (both_law (mark_law m) a (λ y k j s t. tt))))
+      (made_law (λ (z : Spelling × A). z.1) (λ x. refl) (both_law (mark_law m) a (λ y k j s t. tt))))
 
   before_to : (R : Form A) (x : A) (i j : Words) → Made (λ (z : A × Spelling). z.0) (Both R (IsMark m)) x i j → Before R m x i j
   before_to R x i j s =
@@ -424,7 +430,7 @@ module _ {A : Type 0} (m : Mark) {p : Parser A} {P M : Form A} {S : Words → Ty
   before_law at =
       same_law (λ i. first_alone (p i) (λ _. expect m))
       (as_law (before_to P) (λ x i j s. ((x, s.0), refl, (Fixed m s.0 ∷ j, s.1, refl))) (before_to M)
-      (made_law (λ (z : A × Spelling). z.0) (λ x y n. ap (λ (z : A × Spelling). z.0) n) (both_law a (mark_law m) (λ s k j n t. subst S (sym n) (at s j)))))
+      (made_law (λ (z : A × Spelling). z.0) (λ x. refl) (both_law a (mark_law m) (λ s k j n t. subst S (sym n) (at s j)))))
 
 -- ---- a choice
 
@@ -559,7 +565,7 @@ module _ {A : Type 0} {begins : Words → Bool} {p : Parser (Option A)} {P M : F
       same_law (λ i. ap (λ q. q i) a.is) (record {
         rules =
             as_rules (optional_to P) (optional_from P) (optional_to M)
-            (either_rules begins a.looks (made_rules Some (λ x y n. ap Some n) (stops_rules (λ j t. t.0) a.rules)) (nothing_law None).rules
+            (either_rules begins a.looks (made_rules Some (λ x. refl) (stops_rules (λ j t. t.0) a.rules)) (nothing_law None).rules
             (λ x i j s. a.starts s.0 i j s.2) (λ x i j s t. ap begins s.1 ∙ t.1));
         one = (None, [], λ j t. refl);
       })

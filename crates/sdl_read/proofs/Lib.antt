@@ -1,7 +1,9 @@
+pub mod AllLaws
 pub mod ChainLemmas
 pub mod ClosingLaws
 pub mod Depth
 pub mod ExpressionLaws
+pub mod Grammar
 pub mod Laws
 pub mod LevelLemmas
 pub mod ListLaws
@@ -11,4 +13,5 @@ pub mod SignalLaws
 pub mod Steps
 pub mod TokenLemmas
 pub mod Turns
+pub mod WayLaws
 pub mod WordLemmas

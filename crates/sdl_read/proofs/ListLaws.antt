@@ -1,19 +1,10 @@
 -- The laws of lists, for any item: items up to one that is the last, if such a one stands there; `{x}`; `x {"," x}`.
 use Rattle.std.proofs.Common.{◌≡◌, ℕ, zero, suc, ◌+◌, ◌<◌, ◌≤◌, ◌⊎◌, inl, inr, Bool, true, false, if◌then◌else◌, List, [], ◌∷◌, ◌++◌, length, map, Option, Some, None, option_map, Ok, Err, true≢false, refl, sym, ap, ◌∙◌, subst, arith, append_assoc, append-nil, length-append}
-use Rattle.sdl_tree.specs.Alike.{AreAlike}
+use Rattle.sdl_read.proofs.Grammar.{AreAlike, Spelling, Both, Behind, Optional, Separated, Repeated, Enclosed, Word, Words, Fixed, Parser, Outcome, Refused, Deep, Barred, front, rest, and_then, pure, expect, same_mark, sees, after, ◌⊗◌, behind, before, made, maybe, turns, separated_from, separated, enclosed, repeated_by, repeated_from, repeated}
 use Rattle.sdl_tree.specs.declared.mark.Mark.TheVariants as mark
-use Rattle.sdl_tree.specs.declared.name.Spelling.{Spelling}
-use Rattle.sdl_tree.specs.Spells.Parts.{Both, Behind, Optional, Separated, Repeated, Enclosed}
-use Rattle.sdl_tree.specs.Words.{Word, Words, Fixed}
-use Rattle.sdl_read.specs.Reading.{Parser, Outcome, Refused, Deep, Barred, front, rest, and_then, pure, expect, same_mark, sees, after, ◌⊗◌, behind, before, made, maybe, turns, separated_from, separated, enclosed, repeated_by, repeated_from, repeated}
 use Rattle.sdl_read.proofs.Depth.{SameFront, TooMany, passed_front, front_behind, renamed, onward}
 use Rattle.sdl_read.proofs.Laws.{Form, GoodAfter, IsRead, Told, Gives, Rules, Law, MaybeLaw, Anywhere, Takes, Made, was_read, sound, spelled_again, later, as_law, same_law, both_law, behind_law, before_law, made_rules, made_law, as_rules, maybe_law, passes, some_read}
-use Rattle.sdl_read.proofs.Steps.{read_as, none_as, some_as, same_rest, as_read, not_read, not_refused, not_some, bind_is, if_true, if_false, sees_ok, sees_at, sees_front, after_seen, after_other, rest_again, expect_again, alike_from}
-
--- of two beginnings of the same words, which is the longer
-abbrev first_word : Word → Words → Word
-first_word v [] = v
-first_word v (w ∷ i) = w
+use Rattle.sdl_read.proofs.Steps.{read_as, none_as, some_as, same_rest, as_read, not_read, not_refused, not_some, bind_is, if_true, if_false, sees_ok, sees_at, sees_front, after_seen, after_other, rest_again, expect_again, alike_from, first_word}
 
 split : (a b c d : Words) → a ++ b ≡ c ++ d
     → ((w : Words) × (c ≡ a ++ w) × (b ≡ w ++ d)) ⊎ ((v : Word) × (w : Words) × (a ≡ c ++ v ∷ w) × (d ≡ v ∷ (w ++ b)))
@@ -390,7 +381,7 @@ module _ {A : Type 0} {begins : Words → Bool} {p : Parser (Option A)} {P M : F
   alone = record {
     item = made goes_on a.item;
     is = refl;
-    rules = as_rules (alone_to P) (alone_from P) (alone_to M) (made_rules goes_on (λ x y n. ap goes_on n) a.rules);
+    rules = as_rules (alone_to P) (alone_from P) (alone_to M) (made_rules goes_on (λ x. refl) a.rules);
     starts = starts_alone;
     looks = a.looks;
     ends = a.ends;
@@ -440,7 +431,7 @@ module _ {A : Type 0} {begins : Words → Bool} {p : Parser (Option A)} {P M : F
   repeated_open_law =
       same_law (λ i. unpaired (repeated p i))
       (as_law (all_to P) (λ xs i j s. (list_of xs None, refl, (j, s, refl))) (all_to M)
-      (made_law items (λ x y n. ap items n) (until_open_law alone weak_alone at_start weaker last from from_none from_turn)))
+      (made_law items (λ x. refl) (until_open_law alone weak_alone at_start weaker last from from_none from_turn)))
 
 -- an item stops where another begins
 module _ {A : Type 0} {begins : Words → Bool} {p : Parser (Option A)} {P M : Form A} {S : Words → Type 0} {e : A → A} (a : MaybeLaw p P M S begins e)
@@ -460,7 +451,7 @@ no_comma_last : sees mark.Comma [] ≡ false
 unfolding sees front
 no_comma_last = refl
 
-no_comma_at_close : (s : Spelling) (j : Words) → sees mark.Comma (Fixed mark.Close s ∷ j) ≡ false
+pub no_comma_at_close : (s : Spelling) (j : Words) → sees mark.Comma (Fixed mark.Close s ∷ j) ≡ false
 unfolding sees front same_mark
 no_comma_at_close s j = refl
 
@@ -616,7 +607,7 @@ module _ {A : Type 0} {item : Parser A} {P M : Form A} {S : Words → Type 0} {e
   joined_law : Law (made (joined item) (item ⊗ repeated (another item))) (Separated P) (Separated M) (λ j. S j × (sees mark.Comma j ≡ false)) (map e)
   joined_law =
       as_law (joined_to P) joined_from (joined_to M)
-      (made_law (joined item) (λ x y n. ap (joined item) n) (both_law a (repeated_law another_law comma_stops last) others_stop))
+      (made_law (joined item) (λ x. refl) (both_law a (repeated_law another_law comma_stops last) others_stop))
 
   reads_on : (i : Words) (x : A) (m : Words) → item i ≡ read_as x m → length m ≤ length i
   reads_on i x m s = let r = was_read a.rules i x m s in let same = ap length r.at ∙ length-append r.taken m in omega (arith, same)
@@ -665,3 +656,9 @@ pub separated_takes : {A : Type 0} (P : Form A) → Takes P → Takes (Separated
 separated_takes P takes [] j s = s
 separated_takes P takes (x ∷ []) j s = takes x j s
 separated_takes P takes (x ∷ y ∷ ys) j s = takes x (Fixed mark.Comma s.0 ∷ s.1) s.2
+
+-- a list begins as its first item does
+pub separated_begins : {A : Type 0} (P : Form A) (Q : Words → Type 0) → ((x : A) (i j : Words) → P x i j → Q i) → (xs : List A) (i j : Words) → Separated P xs i j → Q i
+separated_begins P Q first [] i j s = absurd s
+separated_begins P Q first (x ∷ []) i j s = first x i j s
+separated_begins P Q first (x ∷ y ∷ ys) i j s = first x i (Fixed mark.Comma s.0 ∷ s.1) s.2

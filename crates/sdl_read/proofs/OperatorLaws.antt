@@ -1,20 +1,10 @@
 -- Operators and keyword operands, and their marks.
 use Rattle.std.proofs.Common.{◌≡◌, ℕ, ◌<◌, ◌≤◌, ◌==◌, inl, inr, true, false, is_some, [], ◌∷◌, Option, Some, None, Ok, Err, refl, sym, ap, ◌∙◌, arith}
 use Rattle.std.proofs.lemmas.Bool.Decides.{nat_tests}
-use Rattle.sdl_tree.specs.declared.expressions.KeywordValue.{KeywordValue}
+use Rattle.sdl_read.proofs.Grammar.{KeywordValue, UnaryOperator, Operator, Mark, Spelling, erased_word, plain, looseness, operator_mark, value_mark, unary_mark, IsMark, Words, Fixed, Outcome, Refused, and_then, on, mark_by, front, mark_at, expect, operator_of, by_mark, of_level, operator_at, value_of, value_at, unary_of, unary_at, marked, sees_operator}
 use Rattle.sdl_tree.specs.declared.expressions.KeywordValue.TheVariants as value
-use Rattle.sdl_tree.specs.declared.expressions.UnaryOperator.{UnaryOperator}
 use Rattle.sdl_tree.specs.declared.expressions.UnaryOperator.TheVariants as unary
-use Rattle.sdl_tree.specs.declared.expressions.Operator.{Operator}
 use Rattle.sdl_tree.specs.declared.expressions.Operator.TheVariants as operator
-use Rattle.sdl_tree.specs.declared.mark.Mark.{Mark}
-use Rattle.sdl_tree.specs.declared.name.Spelling.{Spelling}
-use Rattle.sdl_tree.specs.Erased.{erased_word, plain}
-use Rattle.sdl_tree.specs.Spells.Expressions.{looseness, operator_mark, value_mark, unary_mark}
-use Rattle.sdl_tree.specs.Spells.Parts.{IsMark}
-use Rattle.sdl_tree.specs.Words.{Words, Fixed}
-use Rattle.sdl_read.specs.Reading.{Outcome, Refused, and_then, on, mark_by, front, mark_at, expect}
-use Rattle.sdl_read.specs.Expressions.{operator_of, by_mark, of_level, operator_at, value_of, value_at, unary_of, unary_at, marked, sees_operator}
 use Rattle.sdl_read.proofs.Depth.{SameFront, no_deeper}
 use Rattle.sdl_read.proofs.Laws.{Form, Gives, Rules, Law, Anywhere, still, mark_law}
 use Rattle.sdl_read.proofs.Steps.{read_as, rest_here, bind_is, chosen, if_true, if_false, expect_again, alike_fixed, alike_from}

@@ -1,18 +1,12 @@
 -- The laws of the productions that stand in many others.
 use Rattle.std.proofs.Common.{◌≡◌, ◌⊎◌, inl, inr, true, false, List, [], ◌∷◌, map, pos, refl, sym, ap, ◌∙◌, subst}
 use Rattle.sdl_tree.specs.declared.mark.Mark.TheVariants as mark
-use Rattle.sdl_tree.specs.declared.name.Spelling.{Spelling}
-use Rattle.sdl_tree.specs.Erased.{plain, erased_name, erased_number, erased_item}
-use Rattle.sdl_tree.specs.Spells.Parts.{IsMark, Both, Behind, Before, Enclosed, InParentheses, SpellsName, SpellsNumber, SpellsEnd, SpellsSig}
-use Rattle.sdl_tree.specs.Tree.{Number, SignalListItem, SignalItem, ListItem}
-use Rattle.sdl_tree.specs.Words.{Words, Spot, Fixed}
+use Rattle.sdl_read.proofs.Grammar.{Spelling, plain, erased_name, erased_number, erased_item, IsMark, Both, Behind, Before, Enclosed, InParentheses, SpellsName, SpellsNumber, SpellsEnd, SpellsSig, Number, SignalListItem, SignalItem, ListItem, Words, Spot, Fixed, Parser, front, rest, sees, same_mark, is_name, sees_name, name, number, text, enclosed, in_parentheses, end, sig}
 use Rattle.sdl_tree.specs.Words as word
-use Rattle.sdl_read.specs.Reading.{Parser, front, rest, sees, same_mark, is_name, sees_name, name, number, text, enclosed, in_parentheses}
-use Rattle.sdl_read.specs.Parts.{end, sig}
 use Rattle.sdl_read.proofs.Depth.{SameFront}
-use Rattle.sdl_read.proofs.Laws.{Form, Gives, Law, Anywhere, Takes, Made, Nothing, as_law, stops_law, single_law, mark_law, nothing_law, both_law, behind_law, before_law, made_law, either_law}
-use Rattle.sdl_read.proofs.ListLaws.{separated_law}
-use Rattle.sdl_read.proofs.Steps.{read_as, no_words, rest_here, sees_front, sees_at, alike_name, alike_number, alike_text, alike_from}
+use Rattle.sdl_read.proofs.Laws.{Form, Gives, Law, Anywhere, Takes, Made, Nothing, as_law, stops_law, single_law, mark_law, nothing_law, behind_law, before_law, made_law, either_law, either_as, made_as, then_law}
+use Rattle.sdl_read.proofs.ListLaws.{no_comma_at_close, separated_law}
+use Rattle.sdl_read.proofs.Steps.{no_words, rest_here, sees_front, sees_at, alike_name, alike_number, alike_text, alike_from}
 
 -- ---- single words
 
@@ -26,23 +20,17 @@ name_tells [] = rest_here []
 name_tells (word.Name x ∷ i) = record { taken = word.Name x ∷ []; at = refl; again = λ k g. refl; spelled = refl }
 name_tells (w ∷ i) = rest_here (w ∷ i)
 
-name_again : (x : Spot) (i : Words) → name (word.Name x ∷ i) ≡ read_as x i
-unfolding name front rest
-name_again x i = refl
-
 -- a name, of which what is kept depends on its text alone
 pub name_as : (erased : Spot → Spot) → ((x y : Spot) → x.text ≡ y.text → erased x ≡ erased y) → Law name SpellsName SpellsName Anywhere erased
+unfolding name front rest
 name_as erased same = single_law
     name_tells
-    (λ x i j e. ap name e ∙ name_again x j)
+    (λ x i j e. ap name e)
     (λ x i j k e t. let a = alike_name x j k (alike_from i (word.Name x ∷ j) k e t) in (a.0, a.1, a.2, a.3, same a.0 x a.4))
     (nameless, word.Name nameless ∷ [], λ j t. refl)
 
-abbrev same_name : (x y : Spot) → x.text ≡ y.text → erased_name x ≡ erased_name y
-same_name x y e = λ i. record { text = e i; place = (erased_name x).place }
-
 pub name_law : Law name SpellsName SpellsName Anywhere erased_name
-name_law = name_as erased_name same_name
+name_law = name_as erased_name (λ x y e n. record { text = e n; place = (erased_name x).place })
 
 number_tells : (i : Words) → Gives number SpellsNumber SpellsNumber Anywhere i (number i)
 unfolding number front rest
@@ -50,14 +38,11 @@ number_tells [] = rest_here []
 number_tells (word.Number n x ∷ i) = record { taken = word.Number n x ∷ []; at = refl; again = λ k g. refl; spelled = refl }
 number_tells (w ∷ i) = rest_here (w ∷ i)
 
-number_again : (x : Number) (i : Words) → number (word.Number x.value x.digits ∷ i) ≡ read_as x i
-unfolding number front rest
-number_again x i = refl
-
 pub number_law : Law number SpellsNumber SpellsNumber Anywhere erased_number
+unfolding number front rest
 number_law = single_law
     number_tells
-    (λ x i j e. ap number e ∙ number_again x j)
+    (λ x i j e. ap number e)
     (λ x i j k e t.
     let a = alike_number x j k (alike_from i (word.Number x.value x.digits ∷ j) k e t) in
     (a.0, a.1, a.2, a.3, λ n. erased_number (record { value = a.4 n; digits = x.digits })))
@@ -76,14 +61,11 @@ text_tells [] = rest_here []
 text_tells (word.Text x ∷ i) = record { taken = word.Text x ∷ []; at = refl; again = λ k g. refl; spelled = (x, refl) }
 text_tells (w ∷ i) = rest_here (w ∷ i)
 
-text_again : (x : Spot) (i : Words) → text (word.Text x ∷ i) ≡ read_as tt i
-unfolding text front rest
-text_again x i = refl
-
 text_law : Law text SpellsText SpellsText Anywhere whole
+unfolding text front rest
 text_law = single_law
     text_tells
-    (λ u i j e. ap text e.1 ∙ text_again e.0 j)
+    (λ u i j e. ap text e.1)
     (λ u i j k e t. let a = alike_text e.0 j k (alike_from i (word.Text e.0 ∷ j) k e.1 t) in (tt, a.1, (a.0, a.2), a.3, refl))
     (tt, word.Text nameless ∷ [], λ j t. (nameless, refl))
 
@@ -102,13 +84,6 @@ DropsEnd u i j = SpellsEnd i j
 abbrev DropsComment : (Spelling × (Unit {0} × Spelling)) → Words → Words → Type 0
 DropsComment = Both (IsMark mark.Comment) (Both SpellsText (IsMark mark.Semicolon))
 
-begins_comment : (u : Unit {0}) (i j : Words) → Made (λ _. tt) DropsComment u i j → sees mark.Comment i ≡ true
-begins_comment u i j s = sees_at mark.Comment s.0.0 i s.2.0 s.2.1
-
-no_comment : (u : Unit {0}) (i j : Words) → Made (λ _. tt) (IsMark mark.Semicolon) u i j → sees mark.Comment i ≡ false
-unfolding sees front same_mark
-no_comment u i j s = ap (sees mark.Comment) s.2
-
 end_to : (u : Unit {0}) (i j : Words) → Made (λ _. tt) DropsComment u i j ⊎ Made (λ _. tt) (IsMark mark.Semicolon) u i j → SpellsEnd i j
 end_to u i j (inl s) =
     let c = s.2 in let x = c.2 in
@@ -120,13 +95,13 @@ end_from u i j (inl s) = inr (s.0, refl, s.1)
 end_from u i j (inr s) = inl ((s.0, (tt, s.1)), refl, (word.Text s.2 ∷ Fixed mark.Semicolon s.1 ∷ j, s.3, (Fixed mark.Semicolon s.1 ∷ j, (s.2, refl), refl)))
 
 pub end_law : Law end DropsEnd DropsEnd Anywhere whole
-unfolding end
+unfolding end sees front same_mark
 end_law =
     as_law end_to end_from end_to
     (either_law (sees mark.Comment) (sees_front mark.Comment)
-    (made_law (λ _. tt) (λ x y e. refl) (both_law (mark_law mark.Comment) (both_law text_law (mark_law mark.Semicolon) (λ y m j s t. tt)) (λ y m j s t. tt)))
-    (made_law (λ _. tt) (λ x y e. refl) (mark_law mark.Semicolon))
-    begins_comment (λ u i j s t. no_comment u i j s))
+    (made_law (λ _. tt) (λ x. refl) (then_law (mark_law mark.Comment) (then_law text_law (mark_law mark.Semicolon))))
+    (made_law (λ _. tt) (λ x. refl) (mark_law mark.Semicolon))
+    (λ u i j s. sees_at mark.Comment s.0.0 i s.2.0 s.2.1) (λ u i j s t. ap (sees mark.Comment) s.2))
 
 -- what an end begins with goes on with no list and no expression
 pub end_begins : (P : Words → Type 0) → ((s : Spelling) (m : Words) → P (Fixed mark.Semicolon s ∷ m)) → ((s : Spelling) (m : Words) → P (Fixed mark.Comment s ∷ m))
@@ -135,10 +110,6 @@ end_begins P at_semicolon at_comment i j (inl s) = subst P (sym s.1) (at_semicol
 end_begins P at_semicolon at_comment i j (inr s) = subst P (sym s.3) (at_comment s.0 (word.Text s.2 ∷ Fixed mark.Semicolon s.1 ∷ j))
 
 -- ---- "(" x {"," x} ")"
-
-close_no_comma : (s : Spelling) (j : Words) → sees mark.Comma (Fixed mark.Close s ∷ j) ≡ false
-unfolding sees front same_mark
-close_no_comma s j = refl
 
 module _ {A : Type 0} (P : A → Words → Words → Type 0) where
   pub opens_list : (xs : List A) (i j : Words) → Enclosed P xs i j → sees mark.Open i ≡ true
@@ -164,7 +135,7 @@ maybe_enclosed item {P = P} {M = M} a =
 module _ {A : Type 0} {item : Parser A} {P M : Form A} {S : Words → Type 0} {e : A → A} (a : Law item P M S e) (takes : Takes P)
     (at_comma : (s : Spelling) (m : Words) → S (Fixed mark.Comma s ∷ m)) (at_close : (s : Spelling) (m : Words) → S (Fixed mark.Close s ∷ m)) (last : S []) where
   pub enclosed_law : Law (enclosed item) (Enclosed P) (Enclosed M) Anywhere (map e)
-  enclosed_law = behind_law mark.Open (before_law mark.Close (separated_law a takes at_comma last) (λ s j. (at_close s j, close_no_comma s j)))
+  enclosed_law = behind_law mark.Open (before_law mark.Close (separated_law a takes at_comma last) (λ s j. (at_close s j, no_comma_at_close s j)))
 
   -- and not at a parenthesis
   pub in_parentheses_law : Law (in_parentheses item) (InParentheses P) (InParentheses M) (λ j. sees mark.Open j ≡ false) (map e)
@@ -175,17 +146,13 @@ module _ {A : Type 0} {item : Parser A} {P M : Form A} {S : Words → Type 0} {e
 pub sig_law : Law sig SpellsSig SpellsSig Anywhere erased_item
 unfolding sig sees front same_mark
 sig_law =
-    as_law sig_to sig_from sig_to
+    as_law (either_as (made_as SpellsSig ListItem) (made_as SpellsSig SignalItem)) sig_from (either_as (made_as SpellsSig ListItem) (made_as SpellsSig SignalItem))
     (either_law (sees mark.Open) (sees_front mark.Open)
-    (made_law ListItem (λ x y e. ap ListItem e) (behind_law mark.Open (before_law mark.Close name_law (λ s j. tt))))
-    (made_law SignalItem (λ x y e. ap SignalItem e) name_law)
+    (made_law ListItem (λ x. refl) (behind_law mark.Open (before_law mark.Close name_law (λ s j. tt))))
+    (made_law SignalItem (λ x. refl) name_law)
     (λ x i j s. sees_at mark.Open s.2.0 i s.2.1 s.2.2)
     (λ x i j s t. ap (sees mark.Open) s.2))
   where
-    sig_to : (x : SignalListItem) (i j : Words) → Made ListItem (Behind mark.Open (Before SpellsName mark.Close)) x i j ⊎ Made SignalItem SpellsName x i j → SpellsSig x i j
-    sig_to x i j (inl s) = let Q : SignalListItem → Type 0 = λ y. SpellsSig y i j in subst Q (sym s.1) s.2
-    sig_to x i j (inr s) = let Q : SignalListItem → Type 0 = λ y. SpellsSig y i j in subst Q (sym s.1) s.2
-
     sig_from : (x : SignalListItem) (i j : Words) → SpellsSig x i j → Made ListItem (Behind mark.Open (Before SpellsName mark.Close)) x i j ⊎ Made SignalItem SpellsName x i j
     sig_from (SignalItem x) i j s = inr (x, refl, s)
     sig_from (ListItem x) i j s = inl (x, refl, s)

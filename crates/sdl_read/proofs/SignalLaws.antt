@@ -1,29 +1,21 @@
 -- The laws of more ways to put readings together, of what closes a construct, and of signals.
 use Rattle.std.proofs.Common.{◌≡◌, ◌⊎◌, inl, inr, Bool, true, false, ◌||◌, List, [], ◌∷◌, map, refl, sym, ap, ◌∙◌, subst, true≢false}
-use Rattle.sdl_tree.specs.declared.mark.Mark.{Mark}
+use Rattle.sdl_read.proofs.Grammar.{Mark, erased_sort, erased_item, erased_signal, erased_signal_list, erased_signal_set, SpellsSignalName, SpellsSignal, SpellsSignalList, SpellsSignalSet, InParentheses, Begins, SpellsName, Ended, SpellsSig, SpellsSigs, sort_of, SignalItem, ListItem, Words, Parser, made, either, maybe, front, rest, sees, sees_name, same_mark, name, separated, in_parentheses, ended, sees_one, signal_with, signal_name, signal, sig, signal_list_with, signal_list, signal_set_with, signal_set}
 use Rattle.sdl_tree.specs.declared.mark.Mark.TheVariants as mark
-use Rattle.sdl_tree.specs.declared.name.Spelling.{Spelling}
-use Rattle.sdl_tree.specs.Erased.{erased_name, erased_sort, erased_item, erased_signal, erased_signal_list, erased_signal_set}
-use Rattle.sdl_tree.specs.Spells.{SpellsSignalName, SpellsSignal, SpellsSignalList, SpellsSignalSet}
-use Rattle.sdl_tree.specs.Spells.Parts.{Both, Behind, Separated, InParentheses, Begins, SpellsName, Ended, SpellsSig, SpellsSigs, sort_of}
-use Rattle.sdl_tree.specs.Tree.{SignalItem, ListItem}
-use Rattle.sdl_tree.specs.Words.{Words, Spot, Fixed}
-use Rattle.sdl_read.specs.Reading.{Parser, ◌⊗◌, behind, made, either, maybe, front, sees, same_mark, name, separated, in_parentheses}
-use Rattle.sdl_read.specs.Parts.{ended, sees_one, signal_with, signal_name, signal, sig, signal_list_with, signal_list, signal_set_with, signal_set}
 use Rattle.sdl_read.proofs.Depth.{SameFront}
-use Rattle.sdl_read.proofs.Laws.{Form, Rules, Law, MaybeLaw, Anywhere, Takes, Made, Or, either_as, as_law, mark_law, both_law, behind_law, made_law, first_law, maybe_law}
+use Rattle.sdl_read.proofs.Laws.{Form, Rules, Law, MaybeLaw, Anywhere, Takes, Made, Or, either_as, as_law, mark_law, behind_law, made_law, first_law, maybe_law, then_law}
 use Rattle.sdl_read.proofs.ListLaws.{separated_law}
 use Rattle.sdl_read.proofs.PartLaws.{name_as, name_law, name_takes, in_parentheses_law, sig_law}
 use Rattle.sdl_read.proofs.ClosingLaws.{ended_at_law}
-use Rattle.sdl_read.proofs.Steps.{no_words, sees_at, sees_front}
+use Rattle.sdl_read.proofs.Steps.{no_words, true_or_false, sees_ok, sees_at, sees_front}
 
 -- ---- nodes that are records
 
 -- a record is made of its fields
 module _ {A B : Type 0} (f : A → B) (fields : B → A) {p : Parser A} {P M : Form A} {S : Words → Type 0} {e : A → A} {g : B → B} where
-  pub record_law : ((x y : A) → e x ≡ e y → g (f x) ≡ g (f y)) → ((x : A) → fields (f x) ≡ x) → ((y : B) → f (fields y) ≡ y)
+  pub record_law : ((x : A) → g (f x) ≡ f (e x)) → ((x : A) → fields (f x) ≡ x) → ((y : B) → f (fields y) ≡ y)
       → Law p P M S e → Law (made f p) (λ y i j. P (fields y) i j) (λ y i j. M (fields y) i j) S g
-  record_law like again back a = as_law (spelled P) (λ y i j s. (fields y, sym (back y), s)) (spelled M) (made_law f like a)
+  record_law same again back a = as_law (spelled P) (λ y i j s. (fields y, sym (back y), s)) (spelled M) (made_law f same a)
     where
       spelled : (R : Form A) (y : B) (i j : Words) → Made f R y i j → R (fields y) i j
       spelled R y i j s = let Q : A → Type 0 = λ x. R x i j in subst Q (sym (again s.0) ∙ ap fields (sym s.1)) s.2
@@ -77,6 +69,32 @@ begins_unseen m [] i none b = absurd b
 begins_unseen m (n ∷ ns) i none (inl b) = other_mark m n i b (none_left (same_mark n m) (has_mark m ns) none)
 begins_unseen m (n ∷ ns) i none (inr b) = begins_unseen m ns i (none_right (same_mark n m) (has_mark m ns) none) b
 
+-- one of them that is seen stands there
+pub seen_begins : (ms : List Mark) (i : Words) → sees_one ms i ≡ true → BeginsOne ms i
+seen_begins [] i e = absurd (true≢false (sym e))
+seen_begins (m ∷ ms) i e = elim (true_or_false (sees m i)) as (λ _. BeginsOne (m ∷ ms) i) [
+  | inl t ↦ let at = sees_ok m i t in inl (at.0, rest i, at.1)
+  | inr t ↦ inr (seen_begins ms i (sym (ap (λ b. b || sees_one ms i) t) ∙ e))
+]
+
+abbrev pub have_mark : List Mark → List Mark → Bool
+have_mark [] ns = false
+have_mark (m ∷ ms) ns = has_mark m ns || have_mark ms ns
+
+-- nor do marks of which none is one of them
+pub others_unseen : (ms ns : List Mark) (i : Words) → have_mark ms ns ≡ false → BeginsOne ns i → sees_one ms i ≡ false
+others_unseen [] ns i none b = refl
+others_unseen (m ∷ ms) ns i none b =
+    let first = begins_unseen m ns i (none_left (has_mark m ns) (have_mark ms ns) none) b in
+    let others = others_unseen ms ns i (none_right (has_mark m ns) (have_mark ms ns) none) b in λ n. first n || others n
+
+-- nor a name
+pub begins_unnamed : (ms : List Mark) (i : Words) → BeginsOne ms i → sees_name i ≡ false
+unfolding sees_name front
+begins_unnamed [] i b = absurd b
+begins_unnamed (m ∷ ms) i (inl b) = ap sees_name b.2
+begins_unnamed (m ∷ ms) i (inr b) = begins_unnamed ms i b
+
 -- what stands next says which of the marks does
 pub one_front : (ms : List Mark) (i k : Words) → SameFront i k → sees_one ms i ≡ sees_one ms k
 one_front [] i k same = refl
@@ -115,19 +133,6 @@ module _ {A : Type 0} (m : Mark) (ms : List Mark) {p q : Parser A} {P M Q N : Fo
   pub or_choice : has_mark m ms ≡ false → Law p P M S e → Opens m P → Choice q Q N S ms e → Choice (either (sees m) p q) (Or P Q) (Or M N) S (m ∷ ms) e
   or_choice none a opens b = or_rules none a opens b.law.rules b.begins
 
-pub made_opens : {A B : Type 0} (f : A → B) (m : Mark) (P : Form A) → Opens m P → Opens m (Made f P)
-made_opens f m P opens y i j s = opens s.0 i j s.2
-
--- what holds at each of the marks holds where one of them begins
-abbrev pub AtEach : (Words → Type 0) → List Mark → Type 0
-AtEach Q [] = Unit {0}
-AtEach Q (m ∷ ms) = ((s : Spelling) (k : Words) → Q (Fixed m s ∷ k)) × AtEach Q ms
-
-pub at_one : (Q : Words → Type 0) (ms : List Mark) → AtEach Q ms → (i : Words) → BeginsOne ms i → Q i
-at_one Q [] at i b = absurd b
-at_one Q (m ∷ ms) at i (inl b) = subst Q (sym b.2) (at.0 b.0 b.1)
-at_one Q (m ∷ ms) at i (inr b) = at_one Q ms at.1 i b
-
 -- another name for a choice
 pub as_choice : {A : Type 0} {p : Parser A} {P M R O : Form A} {S : Words → Type 0} {ms : List Mark} {e : A → A}
     → ((x : A) (i j : Words) → P x i j → R x i j) → ((x : A) (i j : Words) → R x i j → P x i j) → ((x : A) (i j : Words) → M x i j → O x i j)
@@ -141,12 +146,9 @@ maybe_choice ms c = maybe_law (sees_one ms) (one_front ms) c.law.rules (none_at_
 
 -- ---- signals
 
-same_sort : (x y : Spot) → x.text ≡ y.text → erased_sort x ≡ erased_sort y
-same_sort x y e = λ n. record { text = sort_of (e n); place = (erased_sort x).place }
-
 -- the name of a sort
 pub sort_law : Law name SpellsName SpellsName Anywhere erased_sort
-sort_law = name_as erased_sort same_sort
+sort_law = name_as erased_sort (λ x y e n. record { text = sort_of (e n); place = (erased_sort x).place })
 
 -- [sorts]
 pub sorts_law : Law (in_parentheses name) (InParentheses SpellsName) (InParentheses SpellsName) (λ j. sees mark.Open j ≡ false) (map erased_sort)
@@ -155,21 +157,12 @@ sorts_law = in_parentheses_law sort_law name_takes (λ s m. tt) (λ s m. tt) tt
 signal_name_law : Law signal_name SpellsSignalName SpellsSignalName (λ j. sees mark.Open j ≡ false) erased_signal
 unfolding signal_name
 signal_name_law =
-    record_law signal_with (λ y. (y.name, y.sorts)) (λ x y n. ap signal_with n) (λ x. refl) (λ y. refl) (both_law name_law sorts_law (λ y m j s t. tt))
-
-signal_name_takes : Takes SpellsSignalName
-signal_name_takes x j s = no_words s.1
-
-signal_names_law : Law (ended (separated signal_name)) (Ended (Separated SpellsSignalName)) (Ended (Separated SpellsSignalName)) Anywhere (map erased_signal)
-unfolding sees front same_mark
-signal_names_law = ended_at_law (separated_law signal_name_law signal_name_takes (λ s m. refl) refl) (λ s m. (refl, refl)) (λ s m. (refl, refl))
+    record_law signal_with (λ y. (y.name, y.sorts)) (λ x. refl) (λ x. refl) (λ y. refl) (then_law name_law sorts_law)
 
 pub signal_law : Law signal SpellsSignal SpellsSignal Anywhere (map erased_signal)
-unfolding signal
-signal_law = behind_law mark.Signal signal_names_law
-
-pub signal_opens : Opens mark.Signal SpellsSignal
-signal_opens x i j s = (s.0, s.1, s.2)
+unfolding signal sees front same_mark
+signal_law =
+    behind_law mark.Signal (ended_at_law (separated_law signal_name_law (λ x j s. no_words s.1) (λ s m. refl) refl) (λ s m. (refl, refl)) (λ s m. (refl, refl)))
 
 pub sig_takes : Takes SpellsSig
 sig_takes (SignalItem x) j s = no_words s
@@ -180,23 +173,14 @@ pub sigs_law : Law (ended (separated sig)) (Ended SpellsSigs) (Ended SpellsSigs)
 unfolding sees front same_mark
 sigs_law = ended_at_law (separated_law sig_law sig_takes (λ s m. tt) tt) (λ s m. (tt, refl)) (λ s m. (tt, refl))
 
-named_sigs_law : Law (name ⊗ behind mark.Equal (ended (separated sig))) (Both SpellsName (Behind mark.Equal (Ended SpellsSigs))) (Both SpellsName (Behind mark.Equal (Ended SpellsSigs))) Anywhere (λ x. (erased_name x.0, map erased_item x.1))
-named_sigs_law = both_law name_law (behind_law mark.Equal sigs_law) (λ y m j s t. tt)
-
 pub signal_list_law : Law signal_list SpellsSignalList SpellsSignalList Anywhere erased_signal_list
 unfolding signal_list
 signal_list_law =
-    record_law signal_list_with (λ y. (y.word, (y.name, y.items))) (λ x y n. ap signal_list_with n) (λ x. refl) (λ y. refl)
-    (both_law (mark_law mark.SignalList) named_sigs_law (λ y m j s t. tt))
-
-pub signal_list_opens : Opens mark.SignalList SpellsSignalList
-signal_list_opens x i j s = (x.word, s.0, s.1)
+    record_law signal_list_with (λ y. (y.word, (y.name, y.items))) (λ x. refl) (λ x. refl) (λ y. refl)
+    (then_law (mark_law mark.SignalList) (then_law name_law (behind_law mark.Equal sigs_law)))
 
 pub signal_set_law : Law signal_set SpellsSignalSet SpellsSignalSet Anywhere erased_signal_set
 unfolding signal_set
 signal_set_law =
-    record_law signal_set_with (λ y. (y.word, y.items)) (λ x y n. ap signal_set_with n) (λ x. refl) (λ y. refl)
-    (both_law (mark_law mark.SignalSet) sigs_law (λ y m j s t. tt))
-
-pub signal_set_opens : Opens mark.SignalSet SpellsSignalSet
-signal_set_opens x i j s = (x.word, s.0, s.1)
+    record_law signal_set_with (λ y. (y.word, y.items)) (λ x. refl) (λ x. refl) (λ y. refl)
+    (then_law (mark_law mark.SignalSet) sigs_law)

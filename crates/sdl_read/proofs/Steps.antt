@@ -2,14 +2,9 @@
 use Rattle.std.proofs.Common.{◌≡◌, ◌⊎◌, inl, inr, Bool, true, false, if◌then◌else◌, [], ◌∷◌, ◌++◌, Option, Some, None, Ok, Err, refl, sym, ap, ◌∙◌, subst, true≢false, append_assoc}
 use denote.Enum.Bare.{same_true, true_same}
 use Rattle.sdl_tree.specs.contracts.mark.Mark.{the_type}
-use Rattle.sdl_tree.specs.declared.mark.Mark.{Mark}
-use Rattle.sdl_tree.specs.declared.name.Spelling.{Spelling}
-use Rattle.sdl_tree.specs.Alike.{AreAlike}
-use Rattle.sdl_tree.specs.LeftOut.{IsBarred}
+use Rattle.sdl_read.proofs.Grammar.{Mark, Spelling, AreAlike, IsBarred, Word, Words, Spot, Fixed, Parser, Outcome, Refusal, Refused, Deep, Barred, and_then, is_fixed, front, rest, sees, after, same_mark, expect}
 use Rattle.sdl_tree.specs.Tree as plain
-use Rattle.sdl_tree.specs.Words.{Word, Words, Spot, Fixed}
 use Rattle.sdl_tree.specs.Words as word
-use Rattle.sdl_read.specs.Reading.{Parser, Outcome, Refusal, Refused, Deep, Barred, and_then, is_fixed, front, rest, sees, after, same_mark, expect}
 
 -- that this was read, up to the rest
 abbrev pub read_as : {A : Type 0} → A → Words → Outcome A
@@ -21,6 +16,11 @@ none_as j = Ok (None, j)
 
 abbrev pub some_as : {A : Type 0} → A → Words → Outcome (Option A)
 some_as x j = Ok (Some x, j)
+
+-- the first word, where there is one
+abbrev pub first_word : Word → Words → Word
+first_word v [] = v
+first_word v (w ∷ i) = w
 
 -- the second words are what is left of the first
 abbrev pub IsRest : Words → Words → Type 0

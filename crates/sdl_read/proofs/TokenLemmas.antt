@@ -15,9 +15,6 @@ InOrder-up from (t ∷ ts) to h = let later = InOrder-up t.end ts to h.2 in omeg
 opened : (from : ℕ) (all : List Token) (t : Token) (ts : List Token) (to : ℕ) → all ≡ t ∷ ts → InOrder from all to → InOrder from (t ∷ ts) to
 opened from all t ts to is h = let P : List Token → Type 0 = λ xs. InOrder from xs to in subst P is h
 
-pub first_starts : (from : ℕ) (all : List Token) (t : Token) (ts : List Token) (to : ℕ) → all ≡ t ∷ ts → InOrder from all to → from ≤ t.start
-first_starts from all t ts to is h = (opened from all t ts to is h).0
-
 pub first_ordered : (from : ℕ) (all : List Token) (t : Token) (ts : List Token) (to : ℕ) → all ≡ t ∷ ts → InOrder from all to → t.start < t.end
 first_ordered from all t ts to is h = (opened from all t ts to is h).1
 

@@ -7,7 +7,7 @@ use Rattle.sdl_lex.specs.Place.{place_after}
 use Rattle.sdl_lex.specs.Token.{IsSlice}
 use Rattle.sdl_tree.specs.Words as words
 use Rattle.sdl_read.specs.declared.word.PlacedWord.{PlacedWord}
-use Rattle.sdl_read.specs.PlacedWord.{word_of_placed}
+use Rattle.sdl_read.proofs.Grammar.{word_of_placed}
 use Rattle.sdl_read.proofs.Turns.{map_push}
 
 abbrev word_from : List ℕ → Token → Place → words.Word

@@ -6,7 +6,7 @@ use Rattle.std.specs.Map.{lookup}
 use Rattle.std.specs.Option.{option_or}
 use Rattle.std.specs.Str.{bytes_eq}
 use Rattle.std.proofs.lemmas.Grind.{flat_map-append}
-use Rattle.std.proofs.lemmas.List.{map-append, take_more}
+use Rattle.std.proofs.lemmas.List.{length-map, map-append, take_more}
 use Rattle.std.proofs.lemmas.Slice.Eq.{bytes_eq-Decides}
 use Rattle.sdl_scope.proofs.FaultLemmas.{both_noted}
 use Rattle.sdl_scope.proofs.NameLemmas.{lookup-append}
@@ -15,7 +15,7 @@ use Rattle.sdl_system.specs.declared.id.TableId.{TableId}
 use Rattle.sdl_tree.specs.Words.{Spot}
 use Rattle.sdl_stimuli.specs.Reading.{Part}
 use Rattle.sdl_states.specs.Outlined.{chosen, listed_part, parts_at, seen_in, with_turn}
-use Rattle.sdl_states.specs.Shared.{IsKnown, Keeps, faults_by, known_in, same_turn, same_turns, states_listed, table_at, table_by}
+use Rattle.sdl_states.specs.Shared.{AreShared, IsKnown, Keeps, KeepsKnown, faults_by, known_in, same_turn, same_turns, states_listed, table_at, table_by, turns_in}
 use Rattle.sdl_states.specs.States.{Table, mentions_in, named_faults, parts_of, state_faults, table_named, table_of, tables_of, twice_faults, with_parts}
 use Rattle.sdl_states.specs.Turned.{entry_kept, turns_found, turns_of}
 use Rattle.sdl_states.specs.declared.outline.Turn.{Turn}
@@ -151,6 +151,13 @@ turns-same (x ∷ xs) (y ∷ ys) same =
     let both = both-true (same_turn x y) (same_turns xs ys) same in
     ap (λ z. z ∷ xs) (turn-same x y both.0) ∙ ap (λ zs. y ∷ zs) (turns-same xs ys both.1)
 
+turn-itself : (a : Turn) → same_turn a a ≡ true
+turn-itself a = grind arith
+
+turns-themselves : (xs : List Turn) → same_turns xs xs ≡ true
+turns-themselves [] = refl
+turns-themselves (x ∷ xs) = ap (λ b. b && same_turns xs xs) (turn-itself x) ∙ turns-themselves xs
+
 get-kept : {A : Type 0} (xs ys : List A) (n : ℕ) (x : A) → slice_get xs n ≡ Some x → slice_get (xs ++ ys) n ≡ Some x
 get-kept [] ys n x h = cc
 get-kept (y ∷ xs) ys zero x h = h
@@ -199,6 +206,19 @@ module _ (parts : List Part) (stars : List ℕ) (turns : List Turn) (known : Lis
           (noted-again old (faults_by parts stars turns)))
     ];
   }
+
+-- what is known behind one more
+module _ (known : List (List Turn × TableId)) (turns : List Turn) (number : TableId) where
+  pub known-stays : KeepsKnown known (known ++ (turns, number) ∷ [])
+  known-stays other found h =
+      lookup-append (same_turns other) known ((turns, number) ∷ [])
+      ∙ ap (λ at. option_or at (lookup (same_turns other) ((turns, number) ∷ []))) h
+
+  pub known-found : known_in known turns ≡ None → known_in (known ++ (turns, number) ∷ []) turns ≡ Some number
+  known-found none =
+      lookup-append (same_turns turns) known ((turns, number) ∷ [])
+      ∙ ap (λ at. option_or at (lookup (same_turns turns) ((turns, number) ∷ []))) none
+      ∙ ap (λ b. cond b (Some number) None) (turns-themselves turns)
 
 -- nothing is known yet
 pub nothing-known : (parts : List Part) (stars : List ℕ) (told : Option Told) → IsKnown parts stars [] [] told
@@ -261,3 +281,62 @@ states-noted parts done name old now new before here =
     alone : (xs : List Told) → xs ++ [] ≡ xs
     alone [] = refl
     alone (x ∷ xs) = ap (λ ys. x ∷ ys) (alone xs)
+
+-- ---- states that share a table
+
+-- the table of the state at this place is known, by where its name stands
+pub record HasTable (parts : List Part) (known : List (List Turn × TableId)) (numbers : List TableId) (i : ℕ)
+    (name : Spot) : Type 0 where
+  pub number : TableId
+  pub is_known : known_in known (turns_in parts name) ≡ Some number
+  pub at : slice_get numbers i ≡ Some number
+
+-- so is that of each of these states
+abbrev pub HaveTables : List Part → List (List Turn × TableId) → List TableId → List Spot → Type 0
+HaveTables parts known numbers names =
+    (i : ℕ) (name : Spot) → slice_get names i ≡ Some name → HasTable parts known numbers i name
+
+get-either : {A : Type 0} (xs : List A) (y : A) (i : ℕ) (z : A) → slice_get (xs ++ y ∷ []) i ≡ Some z →
+    (slice_get xs i ≡ Some z) ⊎ ((i ≡ length xs) × (y ≡ z))
+get-either [] y zero z h = let e : y ≡ z = cc in inr (refl, e)
+get-either [] y (suc i) z h = cc
+get-either (x ∷ xs) y zero z h = inl h
+get-either (x ∷ xs) y (suc i) z h = elim (get-either xs y i z h) [
+  | inl e ↦ inl e
+  | inr e ↦ inr (ap suc e.0, e.1)
+]
+
+pub tables-had : (parts : List Part) (old new : List (List Turn × TableId)) (numbers : List TableId)
+    (number : TableId) (done : List Spot) (name : Spot) → KeepsKnown old new → length numbers ≡ length done →
+    HaveTables parts old numbers done → known_in new (turns_in parts name) ≡ Some number →
+    HaveTables parts new (numbers ++ number ∷ []) (done ++ name ∷ [])
+tables-had parts old new numbers number done name keeps size before here i other h =
+    elim (get-either done name i other h) [
+      | inl e ↦ was (before i other e)
+      | inr e ↦ record {
+        number = number;
+        is_known = subst (λ n. known_in new (turns_in parts n) ≡ Some number) e.1 here;
+        at = ap (slice_get (numbers ++ number ∷ [])) (e.0 ∙ sym size) ∙ get-behind numbers number [];
+      }
+    ]
+  where
+    was : HasTable parts old numbers i other → HasTable parts new (numbers ++ number ∷ []) i other
+    was had = record {
+      number = had.number;
+      is_known = keeps (turns_in parts other) had.number had.is_known;
+      at = get-kept numbers (number ∷ []) i had.number had.at;
+    }
+
+-- states whose names stand in the same state lists share it
+pub tables-shared : (parts : List Part) (known : List (List Turn × TableId)) (numbers : List TableId)
+    (names : List Spot) → HaveTables parts known numbers names → AreShared parts names numbers
+tables-shared parts known numbers names have i j one other at there same =
+    let here = have i one at in
+    let beside = have j other there in
+    here.at ∙ sym here.is_known ∙ ap (known_in known) same ∙ beside.is_known ∙ sym beside.at
+
+pub as-many : (parts : List Part) (done : List Spot) (tables : List Table) (numbers : List TableId) →
+    map (table_at tables) numbers ≡ map (λ t. Some t) (tables_of parts done) → length numbers ≡ length done
+as-many parts done tables numbers read =
+    sym (length-map numbers (table_at tables)) ∙ ap (λ list. length list) read
+    ∙ length-map (tables_of parts done) (λ t. Some t) ∙ length-map done (table_named parts)

@@ -7,7 +7,7 @@ use Rattle.sdl_system.specs.declared.id.TableId.{TableId}
 use Rattle.sdl_tree.specs.Tree.{States}
 use Rattle.sdl_tree.specs.Words.{Spot}
 use Rattle.sdl_stimuli.specs.Reading.{Part}
-use Rattle.sdl_states.specs.Outlined.{Seen, chosen, parts_at}
+use Rattle.sdl_states.specs.Outlined.{Seen, chosen, parts_at, seen_in}
 use Rattle.sdl_states.specs.States.{Table, state_faults, table_named, table_of}
 use Rattle.sdl_states.specs.Tabled.{table_value}
 use Rattle.sdl_states.specs.Turned.{turns_of}
@@ -23,6 +23,10 @@ seen_of outline text = record { stars = outline.stars.items; turns = turns_of ou
 
 abbrev pub states_listed : List Part → List States
 states_listed parts = map (λ part. part.states) parts
+
+-- where a name stands in the state lists of these parts
+abbrev pub turns_in : List Part → Spot → List Turn
+turns_in parts name = (seen_in name.text (states_listed parts)).turns
 
 abbrev pub same_turn : Turn → Turn → Bool
 same_turn = turns.ghosts.eq
@@ -64,6 +68,17 @@ pub record IsKnown (parts : List Part) (stars : List ℕ) (known : List (List Tu
 -- each table that was there stays where it is
 abbrev pub Keeps : List Table → List Table → Type 0
 Keeps old new = (number : TableId) (table : Table) → table_at old number ≡ Some table → table_at new number ≡ Some table
+
+-- each table that was known stays so
+abbrev pub KeepsKnown : List (List Turn × TableId) → List (List Turn × TableId) → Type 0
+KeepsKnown old new = (turns : List Turn) (number : TableId) → known_in old turns ≡ Some number →
+    known_in new turns ≡ Some number
+
+-- States whose names stand in the same state lists have one table.
+abbrev pub AreShared : List Part → List Spot → List TableId → Type 0
+AreShared parts names numbers =
+    (i j : ℕ) (one other : Spot) → slice_get names i ≡ Some one → slice_get names j ≡ Some other →
+    turns_in parts one ≡ turns_in parts other → slice_get numbers i ≡ slice_get numbers j
 
 -- the table is that of a state of some name
 pub record IsOfName (parts : List Part) (table : Table) : Type 0 where

@@ -1,10 +1,10 @@
 //! What the states of a process say. States with the same parts share a table.
 
-ghost use Rattle.std.specs.Prelude.{◌≡◌, ℕ, All, List, None, Some, IfOk, OnOk, flat_map, length, map};
+ghost use Rattle.std.specs.Prelude.{◌≡◌, ◌<◌, ◌^◌, ℕ, All, List, None, Some, IfOk, IsOk, OnOk, flat_map, length, map};
 ghost use Rattle.sdl_scope.specs.Faults.{least_of, told};
 ghost use Rattle.sdl_stimuli.specs.Listed.{part_value};
 ghost use Rattle.sdl_states.specs.Outlined.{seen_in};
-ghost use Rattle.sdl_states.specs.Shared.{IsKnown, IsOfName, Keeps, faults_by, known_in, seen_of, state_tables, states_listed, table_at, table_by};
+ghost use Rattle.sdl_states.specs.Shared.{AreShared, IsKnown, IsOfName, Keeps, KeepsKnown, faults_by, known_in, seen_of, state_tables, states_listed, table_at, table_by};
 ghost use Rattle.sdl_states.specs.States.{named_faults, tables_of};
 ghost use Rattle.sdl_states.specs.Tabled.{names_listed, table_value};
 
@@ -42,6 +42,8 @@ pub fn read_states<'m, 't>(
         ≡ map Some (tables_of (map part_value parts.now) (names_listed names.now))) }
     ensures each { IfOk result (λ states. All (IsOfName (map part_value parts.now))
         (map table_value states.tables.items)) }
+    ensures shared { IfOk result (λ states. AreShared (map part_value parts.now) (names_listed names.now)
+        states.of_states.items) }
     ensures noted { OnOk result (told faults.new ≡ least_of (told faults.old)
         (flat_map (named_faults (map part_value parts.now)) (names_listed names.now))) }
 {
@@ -61,6 +63,8 @@ fn share<'m, 't>(
         ≡ map Some (tables_of (map part_value parts.now) (names_listed names.now))) }
     ensures each { IfOk result (λ states. All (IsOfName (map part_value parts.now))
         (map table_value states.tables.items)) }
+    ensures shared { IfOk result (λ states. AreShared (map part_value parts.now) (names_listed names.now)
+        states.of_states.items) }
     ensures noted { OnOk result (told faults.new ≡ least_of (told faults.old)
         (flat_map (named_faults (map part_value parts.now)) (names_listed names.now))) }
 {
@@ -92,6 +96,8 @@ fn table_of<'l, 'm, 't>(
         ≡ Some (table_by (map part_value parts.now) stars.now turns.now)) }
     ensures known { OnOk result (IsKnown (map part_value parts.now) stars.now known.new
         (map table_value tables.new.items) (told faults.new)) }
+    ensures found { IfOk result (λ number. known_in known.new turns.now ≡ Some number) }
+    ensures stays { OnOk result (KeepsKnown known.old known.new) }
     ensures kept { OnOk result (Keeps (map table_value tables.old.items) (map table_value tables.new.items)) }
     ensures each { OnOk result (IsOfName (map part_value parts.now)
         (table_by (map part_value parts.now) stars.now turns.now)
@@ -122,6 +128,8 @@ fn add_table<'l, 'm, 't>(
         ≡ Some (table_by (map part_value parts.now) stars.now turns.now)) }
     ensures known { OnOk result (IsKnown (map part_value parts.now) stars.now known.new
         (map table_value tables.new.items) (told faults.new)) }
+    ensures found { IfOk result (λ number. known_in known.new turns.now ≡ Some number) }
+    ensures stays { OnOk result (KeepsKnown known.old known.new) }
     ensures kept { OnOk result (Keeps (map table_value tables.old.items) (map table_value tables.new.items)) }
     ensures each { OnOk result (IsOfName (map part_value parts.now)
         (table_by (map part_value parts.now) stars.now turns.now)
@@ -140,7 +148,8 @@ fn add_table<'l, 'm, 't>(
 
 /// The number of the table that comes next. More than have numbers take more memory than there is.
 fn next_table(tables: &[Table<'_>]) -> Result<TableId, AllocError>
-    ensures { IfOk result (λ number. number ≡ record { 0 = length tables.now }) }
+    ensures same { IfOk result (λ number. number ≡ record { 0 = length tables.now }) }
+    ensures fits { length tables.now < 2 ^ 32 → IsOk result }
 {
     if tables.len() > u32::MAX as usize {
         return Err(AllocError);

@@ -4,5 +4,6 @@ pub mod Machines
 pub mod Meanings
 pub mod Pieces
 pub mod Results
+pub mod Sums
 pub mod Visits
 pub mod Walks

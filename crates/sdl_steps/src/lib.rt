@@ -11,6 +11,7 @@ mod create;
 mod decision;
 mod machine;
 mod output;
+mod sum;
 mod task;
 mod timer;
 mod variable;

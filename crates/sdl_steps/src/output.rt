@@ -1,10 +1,15 @@
 //! Outputs (Z.102: output).
 
-ghost use Rattle.std.specs.Prelude.{◌≡◌, ◌⊎◌, ◌∷◌, [], IfErr, IfOk, List, OnErr, OnOk, Ok, Err, map, option_copied, true};
+ghost use Rattle.std.specs.Prelude.{◌≡◌, ◌⊎◌, ◌<◌, ◌≤◌, ◌∷◌, [], IfErr, IfOk, IfSome, List, length, OnErr, OnOk, Ok, Err, map, option_copied, true};
 ghost use Rattle.std.specs.Option.{option_map};
 ghost use Rattle.inbox.specs.Ends.{OwnerState};
+ghost use Rattle.port_model.specs.declared.pid.Pid.TheVariants.{Of};
 ghost use Rattle.sdl_evaluation.specs.Environment.{environment};
+ghost use Rattle.sdl_report.specs.Event as event;
+ghost use Rattle.sdl_report.specs.Record.{noted};
+ghost use Rattle.sdl_runs.specs.Act.{Send};
 ghost use Rattle.sdl_runs.specs.Fails.{named_by};
+ghost use Rattle.sdl_runs.specs.World.{IsRoute, after_act};
 ghost use Rattle.sdl_steps.specs.Machine.{IsGoing, IsSameInstance, value_of};
 ghost use Rattle.sdl_steps.specs.Work.{Does, DoesWrong, FailsAt, IsIn, amid};
 ghost use Rattle.sdl_system.specs.Body as body;
@@ -13,11 +18,11 @@ ghost use Rattle.sdl_system.specs.Table.{sending, whither_of};
 
 use crate::machine::{Machine, make_room};
 use inbox::Inbox;
-use port_model::{Item, Pid, Value};
+use port_model::{Item, Pid, SignalId, Value, Values};
 use sdl_evaluation::{Identity, Store, evaluate_all, evaluate_at, sorts_of};
 use sdl_report::Failure;
 use sdl_runs::World;
-use sdl_system::{Dest, Destination, Output, Sending, Sort, System};
+use sdl_system::{Dest, Destination, Output, Sending, Sort, System, Target};
 use std::alloc::Global;
 
 /// Sends each signal, one after the other.
@@ -94,22 +99,88 @@ fn send<P: Inbox, W: World>(
         inbox,
     )?;
     make_room(machine, values.len())?;
+    send_values(one.signal, &who, named, values, machine, world)?;
+    Ok(())
+}
+
+// Sends a signal with its values, and answers whom it reaches. What was sent is recorded: of one value by itself, of
+// several by a copy.
+#[inline(always)]
+fn send_values<W: World>(
+    signal: SignalId,
+    who: &Identity,
+    named: Dest,
+    values: Values,
+    machine: &mut Machine,
+    world: &mut W,
+) -> Result<Target, Failure>
+    requires room { 0 < machine.old.trace.room }
+    requires values_room { length values ≤ machine.old.trace.values_room }
+    ensures route { IfOk result (IsRoute (W.value world.old) signal who.now.process named) }
+    ensures sent { IfOk result (λ target. W.value world.new ≡ after_act (W.value world.old)
+        (Send target (record { name = signal; values = values; sender = Of who.now.pid }))) }
+    ensures recorded { IfOk result (λ target. machine.new ≡ record machine.old {
+      trace = noted machine.old.trace (event.Output signal named values target);
+    }) }
+    ensures err { IfErr result (λ why. why ≡ Failure.Memory) }
+    ensures same { OnErr result (machine.new ≡ machine.old) }
+    ensures quiet { OnErr result (W.value world.new ≡ W.value world.old) }
+{
+    if let Some(value) = only(&values) {
+        return deliver(signal, who, named, values, &[value], machine, world);
+    }
     let Ok(copy) = values.copied() else {
         return Err(Failure::Memory);
     };
-    let target = world.route(one.signal, who.process, named);
+    deliver(signal, who, named, copy, values.as_slice(), machine, world)
+}
+
+// The value of a list of one.
+#[inline(always)]
+fn only(values: &Values) -> Option<Value>
+    ensures { IfSome result (λ value. values.now ≡ value ∷ []) }
+{
+    match values.as_slice() {
+        [value] => Some(*value),
+        _ => None,
+    }
+}
+
+// Sends a signal to whom it reaches, and records it with these values, which are its own.
+#[inline(always)]
+fn deliver<W: World>(
+    signal: SignalId,
+    who: &Identity,
+    named: Dest,
+    values: Values,
+    told: &[Value],
+    machine: &mut Machine,
+    world: &mut W,
+) -> Result<Target, Failure>
+    requires told { told.now ≡ values }
+    requires room { 0 < machine.old.trace.room }
+    requires values_room { length values ≤ machine.old.trace.values_room }
+    ensures route { IfOk result (IsRoute (W.value world.old) signal who.now.process named) }
+    ensures sent { IfOk result (λ target. W.value world.new ≡ after_act (W.value world.old)
+        (Send target (record { name = signal; values = values; sender = Of who.now.pid }))) }
+    ensures recorded { IfOk result (λ target. machine.new ≡ record machine.old {
+      trace = noted machine.old.trace (event.Output signal named values target);
+    }) }
+    ensures err { IfErr result (λ why. why ≡ Failure.Memory) }
+    ensures same { OnErr result (machine.new ≡ machine.old) }
+    ensures quiet { OnErr result (W.value world.new ≡ W.value world.old) }
+{
+    let target = world.route(signal, who.process, named);
     let item = Item {
-        name: one.signal,
-        values: copy,
+        name: signal,
+        values,
         sender: Pid::Of(who.pid),
     };
     if let Err(_) = world.send(target, item) {
         return Err(Failure::Memory);
     }
-    machine
-        .trace
-        .output(one.signal, named, values.as_slice(), target);
-    Ok(())
+    machine.trace.output(signal, named, told, target);
+    Ok(target)
 }
 
 // Whom an output names.

@@ -2,6 +2,9 @@
 
 ghost use Rattle.std.specs.Prelude.{◌≡◌, ◌∷◌, [], IfErr, List, OnErr, OnOk, map};
 ghost use Rattle.inbox.specs.Ends.{OwnerState};
+ghost use Rattle.sdl_report.specs.Event as event;
+ghost use Rattle.sdl_runs.specs.Goes.{with_event};
+ghost use Rattle.sdl_runs.specs.Reception.{assigned};
 ghost use Rattle.sdl_runs.specs.World.{WorldValue};
 ghost use Rattle.sdl_steps.specs.Machine.{IsGoing, IsSameInstance, value_of};
 ghost use Rattle.sdl_steps.specs.Work.{Does, DoesWrong, FailsAt, IsOf, amid};
@@ -10,11 +13,13 @@ ghost use Rattle.sdl_system.specs.Body.{Assigning};
 ghost use Rattle.sdl_system.specs.Table.{assigning};
 
 use crate::machine::{Machine, make_room};
+use crate::sum::sum_at;
 use crate::variable::sort_of;
 use inbox::Inbox;
+use port_model::Value;
 use sdl_evaluation::evaluate_at;
 use sdl_report::Failure;
-use sdl_system::{Assignment, Process, System};
+use sdl_system::{Assignment, Process, System, VariableId};
 use std::alloc::Global;
 
 /// Assigns each variable its value, one after the other.
@@ -73,6 +78,10 @@ fn assign<P: Inbox>(
 {
     let variable = assignment.variable;
     let sort = sort_of(process, variable);
+    if let Some(value) = sum_at(sort, &assignment.value, &machine.store) {
+        assign_value(variable, value, machine)?;
+        return Ok(());
+    }
     let who = machine.who();
     let value = evaluate_at(
         alloc,
@@ -83,6 +92,22 @@ fn assign<P: Inbox>(
         &machine.store,
         inbox,
     )?;
+    assign_value(variable, value, machine)?;
+    Ok(())
+}
+
+// The variable gets its value, which is recorded.
+#[inline(always)]
+fn assign_value(variable: VariableId, value: Value, machine: &mut Machine) -> Result<(), Failure>
+    ensures instance { (owner : OwnerState) → IsSameInstance (value_of machine.old owner) (value_of machine.new owner) }
+    ensures going { (owner : OwnerState) → IsGoing machine.old owner → IsGoing machine.new owner }
+    ensures done { machine.new.store.done ≡ machine.old.store.done }
+    ensures ok { OnOk result ((owner : OwnerState) → value_of machine.new owner
+        ≡ with_event (record (value_of machine.old owner) { store = assigned variable value machine.old.store })
+        (event.Task variable value)) }
+    ensures err { IfErr result (λ why. why ≡ Failure.Memory) }
+    ensures same { OnErr result ((owner : OwnerState) → value_of machine.new owner ≡ value_of machine.old owner) }
+{
     make_room(machine, 0)?;
     machine.store.variables.set(variable, value);
     machine.trace.task(variable, value);

@@ -1,5 +1,5 @@
 use Rattle.std.proofs.Common.{◌≡◌, length, map}
-use Rattle.sdl_tree.specs.Views.{name_value}
+use Rattle.sdl_read.proofs.Grammar.{name_value}
 use Rattle.sdl_behaviour.specs.States.{is_named}
 use Rattle.sdl_behaviour.proofs.states.is_named.Given as goal
 

@@ -1,6 +1,6 @@
 use Rattle.std.proofs.Common.{rules, arith, map}
 use Rattle.std.proofs.lemmas.Grind.{common_steps}
-use Rattle.sdl_tree.specs.Views.{statement_value}
+use Rattle.sdl_read.proofs.Grammar.{statement_value}
 use Rattle.sdl_read.proofs.Turns.{one_more, no_more, map_push}
 use Rattle.sdl_behaviour.specs.Transitions.{action, steps_from}
 use Rattle.sdl_behaviour.proofs.TransitionLemmas.{decision_none, decision_inside}

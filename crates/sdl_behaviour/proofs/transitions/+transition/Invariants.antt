@@ -1,5 +1,5 @@
 use Rattle.std.proofs.Common.{◌≡◌, ◌-◌, ◌+◌, ◌*◌, map}
-use Rattle.sdl_tree.specs.Views.{statement_value}
+use Rattle.sdl_read.proofs.Grammar.{statement_value}
 use Rattle.sdl_behaviour.specs.Transitions.{action, steps, steps_from}
 use Rattle.sdl_behaviour.proofs.transitions.+transition.Given as goal
 

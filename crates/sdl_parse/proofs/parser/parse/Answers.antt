@@ -1,10 +1,7 @@
 use Rattle.std.proofs.Common.{rules, arith, ◌≡◌, ◌≤◌, length, subst}
 use Rattle.std.proofs.lemmas.Grind.{common_steps}
-use Rattle.sdl_tree.specs.Spells.Expressions.{limit}
-use Rattle.sdl_tree.specs.Views.{tree_value}
-use Rattle.sdl_tree.specs.Words.{Words, words_of}
-use Rattle.sdl_read.specs.Reads.{Fails}
-use Rattle.sdl_read.proofs.Steps.{read_as}
+use Rattle.sdl_read.proofs.Grammar.{limit, tree_value, Words, words_of, Fails}
+use Rattle.sdl_read.proofs.AllLaws.{read_as}
 use Rattle.sdl_parse.specs.Systems.{specification}
 use Rattle.sdl_parse.proofs.ParserLemmas.{found, refuses}
 use Rattle.sdl_parse.proofs.parser.parse.Goals as goal

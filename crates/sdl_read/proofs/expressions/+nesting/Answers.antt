@@ -1,6 +1,6 @@
 use Rattle.std.proofs.Common.{rules, arith}
 use Rattle.std.proofs.lemmas.Grind.{common_steps}
-use Rattle.sdl_read.specs.Expressions.{readers}
+use Rattle.sdl_read.proofs.Grammar.{readers}
 use Rattle.sdl_read.proofs.LevelLemmas.{level_zero, level_one, level_up, paren_none, active_none, args_none, paren_inside, active_inside, args_inside}
 use Rattle.sdl_read.proofs.expressions.+nesting.Goals as goal
 

@@ -1,6 +1,6 @@
 use Rattle.std.proofs.Common.{◌≡◌, ◌<◌, length, sym, rules, arith}
 use Rattle.std.proofs.lemmas.Grind.{common_steps}
-use Rattle.sdl_tree.specs.Views.{expr_value}
+use Rattle.sdl_read.proofs.Grammar.{expr_value}
 use Rattle.sdl_read.proofs.ChainLemmas.{alone, chained}
 use Rattle.sdl_read.proofs.expressions.chain.Goals as goal
 

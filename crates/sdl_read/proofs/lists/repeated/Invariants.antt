@@ -1,5 +1,5 @@
 use Rattle.std.proofs.Common.{◌≡◌, ◌-◌, map}
-use Rattle.sdl_read.specs.Reading.{repeated, repeated_from}
+use Rattle.sdl_read.proofs.Grammar.{repeated, repeated_from}
 use Rattle.sdl_read.proofs.lists.repeated.Given as goal
 
 abbrev pub invariant-loop-turn : goal.invariant-loop-turn

@@ -1,6 +1,6 @@
 use Rattle.std.proofs.Common.{rules, arith, map}
 use Rattle.std.proofs.lemmas.Grind.{common_steps}
-use Rattle.sdl_read.specs.Reading.{separated_from}
+use Rattle.sdl_read.proofs.Grammar.{separated_from}
 use Rattle.sdl_read.proofs.Turns.{one_more, no_more, map_push}
 use Rattle.sdl_read.proofs.lists.separated.Goals as goal
 

@@ -1,5 +1,5 @@
 use Rattle.std.proofs.Common.{◌≡◌, ◌-◌, map}
-use Rattle.sdl_read.specs.Reading.{separated, separated_from}
+use Rattle.sdl_read.proofs.Grammar.{separated, separated_from}
 use Rattle.sdl_read.proofs.lists.separated.Given as goal
 
 abbrev pub invariant-loop-turn : goal.invariant-loop-turn

@@ -1,5 +1,5 @@
 use Rattle.std.proofs.Common.{arith, ◌<◌, ◌≤◌, length}
-use Rattle.sdl_tree.specs.Words.{words_of}
+use Rattle.sdl_read.proofs.Grammar.{words_of}
 use Rattle.sdl_read.proofs.WordLemmas.{read_on, slices_after}
 use Rattle.sdl_read.proofs.TokenLemmas.{first_ordered, first_within, rest_after}
 use Rattle.sdl_read.proofs.word.placed_words.Goals as goal

@@ -1,13 +1,13 @@
-use Rattle.std.proofs.Common.{◌≡◌, ◌∙◌, ◌++◌, ◌∷◌, All, [], ap, length, map, subst, sym}
+use Rattle.std.proofs.Common.{◌≡◌, ◌∙◌, ◌++◌, ◌∷◌, All, [], Some, ap, length, map, subst, sym}
 use Rattle.std.proofs.lemmas.List.{length-map, map-append}
 use Rattle.std.proofs.lemmas.List.Elements.{All-push}
 use Rattle.sdl_scope.specs.Faults.{least_of, told}
 use Rattle.sdl_stimuli.specs.Listed.{part_value}
 use Rattle.sdl_states.specs.Outlined.{parts_at}
-use Rattle.sdl_states.specs.Shared.{IsKnown, IsOfName, Keeps, faults_by, table_at, table_by}
+use Rattle.sdl_states.specs.Shared.{IsKnown, IsOfName, Keeps, KeepsKnown, faults_by, known_in, table_at, table_by}
 use Rattle.sdl_states.specs.States.{state_faults, table_of}
 use Rattle.sdl_states.specs.Tabled.{table_value}
-use Rattle.sdl_states.proofs.ShareLemmas.{added-read, known-more, tables-kept}
+use Rattle.sdl_states.proofs.ShareLemmas.{added-read, known-found, known-more, known-stays, tables-kept}
 use Rattle.sdl_states.proofs.shared.add_table.Goals as goal
 
 pub returns-clause-read : goal.returns-clause-read
@@ -16,7 +16,7 @@ returns-clause-read c =
     let tables = map table_value c.args.tables.now.items in
     let table = table_value c.in_ok-table.table in
     let at : c.in_ok-number.number.0 ≡ length tables =
-    ap (λ number. number.0) c.in_ok-number.ensures ∙ ap (λ list. length list) c.deref-2.ensures.value
+    ap (λ number. number.0) c.in_ok-number.ensures.same ∙ ap (λ list. length list) c.deref-2.ensures.value
     ∙ sym (length-map c.args.tables.now.items table_value) in
     let is : table ≡ table_by parts c.args.stars.now c.args.turns.now =
     c.in_ok-table.ensures.read
@@ -35,7 +35,7 @@ returns-clause-known c =
     let table = table_value c.in_ok-table.table in
     let numbers = c.deref.ensures.value ∙ c.in_ok-numbers.ensures in
     let at : c.in_ok-number.number.0 ≡ length tables =
-    ap (λ number. number.0) c.in_ok-number.ensures ∙ ap (λ list. length list) c.deref-2.ensures.value
+    ap (λ number. number.0) c.in_ok-number.ensures.same ∙ ap (λ list. length list) c.deref-2.ensures.value
     ∙ sym (length-map c.args.tables.now.items table_value) in
     let is : table ≡ table_by parts stars turns =
     c.in_ok-table.ensures.read ∙ ap (λ list. table_of (parts_at parts list)) numbers in
@@ -48,6 +48,16 @@ returns-clause-known c =
     (sym c.in_ok-add.ensures)
     (known-more parts stars turns c.args.known.now tables (told c.args.faults.now) c.in_ok-number.number at
     c.requires.before table (told c.read_table.new.faults) is noted))
+
+pub returns-clause-found : goal.returns-clause-found
+returns-clause-found c =
+    subst (λ known. known_in known c.args.turns.now ≡ Some c.in_ok-number.number) (sym c.in_ok-add.ensures)
+    (known-found c.args.known.now c.args.turns.now c.in_ok-number.number c.requires.is_new)
+
+pub returns-clause-stays : goal.returns-clause-stays
+returns-clause-stays c =
+    subst (KeepsKnown c.args.known.now) (sym c.in_ok-add.ensures)
+    (known-stays c.args.known.now c.args.turns.now c.in_ok-number.number)
 
 pub returns-clause-kept : goal.returns-clause-kept
 returns-clause-kept c =

@@ -1,14 +1,15 @@
-use Rattle.std.proofs.Common.{◌≡◌, ◌∙◌, Some, ap, flat_map, map, subst, sym, take}
+use Rattle.std.proofs.Common.{◌≡◌, ◌∙◌, ◌++◌, ◌∷◌, [], Some, ap, flat_map, map, rules, subst, sym, take}
+use Rattle.std.proofs.lemmas.List.{take_all}
 use Rattle.sdl_scope.specs.Faults.{least_of, told}
 use Rattle.sdl_tree.specs.Views.{name_value}
 use Rattle.sdl_stimuli.specs.Listed.{part_value}
 use Rattle.sdl_states.specs.Outlined.{seen_in}
-use Rattle.sdl_states.specs.Shared.{IsKnown, faults_by, states_listed, table_at, table_by}
+use Rattle.sdl_states.specs.Shared.{IsKnown, faults_by, known_in, states_listed, table_at, table_by}
 use Rattle.sdl_states.specs.States.{named_faults, tables_of}
 use Rattle.sdl_states.specs.Tabled.{names_listed, table_value}
 use Rattle.sdl_states.specs.Turned.{turns_of}
 use Rattle.sdl_states.proofs.AnswerLemmas.{taken-more}
-use Rattle.sdl_states.proofs.ShareLemmas.{own-faults, own-table, states-more, states-noted}
+use Rattle.sdl_states.proofs.ShareLemmas.{HaveTables, as-many, own-faults, own-table, states-more, states-noted, tables-had, tables-shared}
 use Rattle.sdl_states.proofs.shared.share.Goals as goal
 
 pub loop-name-preserved : goal.loop-name-preserved
@@ -44,6 +45,14 @@ loop-name-preserved c =
             name = name;
             is = ap (λ list. table_by parts list turns) lent ∙ own-table parts stars turns name seen;
           }) c.loop-name.invariant.each;
+      had =
+          subst (HaveTables parts c.table_of.new.known c.push.new.self.items) (sym next)
+          (subst (λ list. HaveTables parts c.table_of.new.known list (done ++ name ∷ [])) (sym c.in_ok-push.ensures.items)
+          (tables-had parts c.loop-name.known c.table_of.new.known c.loop-name.of_states.items c.in_ok-table.table done
+          name c.in_ok-table.ensures.stays (as-many parts done old c.loop-name.of_states.items c.loop-name.invariant.read)
+          c.loop-name.invariant.had
+          (subst (λ ts. known_in c.table_of.new.known ts ≡ Some c.in_ok-table.table) (ap (λ s. s.turns) seen)
+          c.in_ok-table.ensures.found)));
       noted =
           states-noted parts done name (told c.args.faults.now) (told c.loop-name.faults) (told c.table_of.new.faults)
           c.loop-name.invariant.noted
@@ -51,3 +60,13 @@ loop-name-preserved c =
           ∙ ap (least_of (told c.loop-name.faults)) (own-faults parts stars turns name seen))
           ∙ ap (λ list. least_of (told c.args.faults.now) (flat_map (named_faults parts) list)) (sym next);
     }
+
+pub returns-clause-shared : goal.returns-clause-shared
+returns-clause-shared c =
+    let parts = map part_value c.args.parts.now in
+    let known = c.loop-name.known in
+    let numbers = c.loop-name.of_states.items in
+    let names = c.args.names.now in
+    let all : take c.loop-name.name-index names ≡ names = take_all c.loop-name.name-index names (search rules) in
+    tables-shared parts known numbers (names_listed names)
+    (subst (λ list. HaveTables parts known numbers (names_listed list)) all c.loop-name.invariant.had)

@@ -4,6 +4,7 @@ use Rattle.sdl_stimuli.specs.Listed.{part_value}
 use Rattle.sdl_states.specs.Shared.{IsKnown, IsOfName, table_at}
 use Rattle.sdl_states.specs.States.{named_faults, tables_of}
 use Rattle.sdl_states.specs.Tabled.{names_listed, table_value}
+use Rattle.sdl_states.proofs.ShareLemmas.{HaveTables}
 use Rattle.sdl_states.proofs.shared.share.Given as goal
 
 abbrev pub invariant-loop-name : goal.invariant-loop-name
@@ -12,6 +13,7 @@ invariant-loop-name l = record {
   read : map (table_at (map table_value l.tables.items)) l.of_states.items
       ≡ map Some (tables_of (map part_value l.parts) (names_listed (take l.name-index l.names)));
   each : All (IsOfName (map part_value l.parts)) (map table_value l.tables.items);
+  had : HaveTables (map part_value l.parts) l.known l.of_states.items (names_listed (take l.name-index l.names));
   noted : told l.faults ≡ least_of (told l.initial.faults)
       (flat_map (named_faults (map part_value l.parts)) (names_listed (take l.name-index l.names)));
 }

@@ -1,17 +1,18 @@
-use Rattle.std.proofs.Common.{◌∙◌, ap, inl, inr, refl, subst, List}
+use Rattle.std.proofs.Common.{◌∙◌, ap, inl, inr, refl, subst}
 use Rattle.std.proofs.lemmas.Result.{err_from_is_err_and}
 use Rattle.std.specs.Option.{option_copied, option_map}
 use Rattle.port_model.specs.declared.pid.Pid.TheVariants.{Of}
-use Rattle.port_model.specs.declared.value.Value.{Value}
 use Rattle.sdl_evaluation.specs.declared.identity.Identity.{Identity}
 use Rattle.sdl_report.specs.Event as event
+use Rattle.sdl_report.specs.Event.{Event}
 use Rattle.sdl_report.specs.Record.{noted}
 use Rattle.sdl_runs.specs.Act.{Send}
-use Rattle.sdl_runs.specs.World.{IsRoute, WorldValue, after_act}
+use Rattle.sdl_runs.specs.World.{IsRoute, after_act}
 use Rattle.sdl_steps.proofs.Deeds.{goes_sent}
 use Rattle.sdl_steps.proofs.Machines.{store_kept, value_noted}
 use Rattle.sdl_steps.proofs.Meanings.{sent_ok, unnamed, unsent}
 use Rattle.sdl_steps.specs.Machine.{value_of}
+use Rattle.sdl_steps.specs.declared.machine.Machine.{Machine}
 use Rattle.sdl_system.specs.Table.{sending, whither_of}
 use Rattle.sdl_steps.proofs.output.send.Goals as goal
 
@@ -26,26 +27,19 @@ returns-clause-ok g c = λ more d is origin rest.
     let whom = option_map whither_of (option_copied c.args.to) in
     let named = c.in_ok-named.named in
     let values = c.in_ok-values.values in
-    let target = c.route-target.result in
-    let pid = c.who-who.result.pid in
+    let target = c.in_ok-send_values.field-0 in
+    let told : Event = event.Output signal named values target in
     let Route : Identity → Type 0 = λ x. IsRoute w signal x.process named target in
     goes_sent d origin rest whom (sending one) more named values target (value_of old o) _ w _
     (sent_ok c.args.system.now d is _ _ c.who-who.ensures old.store o.state whom one _ c.sorts_of.ensures _
     c.deref.ensures.value named values c.in_ok-named.ensures.ok c.in_ok-values.ensures.ok)
-    (subst Route c.who-who.ensures c.route-target.ensures.route)
-    (c.in_default-send.ensures.ok
-    ∙ ap (λ (x : WorldValue).
-    after_act x (Send target (record { name = signal; values = c.in-Ok.copy; sender = Of pid })))
-    c.route-target.ensures.same
-    ∙ ap (λ (x : List Value). after_act w (Send target (record { name = signal; values = x; sender = Of pid })))
-    c.in-Ok.ensures.ok
+    (subst Route c.who-who.ensures c.in_ok-send_values.ensures.route)
+    (c.in_ok-send_values.ensures.sent
     ∙ ap (λ (x : Identity).
     after_act w (Send target (record { name = signal; values = values; sender = Of x.pid })))
     c.who-who.ensures)
-    (value_noted old mid _ _ c.make_room.ensures.same c.output.new.self mid.store old.store
-    (event.Output signal named values target) o o
-    (c.output.ensures
-    ∙ ap (λ (x : List Value). noted mid.trace (event.Output signal named x target)) c.as_slice.ensures)
+    (ap (λ (x : Machine). value_of x o) c.in_ok-send_values.ensures.recorded
+    ∙ value_noted old mid _ _ c.make_room.ensures.same (noted mid.trace told) mid.store old.store told o o refl
     (store_kept old mid _ _ c.make_room.ensures.same))
 
 pub returns-in_err-named-clause-err : goal.returns-in_err-named-clause-err

@@ -1,14 +1,8 @@
 -- Where readings stop.
 use Rattle.std.proofs.Common.{◌≡◌, ℕ, true, false, [], ◌∷◌, Option, Some, None, refl, sym, ap, ◌∙◌}
-use Rattle.sdl_tree.specs.declared.expressions.Operator.{Operator}
-use Rattle.sdl_tree.specs.declared.mark.Mark.{Mark}
+use Rattle.sdl_read.proofs.Grammar.{Operator, Mark, Spelling, SpellsEnd, Words, Spot, Fixed, front, mark_at, sees, same_mark, sees_name, operator_of}
 use Rattle.sdl_tree.specs.declared.mark.Mark.TheVariants as mark
-use Rattle.sdl_tree.specs.declared.name.Spelling.{Spelling}
-use Rattle.sdl_tree.specs.Spells.Parts.{SpellsEnd}
-use Rattle.sdl_tree.specs.Words.{Words, Spot, Fixed}
 use Rattle.sdl_tree.specs.Words as word
-use Rattle.sdl_read.specs.Reading.{front, mark_at, sees, same_mark, sees_name}
-use Rattle.sdl_read.specs.Expressions.{operator_of}
 use Rattle.sdl_read.proofs.OperatorLaws.{Stops}
 use Rattle.sdl_read.proofs.PartLaws.{end_begins}
 
