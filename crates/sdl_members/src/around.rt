@@ -38,11 +38,8 @@ impl<'a, J: Run, R: Wait, O: Outside<J>> World for Around<'a, J, R, O> {
     }
 
     fn send(&mut self, target: Target, item: Item) -> Result<(), AllocError> {
-        let number = match target {
-            Target::Instance(number) => number,
-            Target::Env => return Ok(()),
-            Target::Null => return Ok(()),
-            Target::Nobody => return Ok(()),
+        let Target::Instance(number) = target else {
+            return Ok(());
         };
         // A number that nobody can have.
         if self.outside.port(number).is_none() {

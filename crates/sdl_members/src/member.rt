@@ -3,7 +3,7 @@
 ghost use Rattle.std.specs.Prelude.{◌≡◌, [], IsTrue, MatchResult};
 ghost use Rattle.inbox.specs.Ends.{OwnerState};
 ghost use Rattle.port_model.specs.Port.{empty_port};
-ghost use Rattle.sdl_interp.specs.Instance.{IsAtRest, IsClosed, IsRunAs, Keeps, Steps, created};
+ghost use Rattle.sdl_interp.specs.Instance.{HasRunOf, IsAtRest, IsClosed, IsRunAs, Keeps, Steps, created};
 ghost use Rattle.sdl_members.specs.Around.{world_of};
 ghost use Rattle.sdl_members.specs.Member.{HasPut};
 ghost use Rattle.sdl_peers.specs.Peers.{ArePeers};
@@ -117,7 +117,8 @@ impl<'s, J: Run, P: Inbox + Drop> Member<'s, J, P> {
 
     /// What the instance did so far.
     pub fn trace(&self) -> &Record
-        ensures { result.now.events ≡ self.now.instance.events }
+        ensures events { result.now.events ≡ self.now.instance.events }
+        ensures run { HasRunOf P.shared self.now.instance }
     {
         self.instance.trace()
     }

@@ -2,4 +2,3 @@ pub mod Kept
 mod LawLemmas
 pub mod SenderLemmas
 pub mod SentLemmas
-pub mod TraceLemmas

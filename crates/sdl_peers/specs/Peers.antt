@@ -13,7 +13,6 @@ use Rattle.port_model.specs.declared.item.Item.{Item}
 use Rattle.port_model.specs.declared.pid.Pid.TheVariants.{Of}
 use Rattle.sdl_counts.specs.Rows.{EndsWith}
 use Rattle.sdl_report.specs.Event.{Event}
-use Rattle.sdl_report.specs.Record.{RecordValue, with_room}
 use Rattle.sdl_runs.specs.Sent.{sent_to}
 
 -- ---- the senders
@@ -60,18 +59,3 @@ pub record AreLast (who : ℕ) (events : List Event) (number : ℕ) (put : List 
 -- So are those that were put into each port. What the events send beside them was sent before there was a sender.
 abbrev pub ArePeers : ℕ → List Event → PeersState → Type 0
 ArePeers who events peers = (number : ℕ) → AreLast who events number (put_to peers number)
-
--- ---- with the record
-
--- what a caller sees of the sending side of an instance: its record, and its senders
-pub record SendingState : Type 0 where
-  pub trace : RecordValue
-  pub peers : PeersState
-
--- the record is the same, but for its room
-abbrev pub IsButForRoom : RecordValue → RecordValue → Type 0
-IsButForRoom old new = new ≡ with_room old new.room new.values_room
-
--- the record goes on by this event
-abbrev pub GoesOn : RecordValue → Event → RecordValue → Type 0
-GoesOn old happened new = IsButForRoom (record old { events = old.events ++ happened ∷ [] }) new

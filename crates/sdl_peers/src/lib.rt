@@ -2,17 +2,14 @@
 //!
 //! `Peers` has a sender into the port of each instance, from the first signal on that finds a port there. By the
 //! contract of each call, what was put into a port stays the end of what a record sends there, where it is so before:
-//! a signal is put, and then its output is recorded. `Sending` has a record beside its peers, and this fact in its
-//! type. `laws` has where it leads, once a port has gathered its senders.
+//! a signal is put, and then its output is recorded. `laws` has where it leads, once a port has gathered its senders.
 #![tactic(auto)]
 
 pub mod laws;
 mod peer;
 mod peers;
 mod run;
-mod sending;
 
 pub use peer::Peer;
 pub use peers::Peers;
 pub use run::Run;
-pub use sending::{Released, Sending};

@@ -5,5 +5,3 @@
 mod ends;
 #[cfg(test)]
 mod peers;
-#[cfg(test)]
-mod sending;
