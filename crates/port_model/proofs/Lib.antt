@@ -2,6 +2,7 @@ pub mod Backlogs
 pub mod Coherence
 pub mod Histories
 pub mod Keys
+pub mod Lists
 pub mod Order
 pub mod Ordered
 pub mod Ports

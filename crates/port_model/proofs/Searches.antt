@@ -1,6 +1,7 @@
-use Rattle.std.proofs.Common.{◌≡◌, ℕ, suc, ◌+◌, ◌<◌, ◌≤◌, List, [], ◌∷◌, ◌++◌, length, get_or, take, drop, All, Contains, sym, ap, subst, ◌∙◌, ⊎_elim, arith}
+use Rattle.std.proofs.Common.{◌≡◌, ℕ, ◌+◌, ◌-◌, ◌<◌, ◌≤◌, List, ◌∷◌, ◌++◌, length, get_or, take, drop, All, Contains, sym, ap, subst, ◌∙◌, ⊎_elim, arith}
 use Rattle.std.specs.List.{remove}
-use Rattle.std.proofs.lemmas.List.{take-append-drop, drop_more, length-take-le, get_or_default, get_or_past, take_at, drop_at, take_all, append_assoc, length_push}
+use Rattle.std.proofs.lemmas.List.{take-append-drop, drop_more, length-take-le, get_or_default, get_or_past, take_all}
+use Rattle.std.proofs.lemmas.List.Edits.{remove-append_right}
 use Rattle.std.proofs.lemmas.List.Elements.{All-more}
 use Rattle.std.proofs.lemmas.Bool.{cases_lt}
 use Rattle.port_model.specs.declared.selection.Class.{Class}
@@ -50,7 +51,5 @@ all_ordinary classes waiting none k d within e =
 pub remove-append : (before : List Got) (entry : Got) (after : List Got) (place : ℕ)
     → length before ≡ place → remove (before ++ entry ∷ after) place ≡ before ++ after
 remove-append before entry after place at =
-    ap (λ l. l ++ drop (suc place) (before ++ entry ∷ after)) (take_at before (entry ∷ after) place at)
-    ∙ ap (λ l. before ++ l) (
-    ap (λ l. drop (suc place) l) (sym (append_assoc before (entry ∷ []) after))
-    ∙ drop_at (before ++ entry ∷ []) after (suc place) (omega (arith, length_push before entry)))
+    let none : place - place ≡ 0 = omega arith in
+    remove-append_right before (entry ∷ after) place place at (omega arith) ∙ ap (λ n. before ++ remove (entry ∷ after) n) none

@@ -7,15 +7,11 @@ use Rattle.port_model.proofs.backlog.Backlog.look_at_next.Goals as goal
 pub invariant_of-self : goal.invariant_of-self
 invariant_of-self c =
     let is = c.self.invariant in
-    record { saved_noted = is.saved_noted; within = is.within; ordinary_noted = all_noted _ _ _ _ c.note.ensures.grown is.ordinary_noted; fits = is.fits }
+    record { saved_noted = is.saved_noted; within = is.within; ordinary_noted = all_noted _ c.note.ensures.grown _ is.ordinary_noted; fits = is.fits }
 
-pub returns-then-not-note : goal.returns-then-not-note
-returns-then-not-note c = record {
-  passed = search rules;
-  rest = search rules;
-  saved = search rules;
-  agreed = all_grown (IsOrdinaryName c.args.selection.now) _ _ _ c.note.ensures.grown (λ e. c.in_default-class_of.not-Priority (c.class_of.ensures ∙ e)) (search rules);
-}
+pub returns-then-not-note-clause-agreed : goal.returns-then-not-note-clause-agreed
+returns-then-not-note-clause-agreed c =
+    all_grown (IsOrdinaryName c.args.selection.now) _ c.note.ensures.grown (λ e. c.in_default-class_of.not-Priority (c.class_of.ensures ∙ e)) (search rules)
 
 pub invariant_of-self-2 : goal.invariant_of-self-2
 invariant_of-self-2 c =
@@ -23,14 +19,10 @@ invariant_of-self-2 c =
     record {
       saved_noted = is.saved_noted;
       within = search rules;
-      ordinary_noted = All-more (IsNoted c.note.new.names.items) _ _ c.in-Some.got.now (search rules) (all_noted _ _ _ _ c.note.ensures.grown is.ordinary_noted) (search rules);
+      ordinary_noted = All-more (IsNoted c.note.new.names.items) _ _ c.in-Some.got.now (search rules) (all_noted _ c.note.ensures.grown _ is.ordinary_noted) (search rules);
       fits = is.fits;
     }
 
-pub returns : goal.returns
-returns c = record {
-  passed = search rules;
-  rest = search rules;
-  saved = search rules;
-  agreed = all_grown (IsOrdinaryName c.args.selection.now) _ _ _ c.note.ensures.grown (λ e. c.in_default-class_of.not-Priority (c.class_of.ensures ∙ e)) (search rules);
-}
+pub returns-clause-agreed : goal.returns-clause-agreed
+returns-clause-agreed c =
+    all_grown (IsOrdinaryName c.args.selection.now) _ c.note.ensures.grown (λ e. c.in_default-class_of.not-Priority (c.class_of.ensures ∙ e)) (search rules)

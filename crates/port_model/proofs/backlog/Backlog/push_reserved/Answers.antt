@@ -5,5 +5,5 @@ use Rattle.port_model.proofs.backlog.Backlog.push_reserved.Goals as goal
 
 pub invariant_of-self : goal.invariant_of-self
 invariant_of-self c =
-    pushed _ _ _ _ _ _ _ _ c.args.got c.self.invariant c.push_back_reserved.ensures.items c.push_back_reserved.ensures.capacity
+    pushed c.args.got c.self.invariant c.push_back_reserved.ensures.items c.push_back_reserved.ensures.capacity
     (subst (λ (b : BacklogValue). 0 < b.room) (sym c.self.view_is) c.requires)

@@ -11,7 +11,7 @@ pub invariant_of-self : goal.invariant_of-self
 invariant_of-self c = (
   c.self.invariant.0,
   coherent_is _ _ _ _ c.forget.ensures c.remove.ensures.timers (coherent_removed c.args.key.now _ _ c.self.invariant.1),
-  fewer_sets c.self.inside.sets c.args.key.now _ _ c.remove.ensures.armed c.self.invariant.2,
+  fewer_sets c.self.inside.sets c.args.key.now _ c.remove.ensures.armed c.self.invariant.2,
 )
 
 pub invariant_of-self-else-remove : goal.invariant_of-self-else-remove
@@ -19,7 +19,7 @@ invariant_of-self-else-remove c = (
   c.self.invariant.0,
   coherent_is _ _ _ _ (sym (no_signal c.args.key.now _ _ c.self.invariant.1 (sym c.if-remove.ensures.reply))) c.remove.ensures.timers
       (coherent_removed c.args.key.now _ _ c.self.invariant.1),
-  fewer_sets c.self.inside.sets c.args.key.now _ _ c.remove.ensures.armed c.self.invariant.2,
+  fewer_sets c.self.inside.sets c.args.key.now _ c.remove.ensures.armed c.self.invariant.2,
 )
 
 pub returns-else-remove-clause-state : goal.returns-else-remove-clause-state

@@ -7,7 +7,7 @@ use Rattle.port_model.proofs.timers.Timers.next_due.Goals as goal
 pub returns-in-None : goal.returns-in-None
 returns-in-None c =
     subst (λ (t : TimersValue). IsLeast (due_times t.timers) None) c.self.view_is
-    (least_none c.self.inside.table.entries c.self.inside.deadlines.keys c.self.invariant (λ some. c.in-None.ensures.variant.1 some))
+    (least_none c.self.inside.table.entries c.self.inside.deadlines.keys c.self.invariant c.in-None.ensures.variant.1)
 
 pub returns-in-Some : goal.returns-in-Some
 returns-in-Some c =
