@@ -85,6 +85,7 @@ impl Inbox for Alone {
 
     ghost shared = { false };
 
+    #[inline(always)]
     fn take(&mut self, selection: &Selection) -> Result<Taken, PortError> {
         Ok(self.plain.take(selection))
     }

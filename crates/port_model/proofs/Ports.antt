@@ -1,16 +1,17 @@
 -- What the calls of a port leave coherent, and of its sets.
 use Rattle.std.proofs.Common.{◌≡◌, ℕ, ◌+◌, ◌<◌, ◌≤◌, true, false, List, [], ◌∷◌, ◌++◌, length, All, Option, Some, None, MatchOption, subst, sym, ap, ◌∙◌, refl, arith}
 use Rattle.std.specs.Prelude.{filter}
-use Rattle.std.proofs.lemmas.List.Elements.{All-filter, All-push, All-weaker}
+use Rattle.std.proofs.lemmas.List.Elements.{All-filter, All-nil, All-push, All-weaker}
 use Rattle.port_model.specs.declared.timer_key.TimerKey.{TimerKey}
 use Rattle.port_model.specs.declared.timer.ActiveTimer.{ActiveTimer}
 use Rattle.port_model.specs.declared.got.Got.{Got}
+use Rattle.port_model.specs.declared.selection.Class.{Class}
 use Rattle.port_model.specs.declared.got.Got.TheVariants.{Signal, Timer}
-use Rattle.port_model.specs.Backlog.{Leaves}
+use Rattle.port_model.specs.Backlog.{waiting_in, BacklogValue, IsHead, Leaves}
 use Rattle.port_model.specs.Coherence.{has_key, runs_by, IsCoherent}
 use Rattle.port_model.specs.PlainPort.{AreUpTo}
 use Rattle.port_model.specs.Port.{PortState}
-use Rattle.port_model.specs.Take.{TakesFirst}
+use Rattle.port_model.specs.Take.{HasClass, IsSaved, TakesFirst}
 use Rattle.port_model.specs.Timers.{after_taking, armed_after, is_signal_of, waits, without_armed, without_signal, Armed}
 use Rattle.port_model.proofs.Coherence.{coherent_between, coherent_is}
 use Rattle.port_model.proofs.Lists.{none_counted, none_left}
@@ -62,3 +63,18 @@ coherent_left {now = now} {got} {timers} {then} l same is =
 pub takes_it : {Passed : Got → Type 0} (state : PortState) {now : List Got} {got : Got} {timers : List ActiveTimer} → Leaves Passed state.waiting got now
     → timers ≡ after_taking got state.timers → TakesFirst Passed state got (record state { waiting = now; timers = timers })
 takes_it state l is = let now = l.now in record { before = l.before; after = l.after; was = l.was; passed = l.passed; now = cc }
+
+-- just the first entry is taken out
+pub head_leaves : {classes : List Class} {c : Class} (old new : BacklogValue) (got : Got) → IsHead classes old c → old.rest ≡ got ∷ new.rest
+    → new.passed ≡ [] → Leaves (IsSaved classes) (waiting_in old) got (waiting_in new) × HasClass c classes got
+head_leaves {classes} {c} old new got head taken none =
+    let first = head.rest in let here : head.got ≡ got = cc in (
+      record {
+        before = [];
+        after = new.rest;
+        was = ap (λ l. l ++ old.rest) head.passed ∙ taken;
+        passed = All-nil (IsSaved classes);
+        now = ap (λ l. l ++ new.rest) none;
+      },
+      subst (HasClass c classes) here head.has,
+    )

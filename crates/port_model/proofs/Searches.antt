@@ -1,4 +1,4 @@
-use Rattle.std.proofs.Common.{◌≡◌, ℕ, ◌+◌, ◌-◌, ◌<◌, ◌≤◌, List, ◌∷◌, ◌++◌, length, get_or, take, drop, All, Contains, sym, ap, subst, ◌∙◌, ⊎_elim, arith}
+use Rattle.std.proofs.Common.{◌≡◌, ℕ, ◌+◌, ◌-◌, ◌<◌, ◌≤◌, List, [], ◌∷◌, ◌++◌, length, get_or, take, drop, All, Contains, sym, ap, subst, ◌∙◌, ⊎_elim, arith}
 use Rattle.std.specs.List.{remove}
 use Rattle.std.proofs.lemmas.List.{take-append-drop, drop_more, length-take-le, get_or_default, get_or_past, take_all}
 use Rattle.std.proofs.lemmas.List.Edits.{remove-append_right}
@@ -53,3 +53,8 @@ pub remove-append : (before : List Got) (entry : Got) (after : List Got) (place 
 remove-append before entry after place at =
     let none : place - place ≡ 0 = omega arith in
     remove-append_right before (entry ∷ after) place place at (omega arith) ∙ ap (λ n. before ++ remove (entry ∷ after) n) none
+
+-- the first of a list that isn't empty, and those behind it
+pub head_is : (waiting : List Got) (got : Got) → 0 < length waiting → got ≡ get_or waiting 0 got → waiting ≡ got ∷ drop 1 waiting
+head_is [] got some is = absurd (omega (arith, some))
+head_is (first ∷ rest) got some is = ap (λ g. g ∷ rest) (sym is)

@@ -1,11 +1,11 @@
 -- What waits in a port, as the port keeps it.
-use Rattle.std.specs.Prelude.{◌≡◌, ◌≢◌, ◌+◌, ◌≤◌, ◌-◌, ◌==◌, min, ℕ, List, ◌∷◌, ◌++◌, length, take, All, Contains, if◌then◌else◌}
+use Rattle.std.specs.Prelude.{◌≡◌, ◌≢◌, ◌+◌, ◌≤◌, ◌-◌, ◌==◌, min, ℕ, List, [], ◌∷◌, ◌++◌, length, take, All, Contains, if◌then◌else◌}
 use Rattle.port_model.specs.declared.selection.Class.{Class}
 use Rattle.port_model.specs.declared.selection.Class.TheVariants as class
 use Rattle.port_model.specs.declared.got.Got.{Got}
 use Rattle.port_model.specs.declared.item.SignalId.{SignalId}
 use Rattle.port_model.specs.Selection.{class_of}
-use Rattle.port_model.specs.Take.{name_of}
+use Rattle.port_model.specs.Take.{name_of, HasClass, IsOrdinary}
 
 -- What waits in a port, as the port keeps it: what it has passed over, of which it noted the names, and the rest, of which it
 -- has looked at the first entries for a priority input and noted their names.
@@ -38,6 +38,17 @@ pub record IsBacklog (passed rest : List Got) (saved : List SignalId) (looked : 
   pub within : looked ≤ length rest
   pub ordinary_noted : All (IsNoted ordinary) (take looked rest)
   pub fits : length passed + length rest ≤ capacity
+
+-- Just the first entry is to be taken, which has this class: nothing was passed over, no name of what waits is that of a
+-- priority input, and no save names it.
+pub record IsHead (classes : List Class) (backlog : BacklogValue) (c : Class) : Type 0 where
+  pub got : Got
+  pub after : List Got
+  pub passed : backlog.passed ≡ []
+  pub rest : backlog.rest ≡ got ∷ after
+  pub has : HasClass c classes got
+  pub unsaved : c ≢ class.Saved
+  pub ordinary : All (IsOrdinary classes) backlog.rest
 
 -- how many entries are looked at still, after that at `place` of the rest was taken out
 abbrev pub looked_after : ℕ → ℕ → ℕ

@@ -2,7 +2,7 @@
 //! classes: so a take looks at no entry twice, however many wait.
 ghost use Rattle.std.specs.Prelude.{◌≡◌, ◌⊎◌, ◌==◌, ◌+◌, ◌<◌, ◌≤◌, [], ◌∷◌, ◌++◌, length, remove, slice_index_or, All, Contains, MatchOption, IfSome, IsTrue, OnOk, OnErr};
 ghost use Rattle.std.specs.VecDeque.{deque_capacity};
-ghost use Rattle.port_model.specs.Backlog.{looked_after, waiting_in, IsOrdinaryName, IsSavedName, Leaves};
+ghost use Rattle.port_model.specs.Backlog.{looked_after, waiting_in, IsHead, IsOrdinaryName, IsSavedName, Leaves};
 ghost use Rattle.port_model.specs.Search.{IsFirstUnsaved};
 ghost use Rattle.port_model.specs.Take.{HasClass, IsOrdinary, IsSaved};
 ghost use Rattle.port_model.specs.Timers.{without_signal};
@@ -125,30 +125,13 @@ impl Backlog {
         }
     }
 
-    /// Takes the first entry that isn't saved out, if there is one, with its class. Needs no memory.
+    /// The class of the first entry, where just this entry is to be taken. None: what is to be taken is still to be
+    /// looked for.
     #[inline(always)]
-    pub fn take_unsaved(&mut self, selection: &Selection) -> Option<Unsaved>
-        ensures { MatchOption result ((waiting_in self.new ≡ waiting_in self.old)
-            × All (IsSaved selection.now) (waiting_in self.new))
-            (λ taken. Leaves (IsSaved selection.now) (waiting_in self.old) taken.got (waiting_in self.new)
-            × HasClass taken.class selection.now taken.got × (taken.class ≡ class.Saved → ⊥)) }
+    pub fn first_class(&self, selection: &Selection) -> Option<Class>
+        ensures { IfSome result (IsHead selection.now self.now) }
     {
-        if let Some(class) = self.first_class(selection) {
-            return Some(Unsaved {
-                got: self.take_out(0),
-                class,
-            });
-        }
-        self.look_for_unsaved(selection)
-    }
-
-    // The class of the first entry. None: it is saved or was passed over, or there is none.
-    #[inline(always)]
-    fn first_class(&self, selection: &Selection) -> Option<Class>
-        ensures { IfSome result (λ class. (self.now.passed ≡ [])
-            × IsFirstUnsaved selection.now self.now.rest 0 class) }
-    {
-        if !self.passed.is_empty() {
+        if selection.has_priority() || !self.passed.is_empty() {
             return None;
         }
         let Some(got) = self.rest.front() else {
@@ -160,9 +143,20 @@ impl Backlog {
         }
     }
 
-    // Takes the first entry that isn't saved out, if there is one, with its class.
+    /// Takes the first entry out, where nothing was passed over. Needs no memory.
+    #[inline(always)]
+    pub fn take_first(&mut self) -> Got
+        requires passed { self.old.passed ≡ [] }
+        requires some { 0 < length self.old.rest }
+        ensures passed { self.new.passed ≡ [] }
+        ensures rest { self.old.rest ≡ result ∷ self.new.rest }
+    {
+        self.take_out(0)
+    }
+
+    /// Takes the first entry that isn't saved out, if there is one, with its class. Needs no memory.
     #[inline(never)]
-    fn look_for_unsaved(&mut self, selection: &Selection) -> Option<Unsaved>
+    pub fn take_unsaved(&mut self, selection: &Selection) -> Option<Unsaved>
         ensures { MatchOption result ((waiting_in self.new ≡ waiting_in self.old)
             × All (IsSaved selection.now) (waiting_in self.new))
             (λ taken. Leaves (IsSaved selection.now) (waiting_in self.old) taken.got (waiting_in self.new)

@@ -221,6 +221,7 @@ impl PlainPort {
 
     /// Takes the first entry of a priority input, else the first that isn't saved (Z.102, priority input, save). Takes
     /// no memory.
+    #[inline(always)]
     pub fn take(&mut self, selection: &Selection) -> Taken
         ensures take { Takes selection.now self.old.state result self.new.state }
         ensures armed { self.new.armed ≡ armed_left result self.old.armed }
@@ -228,6 +229,22 @@ impl PlainPort {
         if self.waiting.is_empty() {
             return Taken::Nothing;
         }
+        match self.waiting.first_class(selection) {
+            None => self.look(selection),
+            Some(class) => {
+                let got = self.waiting.take_first();
+                end_timer(&mut self.timers, &got);
+                taken_as(class, got)
+            }
+        }
+    }
+
+    // Takes the first entry of a priority input, else the first that isn't saved.
+    #[inline(never)]
+    fn look(&mut self, selection: &Selection) -> Taken
+        ensures take { Takes selection.now self.old.state result self.new.state }
+        ensures armed { self.new.armed ≡ armed_left result self.old.armed }
+    {
         if let Some(got) = self.take_priority(selection) {
             return Taken::Consumed(got);
         }
