@@ -1,5 +1,5 @@
 -- What the calls of a port leave coherent, and of its sets.
-use Rattle.std.proofs.Common.{◌≡◌, ℕ, ◌+◌, ◌<◌, ◌≤◌, true, false, List, [], ◌∷◌, ◌++◌, length, All, Option, Some, None, MatchOption, subst, sym, ap, ◌∙◌, refl, arith}
+use Rattle.std.proofs.Common.{◌≡◌, ℕ, ◌+◌, ◌≤◌, Bool, true, false, List, [], ◌∷◌, ◌++◌, length, Option, Some, None, MatchOption, subst, sym, ap, ◌∙◌, refl, arith}
 use Rattle.std.specs.Prelude.{filter}
 use Rattle.std.proofs.lemmas.List.Elements.{All-filter, All-push, All-weaker}
 use Rattle.port_model.specs.declared.timer_key.TimerKey.{TimerKey}
@@ -8,10 +8,10 @@ use Rattle.port_model.specs.declared.got.Got.{Got}
 use Rattle.port_model.specs.declared.got.Got.TheVariants.{Signal, Timer}
 use Rattle.port_model.specs.Backlog.{Leaves}
 use Rattle.port_model.specs.Coherence.{has_key, runs_by, IsCoherent}
-use Rattle.port_model.specs.PlainPort.{AreUpTo}
-use Rattle.port_model.specs.Port.{PortState}
-use Rattle.port_model.specs.Take.{TakesFirst}
-use Rattle.port_model.specs.Timers.{after_taking, armed_after, is_signal_of, waits, without_armed, without_signal, Armed}
+use Rattle.port_model.specs.PlainPort.{AreUpTo, PlainPortValue}
+use Rattle.port_model.specs.Port.{remove_from, set_in}
+use Rattle.port_model.specs.declared.timer.Phase.TheVariants.{Running}
+use Rattle.port_model.specs.Timers.{after_taking, armed_after, is_signal_of, waits, without_armed, without_key, without_signal, Armed}
 use Rattle.port_model.proofs.Coherence.{coherent_between, coherent_is}
 use Rattle.port_model.proofs.Lists.{none_counted, none_left}
 
@@ -45,9 +45,6 @@ one_set_more sets key due armed same all =
     (All-weaker (λ (a : Armed). a.arm ≤ sets) (λ (a : Armed). a.arm ≤ sets + 1) (λ a le. omega (arith, le)) (without_armed key armed)
     (fewer_sets sets key armed refl all)) (omega arith))
 
-pub all_before : (sets : ℕ) (armed : List Armed) → AreUpTo sets armed → All (λ (a : Armed). a.arm < sets + 1) armed
-all_before sets = All-weaker (λ (a : Armed). a.arm ≤ sets) (λ (a : Armed). a.arm < sets + 1) (λ a le. omega (arith, le))
-
 -- an entry that was taken out, with its timer
 pub sets_left : (sets : ℕ) (got : Got) (armed : List Armed) {now : List Armed} → now ≡ armed_after got armed → AreUpTo sets armed → AreUpTo sets now
 sets_left sets (Signal item) armed same all = rw same all
@@ -59,6 +56,14 @@ coherent_left {now = now} {got} {timers} {then} l same is =
     coherent_is now (l.before ++ l.after) then (after_taking got timers) l.now same
     (coherent_between l.before l.after got timers (subst (λ w. IsCoherent w timers) l.was is))
 
-pub takes_it : {Passed : Got → Type 0} (state : PortState) {now : List Got} {got : Got} {timers : List ActiveTimer} → Leaves Passed state.waiting got now
-    → timers ≡ after_taking got state.timers → TakesFirst Passed state got (record state { waiting = now; timers = timers })
-takes_it state l is = let now = l.now in record { before = l.before; after = l.after; was = l.was; passed = l.passed; now = cc }
+-- a port out of which a timer was taken, and one where it is set
+module _ (key : TimerKey) {waiting now : List Got} {timers then : List ActiveTimer} {sets room : ℕ} {alive : Bool} {armed : List Armed} {v : PlainPortValue} where
+  pub state_without : record { state = record { waiting = waiting; timers = timers; sets = sets; alive = alive }; armed = armed; room = room } ≡ v
+      → now ≡ without_signal key waiting → then ≡ without_key key timers
+      → record { waiting = now; timers = then; sets = sets; alive = alive } ≡ remove_from v.state key
+  state_without view waits left = cc
+
+  pub state_set : (due : ℕ) → record { state = record { waiting = waiting; timers = timers; sets = sets; alive = alive }; armed = armed; room = room } ≡ v
+      → now ≡ without_signal key waiting → then ≡ without_key key timers ++ record { key = key; phase = Running (sets + 1) due } ∷ []
+      → record { waiting = now; timers = then; sets = sets + 1; alive = alive } ≡ set_in v.state key due
+  state_set due view waits left = cc

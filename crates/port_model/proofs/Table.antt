@@ -24,12 +24,9 @@ use Rattle.port_model.specs.declared.timers.Timer.{Timer}
 use Rattle.port_model.specs.Table.{Kept, active_of, armed_of, put_in, in_order, is_of, is_set_by, is_until, runs_until, deadline_at, deadline_order, phase_of, IsTable, TimersValue}
 use Rattle.port_model.specs.Timers.{same_key, key_order, same_phase, due_times, is_active, is_running, is_set, waits, with_waiting, without_key, armed_for, without_armed, is_armed, Armed, IsLeast}
 use Rattle.port_model.specs.Coherence.{has_key}
-use Rattle.port_model.proofs.Keys.{same_key-Decides, key_order-Decides}
+use Rattle.port_model.proofs.Keys.{same_itself, same_key-Decides, key_order-Decides}
 use Rattle.port_model.proofs.Lists.{With, first, later, alone_kept, alone_tested, any_implied, any_with, count_with, none_counted, none_implied, none_kept, none_left, none_tested, others_left, with_map}
 use Rattle.port_model.proofs.Ordered.{any_in_order, any_viewed, last_in_order, late, no_set_yet, order_is, with_order, Below}
-
-same_itself : (key : TimerKey) → same_key key key ≡ true
-same_itself key = (same_key-Decides key key).1 refl
 
 abbrev pub at : TimerKey → TimerKey → Bool
 at key = is_at (key_order key)
