@@ -70,7 +70,7 @@ taken_out {rest = rest} {looked = looked} {ordinary = ordinary} place is in' lef
       ordinary_noted = subst (λ l. All (IsNoted ordinary) (take (looked_after looked place) l)) (sym left)
           (cond_both (place == 0) (looked - 1) (min looked place) (λ n. All (IsNoted ordinary) (take n (remove rest place)))
           (λ e. let first : 0 ≡ place = grind (arith, nat_tests) in
-              subst (λ n. All (IsNoted ordinary) (take (looked - 1) (remove rest n))) first (first_gone (IsNoted ordinary) looked rest is.ordinary_noted))
+          subst (λ n. All (IsNoted ordinary) (take (looked - 1) (remove rest n))) first (first_gone (IsNoted ordinary) looked rest is.ordinary_noted))
           (λ _. later_kept (IsNoted ordinary) looked place rest in' is.ordinary_noted));
       fits = omega arith;
     }
