@@ -10,8 +10,7 @@ use Rattle.port_model.specs.Backlog.{Leaves}
 use Rattle.port_model.specs.Coherence.{has_key, runs_by, IsCoherent}
 use Rattle.port_model.specs.PlainPort.{AreUpTo, PlainPortValue}
 use Rattle.port_model.specs.Port.{remove_from, set_in}
-use Rattle.port_model.specs.declared.timer.Phase.TheVariants.{Running}
-use Rattle.port_model.specs.Timers.{after_taking, armed_after, is_signal_of, waits, without_armed, without_key, without_signal, Armed}
+use Rattle.port_model.specs.Timers.{after_taking, armed_after, is_signal_of, waits, with_armed, with_running, without_armed, without_key, without_signal, Armed}
 use Rattle.port_model.proofs.Coherence.{coherent_between, coherent_is}
 use Rattle.port_model.proofs.Lists.{none_counted, none_left}
 
@@ -39,7 +38,7 @@ pub fewer_sets : (sets : ℕ) (key : TimerKey) (armed : List Armed) {now : List 
 fewer_sets sets key armed same all = rw same (All-filter _ (λ (a : Armed). a.arm ≤ sets) armed all)
 
 pub one_set_more : (sets : ℕ) (key : TimerKey) (due : ℕ) (armed : List Armed) {now : List Armed}
-    → now ≡ without_armed key armed ++ record { key = key; arm = sets + 1; due = due } ∷ [] → AreUpTo sets armed → AreUpTo (sets + 1) now
+    → now ≡ with_armed key (sets + 1) due armed → AreUpTo sets armed → AreUpTo (sets + 1) now
 one_set_more sets key due armed same all =
     rw same (All-push (λ (a : Armed). a.arm ≤ sets + 1) (without_armed key armed) (record { key = key; arm = sets + 1; due = due })
     (All-weaker (λ (a : Armed). a.arm ≤ sets) (λ (a : Armed). a.arm ≤ sets + 1) (λ a le. omega (arith, le)) (without_armed key armed)
@@ -64,6 +63,6 @@ module _ (key : TimerKey) {waiting now : List Got} {timers then : List ActiveTim
   state_without view waits left = cc
 
   pub state_set : (due : ℕ) → record { state = record { waiting = waiting; timers = timers; sets = sets; alive = alive }; armed = armed; room = room } ≡ v
-      → now ≡ without_signal key waiting → then ≡ without_key key timers ++ record { key = key; phase = Running (sets + 1) due } ∷ []
+      → now ≡ without_signal key waiting → then ≡ with_running key (sets + 1) due timers
       → record { waiting = now; timers = then; sets = sets + 1; alive = alive } ≡ set_in v.state key due
   state_set due view waits left = cc
