@@ -9,7 +9,7 @@ use Rattle.port_model.specs.declared.error.PortError.TheVariants.{SetsSpent, Mem
 use Rattle.port_model.specs.declared.timer_key.TimerKey.{TimerKey}
 use Rattle.port_model.specs.PlainPort.{armed_left}
 use Rattle.port_model.specs.Port.{PortState, put_into, expire_in, remove_from, set_in, stopped}
-use Rattle.port_model.specs.Timers.{without_armed}
+use Rattle.port_model.specs.Timers.{with_armed, without_armed}
 use Rattle.port_model.specs.Take as take
 use Rattle.inbox.specs.declared.entry.Entry.{Entry}
 use Rattle.inbox.specs.declared.entry.Entry.TheVariants.{Signal, Timer}
@@ -38,10 +38,7 @@ after_draws pid port (placed ∷ more) = after_draws pid (after_draw pid port pl
 
 -- what an owner becomes by a set, a reset and the stop
 abbrev pub after_set : OwnerState → TimerKey → ℕ → OwnerState
-after_set o key due = record o {
-  state = set_in o.state key due;
-  armed = without_armed key o.armed ++ record { key = key; arm = o.state.sets + 1; due = due } ∷ [];
-}
+after_set o key due = record o { state = set_in o.state key due; armed = with_armed key (o.state.sets + 1) due o.armed }
 
 abbrev pub after_reset : OwnerState → TimerKey → OwnerState
 after_reset o key = record o { state = remove_from o.state key; armed = without_armed key o.armed }

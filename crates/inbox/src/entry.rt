@@ -25,10 +25,7 @@ pub struct FuseParts {
 
 impl Fuse {
     pub(crate) fn new(pid: u32, key: TimerKey, arm: Arm, due: Ticks) -> Self
-        ensures pid { result.pid ≡ pid }
-        ensures key { result.key ≡ key }
-        ensures arm { result.arm ≡ arm }
-        ensures due { result.due ≡ due }
+        ensures { result ≡ record { pid = pid; key = key; arm = arm; due = due } }
     {
         Fuse { pid, key, arm, due }
     }
@@ -36,12 +33,7 @@ impl Fuse {
     pub(crate) fn into_parts(self) -> FuseParts
         ensures { result ≡ record { key = self.key; arm = self.arm; due = self.due } }
     {
-        let Fuse {
-            pid: _,
-            key,
-            arm,
-            due,
-        } = self;
+        let Fuse { key, arm, due, .. } = self;
         FuseParts { key, arm, due }
     }
 

@@ -1,10 +1,10 @@
 //! What fuses are to the port of one thread: a set makes one, an expiry spends one, and at the end each timer's signal
 //! that waits gets its own back.
-ghost use Rattle.std.specs.Prelude.{◌≡◌, ◌↔◌, ◌⊎◌, ◌+◌, ◌<◌, ◌≤◌, ◌++◌, ◌∷◌, [], length, All, vec_capacity, IsErrOf, MatchResult};
+ghost use Rattle.std.specs.Prelude.{◌≡◌, ◌↔◌, ◌⊎◌, ◌+◌, ◌<◌, ◌≤◌, [], length, All, vec_capacity, IsErrOf, MatchResult};
 ghost use Rattle.port_model.specs.Coherence.{IsCoherent};
 ghost use Rattle.port_model.specs.Port.{set_in};
 ghost use Rattle.port_model.specs.Table.{TimersValue};
-ghost use Rattle.port_model.specs.Timers.{without_armed};
+ghost use Rattle.port_model.specs.Timers.{with_armed};
 ghost use Rattle.port_model.specs.declared.plain_port.TheConstants.{MOST_SETS};
 ghost use Rattle.inbox.specs.Calls.{after_draw};
 ghost use Rattle.inbox.specs.Left.{got_of, AreWaiting, HasItsFuse, IsFused};
@@ -22,7 +22,8 @@ pub fn set(plain: &mut PlainPort, pid: u32, key: TimerKey, due: Ticks) -> Result
         × (fuse ≡ record { pid = pid; key = key; arm = plain.old.state.sets + 1; due = due }))
         (λ error. (plain.new.state ≡ plain.old.state)
         × ((error ≡ PortError.SetsSpent) ⊎ (error ≡ PortError.Memory))) }
-    ensures armed { MatchResult result (λ fuse. plain.new.armed ≡ without_armed key plain.old.armed ++ record { key = key; arm = plain.old.state.sets + 1; due = due } ∷ []) (λ _. plain.new.armed ≡ plain.old.armed) }
+    ensures armed { MatchResult result (λ fuse. plain.new.armed ≡ with_armed key (plain.old.state.sets + 1) due plain.old.armed)
+        (λ _. plain.new.armed ≡ plain.old.armed) }
     ensures spent { IsErrOf result PortError.SetsSpent ↔ (plain.old.state.sets ≡ MOST_SETS) }
 {
     if plain.sets_spent() {

@@ -29,12 +29,7 @@ impl Placed {
     pub fn into_entry(self) -> Entry
         ensures { result ≡ self.entry }
     {
-        let Placed {
-            number: _,
-            count: _,
-            at: _,
-            entry,
-        } = self;
+        let Placed { entry, .. } = self;
         entry
     }
 }

@@ -1,4 +1,4 @@
-use Rattle.std.proofs.Common.{◌≡◌, sym, ap, ◌∙◌}
+use Rattle.std.proofs.Common.{◌≡◌, true, refl, sym, ap, ◌∙◌}
 use Rattle.std.specs.Ordering.{is_eq}
 use Rattle.std.specs.Bool.{Decides}
 use Rattle.std.proofs.lemmas.Bool.Decides.{Decides-and, Decides-eqb, Decides-like}
@@ -14,6 +14,9 @@ same_key-Decides a b =
     (λ parts. ap (λ n. record { name = record { 0 = n }; values = a.values }) parts.0 ∙ ap (λ v. record { name = b.name; values = v }) parts.1)
     (λ same. (ap (λ k. k.name.0) same, ap (λ k. k.values) same))
     (Decides-and _ _ (Decides-eqb a.name.0 b.name.0) (same_values-Decides a.values b.values))
+
+pub same_itself : (key : TimerKey) → same_key key key ≡ true
+same_itself key = (same_key-Decides key key).1 refl
 
 -- and their order tells them apart
 pub key_order-Decides : (a b : TimerKey) → Decides (is_eq (key_order a b)) (a ≡ b)

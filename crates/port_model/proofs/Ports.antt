@@ -1,5 +1,5 @@
 -- What the calls of a port leave coherent, and of its sets.
-use Rattle.std.proofs.Common.{◌≡◌, ℕ, ◌+◌, ◌<◌, ◌≤◌, true, false, List, [], ◌∷◌, ◌++◌, length, All, Option, Some, None, MatchOption, subst, sym, ap, ◌∙◌, refl, arith}
+use Rattle.std.proofs.Common.{◌≡◌, ℕ, ◌+◌, ◌≤◌, Bool, true, false, List, [], ◌∷◌, ◌++◌, length, Option, Some, None, MatchOption, subst, sym, ap, ◌∙◌, refl, arith}
 use Rattle.std.specs.Prelude.{filter}
 use Rattle.std.proofs.lemmas.List.Elements.{All-filter, All-nil, All-push, All-weaker}
 use Rattle.port_model.specs.declared.timer_key.TimerKey.{TimerKey}
@@ -9,10 +9,10 @@ use Rattle.port_model.specs.declared.selection.Class.{Class}
 use Rattle.port_model.specs.declared.got.Got.TheVariants.{Signal, Timer}
 use Rattle.port_model.specs.Backlog.{waiting_in, BacklogValue, IsHead, Leaves}
 use Rattle.port_model.specs.Coherence.{has_key, runs_by, IsCoherent}
-use Rattle.port_model.specs.PlainPort.{AreUpTo}
-use Rattle.port_model.specs.Port.{PortState}
-use Rattle.port_model.specs.Take.{HasClass, IsSaved, TakesFirst}
-use Rattle.port_model.specs.Timers.{after_taking, armed_after, is_signal_of, waits, without_armed, without_signal, Armed}
+use Rattle.port_model.specs.PlainPort.{AreUpTo, PlainPortValue}
+use Rattle.port_model.specs.Port.{remove_from, set_in}
+use Rattle.port_model.specs.Take.{HasClass, IsSaved}
+use Rattle.port_model.specs.Timers.{after_taking, armed_after, is_signal_of, waits, with_armed, with_running, without_armed, without_key, without_signal, Armed}
 use Rattle.port_model.proofs.Coherence.{coherent_between, coherent_is}
 use Rattle.port_model.proofs.Lists.{none_counted, none_left}
 
@@ -40,14 +40,11 @@ pub fewer_sets : (sets : ℕ) (key : TimerKey) (armed : List Armed) {now : List 
 fewer_sets sets key armed same all = rw same (All-filter _ (λ (a : Armed). a.arm ≤ sets) armed all)
 
 pub one_set_more : (sets : ℕ) (key : TimerKey) (due : ℕ) (armed : List Armed) {now : List Armed}
-    → now ≡ without_armed key armed ++ record { key = key; arm = sets + 1; due = due } ∷ [] → AreUpTo sets armed → AreUpTo (sets + 1) now
+    → now ≡ with_armed key (sets + 1) due armed → AreUpTo sets armed → AreUpTo (sets + 1) now
 one_set_more sets key due armed same all =
     rw same (All-push (λ (a : Armed). a.arm ≤ sets + 1) (without_armed key armed) (record { key = key; arm = sets + 1; due = due })
     (All-weaker (λ (a : Armed). a.arm ≤ sets) (λ (a : Armed). a.arm ≤ sets + 1) (λ a le. omega (arith, le)) (without_armed key armed)
     (fewer_sets sets key armed refl all)) (omega arith))
-
-pub all_before : (sets : ℕ) (armed : List Armed) → AreUpTo sets armed → All (λ (a : Armed). a.arm < sets + 1) armed
-all_before sets = All-weaker (λ (a : Armed). a.arm ≤ sets) (λ (a : Armed). a.arm < sets + 1) (λ a le. omega (arith, le))
 
 -- an entry that was taken out, with its timer
 pub sets_left : (sets : ℕ) (got : Got) (armed : List Armed) {now : List Armed} → now ≡ armed_after got armed → AreUpTo sets armed → AreUpTo sets now
@@ -59,10 +56,6 @@ pub coherent_left : {Passed : Got → Type 0} {old now : List Got} {got : Got} {
 coherent_left {now = now} {got} {timers} {then} l same is =
     coherent_is now (l.before ++ l.after) then (after_taking got timers) l.now same
     (coherent_between l.before l.after got timers (subst (λ w. IsCoherent w timers) l.was is))
-
-pub takes_it : {Passed : Got → Type 0} (state : PortState) {now : List Got} {got : Got} {timers : List ActiveTimer} → Leaves Passed state.waiting got now
-    → timers ≡ after_taking got state.timers → TakesFirst Passed state got (record state { waiting = now; timers = timers })
-takes_it state l is = let now = l.now in record { before = l.before; after = l.after; was = l.was; passed = l.passed; now = cc }
 
 -- just the first entry is taken out
 pub head_leaves : {classes : List Class} {c : Class} (old new : BacklogValue) (got : Got) → IsHead classes old c → old.rest ≡ got ∷ new.rest
@@ -78,3 +71,15 @@ head_leaves {classes} {c} old new got head taken none =
       },
       subst (HasClass c classes) here head.has,
     )
+
+-- a port out of which a timer was taken, and one where it is set
+module _ (key : TimerKey) {waiting now : List Got} {timers then : List ActiveTimer} {sets room : ℕ} {alive : Bool} {armed : List Armed} {v : PlainPortValue} where
+  pub state_without : record { state = record { waiting = waiting; timers = timers; sets = sets; alive = alive }; armed = armed; room = room } ≡ v
+      → now ≡ without_signal key waiting → then ≡ without_key key timers
+      → record { waiting = now; timers = then; sets = sets; alive = alive } ≡ remove_from v.state key
+  state_without view waits left = cc
+
+  pub state_set : (due : ℕ) → record { state = record { waiting = waiting; timers = timers; sets = sets; alive = alive }; armed = armed; room = room } ≡ v
+      → now ≡ without_signal key waiting → then ≡ with_running key (sets + 1) due timers
+      → record { waiting = now; timers = then; sets = sets + 1; alive = alive } ≡ set_in v.state key due
+  state_set due view waits left = cc

@@ -13,7 +13,7 @@ use Rattle.port_model.specs.Laws.{IsNoSetOf, IsNoTakeOf, ResetsForGood, IsFromOu
 use Rattle.port_model.specs.Port.{PortState, remove_from}
 use Rattle.port_model.specs.Take.{IsOrdinary, IsSaved, TakesFirst}
 use Rattle.port_model.specs.Timers.{same_key, same_phase, is_active, is_running, is_signal_of, with_waiting, without_key, after_taking}
-use Rattle.port_model.proofs.Keys.{same_key-Decides}
+use Rattle.port_model.proofs.Keys.{same_itself, same_key-Decides}
 use Rattle.port_model.proofs.Lists.{any_implied, any_with, middle, none_filter, none_passes, pushed}
 
 -- an expiry leaves the keys of the map
@@ -52,7 +52,7 @@ module _ (key : TimerKey) where
       let was = any_with (is_signal_of key) (middle t.before t.after got) in let none = gone.signal in let is = t.was in
       let now = t.now in let timers = gone_after_taking got old.timers gone.timer in (
         record { signal = grind arith; timer = grind arith },
-        λ e. let same = (same_key-Decides key key).1 refl in let is_it = ap (is_signal_of key) e in grind arith,
+        λ e. let same = same_itself key in let is_it = ap (is_signal_of key) e in grind arith,
       )
 
   -- it stays so, and no take gives the signal, until the timer is set again

@@ -22,14 +22,11 @@ use Rattle.port_model.specs.declared.timer.Phase.TheVariants.{Running}
 use Rattle.port_model.specs.declared.timer_key.TimerKey.{TimerKey}
 use Rattle.port_model.specs.declared.timers.Timer.{Timer}
 use Rattle.port_model.specs.Table.{Kept, active_of, armed_of, put_in, in_order, is_of, is_set_by, is_until, runs_until, deadline_at, deadline_order, phase_of, IsTable, TimersValue}
-use Rattle.port_model.specs.Timers.{same_key, key_order, same_phase, due_times, is_active, is_running, is_set, waits, with_waiting, without_key, armed_for, without_armed, is_armed, Armed, IsLeast}
+use Rattle.port_model.specs.Timers.{same_key, key_order, same_phase, due_times, is_active, is_running, is_set, waits, with_armed, with_running, with_waiting, without_key, armed_for, without_armed, is_armed, Armed, IsLeast}
 use Rattle.port_model.specs.Coherence.{has_key}
-use Rattle.port_model.proofs.Keys.{same_key-Decides, key_order-Decides}
+use Rattle.port_model.proofs.Keys.{same_itself, same_key-Decides, key_order-Decides}
 use Rattle.port_model.proofs.Lists.{With, first, later, alone_kept, alone_tested, any_implied, any_with, count_with, none_counted, none_implied, none_kept, none_left, none_tested, others_left, with_map}
 use Rattle.port_model.proofs.Ordered.{any_in_order, any_viewed, last_in_order, late, no_set_yet, order_is, with_order, Below}
-
-same_itself : (key : TimerKey) → same_key key key ≡ true
-same_itself key = (same_key-Decides key key).1 refl
 
 abbrev pub at : TimerKey → TimerKey → Bool
 at key = is_at (key_order key)
@@ -239,8 +236,7 @@ module _ (key : TimerKey) {entries : List Kept} {due : Deadline → Bool} {v : T
     older : (timer.arm < arm) × Below arm others
     older = let all : list_any (late arm) entries ≡ (late arm (key, timer) || list_any (late arm) others) = any_with (late arm) it in let below : Below arm entries = below_from_armed entries view arm before in grind (arith, nat_tests)
 
-    pub renewed_lists : (timers_of renewed ≡ without_key key v.timers ++ record { key = key; phase = Running arm time } ∷ [])
-        × (armed_in renewed ≡ without_armed key v.armed ++ record { key = key; arm = arm; due = time } ∷ [])
+    pub renewed_lists : (timers_of renewed ≡ with_running key arm time v.timers) × (armed_in renewed ≡ with_armed key arm time v.armed)
     renewed_lists =
         let timers = set_timers key arm time others renewed again older.1 in let armed = set_armed key arm time others renewed again older.1 in
         let left = has_timer in (cc, cc)
@@ -287,8 +283,7 @@ module _ (key : TimerKey) (entries : List Kept) {v : TimersValue} (view : view_o
   none : lookup (at key) entries ≡ None
   none = let found = active_is key entries in let no : is_active key (timers_of entries) ≡ false = cc in grind arith
 
-  pub added_lists : (timers_of added ≡ without_key key v.timers ++ record { key = key; phase = Running arm due } ∷ [])
-      × (armed_in added ≡ without_armed key v.armed ++ record { key = key; arm = arm; due = due } ∷ [])
+  pub added_lists : (timers_of added ≡ with_running key arm due v.timers) × (armed_in added ≡ with_armed key arm due v.armed)
   added_lists =
       let w = insert_with key (set_to arm due) entries none in let below = below_from_armed entries view arm before in
       let timers = set_timers key arm due entries added w below in let armed = set_armed key arm due entries added w below in

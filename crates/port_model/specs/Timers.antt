@@ -1,5 +1,5 @@
 -- Active timers: keys, due times, and what their sets gave.
-use Rattle.std.specs.Prelude.{◌≡◌, ℕ, ◌≤◌, min, ◌&&◌, Bool, true, false, not, List, [], Option, Some, None, filter, map, All, Contains, MatchOption, if◌then◌else◌}
+use Rattle.std.specs.Prelude.{◌≡◌, ℕ, ◌≤◌, min, ◌&&◌, Bool, true, false, not, List, [], ◌∷◌, ◌++◌, Option, Some, None, filter, map, All, Contains, MatchOption, if◌then◌else◌}
 use Rattle.std.specs.List.{list_any, filter_map}
 use Rattle.std.specs.declared.cmp.Ordering.{Ordering}
 use Rattle.port_model.specs.declared.got.Got.{Got}
@@ -40,6 +40,10 @@ is_set (Waiting arm) = false
 abbrev pub without_key : TimerKey → List ActiveTimer → List ActiveTimer
 without_key key timers = filter (λ timer. not (same_key timer.key key)) timers
 
+-- the map with this key as Running, by this set and until this time
+abbrev pub with_running : TimerKey → ℕ → ℕ → List ActiveTimer → List ActiveTimer
+with_running key arm due timers = without_key key timers ++ record { key = key; phase = Running arm due } ∷ []
+
 -- the map with this key as Waiting
 abbrev pub waiting_timer : TimerKey → ℕ → ActiveTimer → ActiveTimer
 waiting_timer key arm timer = if same_key timer.key key then record timer { phase = Waiting arm } else timer
@@ -76,6 +80,10 @@ armed_for key armed = filter (is_armed key) armed
 
 abbrev pub without_armed : TimerKey → List Armed → List Armed
 without_armed key armed = filter (λ a. not (is_armed key a)) armed
+
+-- with what this set of the timer gave
+abbrev pub with_armed : TimerKey → ℕ → ℕ → List Armed → List Armed
+with_armed key arm due armed = without_armed key armed ++ record { key = key; arm = arm; due = due } ∷ []
 
 -- what is left of it after an entry was taken
 abbrev pub armed_after : Got → List Armed → List Armed

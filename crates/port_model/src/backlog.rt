@@ -197,13 +197,7 @@ impl Backlog {
         ensures { result.items ≡ waiting_in self }
     {
         self.pass_back();
-        let Backlog {
-            passed: _,
-            rest,
-            saved: _,
-            looked: _,
-            ordinary: _,
-        } = self;
+        let Backlog { rest, .. } = self;
         rest
     }
 

@@ -1,11 +1,11 @@
 //! The input port of one thread.
-ghost use Rattle.std.specs.Prelude.{◌≡◌, ◌↔◌, ◌⊎◌, ◌+◌, ◌<◌, ◌++◌, ◌∷◌, [], true, length, All, IsTrue, IfOk, IfErr, IsErrOf, OnOk, OnErr, MatchOption, MatchResult};
+ghost use Rattle.std.specs.Prelude.{◌≡◌, ◌↔◌, ◌⊎◌, ◌+◌, ◌<◌, [], true, length, All, IsTrue, IfOk, IfErr, IsErrOf, OnOk, OnErr, MatchOption, MatchResult};
 ghost use Rattle.port_model.specs.Backlog.{waiting_in};
 ghost use Rattle.port_model.specs.Coherence.{IsCoherent};
 ghost use Rattle.port_model.specs.PlainPort.{armed_left};
 ghost use Rattle.port_model.specs.Port.{empty_port, expires, expire_in, put_into, remove_from, set_in, stopped};
 ghost use Rattle.port_model.specs.Take.{taken_as, HasClass, IsOrdinary, Takes, TakesFirst};
-ghost use Rattle.port_model.specs.Timers.{after_taking, armed_after, due_times, is_active, without_armed, without_signal, IsLeast};
+ghost use Rattle.port_model.specs.Timers.{after_taking, armed_after, due_times, is_active, with_armed, without_armed, without_signal, IsLeast};
 ghost use Rattle.port_model.specs.declared.selection.Class.TheVariants as class;
 
 use crate::backlog::{Backlog, Unsaved};
@@ -182,7 +182,8 @@ impl PlainPort {
         ensures spent { IsErrOf result PortError.SetsSpent ↔ (self.old.state.sets ≡ MOST_SETS) }
         ensures errors { IfErr result (λ error. (error ≡ PortError.SetsSpent) ⊎ (error ≡ PortError.Memory)) }
         ensures err { OnErr result (self.new.state ≡ self.old.state) }
-        ensures armed { MatchResult result (λ arm. self.new.armed ≡ without_armed key self.old.armed ++ record { key = key; arm = arm; due = due } ∷ []) (λ _. self.new.armed ≡ self.old.armed) }
+        ensures armed { MatchResult result (λ arm. self.new.armed ≡ with_armed key arm due self.old.armed)
+            (λ _. self.new.armed ≡ self.old.armed) }
     {
         if self.sets == MOST_SETS {
             return Err(PortError::SetsSpent);
@@ -303,8 +304,7 @@ impl PlainPort {
         let PlainPort {
             waiting,
             timers,
-            sets: _,
-            alive: _,
+            ..
         } = self;
         PortParts {
             waiting: waiting.into_deque(),

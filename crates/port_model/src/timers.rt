@@ -1,10 +1,9 @@
 //! The table of a port's active timers. Each call takes a time that is logarithmic in their number.
-ghost use Rattle.std.specs.Prelude.{◌≡◌, ◌==◌, ◌&&◌, not, ◌<◌, ◌++◌, ◌∷◌, [], true, false, if◌then◌else◌, All, MatchOption, MatchResult, IfOk, IfSome};
+ghost use Rattle.std.specs.Prelude.{◌≡◌, ◌==◌, ◌&&◌, not, ◌<◌, ◌∷◌, [], true, false, if◌then◌else◌, All, MatchOption, MatchResult, IfOk, IfSome};
 ghost use Rattle.std.specs.BTreeSet.{contains};
 ghost use Rattle.port_model.specs.Table.{deadline_order, is_until};
-ghost use Rattle.port_model.specs.Timers.{armed_for, due_times, is_active, is_running, waits, with_waiting, without_armed, without_key, Armed, IsLeast};
+ghost use Rattle.port_model.specs.Timers.{armed_for, due_times, is_active, is_running, waits, with_armed, with_running, with_waiting, without_armed, without_key, Armed, IsLeast};
 ghost use Rattle.port_model.specs.declared.deadline.Deadline.{Deadline};
-ghost use Rattle.port_model.specs.declared.timer.Phase.TheVariants.{Running};
 
 use crate::deadline::Deadline;
 use crate::{Arm, Ticks, TimerKey};
@@ -116,12 +115,10 @@ impl Timers {
         due: Ticks,
     ) -> Result<Option<TimerKey>, AllocError>
         requires { All (λ (armed : Armed). armed.arm < arm) self.old.armed }
-        ensures timers { MatchResult result
-            (λ _. self.new.timers ≡ without_key key self.old.timers ++ record {
-              key = key;
-              phase = Running arm due;
-            } ∷ []) (λ _. self.new ≡ self.old) }
-        ensures armed { MatchResult result (λ _. self.new.armed ≡ without_armed key self.old.armed ++ record { key = key; arm = arm; due = due } ∷ []) (λ _. self.new ≡ self.old) }
+        ensures timers { MatchResult result (λ _. self.new.timers ≡ with_running key arm due self.old.timers)
+            (λ _. self.new ≡ self.old) }
+        ensures armed { MatchResult result (λ _. self.new.armed ≡ with_armed key arm due self.old.armed)
+            (λ _. self.new ≡ self.old) }
         ensures waited { MatchResult result (λ back. MatchOption back (waits key self.old.timers ≡ false)
             (λ k. (k ≡ key) × (waits key self.old.timers ≡ true))) (λ _. Unit {0}) }
     {
@@ -137,12 +134,10 @@ impl Timers {
     fn add(&mut self, key: TimerKey, arm: Arm, due: Ticks) -> Result<(), AllocError>
         requires inactive { is_active key self.old.timers ≡ false }
         requires later { All (λ (armed : Armed). armed.arm < arm) self.old.armed }
-        ensures timers { MatchResult result
-            (λ _. self.new.timers ≡ without_key key self.old.timers ++ record {
-              key = key;
-              phase = Running arm due;
-            } ∷ []) (λ _. self.new ≡ self.old) }
-        ensures armed { MatchResult result (λ _. self.new.armed ≡ without_armed key self.old.armed ++ record { key = key; arm = arm; due = due } ∷ []) (λ _. self.new ≡ self.old) }
+        ensures timers { MatchResult result (λ _. self.new.timers ≡ with_running key arm due self.old.timers)
+            (λ _. self.new ≡ self.old) }
+        ensures armed { MatchResult result (λ _. self.new.armed ≡ with_armed key arm due self.old.armed)
+            (λ _. self.new ≡ self.old) }
     {
         if let Err(_) = self.deadlines.insert(Deadline { due, arm }) {
             return Err(AllocError);
@@ -163,12 +158,10 @@ impl Timers {
     fn renew(&mut self, key: &TimerKey, arm: Arm, due: Ticks) -> Result<bool, AllocError>
         requires active { is_active key.now self.old.timers ≡ true }
         requires later { All (λ (armed : Armed). armed.arm < arm) self.old.armed }
-        ensures timers { MatchResult result
-            (λ _. self.new.timers ≡ without_key key.now self.old.timers ++ record {
-              key = key.now;
-              phase = Running arm due;
-            } ∷ []) (λ _. self.new ≡ self.old) }
-        ensures armed { MatchResult result (λ _. self.new.armed ≡ without_armed key.now self.old.armed ++ record { key = key.now; arm = arm; due = due } ∷ []) (λ _. self.new ≡ self.old) }
+        ensures timers { MatchResult result (λ _. self.new.timers ≡ with_running key.now arm due self.old.timers)
+            (λ _. self.new ≡ self.old) }
+        ensures armed { MatchResult result (λ _. self.new.armed ≡ with_armed key.now arm due self.old.armed)
+            (λ _. self.new ≡ self.old) }
         ensures waited { IfOk result (λ waited. waited ≡ waits key.now self.old.timers) }
     {
         if let Err(_) = self.deadlines.insert(Deadline { due, arm }) {

@@ -14,12 +14,8 @@ loop-got-init c = (
 
 pub loop-got-preserved : goal.loop-got-preserved
 loop-got-preserved c =
-    let more = entries_more c.args.pid c.args.timers.now.timers c.args.timers.now.armed c.args.waiting.items c.loop-got.waiting.items c.pop_front.new.self.items c.loop-got.list.items
-    c.push_reserved.new.self.items c.in-Some.got c.entry.result c.loop-got.invariant.0 c.loop-got.invariant.1 c.loop-got.invariant.2
+    let l = c.loop-got.invariant in
+    let more = entries_more c.args.pid c.args.timers.now.timers c.args.timers.now.armed _ _ _ _ _ _ _ l.0 l.1 l.2
     c.in-Some.ensures.items c.entry.ensures.got c.entry.ensures.fuse c.push_reserved.ensures.items in
-    let fewer = ap length c.in-Some.ensures.items in (
-      more.0,
-      more.1,
-      more.2,
-      omega (arith, c.loop-got.invariant.3, c.push_reserved.ensures.len, c.push_reserved.ensures.capacity, fewer),
-    )
+    let fewer = ap length c.in-Some.ensures.items in
+    (more.0, more.1, more.2, omega (arith, l.3, c.push_reserved.ensures.len, c.push_reserved.ensures.capacity, fewer))

@@ -1,14 +1,8 @@
-use Rattle.std.proofs.Common.{◌∙◌, ◌+◌, ap, arith}
+use Rattle.std.proofs.Common.{arith}
 use Rattle.port_model.specs.Backlog.{waiting_in}
-use Rattle.port_model.specs.PlainPort.{PlainPortValue}
-use Rattle.port_model.specs.Port.{set_in}
-use Rattle.port_model.specs.Timers.{without_signal}
 use Rattle.port_model.proofs.Coherence.{coherent_is, coherent_set}
-use Rattle.port_model.proofs.Ports.{all_before, one_set_more, signal_out}
+use Rattle.port_model.proofs.Ports.{one_set_more, signal_out, state_set}
 use Rattle.port_model.proofs.plain_port.PlainPort.set.Goals as goal
-
-pub set-requires : goal.set-requires
-set-requires c = rw c.new.ensures (all_before c.self.inside.sets _ c.self.invariant.2)
 
 pub invariant_of-self-2 : goal.invariant_of-self-2
 invariant_of-self-2 c =
@@ -21,7 +15,4 @@ invariant_of-self-2 c =
 pub returns-clause-ok : goal.returns-clause-ok
 returns-clause-ok c =
     let left = signal_out c.args.key _ (waiting_in c.forget_signal.new.waiting) _ c.in-Ok.waited c.self.invariant.1 c.in-Ok.ensures.waited c.forget_signal.ensures in
-    let timers = rw c.new.ensures at c.in-Ok.ensures.timers in
-    ap (λ l. record { waiting = l; timers = c.set.new.self.timers; sets = c.self.inside.sets + 1; alive = c.self.inside.alive }) left
-    ∙ ap (λ t. record { waiting = without_signal c.args.key (waiting_in c.self.inside.waiting); timers = t; sets = c.self.inside.sets + 1; alive = c.self.inside.alive }) timers
-    ∙ ap (λ (p : PlainPortValue). set_in p.state c.args.key c.args.due) c.self.view_is
+    state_set c.args.key c.args.due c.self.view_is left (rw c.new.ensures at c.in-Ok.ensures.timers)
