@@ -1,6 +1,7 @@
 use Rattle.std.proofs.Common.{◌≡◌, ℕ, ◌==◌, true, false, cond, List, [], ◌∷◌, ◌++◌, length, map, All, subst, sym, ap, ◌∙◌, refl, append_assoc, append-nil}
 use Rattle.std.specs.List.{filter_map, flat_map}
 use Rattle.std.proofs.lemmas.List.Elements.{All-nil, All-cons, All-append, All-head, filter_map-append}
+use Rattle.std.proofs.lemmas.List.Concat.{flat_map-append}
 use Rattle.port_model.specs.History.{Put, Expire, Take, Set, Reset, Stop, IsLegal}
 use Rattle.port_model.specs.Port.{PortState, expire_in}
 use Rattle.port_model.proofs.Histories.{IsLegal-one, IsLegal-append}
@@ -16,10 +17,6 @@ use Rattle.inbox.specs.Put.{of, AllThere, IsTimely}
 use Rattle.inbox.proofs.Alive.{after_draws-alive}
 use Rattle.input_port.proofs.Meeting.{own_same}
 use Rattle.input_port.proofs.PutLists.{starts_through}
-
-flat_map-append : {X Y : Type 0} (f : X → List Y) (xs ys : List X) → flat_map f (xs ++ ys) ≡ flat_map f xs ++ flat_map f ys
-flat_map-append f [] ys = refl
-flat_map-append f (x ∷ xs) ys = ap (λ l. f x ++ l) (flat_map-append f xs ys) ∙ sym (append_assoc (f x) (flat_map f xs) (flat_map f ys))
 
 -- the entries that a call drew
 entry_legal : (pid : ℕ) (port : PortState) (at : ℕ) (entry : Entry) → IsLegal port (entry_events pid at entry) (after_entry pid port at entry)
@@ -48,49 +45,37 @@ record Does (old : OwnerState) (call : OwnerCall) (news : List Placed) (new : Ow
 
 only_draws : (old like new : OwnerState) (call : OwnerCall) (news : List Placed) → call_events call ≡ [] → IsDrawn like new news
     → like.state ≡ old.state → like.drawn ≡ old.drawn → like.pid ≡ old.pid → Does old call news new
-only_draws old like new call news none d state drawn pid = record {
-  legal = subst (λ l. IsLegal (after_draws old.pid old.state news) l new.state) (sym none)
-      (d.state ∙ ap (λ n. after_draws n like.state news) pid ∙ ap (λ p. after_draws old.pid p news) state);
-  drawn = d.drawn ∙ ap (λ l. l ++ news) drawn;
-  pid = d.pid ∙ pid;
-  timely = timely_next like.drawn news d.next;
-}
+only_draws old like new call news none d state drawn pid =
+    record { legal = rw none cc; drawn = cc; pid = cc; timely = timely_next like.drawn news d.next }
+
+draws_nothing : (old new : OwnerState) (call : OwnerCall) (news : List Placed) → news ≡ [] → IsLegal old.state (call_events call) new.state
+    → new.drawn ≡ old.drawn → new.pid ≡ old.pid → Does old call news new
+draws_nothing old new call news none legal drawn pid =
+    rw none record { legal = legal; drawn = drawn ∙ sym (append-nil old.drawn); pid = pid; timely = All-nil IsTimely }
 
 does : (old : OwnerState) (call : OwnerCall) (news : List Placed) (new : OwnerState) → old.state.alive ≡ true → IsCall old call news new → Does old call news new
 does old (Taking classes taken) news new alive is =
     let t = is.0 in
-    subst (λ l. Does old (Taking classes taken) l new) (sym is.1) (record {
+    rw is.1 record {
       legal = IsLegal-one (after_draws old.pid old.state t.news) new.state (Take classes taken) (after_draws-alive old.pid old.state t.news ∙ alive, t.take);
       drawn = t.draws.drawn;
       pid = t.draws.pid;
       timely = timely_next old.drawn t.news t.draws.next;
-    })
+    }
 does old Draining news new alive is = only_draws old old new Draining news refl is refl refl refl
 does old (Gathering sender) news new alive is = only_draws old _ new (Gathering sender) news refl is.draws refl refl refl
 does old (Meeting sender back) news new alive is =
-    let m = is.0 in subst (λ l. Does old (Meeting sender back) l new) (sym is.1) (only_draws old _ new (Meeting sender back) m.news refl m.draws refl refl refl)
+    rw is.1 (only_draws old _ new (Meeting sender back) is.0.news refl is.0.draws refl refl refl)
 does old (Setting key due fuse) news new alive is =
-    let s = is.0 in
-    subst (λ l. Does old (Setting key due fuse) l new) (sym is.1) (record {
-      legal = IsLegal-one old.state new.state (Set key due fuse.arm) (alive, ap (λ f. f.arm) s.fuse_is, ap (λ o. o.state) s.owner);
-      drawn = ap (λ o. o.drawn) s.owner ∙ sym (append-nil old.drawn);
-      pid = ap (λ o. o.pid) s.owner;
-      timely = All-nil IsTimely;
-    })
+    let owner = is.0.owner in
+    let set = IsLegal-one old.state new.state (Set key due fuse.arm) (alive, ap (λ f. f.arm) is.0.fuse_is, ap (λ o. o.state) owner) in
+    draws_nothing old new _ news is.1 set (ap (λ o. o.drawn) owner) (ap (λ o. o.pid) owner)
 does old (Resetting key) news new alive is =
-    subst (λ l. Does old (Resetting key) l new) (sym is.1) (record {
-      legal = IsLegal-one old.state new.state (Reset key) (alive, ap (λ o. o.state) is.0);
-      drawn = ap (λ o. o.drawn) is.0 ∙ sym (append-nil old.drawn);
-      pid = ap (λ o. o.pid) is.0;
-      timely = All-nil IsTimely;
-    })
+    let reset = IsLegal-one old.state new.state (Reset key) (alive, ap (λ o. o.state) is.0) in
+    draws_nothing old new _ news is.1 reset (ap (λ o. o.drawn) is.0) (ap (λ o. o.pid) is.0)
 does old Stopping news new alive is =
-    subst (λ l. Does old Stopping l new) (sym is.1) (record {
-      legal = IsLegal-one old.state new.state Stop (alive, ap (λ o. o.state) is.0);
-      drawn = ap (λ o. o.drawn) is.0 ∙ sym (append-nil old.drawn);
-      pid = ap (λ o. o.pid) is.0;
-      timely = All-nil IsTimely;
-    })
+    let stop = IsLegal-one old.state new.state Stop (alive, ap (λ o. o.state) is.0) in
+    draws_nothing old new _ news is.1 stop (ap (λ o. o.drawn) is.0) (ap (λ o. o.pid) is.0)
 
 drawn_all : (news : List Placed) → filter_map drawn_in (map Drawn news) ≡ news
 drawn_all [] = refl
