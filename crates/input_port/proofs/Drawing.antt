@@ -112,8 +112,8 @@ taken-alive classes old new (Consumed g) takes = ⊎_elim (λ (t : take.TakesFir
 taken-alive classes old new (Discarded g) takes = ap (λ p. p.alive) takes.1.now
 taken-alive classes old new Nothing takes = ap (λ p. p.alive) takes.1
 
-pub drawn-alive : (old new : OwnerState) → HasDrawn old new → new.state.alive ≡ old.state.alive
-drawn-alive old new a = ap (λ p. p.alive) a.1.state ∙ after_draws-alive old.pid old.state a.0
+pub drawn-alive : (old new : OwnerState) (news : List Placed) → IsDrawn old new news → new.state.alive ≡ old.state.alive
+drawn-alive old new news d = ap (λ p. p.alive) d.state ∙ after_draws-alive old.pid old.state news
 
 -- at a fresh point all is drawn
 drew_all : (old mid : OwnerState) (entries : List Entry) (news : List Placed) → IsDrawn old (grown old mid news) news
@@ -141,7 +141,7 @@ finishes_since old mid since kept a fresh knows =
 pub take-alive : (classes : List Class) (old new : OwnerState) (r : Result Taken PortError)
     → TakeIs classes old new r → new.state.alive ≡ old.state.alive
 take-alive classes old new (Ok taken) is = taken-alive classes (after_draws old.pid old.state is.news) new.state taken is.take ∙ after_draws-alive old.pid old.state is.news
-take-alive classes old new (Err error) is = drawn-alive old new is.1
+take-alive classes old new (Err error) is = drawn-alive old new is.1.0 is.1.1
 
 -- an entry of a priority input that is drawn already
 pub taken_urgent : (classes : List Class) (old : OwnerState) (state : PortState) (armed : List Armed) (g : Got)
@@ -158,11 +158,11 @@ taken_urgent classes old state armed g first urgent left = record {
 
 -- a gathering and a meeting leave a living owner alive
 pub gather-alive : (old new : OwnerState) (sender : SenderState) (r : Result (Unit {0}) (Refused SenderState)) → GatherIs old new sender r → new.state.alive ≡ old.state.alive
-gather-alive old new sender (Ok u) is = ap (λ p. p.alive) is.1.draws.state ∙ after_draws-alive old.pid old.state is.0
+gather-alive old new sender (Ok u) is = drawn-alive _ new is.0 is.1.draws
 gather-alive old new sender (Err e) is = ap (λ o. o.state.alive) is.1
 
 pub meet-alive : (old new : OwnerState) (sender : SenderState) (r : Result SenderState (Refused SenderState)) → MeetIs old new sender r → new.state.alive ≡ old.state.alive
-meet-alive old new sender (Ok back) is = ap (λ p. p.alive) is.draws.state ∙ after_draws-alive old.pid old.state is.news
+meet-alive old new sender (Ok back) is = drawn-alive _ new is.news is.draws
 meet-alive old new sender (Err e) is = ap (λ o. o.state.alive) is.1
 
 -- what an inbox leaves that has stopped
@@ -170,7 +170,7 @@ pub leaves_stopped : (old mid : RetiredState) (kept : List Entry) → HasDrawnHe
     → mid.owner.known ≡ mid.owner.drawn → IsKnowing mid.owner → mid.owner.state.alive ≡ false → mid.since ≡ kept
     → Leaves old (left_with mid.owner kept)
 leaves_stopped old mid kept here fresh knows dead same = record {
-  living = λ alive. let still = drawn-alive old.owner mid.owner (here.living alive).0 ∙ alive in absurd cc;
+  living = λ alive. let still = drawn-alive old.owner mid.owner _ (here.living alive).0.1 ∙ alive in absurd cc;
   stopped = λ stop. finishes_since old.owner mid.owner old.since kept
       (subst (λ l. HasDrawnSince old.owner mid.owner old.since l) same (here.stopped stop)) fresh knows;
 }

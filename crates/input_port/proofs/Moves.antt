@@ -62,8 +62,8 @@ fits_more b pass x seat j u other fits = (
       let f = fits.2 may in
       let known = starts_more b.puts u.seen x f.known in
       let gathered : All (IsGone (more b x) u.seen) u.gathered = λ k d lt.
-          let g = f.gathered k d lt in
-          let own = of_other _ b.puts x (seats_apart b.seat x.number _ (suc pass) 0 seat g.free (λ e. omega arith)) ∙ g.own in assumption in assumption,
+      let g = f.gathered k d lt in
+      let own = of_other _ b.puts x (seats_apart b.seat x.number _ (suc pass) 0 seat g.free (λ e. omega arith)) ∙ g.own in assumption in assumption,
 )
 
 counts_more : (b : Book) (x : Placed) → x.count ≡ length (of x.number b.puts) + 1 → (n : ℕ)
@@ -89,10 +89,10 @@ pushes n pass v x may num cnt timely items views room h at =
     let before : length (of v.number b.puts) ≡ v.count = ap length f.own ∙ f.counted in
     let next : x.count ≡ length (of x.number b.puts) + 1 = (let has = ap (λ m. length (of m b.puts)) num in omega arith) in
     let mine : FitsSender (more b x) pass w =
-        let seen : StartsWith (b.puts ++ x ∷ []) w.seen = ([], all ∙ sym (append-nil w.seen)) in
-        let own = ap (of v.number) all in
-        let counted : length (of v.number w.seen) ≡ v.count + 1 =
-            sym (ap length own) ∙ ap length (of_same v.number b.puts x num) ∙ (omega (arith, length-append (of v.number b.puts) (x ∷ []))) in assumption in (
+    let seen : StartsWith (b.puts ++ x ∷ []) w.seen = ([], all ∙ sym (append-nil w.seen)) in
+    let own = ap (of v.number) all in
+    let counted : length (of v.number w.seen) ≡ v.count + 1 =
+    sym (ap length own) ∙ ap length (of_same v.number b.puts x num) ∙ (omega (arith, length-append (of v.number b.puts) (x ∷ []))) in assumption in (
       w,
       record {
         book = more b x;
@@ -121,14 +121,14 @@ pops pass v may x items views h at =
     let l = longer_starts b.puts v.seen drawn f.known has in
     let w : View = owner drawn (longer v.seen drawn) v.told v.gathered in
     let gone : All (IsGone (drew b x) w.seen) v.gathered = λ k d lt.
-        let g = f.gathered k d lt in
-        let own = own_kept _ b.puts w.seen v.seen l.whole l.left g.own in
-        let counted = ap length (sym own ∙ g.own) ∙ g.counted in assumption (own, counted) in
+    let g = f.gathered k d lt in
+    let own = own_kept _ b.puts w.seen v.seen l.whole l.left g.own in
+    let counted = ap length (sym own ∙ g.own) ∙ g.counted in assumption (own, counted) in
     let told = starts_through w.seen v.seen v.told l.left f.told in
     let mine : FitsOwner (drew b x) pass w = assumption (f.only, same, l.whole, l.right, told, gone, f.apart) in
     let number = all_mid (IsGiven b.given) b.drawn x items (rw (← h.puts) at h.numbered) in
     let split : of x.number b.puts ≡ of x.number b.drawn ++ x ∷ of x.number items =
-        ap (of x.number) (sym h.puts) ∙ of-append x.number b.drawn (x ∷ items) ∙ ap (λ r. of x.number b.drawn ++ r) (of_here x.number x items refl) in
+    ap (of x.number) (sym h.puts) ∙ of-append x.number b.drawn (x ∷ items) ∙ ap (λ r. of x.number b.drawn ++ r) (of_here x.number x items refl) in
     let count = counted_at (of x.number b.drawn) x (of x.number items) (rw split at (h.counted x.number)) in (
       w,
       record {
@@ -139,7 +139,9 @@ pops pass v may x items views h at =
         timely = h.timely;
         fits = each_set (Fits (drew b x)) views pass w ((λ e. cc), (λ e. cc), λ _. mine)
             (λ j u other e. let old = h.fits j u e in (
-              (λ m. let o = old.0 m in assumption), (λ m. let o = old.1 m in assumption), λ m. absurd (other ((old.2 m).only ∙ sym f.only)),
+              (λ m. let o = old.0 m in assumption),
+              (λ m. let o = old.1 m in assumption),
+              λ m. absurd (other ((old.2 m).only ∙ sym f.only)),
             ));
       },
       (
@@ -177,10 +179,12 @@ forks_ends pass v gives takes items views h at =
     let gathered : All (IsGone c v.seen) v.gathered = λ k d lt. let g = f.gathered k d lt in assumption in
     let mine : FitsOwner c pass (owner_of v) = assumption in
     let fits = each_split (Fits c) views pass (owner_of v) (desk v.number) ((λ e. cc), (λ e. cc), λ _. mine)
-        ((λ _. record { only = refl; given = fd.given }), (λ e. cc), λ e. cc)
-        (λ j u other e. let old = h.fits j u e in (
-          (λ m. absurd (other ((old.0 m).only ∙ sym fd.only))), (λ m. let o = old.1 m in assumption), λ m. absurd (other ((old.2 m).only ∙ sym f.only)),
-        )) in
+    ((λ _. record { only = refl; given = fd.given }), (λ e. cc), λ e. cc)
+    (λ j u other e. let old = h.fits j u e in (
+      (λ m. absurd (other ((old.0 m).only ∙ sym fd.only))),
+      (λ m. let o = old.1 m in assumption),
+      λ m. absurd (other ((old.2 m).only ∙ sym f.only)),
+    )) in
     record { book = c; puts = h.puts; numbered = h.numbered; counted = h.counted; timely = h.timely; fits = fits }
 
 -- The desk gives out the next number.
@@ -191,18 +195,18 @@ forks_next pass v gives items views h at =
     let n = v.number + 1 in
     let c : Book = record b { given = b.given + 1; seat = seated b.seat n (suc (length views)) } in
     let new : FitsSender c (length views) (sender n 0 []) =
-        let seen : StartsWith b.puts [] = (b.puts, refl) in
-        let own = of_new b.given n b.puts h.numbered (omega arith) in search (arith, nat_tests) in
+    let seen : StartsWith b.puts [] = (b.puts, refl) in
+    let own = of_new b.given n b.puts h.numbered (omega arith) in search (arith, nat_tests) in
     let mine : FitsDesk c pass (desk n) = search arith in
     let numbered : All (IsGiven c.given) b.puts = λ k d lt. let o = h.numbered k d lt in (o.0, omega arith) in
     let fits = each_split (Fits c) views pass (desk n) (sender n 0 []) ((λ _. mine), (λ e. cc), λ e. cc) ((λ e. cc), (λ _. new), λ e. cc)
-        (λ j u other e. let old = h.fits j u e in (
-          (λ m. absurd (other ((old.0 m).only ∙ sym fd.only))),
-          (λ m. let o = old.1 m in search (arith, nat_tests)),
-          λ m.
-              let o = old.2 m in
-              let gathered : All (IsGone c u.seen) u.gathered = λ k d lt. let g = o.gathered k d lt in search (arith, nat_tests) in assumption,
-        )) in
+    (λ j u other e. let old = h.fits j u e in (
+      (λ m. absurd (other ((old.0 m).only ∙ sym fd.only))),
+      (λ m. let o = old.1 m in search (arith, nat_tests)),
+      λ m.
+          let o = old.2 m in
+          let gathered : All (IsGone c u.seen) u.gathered = λ k d lt. let g = o.gathered k d lt in search (arith, nat_tests) in assumption,
+    )) in
     record { book = c; puts = h.puts; numbered = numbered; counted = h.counted; timely = h.timely; fits = fits }
 
 -- The owner takes a sender in.
@@ -217,19 +221,19 @@ merges pass v from u takes sends items views h at two at' =
     let l = longer_starts b.puts v.seen u.seen f.known s.seen in
     let here : Gone = record { number = u.number; count = u.count } in
     let mine : IsGone c both.seen here =
-        let own = own_kept u.number b.puts both.seen u.seen l.whole l.right s.own in
-        let counted : length (of u.number both.seen) ≡ u.count = ap length (sym own ∙ s.own) ∙ s.counted in search (arith, nat_tests) in
+    let own = own_kept u.number b.puts both.seen u.seen l.whole l.right s.own in
+    let counted : length (of u.number both.seen) ≡ u.count = ap length (sym own ∙ s.own) ∙ s.counted in search (arith, nat_tests) in
     let apart_of : All (λ g. g.number ≢ u.number) v.gathered = λ k d lt.
-        seats_apart b.seat _ u.number 0 (suc from) (f.gathered k d lt).free s.seated (λ e. omega arith) in
+    seats_apart b.seat _ u.number 0 (suc from) (f.gathered k d lt).free s.seated (λ e. omega arith) in
     let gone : All (IsGone c both.seen) v.gathered = λ k d lt.
-        let g = f.gathered k d lt in
-        let other = apart_of k d lt in
-        let own = own_kept _ b.puts both.seen v.seen l.whole l.left g.own in
-        let counted = ap length (sym own ∙ g.own) ∙ g.counted in search (arith, nat_tests) in
+    let g = f.gathered k d lt in
+    let other = apart_of k d lt in
+    let own = own_kept _ b.puts both.seen v.seen l.whole l.left g.own in
+    let counted = ap length (sym own ∙ g.own) ∙ g.counted in search (arith, nat_tests) in
     let now : FitsOwner c pass both =
-        let begins = starts_through both.seen v.seen v.drawn l.left f.begins in
-        let gathered = All-cons (IsGone c both.seen) here v.gathered mine gone in
-        let apart : Apart (here ∷ v.gathered) = (apart_of, f.apart) in assumption (begins, gathered, apart, l.whole, l.short) in
+    let begins = starts_through both.seen v.seen v.drawn l.left f.begins in
+    let gathered = All-cons (IsGone c both.seen) here v.gathered mine gone in
+    let apart : Apart (here ∷ v.gathered) = (apart_of, f.apart) in assumption (begins, gathered, apart, l.whole, l.short) in
     record {
       book = c;
       puts = h.puts;
@@ -259,18 +263,18 @@ forks_sender pass v g gs takes is items views h at =
     let c : Book = record b { seat = seated b.seat g.number (suc (length views)) } in
     let left : View = owner v.drawn v.seen v.told gs in
     let rest : All (IsGone c v.seen) gs = λ k d lt.
-        let o : IsGone b v.seen (get_or gs k d) = all (suc k) d (omega arith) in
-        let other = apart.0 k d lt in search (arith, nat_tests) in
+    let o : IsGone b v.seen (get_or gs k d) = all (suc k) d (omega arith) in
+    let other = apart.0 k d lt in search (arith, nat_tests) in
     let mine : FitsOwner c pass left = assumption (apart.1, rest) in
     let new : FitsSender c (length views) (sender g.number g.count v.seen) = let seen = f.known in search (arith, nat_tests) in
     let fits = each_split (Fits c) views pass left (sender g.number g.count v.seen) ((λ e. cc), (λ e. cc), λ _. mine) ((λ e. cc), (λ _. new), λ e. cc)
-        (λ j u other e. let old = h.fits j u e in (
-          (λ m. let o = old.0 m in assumption),
-          (λ m.
-              let o = old.1 m in
-              let differs = seats_apart b.seat u.number g.number (suc j) 0 o.seated first.free (λ z. omega arith) in search (arith, nat_tests)),
-          λ m. absurd (other ((old.2 m).only ∙ sym f.only)),
-        )) in
+    (λ j u other e. let old = h.fits j u e in (
+      (λ m. let o = old.0 m in assumption),
+      (λ m.
+          let o = old.1 m in
+          let differs = seats_apart b.seat u.number g.number (suc j) 0 o.seated first.free (λ z. omega arith) in search (arith, nat_tests)),
+      λ m. absurd (other ((old.2 m).only ∙ sym f.only)),
+    )) in
     record { book = c; puts = h.puts; numbered = h.numbered; counted = h.counted; timely = h.timely; fits = fits }
 
 pub forks_again : (pass : ℕ) (v : View) (g : Gone) (gs : List Gone) → v.takes ≡ true → v.gathered ≡ g ∷ gs

@@ -1,4 +1,6 @@
 //! The owner of a shared port, with the port, as an inbox.
+#![tactic(auto, using(crate::proofs::Drawing::alive))]
+
 ghost use Rattle.std.specs.Prelude.{◌≡◌, [], true, length, MatchResult};
 ghost use Rattle.inbox.specs.Ends.{signals_drawn};
 ghost use Rattle.input_port.specs.Ends.{IsKnowing};

@@ -1,16 +1,17 @@
 //! The owner of a port: the instance, as long as it lives.
+#![tactic(auto, using(crate::proofs::Drawing::alive))]
+
 ghost use Rattle.std.specs.Prelude.{◌≡◌, ◌↔◌, [], true, None, length, IfErr, IfOk, IsErrOf};
-ghost use Rattle.port_model.specs.Port.{empty_port};
 ghost use Rattle.port_model.specs.Timers.{due_times, is_active, IsLeast};
 ghost use Rattle.port_model.specs.declared.plain_port.TheConstants.{MOST_SETS};
 ghost use Rattle.inbox.specs.Calls.{after_reset, after_stop, ComesBack, HasDrawn, SetIs, TakeIs};
 ghost use Rattle.input_port.specs.Calls.{DrainIs, FinishIs, GatherIs, MeetIs};
 ghost use Rattle.inbox.specs.Ends.{signals_drawn};
-ghost use Rattle.input_port.specs.Ends.{left_with, IsKnowing};
+ghost use Rattle.input_port.specs.Ends.{left_with, newborn, IsKnowing};
 ghost use Rattle.inbox.specs.Left.{AreWaiting};
 ghost use Rattle.input_port.specs.Views.{owner};
 
-use crate::drawer::Drawer;
+use crate::drawer::{Drawer, refused};
 use crate::rule::Pass;
 use crate::{Finished, Port, Retired, Sender};
 use inbox::{Entry, Fuse, Refused};
@@ -40,15 +41,7 @@ impl Owner {
     pub(crate) fn new(alloc: Global, pid: u32, pass: Pass) -> Self
         requires view { pass.me.view.client ≡ owner [] [] [] [] }
         requires free { (pass.me.hand ≡ None) × (pass.me.spare ≡ None) }
-        ensures { result ≡ record {
-          port = record { web = pass.web; heap = pass.heap };
-          pid = pid;
-          drawn = [];
-          known = [];
-          gathered = [];
-          state = empty_port;
-          armed = [];
-        } }
+        ensures { result ≡ newborn (record { web = pass.web; heap = pass.heap }) pid }
     {
         Owner {
             drawer: Drawer::new(alloc, pid, pass),
@@ -216,10 +209,7 @@ impl Owner {
         let Owner { drawer } = self;
         match drawer.leave_waiting() {
             Ok(end) => Ok(end),
-            Err(drawer) => Err(Refused {
-                error: PortError::Memory,
-                value: Owner { drawer },
-            }),
+            Err(drawer) => Err(refused(Owner { drawer })),
         }
     }
 

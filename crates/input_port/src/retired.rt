@@ -102,12 +102,7 @@ impl Retired {
     pub fn into_entries(self) -> Vec<Entry>
         ensures { result.items ≡ self.since }
     {
-        let Retired {
-            drawer: _,
-            since,
-            before: _,
-        } = self;
-        since
+        self.since
     }
 
     /// `drain`, and then `into_entries`: what was put and not drawn before the stop, in order. For want of memory the
@@ -121,11 +116,7 @@ impl Retired {
         if let Err(error) = self.drain(rt, port) {
             return Err(Refused { error, value: self });
         }
-        let Retired {
-            drawer,
-            since,
-            before: _,
-        } = self;
+        let Retired { drawer, since, .. } = self;
         Ok(drawer.leave(since))
     }
 }
