@@ -73,12 +73,12 @@ first_fuse slots entrants due wheel least =
     let head = head_of (get_or slots k []) due (sym (entrant_at slots entrants k wheel) ∙ least.among) in
     let fuse : Fuse = head.0 in
     let rest : List Fuse = head.1 in
-    let sorted : fuse.due % 256 ≡ k = All-head (λ other. other.due % 256 ≡ k) fuse rest (subst (All (λ other. other.due % 256 ≡ k)) head.2 (of_slot slots entrants k wheel below).0) in
+    let old : All (λ other. other.due % 256 ≡ k) (fuse ∷ rest) = rw head.2 at (of_slot slots entrants k wheel below).0 in
+    let sorted : fuse.due % 256 ≡ k = old 0 fuse (omega arith) in
     let here : k ≡ due.time % 256 = sym sorted ∙ ap (λ (d : Due). d.time % 256) head.3 in
     let none : All (NoneBefore fuse) slots = All-from_get_or (NoneBefore fuse) slots [] (λ j b.
-    none_before fuse (get_or slots j []) (All-get_or IsInOrder slots j [] b wheel.ordered)
-    (subst (λ (d : Due). IsUpTo (Some d) (first_of (get_or slots j []))) (sym head.3)
-    (subst (λ (o : Option Due). IsUpTo (Some due) o) (entrant_at slots entrants j wheel) (least.first j (omega arith))))) in
+    let first : IsUpTo (Some due) (first_of (get_or slots j [])) = rw (entrant_at slots entrants j wheel) at (least.first j (omega arith)) in
+    none_before fuse (get_or slots j []) (All-get_or IsInOrder slots j [] b wheel.ordered) (rw head.3 first)) in
     record {
       fuse = fuse;
       rest = rest;
@@ -102,7 +102,7 @@ pub no_fuse : (slots : List (List Fuse)) (entrants : List (Option Due)) → IsWh
 no_fuse slots entrants wheel least =
     let long = wheel.long in
     ap (armed []) (none_together slots (All-from_get_or (λ s. s ≡ []) slots [] (λ j b.
-    none_in (get_or slots j []) (subst (λ (o : Option Due). IsUpTo None o) (entrant_at slots entrants j wheel) (least.first j (omega arith))))))
+    none_in (get_or slots j []) (rw (entrant_at slots entrants j wheel) at (least.first j (omega arith))))))
 
 -- an empty wheel
 empty_sorted : (from : ℕ) (slots : List (List Fuse)) → All (λ slot. slot ≡ []) slots → AreSorted from slots
@@ -176,32 +176,27 @@ pub record HasFired (slots : List (List Fuse)) (fired : List (List Fuse)) (enter
   pub fires : (to : ℕ) → due.time ≤ to → Fires (all_fuses slots) to result (all_fuses fired)
   pub first : IfSome result (λ fuse. NoneBefore fuse (all_fuses slots))
 
+-- what is taken of a list that has a first one
+taken_first : (result : Option Fuse) (old new : List Fuse) (fuse : Fuse) (rest : List Fuse)
+    → MatchOption result ((old ≡ []) × (new ≡ [])) (λ taken. old ≡ taken ∷ new) → old ≡ fuse ∷ rest → (result ≡ Some fuse) × (new ≡ rest)
+taken_first None old new fuse rest taken at = let empty = taken.0 in cc
+taken_first (Some first) old new fuse rest taken at = (cc, cc)
+
 pub fires_in : (slots : List (List Fuse)) (entrants entered : List (Option Due)) (due : Due) (k n : ℕ) (slot new : List Fuse) (first : Option Due) (result : Option Fuse) → IsWheel slots entrants → IsLeastOf entrants (Some due)
     → k ≡ due.time % 256 → n ≡ k → MatchOption result ((get_or slots n slot ≡ []) × (new ≡ [])) (λ fuse. get_or slots n slot ≡ fuse ∷ new) → first ≡ first_of new → entered ≡ set entrants k first
     → HasFired slots (set slots n new) entered due result
-fires_in slots entrants entered due k n slot new first None wheel least hash here taken first_is entered_is =
-    let long = wheel.long in
-    let head = first_fuse slots entrants due wheel least in
-    let at : get_or slots n slot ≡ head.fuse ∷ head.rest = get_or_default slots n slot [] (omega arith) ∙ ap (λ (j : ℕ). get_or slots j []) (here ∙ hash) ∙ head.slot in
-    let empty : get_or slots n slot ≡ [] = taken.0 in
-    cc
-fires_in slots entrants entered due k n slot new first (Some fuse) wheel least hash here taken first_is entered_is =
-    let long = wheel.long in
-    let head = first_fuse slots entrants due wheel least in
-    let at : get_or slots n slot ≡ head.fuse ∷ head.rest = get_or_default slots n slot [] (omega arith) ∙ ap (λ (j : ℕ). get_or slots j []) (here ∙ hash) ∙ head.slot in
-    let same_fuse : head.fuse ≡ fuse = cc in
-    let same_rest : head.rest ≡ new = cc in
+fires_in slots entrants entered due k n slot new first result wheel least hash here taken first_is entered_is =
     let m : ℕ = due.time % 256 in
-    let slots_at : set slots n new ≡ set slots m head.rest = λ i. set slots ((here ∙ hash) i) (sym same_rest i) in
-    let entered_at : entered ≡ set entrants m (first_of head.rest) = entered_is ∙ (λ i. set entrants (hash i) ((first_is ∙ ap first_of (sym same_rest)) i)) in
+    let long = wheel.long in
+    let head = first_fuse slots entrants due wheel least in
+    let at = get_or_default slots n slot [] (omega arith) ∙ ap (λ (j : ℕ). get_or slots j []) (here ∙ hash) ∙ head.slot in
+    let got = taken_first result (get_or slots n slot) new head.fuse head.rest taken at in
     let old = of_slot slots entrants m wheel (omega arith) in
-    let sorted : All (λ other. other.due % 256 ≡ m) head.rest = All-tail (λ other. other.due % 256 ≡ m) head.fuse head.rest (subst (All (λ other. other.due % 256 ≡ m)) head.slot old.0) in
-    let ordered : IsInOrder (head.fuse ∷ head.rest) = subst IsInOrder head.slot old.1 in
-    record {
-      wheel = subst (λ (t : List (List Fuse) × List (Option Due)). IsWheel t.0 t.1) (λ i. (sym slots_at i, sym entered_at i)) (changed slots entrants m head.rest wheel sorted ordered.1);
-      fires = λ to h. (
-        head.all ∙ (λ i. same_fuse i ∷ all_fuses (sym slots_at i)),
-        (let time = ap (λ (d : Due). d.time) head.place in let fuse_time = ap (λ (f : Fuse). f.due) same_fuse in omega arith),
-      );
-      first = subst (λ (f : Fuse). NoneBefore f (all_fuses slots)) same_fuse head.none;
+    let sorted : All (λ other. other.due % 256 ≡ m) (head.fuse ∷ head.rest) = rw head.slot at old.0 in
+    let ordered : IsInOrder (head.fuse ∷ head.rest) = rw head.slot at old.1 in
+    let time = ap (λ (d : Due). d.time) head.place in
+    rw (got.0, entered_is, first_is, got.1, here, hash) record {
+      wheel = changed slots entrants m head.rest wheel (All-tail (λ other. other.due % 256 ≡ m) head.fuse head.rest sorted) ordered.1;
+      fires = λ to h. (head.all, omega arith);
+      first = head.none;
     }
