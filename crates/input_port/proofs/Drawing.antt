@@ -166,13 +166,11 @@ meet-alive old new sender (Ok back) is = drawn-alive _ new is.news is.draws
 meet-alive old new sender (Err e) is = ap (λ o. o.state.alive) is.1
 
 -- what an inbox leaves that has stopped
-pub leaves_stopped : (old mid : RetiredState) (kept : List Entry) → HasDrawnHere old mid
-    → mid.owner.known ≡ mid.owner.drawn → IsKnowing mid.owner → mid.owner.state.alive ≡ false → mid.since ≡ kept
-    → Leaves old (left_with mid.owner kept)
-leaves_stopped old mid kept here fresh knows dead same = record {
+pub leaves_stopped : (old mid : RetiredState) → HasDrawnHere old mid → mid.owner.known ≡ mid.owner.drawn → IsKnowing mid.owner
+    → mid.owner.state.alive ≡ false → Leaves old (left_with mid.owner mid.since)
+leaves_stopped old mid here fresh knows dead = record {
   living = λ alive. let still = drawn-alive old.owner mid.owner _ (here.living alive).0.1 ∙ alive in absurd cc;
-  stopped = λ stop. finishes_since old.owner mid.owner old.since kept
-      (subst (λ l. HasDrawnSince old.owner mid.owner old.since l) same (here.stopped stop)) fresh knows;
+  stopped = λ stop. finishes_since old.owner mid.owner old.since mid.since (here.stopped stop) fresh knows;
 }
 
 -- what keeps an owner alive

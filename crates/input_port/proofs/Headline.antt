@@ -1,4 +1,4 @@
-use Rattle.std.proofs.Common.{◌≡◌, ℕ, ◌==◌, true, false, cond, List, [], ◌∷◌, ◌++◌, length, map, All, subst, sym, ap, ◌∙◌, refl, append_assoc, append-nil}
+use Rattle.std.proofs.Common.{◌≡◌, ℕ, ◌==◌, true, false, cond, List, [], ◌∷◌, ◌++◌, length, map, All, sym, ap, ◌∙◌, refl, append_assoc, append-nil, arith}
 use Rattle.std.specs.List.{filter_map, flat_map}
 use Rattle.std.proofs.lemmas.List.Elements.{All-nil, All-cons, All-append, All-head, filter_map-append}
 use Rattle.std.proofs.lemmas.List.Concat.{flat_map-append}
@@ -88,45 +88,33 @@ called_none (x ∷ xs) = called_none xs
 -- calls one after the other
 history : (pid : ℕ) (old new : OwnerState) (calls : List OwnerCall) (steps : List Step) → old.pid ≡ pid → All IsTimely old.drawn → AreCalls old calls steps new
     → IsLegal old.state (history_of pid steps) new.state × (old.drawn ++ filter_map drawn_in steps ≡ new.drawn) × (filter_map called_in steps ≡ calls) × All IsTimely new.drawn
-history pid old new [] steps mine timely are =
-    subst (λ l. IsLegal old.state (history_of pid l) new.state × (old.drawn ++ filter_map drawn_in l ≡ new.drawn) × (filter_map called_in l ≡ []) × All IsTimely new.drawn) (sym are.1)
-    (ap (λ o. o.state) are.0, append-nil old.drawn ∙ sym (ap (λ o. o.drawn) are.0), refl, subst (λ o. All IsTimely o.drawn) (sym are.0) timely)
+history pid old new [] steps mine timely are = rw (are.1, are.0) (refl, append-nil old.drawn, refl, timely)
 history pid old new (call ∷ calls) steps mine timely are =
     let mid = are.0 in
     let news = are.1 in
     let rest = are.2 in
     let d = does old call news mid are.3 are.4 in
-    let later = history pid mid new calls rest (d.pid ∙ mine) (subst (All IsTimely) (sym d.drawn) (All-append IsTimely old.drawn news timely d.timely)) are.5 in
-    let split : history_of pid (map Drawn news ++ Called call ∷ rest) ≡ history_of pid (map Drawn news) ++ (call_events call ++ history_of pid rest) =
-    flat_map-append (step_events pid) (map Drawn news) (Called call ∷ rest) in
-    let drew : IsLegal old.state (history_of pid (map Drawn news)) (after_draws old.pid old.state news) =
-    subst (λ n. IsLegal old.state (history_of n (map Drawn news)) (after_draws old.pid old.state news)) mine (draws_legal old.pid old.state news) in
-    subst (λ l. IsLegal old.state (history_of pid l) new.state × (old.drawn ++ filter_map drawn_in l ≡ new.drawn) × (filter_map called_in l ≡ call ∷ calls) × All IsTimely new.drawn) (sym are.6) (
-      subst (λ l. IsLegal old.state l new.state) (sym split)
+    let later = history pid mid new calls rest (d.pid ∙ mine) (rw d.drawn (All-append IsTimely old.drawn news timely d.timely)) are.5 in
+    let drew : IsLegal old.state (history_of pid (map Drawn news)) (after_draws old.pid old.state news) = rw (← mine) (draws_legal old.pid old.state news) in
+    rw are.6 (
+      rw (flat_map-append (step_events pid) (map Drawn news) (Called call ∷ rest))
           (IsLegal-append old.state (after_draws old.pid old.state news) new.state (history_of pid (map Drawn news)) (call_events call ++ history_of pid rest) drew
           (IsLegal-append (after_draws old.pid old.state news) mid.state new.state (call_events call) (history_of pid rest) d.legal later.0)),
-      ap (λ l. old.drawn ++ l) (filter_map-append drawn_in (map Drawn news) (Called call ∷ rest) ∙ ap (λ l. l ++ filter_map drawn_in rest) (drawn_all news))
-          ∙ sym (append_assoc old.drawn news (filter_map drawn_in rest)) ∙ ap (λ l. l ++ filter_map drawn_in rest) (sym d.drawn) ∙ later.1,
-      filter_map-append called_in (map Drawn news) (Called call ∷ rest) ∙ ap (λ l. l ++ call ∷ filter_map called_in rest) (called_none news)
-          ∙ ap (λ l. call ∷ l) later.2,
+      rw (filter_map-append drawn_in (map Drawn news) (Called call ∷ rest), drawn_all news, ← append_assoc old.drawn news (filter_map drawn_in rest), ← d.drawn) later.1,
+      rw (filter_map-append called_in (map Drawn news) (Called call ∷ rest), called_none news) (ap (λ l. call ∷ l) later.2),
       later.3,
     )
 
 pub owners_have_histories : OwnersHaveHistories
 owners_have_histories first last calls steps born none are =
-    let h = history first.pid first last calls steps refl (subst (All IsTimely) (sym none) (All-nil IsTimely)) are in (
-      subst (λ p. IsLegal p (history_of first.pid steps) last.state) born h.0,
-      ap (λ l. l ++ filter_map drawn_in steps) (sym none) ∙ h.1,
-      h.2,
-      h.3,
-    )
+    let h = history first.pid first last calls steps refl (rw none (All-nil IsTimely)) are in (rw born at h.0, rw none at h.1, h.2, h.3)
 
 pub nothing_is_left : NothingIsLeft
 nothing_is_left classes old mid new sender gathers takes knows =
     let g = gathers.1 in
     let fresh : new.known ≡ new.drawn = takes.fresh refl in
     let told = starts_through new.known mid.known sender.seen takes.draws.kept g.told in
-    let same : new.gathered ≡ record { number = sender.number; count = sent_by sender } ∷ old.gathered = takes.draws.gathered ∙ g.draws.gathered in
-    let all = All-head (λ (x : Gone). length (of x.number new.known) ≡ x.count) (record { number = sender.number; count = sent_by sender }) old.gathered
-    (subst (AllThere new.known) same knows.there) in
+    let gone : Gone = record { number = sender.number; count = sent_by sender } in
+    let there : AllThere new.known (gone ∷ old.gathered) = rw (takes.draws.gathered ∙ g.draws.gathered) at knows.there in
+    let all : length (of sender.number new.known) ≡ sent_by sender = there 0 gone (omega arith) in
     ap (of sender.number) (sym fresh) ∙ own_same sender.number new.known sender.seen told all

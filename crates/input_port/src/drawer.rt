@@ -332,29 +332,17 @@ impl Drawer {
 
     /// The end: what waits in the port of the standard is left, in order, each timer's signal with its fuse. For want
     /// of memory it comes back as it was.
-    pub fn leave_waiting(self) -> Result<Finished, Drawer>
+    pub fn leave_waiting(mut self) -> Result<Finished, Drawer>
         ensures left { IfOk result (λ end. end ≡ left_with self end.entries) }
         ensures waiting { IfOk result (λ end. AreWaiting self.state.waiting self.pid self.armed end.entries) }
         ensures back { IfErr result (λ back. back ≡ self) }
     {
-        let Drawer {
-            alloc,
-            pid,
-            pass,
-            plain,
-            gathered,
-            signals,
-        } = self;
-        match fused::into_entries(alloc, pid, plain) {
-            Ok(list) => Ok(Finished::new(list, pass)),
-            Err(plain) => Err(Drawer {
-                alloc,
-                pid,
-                pass,
-                plain,
-                gathered,
-                signals,
-            }),
+        match fused::into_entries(self.alloc, self.pid, self.plain) {
+            Ok(list) => Ok(Finished::new(list, self.pass)),
+            Err(plain) => {
+                self.plain = plain;
+                Err(self)
+            }
         }
     }
 }

@@ -7,7 +7,7 @@ ghost use Rattle.input_port.specs.Ends.{IsKnowing};
 ghost use Rattle.input_port.specs.Calls.{DrainIs};
 ghost use Rattle.input_port.specs.Held.{GatherHereIs, HasDrawnHere, LeaveIs};
 
-use crate::drawer::Drawer;
+use crate::drawer::{Drawer, refused};
 use crate::{Finished, Owner, Port, Sender, since};
 use inbox::{Entry, Fuse, Inbox, Refused};
 use port_model::{PortError, Selection, Taken, Ticks, TimerKey};
@@ -126,30 +126,15 @@ impl<'a, R: Wait + Copy> Held<'a, R> {
             return Err(Refused { error, value: self });
         }
         self.knows();
-        let Held {
-            rt,
-            port,
-            drawer,
-            since,
-            before,
-            stopped,
-        } = self;
-        if stopped {
-            return Ok(drawer.leave(since));
+        if self.stopped {
+            return Ok(self.drawer.leave(self.since));
         }
-        match drawer.leave_waiting() {
+        match self.drawer.leave_waiting() {
             Ok(end) => Ok(end),
-            Err(drawer) => Err(Refused {
-                error: PortError::Memory,
-                value: Held {
-                    rt,
-                    port,
-                    drawer,
-                    since,
-                    before,
-                    stopped,
-                },
-            }),
+            Err(drawer) => {
+                self.drawer = drawer;
+                Err(refused(self))
+            }
         }
     }
 }

@@ -59,7 +59,7 @@ looks slots seat me s h homes at word =
     let e = found s h in
     let fits = h.fits seat v at in
     let few : n ≤ 1000 + sum_by allowance (set s.views seat w) =
-        let seen = fits.seen in let t = sum_set allowance s.views seat v w at in let f = h.few in grind (arith, nat_tests) in
+    let seen = fits.seen in let t = sum_set allowance s.views seat v w at in let f = h.few in grind (arith, nat_tests) in
     let new = changed s h seat v w (slice_index s.words 0) n at e (omega arith) refl refl fits.seen fits.idle few (λ x. refl) in
     let told : Looks v n w = record { sees = refl; further = fits.seen; knows = new.1 } in
     (w, keeps, tt, new.0, (subst (λ k. Looks v k w) (sym e) told, refl))
@@ -100,7 +100,7 @@ last_draw s h seat v m at some_part few_seen e le =
     let now : given n ≡ 1000 = omega arith in
     let next : given (suc n) ≡ 1000 = omega arith in
     let few : suc n ≤ 1000 + sum_by allowance (set s.views seat w) =
-        let t = sum_set allowance s.views seat v w at in let f = h.few in grind (arith, nat_tests) in
+    let t = sum_set allowance s.views seat v w at in let f = h.few in grind (arith, nat_tests) in
     let idle = (h.fits seat v at).idle in
     let once : (x : ℕ) → times x v.drawn + times x (one_to (given n)) ≡ times x v.drawn + times x (one_to (given (suc n))) =
     λ x. ap (λ k. times x v.drawn + times x (one_to k)) (now ∙ sym next)
