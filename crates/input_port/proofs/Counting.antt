@@ -4,11 +4,7 @@ use Rattle.std.proofs.lemmas.Bool.{cases_eq, false_from_ne_true}
 use Rattle.std.proofs.lemmas.List.{nil_from_length}
 use Rattle.std.proofs.lemmas.List.Elements.{All-nil, All-cons, All-tail}
 use Rattle.std.proofs.lemmas.List.Recursion.{is_count_by}
-use Rattle.inbox.specs.Ends.{is_signal, is_signal_entry}
-use Rattle.inbox.specs.Put.{of}
-use Rattle.inbox.specs.declared.entry.Entry.{Entry}
-use Rattle.inbox.specs.declared.entry.Entry.TheVariants.{Signal, Timer}
-use Rattle.inbox.specs.declared.placed.Placed.{Placed}
+use Rattle.input_port.specs.Words.{is_signal, is_signal_entry, of, Entry, Placed, Signal, Timer}
 use Rattle.input_port.specs.Counts.{Flow, FlowsInto, AreApart, IsOfOne, AllIsDrawn, NoFewerAreDrawn, CountsTell, signal_before, signals_in, sent_by, put_by_all}
 use Rattle.port_model.specs.Same.{same_pid, same_pid-Decides}
 use Rattle.port_model.specs.declared.item.Item.{Item}

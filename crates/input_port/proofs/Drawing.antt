@@ -6,20 +6,9 @@ use Rattle.port_model.specs.declared.selection.Class.TheVariants as class
 use Rattle.std.proofs.lemmas.List.{map-append}
 use Rattle.port_model.specs.declared.selection.Class.{Class}
 use Rattle.port_model.specs.declared.taken.Taken.{Taken}
-use Rattle.port_model.specs.Port.{PortState}
+use Rattle.input_port.specs.Words.{after_draw, after_draws, armed_after, armed_left, entry_of, known_after, left_with, longer, AreNext, AreWaiting, Armed, DrewAll, Entry, FinishedState, Finishes, FinishesSince, GatherIs, HasDrawn, HasDrawnHere, HasDrawnSince, IsDrawn, IsKnowing, Leaves, MeetIs, OwnerState, Placed, PortState, PullIs, PullSinceIs, RetiredState, SenderState, TakeIs, TakesHere}
 use Rattle.port_model.specs.Take as take
-use Rattle.inbox.specs.declared.placed.Placed.{Placed}
-use Rattle.inbox.specs.Ends.{OwnerState}
-use Rattle.input_port.specs.Ends.{left_with, FinishedState, RetiredState, SenderState, IsKnowing}
-use Rattle.port_model.specs.PlainPort.{armed_left}
-use Rattle.input_port.specs.Held.{HasDrawnHere, Leaves}
-use Rattle.inbox.specs.Left.{AreWaiting}
 use Rattle.port_model.specs.declared.got.Got.{Got}
-use Rattle.port_model.specs.Timers.{armed_after, Armed}
-use Rattle.inbox.specs.declared.entry.Entry.{Entry}
-use Rattle.inbox.specs.Calls.{after_draw, after_draws, known_after, AreNext, TakeIs, TakesHere, IsDrawn, HasDrawn}
-use Rattle.input_port.specs.Calls.{entry_of, DrewAll, Finishes, FinishesSince, GatherIs, MeetIs, PullIs, PullSinceIs, HasDrawnSince}
-use Rattle.inbox.specs.Put.{longer}
 use Rattle.input_port.proofs.PutLists.{starts_all, starts_through}
 use Rattle.inbox.proofs.Alive.{after_draws-alive}
 

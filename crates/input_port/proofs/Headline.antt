@@ -1,19 +1,11 @@
 use Rattle.std.proofs.Common.{◌≡◌, ℕ, ◌==◌, true, false, cond, List, [], ◌∷◌, ◌++◌, length, map, All, sym, ap, ◌∙◌, refl, append_assoc, append-nil, arith}
-use Rattle.std.specs.List.{filter_map, flat_map}
-use Rattle.std.proofs.lemmas.List.Elements.{All-nil, All-cons, All-append, All-head, filter_map-append}
+use Rattle.std.specs.List.{filter_map}
+use Rattle.std.proofs.lemmas.List.Elements.{All-nil, All-cons, All-append, filter_map-append}
 use Rattle.std.proofs.lemmas.List.Concat.{flat_map-append}
 use Rattle.port_model.specs.History.{Put, Expire, Take, Set, Reset, Stop, IsLegal}
-use Rattle.port_model.specs.Port.{PortState, expire_in}
+use Rattle.input_port.specs.Words.{after_draw, after_draws, after_entry, expire_in, of, sent_by, AllThere, AreNext, Entry, Gone, IsDrawn, IsTimely, OwnerState, Placed, PortState, Signal, Timer}
 use Rattle.port_model.proofs.Histories.{IsLegal-one, IsLegal-append}
-use Rattle.inbox.specs.declared.entry.Entry.{Entry}
-use Rattle.inbox.specs.declared.entry.Entry.TheVariants.{Signal, Timer}
-use Rattle.inbox.specs.declared.placed.Placed.{Placed}
-use Rattle.inbox.specs.declared.placed.Gone.{Gone}
-use Rattle.inbox.specs.Calls.{AreNext, after_entry, after_draw, after_draws, IsDrawn}
-use Rattle.inbox.specs.Ends.{OwnerState}
-use Rattle.input_port.specs.Ends.{sent_by}
 use Rattle.input_port.specs.Headline.{OwnerCall, Taking, Draining, Gathering, Meeting, Setting, Resetting, Stopping, IsCall, Step, Drawn, Called, AreCalls, entry_events, call_events, step_events, history_of, drawn_in, called_in, OwnersHaveHistories, NothingIsLeft}
-use Rattle.inbox.specs.Put.{of, AllThere, IsTimely}
 use Rattle.inbox.proofs.Alive.{after_draws-alive}
 use Rattle.input_port.proofs.Meeting.{own_same}
 use Rattle.input_port.proofs.PutLists.{starts_through}

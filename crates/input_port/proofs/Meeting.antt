@@ -1,15 +1,7 @@
 use Rattle.std.proofs.Common.{◌≡◌, ◌+◌, ℕ, suc, count_by, List, [], ◌∷◌, ◌++◌, length, Option, Some, None, MatchOption, sym, refl, ap, ◌∙◌, subst, arith, length-append, append-nil}
 use Rattle.std.proofs.lemmas.Grind.{common_steps}
 use Rattle.std.proofs.lemmas.List.{nil_from_length}
-use Rattle.inbox.specs.declared.placed.Placed.{Placed}
-use Rattle.inbox.specs.declared.placed.Gone.{Gone}
-use Rattle.input_port.specs.declared.rule.View.{View}
-use Rattle.input_port.specs.Calls.{popped_list, TakesIn}
-use Rattle.inbox.specs.Ends.{is_signal}
-use Rattle.input_port.specs.Ends.{SenderState, sent_by, IsOfOwner}
-use Rattle.inbox.specs.Put.{StartsWith, of, longer, AllThere, Apart}
-use Rattle.input_port.specs.Steps.{Draws, IsFresh}
-use Rattle.input_port.specs.Views.{gathers, without_first, without_last}
+use Rattle.input_port.specs.Words.{gathers, is_signal, longer, of, popped_list, sent_by, without_first, without_last, AllThere, Apart, Draws, Gone, IsFresh, IsOfOwner, Placed, SenderState, StartsWith, TakesIn, View}
 use Rattle.input_port.proofs.PutLists.{of-append, starts_all, starts_through, both_told}
 
 -- the sender of this view, once it is gathered

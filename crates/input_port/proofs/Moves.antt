@@ -1,4 +1,4 @@
-use Rattle.std.proofs.Common.{◌≡◌, ◌≢◌, ℕ, zero, suc, ◌+◌, true, false, List, [], ◌∷◌, ◌++◌, length, get_or, map, All, set, sym, refl, ap, ◌∙◌, subst, ⊎_elim, arith, append_assoc, append-nil, length-append}
+use Rattle.std.proofs.Common.{◌≡◌, ◌≢◌, ℕ, zero, suc, ◌+◌, true, List, [], ◌∷◌, ◌++◌, length, get_or, map, All, set, sym, refl, ap, ◌∙◌, subst, ⊎_elim, arith, append_assoc, append-nil, length-append}
 use Rattle.std.proofs.lemmas.Bool.{cases_eq}
 use Rattle.std.proofs.lemmas.Bool.Decides.{nat_tests}
 use Rattle.std.proofs.lemmas.List.{map-append}
@@ -7,13 +7,7 @@ use mathlib.Core.Option.{some, some-ne-none}
 use lib.ListN.{get_elem?}
 use Rattle.crossbeam_queue.specs.Fifo.{Pushes, Pops, Forks, Merges, Learns}
 use Rattle.crossbeam_queue.proofs.Lists.{at_set}
-use Rattle.inbox.specs.declared.placed.Placed.{Placed}
-use Rattle.inbox.specs.declared.placed.Gone.{Gone}
-use Rattle.input_port.specs.declared.rule.View.{View}
-use Rattle.inbox.specs.Put.{StartsWith, of, one_to, longer, Apart, IsTimely}
-use Rattle.input_port.specs.Rule.{Book, FitsDesk, FitsSender, IsGone, FitsOwner, Fits, IsGiven, Kept}
-use Rattle.input_port.specs.Steps.{Adds, Draws, IsFresh}
-use Rattle.input_port.specs.Views.{whole, desk, sender, owner, spent, owner_of, gathers, without_first, without_last, sender_again, last_gathered}
+use Rattle.input_port.specs.Words.{desk, gathers, last_gathered, longer, of, one_to, owner, owner_of, sender, sender_again, spent, whole, without_first, without_last, Adds, Apart, Book, Draws, Fits, FitsDesk, FitsOwner, FitsSender, Gone, IsFresh, IsGiven, IsGone, IsTimely, Kept, Placed, StartsWith, View}
 use Rattle.input_port.proofs.Passes.{each_set, each_split, seated}
 use Rattle.input_port.proofs.PutLists.{of_same, of_other, of_new, of_here, of-append, starts_through, starts_more, rest_none, own_kept, longer_starts, begins_back, all_mid, counted_at}
 

@@ -2,8 +2,7 @@ use Rattle.std.proofs.Common.{◌≡◌, ◌≢◌, ◌⊎◌, ℕ, zero, suc, c
 use mathlib.Core.Option.{some, some-injective, some-ne-none}
 use lib.ListN.{get_elem?}
 use Rattle.crossbeam_queue.proofs.Lists.{at_set}
-use Rattle.input_port.specs.declared.rule.View.{View}
-use Rattle.input_port.specs.Rule.{EachView}
+use Rattle.input_port.specs.Words.{EachView, View}
 
 -- a fact of each view, after one view is changed
 pub each_set : (F : ℕ → View → Type 0) (views : List View) (pass : ℕ) (w : View) → F pass w

@@ -3,8 +3,7 @@ use Rattle.std.proofs.lemmas.Bool.{ltb-true, ltb-false}
 use Rattle.std.proofs.lemmas.Grind.{common_steps}
 use Rattle.std.proofs.lemmas.List.{append_cancel_left, get_or_at, get_or-map, nil_from_length, take_at, take-append-le, take-append-drop}
 use Rattle.std.proofs.lemmas.List.Elements.{filter-append}
-use Rattle.inbox.specs.declared.placed.Placed.{Placed}
-use Rattle.inbox.specs.Put.{StartsWith, of, one_to, longer, shorter}
+use Rattle.input_port.specs.Words.{longer, of, one_to, shorter, Placed, StartsWith}
 
 -- the entries of one number in two lists, one after the other
 pub of-append : (n : ℕ) (xs ys : List Placed) → of n (xs ++ ys) ≡ of n xs ++ of n ys

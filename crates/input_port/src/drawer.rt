@@ -1,17 +1,7 @@
 //! What draws from a port, for an owner that lives and for one that has stopped. The atomic steps are those of `steps`.
 ghost use Rattle.std.specs.Prelude.{◌≡◌, ◌↔◌, ◌⊎◌, ◌<◌, ◌+◌, ◌-◌, ◌^◌, [], ◌∷◌, ◌++◌, ◌≤◌, true, None, length, count_by, IfErr, IfOk, IsErrOf, MatchOption};
-ghost use Rattle.port_model.specs.PlainPort.{armed_left};
+ghost use Rattle.input_port.specs.Words.{after_draw, after_draws, after_reset, after_set, after_stop, armed_left, due_times, is_active, is_signal, left_with, newborn, owner, popped_list, signals_drawn, AreWaiting, ComesBack, DrainIs, GatherIs, HasDrawn, IsDrawn, IsGathered, IsKnowing, IsLeast, IsSegPassOf, MeetIs, MOST_SETS, Placed, PullIs, SetIs, TakeIs, TakesIn};
 ghost use Rattle.port_model.specs.Take.{Takes};
-ghost use Rattle.port_model.specs.Timers.{due_times, is_active, IsLeast};
-ghost use Rattle.port_model.specs.declared.plain_port.TheConstants.{MOST_SETS};
-ghost use Rattle.inbox.specs.Ends.{is_signal, signals_drawn};
-ghost use Rattle.input_port.specs.Ends.{left_with, newborn, IsKnowing};
-ghost use Rattle.inbox.specs.Left.{AreWaiting};
-ghost use Rattle.input_port.specs.Views.{owner};
-ghost use Rattle.inbox.specs.declared.placed.Placed.{Placed};
-ghost use Rattle.inbox.specs.Calls.{after_draw, after_draws, after_reset, after_set, after_stop, ComesBack, HasDrawn, IsDrawn, SetIs, TakeIs};
-ghost use Rattle.input_port.specs.Calls.{popped_list, DrainIs, GatherIs, IsGathered, MeetIs, PullIs, TakesIn};
-ghost use Rattle.crossbeam_queue.specs.SegTies.{IsSegPassOf};
 
 use crate::rule::{Pass, Queue};
 use crate::{Finished, Port, Sender, steps};

@@ -2,10 +2,7 @@
 #![tactic(auto, using(crate::proofs::Drawing::alive))]
 
 ghost use Rattle.std.specs.Prelude.{◌≡◌, [], true, length, MatchResult};
-ghost use Rattle.inbox.specs.Ends.{signals_drawn};
-ghost use Rattle.input_port.specs.Ends.{IsKnowing};
-ghost use Rattle.input_port.specs.Calls.{DrainIs};
-ghost use Rattle.input_port.specs.Held.{GatherHereIs, HasDrawnHere, LeaveIs};
+ghost use Rattle.input_port.specs.Words.{signals_drawn, DrainIs, GatherHereIs, HasDrawnHere, IsKnowing, LeaveIs};
 
 use crate::drawer::{Drawer, refused};
 use crate::{Finished, Owner, Port, Sender, since};

@@ -2,14 +2,7 @@
 #![tactic(auto, using(crate::proofs::Drawing::alive))]
 
 ghost use Rattle.std.specs.Prelude.{◌≡◌, ◌↔◌, [], true, None, length, IfErr, IfOk, IsErrOf};
-ghost use Rattle.port_model.specs.Timers.{due_times, is_active, IsLeast};
-ghost use Rattle.port_model.specs.declared.plain_port.TheConstants.{MOST_SETS};
-ghost use Rattle.inbox.specs.Calls.{after_reset, after_stop, ComesBack, HasDrawn, SetIs, TakeIs};
-ghost use Rattle.input_port.specs.Calls.{DrainIs, FinishIs, GatherIs, MeetIs};
-ghost use Rattle.inbox.specs.Ends.{signals_drawn};
-ghost use Rattle.input_port.specs.Ends.{left_with, newborn, IsKnowing};
-ghost use Rattle.inbox.specs.Left.{AreWaiting};
-ghost use Rattle.input_port.specs.Views.{owner};
+ghost use Rattle.input_port.specs.Words.{after_reset, after_stop, due_times, is_active, left_with, newborn, owner, signals_drawn, AreWaiting, ComesBack, DrainIs, FinishIs, GatherIs, HasDrawn, IsKnowing, IsLeast, MeetIs, MOST_SETS, SetIs, TakeIs};
 
 use crate::drawer::{Drawer, refused};
 use crate::rule::Pass;

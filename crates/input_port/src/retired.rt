@@ -1,9 +1,6 @@
 //! An owner after its stop.
 ghost use Rattle.std.specs.Prelude.{◌≡◌, length, IfErr, IfOk, MatchResult};
-ghost use Rattle.inbox.specs.Calls.{ComesBack};
-ghost use Rattle.input_port.specs.Calls.{DrainIs, FinishesSince, GathersSince, HasDrawnSince};
-ghost use Rattle.inbox.specs.Ends.{signals_drawn};
-ghost use Rattle.input_port.specs.Ends.{IsKnowing};
+ghost use Rattle.input_port.specs.Words.{signals_drawn, ComesBack, DrainIs, FinishesSince, GathersSince, HasDrawnSince, IsKnowing};
 
 use crate::drawer::Drawer;
 use crate::{Finished, Port, Sender, since};

@@ -1,12 +1,7 @@
 //! What puts signals and expiries into a port.
 
 ghost use Rattle.std.specs.Prelude.{◌≡◌, ◌+◌, ◌≤◌, ◌^◌, [], true, None, MatchResult};
-ghost use Rattle.input_port.specs.Views.{sender};
-ghost use Rattle.input_port.specs.Ends.{sent_by, signals_by, IsOfSender};
-ghost use Rattle.crossbeam_queue.specs.SegTies.{IsSegPassOf};
-ghost use Rattle.inbox.specs.Put.{IsDueBy};
-ghost use Rattle.input_port.specs.Calls.{PutIs, Puts};
-ghost use Rattle.inbox.specs.declared.entry.Entry.TheVariants.{Signal, Timer};
+ghost use Rattle.input_port.specs.Words.{sender, sent_by, signals_by, IsDueBy, IsOfSender, IsSegPassOf, PutIs, Puts, Signal, Timer};
 
 use crate::drawer::refused;
 use crate::rule::Pass;

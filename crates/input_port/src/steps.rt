@@ -1,10 +1,7 @@
 //! The atomic steps of a port. Each changes what one pass knows and nothing else, and keeps the rule of
 //! `specs/Rule.antt`.
 ghost use Rattle.std.specs.Prelude.{◌≡◌, ◌+◌, [], ◌∷◌, true, MatchOption, MatchResult};
-ghost use Rattle.crossbeam_queue.specs.SegTies.{IsSegPassOf};
-ghost use Rattle.inbox.specs.Put.{IsTimely};
-ghost use Rattle.input_port.specs.Steps.{Adds, Draws, IsFresh};
-ghost use Rattle.input_port.specs.Views.{desk, gathers, last_gathered, owner_of, sender, whole, without_last, HasGathered};
+ghost use Rattle.input_port.specs.Words.{desk, gathers, last_gathered, owner_of, sender, whole, without_last, Adds, Draws, HasGathered, IsFresh, IsSegPassOf, IsTimely};
 
 use crate::rule::{Ends, Gathers, NewSender, Pass, Popped, Pushed, Queue, SendsAgain};
 use inbox::Placed;
