@@ -13,11 +13,13 @@ use Rattle.input_port.proofs.PutLists.{starts_all, starts_through}
 use Rattle.inbox.proofs.Alive.{after_draws-alive}
 
 -- entries drawn one after the other
-after_draws-append : (pid : ℕ) (port : PortState) (xs ys : List Placed) → after_draws pid port (xs ++ ys) ≡ after_draws pid (after_draws pid port xs) ys
+after_draws-append : (pid : ℕ) (port : PortState) (xs ys : List Placed)
+    → after_draws pid port (xs ++ ys) ≡ after_draws pid (after_draws pid port xs) ys
 after_draws-append pid port [] ys = refl
 after_draws-append pid port (x ∷ xs) ys = after_draws-append pid (after_draw pid port x) xs ys
 
-known_after-append : (known drawn xs ys : List Placed) → known_after known drawn (xs ++ ys) ≡ known_after (known_after known drawn xs) (drawn ++ xs) ys
+known_after-append : (known drawn xs ys : List Placed)
+    → known_after known drawn (xs ++ ys) ≡ known_after (known_after known drawn xs) (drawn ++ xs) ys
 known_after-append known drawn [] ys = ap (λ d. known_after known d ys) (sym (append-nil drawn))
 known_after-append known drawn (x ∷ xs) ys =
     let long = longer known (drawn ++ x ∷ []) in
@@ -32,7 +34,8 @@ AreNext-append drawn (x ∷ xs) ys a b =
 drawn_none : (old : OwnerState) → IsDrawn old old []
 drawn_none old = let drawn = sym (append-nil old.drawn) in let kept = starts_all old.known in assumption
 
-drawn_more : (old mid new : OwnerState) (xs ys : List Placed) → IsDrawn old mid xs → IsDrawn mid new ys → IsDrawn old new (xs ++ ys)
+drawn_more : (old mid new : OwnerState) (xs ys : List Placed) → IsDrawn old mid xs → IsDrawn mid new ys
+    → IsDrawn old new (xs ++ ys)
 drawn_more old mid new xs ys f s = record {
   port = cc;
   pid = cc;
@@ -83,7 +86,8 @@ since_more old mid new since more kept a b =
       record {
         draws = assumption both;
         state = s.state ∙ f.state;
-        since_is = s.since_is ∙ ap (λ l. l ++ map entry_of b.0) f.since_is ∙ append_assoc since (map entry_of a.0) (map entry_of b.0)
+        since_is = s.since_is ∙ ap (λ l. l ++ map entry_of b.0) f.since_is
+            ∙ append_assoc since (map entry_of a.0) (map entry_of b.0)
             ∙ ap (λ l. since ++ l) (sym (map-append entry_of a.0 b.0));
       },
     )
@@ -155,7 +159,8 @@ meet-alive old new sender (Ok back) is = drawn-alive _ new is.news is.draws
 meet-alive old new sender (Err e) is = ap (λ o. o.state.alive) is.1
 
 -- what an inbox leaves that has stopped
-pub leaves_stopped : (old mid : RetiredState) → HasDrawnHere old mid → mid.owner.known ≡ mid.owner.drawn → IsKnowing mid.owner
+pub leaves_stopped : (old mid : RetiredState) → HasDrawnHere old mid → mid.owner.known ≡ mid.owner.drawn
+    → IsKnowing mid.owner
     → mid.owner.state.alive ≡ false → Leaves old (left_with mid.owner mid.since)
 leaves_stopped old mid here fresh knows dead = record {
   living = λ alive. let still = drawn-alive old.owner mid.owner _ (here.living alive).0.1 ∙ alive in absurd cc;

@@ -40,7 +40,8 @@ only_draws : (old like new : OwnerState) (call : OwnerCall) (news : List Placed)
 only_draws old like new call news none d state drawn pid =
     record { legal = rw none cc; drawn = cc; pid = cc; timely = timely_next like.drawn news d.next }
 
-draws_nothing : (old new : OwnerState) (call : OwnerCall) (news : List Placed) → news ≡ [] → IsLegal old.state (call_events call) new.state
+draws_nothing : (old new : OwnerState) (call : OwnerCall) (news : List Placed) → news ≡ []
+    → IsLegal old.state (call_events call) new.state
     → new.drawn ≡ old.drawn → new.pid ≡ old.pid → Does old call news new
 draws_nothing old new call news none legal drawn pid =
     rw none record { legal = legal; drawn = drawn ∙ sym (append-nil old.drawn); pid = pid; timely = All-nil IsTimely }
@@ -60,7 +61,8 @@ does old (Meeting sender back) news new alive is =
     rw is.1 (only_draws old _ new (Meeting sender back) is.0.news refl is.0.draws refl refl refl)
 does old (Setting key due fuse) news new alive is =
     let owner = is.0.owner in
-    let set = IsLegal-one old.state new.state (Set key due fuse.arm) (alive, ap (λ f. f.arm) is.0.fuse_is, ap (λ o. o.state) owner) in
+    let set = IsLegal-one old.state new.state (Set key due fuse.arm)
+    (alive, ap (λ f. f.arm) is.0.fuse_is, ap (λ o. o.state) owner) in
     draws_nothing old new _ news is.1 set (ap (λ o. o.drawn) owner) (ap (λ o. o.pid) owner)
 does old (Resetting key) news new alive is =
     let reset = IsLegal-one old.state new.state (Reset key) (alive, ap (λ o. o.state) is.0) in
@@ -86,20 +88,25 @@ history pid old new (call ∷ calls) steps mine timely are =
     let news = are.1 in
     let rest = are.2 in
     let d = does old call news mid are.3 are.4 in
-    let later = history pid mid new calls rest (d.pid ∙ mine) (rw d.drawn (All-append IsTimely old.drawn news timely d.timely)) are.5 in
-    let drew : IsLegal old.state (history_of pid (map Drawn news)) (after_draws old.pid old.state news) = rw (← mine) (draws_legal old.pid old.state news) in
+    let later = history pid mid new calls rest (d.pid ∙ mine)
+    (rw d.drawn (All-append IsTimely old.drawn news timely d.timely)) are.5 in
+    let drew : IsLegal old.state (history_of pid (map Drawn news)) (after_draws old.pid old.state news) =
+    rw (← mine) (draws_legal old.pid old.state news) in
+    let drawn = filter_map-append drawn_in (map Drawn news) (Called call ∷ rest) in
+    let called = filter_map-append called_in (map Drawn news) (Called call ∷ rest) in
     rw are.6 (
       rw (flat_map-append (step_events pid) (map Drawn news) (Called call ∷ rest))
           (IsLegal-append old.state (after_draws old.pid old.state news) new.state (history_of pid (map Drawn news)) (call_events call ++ history_of pid rest) drew
           (IsLegal-append (after_draws old.pid old.state news) mid.state new.state (call_events call) (history_of pid rest) d.legal later.0)),
-      rw (filter_map-append drawn_in (map Drawn news) (Called call ∷ rest), drawn_all news, ← append_assoc old.drawn news (filter_map drawn_in rest), ← d.drawn) later.1,
-      rw (filter_map-append called_in (map Drawn news) (Called call ∷ rest), called_none news) (ap (λ l. call ∷ l) later.2),
+      rw (drawn, drawn_all news, ← append_assoc old.drawn news (filter_map drawn_in rest), ← d.drawn) later.1,
+      rw (called, called_none news) (ap (λ l. call ∷ l) later.2),
       later.3,
     )
 
 pub owners_have_histories : OwnersHaveHistories
 owners_have_histories first last calls steps born none are =
-    let h = history first.pid first last calls steps refl (rw none (All-nil IsTimely)) are in (rw born at h.0, rw none at h.1, h.2, h.3)
+    let h = history first.pid first last calls steps refl (rw none (All-nil IsTimely)) are in
+    (rw born at h.0, rw none at h.1, h.2, h.3)
 
 pub nothing_is_left : NothingIsLeft
 nothing_is_left classes old mid new sender gathers takes knows =
@@ -107,6 +114,7 @@ nothing_is_left classes old mid new sender gathers takes knows =
     let fresh : new.known ≡ new.drawn = takes.fresh refl in
     let told = starts_through new.known mid.known sender.seen takes.draws.kept g.told in
     let gone : Gone = record { number = sender.number; count = sent_by sender } in
-    let there : AllThere new.known (gone ∷ old.gathered) = rw (takes.draws.gathered ∙ g.draws.gathered) at knows.there in
+    let there : AllThere new.known (gone ∷ old.gathered) =
+    rw (takes.draws.gathered ∙ g.draws.gathered) at knows.there in
     let all : length (of sender.number new.known) ≡ sent_by sender = there 0 gone (omega arith) in
     ap (of sender.number) (sym fresh) ∙ own_same sender.number new.known sender.seen told all

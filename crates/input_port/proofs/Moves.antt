@@ -51,13 +51,15 @@ fits_more b pass x seat j u other fits = (
   (λ may.
       let f = fits.1 may in
       let seen = starts_more b.puts u.seen x f.seen in
-      let own = of_other u.number b.puts x (seats_apart b.seat x.number u.number (suc pass) (suc j) seat f.seated (λ e. omega arith)) ∙ f.own in assumption),
+      let own = of_other u.number b.puts x
+      (seats_apart b.seat x.number u.number (suc pass) (suc j) seat f.seated (λ e. omega arith)) ∙ f.own in assumption),
   λ may.
       let f = fits.2 may in
       let known = starts_more b.puts u.seen x f.known in
       let gathered : All (IsGone (more b x) u.seen) u.gathered = λ k d lt.
       let g = f.gathered k d lt in
-      let own = of_other _ b.puts x (seats_apart b.seat x.number _ (suc pass) 0 seat g.free (λ e. omega arith)) ∙ g.own in assumption in assumption,
+      let own = of_other _ b.puts x (seats_apart b.seat x.number _ (suc pass) 0 seat g.free (λ e. omega arith))
+      ∙ g.own in assumption in assumption,
 )
 
 counts_more : (b : Book) (x : Placed) → x.count ≡ length (of x.number b.puts) + 1 → (n : ℕ)
@@ -86,7 +88,8 @@ pushes n pass v x may num cnt timely items views room h at =
     let seen : StartsWith (b.puts ++ x ∷ []) w.seen = ([], all ∙ sym (append-nil w.seen)) in
     let own = ap (of v.number) all in
     let counted : length (of v.number w.seen) ≡ v.count + 1 =
-    sym (ap length own) ∙ ap length (of_same v.number b.puts x num) ∙ (omega (arith, length-append (of v.number b.puts) (x ∷ []))) in assumption in (
+    sym (ap length own) ∙ ap length (of_same v.number b.puts x num) ∙
+    (omega (arith, length-append (of v.number b.puts) (x ∷ []))) in assumption in (
       w,
       record {
         book = more b x;
@@ -193,13 +196,15 @@ forks_next pass v gives items views h at =
     let own = of_new b.given n b.puts h.numbered (omega arith) in search (arith, nat_tests) in
     let mine : FitsDesk c pass (desk n) = search arith in
     let numbered : All (IsGiven c.given) b.puts = λ k d lt. let o = h.numbered k d lt in (o.0, omega arith) in
-    let fits = each_split (Fits c) views pass (desk n) (sender n 0 []) ((λ _. mine), (λ e. cc), λ e. cc) ((λ e. cc), (λ _. new), λ e. cc)
+    let fits = each_split (Fits c) views pass (desk n) (sender n 0 []) ((λ _. mine), (λ e. cc), λ e. cc)
+    ((λ e. cc), (λ _. new), λ e. cc)
     (λ j u other e. let old = h.fits j u e in (
       (λ m. absurd (other ((old.0 m).only ∙ sym fd.only))),
       (λ m. let o = old.1 m in search (arith, nat_tests)),
       λ m.
           let o = old.2 m in
-          let gathered : All (IsGone c u.seen) u.gathered = λ k d lt. let g = o.gathered k d lt in search (arith, nat_tests) in assumption,
+          let gathered : All (IsGone c u.seen) u.gathered = λ k d lt. let g = o.gathered k d lt in
+          search (arith, nat_tests) in assumption,
     )) in
     record { book = c; puts = h.puts; numbered = numbered; counted = h.counted; timely = h.timely; fits = fits }
 
@@ -216,7 +221,8 @@ merges pass v from u takes sends items views h at two at' =
     let here : Gone = record { number = u.number; count = u.count } in
     let mine : IsGone c both.seen here =
     let own = own_kept u.number b.puts both.seen u.seen l.whole l.right s.own in
-    let counted : length (of u.number both.seen) ≡ u.count = ap length (sym own ∙ s.own) ∙ s.counted in search (arith, nat_tests) in
+    let counted : length (of u.number both.seen) ≡ u.count = ap length (sym own ∙ s.own) ∙ s.counted in
+    search (arith, nat_tests) in
     let apart_of : All (λ g. g.number ≢ u.number) v.gathered = λ k d lt.
     seats_apart b.seat _ u.number 0 (suc from) (f.gathered k d lt).free s.seated (λ e. omega arith) in
     let gone : All (IsGone c both.seen) v.gathered = λ k d lt.
@@ -227,7 +233,8 @@ merges pass v from u takes sends items views h at two at' =
     let now : FitsOwner c pass both =
     let begins = starts_through both.seen v.seen v.drawn l.left f.begins in
     let gathered = All-cons (IsGone c both.seen) here v.gathered mine gone in
-    let apart : Apart (here ∷ v.gathered) = (apart_of, f.apart) in assumption (begins, gathered, apart, l.whole, l.short) in
+    let apart : Apart (here ∷ v.gathered) = (apart_of, f.apart) in
+    assumption (begins, gathered, apart, l.whole, l.short) in
     record {
       book = c;
       puts = h.puts;
@@ -235,12 +242,14 @@ merges pass v from u takes sends items views h at two at' =
       counted = h.counted;
       timely = h.timely;
       fits = each_set (Fits c) (set views pass both) from spent ((λ e. cc), (λ e. cc), λ e. cc)
-          (λ j y apart e. each_set (λ k w. k ≢ from → Fits c k w) views pass both (λ _. ((λ e. cc), (λ e. cc), λ _. now))
+          (λ j y apart e. each_set (λ k w. k ≢ from → Fits c k w) views pass both
+          (λ _. ((λ e. cc), (λ e. cc), λ _. now))
           (λ k w other q distinct. let old = h.fits k w q in (
             (λ m. let o = old.0 m in assumption),
             (λ m.
                 let o = old.1 m in
-                let differs = seats_apart b.seat w.number u.number (suc k) (suc from) o.seated s.seated (λ z. distinct (omega arith)) in search (arith, nat_tests)),
+                let differs = seats_apart b.seat w.number u.number (suc k) (suc from) o.seated s.seated
+                (λ z. distinct (omega arith)) in search (arith, nat_tests)),
             λ m. absurd (other ((old.2 m).only ∙ sym f.only)),
           )) j y e apart);
     }
@@ -260,13 +269,16 @@ forks_sender pass v g gs takes is items views h at =
     let o : IsGone b v.seen (get_or gs k d) = all (suc k) d (omega arith) in
     let other = apart.0 k d lt in search (arith, nat_tests) in
     let mine : FitsOwner c pass left = assumption (apart.1, rest) in
-    let new : FitsSender c (length views) (sender g.number g.count v.seen) = let seen = f.known in search (arith, nat_tests) in
-    let fits = each_split (Fits c) views pass left (sender g.number g.count v.seen) ((λ e. cc), (λ e. cc), λ _. mine) ((λ e. cc), (λ _. new), λ e. cc)
+    let new : FitsSender c (length views) (sender g.number g.count v.seen) = let seen = f.known in
+    search (arith, nat_tests) in
+    let fits = each_split (Fits c) views pass left (sender g.number g.count v.seen) ((λ e. cc), (λ e. cc), λ _. mine)
+    ((λ e. cc), (λ _. new), λ e. cc)
     (λ j u other e. let old = h.fits j u e in (
       (λ m. let o = old.0 m in assumption),
       (λ m.
           let o = old.1 m in
-          let differs = seats_apart b.seat u.number g.number (suc j) 0 o.seated first.free (λ z. omega arith) in search (arith, nat_tests)),
+          let differs = seats_apart b.seat u.number g.number (suc j) 0 o.seated first.free (λ z. omega arith) in
+          search (arith, nat_tests)),
       λ m. absurd (other ((old.2 m).only ∙ sym f.only)),
     )) in
     record { book = c; puts = h.puts; numbered = h.numbered; counted = h.counted; timely = h.timely; fits = fits }

@@ -56,7 +56,8 @@ own_kept n puts mid seen a b own =
 pub no_longer : (puts xs ys : List Placed) → StartsWith puts xs → StartsWith puts ys → length xs ≤ length ys → StartsWith ys xs
 no_longer puts xs ys sx sy le =
     let n : ℕ = length xs in
-    let front : take n ys ≡ xs = sym (take-append-le n ys sy.0 le) ∙ ap (take n) (sym sy.1 ∙ sx.1) ∙ take_at xs sx.0 n refl in
+    let front : take n ys ≡ xs =
+    sym (take-append-le n ys sy.0 le) ∙ ap (take n) (sym sy.1 ∙ sx.1) ∙ take_at xs sx.0 n refl in
     (drop n ys, sym (take-append-drop n ys) ∙ ap (λ l. l ++ drop n ys) front)
 
 -- the longer of two beginnings begins the list too, and begins with both
@@ -80,7 +81,8 @@ longer_starts puts xs ys sx sy = by (nat_lt (length xs) (length ys)) refl
 -- where the longer of two lists begins with the shorter, it begins with both
 pub both_told : (xs ys : List Placed) → StartsWith (longer xs ys) (shorter xs ys) → StartsWith (longer xs ys) xs × StartsWith (longer xs ys) ys
 both_told xs ys =
-    elim (nat_lt (length xs) (length ys)) as (λ b. StartsWith (cond b ys xs) (cond b xs ys) → StartsWith (cond b ys xs) xs × StartsWith (cond b ys xs) ys)
+    elim (nat_lt (length xs) (length ys)) as
+    (λ b. StartsWith (cond b ys xs) (cond b xs ys) → StartsWith (cond b ys xs) xs × StartsWith (cond b ys xs) ys)
     [ true ↦ λ s. (s, starts_all ys) | false ↦ λ s. (starts_all xs, s) ]
 
 -- a list that begins with another, and is a beginning of it, is the other
@@ -90,7 +92,8 @@ begins_back drawn seen a b =
     b.1 ∙ ap (λ l. drawn ++ l) none ∙ append-nil drawn
 
 pub all_mid : (P : Placed → Type 0) (xs : List Placed) (x : Placed) (ys : List Placed) → All P (xs ++ x ∷ ys) → P x
-all_mid P xs x ys all = rw (get_or_at xs x ys x (length xs) refl) at (all (length xs) x (omega (arith, length-append xs (x ∷ ys))))
+all_mid P xs x ys all =
+    rw (get_or_at xs x ys x (length xs) refl) at (all (length xs) x (omega (arith, length-append xs (x ∷ ys))))
 
 length_one_to : (n : ℕ) → length (one_to n) ≡ n
 length_one_to zero = refl

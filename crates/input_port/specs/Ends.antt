@@ -23,7 +23,8 @@ pub record SenderState : Type 0 where
 
 -- an owner as it is made: it has drawn nothing and knows of nothing, and its port is the empty one
 abbrev pub newborn : SegId Global → ℕ → OwnerState
-newborn port pid = record { port = port; pid = pid; drawn = []; known = []; gathered = []; state = empty_port; armed = [] }
+newborn port pid =
+    record { port = port; pid = pid; drawn = []; known = []; gathered = []; state = empty_port; armed = [] }
 
 -- What every owner knows: the known list begins with what was drawn, and has all entries of the gathered senders, whose
 -- numbers differ.

@@ -22,7 +22,8 @@ knows_at s h seat v at now = record {
   right = let a = sum_at (λ u. u.parts) s.views seat v at in let p = h.parts in omega arith;
   most = omega arith;
   once = λ x. let a = sum_at (λ u. times x u.drawn) s.views seat v at in let o = h.once x in let p = one_to_once (given h.draws) x in omega arith;
-  whole = λ all x. sym (whole_sum x s.views seat v at (λ j u e. (h.fits j u e).idle) (h.parts ∙ sym all)) ∙ h.once x ∙ ap (λ n. times x (one_to n)) (sym now);
+  whole = λ all x. sym (whole_sum x s.views seat v at (λ j u e. (h.fits j u e).idle) (h.parts ∙ sym all)) ∙ h.once x
+      ∙ ap (λ n. times x (one_to n)) (sym now);
 }
 
 -- the state after a step of one seat
@@ -59,8 +60,10 @@ looks slots seat me s h homes at word =
     let e = found s h in
     let fits = h.fits seat v at in
     let few : n ≤ 1000 + sum_by allowance (set s.views seat w) =
-    let seen = fits.seen in let t = sum_set allowance s.views seat v w at in let f = h.few in grind (arith, nat_tests) in
-    let new = changed s h seat v w (slice_index s.words 0) n at e (omega arith) refl refl fits.seen fits.idle few (λ x. refl) in
+    let seen = fits.seen in let t = sum_set allowance s.views seat v w at in let f = h.few in
+    grind (arith, nat_tests) in
+    let new = changed s h seat v w (slice_index s.words 0) n at e (omega arith) refl refl fits.seen fits.idle few
+    (λ x. refl) in
     let told : Looks v n w = record { sees = refl; further = fits.seen; knows = new.1 } in
     (w, keeps, tt, new.0, (subst (λ k. Looks v k w) (sym e) told, refl))
 
@@ -139,13 +142,16 @@ splits seat v two s h at =
       draws = h.draws;
       word = h.word;
       parts = let t = sum_set (λ u. u.parts) s.views seat v w at in let p = h.parts in let q = sum_by_push (λ (u : View). u.parts) views new in omega arith;
-      few = let t = sum_set allowance s.views seat v w at in let f = h.few in let q = sum_by_push allowance views new in grind (arith, nat_tests);
+      few =
+          let t = sum_set allowance s.views seat v w at in let f = h.few in let q = sum_by_push allowance views new in
+          grind (arith, nat_tests);
       once = λ x.
           let t = sum_set (λ u. times x u.drawn) s.views seat v w at in
           let o = h.once x in
           let q = sum_by_push (λ (u : View). times x u.drawn) views new in omega arith;
       fits = λ j u e.
-          ⊎_elim (λ (old : get_elem? views j ≡ some u). each_set (Fits h.draws) s.views seat w record { seen = seen; idle = λ none. absurd (omega arith) } h.fits j u old)
+          ⊎_elim (λ (old : get_elem? views j ≡ some u). each_set (Fits h.draws) s.views seat w
+          record { seen = seen; idle = λ none. absurd (omega arith) } h.fits j u old)
           (λ (is : new ≡ u). subst (Fits h.draws) is record { seen = seen; idle = λ none. refl }) (at_snoc views new u j e);
     }
 
@@ -158,6 +164,8 @@ joins seat v other u s h at apart there =
     let its = h.fits other u theirs in
     let a = mine.seen in
     let b = its.seen in
+    let idle : w.parts ≡ 0 → w.drawn ≡ [] = λ no.
+    ap (λ l. l ++ u.drawn) (mine.idle (omega arith)) ∙ its.idle (omega arith) in
     record {
       draws = h.draws;
       word = h.word;
@@ -176,5 +184,5 @@ joins seat v other u s h at apart there =
           let r = times-append x v.drawn u.drawn in omega arith;
       fits = each_set (Fits h.draws) views other spent record { seen = omega arith; idle = λ none. refl }
           (λ j y e. each_set (Fits h.draws) s.views seat w
-          record { seen = omega arith; idle = λ none. ap (λ l. l ++ u.drawn) (mine.idle (omega arith)) ∙ its.idle (omega arith) } h.fits j y e);
+          record { seen = omega arith; idle = idle } h.fits j y e);
     }

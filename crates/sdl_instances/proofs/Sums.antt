@@ -11,7 +11,8 @@ use Rattle.sdl_instances.specs.Rule.{EachView}
 use Rattle.sdl_instances.specs.Views.{spent}
 
 -- a view stands at its place
-pub stands : (views : List View) (i : ℕ) (v : View) → get_elem? views i ≡ some v → (i < length views) × (get_or views i v ≡ v)
+pub stands : (views : List View) (i : ℕ) (v : View) → get_elem? views i ≡ some v
+    → (i < length views) × (get_or views i v ≡ v)
 stands [] i v e = absurd (some-ne-none v (sym e))
 stands (x ∷ xs) zero v e = (omega arith, some-injective x v e)
 stands (x ∷ xs) (suc i) v e = let rest = stands xs i v e in (omega arith, rest.1)
@@ -25,16 +26,19 @@ pub sum_set : (f : View → ℕ) (views : List View) (i : ℕ) (v w : View) → 
 sum_set f views i v w e = let at = stands views i v e in rw at.1 at (sum_by-set f views i w v at.0)
 
 -- a fact of each view, after one view is changed
-pub each_set : (F : View → Type 0) (views : List View) (seat : ℕ) (w : View) → F w → EachView (λ j. F) views → EachView (λ j. F) (set views seat w)
+pub each_set : (F : View → Type 0) (views : List View) (seat : ℕ) (w : View) → F w → EachView (λ j. F) views
+    → EachView (λ j. F) (set views seat w)
 each_set F views seat w mine others j u e =
-    ⊎_elim (λ (x : (j ≡ seat) × (w ≡ u)). subst F x.1 mine) (λ (x : (j ≢ seat) × (get_elem? views j ≡ some u)). others j u x.1) (at_set views seat j w u e)
+    ⊎_elim (λ (x : (j ≡ seat) × (w ≡ u)). subst F x.1 mine)
+    (λ (x : (j ≢ seat) × (get_elem? views j ≡ some u)). others j u x.1) (at_set views seat j w u e)
 
 -- a view with no part of the right has drawn nothing
 abbrev pub IsIdle : View → Type 0
 IsIdle v = v.parts ≡ 0 → v.drawn ≡ []
 
 -- where all are such and no part is left, x was drawn by none
-none : (x : ℕ) (views : List View) → EachView (λ j. IsIdle) views → sum_by (λ v. v.parts) views ≡ 0 → sum_by (λ v. times x v.drawn) views ≡ 0
+none : (x : ℕ) (views : List View) → EachView (λ j. IsIdle) views → sum_by (λ v. v.parts) views ≡ 0
+    → sum_by (λ v. times x v.drawn) views ≡ 0
 none x [] idle e = refl
 none x (v ∷ vs) idle e =
     let p = sum_by-cons (λ (u : View). u.parts) v vs in
@@ -43,7 +47,8 @@ none x (v ∷ vs) idle e =
     let rest = none x vs (λ j u at. idle (suc j) u at) (omega arith) in omega arith
 
 -- and where one has all parts, by that one alone
-pub whole_sum : (x : ℕ) (views : List View) (i : ℕ) (v : View) → get_elem? views i ≡ some v → EachView (λ j. IsIdle) views
+pub whole_sum : (x : ℕ) (views : List View) (i : ℕ) (v : View) → get_elem? views i ≡ some v
+    → EachView (λ j. IsIdle) views
     → sum_by (λ u. u.parts) views ≡ v.parts → sum_by (λ u. times x u.drawn) views ≡ times x v.drawn
 whole_sum x views i v at idle all =
     let p = sum_set (λ u. u.parts) views i v spent at in
@@ -60,8 +65,11 @@ times-append x xs ys = sum_by-append (λ z. cond (nat_eq z x) 1 0) xs ys
 -- 1, 2, .. n has no number past n, and none twice
 pub one_to_past : (n x : ℕ) → n < x → times x (one_to n) ≡ 0
 one_to_past zero x h = refl
-one_to_past (suc n) x h = let t = times_push x (suc n) (one_to n) in let p = one_to_past n x (omega arith) in grind (arith, nat_tests)
+one_to_past (suc n) x h =
+    let t = times_push x (suc n) (one_to n) in let p = one_to_past n x (omega arith) in grind (arith, nat_tests)
 
 pub one_to_once : (n x : ℕ) → times x (one_to n) ≤ 1
 one_to_once zero x = omega arith
-one_to_once (suc n) x = let t = times_push x (suc n) (one_to n) in let p = one_to_past n x in let q = one_to_once n x in grind (arith, nat_tests)
+one_to_once (suc n) x =
+    let t = times_push x (suc n) (one_to n) in let p = one_to_past n x in let q = one_to_once n x in
+    grind (arith, nat_tests)

@@ -42,21 +42,25 @@ front fuse first more e = cond-true _ _ _ e
 pub behind : (fuse first : Fuse) (more : List Fuse) → is_before fuse first ≡ false → with_fuse fuse (first ∷ more) ≡ first ∷ with_fuse fuse more
 behind fuse first more e = cond-false _ _ _ e
 
-armed_by : (P : List Fuse → Type 0) (fuse first : Fuse) (more : List Fuse) → (is_before fuse first ≡ true → P (fuse ∷ first ∷ more))
+armed_by : (P : List Fuse → Type 0) (fuse first : Fuse) (more : List Fuse)
+    → (is_before fuse first ≡ true → P (fuse ∷ first ∷ more))
     → (is_before fuse first ≡ false → P (first ∷ with_fuse fuse more)) → P (with_fuse fuse (first ∷ more))
-armed_by P fuse first more early late = cond_both (is_before fuse first) (fuse ∷ first ∷ more) (first ∷ with_fuse fuse more) P early late
+armed_by P fuse first more early late =
+    cond_both (is_before fuse first) (fuse ∷ first ∷ more) (first ∷ with_fuse fuse more) P early late
 
 -- what holds of a fuse and of what waits holds of all after it is armed
 pub All-with_fuse : (P : Fuse → Type 0) (fuse : Fuse) (fuses : List Fuse) → P fuse → All P fuses → All P (with_fuse fuse fuses)
 All-with_fuse P fuse [] mine all = All-cons P fuse [] mine all
 All-with_fuse P fuse (first ∷ more) mine all =
     armed_by (All P) fuse first more (λ e. All-cons P fuse (first ∷ more) mine all)
-    (λ e. All-cons P first (with_fuse fuse more) (all 0 first (omega arith)) (All-with_fuse P fuse more mine (All-tail P first more all)))
+    (λ e. All-cons P first (with_fuse fuse more) (all 0 first (omega arith))
+    (All-with_fuse P fuse more mine (All-tail P first more all)))
 
 pub All-armed : (P : Fuse → Type 0) (waiting fuses : List Fuse) → All P waiting → All P fuses → All P (armed waiting fuses)
 All-armed P waiting [] all more = all
 All-armed P waiting (fuse ∷ fuses) all more =
-    All-armed P (with_fuse fuse waiting) fuses (All-with_fuse P fuse waiting (more 0 fuse (omega arith)) all) (All-tail P fuse fuses more)
+    All-armed P (with_fuse fuse waiting) fuses (All-with_fuse P fuse waiting (more 0 fuse (omega arith)) all)
+    (All-tail P fuse fuses more)
 
 -- an arm keeps the order
 pub IsInOrder-with_fuse : (fuse : Fuse) (fuses : List Fuse) → IsInOrder fuses → IsInOrder (with_fuse fuse fuses)
@@ -64,25 +68,29 @@ IsInOrder-with_fuse fuse [] ordered = (All-nil (λ other. is_before other fuse �
 IsInOrder-with_fuse fuse (first ∷ more) ordered =
     armed_by IsInOrder fuse first more (λ e.
     let back = before_order.one_way fuse first e in (
-      All-cons (λ other. is_before other fuse ≡ false) first more back (λ k d lt. before_order.chain (get_or more k d) first fuse (ordered.0 k d lt) back),
+      All-cons (λ other. is_before other fuse ≡ false) first more back
+          (λ k d lt. before_order.chain (get_or more k d) first fuse (ordered.0 k d lt) back),
       ordered,
     ))
-    (λ e. (All-with_fuse (λ other. is_before other first ≡ false) fuse more e ordered.0, IsInOrder-with_fuse fuse more ordered.1))
+    (λ e. let later = All-with_fuse (λ other. is_before other first ≡ false) fuse more e ordered.0 in
+    (later, IsInOrder-with_fuse fuse more ordered.1))
 
 -- two fuses that are apart may be armed in either order
 swapped : (a b : Fuse) (fuses : List Fuse) → is_before a b ≡ true → with_fuse a (with_fuse b fuses) ≡ with_fuse b (with_fuse a fuses)
 swapped a b [] h = front a b [] h ∙ sym (behind b a [] (before_order.one_way a b h))
 swapped a b (first ∷ more) h =
-    let back : is_before b a ≡ false = before_order.one_way a b h in
+    let last = behind b a (first ∷ more) (before_order.one_way a b h) in
     ⊎_elim (λ (e : is_before b first ≡ true).
     let both : is_before a first ≡ true = before_along a b first h (before_order.one_way b first e) in
-    rw (front b first more e, front a b (first ∷ more) h, front a first more both, behind b a (first ∷ more) back, front b first more e))
+    rw (front b first more e, front a b (first ∷ more) h, front a first more both, last, front b first more e))
     (λ (e : is_before b first ≡ false).
     ⊎_elim (λ (f : is_before a first ≡ true).
-    rw (behind b first more e, front a first (with_fuse b more) f, front a first more f, behind b a (first ∷ more) back, behind b first more e))
+    rw (behind b first more e, front a first (with_fuse b more) f, front a first more f, last, behind b first more e))
     (λ (f : is_before a first ≡ false).
-    rw (behind b first more e, behind a first (with_fuse b more) f, behind a first more f, behind b first (with_fuse a more) e)
-    (ap (λ (l : List Fuse). first ∷ l) (swapped a b more h))) (cases_Bool (is_before a first))) (cases_Bool (is_before b first))
+    let there = behind b first (with_fuse a more) e in
+    rw (behind b first more e, behind a first (with_fuse b more) f, behind a first more f, there)
+    (ap (λ (l : List Fuse). first ∷ l) (swapped a b more h))) (cases_Bool (is_before a first)))
+    (cases_Bool (is_before b first))
 
 swaps : (a b : Fuse) (fuses : List Fuse) → IsApart a b → with_fuse a (with_fuse b fuses) ≡ with_fuse b (with_fuse a fuses)
 swaps a b fuses apart = ⊎_elim (swapped a b fuses) (λ (e : is_before b a ≡ true). sym (swapped b a fuses e)) apart
@@ -103,9 +111,11 @@ armed_in_slot : (fuse : Fuse) (waiting slot others : List Fuse) → IsInOrder sl
     → armed waiting (with_fuse fuse slot ++ others) ≡ with_fuse fuse (armed waiting (slot ++ others))
 armed_in_slot fuse waiting [] others ordered apart = armed_through fuse waiting others apart
 armed_in_slot fuse waiting (first ∷ more) others ordered apart =
-    armed_by (λ l. armed waiting (l ++ others) ≡ with_fuse fuse (armed waiting (first ∷ more ++ others))) fuse first more (λ e.
+    armed_by (λ l. armed waiting (l ++ others) ≡ with_fuse fuse (armed waiting (first ∷ more ++ others)))
+    fuse first more (λ e.
     let here : AllApart fuse (first ∷ more) =
-    All-cons (IsApart fuse) first more (inl e) (λ k d lt. inl (before_along fuse first (get_or more k d) e (ordered.0 k d lt))) in
+    All-cons (IsApart fuse) first more (inl e)
+    (λ k d lt. inl (before_along fuse first (get_or more k d) e (ordered.0 k d lt))) in
     armed_through fuse waiting (first ∷ more ++ others) (All-append (IsApart fuse) (first ∷ more) others here apart))
     (λ e. armed_in_slot fuse (with_fuse first waiting) more others ordered.1 apart)
 
@@ -114,7 +124,8 @@ later_slots : (from : ℕ) (slots : List (List Fuse)) → AreSorted from slots �
 later_slots from [] sorted = All-nil (λ fuse. from ≤ fuse.due % 256)
 later_slots from (slot ∷ slots) sorted =
     let later = later_slots (from + 1) slots sorted.1 in
-    All-append (λ fuse. from ≤ fuse.due % 256) slot (together slots) (λ k d lt. omega (arith, sorted.0 k d lt)) (λ k d lt. omega (arith, later k d lt))
+    All-append (λ fuse. from ≤ fuse.due % 256) slot (together slots) (λ k d lt. omega (arith, sorted.0 k d lt))
+    (λ k d lt. omega (arith, later k d lt))
 
 pub arms_slot : (from : ℕ) (slots : List (List Fuse)) (k : ℕ) (waiting : List Fuse) (fuse : Fuse) → AreSorted from slots → All IsInOrder slots → k < length slots → fuse.due % 256 ≡ from + k
     → armed waiting (together (set slots k (with_fuse fuse (get_or slots k [])))) ≡ with_fuse fuse (armed waiting (together slots))
@@ -151,10 +162,12 @@ pub fires_slot : (from : ℕ) (slots : List (List Fuse)) (k : ℕ) (waiting : Li
 fires_slot from [] k waiting fuse rest sorted none after h is e = absurd (omega arith)
 fires_slot from (slot ∷ slots) zero waiting fuse rest sorted none after h is e =
     let first : NoneBefore fuse (fuse ∷ rest) = rw is at (none 0 slot (omega arith)) in
-    let all = NoneBefore-together fuse ((fuse ∷ rest) ∷ slots) (All-cons (NoneBefore fuse) (fuse ∷ rest) slots first (All-tail (NoneBefore fuse) slot slots none)) in
+    let all = NoneBefore-together fuse ((fuse ∷ rest) ∷ slots)
+    (All-cons (NoneBefore fuse) (fuse ∷ rest) slots first (All-tail (NoneBefore fuse) slot slots none)) in
     ap (λ (l : List Fuse). armed waiting (l ++ together slots)) is
     ∙ ap (λ (l : List Fuse). armed l (rest ++ together slots)) (stands_first fuse waiting after)
-    ∙ stays_first fuse waiting (rest ++ together slots) (All-tail (λ other. is_before other fuse ≡ false) fuse (rest ++ together slots) all)
+    ∙ stays_first fuse waiting (rest ++ together slots)
+    (All-tail (λ other. is_before other fuse ≡ false) fuse (rest ++ together slots) all)
 fires_slot from (slot ∷ slots) (suc k) waiting fuse rest sorted none after h is e =
     let here : AllAfter fuse slot = λ place other b.
     let other_fuse = get_or slot place other in

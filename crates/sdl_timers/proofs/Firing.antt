@@ -28,12 +28,14 @@ none_before fuse (head ∷ more) ordered first =
 AreSorted-get_or : (from : ℕ) (slots : List (List Fuse)) (k : ℕ) → k < length slots → AreSorted from slots → All (λ fuse. fuse.due % 256 ≡ from + k) (get_or slots k [])
 AreSorted-get_or from [] k h sorted = absurd (omega arith)
 AreSorted-get_or from (slot ∷ slots) zero h sorted = λ j d lt. omega (arith, sorted.0 j d lt)
-AreSorted-get_or from (slot ∷ slots) (suc k) h sorted = let rest = AreSorted-get_or (from + 1) slots k (omega arith) sorted.1 in λ j d lt. omega (arith, rest j d lt)
+AreSorted-get_or from (slot ∷ slots) (suc k) h sorted =
+    let rest = AreSorted-get_or (from + 1) slots k (omega arith) sorted.1 in λ j d lt. omega (arith, rest j d lt)
 
 AreSorted-set : (from : ℕ) (slots : List (List Fuse)) (k : ℕ) (slot : List Fuse) → AreSorted from slots → All (λ fuse. fuse.due % 256 ≡ from + k) slot → AreSorted from (set slots k slot)
 AreSorted-set from [] k slot sorted new = tt
 AreSorted-set from (old ∷ slots) zero slot sorted new = ((λ j d lt. omega (arith, new j d lt)), sorted.1)
-AreSorted-set from (old ∷ slots) (suc k) slot sorted new = (sorted.0, AreSorted-set (from + 1) slots k slot sorted.1 (λ j d lt. omega (arith, new j d lt)))
+AreSorted-set from (old ∷ slots) (suc k) slot sorted new =
+    (sorted.0, AreSorted-set (from + 1) slots k slot sorted.1 (λ j d lt. omega (arith, new j d lt)))
 
 -- a wheel with another slot
 pub changed : (slots : List (List Fuse)) (entrants : List (Option Due)) (k : ℕ) (slot : List Fuse) → IsWheel slots entrants → All (λ fuse. fuse.due % 256 ≡ k) slot → IsInOrder slot
@@ -73,11 +75,13 @@ first_fuse slots entrants due wheel least =
     let head = head_of (get_or slots k []) due (sym (entrant_at slots entrants k wheel) ∙ least.among) in
     let fuse : Fuse = head.0 in
     let rest : List Fuse = head.1 in
-    let old : All (λ other. other.due % 256 ≡ k) (fuse ∷ rest) = rw head.2 at (of_slot slots entrants k wheel below).0 in
+    let old : All (λ other. other.due % 256 ≡ k) (fuse ∷ rest) =
+    rw head.2 at (of_slot slots entrants k wheel below).0 in
     let sorted : fuse.due % 256 ≡ k = old 0 fuse (omega arith) in
     let here : k ≡ due.time % 256 = sym sorted ∙ ap (λ (d : Due). d.time % 256) head.3 in
     let none : All (NoneBefore fuse) slots = All-from_get_or (NoneBefore fuse) slots [] (λ j b.
-    let first : IsUpTo (Some due) (first_of (get_or slots j [])) = rw (entrant_at slots entrants j wheel) at (least.first j (omega arith)) in
+    let first : IsUpTo (Some due) (first_of (get_or slots j [])) =
+    rw (entrant_at slots entrants j wheel) at (least.first j (omega arith)) in
     none_before fuse (get_or slots j []) (All-get_or IsInOrder slots j [] b wheel.ordered) (rw head.3 first)) in
     record {
       fuse = fuse;
@@ -96,7 +100,8 @@ none_in (first ∷ more) h = absurd h
 
 none_together : (slots : List (List Fuse)) → All (λ slot. slot ≡ []) slots → together slots ≡ []
 none_together [] none = refl
-none_together (slot ∷ slots) none = rw (none 0 slot (omega arith)) (none_together slots (All-tail (λ s. s ≡ []) slot slots none))
+none_together (slot ∷ slots) none =
+    rw (none 0 slot (omega arith)) (none_together slots (All-tail (λ s. s ≡ []) slot slots none))
 
 pub no_fuse : (slots : List (List Fuse)) (entrants : List (Option Due)) → IsWheel slots entrants → IsLeastOf entrants None → all_fuses slots ≡ []
 no_fuse slots entrants wheel least =
@@ -115,7 +120,8 @@ empty_sorted from (slot ∷ slots) empty = (
 empty_entered : (slots : List (List Fuse)) → All (λ slot. slot ≡ []) slots → replicate (length slots) None ≡ map first_of slots
 empty_entered [] empty = refl
 empty_entered (slot ∷ slots) empty =
-    rw (empty 0 slot (omega arith)) (ap (λ (l : List (Option Due)). None ∷ l) (empty_entered slots (All-tail (λ s. s ≡ []) slot slots empty)))
+    rw (empty 0 slot (omega arith))
+    (ap (λ (l : List (Option Due)). None ∷ l) (empty_entered slots (All-tail (λ s. s ≡ []) slot slots empty)))
 
 pub empty_wheel : (slots : List (List Fuse)) (entrants : List (Option Due)) → length slots ≡ 256 → entrants ≡ replicate 256 None → All (λ slot. slot ≡ []) slots
     → IsWheel slots entrants × (all_fuses slots ≡ [])
@@ -167,7 +173,8 @@ arms_in slots entrants entered fuse k n slot new first wheel hash here new_is fi
     let old = of_slot slots entrants k wheel (omega arith) in
     let wider = All-with_fuse (λ other. other.due % 256 ≡ k) fuse (get_or slots k []) (sym hash) old.0 in
     rw (entered_is, first_is, new_is, here, get_or_default slots k slot [] (omega arith)) (
-      changed slots entrants k (with_fuse fuse (get_or slots k [])) wheel wider (IsInOrder-with_fuse fuse (get_or slots k []) old.1),
+      changed slots entrants k (with_fuse fuse (get_or slots k [])) wheel wider
+          (IsInOrder-with_fuse fuse (get_or slots k []) old.1),
       arms_slot 0 slots k [] fuse wheel.sorted wheel.ordered (omega arith) (omega arith),
     )
 
@@ -178,7 +185,8 @@ pub record HasFired (slots : List (List Fuse)) (fired : List (List Fuse)) (enter
 
 -- what is taken of a list that has a first one
 taken_first : (result : Option Fuse) (old new : List Fuse) (fuse : Fuse) (rest : List Fuse)
-    → MatchOption result ((old ≡ []) × (new ≡ [])) (λ taken. old ≡ taken ∷ new) → old ≡ fuse ∷ rest → (result ≡ Some fuse) × (new ≡ rest)
+    → MatchOption result ((old ≡ []) × (new ≡ [])) (λ taken. old ≡ taken ∷ new) → old ≡ fuse ∷ rest →
+    (result ≡ Some fuse) × (new ≡ rest)
 taken_first None old new fuse rest taken at = let empty = taken.0 in cc
 taken_first (Some first) old new fuse rest taken at = (cc, cc)
 
@@ -189,14 +197,16 @@ fires_in slots entrants entered due k n slot new first result wheel least hash h
     let m : ℕ = due.time % 256 in
     let long = wheel.long in
     let head = first_fuse slots entrants due wheel least in
-    let at = get_or_default slots n slot [] (omega arith) ∙ ap (λ (j : ℕ). get_or slots j []) (here ∙ hash) ∙ head.slot in
+    let at = get_or_default slots n slot [] (omega arith) ∙ ap (λ (j : ℕ). get_or slots j []) (here ∙ hash)
+    ∙ head.slot in
     let got = taken_first result (get_or slots n slot) new head.fuse head.rest taken at in
     let old = of_slot slots entrants m wheel (omega arith) in
     let sorted : All (λ other. other.due % 256 ≡ m) (head.fuse ∷ head.rest) = rw head.slot at old.0 in
     let ordered : IsInOrder (head.fuse ∷ head.rest) = rw head.slot at old.1 in
     let time = ap (λ (d : Due). d.time) head.place in
     rw (got.0, entered_is, first_is, got.1, here, hash) record {
-      wheel = changed slots entrants m head.rest wheel (All-tail (λ other. other.due % 256 ≡ m) head.fuse head.rest sorted) ordered.1;
+      wheel = changed slots entrants m head.rest wheel
+          (All-tail (λ other. other.due % 256 ≡ m) head.fuse head.rest sorted) ordered.1;
       fires = λ to h. (head.all, omega arith);
       first = head.none;
     }

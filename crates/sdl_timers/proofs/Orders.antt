@@ -45,7 +45,8 @@ earlier_left (Some a) (Some b) =
 pub earlier_right : (a b : Option Due) → IsUpTo (earlier a b) b
 earlier_right None b = up_to_itself b
 earlier_right (Some a) None = tt
-earlier_right (Some a) (Some b) = cond_both (is_earlier b a) b a (λ d. is_earlier b d ≡ false) (λ e. same_place b) (λ e. e)
+earlier_right (Some a) (Some b) =
+    cond_both (is_earlier b a) b a (λ d. is_earlier b d ≡ false) (λ e. same_place b) (λ e. e)
 
 pub earlier_one : (a b : Option Due) → (earlier a b ≡ a) ⊎ (earlier a b ≡ b)
 earlier_one None b = inr refl

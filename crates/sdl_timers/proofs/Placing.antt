@@ -41,7 +41,9 @@ pub placed : (fuse : Fuse) (fuses : List Fuse) (place : ℕ) → place ≤ lengt
 placed fuse [] zero h before after = refl
 placed fuse [] (suc place) h before after = absurd (omega arith)
 placed fuse (first ∷ more) zero h before after =
-    sym (front fuse first more (not-false (is_before fuse first) (sym (before_or_behind fuse first) ∙ after 0 fuse (omega arith) (omega arith))))
+    sym (front fuse first more
+    (not-false (is_before fuse first) (sym (before_or_behind fuse first) ∙ after 0 fuse (omega arith) (omega arith))))
 placed fuse (first ∷ more) (suc place) h before after =
     ap (λ (l : List Fuse). first ∷ l) (placed fuse more place (omega arith) (λ k d lo hi. before (suc k) d (omega arith) (omega arith)) (λ k d lo hi. after (suc k) d (omega arith) (omega arith)))
-    ∙ sym (behind fuse first more (not-true (is_before fuse first) (sym (before_or_behind fuse first) ∙ before 0 fuse (omega arith) (omega arith))))
+    ∙ sym (behind fuse first more
+    (not-true (is_before fuse first) (sym (before_or_behind fuse first) ∙ before 0 fuse (omega arith) (omega arith))))

@@ -21,7 +21,8 @@ root_first nodes played (suc most) node m h b =
     let won : IsWon nodes upper = played.won upper (omega arith) (omega arith) in
     let above : IsUpTo (at upper) (at node) =
     ⊎_elim (λ (e : 2 * upper ≡ node). rw e at (rw (← won) at (earlier_left (at (2 * upper)) (at (2 * upper + 1)))))
-    (λ (e : 2 * upper + 1 ≡ node). rw e at (rw (← won) at (earlier_right (at (2 * upper)) (at (2 * upper + 1))))) (halves node) in
+    (λ (e : 2 * upper + 1 ≡ node). rw e at (rw (← won) at (earlier_right (at (2 * upper)) (at (2 * upper + 1)))))
+    (halves node) in
     up_to_along (at 1) (at upper) (at node) first above) (cases_eq node 1)
 
 -- each node has what some leaf has
@@ -34,8 +35,10 @@ a_leaf nodes played (suc more) node m h b =
     let at : ℕ → Option Due = λ k. node_at nodes k in
     ⊎_elim (λ (inner : node < 256).
     let won : IsWon nodes node = played.won node h inner in
-    ⊎_elim (λ (e : earlier (at (2 * node)) (at (2 * node + 1)) ≡ at (2 * node)). rw (won, e) (a_leaf nodes played more (2 * node) (omega arith) (omega arith) (omega arith)))
-    (λ (e : earlier (at (2 * node)) (at (2 * node + 1)) ≡ at (2 * node + 1)). rw (won, e) (a_leaf nodes played more (2 * node + 1) (omega arith) (omega arith) (omega arith)))
+    ⊎_elim (λ (e : earlier (at (2 * node)) (at (2 * node + 1)) ≡ at (2 * node)). rw (won, e)
+    (a_leaf nodes played more (2 * node) (omega arith) (omega arith) (omega arith)))
+    (λ (e : earlier (at (2 * node)) (at (2 * node + 1)) ≡ at (2 * node + 1)). rw (won, e)
+    (a_leaf nodes played more (2 * node + 1) (omega arith) (omega arith) (omega arith)))
     (earlier_one (at (2 * node)) (at (2 * node + 1)))) (λ (leaf : 256 ≤ node). (node, leaf, b, refl)) (cases_lt node 256)
 
 -- so the root has the least of the entrants
@@ -48,7 +51,8 @@ root_least nodes played =
       entrant = place;
       below = let top = leaf.2 in omega arith;
       among = get_or-drop 256 nodes place None ∙ ap (λ (k : ℕ). node_at nodes k) back ∙ leaf.3;
-      first = λ other b. rw (get_or-drop 256 nodes other None) (root_first nodes played 511 (256 + other) (omega arith) (omega arith) (omega arith));
+      first = λ other b. rw (get_or-drop 256 nodes other None)
+          (root_first nodes played 511 (256 + other) (omega arith) (omega arith) (omega arith));
     }
 
 -- On the way from a changed leaf to the root: each inner node is won but for the one above `node`. The leaves are these entrants.
@@ -97,7 +101,8 @@ plays nodes node entrants due p h e =
           let left = get_or-set_other nodes upper (2 * j) due None (λ q. omega arith) in
           let right = get_or-set_other nodes upper (2 * j + 1) due None (λ q. omega arith) in
           rw (left, right, here) (same ∙ e))
-          (λ (there : j ≢ upper). still_won nodes upper j due one there other (p.others j one top there)) (cases_eq j upper);
+          (λ (there : j ≢ upper). still_won nodes upper j due one there other (p.others j one top there))
+          (cases_eq j upper);
       leaves = drop-set-lt 256 nodes upper due (omega arith) ∙ p.leaves;
     }
 

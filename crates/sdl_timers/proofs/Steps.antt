@@ -30,7 +30,8 @@ raises slots id to me ticks s h homes at fits =
     let own = (h.fits id me.0 at).ticks ticks in
     let w = hand true (max me.0.seen to) in
     let time = max h.time to in
-    let mine : Fits time h.ticker id w = record { seen = omega arith; ticks = λ e. (own.0, ap (λ t. max t to) own.1) } in
+    let mine : Fits time h.ticker id w =
+    record { seen = omega arith; ticks = λ e. (own.0, ap (λ t. max t to) own.1) } in
     let others : (j : ℕ) (u : Hand) → j ≢ id → get_elem? s.views j ≡ some u → Fits time h.ticker j u = λ j u other e.
     let theirs = h.fits j u e in
     record { seen = omega arith; ticks = λ t. absurd (other ((theirs.ticks t).0 ∙ sym own.0)) } in
@@ -42,11 +43,13 @@ raises slots id to me ticks s h homes at fits =
 pub splits : (id : ℕ) (v : Hand) → Splits IsTime id v v (hand false v.seen)
 splits id v s h at =
     let known = h.fits id v at in
-    let new : (j : ℕ) → Fits h.time h.ticker j (hand false v.seen) = λ j. record { seen = known.seen; ticks = λ e. cc } in
+    let new : (j : ℕ) → Fits h.time h.ticker j (hand false v.seen) =
+    λ j. record { seen = known.seen; ticks = λ e. cc } in
     let all = each_set (Fits h.time h.ticker) s.views id v known (λ k t other f. h.fits k t f) in
     record {
       time = h.time;
       ticker = h.ticker;
       word = h.word;
-      fits = λ j u e. ⊎_elim (all j u) (λ (x : hand false v.seen ≡ u). subst (Fits h.time h.ticker j) x (new j)) (at_snoc (set s.views id v) (hand false v.seen) u j e);
+      fits = λ j u e. ⊎_elim (all j u) (λ (x : hand false v.seen ≡ u). subst (Fits h.time h.ticker j) x (new j))
+          (at_snoc (set s.views id v) (hand false v.seen) u j e);
     }

@@ -6,5 +6,6 @@ pub returns-then-self : goal.returns-then-self
 returns-then-self g c =
     let seen = c.self.view_is in
     let done = c.in_default.ensures in
-    rw c.leave.ensures (leaves_stopped c.args.self _ (rw (← seen) at done.drawn) (rw (← seen) at done.fresh) (rw (← seen) at c.knows.ensures)
+    rw c.leave.ensures (leaves_stopped c.args.self _ (rw (← seen) at done.drawn) (rw (← seen) at done.fresh)
+    (rw (← seen) at c.knows.ensures)
     (c.self.invariant.1 ∙ ap not c.if-self.true))
