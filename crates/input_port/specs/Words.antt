@@ -1,6 +1,6 @@
 -- The words of the contracts and the proofs of a port, from here and from the crates below.
 pub use Rattle.crossbeam_queue.specs.SegTies.{IsSegPassOf}
-pub use Rattle.inbox.specs.Calls.{after_draw, after_draws, after_entry, after_reset, after_set, after_stop, known_after, AreNext, ComesBack, HasDrawn, IsDrawn, SetIs, TakeIs, TakesHere}
+pub use Rattle.inbox.specs.Calls.{after_draw, after_draws, after_entry, after_reset, after_stop, known_after, AreNext, ComesBack, HasDrawn, IsDrawn, SetIs, TakeIs, TakesHere}
 pub use Rattle.inbox.specs.Ends.{is_signal, is_signal_entry, signals_drawn, OwnerState}
 pub use Rattle.inbox.specs.Left.{AreWaiting}
 pub use Rattle.inbox.specs.Put.{longer, of, one_to, shorter, AllThere, Apart, IsDueBy, IsTimely, StartsWith}

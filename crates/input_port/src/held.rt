@@ -1,7 +1,7 @@
 //! The owner of a shared port, with the port, as an inbox.
 #![tactic(auto, using(crate::proofs::Drawing::alive))]
 
-ghost use Rattle.std.specs.Prelude.{◌≡◌, [], true, length, MatchResult};
+ghost use Rattle.std.specs.Prelude.{◌≡◌, [], true, length};
 ghost use Rattle.input_port.specs.Words.{signals_drawn, DrainIs, GatherHereIs, HasDrawnHere, IsKnowing, LeaveIs};
 
 use crate::drawer::{Drawer, refused};

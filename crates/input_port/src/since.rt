@@ -1,6 +1,6 @@
 //! What an owner draws after its stop: it has no effect on its port, and is kept in a list.
-ghost use Rattle.std.specs.Prelude.{◌≡◌, ◌<◌, ◌-◌, ◌^◌, ◌∷◌, [], ◌++◌, length, map, vec_len, vec_capacity};
-ghost use Rattle.input_port.specs.Words.{entry_of, popped_list, signals_drawn, DrainIs, GatherSinceIs, HasDrawnSince, Placed, PullSinceIs};
+ghost use Rattle.std.specs.Prelude.{◌≡◌, ◌<◌, ◌-◌, ◌++◌, map, vec_len, vec_capacity};
+ghost use Rattle.input_port.specs.Words.{entry_of, popped_list, DrainIs, GatherSinceIs, HasDrawnSince, Placed, PullSinceIs};
 
 use crate::drawer::{Drawer, refused};
 use crate::{Port, Sender};

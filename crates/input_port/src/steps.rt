@@ -1,6 +1,6 @@
 //! The atomic steps of a port. Each changes what one pass knows and nothing else, and keeps the rule of
 //! `specs/Rule.antt`.
-ghost use Rattle.std.specs.Prelude.{◌≡◌, ◌+◌, [], ◌∷◌, true, MatchOption, MatchResult};
+ghost use Rattle.std.specs.Prelude.{◌≡◌, ◌+◌, [], true, MatchOption, MatchResult};
 ghost use Rattle.input_port.specs.Words.{desk, gathers, last_gathered, owner_of, sender, whole, without_last, Adds, Draws, HasGathered, IsFresh, IsSegPassOf, IsTimely};
 
 use crate::rule::{Ends, Gathers, NewSender, Pass, Popped, Pushed, Queue, SendsAgain};
