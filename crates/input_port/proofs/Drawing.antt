@@ -6,135 +6,97 @@ use Rattle.port_model.specs.declared.selection.Class.TheVariants as class
 use Rattle.std.proofs.lemmas.List.{map-append}
 use Rattle.port_model.specs.declared.selection.Class.{Class}
 use Rattle.port_model.specs.declared.taken.Taken.{Taken}
-use Rattle.port_model.specs.Port.{PortState}
+use Rattle.input_port.specs.Words.{after_draw, after_draws, armed_after, armed_left, entry_of, known_after, left_with, longer, AreNext, AreWaiting, Armed, DrewAll, Entry, FinishedState, Finishes, FinishesSince, GatherIs, HasDrawn, HasDrawnHere, HasDrawnSince, IsDrawn, IsKnowing, Leaves, MeetIs, OwnerState, Placed, PortState, PullIs, PullSinceIs, RetiredState, SenderState, TakeIs, TakesHere}
 use Rattle.port_model.specs.Take as take
-use Rattle.inbox.specs.declared.placed.Placed.{Placed}
-use Rattle.inbox.specs.Ends.{OwnerState}
-use Rattle.input_port.specs.Ends.{left_with, FinishedState, RetiredState, SenderState, IsKnowing}
-use Rattle.port_model.specs.PlainPort.{armed_left}
-use Rattle.input_port.specs.Held.{HasDrawnHere, Leaves}
-use Rattle.inbox.specs.Left.{AreWaiting}
 use Rattle.port_model.specs.declared.got.Got.{Got}
-use Rattle.port_model.specs.Timers.{armed_after, Armed}
-use Rattle.inbox.specs.declared.entry.Entry.{Entry}
-use Rattle.inbox.specs.Calls.{after_draw, after_draws, known_after, AreNext, TakeIs, TakesHere, IsDrawn, HasDrawn}
-use Rattle.input_port.specs.Calls.{entry_of, DrewAll, Finishes, FinishesSince, GatherIs, MeetIs, PullIs, PullSinceIs, HasDrawnSince}
-use Rattle.inbox.specs.Put.{longer}
 use Rattle.input_port.proofs.PutLists.{starts_all, starts_through}
 use Rattle.inbox.proofs.Alive.{after_draws-alive}
 
 -- entries drawn one after the other
-pub after_draws-append : (pid : ℕ) (port : PortState) (xs ys : List Placed) → after_draws pid port (xs ++ ys) ≡ after_draws pid (after_draws pid port xs) ys
+after_draws-append : (pid : ℕ) (port : PortState) (xs ys : List Placed)
+    → after_draws pid port (xs ++ ys) ≡ after_draws pid (after_draws pid port xs) ys
 after_draws-append pid port [] ys = refl
 after_draws-append pid port (x ∷ xs) ys = after_draws-append pid (after_draw pid port x) xs ys
 
-pub known_after-append : (known drawn xs ys : List Placed) → known_after known drawn (xs ++ ys) ≡ known_after (known_after known drawn xs) (drawn ++ xs) ys
+known_after-append : (known drawn xs ys : List Placed)
+    → known_after known drawn (xs ++ ys) ≡ known_after (known_after known drawn xs) (drawn ++ xs) ys
 known_after-append known drawn [] ys = ap (λ d. known_after known d ys) (sym (append-nil drawn))
 known_after-append known drawn (x ∷ xs) ys =
     let long = longer known (drawn ++ x ∷ []) in
     known_after-append long (drawn ++ x ∷ []) xs ys
     ∙ ap (λ d. known_after (known_after long (drawn ++ x ∷ []) xs) d ys) (append_assoc drawn (x ∷ []) xs)
 
-pub AreNext-append : (drawn xs ys : List Placed) → AreNext drawn xs → AreNext (drawn ++ xs) ys → AreNext drawn (xs ++ ys)
+AreNext-append : (drawn xs ys : List Placed) → AreNext drawn xs → AreNext (drawn ++ xs) ys → AreNext drawn (xs ++ ys)
 AreNext-append drawn [] ys a b = subst (λ d. AreNext d ys) (append-nil drawn) b
 AreNext-append drawn (x ∷ xs) ys a b =
     (a.0, a.1, a.2, AreNext-append (drawn ++ x ∷ []) xs ys a.3 (subst (λ d. AreNext d ys) (sym (append_assoc drawn (x ∷ []) xs)) b))
 
--- nothing drawn
-pub draws_none : (old : OwnerState) → HasDrawn old old
-draws_none old = (
-  [],
-  record {
-    port = refl;
-    pid = refl;
-    gathered = refl;
-    drawn = sym (append-nil old.drawn);
-    next = tt;
-    known = refl;
-    kept = starts_all old.known;
-    state = refl;
-    armed = refl;
-  },
-)
+drawn_none : (old : OwnerState) → IsDrawn old old []
+drawn_none old = let drawn = sym (append-nil old.drawn) in let kept = starts_all old.known in assumption
+
+drawn_more : (old mid new : OwnerState) (xs ys : List Placed) → IsDrawn old mid xs → IsDrawn mid new ys
+    → IsDrawn old new (xs ++ ys)
+drawn_more old mid new xs ys f s = record {
+  port = cc;
+  pid = cc;
+  gathered = cc;
+  drawn = cc (append_assoc old.drawn xs ys);
+  next = AreNext-append old.drawn xs ys f.next (rw f.drawn at s.next);
+  known = cc (known_after-append old.known old.drawn xs ys);
+  kept = starts_through new.known mid.known old.known s.kept f.kept;
+  state = cc (after_draws-append old.pid old.state xs ys);
+  armed = cc;
+}
 
 -- some drawn, and then some more
 pub draws_more : (old mid new : OwnerState) → HasDrawn old mid → HasDrawn mid new → HasDrawn old new
-draws_more old mid new a b =
-    let f = a.1 in
-    let s = b.1 in (
-      a.0 ++ b.0,
-      record {
-        port = s.port ∙ f.port;
-        pid = s.pid ∙ f.pid;
-        gathered = s.gathered ∙ f.gathered;
-        drawn = s.drawn ∙ ap (λ l. l ++ b.0) f.drawn ∙ append_assoc old.drawn a.0 b.0;
-        next = AreNext-append old.drawn a.0 b.0 f.next (subst (λ d. AreNext d b.0) f.drawn s.next);
-        known = s.known ∙ ap (λ k. known_after k mid.drawn b.0) f.known ∙ ap (λ d. known_after (known_after old.known old.drawn a.0) d b.0) f.drawn
-            ∙ sym (known_after-append old.known old.drawn a.0 b.0);
-        kept = starts_through new.known mid.known old.known s.kept f.kept;
-        state = s.state ∙ ap (λ n. after_draws n mid.state b.0) f.pid ∙ ap (λ p. after_draws old.pid p b.0) f.state ∙ sym (after_draws-append old.pid old.state a.0 b.0);
-        armed = s.armed ∙ f.armed;
-      },
-    )
+draws_more old mid new a b = (a.0 ++ b.0, drawn_more old mid new a.0 b.0 a.1 b.1)
 
 -- a pull draws one entry or none
 pub pull_draws : (old new : OwnerState) (r : Result Bool PortError)
     → PullIs old new r → HasDrawn old new
 pull_draws old new (Ok true) pulled = (pulled.0 ∷ [], pulled.1)
-pull_draws old new (Ok false) pulled = subst (HasDrawn old) (sym pulled.0) (draws_none old)
-pull_draws old new (Err error) pulled = subst (HasDrawn old) (sym pulled.1) (draws_none old)
-
--- a take that finds nothing in the port changes nothing
-pub nothing_taken : (classes : List Class) (old new : OwnerState) → take.Takes classes old.state Nothing new.state → new ≡ record old { state = new.state; armed = armed_left Nothing old.armed } → new ≡ old
-nothing_taken classes old new takes same = same ∙ ap (λ s. record old { state = s }) takes.1
+pull_draws old new (Ok false) pulled = rw pulled.0 ([], drawn_none old)
+pull_draws old new (Err error) pulled = rw pulled.1 ([], drawn_none old)
 
 -- what is known where a take goes on: the port found nothing, and one entry more was drawn, or none
 pub goes_on : (classes : List Class) (first old mid new : OwnerState) (r : Result Bool PortError) → HasDrawn first old
     → take.Takes classes old.state Nothing mid.state → mid ≡ record old { state = mid.state; armed = armed_left Nothing old.armed }
     → PullIs mid new r → HasDrawn first new
 goes_on classes first old mid new r before takes same pulled =
-    draws_more first old new before (subst (λ o. HasDrawn o new) (nothing_taken classes old mid takes same) (pull_draws mid new r pulled))
+    let nothing : mid ≡ old = same ∙ ap (λ s. record old { state = s }) takes.1 in
+    draws_more first old new before (rw nothing at (pull_draws mid new r pulled))
 
 -- The same after a stop: `grown` is what the owner would be, had its port not been stopped.
 abbrev grown : OwnerState → OwnerState → List Placed → OwnerState
 grown old new news = record new { state = after_draws old.pid old.state news }
 
-since_some : (old new : OwnerState) (since kept : List Entry) (news : List Placed) → IsDrawn old (grown old new news) news → new.state ≡ old.state
-    → kept ≡ since ++ map entry_of news → HasDrawnSince old new since kept
-since_some old new since kept news draws state is = (news, record { draws = draws; state = state; since_is = is })
-
 pub since_none : (old : OwnerState) (since : List Entry) → HasDrawnSince old old since since
-unfolding draws_none
-since_none old since = since_some old old since since [] (draws_none old).1 refl (sym (append-nil since))
+since_none old since = ([], record { draws = drawn_none old; state = refl; since_is = sym (append-nil since) })
 
 pub since_more : (old mid new : OwnerState) (since more kept : List Entry) → HasDrawnSince old mid since more → HasDrawnSince mid new more kept
     → HasDrawnSince old new since kept
 since_more old mid new since more kept a b =
     let f = a.1 in
     let s = b.1 in
-    let first : IsDrawn old (grown old mid a.0) a.0 = f.draws in
-    let next : IsDrawn mid (grown mid new b.0) b.0 = s.draws in
-    let both : IsDrawn old (grown old new (a.0 ++ b.0)) (a.0 ++ b.0) = record {
-      port = next.port ∙ first.port;
-      pid = next.pid ∙ first.pid;
-      gathered = next.gathered ∙ first.gathered;
-      drawn = next.drawn ∙ ap (λ l. l ++ b.0) first.drawn ∙ append_assoc old.drawn a.0 b.0;
-      next = AreNext-append old.drawn a.0 b.0 first.next (subst (λ d. AreNext d b.0) first.drawn next.next);
-      known = next.known ∙ ap (λ k. known_after k mid.drawn b.0) first.known ∙ ap (λ d. known_after (known_after old.known old.drawn a.0) d b.0) first.drawn
-          ∙ sym (known_after-append old.known old.drawn a.0 b.0);
-      kept = starts_through new.known mid.known old.known next.kept first.kept;
-      state = refl;
-      armed = next.armed ∙ first.armed;
-    } in
-    since_some old new since kept (a.0 ++ b.0) both (s.state ∙ f.state)
-    (s.since_is ∙ ap (λ l. l ++ map entry_of b.0) f.since_is ∙ append_assoc since (map entry_of a.0) (map entry_of b.0)
-    ∙ ap (λ l. since ++ l) (sym (map-append entry_of a.0 b.0)))
+    let middle : OwnerState = grown old mid a.0 in
+    let next : IsDrawn middle (grown middle new b.0) b.0 = let d = s.draws in assumption in
+    let both = drawn_more old middle (grown middle new b.0) a.0 b.0 f.draws next in (
+      a.0 ++ b.0,
+      record {
+        draws = assumption both;
+        state = s.state ∙ f.state;
+        since_is = s.since_is ∙ ap (λ l. l ++ map entry_of b.0) f.since_is
+            ∙ append_assoc since (map entry_of a.0) (map entry_of b.0)
+            ∙ ap (λ l. since ++ l) (sym (map-append entry_of a.0 b.0));
+      },
+    )
 
 pub pull_since : (old new : OwnerState) (since kept : List Entry) (r : Result Bool PortError)
     → PullSinceIs old new since kept r → HasDrawnSince old new since kept
 pull_since old new since kept (Ok true) pulled = (pulled.0 ∷ [], pulled.1)
-pull_since old new since kept (Ok false) pulled = subst (λ n. HasDrawnSince old n since kept) (sym pulled.0) (subst (λ l. HasDrawnSince old old since l) (sym pulled.1) (since_none old since))
-pull_since old new since kept (Err error) pulled = subst (λ n. HasDrawnSince old n since kept) (sym pulled.1) (subst (λ l. HasDrawnSince old old since l) (sym pulled.2) (since_none old since))
+pull_since old new since kept (Ok false) pulled = rw (pulled.0, pulled.1) (since_none old since)
+pull_since old new since kept (Err error) pulled = rw (pulled.1, pulled.2) (since_none old since)
 
 -- a take leaves a living port alive, and so do draws
 pub taken-alive : (classes : List Class) (old new : PortState) (taken : Taken) → take.Takes classes old taken new → new.alive ≡ old.alive
@@ -143,37 +105,24 @@ taken-alive classes old new (Consumed g) takes = ⊎_elim (λ (t : take.TakesFir
 taken-alive classes old new (Discarded g) takes = ap (λ p. p.alive) takes.1.now
 taken-alive classes old new Nothing takes = ap (λ p. p.alive) takes.1
 
-pub drawn-alive : (old new : OwnerState) → HasDrawn old new → new.state.alive ≡ old.state.alive
-drawn-alive old new a = ap (λ p. p.alive) a.1.state ∙ after_draws-alive old.pid old.state a.0
+pub drawn-alive : (old new : OwnerState) (news : List Placed) → IsDrawn old new news → new.state.alive ≡ old.state.alive
+drawn-alive old new news d = ap (λ p. p.alive) d.state ∙ after_draws-alive old.pid old.state news
 
 -- at a fresh point all is drawn
 drew_all : (old mid : OwnerState) (entries : List Entry) (news : List Placed) → IsDrawn old (grown old mid news) news
     → mid.known ≡ mid.drawn → IsKnowing mid → DrewAll old (left_with mid entries) news
-drew_all old mid entries news d fresh knows =
-    record { drawn = d.drawn; next = d.next; fresh = fresh; kept = d.kept; gathered = d.gathered; there = knows.there }
+drew_all old mid entries news d fresh knows = assumption
 
 -- what is left is what waits then
 pub finishes : (old mid : OwnerState) (end : FinishedState) → HasDrawn old mid → mid.known ≡ mid.drawn → IsKnowing mid
     → end ≡ left_with mid end.entries → AreWaiting mid.state.waiting mid.pid mid.armed end.entries → Finishes old end
 finishes old mid end a fresh knows left list =
     let s = a.1 in
-    let d : IsDrawn old (grown old mid a.0) a.0 = record {
-      port = s.port;
-      pid = s.pid;
-      gathered = s.gathered;
-      drawn = s.drawn;
-      next = s.next;
-      known = s.known;
-      kept = s.kept;
-      state = refl;
-      armed = s.armed;
-    } in
+    let d : IsDrawn old (grown old mid a.0) a.0 = assumption in
     record {
       news = a.0;
-      all = subst (λ e. DrewAll old e a.0) (sym left) (drew_all old mid end.entries a.0 d fresh knows);
-      list = subst (λ p. AreWaiting p.waiting old.pid old.armed end.entries) s.state
-          (subst (λ l. AreWaiting mid.state.waiting old.pid l end.entries) s.armed
-          (subst (λ n. AreWaiting mid.state.waiting n mid.armed end.entries) s.pid list));
+      all = rw left (drew_all old mid end.entries a.0 d fresh knows);
+      list = rw (s.state, s.armed, s.pid) at list;
     }
 
 -- the same after a stop
@@ -185,16 +134,15 @@ finishes_since old mid since kept a fresh knows =
 pub take-alive : (classes : List Class) (old new : OwnerState) (r : Result Taken PortError)
     → TakeIs classes old new r → new.state.alive ≡ old.state.alive
 take-alive classes old new (Ok taken) is = taken-alive classes (after_draws old.pid old.state is.news) new.state taken is.take ∙ after_draws-alive old.pid old.state is.news
-take-alive classes old new (Err error) is = drawn-alive old new is.1
+take-alive classes old new (Err error) is = drawn-alive old new is.1.0 is.1.1
 
 -- an entry of a priority input that is drawn already
 pub taken_urgent : (classes : List Class) (old : OwnerState) (state : PortState) (armed : List Armed) (g : Got)
     → take.TakesFirst (take.IsOrdinary classes) old.state g state → take.HasClass class.Priority classes g → armed ≡ armed_after g old.armed
     → TakesHere classes old (record old { state = state; armed = armed }) (Consumed g)
-unfolding draws_none
 taken_urgent classes old state armed g first urgent left = record {
   news = [];
-  draws = (draws_none old).1;
+  draws = drawn_none old;
   take = inl (first, urgent);
   armed = left;
   fresh = λ e. absurd cc;
@@ -203,19 +151,21 @@ taken_urgent classes old state armed g first urgent left = record {
 
 -- a gathering and a meeting leave a living owner alive
 pub gather-alive : (old new : OwnerState) (sender : SenderState) (r : Result (Unit {0}) (Refused SenderState)) → GatherIs old new sender r → new.state.alive ≡ old.state.alive
-gather-alive old new sender (Ok u) is = ap (λ p. p.alive) is.1.draws.state ∙ after_draws-alive old.pid old.state is.0
+gather-alive old new sender (Ok u) is = drawn-alive _ new is.0 is.1.draws
 gather-alive old new sender (Err e) is = ap (λ o. o.state.alive) is.1
 
 pub meet-alive : (old new : OwnerState) (sender : SenderState) (r : Result SenderState (Refused SenderState)) → MeetIs old new sender r → new.state.alive ≡ old.state.alive
-meet-alive old new sender (Ok back) is = ap (λ p. p.alive) is.draws.state ∙ after_draws-alive old.pid old.state is.news
+meet-alive old new sender (Ok back) is = drawn-alive _ new is.news is.draws
 meet-alive old new sender (Err e) is = ap (λ o. o.state.alive) is.1
 
 -- what an inbox leaves that has stopped
-pub leaves_stopped : (old mid : RetiredState) (kept : List Entry) → HasDrawnHere old mid
-    → mid.owner.known ≡ mid.owner.drawn → IsKnowing mid.owner → mid.owner.state.alive ≡ false → mid.since ≡ kept
-    → Leaves old (left_with mid.owner kept)
-leaves_stopped old mid kept here fresh knows dead same = record {
-  living = λ alive. let still = drawn-alive old.owner mid.owner (here.living alive).0 ∙ alive in absurd (let both : false ≡ true = sym dead ∙ still in cc);
-  stopped = λ stop. finishes_since old.owner mid.owner old.since kept
-      (subst (λ l. HasDrawnSince old.owner mid.owner old.since l) same (here.stopped stop)) fresh knows;
+pub leaves_stopped : (old mid : RetiredState) → HasDrawnHere old mid → mid.owner.known ≡ mid.owner.drawn
+    → IsKnowing mid.owner
+    → mid.owner.state.alive ≡ false → Leaves old (left_with mid.owner mid.since)
+leaves_stopped old mid here fresh knows dead = record {
+  living = λ alive. let still = drawn-alive old.owner mid.owner _ (here.living alive).0.1 ∙ alive in absurd cc;
+  stopped = λ stop. finishes_since old.owner mid.owner old.since mid.since (here.stopped stop) fresh knows;
 }
+
+-- what keeps an owner alive
+pub ruleset alive = (drawn-alive, take-alive, gather-alive, meet-alive)

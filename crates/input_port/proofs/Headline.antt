@@ -1,25 +1,14 @@
-use Rattle.std.proofs.Common.{◌≡◌, ℕ, ◌==◌, true, false, cond, List, [], ◌∷◌, ◌++◌, length, map, All, subst, sym, ap, ◌∙◌, refl, append_assoc, append-nil}
-use Rattle.std.specs.List.{filter_map, flat_map}
-use Rattle.std.proofs.lemmas.List.Elements.{All-nil, All-cons, All-append, All-head, filter_map-append}
+use Rattle.std.proofs.Common.{◌≡◌, ℕ, ◌==◌, true, false, cond, List, [], ◌∷◌, ◌++◌, length, map, All, sym, ap, ◌∙◌, refl, append_assoc, append-nil, arith}
+use Rattle.std.specs.List.{filter_map}
+use Rattle.std.proofs.lemmas.List.Elements.{All-nil, All-cons, All-append, filter_map-append}
+use Rattle.std.proofs.lemmas.List.Concat.{flat_map-append}
 use Rattle.port_model.specs.History.{Put, Expire, Take, Set, Reset, Stop, IsLegal}
-use Rattle.port_model.specs.Port.{PortState, expire_in}
+use Rattle.input_port.specs.Words.{after_draw, after_draws, after_entry, expire_in, of, sent_by, AllThere, AreNext, Entry, Gone, IsDrawn, IsTimely, OwnerState, Placed, PortState, Signal, Timer}
 use Rattle.port_model.proofs.Histories.{IsLegal-one, IsLegal-append}
-use Rattle.inbox.specs.declared.entry.Entry.{Entry}
-use Rattle.inbox.specs.declared.entry.Entry.TheVariants.{Signal, Timer}
-use Rattle.inbox.specs.declared.placed.Placed.{Placed}
-use Rattle.inbox.specs.declared.placed.Gone.{Gone}
-use Rattle.inbox.specs.Calls.{AreNext, after_entry, after_draw, after_draws, IsDrawn}
-use Rattle.inbox.specs.Ends.{OwnerState}
-use Rattle.input_port.specs.Ends.{sent_by}
 use Rattle.input_port.specs.Headline.{OwnerCall, Taking, Draining, Gathering, Meeting, Setting, Resetting, Stopping, IsCall, Step, Drawn, Called, AreCalls, entry_events, call_events, step_events, history_of, drawn_in, called_in, OwnersHaveHistories, NothingIsLeft}
-use Rattle.inbox.specs.Put.{of, AllThere, IsTimely}
 use Rattle.inbox.proofs.Alive.{after_draws-alive}
 use Rattle.input_port.proofs.Meeting.{own_same}
 use Rattle.input_port.proofs.PutLists.{starts_through}
-
-flat_map-append : {X Y : Type 0} (f : X → List Y) (xs ys : List X) → flat_map f (xs ++ ys) ≡ flat_map f xs ++ flat_map f ys
-flat_map-append f [] ys = refl
-flat_map-append f (x ∷ xs) ys = ap (λ l. f x ++ l) (flat_map-append f xs ys) ∙ sym (append_assoc (f x) (flat_map f xs) (flat_map f ys))
 
 -- the entries that a call drew
 entry_legal : (pid : ℕ) (port : PortState) (at : ℕ) (entry : Entry) → IsLegal port (entry_events pid at entry) (after_entry pid port at entry)
@@ -48,49 +37,39 @@ record Does (old : OwnerState) (call : OwnerCall) (news : List Placed) (new : Ow
 
 only_draws : (old like new : OwnerState) (call : OwnerCall) (news : List Placed) → call_events call ≡ [] → IsDrawn like new news
     → like.state ≡ old.state → like.drawn ≡ old.drawn → like.pid ≡ old.pid → Does old call news new
-only_draws old like new call news none d state drawn pid = record {
-  legal = subst (λ l. IsLegal (after_draws old.pid old.state news) l new.state) (sym none)
-      (d.state ∙ ap (λ n. after_draws n like.state news) pid ∙ ap (λ p. after_draws old.pid p news) state);
-  drawn = d.drawn ∙ ap (λ l. l ++ news) drawn;
-  pid = d.pid ∙ pid;
-  timely = timely_next like.drawn news d.next;
-}
+only_draws old like new call news none d state drawn pid =
+    record { legal = rw none cc; drawn = cc; pid = cc; timely = timely_next like.drawn news d.next }
+
+draws_nothing : (old new : OwnerState) (call : OwnerCall) (news : List Placed) → news ≡ []
+    → IsLegal old.state (call_events call) new.state
+    → new.drawn ≡ old.drawn → new.pid ≡ old.pid → Does old call news new
+draws_nothing old new call news none legal drawn pid =
+    rw none record { legal = legal; drawn = drawn ∙ sym (append-nil old.drawn); pid = pid; timely = All-nil IsTimely }
 
 does : (old : OwnerState) (call : OwnerCall) (news : List Placed) (new : OwnerState) → old.state.alive ≡ true → IsCall old call news new → Does old call news new
 does old (Taking classes taken) news new alive is =
     let t = is.0 in
-    subst (λ l. Does old (Taking classes taken) l new) (sym is.1) (record {
+    rw is.1 record {
       legal = IsLegal-one (after_draws old.pid old.state t.news) new.state (Take classes taken) (after_draws-alive old.pid old.state t.news ∙ alive, t.take);
       drawn = t.draws.drawn;
       pid = t.draws.pid;
       timely = timely_next old.drawn t.news t.draws.next;
-    })
+    }
 does old Draining news new alive is = only_draws old old new Draining news refl is refl refl refl
 does old (Gathering sender) news new alive is = only_draws old _ new (Gathering sender) news refl is.draws refl refl refl
 does old (Meeting sender back) news new alive is =
-    let m = is.0 in subst (λ l. Does old (Meeting sender back) l new) (sym is.1) (only_draws old _ new (Meeting sender back) m.news refl m.draws refl refl refl)
+    rw is.1 (only_draws old _ new (Meeting sender back) is.0.news refl is.0.draws refl refl refl)
 does old (Setting key due fuse) news new alive is =
-    let s = is.0 in
-    subst (λ l. Does old (Setting key due fuse) l new) (sym is.1) (record {
-      legal = IsLegal-one old.state new.state (Set key due fuse.arm) (alive, ap (λ f. f.arm) s.fuse_is, ap (λ o. o.state) s.owner);
-      drawn = ap (λ o. o.drawn) s.owner ∙ sym (append-nil old.drawn);
-      pid = ap (λ o. o.pid) s.owner;
-      timely = All-nil IsTimely;
-    })
+    let owner = is.0.owner in
+    let set = IsLegal-one old.state new.state (Set key due fuse.arm)
+    (alive, ap (λ f. f.arm) is.0.fuse_is, ap (λ o. o.state) owner) in
+    draws_nothing old new _ news is.1 set (ap (λ o. o.drawn) owner) (ap (λ o. o.pid) owner)
 does old (Resetting key) news new alive is =
-    subst (λ l. Does old (Resetting key) l new) (sym is.1) (record {
-      legal = IsLegal-one old.state new.state (Reset key) (alive, ap (λ o. o.state) is.0);
-      drawn = ap (λ o. o.drawn) is.0 ∙ sym (append-nil old.drawn);
-      pid = ap (λ o. o.pid) is.0;
-      timely = All-nil IsTimely;
-    })
+    let reset = IsLegal-one old.state new.state (Reset key) (alive, ap (λ o. o.state) is.0) in
+    draws_nothing old new _ news is.1 reset (ap (λ o. o.drawn) is.0) (ap (λ o. o.pid) is.0)
 does old Stopping news new alive is =
-    subst (λ l. Does old Stopping l new) (sym is.1) (record {
-      legal = IsLegal-one old.state new.state Stop (alive, ap (λ o. o.state) is.0);
-      drawn = ap (λ o. o.drawn) is.0 ∙ sym (append-nil old.drawn);
-      pid = ap (λ o. o.pid) is.0;
-      timely = All-nil IsTimely;
-    })
+    let stop = IsLegal-one old.state new.state Stop (alive, ap (λ o. o.state) is.0) in
+    draws_nothing old new _ news is.1 stop (ap (λ o. o.drawn) is.0) (ap (λ o. o.pid) is.0)
 
 drawn_all : (news : List Placed) → filter_map drawn_in (map Drawn news) ≡ news
 drawn_all [] = refl
@@ -103,45 +82,39 @@ called_none (x ∷ xs) = called_none xs
 -- calls one after the other
 history : (pid : ℕ) (old new : OwnerState) (calls : List OwnerCall) (steps : List Step) → old.pid ≡ pid → All IsTimely old.drawn → AreCalls old calls steps new
     → IsLegal old.state (history_of pid steps) new.state × (old.drawn ++ filter_map drawn_in steps ≡ new.drawn) × (filter_map called_in steps ≡ calls) × All IsTimely new.drawn
-history pid old new [] steps mine timely are =
-    subst (λ l. IsLegal old.state (history_of pid l) new.state × (old.drawn ++ filter_map drawn_in l ≡ new.drawn) × (filter_map called_in l ≡ []) × All IsTimely new.drawn) (sym are.1)
-    (ap (λ o. o.state) are.0, append-nil old.drawn ∙ sym (ap (λ o. o.drawn) are.0), refl, subst (λ o. All IsTimely o.drawn) (sym are.0) timely)
+history pid old new [] steps mine timely are = rw (are.1, are.0) (refl, append-nil old.drawn, refl, timely)
 history pid old new (call ∷ calls) steps mine timely are =
     let mid = are.0 in
     let news = are.1 in
     let rest = are.2 in
     let d = does old call news mid are.3 are.4 in
-    let later = history pid mid new calls rest (d.pid ∙ mine) (subst (All IsTimely) (sym d.drawn) (All-append IsTimely old.drawn news timely d.timely)) are.5 in
-    let split : history_of pid (map Drawn news ++ Called call ∷ rest) ≡ history_of pid (map Drawn news) ++ (call_events call ++ history_of pid rest) =
-    flat_map-append (step_events pid) (map Drawn news) (Called call ∷ rest) in
+    let later = history pid mid new calls rest (d.pid ∙ mine)
+    (rw d.drawn (All-append IsTimely old.drawn news timely d.timely)) are.5 in
     let drew : IsLegal old.state (history_of pid (map Drawn news)) (after_draws old.pid old.state news) =
-    subst (λ n. IsLegal old.state (history_of n (map Drawn news)) (after_draws old.pid old.state news)) mine (draws_legal old.pid old.state news) in
-    subst (λ l. IsLegal old.state (history_of pid l) new.state × (old.drawn ++ filter_map drawn_in l ≡ new.drawn) × (filter_map called_in l ≡ call ∷ calls) × All IsTimely new.drawn) (sym are.6) (
-      subst (λ l. IsLegal old.state l new.state) (sym split)
+    rw (← mine) (draws_legal old.pid old.state news) in
+    let drawn = filter_map-append drawn_in (map Drawn news) (Called call ∷ rest) in
+    let called = filter_map-append called_in (map Drawn news) (Called call ∷ rest) in
+    rw are.6 (
+      rw (flat_map-append (step_events pid) (map Drawn news) (Called call ∷ rest))
           (IsLegal-append old.state (after_draws old.pid old.state news) new.state (history_of pid (map Drawn news)) (call_events call ++ history_of pid rest) drew
           (IsLegal-append (after_draws old.pid old.state news) mid.state new.state (call_events call) (history_of pid rest) d.legal later.0)),
-      ap (λ l. old.drawn ++ l) (filter_map-append drawn_in (map Drawn news) (Called call ∷ rest) ∙ ap (λ l. l ++ filter_map drawn_in rest) (drawn_all news))
-          ∙ sym (append_assoc old.drawn news (filter_map drawn_in rest)) ∙ ap (λ l. l ++ filter_map drawn_in rest) (sym d.drawn) ∙ later.1,
-      filter_map-append called_in (map Drawn news) (Called call ∷ rest) ∙ ap (λ l. l ++ call ∷ filter_map called_in rest) (called_none news)
-          ∙ ap (λ l. call ∷ l) later.2,
+      rw (drawn, drawn_all news, ← append_assoc old.drawn news (filter_map drawn_in rest), ← d.drawn) later.1,
+      rw (called, called_none news) (ap (λ l. call ∷ l) later.2),
       later.3,
     )
 
 pub owners_have_histories : OwnersHaveHistories
 owners_have_histories first last calls steps born none are =
-    let h = history first.pid first last calls steps refl (subst (All IsTimely) (sym none) (All-nil IsTimely)) are in (
-      subst (λ p. IsLegal p (history_of first.pid steps) last.state) born h.0,
-      ap (λ l. l ++ filter_map drawn_in steps) (sym none) ∙ h.1,
-      h.2,
-      h.3,
-    )
+    let h = history first.pid first last calls steps refl (rw none (All-nil IsTimely)) are in
+    (rw born at h.0, rw none at h.1, h.2, h.3)
 
 pub nothing_is_left : NothingIsLeft
 nothing_is_left classes old mid new sender gathers takes knows =
     let g = gathers.1 in
     let fresh : new.known ≡ new.drawn = takes.fresh refl in
     let told = starts_through new.known mid.known sender.seen takes.draws.kept g.told in
-    let same : new.gathered ≡ record { number = sender.number; count = sent_by sender } ∷ old.gathered = takes.draws.gathered ∙ g.draws.gathered in
-    let all = All-head (λ (x : Gone). length (of x.number new.known) ≡ x.count) (record { number = sender.number; count = sent_by sender }) old.gathered
-    (subst (AllThere new.known) same knows.there) in
+    let gone : Gone = record { number = sender.number; count = sent_by sender } in
+    let there : AllThere new.known (gone ∷ old.gathered) =
+    rw (takes.draws.gathered ∙ g.draws.gathered) at knows.there in
+    let all : length (of sender.number new.known) ≡ sent_by sender = there 0 gone (omega arith) in
     ap (of sender.number) (sym fresh) ∙ own_same sender.number new.known sender.seen told all

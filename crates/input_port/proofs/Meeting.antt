@@ -1,78 +1,47 @@
-use Rattle.std.proofs.Common.{◌≡◌, ◌+◌, ℕ, count_by, List, [], ◌∷◌, ◌++◌, length, Option, Some, None, MatchOption, sym, refl, ap, ◌∙◌, subst, arith, length-append, append-nil}
+use Rattle.std.proofs.Common.{◌≡◌, ◌+◌, ℕ, suc, count_by, List, [], ◌∷◌, ◌++◌, length, Option, Some, None, MatchOption, sym, refl, ap, ◌∙◌, subst, arith, length-append, append-nil}
 use Rattle.std.proofs.lemmas.Grind.{common_steps}
-use Rattle.std.proofs.lemmas.List.Elements.{All-head, All-same, All-tail}
-use Rattle.inbox.specs.declared.placed.Placed.{Placed}
-use Rattle.inbox.specs.declared.placed.Gone.{Gone}
-use Rattle.input_port.specs.declared.rule.View.{View}
-use Rattle.input_port.specs.Calls.{popped_list, TakesIn}
-use Rattle.inbox.specs.Ends.{is_signal}
-use Rattle.input_port.specs.Ends.{SenderState, sent_by, IsOfOwner}
-use Rattle.inbox.specs.Put.{StartsWith, of, longer, AllThere, Apart}
-use Rattle.input_port.specs.Steps.{Draws, IsFresh}
-use Rattle.input_port.specs.Views.{gathers, without_first, without_last}
+use Rattle.std.proofs.lemmas.List.{nil_from_length}
+use Rattle.input_port.specs.Words.{gathers, is_signal, longer, of, popped_list, sent_by, without_first, without_last, AllThere, Apart, Draws, Gone, IsFresh, IsOfOwner, Placed, SenderState, StartsWith, TakesIn, View}
 use Rattle.input_port.proofs.PutLists.{of-append, starts_all, starts_through, both_told}
 
-abbrev Counted : List Placed → Gone → Type 0
-Counted known g = length (of g.number known) ≡ g.count
+-- the sender of this view, once it is gathered
+abbrev gone : View → Gone
+gone u = record { number = u.number; count = u.count }
 
 -- a sender was taken in, and one entry was drawn
-pub takes_in_one : (v u m w : View) (x : Placed) → m ≡ gathers v u → Draws m x w → TakesIn v u w (x ∷ [])
-takes_in_one v u m w x is draws =
-    let d = subst (λ l. Draws l x w) is draws in
+takes_in_one : (v u w : View) (x : Placed) → Draws (gathers v u) x w → TakesIn v u w (x ∷ [])
+takes_in_one v u w x d =
     let both = both_told v.seen u.seen d.3 in
+    let takes = ap (λ l. l.takes) d.0 in
+    let drawn = ap (λ l. l.drawn) d.0 in
+    let known = ap (λ l. l.seen) d.0 in
     let gathered = ap (λ l. l.gathered) d.0 in
-    record {
-      takes = ap (λ l. l.takes) d.0;
-      drawn = ap (λ l. l.drawn) d.0;
-      next = (d.5, d.6, d.8, tt);
-      known = ap (λ l. l.seen) d.0;
-      longest = d.1;
-      kept = starts_through w.seen (longer v.seen u.seen) v.seen d.1 both.0;
-      told = starts_through w.seen (longer v.seen u.seen) u.seen d.1 both.1;
-      gathered = gathered;
-      all = All-head (Counted w.seen) (record { number = u.number; count = u.count }) v.gathered (subst (AllThere w.seen) gathered d.4);
-      begins = d.2;
-      there = d.4;
-      apart = d.7;
-    }
+    let kept = starts_through w.seen (longer v.seen u.seen) v.seen d.1 both.0 in
+    let told = starts_through w.seen (longer v.seen u.seen) u.seen d.1 both.1 in
+    let there : AllThere w.seen (gone u ∷ v.gathered) = rw gathered at d.4 in
+    let all : length (of u.number w.seen) ≡ u.count = there 0 (gone u) (omega arith) in assumption
 
 -- a sender was taken in, and the queue was empty
-pub takes_in_none : (v u m w : View) → m ≡ gathers v u → w ≡ m → IsFresh m [] → TakesIn v u w []
-takes_in_none v u m w is same fresh =
-    let f = subst (λ l. IsFresh l []) is fresh in
+takes_in_none : (v u : View) → IsFresh (gathers v u) [] → TakesIn v u (gathers v u) []
+takes_in_none v u f =
     let both = both_told v.seen u.seen f.1 in
-    let here = same ∙ is in
-    subst (λ l. TakesIn v u l []) (sym here) (record {
-      takes = refl;
-      drawn = sym (append-nil v.drawn);
-      next = tt;
-      known = refl;
-      longest = starts_all (longer v.seen u.seen);
-      kept = both.0;
-      told = both.1;
-      gathered = refl;
-      all = All-head (Counted (longer v.seen u.seen)) (record { number = u.number; count = u.count }) v.gathered f.2;
-      begins = subst (λ l. StartsWith l v.drawn) (sym (f.0 refl)) (starts_all v.drawn);
-      there = f.2;
-      apart = f.3;
-    })
+    let drawn = sym (append-nil v.drawn) in
+    let longest = starts_all (longer v.seen u.seen) in
+    let begins : StartsWith (longer v.seen u.seen) v.drawn = rw (f.0 refl) (starts_all v.drawn) in
+    let all : length (of u.number (longer v.seen u.seen)) ≡ u.count = f.2 0 (gone u) (omega arith) in assumption
 
 -- what the pop after a gathering tells
 pub takes_in : (v u m w : View) (r : Option Placed) → m ≡ gathers v u
     → MatchOption r ((w ≡ m) × IsFresh m []) (λ placed. Draws m placed w) → TakesIn v u w (popped_list r)
-takes_in v u m w None is popped = takes_in_none v u m w is popped.0 popped.1
-takes_in v u m w (Some x) is popped = takes_in_one v u m w x is popped
-
-none_of_length : (xs : List Placed) → length xs ≡ 0 → xs ≡ []
-none_of_length [] e = refl
-none_of_length (x ∷ xs) e = absurd (omega arith)
+takes_in v u m w None is popped = rw (popped.0 ∙ is) (takes_in_none v u (rw is at popped.1))
+takes_in v u m w (Some x) is popped = takes_in_one v u w x (rw is at popped)
 
 -- where a list goes on and has no more entries of a number, it has the same ones
 pub own_same : (n : ℕ) (long seen : List Placed) → StartsWith long seen → length (of n long) ≡ length (of n seen) → of n long ≡ of n seen
 own_same n long seen s same =
     let split = ap (of n) s.1 ∙ of-append n seen s.0 in
     let lengths = ap length split in
-    let none = none_of_length (of n s.0) (omega (arith, length-append (of n seen) (of n s.0))) in
+    let none = nil_from_length (of n s.0) (omega (arith, length-append (of n seen) (of n s.0))) in
     split ∙ ap (λ l. of n seen ++ l) none ∙ append-nil (of n seen)
 
 -- the sender that comes back has put what it had put
@@ -89,16 +58,16 @@ pub given_back : (v u w z : View) (news : List Placed) (n signals : ℕ) → Tak
     → count_by is_signal w.drawn ≡ signals → IsOfOwner z n signals
 given_back v u w z news n signals t is len counted =
     let tail : without_first w.gathered ≡ v.gathered = ap without_first t.gathered in
-    let apart = subst Apart t.gathered t.apart in
-    subst (λ l. IsOfOwner l n signals) (sym is) (record {
+    let apart : Apart (gone u ∷ v.gathered) = rw t.gathered at t.apart in
+    let there : AllThere w.seen (gone u ∷ v.gathered) = rw t.gathered at t.there in
+    rw is record {
       takes = refl;
       gathered_is = ap length tail ∙ len;
       signals_are = counted;
       begins = t.begins;
-      there = All-same (Counted w.seen) (without_first w.gathered) v.gathered tail
-          (All-tail (Counted w.seen) (record { number = u.number; count = u.count }) v.gathered (subst (AllThere w.seen) t.gathered t.there));
-      apart = subst Apart (sym tail) apart.1;
-    })
+      there = rw tail (λ k d lt. there (suc k) d (omega arith));
+      apart = rw tail apart.1;
+    }
 
 -- the signals among what was drawn, and some more
 pub counted_more : (drawn now news : List Placed) (signals more : ℕ) → now ≡ drawn ++ news → count_by is_signal drawn ≡ signals

@@ -1,9 +1,8 @@
-use Rattle.std.proofs.Common.{◌≡◌, ◌≢◌, ◌⊎◌, ℕ, zero, suc, cond, nat_eq, List, [], ◌∷◌, ◌++◌, length, set, sym, refl, ap, ◌∙◌, subst, inl, inr, ⊎_elim, eq-eqb, ne_eqb, length-set}
+use Rattle.std.proofs.Common.{◌≡◌, ◌≢◌, ◌⊎◌, ℕ, zero, suc, cond, nat_eq, List, [], ◌∷◌, ◌++◌, length, set, sym, refl, ap, ◌∙◌, subst, inl, inr, ⊎_elim, length-set}
 use mathlib.Core.Option.{some, some-injective, some-ne-none}
 use lib.ListN.{get_elem?}
 use Rattle.crossbeam_queue.proofs.Lists.{at_set}
-use Rattle.input_port.specs.declared.rule.View.{View}
-use Rattle.input_port.specs.Rule.{EachView}
+use Rattle.input_port.specs.Words.{EachView, View}
 
 -- a fact of each view, after one view is changed
 pub each_set : (F : ℕ → View → Type 0) (views : List View) (pass : ℕ) (w : View) → F pass w
@@ -30,9 +29,3 @@ each_split F views pass left right mine new others j u e =
 -- the seats after one number's pass is changed: `holder` is one more than the pass, and 0 where none has the number
 abbrev pub seated : (ℕ → ℕ) → ℕ → ℕ → ℕ → ℕ
 seated seat number holder n = cond (nat_eq n number) holder (seat n)
-
-pub seated_here : (seat : ℕ → ℕ) (number holder : ℕ) → seated seat number holder number ≡ holder
-seated_here seat number holder = ap (λ b. cond b holder (seat number)) (eq-eqb number number refl)
-
-pub seated_else : (seat : ℕ → ℕ) (number holder n : ℕ) → n ≢ number → seated seat number holder n ≡ seat n
-seated_else seat number holder n other = ap (λ b. cond b holder (seat n)) (ne_eqb n number other)

@@ -1,7 +1,8 @@
 -- What callers see of the ends of a port: the desk, the senders, the owner.
-use Rattle.std.specs.Prelude.{◌≡◌, ℕ, ◌≤◌, ◌^◌, true, List, length, count_by}
+use Rattle.std.specs.Prelude.{◌≡◌, ℕ, ◌≤◌, ◌^◌, true, List, [], length, count_by}
 use Rattle.std.specs.declared.alloc.Global.{Global}
 use Rattle.crossbeam_queue.specs.SegTies.{SegId}
+use Rattle.port_model.specs.Port.{empty_port}
 use Rattle.inbox.specs.declared.entry.Entry.{Entry}
 use Rattle.inbox.specs.declared.placed.Placed.{Placed}
 use Rattle.inbox.specs.declared.placed.Gone.{Gone}
@@ -19,6 +20,11 @@ pub record SenderState : Type 0 where
   pub port : SegId Global
   pub number : ℕ
   pub seen : List Placed
+
+-- an owner as it is made: it has drawn nothing and knows of nothing, and its port is the empty one
+abbrev pub newborn : SegId Global → ℕ → OwnerState
+newborn port pid =
+    record { port = port; pid = pid; drawn = []; known = []; gathered = []; state = empty_port; armed = [] }
 
 -- What every owner knows: the known list begins with what was drawn, and has all entries of the gathered senders, whose
 -- numbers differ.

@@ -6,3 +6,4 @@ pub mod Held
 pub mod Rule
 pub mod Steps
 pub mod Views
+pub mod Words

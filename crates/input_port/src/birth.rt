@@ -1,7 +1,7 @@
 //! How a port is made.
 
-ghost use Rattle.std.specs.Prelude.{◌≡◌, [], MatchResult};
-ghost use Rattle.port_model.specs.Port.{empty_port};
+ghost use Rattle.std.specs.Prelude.{◌≡◌, MatchResult};
+ghost use Rattle.input_port.specs.Ends.{newborn};
 
 use crate::{Desk, Owner, Port, steps};
 use port_model::PortError;
@@ -19,15 +19,7 @@ pub struct NewPort {
 pub fn port(alloc: Global, pid: u32) -> Result<NewPort, PortError>
     ensures error { MatchResult result (λ _. Unit {0}) (λ error. error ≡ PortError.Memory) }
     ensures port { MatchResult result (λ made. made.port.pid ≡ pid) (λ _. Unit {0}) }
-    ensures owner { MatchResult result (λ made. made.owner ≡ record {
-      port = made.port.queue;
-      pid = pid;
-      drawn = [];
-      known = [];
-      gathered = [];
-      state = empty_port;
-      armed = [];
-    }) (λ _. Unit {0}) }
+    ensures owner { MatchResult result (λ made. made.owner ≡ newborn made.port.queue pid) (λ _. Unit {0}) }
     ensures desk { MatchResult result (λ made. made.desk ≡ record { port = made.port.queue; given = 0 }) (λ _. Unit {0}) }
 {
     let Ok((queue, mut pass)) = steps::open(alloc) else {

@@ -1,6 +1,6 @@
 //! What gives out the senders of a port.
 
-ghost use Rattle.std.specs.Prelude.{◌≡◌, ◌+◌, ◌<◌, ◌≤◌, [], true, None, MatchResult};
+ghost use Rattle.std.specs.Prelude.{◌≡◌, ◌+◌, ◌<◌, ◌≤◌, [], None, MatchResult};
 ghost use Rattle.input_port.specs.Views.{desk};
 
 use crate::rule::Pass;

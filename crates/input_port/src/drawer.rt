@@ -1,18 +1,7 @@
 //! What draws from a port, for an owner that lives and for one that has stopped. The atomic steps are those of `steps`.
-ghost use Rattle.std.specs.Prelude.{◌≡◌, ◌↔◌, ◌⊎◌, ◌<◌, ◌+◌, ◌-◌, ◌^◌, [], ◌∷◌, ◌++◌, ◌≤◌, true, None, length, count_by, IfErr, IfOk, IsErrOf, MatchOption};
-ghost use Rattle.port_model.specs.PlainPort.{armed_left};
-ghost use Rattle.port_model.specs.Port.{empty_port};
+ghost use Rattle.std.specs.Prelude.{◌≡◌, ◌↔◌, ◌<◌, ◌+◌, ◌-◌, ◌^◌, [], ◌∷◌, ◌≤◌, true, None, length, count_by, IfErr, IfOk, IsErrOf, MatchOption};
+ghost use Rattle.input_port.specs.Words.{after_draw, after_draws, after_reset, after_stop, armed_left, due_times, is_active, is_signal, left_with, newborn, owner, popped_list, signals_drawn, AreWaiting, ComesBack, DrainIs, GatherIs, HasDrawn, IsDrawn, IsGathered, IsKnowing, IsLeast, IsSegPassOf, MeetIs, MOST_SETS, Placed, PullIs, SetIs, TakeIs, TakesIn};
 ghost use Rattle.port_model.specs.Take.{Takes};
-ghost use Rattle.port_model.specs.Timers.{due_times, is_active, IsLeast};
-ghost use Rattle.port_model.specs.declared.plain_port.TheConstants.{MOST_SETS};
-ghost use Rattle.inbox.specs.Ends.{is_signal, signals_drawn};
-ghost use Rattle.input_port.specs.Ends.{left_with, IsKnowing};
-ghost use Rattle.inbox.specs.Left.{AreWaiting};
-ghost use Rattle.input_port.specs.Views.{owner};
-ghost use Rattle.inbox.specs.declared.placed.Placed.{Placed};
-ghost use Rattle.inbox.specs.Calls.{after_draw, after_draws, after_reset, after_set, after_stop, ComesBack, HasDrawn, IsDrawn, SetIs, TakeIs};
-ghost use Rattle.input_port.specs.Calls.{popped_list, DrainIs, GatherIs, IsGathered, MeetIs, PullIs, TakesIn};
-ghost use Rattle.crossbeam_queue.specs.SegTies.{IsSegPassOf};
 
 use crate::rule::{Pass, Queue};
 use crate::{Finished, Port, Sender, steps};
@@ -59,15 +48,7 @@ impl Drawer {
     pub fn new(alloc: Global, pid: u32, pass: Pass) -> Self
         requires view { pass.me.view.client ≡ owner [] [] [] [] }
         requires free { (pass.me.hand ≡ None) × (pass.me.spare ≡ None) }
-        ensures { result ≡ record {
-          port = record { web = pass.web; heap = pass.heap };
-          pid = pid;
-          drawn = [];
-          known = [];
-          gathered = [];
-          state = empty_port;
-          armed = [];
-        } }
+        ensures { result ≡ newborn (record { web = pass.web; heap = pass.heap }) pid }
     {
         Drawer {
             alloc,
@@ -192,10 +173,7 @@ impl Drawer {
         ensures port { self.new.port ≡ self.old.port }
         ensures pulled { PullIs self.old self.new result }
     {
-        if self.signals == u64::MAX {
-            return Err(PortError::Memory);
-        }
-        if let Err(_) = self.plain.reserve() {
+        if self.signals == u64::MAX || self.plain.reserve().is_err() {
             return Err(PortError::Memory);
         }
         match steps::pop(rt, &port.queue, &mut self.pass) {
@@ -224,7 +202,7 @@ impl Drawer {
         if self.gathered == u64::MAX || self.signals == u64::MAX {
             return Err(refused(sender));
         }
-        if let Err(_) = self.plain.reserve() {
+        if self.plain.reserve().is_err() {
             return Err(refused(sender));
         }
         let popped = take_in(rt, &port.queue, &mut self.pass, sender.into_pass());
@@ -248,10 +226,7 @@ impl Drawer {
         ensures port { self.new.port ≡ self.old.port }
         ensures meet { MeetIs self.old self.new sender result }
     {
-        if self.signals == u64::MAX {
-            return Err(refused(sender));
-        }
-        if let Err(_) = self.plain.reserve() {
+        if self.signals == u64::MAX || self.plain.reserve().is_err() {
             return Err(refused(sender));
         }
         let tally = sender.tally();
@@ -342,53 +317,33 @@ impl Drawer {
     pub fn leave(self, entries: Vec<Entry>) -> Finished
         ensures { result ≡ left_with self entries.items }
     {
-        let Drawer {
-            alloc: _,
-            pid: _,
-            pass,
-            plain: _,
-            gathered: _,
-            signals: _,
-        } = self;
-        Finished::new(entries, pass)
+        Finished::new(entries, self.pass)
     }
 
     /// The end: what waits in the port of the standard is left, in order, each timer's signal with its fuse. For want
     /// of memory it comes back as it was.
-    pub fn leave_waiting(self) -> Result<Finished, Drawer>
+    pub fn leave_waiting(mut self) -> Result<Finished, Drawer>
         ensures left { IfOk result (λ end. end ≡ left_with self end.entries) }
         ensures waiting { IfOk result (λ end. AreWaiting self.state.waiting self.pid self.armed end.entries) }
         ensures back { IfErr result (λ back. back ≡ self) }
     {
-        let Drawer {
-            alloc,
-            pid,
-            pass,
-            plain,
-            gathered,
-            signals,
-        } = self;
-        match fused::into_entries(alloc, pid, plain) {
-            Ok(list) => Ok(Finished::new(list, pass)),
-            Err(plain) => Err(Drawer {
-                alloc,
-                pid,
-                pass,
-                plain,
-                gathered,
-                signals,
-            }),
+        match fused::into_entries(self.alloc, self.pid, self.plain) {
+            Ok(list) => Ok(Finished::new(list, self.pass)),
+            Err(plain) => {
+                self.plain = plain;
+                Err(self)
+            }
         }
     }
 }
 
 // The refusal of a call for want of memory.
-fn refused(sender: Sender) -> Refused<Sender>
-    ensures { ComesBack result sender }
+pub fn refused<T>(value: T) -> Refused<T>
+    ensures { ComesBack result value }
 {
     Refused {
         error: PortError::Memory,
-        value: sender,
+        value,
     }
 }
 

@@ -1,11 +1,10 @@
 //! The owner of a shared port, with the port, as an inbox.
-ghost use Rattle.std.specs.Prelude.{◌≡◌, [], true, length, MatchResult};
-ghost use Rattle.inbox.specs.Ends.{signals_drawn};
-ghost use Rattle.input_port.specs.Ends.{IsKnowing};
-ghost use Rattle.input_port.specs.Calls.{DrainIs};
-ghost use Rattle.input_port.specs.Held.{GatherHereIs, HasDrawnHere, LeaveIs};
+#![tactic(auto, using(crate::proofs::Drawing::alive))]
 
-use crate::drawer::Drawer;
+ghost use Rattle.std.specs.Prelude.{◌≡◌, [], true, length};
+ghost use Rattle.input_port.specs.Words.{signals_drawn, DrainIs, GatherHereIs, HasDrawnHere, IsKnowing, LeaveIs};
+
+use crate::drawer::{Drawer, refused};
 use crate::{Finished, Owner, Port, Sender, since};
 use inbox::{Entry, Fuse, Inbox, Refused};
 use port_model::{PortError, Selection, Taken, Ticks, TimerKey};
@@ -124,30 +123,15 @@ impl<'a, R: Wait + Copy> Held<'a, R> {
             return Err(Refused { error, value: self });
         }
         self.knows();
-        let Held {
-            rt,
-            port,
-            drawer,
-            since,
-            before,
-            stopped,
-        } = self;
-        if stopped {
-            return Ok(drawer.leave(since));
+        if self.stopped {
+            return Ok(self.drawer.leave(self.since));
         }
-        match drawer.leave_waiting() {
+        match self.drawer.leave_waiting() {
             Ok(end) => Ok(end),
-            Err(drawer) => Err(Refused {
-                error: PortError::Memory,
-                value: Held {
-                    rt,
-                    port,
-                    drawer,
-                    since,
-                    before,
-                    stopped,
-                },
-            }),
+            Err(drawer) => {
+                self.drawer = drawer;
+                Err(refused(self))
+            }
         }
     }
 }

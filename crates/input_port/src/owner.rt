@@ -1,16 +1,10 @@
 //! The owner of a port: the instance, as long as it lives.
-ghost use Rattle.std.specs.Prelude.{◌≡◌, ◌↔◌, [], true, None, length, IfErr, IfOk, IsErrOf};
-ghost use Rattle.port_model.specs.Port.{empty_port};
-ghost use Rattle.port_model.specs.Timers.{due_times, is_active, IsLeast};
-ghost use Rattle.port_model.specs.declared.plain_port.TheConstants.{MOST_SETS};
-ghost use Rattle.inbox.specs.Calls.{after_reset, after_stop, ComesBack, HasDrawn, SetIs, TakeIs};
-ghost use Rattle.input_port.specs.Calls.{DrainIs, FinishIs, GatherIs, MeetIs};
-ghost use Rattle.inbox.specs.Ends.{signals_drawn};
-ghost use Rattle.input_port.specs.Ends.{left_with, IsKnowing};
-ghost use Rattle.inbox.specs.Left.{AreWaiting};
-ghost use Rattle.input_port.specs.Views.{owner};
+#![tactic(auto, using(crate::proofs::Drawing::alive))]
 
-use crate::drawer::Drawer;
+ghost use Rattle.std.specs.Prelude.{◌≡◌, ◌↔◌, [], true, None, length, IfErr, IfOk, IsErrOf};
+ghost use Rattle.input_port.specs.Words.{after_reset, after_stop, due_times, is_active, left_with, newborn, owner, signals_drawn, AreWaiting, ComesBack, DrainIs, FinishIs, GatherIs, HasDrawn, IsKnowing, IsLeast, MeetIs, MOST_SETS, SetIs, TakeIs};
+
+use crate::drawer::{Drawer, refused};
 use crate::rule::Pass;
 use crate::{Finished, Port, Retired, Sender};
 use inbox::{Entry, Fuse, Refused};
@@ -40,15 +34,7 @@ impl Owner {
     pub(crate) fn new(alloc: Global, pid: u32, pass: Pass) -> Self
         requires view { pass.me.view.client ≡ owner [] [] [] [] }
         requires free { (pass.me.hand ≡ None) × (pass.me.spare ≡ None) }
-        ensures { result ≡ record {
-          port = record { web = pass.web; heap = pass.heap };
-          pid = pid;
-          drawn = [];
-          known = [];
-          gathered = [];
-          state = empty_port;
-          armed = [];
-        } }
+        ensures { result ≡ newborn (record { web = pass.web; heap = pass.heap }) pid }
     {
         Owner {
             drawer: Drawer::new(alloc, pid, pass),
@@ -216,10 +202,7 @@ impl Owner {
         let Owner { drawer } = self;
         match drawer.leave_waiting() {
             Ok(end) => Ok(end),
-            Err(drawer) => Err(Refused {
-                error: PortError::Memory,
-                value: Owner { drawer },
-            }),
+            Err(drawer) => Err(refused(Owner { drawer })),
         }
     }
 

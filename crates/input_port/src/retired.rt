@@ -1,9 +1,6 @@
 //! An owner after its stop.
 ghost use Rattle.std.specs.Prelude.{◌≡◌, length, IfErr, IfOk, MatchResult};
-ghost use Rattle.inbox.specs.Calls.{ComesBack};
-ghost use Rattle.input_port.specs.Calls.{DrainIs, FinishesSince, GathersSince, HasDrawnSince};
-ghost use Rattle.inbox.specs.Ends.{signals_drawn};
-ghost use Rattle.input_port.specs.Ends.{IsKnowing};
+ghost use Rattle.input_port.specs.Words.{signals_drawn, ComesBack, DrainIs, FinishesSince, GathersSince, HasDrawnSince, IsKnowing};
 
 use crate::drawer::Drawer;
 use crate::{Finished, Port, Sender, since};
@@ -102,12 +99,7 @@ impl Retired {
     pub fn into_entries(self) -> Vec<Entry>
         ensures { result.items ≡ self.since }
     {
-        let Retired {
-            drawer: _,
-            since,
-            before: _,
-        } = self;
-        since
+        self.since
     }
 
     /// `drain`, and then `into_entries`: what was put and not drawn before the stop, in order. For want of memory the
@@ -121,11 +113,7 @@ impl Retired {
         if let Err(error) = self.drain(rt, port) {
             return Err(Refused { error, value: self });
         }
-        let Retired {
-            drawer,
-            since,
-            before: _,
-        } = self;
+        let Retired { drawer, since, .. } = self;
         Ok(drawer.leave(since))
     }
 }

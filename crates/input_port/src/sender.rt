@@ -1,17 +1,13 @@
 //! What puts signals and expiries into a port.
 
 ghost use Rattle.std.specs.Prelude.{◌≡◌, ◌+◌, ◌≤◌, ◌^◌, [], true, None, MatchResult};
-ghost use Rattle.input_port.specs.Views.{sender};
-ghost use Rattle.input_port.specs.Ends.{sent_by, signals_by, IsOfSender};
-ghost use Rattle.crossbeam_queue.specs.SegTies.{IsSegPassOf};
-ghost use Rattle.inbox.specs.Put.{IsDueBy};
-ghost use Rattle.input_port.specs.Calls.{PutIs, Puts};
-ghost use Rattle.inbox.specs.declared.entry.Entry.TheVariants.{Signal, Timer};
+ghost use Rattle.input_port.specs.Words.{sender, sent_by, signals_by, IsDueBy, IsOfSender, IsSegPassOf, PutIs, Puts, Signal, Timer};
 
+use crate::drawer::refused;
 use crate::rule::Pass;
 use crate::{Port, steps};
 use inbox::{Entry, Fuse, Placed, PutCount, Refused, SenderNumber};
-use port_model::{Item, PortError, Ticks};
+use port_model::{Item, Ticks};
 use std::marker::Model;
 use std::sync::Wait;
 
@@ -88,10 +84,7 @@ impl Sender {
     {
         match self.push(rt, port, Ticks::new(0), Entry::Signal(item)) {
             Ok(()) => Ok(()),
-            Err(Entry::Signal(value)) => Err(Refused {
-                error: PortError::Memory,
-                value,
-            }),
+            Err(Entry::Signal(value)) => Err(refused(value)),
             Err(Entry::Timer(_)) => unreachable!(),
         }
     }
@@ -112,10 +105,7 @@ impl Sender {
     {
         match self.push(rt, port, at, Entry::Timer(fuse)) {
             Ok(()) => Ok(()),
-            Err(Entry::Timer(value)) => Err(Refused {
-                error: PortError::Memory,
-                value,
-            }),
+            Err(Entry::Timer(value)) => Err(refused(value)),
             Err(Entry::Signal(_)) => unreachable!(),
         }
     }
@@ -141,12 +131,7 @@ impl Sender {
         ensures view { (result.me.view.client.sends ≡ true) × (result.me.view.client.number ≡ self.number)
             × (result.me.view.client.seen ≡ self.seen) × (result.me.view.client.count ≡ sent_by self) }
     {
-        let Sender {
-            pass,
-            number: _,
-            count: _,
-            signals: _,
-        } = self;
+        let Sender { pass, .. } = self;
         pass
     }
 
@@ -160,16 +145,11 @@ impl Sender {
           seen = pass.me.view.client.seen;
         } }
     {
-        let Tally {
-            number,
-            count,
-            signals,
-        } = tally;
         Sender {
             pass,
-            number,
-            count,
-            signals,
+            number: tally.number,
+            count: tally.count,
+            signals: tally.signals,
         }
     }
 

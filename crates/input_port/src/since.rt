@@ -1,10 +1,8 @@
 //! What an owner draws after its stop: it has no effect on its port, and is kept in a list.
-ghost use Rattle.std.specs.Prelude.{◌≡◌, ◌<◌, ◌-◌, ◌^◌, ◌∷◌, [], ◌++◌, length, map, vec_len, vec_capacity};
-ghost use Rattle.inbox.specs.Ends.{signals_drawn};
-ghost use Rattle.inbox.specs.declared.placed.Placed.{Placed};
-ghost use Rattle.input_port.specs.Calls.{entry_of, popped_list, DrainIs, GatherSinceIs, HasDrawnSince, PullSinceIs};
+ghost use Rattle.std.specs.Prelude.{◌≡◌, ◌<◌, ◌-◌, ◌++◌, map, vec_len, vec_capacity};
+ghost use Rattle.input_port.specs.Words.{entry_of, popped_list, DrainIs, GatherSinceIs, HasDrawnSince, Placed, PullSinceIs};
 
-use crate::drawer::Drawer;
+use crate::drawer::{Drawer, refused};
 use crate::{Port, Sender};
 use inbox::{Entry, Placed, Refused};
 use port_model::PortError;
@@ -23,17 +21,8 @@ pub fn gather<R: Wait>(
     ensures port { drawer.new.port ≡ drawer.old.port }
     ensures gather { GatherSinceIs drawer.old drawer.new since.old.items since.new.items sender result }
 {
-    if drawer.gathered() == u64::MAX || drawer.signals() == u64::MAX {
-        return Err(Refused {
-            error: PortError::Memory,
-            value: sender,
-        });
-    }
-    if let Err(_) = since.reserve(1) {
-        return Err(Refused {
-            error: PortError::Memory,
-            value: sender,
-        });
+    if drawer.gathered() == u64::MAX || drawer.signals() == u64::MAX || since.reserve(1).is_err() {
+        return Err(refused(sender));
     }
     let popped = drawer.absorb(rt, port, sender);
     keep(since, popped);
@@ -71,10 +60,7 @@ fn pull<R: Wait>(
     ensures port { drawer.new.port ≡ drawer.old.port }
     ensures pulled { PullSinceIs drawer.old drawer.new since.old.items since.new.items result }
 {
-    if drawer.signals() == u64::MAX {
-        return Err(PortError::Memory);
-    }
-    if let Err(_) = since.reserve(1) {
+    if drawer.signals() == u64::MAX || since.reserve(1).is_err() {
         return Err(PortError::Memory);
     }
     match drawer.pop(rt, port) {

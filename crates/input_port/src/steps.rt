@@ -1,10 +1,7 @@
 //! The atomic steps of a port. Each changes what one pass knows and nothing else, and keeps the rule of
 //! `specs/Rule.antt`.
-ghost use Rattle.std.specs.Prelude.{◌≡◌, ◌+◌, [], ◌∷◌, true, MatchOption, MatchResult};
-ghost use Rattle.crossbeam_queue.specs.SegTies.{IsSegPassOf};
-ghost use Rattle.inbox.specs.Put.{IsTimely};
-ghost use Rattle.input_port.specs.Steps.{Adds, Draws, IsFresh};
-ghost use Rattle.input_port.specs.Views.{desk, gathers, last_gathered, owner_of, sender, whole, without_last, HasGathered};
+ghost use Rattle.std.specs.Prelude.{◌≡◌, ◌+◌, [], true, MatchOption, MatchResult};
+ghost use Rattle.input_port.specs.Words.{desk, gathers, last_gathered, owner_of, sender, whole, without_last, Adds, Draws, HasGathered, IsFresh, IsSegPassOf, IsTimely};
 
 use crate::rule::{Ends, Gathers, NewSender, Pass, Popped, Pushed, Queue, SendsAgain};
 use inbox::Placed;
@@ -12,6 +9,7 @@ use std::alloc::{AllocError, Global};
 use std::sync::Wait;
 
 // A queue with nothing in it, and its first pass.
+#[tactic(auto, using(crate::proofs::Moves::begins))]
 pub fn open(alloc: Global) -> Result<(Queue, Pass), AllocError>
     ensures { MatchResult result (λ made. IsSegPassOf made.0 made.1 × (made.1.me.view.client ≡ whole)) (λ _. Unit {0}) }
 {
@@ -20,6 +18,7 @@ pub fn open(alloc: Global) -> Result<(Queue, Pass), AllocError>
 
 // Split of the first pass, the desk's. Before: it gives and takes. After: the pass is the owner's, and the new one the
 // desk's.
+#[tactic(auto, using(crate::proofs::Moves::forks_ends))]
 pub fn split_ends(queue: &Queue, pass: &mut Pass) -> Pass
     requires queue { IsSegPassOf queue.now pass.old }
     requires rights { (pass.old.me.view.client.gives ≡ true) × (pass.old.me.view.client.takes ≡ true) }
@@ -32,6 +31,7 @@ pub fn split_ends(queue: &Queue, pass: &mut Pass) -> Pass
 
 // Split of the desk's pass. Before: the desk has given the numbers up to some n. After: n + 1 is given too, and the
 // new pass puts under it and has put nothing.
+#[tactic(auto, using(crate::proofs::Moves::forks_next))]
 pub fn split_sender(queue: &Queue, pass: &mut Pass) -> Pass
     requires queue { IsSegPassOf queue.now pass.old }
     requires rights { pass.old.me.view.client.gives ≡ true }
@@ -74,6 +74,7 @@ pub fn pop<R: Wait>(rt: &R, queue: &Queue, pass: &mut Pass) -> Option<Placed>
 
 // Taking a sender's pass back, by the owner's. Before: each has seen a beginning of the put list. After: the owner
 // knows the longer of the two, and the sender's number and count stand among the gathered; its pass is spent.
+#[tactic(auto, using(crate::proofs::Moves::merges))]
 pub fn take_back(queue: &Queue, pass: &mut Pass, other: Pass)
     requires queue { IsSegPassOf queue.now pass.old × IsSegPassOf queue.now other }
     requires rights { (pass.old.me.view.client.takes ≡ true) × (other.me.view.client.sends ≡ true) }
@@ -85,6 +86,7 @@ pub fn take_back(queue: &Queue, pass: &mut Pass, other: Pass)
 
 // Split of the owner's pass. Before: a sender has been gathered. After: it is gathered no more, and the new pass puts
 // under its number, with its count, and has seen all that the owner knows.
+#[tactic(auto, using(crate::proofs::Moves::forks_again))]
 pub fn split_again(queue: &Queue, pass: &mut Pass) -> Pass
     requires queue { IsSegPassOf queue.now pass.old }
     requires rights { pass.old.me.view.client.takes ≡ true }

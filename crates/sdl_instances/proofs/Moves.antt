@@ -1,38 +1,20 @@
 -- Each step keeps the rule of the numbers.
-use Rattle.std.proofs.Common.{◌≡◌, ◌≢◌, ℕ, zero, suc, ◌+◌, ◌%◌, ◌^◌, ◌<◌, ◌≤◌, List, [], ◌∷◌, ◌++◌, length, set, sym, refl, ap, ◌∙◌, subst, ⊎_elim, arith}
+use Rattle.std.proofs.Common.{◌≡◌, ◌≢◌, ℕ, suc, ◌+◌, ◌%◌, ◌^◌, ◌<◌, ◌≤◌, [], ◌∷◌, ◌++◌, set, sym, refl, ap, ◌∙◌, subst, ⊎_elim, arith}
 use Rattle.std.specs.Prelude.{sum_by, slice_index}
 use Rattle.std.proofs.Math.Nat.{mod-eq_of_lt}
-use Rattle.std.proofs.lemmas.Bool.{cases_lt, cond-true, cond-false, le-leb, lt-leb}
-use Rattle.std.proofs.lemmas.List.Sums.{sum_by_push}
-use mathlib.Core.Option.{some, some-ne-none}
+use Rattle.std.proofs.lemmas.Bool.{cases_lt}
+use Rattle.std.proofs.lemmas.Bool.Decides.{nat_tests}
+use Rattle.std.proofs.lemmas.List.Sums.{sum_by_push, sum_by-le-sum_by}
+use mathlib.Core.Option.{some}
 use lib.ListN.{get_elem?}
 use Rattle.atomic_table.specs.Table.{State, Me, keeps, Allows, Splits, Joins}
 use Rattle.atomic_table.proofs.Lists.{at_set, at_snoc, set_here}
 use Rattle.sdl_instances.specs.declared.rule.View.{View}
 use Rattle.sdl_instances.specs.Numbers.{times, one_to}
-use Rattle.sdl_instances.specs.Rule.{given, allowance, EachView, Fits, Kept}
+use Rattle.sdl_instances.specs.Rule.{given, allowance, Fits, Kept}
 use Rattle.sdl_instances.specs.Steps.{Knows, Draws, Looks}
 use Rattle.sdl_instances.specs.Views.{view, without_part, one_part, together, spent}
-use Rattle.sdl_instances.proofs.Sums.{sum_at, sum_set, whole_sum, sum_less, times_push, times-append, one_to_past, one_to_once}
-
--- a fact of each view, after one view is changed
-each_set : (F : View → Type 0) (views : List View) (seat : ℕ) (w : View) → F w → ((j : ℕ) (u : View) → get_elem? views j ≡ some u → F u) → EachView (λ j. F) (set views seat w)
-each_set F views seat w mine others j u e =
-    ⊎_elim (λ (x : (j ≡ seat) × (w ≡ u)). subst F x.1 mine) (λ (x : (j ≢ seat) × (get_elem? views j ≡ some u)). others j u x.1) (at_set views seat j w u e)
-
--- how many draws past the last number a seat may have made
-allows_none : (v : View) → v.seen < 1000 → allowance v ≡ 0
-allows_none v h = cond-false _ _ _ (lt-leb 1000 v.seen h)
-
-allows_parts : (v : View) → 1000 ≤ v.seen → allowance v ≡ v.parts
-allows_parts v h = cond-true _ _ _ (le-leb 1000 v.seen h)
-
-allows_few : (v : View) → allowance v ≤ v.parts
-allows_few v = ⊎_elim (λ (h : v.seen < 1000). let n = allows_none v h in omega arith) (λ (h : 1000 ≤ v.seen). let a = allows_parts v h in omega arith) (cases_lt v.seen 1000)
-
--- The count is far from its type's end.
-count_below : (s : State (Unit {0}) View) (h : Kept s) → h.draws ≤ 1064
-count_below s h = let p = h.parts in let f = h.few in let l = sum_less allowance (λ v. v.parts) s.views allows_few in omega arith
+use Rattle.sdl_instances.proofs.Sums.{stands, sum_at, sum_set, each_set, whole_sum, times_push, times-append, one_to_past, one_to_once}
 
 -- What a seat that has seen all draws so far knows.
 knows_at : (s : State (Unit {0}) View) (h : Kept s) (seat : ℕ) (v : View) → get_elem? s.views seat ≡ some v → v.seen ≡ given h.draws → Knows v
@@ -40,18 +22,13 @@ knows_at s h seat v at now = record {
   right = let a = sum_at (λ u. u.parts) s.views seat v at in let p = h.parts in omega arith;
   most = omega arith;
   once = λ x. let a = sum_at (λ u. times x u.drawn) s.views seat v at in let o = h.once x in let p = one_to_once (given h.draws) x in omega arith;
-  whole = λ all x. sym (whole_sum (λ u. times x u.drawn) (λ u. u.parts) s.views seat v at (λ j u e none. ap (times x) ((h.fits j u e).idle none)) (h.parts ∙ sym all))
-      ∙ h.once x ∙ ap (λ n. times x (one_to n)) (sym now);
+  whole = λ all x. sym (whole_sum x s.views seat v at (λ j u e. (h.fits j u e).idle) (h.parts ∙ sym all)) ∙ h.once x
+      ∙ ap (λ n. times x (one_to n)) (sym now);
 }
 
 -- the state after a step of one seat
 abbrev after : State (Unit {0}) View → ℕ → View → ℕ → State (Unit {0}) View
 after s seat w word = record { words = set s.words 0 word; homes = s.homes; views = set s.views seat w }
-
-length_at : (views : List View) (i : ℕ) (v : View) → get_elem? views i ≡ some v → i < length views
-length_at [] i v e = absurd (some-ne-none v (sym e))
-length_at (x ∷ xs) zero v e = omega arith
-length_at (x ∷ xs) (suc i) v e = let h = length_at xs i v e in omega arith
 
 -- One seat steps, and keeps its parts.
 changed : (s : State (Unit {0}) View) (h : Kept s) (seat : ℕ) (v w : View) (word draws : ℕ) → get_elem? s.views seat ≡ some v
@@ -69,7 +46,7 @@ changed s h seat v w word draws at is more same now further idle few once =
       fits = each_set (Fits draws) s.views seat w record { seen = omega arith; idle = λ none. idle (sym same ∙ none) }
           (λ j u e. let f = h.fits j u e in let seen = f.seen in record { seen = omega arith; idle = f.idle });
     } in
-    (kept, knows_at (after s seat w word) kept seat w (set_here s.views seat w (length_at s.views seat v at)) now)
+    (kept, knows_at (after s seat w word) kept seat w (set_here s.views seat w (stands s.views seat v at).0) now)
 
 -- the count that a step finds
 found : (s : State (Unit {0}) View) (h : Kept s) → slice_index s.words 0 ≡ h.draws
@@ -81,16 +58,13 @@ looks slots seat me s h homes at word =
     let n = h.draws in
     let w = view v.parts v.drawn (given n) in
     let e = found s h in
-    let seen = (h.fits seat v at).seen in
-    let idle = (h.fits seat v at).idle in
+    let fits = h.fits seat v at in
     let few : n ≤ 1000 + sum_by allowance (set s.views seat w) =
-    let t = sum_set allowance s.views seat v w at in
-    let f = h.few in
-    ⊎_elim (λ (lt : v.seen < 1000). let z = allows_none v lt in omega arith)
-    (λ (le : 1000 ≤ v.seen). let y = allows_parts v le in let z = allows_parts w (omega arith) in omega arith) (cases_lt v.seen 1000)
-    in
-    let new = changed s h seat v w (slice_index s.words 0) n at e (omega arith) refl refl seen idle few (λ x. refl) in
-    let told : Looks v n w = record { sees = refl; further = seen; knows = new.1 } in
+    let seen = fits.seen in let t = sum_set allowance s.views seat v w at in let f = h.few in
+    grind (arith, nat_tests) in
+    let new = changed s h seat v w (slice_index s.words 0) n at e (omega arith) refl refl fits.seen fits.idle few
+    (λ x. refl) in
+    let told : Looks v n w = record { sees = refl; further = fits.seen; knows = new.1 } in
     (w, keeps, tt, new.0, (subst (λ k. Looks v k w) (sym e) told, refl))
 
 -- A draw that gives the next number.
@@ -129,11 +103,7 @@ last_draw s h seat v m at some_part few_seen e le =
     let now : given n ≡ 1000 = omega arith in
     let next : given (suc n) ≡ 1000 = omega arith in
     let few : suc n ≤ 1000 + sum_by allowance (set s.views seat w) =
-    let t = sum_set allowance s.views seat v w at in
-    let f = h.few in
-    let y = allows_none v few_seen in
-    let z = allows_parts w (omega arith) in omega arith
-    in
+    let t = sum_set allowance s.views seat v w at in let f = h.few in grind (arith, nat_tests) in
     let idle = (h.fits seat v at).idle in
     let once : (x : ℕ) → times x v.drawn + times x (one_to (given n)) ≡ times x v.drawn + times x (one_to (given (suc n))) =
     λ x. ap (λ k. times x v.drawn + times x (one_to k)) (now ∙ sym next)
@@ -150,7 +120,9 @@ draws slots seat me some_part few_seen s h homes at word =
     let v = me.0 in
     let n = h.draws in
     let e = found s h in
-    let below = count_below s h in
+    let few = h.few in
+    let parts = h.parts in
+    let less = sum_by-le-sum_by allowance (λ v. v.parts) s.views (λ v. grind (arith, nat_tests)) in
     let m = (slice_index s.words 0 + 1) % 2 ^ 64 in
     let small : slice_index s.words 0 + 1 < 2 ^ 64 = omega arith in
     let one_more : m ≡ suc n = mod-eq_of_lt small ∙ omega arith in
@@ -171,17 +143,15 @@ splits seat v two s h at =
       word = h.word;
       parts = let t = sum_set (λ u. u.parts) s.views seat v w at in let p = h.parts in let q = sum_by_push (λ (u : View). u.parts) views new in omega arith;
       few =
-          let t = sum_set allowance s.views seat v w at in
-          let f = h.few in
-          let q = sum_by_push allowance views new in
-          ⊎_elim (λ (lt : v.seen < 1000). let x = allows_none v lt in let y = allows_none w lt in let z = allows_none new lt in omega arith)
-          (λ (le : 1000 ≤ v.seen). let x = allows_parts v le in let y = allows_parts w le in let z = allows_parts new le in omega arith) (cases_lt v.seen 1000);
+          let t = sum_set allowance s.views seat v w at in let f = h.few in let q = sum_by_push allowance views new in
+          grind (arith, nat_tests);
       once = λ x.
           let t = sum_set (λ u. times x u.drawn) s.views seat v w at in
           let o = h.once x in
           let q = sum_by_push (λ (u : View). times x u.drawn) views new in omega arith;
       fits = λ j u e.
-          ⊎_elim (λ (old : get_elem? views j ≡ some u). each_set (Fits h.draws) s.views seat w record { seen = seen; idle = λ none. absurd (omega arith) } (λ k y f. h.fits k y f) j u old)
+          ⊎_elim (λ (old : get_elem? views j ≡ some u). each_set (Fits h.draws) s.views seat w
+          record { seen = seen; idle = λ none. absurd (omega arith) } h.fits j u old)
           (λ (is : new ≡ u). subst (Fits h.draws) is record { seen = seen; idle = λ none. refl }) (at_snoc views new u j e);
     }
 
@@ -194,6 +164,8 @@ joins seat v other u s h at apart there =
     let its = h.fits other u theirs in
     let a = mine.seen in
     let b = its.seen in
+    let idle : w.parts ≡ 0 → w.drawn ≡ [] = λ no.
+    ap (λ l. l ++ u.drawn) (mine.idle (omega arith)) ∙ its.idle (omega arith) in
     record {
       draws = h.draws;
       word = h.word;
@@ -204,11 +176,7 @@ joins seat v other u s h at apart there =
       few =
           let f = h.few in
           let t = sum_set allowance s.views seat v w at in
-          let q = sum_set allowance views other u spent there in
-          ⊎_elim
-          (λ (lt : w.seen < 1000).
-          let x = allows_none v (omega arith) in let y = allows_none u (omega arith) in let z = allows_none w lt in omega arith)
-          (λ (le : 1000 ≤ w.seen). let x = allows_few v in let y = allows_few u in let z = allows_parts w le in omega arith) (cases_lt w.seen 1000);
+          let q = sum_set allowance views other u spent there in grind (arith, nat_tests);
       once = λ x.
           let o = h.once x in
           let t = sum_set (λ y. times x y.drawn) s.views seat v w at in
@@ -216,5 +184,5 @@ joins seat v other u s h at apart there =
           let r = times-append x v.drawn u.drawn in omega arith;
       fits = each_set (Fits h.draws) views other spent record { seen = omega arith; idle = λ none. refl }
           (λ j y e. each_set (Fits h.draws) s.views seat w
-          record { seen = omega arith; idle = λ none. ap (λ l. l ++ u.drawn) (mine.idle (omega arith)) ∙ its.idle (omega arith) } (λ k z f. h.fits k z f) j y e);
+          record { seen = omega arith; idle = idle } h.fits j y e);
     }

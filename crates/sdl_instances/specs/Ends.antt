@@ -18,6 +18,10 @@ pub record SeatState : Type 0 where
   pub drawn : List ℕ
   pub seen : ℕ
 
+-- what a caller sees of the seat that knows this
+abbrev pub seat_of : TableId → Me (Unit {0}) View → ℕ → SeatState
+seat_of id me left = record { table = id; parts = me.0.parts; left = left; drawn = me.0.drawn; seen = me.0.seen }
+
 -- the table has one word, which counts the draws, and no slot
 pub record IsTable (id : TableId) : Type 0 where
   pub words : id.words ≡ 1

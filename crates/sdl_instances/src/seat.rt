@@ -1,7 +1,7 @@
 //! What a thread draws numbers with.
 
 ghost use Rattle.std.specs.Prelude.{◌≡◌, ◌+◌, ◌≤◌, nat_le, [], ◌++◌, IfSome, MatchOption};
-ghost use Rattle.sdl_instances.specs.Ends.{IsSeat};
+ghost use Rattle.sdl_instances.specs.Ends.{seat_of, IsSeat};
 ghost use Rattle.sdl_instances.specs.Numbers.{EachOnce, AreOneTo};
 
 use crate::rule::Place;
@@ -22,17 +22,11 @@ pub struct Seat {
 }
 
 impl Model for Seat {
-    ghost use Rattle.sdl_instances.specs.Ends.{SeatState, IsSeat};
+    ghost use Rattle.sdl_instances.specs.Ends.{seat_of, SeatState, IsSeat};
 
     ghost Value = { SeatState };
 
-    ghost view = { λ s. record {
-      table = s.place.table_id;
-      parts = s.place.me.0.parts;
-      left = s.left;
-      drawn = s.place.me.0.drawn;
-      seen = s.place.me.0.seen;
-    } };
+    ghost view = { λ s. seat_of s.place.table_id s.place.me s.left };
 
     ghost invariant = { λ s. IsSeat s.place.table_id s.place.me s.left s.seen };
 }
@@ -40,13 +34,7 @@ impl Model for Seat {
 impl Seat {
     pub(crate) fn new(place: Place, left: u32, seen: u32) -> Self
         requires { IsSeat place.table_id place.me left seen }
-        ensures { result ≡ record {
-          table = place.table_id;
-          parts = place.me.0.parts;
-          left = left;
-          drawn = place.me.0.drawn;
-          seen = seen;
-        } }
+        ensures { result ≡ seat_of place.table_id place.me left }
     {
         Seat { place, left, seen }
     }
@@ -106,11 +94,6 @@ impl Seat {
         ensures rights { (result.me.0.parts ≡ self.parts) × (result.me.0.drawn ≡ self.drawn)
             × (result.me.0.seen ≡ self.seen) }
     {
-        let Seat {
-            place,
-            left: _,
-            seen: _,
-        } = self;
-        place
+        self.place
     }
 }

@@ -40,6 +40,7 @@ pub fn look(word: &Word, place: &mut Place) -> u64
 
 // Split of a seat. Before: it has two parts or more. After: the new seat has one of them, has drawn nothing, and has
 // seen as much.
+#[tactic(auto, using(crate::proofs::Moves::splits))]
 pub fn split(word: &Word, place: &mut Place) -> Place
     requires table { IsTable word.now.shared.table_id × (place.old.table_id ≡ word.now.shared.table_id) }
     requires rights { 1 < place.old.me.0.parts }
@@ -52,6 +53,7 @@ pub fn split(word: &Word, place: &mut Place) -> Place
 
 // Taking a seat back. After: the seat has the parts of both, all that both have drawn, and has seen what either has;
 // the other is spent.
+#[tactic(auto, using(crate::proofs::Moves::joins))]
 pub fn take_back(word: &Word, place: &mut Place, other: Place)
     requires table { IsTable word.now.shared.table_id × (place.old.table_id ≡ word.now.shared.table_id)
         × (other.table_id ≡ word.now.shared.table_id) }

@@ -1,10 +1,10 @@
-use Rattle.std.proofs.Common.{◌≡◌, ℕ, zero, suc, ◌+◌, ◌<◌, ◌≤◌, ◌%◌, true, false, List, [], ◌∷◌, ◌++◌, Option, Some, None, map, length, replicate, get_or, set, refl, sym, ap, ◌∙◌, subst, length-set, arith}
+use Rattle.std.proofs.Common.{◌≡◌, ℕ, zero, suc, ◌+◌, ◌<◌, ◌≤◌, ◌%◌, true, false, List, [], ◌∷◌, Option, Some, None, map, length, replicate, get_or, set, refl, sym, ap, ◌∙◌, subst, length-set, arith}
 use Rattle.std.specs.List.{All, Contains}
 use Rattle.std.specs.Option.{IfSome, MatchOption}
 use Rattle.std.proofs.Math.ListN.{get_or-map}
 use Rattle.std.proofs.lemmas.Bool.Decides.{nat_tests}
 use Rattle.std.proofs.lemmas.List.{get_or_default, map-set}
-use Rattle.std.proofs.lemmas.List.Elements.{All-nil, All-cons, All-head, All-tail, All-set, All-weaker, All-map, All-get_or, All-from_get_or, Contains-get_or}
+use Rattle.std.proofs.lemmas.List.Elements.{All-nil, All-cons, All-tail, All-set, All-weaker, All-map, All-get_or, All-from_get_or, Contains-get_or}
 use Rattle.inbox.specs.declared.entry.Fuse.{Fuse}
 use Rattle.sdl_timers.specs.declared.due.Due.{Due}
 use Rattle.sdl_timers.specs.DueOrder.{due_of, first_of, is_before, with_fuse, Fires, IsInOrder, IsUpTo}
@@ -27,20 +27,22 @@ none_before fuse (head ∷ more) ordered first =
 
 AreSorted-get_or : (from : ℕ) (slots : List (List Fuse)) (k : ℕ) → k < length slots → AreSorted from slots → All (λ fuse. fuse.due % 256 ≡ from + k) (get_or slots k [])
 AreSorted-get_or from [] k h sorted = absurd (omega arith)
-AreSorted-get_or from (slot ∷ slots) zero h sorted = λ place other b. let e = sorted.0 place other b in omega arith
-AreSorted-get_or from (slot ∷ slots) (suc k) h sorted = λ place other b. let e = AreSorted-get_or (from + 1) slots k (omega arith) sorted.1 place other b in omega arith
+AreSorted-get_or from (slot ∷ slots) zero h sorted = λ j d lt. omega (arith, sorted.0 j d lt)
+AreSorted-get_or from (slot ∷ slots) (suc k) h sorted =
+    let rest = AreSorted-get_or (from + 1) slots k (omega arith) sorted.1 in λ j d lt. omega (arith, rest j d lt)
 
 AreSorted-set : (from : ℕ) (slots : List (List Fuse)) (k : ℕ) (slot : List Fuse) → AreSorted from slots → All (λ fuse. fuse.due % 256 ≡ from + k) slot → AreSorted from (set slots k slot)
 AreSorted-set from [] k slot sorted new = tt
-AreSorted-set from (old ∷ slots) zero slot sorted new = ((λ place other b. let e = new place other b in omega arith), sorted.1)
-AreSorted-set from (old ∷ slots) (suc k) slot sorted new = (sorted.0, AreSorted-set (from + 1) slots k slot sorted.1 (λ place other b. let e = new place other b in omega arith))
+AreSorted-set from (old ∷ slots) zero slot sorted new = ((λ j d lt. omega (arith, new j d lt)), sorted.1)
+AreSorted-set from (old ∷ slots) (suc k) slot sorted new =
+    (sorted.0, AreSorted-set (from + 1) slots k slot sorted.1 (λ j d lt. omega (arith, new j d lt)))
 
 -- a wheel with another slot
 pub changed : (slots : List (List Fuse)) (entrants : List (Option Due)) (k : ℕ) (slot : List Fuse) → IsWheel slots entrants → All (λ fuse. fuse.due % 256 ≡ k) slot → IsInOrder slot
     → IsWheel (set slots k slot) (set entrants k (first_of slot))
 changed slots entrants k slot wheel sorted ordered = record {
   long = length-set slots k slot ∙ wheel.long;
-  sorted = AreSorted-set 0 slots k slot wheel.sorted (λ place other b. let e = sorted place other b in omega arith);
+  sorted = AreSorted-set 0 slots k slot wheel.sorted (λ j d lt. omega (arith, sorted j d lt));
   ordered = All-set IsInOrder slots k slot ordered wheel.ordered;
   entered = ap (λ (l : List (Option Due)). set l k (first_of slot)) wheel.entered ∙ sym (map-set first_of slots k slot);
 }
@@ -49,18 +51,8 @@ changed slots entrants k slot wheel sorted ordered = record {
 pub of_slot : (slots : List (List Fuse)) (entrants : List (Option Due)) (k : ℕ) → IsWheel slots entrants → k < 256 → All (λ fuse. fuse.due % 256 ≡ k) (get_or slots k []) × IsInOrder (get_or slots k [])
 of_slot slots entrants k wheel h =
     let long = wheel.long in
-    ((λ place other b. let e = AreSorted-get_or 0 slots k (omega arith) wheel.sorted place other b in omega arith), All-get_or IsInOrder slots k [] (omega arith) wheel.ordered)
-
--- a wheel with one fuse more
-pub arms : (slots : List (List Fuse)) (entrants : List (Option Due)) (k : ℕ) (fuse : Fuse) → IsWheel slots entrants → fuse.due % 256 ≡ k
-    → IsWheel (set slots k (with_fuse fuse (get_or slots k []))) (set entrants k (first_of (with_fuse fuse (get_or slots k []))))
-    × (all_fuses (set slots k (with_fuse fuse (get_or slots k []))) ≡ with_fuse fuse (all_fuses slots))
-arms slots entrants k fuse wheel e =
-    let long = wheel.long in
-    let here = of_slot slots entrants k wheel (omega arith) in (
-      changed slots entrants k (with_fuse fuse (get_or slots k [])) wheel (All-with_fuse (λ other. other.due % 256 ≡ k) fuse (get_or slots k []) e here.0) (IsInOrder-with_fuse fuse (get_or slots k []) here.1),
-      arms_slot 0 slots k [] fuse wheel.sorted wheel.ordered (omega arith) (omega arith),
-    )
+    let sorted = AreSorted-get_or 0 slots k (omega arith) wheel.sorted in
+    ((λ j d lt. omega (arith, sorted j d lt)), All-get_or IsInOrder slots k [] (omega arith) wheel.ordered)
 
 -- the entrants of the tournament are the slots' first fuses
 entrant_at : (slots : List (List Fuse)) (entrants : List (Option Due)) (k : ℕ) → IsWheel slots entrants → node_at entrants k ≡ first_of (get_or slots k [])
@@ -83,12 +75,14 @@ first_fuse slots entrants due wheel least =
     let head = head_of (get_or slots k []) due (sym (entrant_at slots entrants k wheel) ∙ least.among) in
     let fuse : Fuse = head.0 in
     let rest : List Fuse = head.1 in
-    let sorted : fuse.due % 256 ≡ k = All-head (λ other. other.due % 256 ≡ k) fuse rest (subst (All (λ other. other.due % 256 ≡ k)) head.2 (of_slot slots entrants k wheel below).0) in
+    let old : All (λ other. other.due % 256 ≡ k) (fuse ∷ rest) =
+    rw head.2 at (of_slot slots entrants k wheel below).0 in
+    let sorted : fuse.due % 256 ≡ k = old 0 fuse (omega arith) in
     let here : k ≡ due.time % 256 = sym sorted ∙ ap (λ (d : Due). d.time % 256) head.3 in
     let none : All (NoneBefore fuse) slots = All-from_get_or (NoneBefore fuse) slots [] (λ j b.
-    none_before fuse (get_or slots j []) (All-get_or IsInOrder slots j [] b wheel.ordered)
-    (subst (λ (d : Due). IsUpTo (Some d) (first_of (get_or slots j []))) (sym head.3)
-    (subst (λ (o : Option Due). IsUpTo (Some due) o) (entrant_at slots entrants j wheel) (least.first j (omega arith))))) in
+    let first : IsUpTo (Some due) (first_of (get_or slots j [])) =
+    rw (entrant_at slots entrants j wheel) at (least.first j (omega arith)) in
+    none_before fuse (get_or slots j []) (All-get_or IsInOrder slots j [] b wheel.ordered) (rw head.3 first)) in
     record {
       fuse = fuse;
       rest = rest;
@@ -107,27 +101,27 @@ none_in (first ∷ more) h = absurd h
 none_together : (slots : List (List Fuse)) → All (λ slot. slot ≡ []) slots → together slots ≡ []
 none_together [] none = refl
 none_together (slot ∷ slots) none =
-    ap (λ (l : List Fuse). l ++ together slots) (All-head (λ s. s ≡ []) slot slots none) ∙ none_together slots (All-tail (λ s. s ≡ []) slot slots none)
+    rw (none 0 slot (omega arith)) (none_together slots (All-tail (λ s. s ≡ []) slot slots none))
 
 pub no_fuse : (slots : List (List Fuse)) (entrants : List (Option Due)) → IsWheel slots entrants → IsLeastOf entrants None → all_fuses slots ≡ []
 no_fuse slots entrants wheel least =
     let long = wheel.long in
     ap (armed []) (none_together slots (All-from_get_or (λ s. s ≡ []) slots [] (λ j b.
-    none_in (get_or slots j []) (subst (λ (o : Option Due). IsUpTo None o) (entrant_at slots entrants j wheel) (least.first j (omega arith))))))
+    none_in (get_or slots j []) (rw (entrant_at slots entrants j wheel) at (least.first j (omega arith))))))
 
 -- an empty wheel
 empty_sorted : (from : ℕ) (slots : List (List Fuse)) → All (λ slot. slot ≡ []) slots → AreSorted from slots
 empty_sorted from [] empty = tt
 empty_sorted from (slot ∷ slots) empty = (
-  subst (All (λ fuse. fuse.due % 256 ≡ from)) (sym (All-head (λ s. s ≡ []) slot slots empty)) (All-nil (λ fuse. fuse.due % 256 ≡ from)),
+  rw (empty 0 slot (omega arith)) (All-nil (λ fuse. fuse.due % 256 ≡ from)),
   empty_sorted (from + 1) slots (All-tail (λ s. s ≡ []) slot slots empty),
 )
 
 empty_entered : (slots : List (List Fuse)) → All (λ slot. slot ≡ []) slots → replicate (length slots) None ≡ map first_of slots
 empty_entered [] empty = refl
 empty_entered (slot ∷ slots) empty =
-    ap (λ (l : List (Option Due)). None ∷ l) (empty_entered slots (All-tail (λ s. s ≡ []) slot slots empty))
-    ∙ ap (λ (s : List Fuse). first_of s ∷ map first_of slots) (sym (All-head (λ s. s ≡ []) slot slots empty))
+    rw (empty 0 slot (omega arith))
+    (ap (λ (l : List (Option Due)). None ∷ l) (empty_entered slots (All-tail (λ s. s ≡ []) slot slots empty)))
 
 pub empty_wheel : (slots : List (List Fuse)) (entrants : List (Option Due)) → length slots ≡ 256 → entrants ≡ replicate 256 None → All (λ slot. slot ≡ []) slots
     → IsWheel slots entrants × (all_fuses slots ≡ [])
@@ -170,49 +164,49 @@ not_due slots entrants due to wheel least h place other b =
     let e = no_earlier first.fuse (get_or (all_fuses slots) place other) (first.none place other b) in
     omega arith
 
--- the wheel after the slot n was changed, with what the code knows of it
+-- the wheel with one fuse more, after the slot n was changed, with what the code knows of it
 pub arms_in : (slots : List (List Fuse)) (entrants entered : List (Option Due)) (fuse : Fuse) (k n : ℕ) (slot new : List Fuse) (first : Option Due) → IsWheel slots entrants → k ≡ fuse.due % 256 → n ≡ k
     → new ≡ with_fuse fuse (get_or slots n slot) → first ≡ first_of new → entered ≡ set entrants k first
     → IsWheel (set slots n new) entered × (all_fuses (set slots n new) ≡ with_fuse fuse (all_fuses slots))
 arms_in slots entrants entered fuse k n slot new first wheel hash here new_is first_is entered_is =
     let long = wheel.long in
-    let armed_slot = with_fuse fuse (get_or slots k []) in
-    let new_at : new ≡ armed_slot = new_is ∙ ap (with_fuse fuse) (get_or_default slots n slot [] (omega arith) ∙ ap (λ (j : ℕ). get_or slots j []) here) in
-    let slots_at : set slots n new ≡ set slots k armed_slot = λ i. set slots (here i) (new_at i) in
-    let entered_at : entered ≡ set entrants k (first_of armed_slot) = entered_is ∙ ap (set entrants k) (first_is ∙ ap first_of new_at) in
-    subst (λ (t : List (List Fuse) × List (Option Due)). IsWheel t.0 t.1 × (all_fuses t.0 ≡ with_fuse fuse (all_fuses slots))) (λ i. (sym slots_at i, sym entered_at i)) (arms slots entrants k fuse wheel (sym hash))
+    let old = of_slot slots entrants k wheel (omega arith) in
+    let wider = All-with_fuse (λ other. other.due % 256 ≡ k) fuse (get_or slots k []) (sym hash) old.0 in
+    rw (entered_is, first_is, new_is, here, get_or_default slots k slot [] (omega arith)) (
+      changed slots entrants k (with_fuse fuse (get_or slots k [])) wheel wider
+          (IsInOrder-with_fuse fuse (get_or slots k []) old.1),
+      arms_slot 0 slots k [] fuse wheel.sorted wheel.ordered (omega arith) (omega arith),
+    )
 
 pub record HasFired (slots : List (List Fuse)) (fired : List (List Fuse)) (entered : List (Option Due)) (due : Due) (result : Option Fuse) : Type 0 where
   pub wheel : IsWheel fired entered
   pub fires : (to : ℕ) → due.time ≤ to → Fires (all_fuses slots) to result (all_fuses fired)
   pub first : IfSome result (λ fuse. NoneBefore fuse (all_fuses slots))
 
+-- what is taken of a list that has a first one
+taken_first : (result : Option Fuse) (old new : List Fuse) (fuse : Fuse) (rest : List Fuse)
+    → MatchOption result ((old ≡ []) × (new ≡ [])) (λ taken. old ≡ taken ∷ new) → old ≡ fuse ∷ rest →
+    (result ≡ Some fuse) × (new ≡ rest)
+taken_first None old new fuse rest taken at = let empty = taken.0 in cc
+taken_first (Some first) old new fuse rest taken at = (cc, cc)
+
 pub fires_in : (slots : List (List Fuse)) (entrants entered : List (Option Due)) (due : Due) (k n : ℕ) (slot new : List Fuse) (first : Option Due) (result : Option Fuse) → IsWheel slots entrants → IsLeastOf entrants (Some due)
     → k ≡ due.time % 256 → n ≡ k → MatchOption result ((get_or slots n slot ≡ []) × (new ≡ [])) (λ fuse. get_or slots n slot ≡ fuse ∷ new) → first ≡ first_of new → entered ≡ set entrants k first
     → HasFired slots (set slots n new) entered due result
-fires_in slots entrants entered due k n slot new first None wheel least hash here taken first_is entered_is =
-    let long = wheel.long in
-    let head = first_fuse slots entrants due wheel least in
-    let at : get_or slots n slot ≡ head.fuse ∷ head.rest = get_or_default slots n slot [] (omega arith) ∙ ap (λ (j : ℕ). get_or slots j []) (here ∙ hash) ∙ head.slot in
-    let empty : get_or slots n slot ≡ [] = taken.0 in
-    cc
-fires_in slots entrants entered due k n slot new first (Some fuse) wheel least hash here taken first_is entered_is =
-    let long = wheel.long in
-    let head = first_fuse slots entrants due wheel least in
-    let at : get_or slots n slot ≡ head.fuse ∷ head.rest = get_or_default slots n slot [] (omega arith) ∙ ap (λ (j : ℕ). get_or slots j []) (here ∙ hash) ∙ head.slot in
-    let same_fuse : head.fuse ≡ fuse = cc in
-    let same_rest : head.rest ≡ new = cc in
+fires_in slots entrants entered due k n slot new first result wheel least hash here taken first_is entered_is =
     let m : ℕ = due.time % 256 in
-    let slots_at : set slots n new ≡ set slots m head.rest = λ i. set slots ((here ∙ hash) i) (sym same_rest i) in
-    let entered_at : entered ≡ set entrants m (first_of head.rest) = entered_is ∙ (λ i. set entrants (hash i) ((first_is ∙ ap first_of (sym same_rest)) i)) in
+    let long = wheel.long in
+    let head = first_fuse slots entrants due wheel least in
+    let at = get_or_default slots n slot [] (omega arith) ∙ ap (λ (j : ℕ). get_or slots j []) (here ∙ hash)
+    ∙ head.slot in
+    let got = taken_first result (get_or slots n slot) new head.fuse head.rest taken at in
     let old = of_slot slots entrants m wheel (omega arith) in
-    let sorted : All (λ other. other.due % 256 ≡ m) head.rest = All-tail (λ other. other.due % 256 ≡ m) head.fuse head.rest (subst (All (λ other. other.due % 256 ≡ m)) head.slot old.0) in
-    let ordered : IsInOrder (head.fuse ∷ head.rest) = subst IsInOrder head.slot old.1 in
-    record {
-      wheel = subst (λ (t : List (List Fuse) × List (Option Due)). IsWheel t.0 t.1) (λ i. (sym slots_at i, sym entered_at i)) (changed slots entrants m head.rest wheel sorted ordered.1);
-      fires = λ to h. (
-        head.all ∙ (λ i. same_fuse i ∷ all_fuses (sym slots_at i)),
-        (let time = ap (λ (d : Due). d.time) head.place in let fuse_time = ap (λ (f : Fuse). f.due) same_fuse in omega arith),
-      );
-      first = subst (λ (f : Fuse). NoneBefore f (all_fuses slots)) same_fuse head.none;
+    let sorted : All (λ other. other.due % 256 ≡ m) (head.fuse ∷ head.rest) = rw head.slot at old.0 in
+    let ordered : IsInOrder (head.fuse ∷ head.rest) = rw head.slot at old.1 in
+    let time = ap (λ (d : Due). d.time) head.place in
+    rw (got.0, entered_is, first_is, got.1, here, hash) record {
+      wheel = changed slots entrants m head.rest wheel
+          (All-tail (λ other. other.due % 256 ≡ m) head.fuse head.rest sorted) ordered.1;
+      fires = λ to h. (head.all, omega arith);
+      first = head.none;
     }

@@ -1,28 +1,14 @@
-use Rattle.std.proofs.Common.{◌≡◌, ◌≢◌, ◌⊎◌, ℕ, zero, suc, ◌+◌, ◌-◌, ◌*◌, ◌/◌, ◌%◌, ◌<◌, ◌≤◌, List, [], ◌∷◌, get_or, Option, None, length, replicate, drop, set, refl, sym, ap, ◌∙◌, subst, inl, inr, ⊎_elim, length-set, get_or-set_other, get_or-set_same, arith}
+use Rattle.std.proofs.Common.{◌≡◌, ◌≢◌, ◌⊎◌, ℕ, zero, suc, ◌+◌, ◌-◌, ◌*◌, ◌/◌, ◌%◌, ◌<◌, ◌≤◌, List, Option, None, length, replicate, drop, set, refl, sym, ap, ◌∙◌, inl, inr, ⊎_elim, length-set, get_or-set_other, get_or-set_same, arith}
 use Rattle.std.proofs.lemmas.List.{drop-set-add, drop-set-lt, get_or-drop, get_or-replicate, length-replicate}
-use Rattle.std.proofs.lemmas.Bool.{cases_lt}
-use Rattle.std.proofs.Math.Decide.{ℕ_discrete}
+use Rattle.std.proofs.lemmas.Bool.{cases_eq, cases_lt}
 use Rattle.sdl_timers.specs.declared.due.Due.{Due}
 use Rattle.sdl_timers.specs.DueOrder.{earlier, IsUpTo}
 use Rattle.sdl_timers.specs.Tournament.{node_at, IsWon, IsPlayed, IsLeastOf}
 use Rattle.sdl_timers.proofs.Orders.{up_to_itself, up_to_along, earlier_left, earlier_right, earlier_one}
 
--- a number is 1 or more, and twice its half or one more
-one_or_more : (n : ℕ) → 1 ≤ n → (n ≡ 1) ⊎ (2 ≤ n)
-one_or_more zero h = absurd (omega arith)
-one_or_more (suc zero) h = inl refl
-one_or_more (suc (suc n)) h = inr (omega arith)
-
-a_bit : (n : ℕ) → n < 2 → (n ≡ 0) ⊎ (n ≡ 1)
-a_bit zero h = inl refl
-a_bit (suc zero) h = inr refl
-a_bit (suc (suc n)) h = absurd (omega arith)
-
+-- a number is twice its half, or one more
 halves : (n : ℕ) → (2 * (n / 2) ≡ n) ⊎ (2 * (n / 2) + 1 ≡ n)
-halves n = ⊎_elim (λ (e : n % 2 ≡ 0). inl (omega arith)) (λ (e : n % 2 ≡ 1). inr (omega arith)) (a_bit (n % 2) (omega arith))
-
-same_or_not : (j k : ℕ) → (j ≡ k) ⊎ (j ≢ k)
-same_or_not j k = elim (ℕ_discrete j k) [ yes e ↦ inl e | no n ↦ inr n ]
+halves n = ⊎_elim (λ (e : n % 2 ≡ 0). inl (omega arith)) (λ (odd : n % 2 ≢ 0). inr (omega arith)) (cases_eq (n % 2) 0)
 
 -- the root is no later than any node
 root_first : (nodes : List (Option Due)) → IsPlayed nodes → (most node : ℕ) → node ≤ most → 1 ≤ node → node < 512 → IsUpTo (node_at nodes 1) (node_at nodes node)
@@ -30,12 +16,14 @@ root_first nodes played zero node m h b = absurd (omega arith)
 root_first nodes played (suc most) node m h b =
     let upper : ℕ = node / 2 in
     let at : ℕ → Option Due = λ k. node_at nodes k in
-    let above : 2 ≤ node → IsUpTo (at upper) (at node) = λ two.
+    ⊎_elim (λ (e : node ≡ 1). rw e (up_to_itself (at 1))) (λ (below : node ≢ 1).
+    let first = root_first nodes played most upper (omega arith) (omega arith) (omega arith) in
     let won : IsWon nodes upper = played.won upper (omega arith) (omega arith) in
-    ⊎_elim (λ (e : 2 * upper ≡ node). subst (λ (k : ℕ). IsUpTo (at upper) (at k)) e (subst (λ (d : Option Due). IsUpTo d (at (2 * upper))) (sym won) (earlier_left (at (2 * upper)) (at (2 * upper + 1)))))
-    (λ (e : 2 * upper + 1 ≡ node). subst (λ (k : ℕ). IsUpTo (at upper) (at k)) e (subst (λ (d : Option Due). IsUpTo d (at (2 * upper + 1))) (sym won) (earlier_right (at (2 * upper)) (at (2 * upper + 1))))) (halves node) in
-    ⊎_elim (λ (e : node ≡ 1). subst (λ (k : ℕ). IsUpTo (at 1) (at k)) (sym e) (up_to_itself (at 1)))
-    (λ (two : 2 ≤ node). up_to_along (at 1) (at upper) (at node) (root_first nodes played most upper (omega arith) (omega arith) (omega arith)) (above two)) (one_or_more node h)
+    let above : IsUpTo (at upper) (at node) =
+    ⊎_elim (λ (e : 2 * upper ≡ node). rw e at (rw (← won) at (earlier_left (at (2 * upper)) (at (2 * upper + 1)))))
+    (λ (e : 2 * upper + 1 ≡ node). rw e at (rw (← won) at (earlier_right (at (2 * upper)) (at (2 * upper + 1)))))
+    (halves node) in
+    up_to_along (at 1) (at upper) (at node) first above) (cases_eq node 1)
 
 -- each node has what some leaf has
 abbrev IsLeaf : List (Option Due) → Option Due → Type 0
@@ -47,15 +35,11 @@ a_leaf nodes played (suc more) node m h b =
     let at : ℕ → Option Due = λ k. node_at nodes k in
     ⊎_elim (λ (inner : node < 256).
     let won : IsWon nodes node = played.won node h inner in
-    ⊎_elim (λ (e : earlier (at (2 * node)) (at (2 * node + 1)) ≡ at (2 * node)). subst (IsLeaf nodes) (sym (won ∙ e)) (a_leaf nodes played more (2 * node) (omega arith) (omega arith) (omega arith)))
-    (λ (e : earlier (at (2 * node)) (at (2 * node + 1)) ≡ at (2 * node + 1)). subst (IsLeaf nodes) (sym (won ∙ e)) (a_leaf nodes played more (2 * node + 1) (omega arith) (omega arith) (omega arith)))
+    ⊎_elim (λ (e : earlier (at (2 * node)) (at (2 * node + 1)) ≡ at (2 * node)). rw (won, e)
+    (a_leaf nodes played more (2 * node) (omega arith) (omega arith) (omega arith)))
+    (λ (e : earlier (at (2 * node)) (at (2 * node + 1)) ≡ at (2 * node + 1)). rw (won, e)
+    (a_leaf nodes played more (2 * node + 1) (omega arith) (omega arith) (omega arith)))
     (earlier_one (at (2 * node)) (at (2 * node + 1)))) (λ (leaf : 256 ≤ node). (node, leaf, b, refl)) (cases_lt node 256)
-
--- a node is what is read there, whatever a read past the end would give
-pub node_read : (nodes : List (Option Due)) (node : ℕ) (read : Option Due) → node < length nodes → get_or nodes node read ≡ node_at nodes node
-node_read [] node read b = absurd (omega (arith, b))
-node_read (x ∷ xs) zero read b = refl
-node_read (x ∷ xs) (suc n) read b = node_read xs n read (omega (arith, b))
 
 -- so the root has the least of the entrants
 pub root_least : (nodes : List (Option Due)) → IsPlayed nodes → IsLeastOf (drop 256 nodes) (node_at nodes 1)
@@ -67,7 +51,8 @@ root_least nodes played =
       entrant = place;
       below = let top = leaf.2 in omega arith;
       among = get_or-drop 256 nodes place None ∙ ap (λ (k : ℕ). node_at nodes k) back ∙ leaf.3;
-      first = λ other b. subst (IsUpTo (node_at nodes 1)) (sym (get_or-drop 256 nodes other None)) (root_first nodes played 511 (256 + other) (omega arith) (omega arith) (omega arith));
+      first = λ other b. rw (get_or-drop 256 nodes other None)
+          (root_first nodes played 511 (256 + other) (omega arith) (omega arith) (omega arith));
     }
 
 -- On the way from a changed leaf to the root: each inner node is won but for the one above `node`. The leaves are these entrants.
@@ -106,21 +91,18 @@ plays nodes node entrants due p h e =
     let from = p.from in
     let below = p.below in
     let long = p.long in
-    let new = set nodes upper due in
-    let won : (j : ℕ) → 1 ≤ j → j < 256 → j ≢ upper / 2 → (j ≡ upper) ⊎ (j ≢ upper) → IsWon new j = λ j one top other which.
-    ⊎_elim (λ (here : j ≡ upper).
-    let left : 2 * j ≢ upper = λ (q : 2 * j ≡ upper). omega arith in
-    let right : 2 * j + 1 ≢ upper = λ (q : 2 * j + 1 ≡ upper). omega arith in
-    let at_here : node_at new j ≡ due = ap (λ (k : ℕ). node_at new k) here ∙ get_or-set_same nodes upper due None (omega arith) in
-    at_here ∙ e ∙ ap (λ (k : ℕ). earlier (node_at nodes (2 * k)) (node_at nodes (2 * k + 1))) (sym here)
-    ∙ ap (λ (d : Option Due). earlier d (node_at nodes (2 * j + 1))) (sym (get_or-set_other nodes upper (2 * j) due None left))
-    ∙ ap (λ (d : Option Due). earlier (node_at new (2 * j)) d) (sym (get_or-set_other nodes upper (2 * j + 1) due None right)))
-    (λ (there : j ≢ upper). still_won nodes upper j due one there other (p.others j one top there)) which in
     record {
       from = omega arith;
       below = omega arith;
       long = length-set nodes upper due ∙ long;
-      others = λ j one top other. won j one top other (same_or_not j upper);
+      others = λ j one top other.
+          ⊎_elim (λ (here : j ≡ upper).
+          let same = get_or-set_same nodes upper due None (omega arith) in
+          let left = get_or-set_other nodes upper (2 * j) due None (λ q. omega arith) in
+          let right = get_or-set_other nodes upper (2 * j + 1) due None (λ q. omega arith) in
+          rw (left, right, here) (same ∙ e))
+          (λ (there : j ≢ upper). still_won nodes upper j due one there other (p.others j one top there))
+          (cases_eq j upper);
       leaves = drop-set-lt 256 nodes upper due (omega arith) ∙ p.leaves;
     }
 

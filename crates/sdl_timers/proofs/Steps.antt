@@ -1,5 +1,4 @@
-use Rattle.std.proofs.Common.{◌≡◌, ◌≢◌, ℕ, ◌≤◌, max, true, false, List, get_or, set, sym, refl, ap, ◌∙◌, subst, ⊎_elim, arith}
-use mathlib.Core.Bool.{true≢false}
+use Rattle.std.proofs.Common.{◌≡◌, ◌≢◌, ℕ, max, true, false, List, get_or, set, sym, refl, ap, ◌∙◌, subst, ⊎_elim, arith}
 use mathlib.Core.Option.{some}
 use lib.ListN.{get_elem?}
 use Rattle.atomic_table.specs.Table.{Me, keeps, Allows, Splits}
@@ -20,53 +19,37 @@ looks slots id me reads s h homes at fits =
     let n = get_or s.words 0 0 in
     let is : n ≡ h.time = ap (λ (l : List ℕ). get_or l 0 0) h.word in
     let known = h.fits id me.0 at in
-    let before : me.0.seen ≤ n = let known_seen = known.seen in omega arith in
-    let mine : Fits h.time h.ticker id (hand false n) = record { seen = omega arith; ticks = λ e. absurd (true≢false (sym e)) } in (
-      hand false n,
-      keeps,
-      tt,
-      record {
-        time = h.time;
-        ticker = h.ticker;
-        word = ap (λ (l : List ℕ). set l 0 (get_or l 0 0)) h.word;
-        fits = each_set (Fits h.time h.ticker) s.views id (hand false n) mine (λ j u other e. h.fits j u e);
-      },
-      (before, refl),
-    )
+    let mine : Fits h.time h.ticker id (hand false n) = record { seen = omega arith; ticks = λ e. cc } in
+    let word = ap (λ (l : List ℕ). set l 0 (get_or l 0 0)) h.word in
+    let all = each_set (Fits h.time h.ticker) s.views id (hand false n) mine (λ j u other e. h.fits j u e) in
+    (hand false n, keeps, tt, record { time = h.time; ticker = h.ticker; word = word; fits = all }, (omega arith, refl))
 
 -- the ticker may raise it
 pub raises : (slots id to : ℕ) (me : Me (Unit {0}) Hand) → me.0.ticks ≡ true → Allows IsTime slots id me 0 (λ n. max n to) (Raises to me)
 raises slots id to me ticks s h homes at fits =
-    let known = h.fits id me.0 at in
-    let own = known.ticks ticks in
+    let own = (h.fits id me.0 at).ticks ticks in
     let w = hand true (max me.0.seen to) in
     let time = max h.time to in
-    let mine : Fits time h.ticker id w = record { seen = (let e = own.1 in omega arith); ticks = λ e. (own.0, ap (λ t. max t to) own.1) } in
+    let mine : Fits time h.ticker id w =
+    record { seen = omega arith; ticks = λ e. (own.0, ap (λ t. max t to) own.1) } in
     let others : (j : ℕ) (u : Hand) → j ≢ id → get_elem? s.views j ≡ some u → Fits time h.ticker j u = λ j u other e.
     let theirs = h.fits j u e in
-    record { seen = (let seen = theirs.seen in omega arith); ticks = λ t. absurd (other ((theirs.ticks t).0 ∙ sym own.0)) } in (
-      w,
-      keeps,
-      tt,
-      record {
-        time = time;
-        ticker = h.ticker;
-        word = ap (λ (l : List ℕ). set l 0 (max (get_or l 0 0) to)) h.word;
-        fits = each_set (Fits time h.ticker) s.views id w mine others;
-      },
-      refl,
-    )
+    record { seen = omega arith; ticks = λ t. absurd (other ((theirs.ticks t).0 ∙ sym own.0)) } in
+    let word = ap (λ (l : List ℕ). set l 0 (max (get_or l 0 0) to)) h.word in
+    let all = each_set (Fits time h.ticker) s.views id w mine others in
+    (w, keeps, tt, record { time = time; ticker = h.ticker; word = word; fits = all }, refl)
 
 -- and a new reader may know what a seat knows
 pub splits : (id : ℕ) (v : Hand) → Splits IsTime id v v (hand false v.seen)
 splits id v s h at =
     let known = h.fits id v at in
-    let new : (j : ℕ) → Fits h.time h.ticker j (hand false v.seen) = λ j. record { seen = known.seen; ticks = λ e. absurd (true≢false (sym e)) } in
+    let new : (j : ℕ) → Fits h.time h.ticker j (hand false v.seen) =
+    λ j. record { seen = known.seen; ticks = λ e. cc } in
+    let all = each_set (Fits h.time h.ticker) s.views id v known (λ k t other f. h.fits k t f) in
     record {
       time = h.time;
       ticker = h.ticker;
       word = h.word;
-      fits = λ j u e.
-          ⊎_elim (λ (x : get_elem? (set s.views id v) j ≡ some u). each_set (Fits h.time h.ticker) s.views id v known (λ k t other f. h.fits k t f) j u x)
-          (λ (x : hand false v.seen ≡ u). subst (Fits h.time h.ticker j) x (new j)) (at_snoc (set s.views id v) (hand false v.seen) u j e);
+      fits = λ j u e. ⊎_elim (all j u) (λ (x : hand false v.seen ≡ u). subst (Fits h.time h.ticker j) x (new j))
+          (at_snoc (set s.views id v) (hand false v.seen) u j e);
     }

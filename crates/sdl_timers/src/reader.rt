@@ -49,6 +49,7 @@ impl Reader {
     }
 
     /// One more reader, which has seen what this one has. Refused for want of memory; this one is as it was.
+    #[tactic(auto, using(crate::proofs::Steps::splits))]
     pub fn again(&mut self) -> Result<Reader, AllocError>
         ensures same { self.new ≡ self.old }
         ensures reader { IfOk result (λ reader. reader ≡ self.old) }

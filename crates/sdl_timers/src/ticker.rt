@@ -60,6 +60,7 @@ impl Ticker {
     }
 
     /// A reader that has seen the clock's time. Refused for want of memory; the clock is as it was.
+    #[tactic(auto, using(crate::proofs::Steps::splits))]
     pub fn reader(&mut self) -> Result<Reader, AllocError>
         ensures time { self.new ≡ self.old }
         ensures reader { IfOk result (λ reader. reader ≡ self.old) }

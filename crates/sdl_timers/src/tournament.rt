@@ -26,6 +26,7 @@ impl Model for Tournament {
 
 impl Tournament {
     /// No entrant is due.
+    #[tactic(auto, using(crate::proofs::Playing::unplayed))]
     pub fn new() -> Self
         ensures { result ≡ replicate 256 None }
     {
