@@ -5,6 +5,8 @@ ghost use Rattle.std.specs.Option.{option_map};
 ghost use Rattle.inbox.specs.Ends.{OwnerState};
 ghost use Rattle.port_model.specs.declared.pid.Pid.TheVariants.{Of};
 ghost use Rattle.sdl_evaluation.specs.Environment.{environment};
+ghost use Rattle.sdl_evaluation.specs.Memory.{FailsAs, list_wants_memory};
+ghost use Rattle.sdl_evaluation.specs.Value.{values_at};
 ghost use Rattle.sdl_report.specs.Event as event;
 ghost use Rattle.sdl_report.specs.Record.{noted};
 ghost use Rattle.sdl_runs.specs.Act.{Send};
@@ -15,6 +17,7 @@ ghost use Rattle.sdl_steps.specs.Work.{Does, DoesWrong, FailsAt, IsIn, amid};
 ghost use Rattle.sdl_system.specs.Body as body;
 ghost use Rattle.sdl_system.specs.Sort.{pid_of};
 ghost use Rattle.sdl_system.specs.Table.{sending, whither_of};
+ghost use Rattle.sdl_system.specs.Term.{term_of};
 
 use crate::machine::{Machine, make_room};
 use inbox::Inbox;
@@ -22,7 +25,7 @@ use port_model::{Item, Pid, SignalId, Value, Values};
 use sdl_evaluation::{Identity, Store, evaluate_all, evaluate_at, sorts_of};
 use sdl_report::Failure;
 use sdl_runs::World;
-use sdl_system::{Dest, Destination, Output, Sending, Sort, System, Target};
+use sdl_system::{Dest, Destination, Expression, Output, Sending, Sort, System, Target};
 use std::alloc::Global;
 
 /// Sends each signal, one after the other.
@@ -89,10 +92,25 @@ fn send<P: Inbox, W: World>(
 {
     let who = machine.who();
     let named = named_by(alloc, to, system, &who, &machine.store, inbox)?;
+    let sorts = sorts_of(system, one.signal);
+    if let [expression] = one.values.as_slice() {
+        let value = only_value(
+            alloc,
+            expression,
+            sorts,
+            system,
+            &who,
+            &machine.store,
+            inbox,
+        )?;
+        make_room(machine, 1)?;
+        send_value(alloc, one.signal, &who, named, value, machine, world)?;
+        return Ok(());
+    }
     let values = evaluate_all(
         alloc,
         &one.values,
-        sorts_of(system, one.signal),
+        sorts,
         system,
         &who,
         &machine.store,
@@ -103,8 +121,59 @@ fn send<P: Inbox, W: World>(
     Ok(())
 }
 
-// Sends a signal with its values, and answers whom it reaches. What was sent is recorded: of one value by itself, of
-// several by a copy.
+// What the one value of a signal comes to at its place.
+#[inline(always)]
+fn only_value<P: Inbox>(
+    alloc: Global,
+    expression: &Expression,
+    sorts: &[Sort],
+    system: &System,
+    who: &Identity,
+    store: &Store,
+    inbox: &P,
+) -> Result<Value, Failure>
+    requires { (P.owning inbox.now).state.alive ≡ true }
+    ensures ok { let here = environment system.now who.now store.now (P.owning inbox.now).state in
+        IfOk result (λ value. values_at here sorts.now (term_of expression.now ∷ []) ≡ Ok (value ∷ [])) }
+    ensures err { let here = environment system.now who.now store.now (P.owning inbox.now).state in
+        let terms = term_of expression.now ∷ [] in
+        IfErr result (λ why. FailsAs (list_wants_memory terms) (values_at here sorts.now terms) why) }
+{
+    let sort = sorts.first().copied();
+    evaluate_at(alloc, expression, sort, system, who, store, inbox)
+}
+
+// Sends a signal of one value, and answers whom it reaches. What was sent is recorded.
+#[inline(always)]
+fn send_value<W: World>(
+    alloc: Global,
+    signal: SignalId,
+    who: &Identity,
+    named: Dest,
+    value: Value,
+    machine: &mut Machine,
+    world: &mut W,
+) -> Result<Target, Failure>
+    requires room { 0 < machine.old.trace.room }
+    requires values_room { 0 < machine.old.trace.values_room }
+    ensures route { IfOk result (IsRoute (W.value world.old) signal who.now.process named) }
+    ensures sent { IfOk result (λ target. W.value world.new ≡ after_act (W.value world.old)
+        (Send target (record { name = signal; values = value ∷ []; sender = Of who.now.pid }))) }
+    ensures recorded { IfOk result (λ target. machine.new ≡ record machine.old {
+      trace = noted machine.old.trace (event.Output signal named (value ∷ []) target);
+    }) }
+    ensures err { IfErr result (λ why. why ≡ Failure.Memory) }
+    ensures same { OnErr result (machine.new ≡ machine.old) }
+    ensures quiet { OnErr result (W.value world.new ≡ W.value world.old) }
+{
+    let told = [value];
+    let Ok(values) = Values::from_slice(alloc, &told) else {
+        return Err(Failure::Memory);
+    };
+    deliver(signal, who, named, values, &told, machine, world)
+}
+
+// Sends a signal with its values, and answers whom it reaches. What was sent is recorded.
 #[inline(always)]
 fn send_values<W: World>(
     signal: SignalId,
@@ -126,24 +195,10 @@ fn send_values<W: World>(
     ensures same { OnErr result (machine.new ≡ machine.old) }
     ensures quiet { OnErr result (W.value world.new ≡ W.value world.old) }
 {
-    if let Some(value) = only(&values) {
-        return deliver(signal, who, named, values, &[value], machine, world);
-    }
     let Ok(copy) = values.copied() else {
         return Err(Failure::Memory);
     };
     deliver(signal, who, named, copy, values.as_slice(), machine, world)
-}
-
-// The value of a list of one.
-#[inline(always)]
-fn only(values: &Values) -> Option<Value>
-    ensures { IfSome result (λ value. values.now ≡ value ∷ []) }
-{
-    match values.as_slice() {
-        [value] => Some(*value),
-        _ => None,
-    }
 }
 
 // Sends a signal to whom it reaches, and records it with these values, which are its own.
