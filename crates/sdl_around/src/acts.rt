@@ -3,40 +3,51 @@
 ghost use Rattle.std.specs.Prelude.{◌≡◌, ◌∷◌, ◌++◌, [], IfNone, IfSome, IsOk, OnErr, OnOk, true};
 
 use crate::act::Act;
-use std::alloc::{AllocError, Global};
+use std::alloc::AllocError;
+use std::collections::VecDeque;
 use std::marker::Model;
 
-/// The acts of a step so far, in their order. The first of them takes no memory, and most steps have no other.
-#[derive(Debug, Drop)]
-pub struct Acts {
+/// The acts of a step so far, in their order. The first of them takes no memory, and most steps have no other; those
+/// behind it go into a list of the run, which so keeps its memory from one step to the next.
+#[derive(Drop)]
+pub struct Acts<'a> {
     first: Option<Act>,
-    rest: Vec<Act>,
+    rest: &'a mut VecDeque<Act>,
 }
 
-impl Model for Acts {
-    ghost use Rattle.std.specs.Prelude.{vec_capacity, vec_len};
+/// Acts: the first, if there is one, and those behind it.
+#[derive(Drop)]
+pub struct ActParts<'a> {
+    pub first: Option<Act>,
+    pub rest: &'a mut VecDeque<Act>,
+}
+
+impl<'a> Model for Acts<'a> {
+    ghost use Rattle.std.specs.Prelude.{length};
+    ghost use Rattle.std.specs.VecDeque.{deque_capacity};
     ghost use Rattle.sdl_around.specs.Acts.{ActList, IsFirst, is_room, listed};
 
     ghost Value = { ActList };
 
     ghost view = { λ a. record {
-      items = listed a.first a.rest.items;
-      has_room = is_room a.first (vec_len a.rest) (vec_capacity a.rest);
+      items = listed a.first a.rest.now.items;
+      has_room = is_room a.first (length a.rest.now.items) (deque_capacity a.rest.now);
     } };
 
-    ghost invariant = { λ a. IsFirst a.first a.rest.items };
+    ghost invariant = { λ a. IsFirst a.first a.rest.now.items };
 }
 
-impl Acts {
-    /// No acts so far. There is room for the first.
-    pub fn new(alloc: Global) -> Self
+impl<'a> Acts<'a> {
+    /// No acts so far. There is room for the first. What is in the list is dropped.
+    #[inline(always)]
+    pub fn over(rest: &'a mut VecDeque<Act>) -> Self
         ensures items { result.items ≡ [] }
         ensures room { result.has_room ≡ true }
     {
-        Acts {
-            first: None,
-            rest: Vec::new(alloc),
+        if !rest.is_empty() {
+            rest.clear();
         }
+        Acts { first: None, rest }
     }
 
     /// An act more. Refused for want of memory, but never where there is room; nothing has changed then.
@@ -46,11 +57,8 @@ impl Acts {
         ensures err { OnErr result (self.new.items ≡ self.old.items) }
         ensures succeeds { self.old.has_room ≡ true → IsOk result }
     {
-        if self.first.is_none() {
-            self.first = Some(act);
-            return Ok(());
-        }
-        self.rest.push(act)?;
+        self.prepare()?;
+        self.push_reserved(act);
         Ok(())
     }
 
@@ -61,7 +69,7 @@ impl Acts {
         ensures items { self.new.items ≡ self.old.items }
         ensures succeeds { self.old.has_room ≡ true → IsOk result }
     {
-        if self.first.is_none() {
+        if self.first.is_none() || self.rest.len() < self.rest.capacity() {
             return Ok(());
         }
         self.rest.reserve(1)
@@ -77,19 +85,16 @@ impl Acts {
             self.first = Some(act);
             return;
         }
-        self.rest.push_reserved(act);
+        self.rest.push_back_reserved(act);
     }
 
-    /// The first act, and those behind it. None: there is no act.
+    /// The first act, and those behind it.
     #[inline(always)]
-    pub fn split_first(self) -> Option<(Act, Vec<Act>)>
-        ensures some { IfSome result (λ parts. self.items ≡ parts.0 ∷ parts.1.items) }
-        ensures none { IfNone result (self.items ≡ []) }
+    pub fn into_parts(self) -> ActParts<'a>
+        ensures some { IfSome result.first (λ first. self.entry.items ≡ first ∷ result.rest.now.items) }
+        ensures none { IfNone result.first (self.entry.items ≡ []) }
     {
         let Acts { first, rest } = self;
-        match first {
-            Some(first) => Some((first, rest)),
-            None => None,
-        }
+        ActParts { first, rest }
     }
 }

@@ -10,34 +10,35 @@ use inbox::Fuse;
 use port_model::{Item, SignalId, Ticks, Values};
 use sdl_runs::World;
 use sdl_system::{Dest, ProcessId, Source, System, Target};
-use std::alloc::{AllocError, Global};
+use std::alloc::AllocError;
 
 /// The clock, who lives, and what the instance has done so far. Who lived as the step began is copied at the first
 /// create.
 #[derive(Drop)]
-pub struct Around<'a> {
+pub struct Around<'a, 'r> {
     pub system: &'a System,
     pub clock: Ticks,
     pub begun: &'a Census,
     pub changed: Option<Census>,
-    pub acts: Acts,
+    pub acts: Acts<'r>,
 }
 
-impl<'a> Around<'a> {
-    /// Nothing is done so far.
-    pub fn new(alloc: Global, system: &'a System, clock: Ticks, census: &'a Census) -> Self
+impl<'a, 'r> Around<'a, 'r> {
+    /// Nothing is done so far, but for these acts.
+    #[inline(always)]
+    pub fn new(system: &'a System, clock: Ticks, census: &'a Census, acts: Acts<'r>) -> Self
         ensures system { result.system.now ≡ system.now }
         ensures clock { result.clock ≡ clock }
         ensures begun { result.begun.now ≡ census.now }
         ensures changed { result.changed ≡ None }
-        ensures acts { result.acts.items ≡ [] }
+        ensures acts { result.acts.items ≡ acts.entry.items }
     {
         Around {
             system,
             clock,
             begun: census,
             changed: None,
-            acts: Acts::new(alloc),
+            acts,
         }
     }
 
@@ -49,7 +50,7 @@ impl<'a> Around<'a> {
     }
 }
 
-impl<'a> World for Around<'a> {
+impl<'a, 'r> World for Around<'a, 'r> {
     ghost use Rattle.sdl_around.specs.Around.{world_of};
 
     ghost value = { world_of };

@@ -10,6 +10,6 @@ mod around;
 mod census;
 
 pub use act::Act;
-pub use acts::Acts;
+pub use acts::{ActParts, Acts};
 pub use around::Around;
 pub use census::Census;

@@ -13,13 +13,14 @@ use crate::error::RunError;
 use crate::instances::Instances;
 use inbox::{Alone, Fuse};
 use port_model::{Item, Pid, Values};
-use sdl_around::{Act, Acts};
+use sdl_around::{Act, ActParts, Acts};
 use sdl_evaluation::Identity;
 use sdl_interp::Instance;
 use sdl_script::ScriptLine;
 use sdl_sweeps::Board;
 use sdl_system::{Process, ProcessId, Source, Target};
 use std::alloc::Global;
+use std::collections::VecDeque;
 
 impl<'s> Instances<'s> {
     /// Does what a step does outside, in its order.
@@ -28,19 +29,20 @@ impl<'s> Instances<'s> {
         &mut self,
         alloc: Global,
         board: &mut Board,
-        acts: Acts,
+        acts: Acts<'_>,
     ) -> Result<(), RunError>
         requires { IsSerial board.old.awake self.old }
         ensures kept { OnOk result (IsSerial board.new.awake self.new) }
         ensures system { self.new.system ≡ self.old.system }
         ensures clock { board.new.clock ≡ board.old.clock }
-        ensures state { (m : Moment) → OnOk result (AreNumbered self.old.census.given (map act_of acts.items)
+        ensures state { (m : Moment) → OnOk result (AreNumbered self.old.census.given (map act_of acts.entry.items)
             → state_of (at_board m board.new) self.new
-            ≡ after_acts (state_of (at_board m board.old) self.old) (map act_of acts.items)) }
+            ≡ after_acts (state_of (at_board m board.old) self.old) (map act_of acts.entry.items)) }
         ensures fuses { (until : ℕ) → until ≤ board.old.clock + 1 → IsNoFuseBefore until board.old.fuses
             → OnOk result (IsNoFuseBefore until board.new.fuses) }
     {
-        let Some((first, rest)) = acts.split_first() else {
+        let ActParts { first, rest } = acts.into_parts();
+        let Some(first) = first else {
             return Ok(());
         };
         self.perform(alloc, board, first)?;
@@ -56,19 +58,19 @@ impl<'s> Instances<'s> {
         &mut self,
         alloc: Global,
         board: &mut Board,
-        acts: Vec<Act>,
+        acts: &mut VecDeque<Act>,
     ) -> Result<(), RunError>
         requires { IsSerial board.old.awake self.old }
         ensures kept { OnOk result (IsSerial board.new.awake self.new) }
         ensures system { self.new.system ≡ self.old.system }
         ensures clock { board.new.clock ≡ board.old.clock }
-        ensures state { (m : Moment) → OnOk result (AreNumbered self.old.census.given (map act_of acts.items)
+        ensures state { (m : Moment) → OnOk result (AreNumbered self.old.census.given (map act_of acts.old.items)
             → state_of (at_board m board.new) self.new
-            ≡ after_acts (state_of (at_board m board.old) self.old) (map act_of acts.items)) }
+            ≡ after_acts (state_of (at_board m board.old) self.old) (map act_of acts.old.items)) }
         ensures fuses { (until : ℕ) → until ≤ board.old.clock + 1 → IsNoFuseBefore until board.old.fuses
             → OnOk result (IsNoFuseBefore until board.new.fuses) }
     {
-        for act in acts {
+        while let Some(act) = acts.pop_front() {
             self.perform(alloc, board, act)?;
         }
         Ok(())

@@ -11,6 +11,7 @@ mod error;
 mod instances;
 mod living;
 mod run;
+mod step;
 mod stepping;
 
 pub use error::RunError;

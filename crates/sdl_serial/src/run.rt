@@ -7,12 +7,14 @@ ghost use Rattle.sdl_system.specs.Behaviour.{Behaviour};
 
 use crate::error::RunError;
 use crate::instances::Instances;
+use crate::stepping::Stepping;
 use port_model::Ticks;
 use sdl_report::Report;
 use sdl_script::Script;
 use sdl_sweeps::{Agents, Board, Sweeps};
 use sdl_system::System;
 use std::alloc::Global;
+use std::collections::VecDeque;
 
 /// Runs a system serially on a script, until all instances rest, the script is at its end and no timer is due by then,
 /// or until `limit` transitions are made. Refused for want of memory alone.
@@ -27,13 +29,17 @@ pub fn run_serial(
     ensures err { IfErr result (λ why. why ≡ RunError.Memory) }
 {
     let mut board = Board::new(alloc);
-    let mut instances = Instances::begin(alloc, &mut board, system)?;
-    let mut sweeps = Sweeps::new(board, script.lines.as_slice(), instances.given(), limit);
+    let instances = Instances::begin(alloc, &mut board, system)?;
+    let mut agents = Stepping {
+        instances,
+        spare: VecDeque::new(alloc),
+    };
+    let mut sweeps = Sweeps::new(board, script.lines.as_slice(), agents.given(), limit);
     let last = script.end();
-    let whole = sweeps.run(alloc, &mut instances, last)?;
+    let whole = sweeps.run(alloc, &mut agents, last)?;
     let clock = clock_of(&sweeps);
     let end = if whole { last } else { clock };
-    let records = instances.close(alloc, whole)?;
+    let records = agents.instances.close(alloc, whole)?;
     Ok(Report {
         records,
         end,

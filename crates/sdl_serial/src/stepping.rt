@@ -3,14 +3,20 @@
 use crate::error::RunError;
 use crate::instances::Instances;
 use inbox::Fuse;
-use sdl_around::Around;
-use sdl_interp::Stepped;
+use sdl_around::Act;
 use sdl_script::ScriptLine;
-use sdl_steps::Position;
 use sdl_sweeps::{Agents, Board, Made};
 use std::alloc::Global;
+use std::collections::VecDeque;
 
-impl<'s> Agents for Instances<'s> {
+/// The instances of a run, with memory for the acts of a step.
+#[derive(Drop)]
+pub struct Stepping<'s> {
+    pub instances: Instances<'s>,
+    pub spare: VecDeque<Act>,
+}
+
+impl<'s> Agents for Stepping<'s> {
     ghost use Rattle.std.specs.Prelude.{All};
     ghost use Rattle.sdl_interp.specs.Instance.{IsAtRest};
     ghost use Rattle.sdl_serial.specs.Serial.{IsSerial, Reaches};
@@ -20,68 +26,37 @@ impl<'s> Agents for Instances<'s> {
 
     type Error = RunError;
 
-    ghost Fits = { IsSerial };
+    ghost Fits = { λ awake a. IsSerial awake a.instances };
 
-    ghost AllRest = { λ a. All IsAtRest a.instances.items };
+    ghost AllRest = { λ a. All IsAtRest a.instances.instances.items };
 
-    ghost numbers = { λ a. a.census.given };
+    ghost numbers = { λ a. a.instances.census.given };
 
-    ghost Reaches = { Reaches };
+    ghost Reaches = { λ last m a n b. Reaches last m a.instances n b.instances };
 
     fn given(&self) -> u32 {
-        self.census.given()
+        self.instances.census.given()
     }
 
     fn step(&mut self, alloc: Global, board: &mut Board, number: u32) -> Result<Made, RunError> {
-        let Some(place) = self.place_of(number) else {
-            return Ok(Made::Nothing);
-        };
-        if let Position::Ended = self.instances[place].position() {
-            board.awake.rest(number);
-            return Ok(Made::Nothing);
-        }
-        self.instances[place].draws_nothing();
-        let mut around = Around::new(alloc, self.system, board.clock, &self.census);
-        let stepped = self.instances[place].step(alloc, &mut around);
-        self.instances[place].draws_nothing();
-        let Around { acts, changed, .. } = around;
-        drop(changed);
-        match stepped {
-            Stepped::Idle => {
-                board.awake.rest(number);
-                Ok(Made::Nothing)
-            }
-            Stepped::Moved => {
-                self.perform_all(alloc, board, acts)?;
-                Ok(Made::Transition)
-            }
-            Stepped::Ended { counts } => {
-                board.awake.rest(number);
-                self.leave(place);
-                if !counts {
-                    return Ok(Made::Failure);
-                }
-                self.perform_all(alloc, board, acts)?;
-                Ok(Made::Transition)
-            }
-        }
+        self.instances.step(alloc, board, number, &mut self.spare)
     }
 
     fn expire(&mut self, board: &mut Board, fuse: Fuse) -> Result<(), RunError> {
-        self.fire(board, fuse)
+        self.instances.fire(board, fuse)
     }
 
     fn hear(&mut self, board: &mut Board, line: &ScriptLine) -> Result<(), RunError> {
-        self.put_line(board, line)
+        self.instances.put_line(board, line)
     }
 
     ghost from_one = { λ awake a number fits marked. (fits.marked.there number marked).0 };
 
-    ghost none_awake = { none_awake };
+    ghost none_awake = { λ awake a. none_awake awake a.instances };
 
-    ghost ticks = { tick_reaches };
+    ghost ticks = { λ last time awake m a. tick_reaches last time awake m a.instances };
 
-    ghost stays = { reaches_same };
+    ghost stays = { λ last m a. reaches_same last m a.instances };
 
-    ghost goes_on = { reaches_on };
+    ghost goes_on = { λ last m n o a b c. reaches_on last m n o a.instances b.instances c.instances };
 }

@@ -20,7 +20,7 @@ returns-clause-serial c = λ ps behaviours.
     let made = c.in_ok-instances.ensures in
     let m : Moment = moment_of c.new-sweeps.result in
     let n : Moment = moment_of c.run.new.self in
-    let b = c.run.new.agents in
+    let b = c.run.new.agents.instances in
     let first = c.new-sweeps.ensures.moment in
     let state : state_of m a ≡ beginning system lines =
     begins_so system lines m a

@@ -2,7 +2,7 @@ use Rattle.std.proofs.Common.{◌∷◌, refl}
 use Rattle.std.proofs.lemmas.Result.{on_ok_weaker}
 use Rattle.sdl_serial.proofs.Timing.{expire_reaches}
 use Rattle.sdl_sweeps.specs.Sweeps.{at_board}
-use Rattle.sdl_serial.proofs.stepping.InstancesAgents.expire.Goals as goal
+use Rattle.sdl_serial.proofs.stepping.SteppingAgents.expire.Goals as goal
 
 pub returns-clause-runs : goal.returns-clause-runs
 returns-clause-runs c = λ last m some begun.
@@ -10,5 +10,5 @@ returns-clause-runs c = λ last m some begun.
     let fuse = c.args.fuse in
     on_ok_weaker c.fire.result
     (λ now. expire_reaches (record (at_board m board) { fuses = fuse ∷ board.fuses }) (at_board m c.fire.new.board)
-    c.args.self.now c.fire.new.self fuse board.fuses refl begun c.requires.due now refl some c.fire.ensures.system last)
+    c.args.self.now.instances c.fire.new.self fuse board.fuses refl begun c.requires.due now refl some c.fire.ensures.system last)
     (c.fire.ensures.state m)

@@ -17,7 +17,7 @@ use Rattle.sdl_serial.specs.declared.instances.Instances.{Instances}
 use Rattle.sdl_sweeps.specs.Sweeps.{after, at_board}
 use Rattle.sdl_sweeps.specs.declared.agents.Made.TheVariants.{Failure, Transition}
 use Rattle.sdl_steps.specs.declared.machine.Position.TheVariants as at
-use Rattle.sdl_serial.proofs.stepping.InstancesAgents.step.Goals as goal
+use Rattle.sdl_serial.proofs.instances.Instances.step.Goals as goal
 
 -- the number is that of an instance
 
@@ -115,7 +115,7 @@ returns-in_ok-perform_all-in-Moved-clause-runs c = λ last bound m time.
     subst (λ (i : InstanceValue). IsAlone i.owner) same_three c.draws_nothing-2.ensures in
     let a = c.new-around.ensures in
     let sees : world_of c.new-around.result ≡ around (state_of from s) =
-    around_is from s c.new-around.result c.requires.fits a.system a.clock a.begun a.changed a.acts in
+    around_is from s c.new-around.result c.requires.fits a.system a.clock a.begun a.changed (a.acts ∙ c.over-acts.ensures.items) in
     let acts = map act_of c.step-stepped.new.world.acts.items in
     let made : Made board.awake from s place c.args.number bound old new v acts = record {
       serial = c.requires.fits;
@@ -235,7 +235,7 @@ returns-then-not-counts-clause-runs c = λ last bound m time.
     subst (λ (i : InstanceValue). IsAlone i.owner) same_three c.draws_nothing-2.ensures in
     let a = c.new-around.ensures in
     let sees : world_of c.new-around.result ≡ around (state_of from s) =
-    around_is from s c.new-around.result c.requires.fits a.system a.clock a.begun a.changed a.acts in
+    around_is from s c.new-around.result c.requires.fits a.system a.clock a.begun a.changed (a.acts ∙ c.over-acts.ensures.items) in
     let acts = map act_of c.step-stepped.new.world.acts.items in
     let made : Made board.awake from s place c.args.number bound old new v acts = record {
       serial = c.requires.fits;
@@ -322,7 +322,7 @@ returns-in_ok-perform_all-in-Ended-stepped-clause-runs c = λ last bound m time.
     subst (λ (i : InstanceValue). IsAlone i.owner) same_three c.draws_nothing-2.ensures in
     let a = c.new-around.ensures in
     let sees : world_of c.new-around.result ≡ around (state_of from s) =
-    around_is from s c.new-around.result c.requires.fits a.system a.clock a.begun a.changed a.acts in
+    around_is from s c.new-around.result c.requires.fits a.system a.clock a.begun a.changed (a.acts ∙ c.over-acts.ensures.items) in
     let acts = map act_of c.step-stepped.new.world.acts.items in
     let made : Made board.awake from s place c.args.number bound old new v acts = record {
       serial = c.requires.fits;
@@ -414,7 +414,7 @@ returns-in-Idle-clause-runs c = λ last bound m time.
     subst (λ (i : InstanceValue). IsAlone i.owner) same_three c.draws_nothing-2.ensures in
     let a = c.new-around.ensures in
     let sees : world_of c.new-around.result ≡ around (state_of from s) =
-    around_is from s c.new-around.result c.requires.fits a.system a.clock a.begun a.changed a.acts in
+    around_is from s c.new-around.result c.requires.fits a.system a.clock a.begun a.changed (a.acts ∙ c.over-acts.ensures.items) in
     let idle : IsIdle old (around (state_of from s)) new v =
     subst (λ (w : WorldValue). IsIdle old w new v) sees c.in-Idle.ensures.steps in
     step_idles from from s _ place old new v c.requires.fits there keeps alone_then alone_now idle refl refl refl last

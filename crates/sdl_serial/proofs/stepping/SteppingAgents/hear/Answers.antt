@@ -2,7 +2,7 @@ use Rattle.std.proofs.Common.{◌∷◌, refl}
 use Rattle.std.proofs.lemmas.Result.{on_ok_weaker}
 use Rattle.sdl_serial.proofs.Timing.{hear_reaches}
 use Rattle.sdl_sweeps.specs.Sweeps.{at_board}
-use Rattle.sdl_serial.proofs.stepping.InstancesAgents.hear.Goals as goal
+use Rattle.sdl_serial.proofs.stepping.SteppingAgents.hear.Goals as goal
 
 pub returns-clause-runs : goal.returns-clause-runs
 returns-clause-runs c = λ last m some begun.
@@ -10,6 +10,6 @@ returns-clause-runs c = λ last m some begun.
     let line = c.args.line.now in
     on_ok_weaker c.put_line.result
     (λ now. hear_reaches (record (at_board m board) { script = line ∷ m.script }) (at_board m c.put_line.new.board)
-    c.args.self.now c.put_line.new.self line m.script refl begun c.requires.due c.requires.no_fuse now refl some
+    c.args.self.now.instances c.put_line.new.self line m.script refl begun c.requires.due c.requires.no_fuse now refl some
     c.put_line.ensures.system last)
     (c.put_line.ensures.state m)
