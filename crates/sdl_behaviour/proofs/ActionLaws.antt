@@ -1,26 +1,18 @@
 -- The laws of actions but decisions and `set`.
-use Rattle.std.proofs.Common.{◌≡◌, ℕ, suc, false, List, Option, Some, None, option_map, refl, sym, subst}
+use Rattle.sdl_behaviour.proofs.Words.{As, SpellsAction, Anywhere, Destination, Law, None, Option, Optional, Some, SpellsApplied, SpellsAssignment, SpellsDestination, Stops, Words, args_law, behind_law, both_law, enclosed_law, end_other, ended_law, erased_action, erased_applied, erased_assignment, erased_destination, expr_law, false, loosest, made_law, mark_law, maybe_mark, name_law, no_words, option_map, optional_law, record_law, refl, same_mark, sees, sees_last, sees_other, separated_law, stops_at, stops_end, stops_last, stops_law, subst, suc, sym, then_law, ℕ, ◌≡◌}
 use Rattle.sdl_tree.specs.declared.mark.Mark.TheVariants as mark
-use Rattle.sdl_read.proofs.Grammar.{Spelling, erased_applied, erased_assignment, erased_destination, erased_action, SpellsAssignment, SpellsDestination, loosest, SpellsApplied, IsMark, Both, Optional, Separated, Ended, Applied, Assignment, Destination, Words, sees, same_mark}
-use Rattle.sdl_tree.specs.Spells.Behaviour.{SpellsKeys}
 use Rattle.sdl_behaviour.specs.Actions.{assignment_with, assignment, task_with, task, applied_with, applied, destination_with, destination, output_with, output, create_with, create, keys, reset_with, reset}
-use Rattle.sdl_read.proofs.AllLaws.{ended_law, expr_law, args_law, Form, Law, Anywhere, Made, mark_law, stops_law, both_law, behind_law, made_law, optional_law, separated_law, Stops, stops_last, name_law, enclosed_law, record_law, maybe_mark, no_words, stops_at, stops_end, sees_other, sees_last, end_other, then_law}
 
 -- ---- task
 
 assignment_law : (d : ℕ) → Law (assignment d) (SpellsAssignment d) (SpellsAssignment (suc d)) (Stops loosest) erased_assignment
 unfolding assignment
-assignment_law d =
-    record_law assignment_with (λ y. (y.variable, y.value)) (λ x. refl) (λ x. refl) (λ y. refl)
+assignment_law d = record_law assignment_with (λ y. (y.variable, y.value)) (λ x. refl) (λ x. refl) (λ y. refl)
     (then_law name_law (behind_law mark.Assign (expr_law d)))
 
-abbrev pub Tasks : ℕ → Form (Spelling × List Assignment)
-Tasks d = Both (IsMark mark.Task) (Ended (Separated (SpellsAssignment d)))
-
-pub task_law : (d : ℕ) → Law (task d) (Made task_with (Tasks d)) (Made task_with (Tasks (suc d))) Anywhere erased_action
+pub task_law : (d : ℕ) → Law (task d) (As (SpellsAction d) task_with) (As (SpellsAction (suc d)) task_with) Anywhere erased_action
 unfolding task same_mark
-task_law d =
-    made_law task_with (λ x. refl)
+task_law d = made_law task_with (λ x. refl)
     (then_law (mark_law mark.Task)
     (ended_law (separated_law (assignment_law d) (λ x j s. no_words s.1) (stops_at mark.Comma refl loosest) (stops_last loosest))
     (λ i j s. (stops_end loosest i j s, end_other mark.Comma refl refl i j s))))
@@ -36,8 +28,7 @@ applied_law d =
 
 destination_law : (d : ℕ) → Law (destination d) (Optional (SpellsDestination d)) (Optional (SpellsDestination (suc d))) (λ j. Stops loosest j × (sees mark.To j ≡ false)) (option_map erased_destination)
 unfolding destination
-destination_law d =
-    optional_law (maybe_mark mark.To
+destination_law d = optional_law (maybe_mark mark.To
     (record_law destination_with (λ y. (y.word, y.value)) (λ x. refl) (λ x. refl) (λ y. refl) (then_law (mark_law mark.To) (expr_law d)))
     (λ x i j s. (x.word, s.0, s.1)))
 
@@ -50,13 +41,9 @@ unfolding same_mark
 sent_before d None m j s t = subst Sent (sym s) t
 sent_before d (Some y) m j s t = subst Sent (sym s.1) (sees_other mark.Open mark.To refl y.word s.0, sees_other mark.Comma mark.To refl y.word s.0)
 
-abbrev pub Outputs : ℕ → Form (Spelling × (List Applied × Option Destination))
-Outputs d = Both (IsMark mark.Output) (Ended (Both (Separated (SpellsApplied d)) (Optional (SpellsDestination d))))
-
-pub output_law : (d : ℕ) → Law (output d) (Made output_with (Outputs d)) (Made output_with (Outputs (suc d))) Anywhere erased_action
+pub output_law : (d : ℕ) → Law (output d) (As (SpellsAction d) output_with) (As (SpellsAction (suc d)) output_with) Anywhere erased_action
 unfolding output same_mark
-output_law d =
-    made_law output_with (λ x. refl)
+output_law d = made_law output_with (λ x. refl)
     (then_law (mark_law mark.Output)
     (ended_law
     (both_law (separated_law (applied_law d) (λ x j s. no_words s.1) (sees_other mark.Open mark.Comma refl) (sees_last mark.Open))
@@ -65,24 +52,16 @@ output_law d =
 
 -- ---- create
 
-abbrev pub Creates : ℕ → Form (Spelling × Applied)
-Creates d = Both (IsMark mark.Create) (Ended (SpellsApplied d))
-
-pub create_law : (d : ℕ) → Law (create d) (Made create_with (Creates d)) (Made create_with (Creates (suc d))) Anywhere erased_action
+pub create_law : (d : ℕ) → Law (create d) (As (SpellsAction d) create_with) (As (SpellsAction (suc d)) create_with) Anywhere erased_action
 unfolding create same_mark
-create_law d =
-    made_law create_with (λ x. refl)
+create_law d = made_law create_with (λ x. refl)
     (then_law (mark_law mark.Create) (ended_law (applied_law d) (end_other mark.Open refl refl)))
 
 -- ---- reset
 
-abbrev pub Resets : ℕ → Form (Spelling × List (List Applied))
-Resets d = Both (IsMark mark.Reset) (Ended (Separated (SpellsKeys d)))
-
-pub reset_law : (d : ℕ) → Law (reset d) (Made reset_with (Resets d)) (Made reset_with (Resets (suc d))) Anywhere erased_action
+pub reset_law : (d : ℕ) → Law (reset d) (As (SpellsAction d) reset_with) (As (SpellsAction (suc d)) reset_with) Anywhere erased_action
 unfolding reset keys same_mark
-reset_law d =
-    made_law reset_with (λ x. refl)
+reset_law d = made_law reset_with (λ x. refl)
     (then_law (mark_law mark.Reset)
     (ended_law
     (separated_law

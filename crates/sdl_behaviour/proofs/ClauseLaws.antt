@@ -1,32 +1,21 @@
 -- The laws of `set`. Which of the two clauses is read, a look beyond the next word decides; so what is passed where one too
 -- many opens is shown not to begin the other.
-use Rattle.std.proofs.Common.{◌≡◌, ℕ, suc, ◌⊎◌, inl, inr, true, false, true≢false, ◌||◌, List, [], ◌∷◌, ◌++◌, Option, Some, None, refl, sym, ap, ◌∙◌, subst}
+use Rattle.sdl_behaviour.proofs.Words.{As, SpellsAction, Anywhere, Applied, Before, Behind, Both, Expr, Fixed, Form, IsHead, IsOpening, Law, Made, None, Option, Optional, SameFront, SetClause, Some, Spelling, SpellsApplied, SpellsClause, SpellsExpr, Spot, TooMany, Word, Words, [], ap, as_law, before_law, behind_law, either, end_other, ended_law, erased_action, erased_clause, expr_law, false, far_rules, first_word, front, inl, inr, loosest, made_law, mark_law, no_words, passed_front, refl, renamed, rest, same_mark, sees_other, separated_law, spelled_again, stops_at, suc, sym, then_law, ℕ, ◌++◌, ◌∙◌, ◌∷◌, ◌≡◌, ◌⊎◌}
 use Rattle.sdl_tree.specs.declared.mark.Mark.TheVariants as mark
-use Rattle.sdl_read.proofs.Grammar.{Spelling, erased_clause, erased_action, SpellsClause, loosest, SpellsExpr, SpellsApplied, IsMark, Both, Behind, Before, Optional, Separated, Ended, Expr, Applied, SetClause, Word, Words, Spot, Fixed, IsOpening, either, front, rest, same_mark, sees_name}
 use Rattle.sdl_tree.specs.Words as word
 use Rattle.sdl_behaviour.specs.Clauses.{comma_ahead, timed_with, timed, untimed_with, untimed, clause, set_with, set}
-use Rattle.sdl_read.proofs.AllLaws.{SameFront, IsHead, TooMany, passed_front, renamed, expr_law, Form, Law, Anywhere, Made, spelled_again, mark_law, as_law, behind_law, before_law, made_law, far_rules, separated_law, no_words, sees_front, ended_law, stops_at, sees_other, end_other, name_begins, no_name, then_law, first_word}
 use Rattle.sdl_behaviour.proofs.ActionLaws.{applied_law}
-use Rattle.sdl_behaviour.proofs.CommaLemmas.{at_parenthesis, time_comma, timer_no_comma, time_elsewhere, timer_there}
+use Rattle.sdl_behaviour.proofs.CommaLemmas.{time_comma, timer_no_comma, no_time, timer_there, parenthesized_front}
 
 -- ---- words with the same beginning, up to an opening word
-
-opening_unnamed : (w : Word) → IsOpening w → (k : Words) → sees_name (w ∷ k) ≡ false
-unfolding sees_name front
-opening_unnamed w o k = elim o.1 as (λ _. sees_name (w ∷ k) ≡ false) [
-  | inl e ↦ ap (λ v. sees_name (v ∷ k)) e
-  | inr e ↦ ap (λ v. sees_name (v ∷ k)) e
-]
-
-head_unnamed : (head : Words) (w : Word) → IsOpening w → IsHead head w → (k : Words) → sees_name (head ++ k) ≡ false
-head_unnamed head w o (inl h) k = ap (λ g. sees_name (g ++ k)) h ∙ opening_unnamed w o k
-head_unnamed head w o (inr h) k = ap (λ g. sees_name (g ++ k)) h.1 ∙ no_name mark.Active h.0 (w ∷ k)
 
 -- where the one begin with a name, the others do, and have the same behind it
 shared : (passed head : Words) (w : Word) → IsOpening w → IsHead head w → (k m : Words) (y : Spot) (l : Words) → passed ++ (head ++ k) ≡ word.Name y ∷ l
     → (n : Words) × (passed ++ (head ++ m) ≡ word.Name y ∷ n) × SameFront l n
 unfolding rest
-shared [] head w o h k m y l e = absurd (true≢false (sym (name_begins y (head ++ k) l e) ∙ head_unnamed head w o h k))
+shared [] head w (s, inl o) (inl h) k m y l e = absurd cc
+shared [] head w (s, inr o) (inl h) k m y l e = absurd cc
+shared [] head w o (inr h) k m y l e = absurd (let active = h.1 in cc)
 shared (v ∷ passed) head w o h k m y l e = (
   passed ++ (head ++ m),
   ap (λ u. u ∷ (passed ++ (head ++ m))) (ap (first_word v) e),
@@ -39,8 +28,7 @@ clash : (d c : ℕ) (x : Expr) (a : Applied) (s t : Spelling) (i j k l : Words) 
 clash d c x a s t i j k l time timer same =
     let there = timer_there c a t k l timer in
     let other = same a.name there.0 there.1 in
-    let fronts : at_parenthesis there.0 ≡ at_parenthesis other.0 = λ n. sees_front mark.Open there.0 other.0 other.2 n || sees_front mark.Close there.0 other.0 other.2 n in
-    true≢false (sym there.2 ∙ fronts ∙ time_elsewhere d x s i j time a.name other.0 other.1)
+    no_time d x s i j time a.name other.0 other.1 (parenthesized_front there.0 other.0 other.2 there.2)
 
 -- ---- the two clauses behind their parenthesis
 
@@ -55,8 +43,7 @@ IsClause d x i j = Timed d x i j ⊎ Untimed d x i j
 
 timed_law : (d : ℕ) → Law (timed d) (Timed d) (Timed (suc d)) Anywhere erased_clause
 unfolding timed same_mark
-timed_law d =
-    made_law timed_with (λ x. refl)
+timed_law d = made_law timed_with (λ x. refl)
     (before_law mark.Close (then_law (before_law mark.Comma (expr_law d) (stops_at mark.Comma refl loosest)) (applied_law d)) (sees_other mark.Open mark.Close refl))
 
 untimed_law : (d : ℕ) → Law (untimed d) (Untimed d) (Untimed (suc d)) Anywhere erased_clause
@@ -94,21 +81,16 @@ inside_law d = record {
 -- ---- a clause
 
 clause_to : (d : ℕ) (x : SetClause) (i j : Words) → Behind mark.Open (IsClause d) x i j → SpellsClause d x i j
-clause_to d x i j s = let Q : SetClause → Type 0 = λ y. SpellsClause d y i j in elim s.3 as (λ _. SpellsClause d x i j) [
-  | inl n ↦ subst Q (sym n.1) (s.0, s.1, s.2, n.2)
-  | inr n ↦ subst Q (sym n.1) (s.0, s.1, s.2, (n.2.0, (s.1, refl, n.2.1)))
-]
-
-by_time : (d : ℕ) (time : Option Expr) (timer : Applied) (k j : Words) → Before (Both (Optional (Before (SpellsExpr d) mark.Comma)) (SpellsApplied d)) mark.Close (time, timer) k j
-    → IsClause d (record { time = time; timer = timer }) k j
-by_time d None timer k j s =
-    let b = s.1 in
-    let R : Words → Type 0 = λ l. SpellsApplied d timer l (Fixed mark.Close s.0 ∷ j) in
-    inr (timer, refl, (s.0, subst R (sym b.1) b.2))
-by_time d (Some time) timer k j s = inl ((time, timer), refl, s)
+clause_to d x i j (s, k, e, inl n) = rw n.1 (s, k, e, n.2)
+clause_to d x i j (s, k, e, inr n) = rw n.1 (s, k, e, (n.2.0, (k, refl, n.2.1)))
 
 clause_from : (d : ℕ) (x : SetClause) (i j : Words) → SpellsClause d x i j → Behind mark.Open (IsClause d) x i j
-clause_from d x i j s = (s.0, s.1, s.2, by_time d x.time x.timer s.1 j s.3)
+clause_from d x i j s = (s.0, s.1, s.2, by x.time s.3)
+  where
+    by : (time : Option Expr) → Before (Both (Optional (Before (SpellsExpr d) mark.Comma)) (SpellsApplied d)) mark.Close (time, x.timer) s.1 j
+        → IsClause d (record { time = time; timer = x.timer }) s.1 j
+    by None r = let b = r.1 in inr (x.timer, refl, (r.0, rw b.1 b.2))
+    by (Some time) r = inl ((time, x.timer), refl, r)
 
 pub clause_law : (d : ℕ) → Law (clause d) (SpellsClause d) (SpellsClause (suc d)) Anywhere erased_clause
 unfolding clause
@@ -116,12 +98,8 @@ clause_law d = as_law (clause_to d) (clause_from d) (clause_to (suc d)) (behind_
 
 -- ---- set
 
-abbrev pub Sets : ℕ → Form (Spelling × List SetClause)
-Sets d = Both (IsMark mark.Set) (Ended (Separated (SpellsClause d)))
-
-pub set_law : (d : ℕ) → Law (set d) (Made set_with (Sets d)) (Made set_with (Sets (suc d))) Anywhere erased_action
+pub set_law : (d : ℕ) → Law (set d) (As (SpellsAction d) set_with) (As (SpellsAction (suc d)) set_with) Anywhere erased_action
 unfolding set same_mark
-set_law d =
-    made_law set_with (λ x. refl)
+set_law d = made_law set_with (λ x. refl)
     (then_law (mark_law mark.Set)
     (ended_law (separated_law (clause_law d) (λ x j s. no_words s.2) (λ s m. tt) tt) (λ i j s. (tt, end_other mark.Comma refl refl i j s))))

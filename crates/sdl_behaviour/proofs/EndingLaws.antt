@@ -1,10 +1,7 @@
 -- The laws of labels and terminators.
-use Rattle.std.proofs.Common.{◌≡◌, ◌⊎◌, inl, inr, false, ◌∷◌, option_map, refl, ap}
-use Rattle.sdl_read.proofs.Grammar.{Mark, erased_name, erased_next_state, erased_terminator, SpellsLabel, SpellsNextState, SpellsTerminator, IsMark, Both, SpellsName, Ended, NextState, Same, To, Terminator, Next, Stop, Join, Words, Spot, Fixed, front, sees, same_mark, sees_name}
+use Rattle.sdl_behaviour.proofs.Words.{Anywhere, Both, Choice, Ended, Fixed, Form, IsMark, Join, Law, Made, Mark, Next, NextState, Or, Same, SpellsLabel, SpellsName, SpellsNextState, SpellsTerminator, Spot, Stop, Terminator, To, Words, ap, as_choice, as_law, before_law, either_as, either_law, ended_law, erased_name, erased_next_state, erased_terminator, false, front, inl, inr, join, join_with, label, made_as, made_law, mark_law, maybe_law, name_begins, name_front, name_last, name_law, next, next_state, next_with, one_choice, option_map, optional_law, or_choice, refl, same_mark, sees, sees_at, sees_front, sees_name, stop, terminator, terminator_marks, then_law, ◌∷◌, ◌≡◌, ◌⊎◌}
 use Rattle.sdl_tree.specs.declared.mark.Mark.TheVariants as mark
 use Rattle.sdl_tree.specs.Words as word
-use Rattle.sdl_behaviour.specs.Transitions.{label, next_state, next_with, next, stop, join_with, join, terminator_marks, terminator}
-use Rattle.sdl_read.proofs.AllLaws.{ended_law, Form, Law, Anywhere, Made, Or, made_as, either_as, as_law, mark_law, then_law, before_law, made_law, either_law, maybe_law, optional_law, name_front, name_law, Choice, one_choice, or_choice, as_choice, sees_front, sees_at, name_begins, name_last}
 
 -- ---- [NAME ":"]
 
@@ -12,8 +9,7 @@ use Rattle.sdl_read.proofs.AllLaws.{ended_law, Form, Law, Anywhere, Made, Or, ma
 pub label_law : Law label SpellsLabel SpellsLabel (λ j. Unit {0} × (sees_name j ≡ false)) (option_map erased_name)
 unfolding label
 label_law =
-    as_law (λ x i j s. s) (λ x i j s. s) (λ x i j s. s)
-    (optional_law (maybe_law sees_name name_front (before_law mark.Colon name_law (λ s j. tt)).rules name_last (λ x i j s. name_begins x i (Fixed mark.Colon s.0 ∷ j) s.1)))
+    optional_law (maybe_law sees_name name_front (before_law mark.Colon name_law (λ s j. tt)).rules name_last (λ x i j s. name_begins x i (Fixed mark.Colon s.0 ∷ j) s.1))
 
 -- ---- terminators
 
@@ -46,8 +42,7 @@ terminator_from (Join w label) i j s = inr (inr ((w, label), refl, s))
 
 pub terminator_choice : Choice terminator SpellsTerminator SpellsTerminator Anywhere terminator_marks erased_terminator
 unfolding terminator next stop join same_mark
-terminator_choice =
-    as_choice terminator_to terminator_from terminator_to
+terminator_choice = as_choice terminator_to terminator_from terminator_to
     (or_choice mark.NextState _ refl (made_law next_with (λ x. refl) (then_law (mark_law mark.NextState) (ended_law next_state_law (λ i j s. tt))))
     (λ x i j s. (s.0.0, s.2.0, s.2.1))
     (or_choice mark.Stop _ refl (made_law Stop (λ x. refl) (ended_law (mark_law mark.Stop) (λ i j s. tt))) (λ x i j s. let b = s.2 in (s.0, b.0, b.1))

@@ -12,3 +12,4 @@ pub mod StimulusLaws
 pub mod TransitionLaws
 pub mod TransitionLemmas
 pub mod UnlessLaws
+pub mod Words

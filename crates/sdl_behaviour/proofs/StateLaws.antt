@@ -1,14 +1,11 @@
 -- The laws of a state and of a connection, which stand in the body of a process.
-use Rattle.std.proofs.Common.{◌≡◌, ℕ, suc, ◌⊎◌, inl, inr, Bool, true, false, true≢false, ◌||◌, List, [], ◌∷◌, map, refl, sym, ap, ◌∙◌, subst, arith}
+use Rattle.sdl_behaviour.proofs.Words.{As, BeginsOne, BodyPart, Both, Choice, Fixed, FreeAction, InParentheses, IsMark, Law, List, Made, Mark, MaybeLaw, Separated, Spelling, SpellsBodyPart, SpellsEndConnection, SpellsEndState, SpellsEndStateName, SpellsName, SpellsStates, Spot, StateAll, StateList, StatePart, States, Stimulus, Transition, Words, [], action_marks, ap, arith, as_choice, as_law, before_law, begins_action, begins_statement, begins_terminator, begins_unseen, behind_law, closed_law, drops_law, either, either_as, either_law, end_name_law, end_other, ended_law, erased_body_part, erased_name, erased_states, erased_stimulus, erased_transition, false, front, has_mark, have_mark, in_parentheses_law, inl, inr, made_as, made_law, map, mark_law, maybe_choice, name_law, name_takes, named_law, nowhere_law, one_choice, or_choice, or_left, or_right, others_unseen, read_as, refl, rest, same_mark, seen_begins, sees, sees_at, sees_front, sees_name, separated_begins, separated_law, stops_law, suc, sym, terminator_marks, then_law, true, true_or_false, true≢false, whole, zero, ℕ, ◌||◌, ◌∙◌, ◌∷◌, ◌≡◌, ◌⊎◌}
 use Rattle.std.specs.List.{Contains}
 use Rattle.std.specs.Str.{bytes_eq}
-use Rattle.std.proofs.lemmas.List.Elements.{Contains-push, Contains-push_cases, Contains-append_left, Contains-append_right, Contains-append_cases}
 use Rattle.std.proofs.lemmas.Slice.Eq.{bytes_eq-Decides}
-use Rattle.sdl_read.proofs.Grammar.{Spelling, erased_name, erased_states, erased_stimulus, erased_body_part, SpellsStimulus, SpellsStates, SpellsEndStateName, SpellsEndState, SpellsBodyPart, IsMark, Both, Behind, Separated, Repeated, InParentheses, SpellsName, Ended, States, StateList, StateAll, Stimulus, BodyPart, StatePart, FreeAction, Words, Spot, Fixed, either, front, rest, sees, same_mark, sees_name, erased_transition, SpellsTrans, SpellsEndConnection, Before, SpellsClosing, Transition, Mark}
 use Rattle.sdl_behaviour.specs.States.{all_with, states, is_named, one_of, end_state_name, end_state, state_with, state_part, free_with, connection, begins_body_part, body_part, end_connection, body_part_marks}
 use Rattle.sdl_behaviour.specs.Stimuli.{begins_stimulus, stimulus_marks}
-use Rattle.sdl_behaviour.specs.Transitions.{begins_terminator, begins_action, begins_statement, action_marks, terminator_marks}
-use Rattle.sdl_read.proofs.AllLaws.{Named, named_law, nowhere_law, Drops, drops_law, ended_law, closed_law, Law, MaybeLaw, Made, made_as, either_as, mark_law, as_law, stops_law, behind_law, made_law, either_law, separated_law, whole, name_law, name_takes, in_parentheses_law, or_left, or_right, read_as, true_or_false, sees_front, sees_at, end_other, Form, before_law, end_name_law, BeginsOne, as_choice, begins_unseen, has_mark, have_mark, maybe_choice, one_choice, or_choice, others_unseen, seen_begins, separated_begins, then_law, Choice}
+use Rattle.sdl_read.proofs.AllLaws.{Named}
 use Rattle.sdl_behaviour.proofs.EndingLaws.{name_no_mark}
 use Rattle.sdl_behaviour.proofs.ReceptionLaws.{Alone, alone_last, stimuli_law}
 use Rattle.sdl_behaviour.proofs.StepLaws.{NoStatement, no_statement}
@@ -41,24 +38,16 @@ states_law =
 named_among : (xs : List Spot) (t : List ℕ) → is_named xs t ≡ true → (x : Spot) × Contains xs x × (t ≡ x.text)
 unfolding is_named
 named_among [] t e = absurd (true≢false (sym e))
-named_among (y ∷ ys) t e =
-    elim (true_or_false (bytes_eq y.text t)) as (λ _. (x : Spot) × Contains (y ∷ ys) x × (t ≡ x.text)) [
-      | inl s ↦ (y, Contains-append_left (y ∷ []) ys y (Contains-push [] y), sym ((bytes_eq-Decides y.text t).0 s))
-      | inr s ↦ let found = named_among ys t (sym (ap (λ b. b || is_named ys t) s) ∙ e) in (found.0, Contains-append_right (y ∷ []) ys found.0 found.1, found.2)
-    ]
+named_among (y ∷ ys) t e = elim (true_or_false (bytes_eq y.text t)) as (λ _. (x : Spot) × Contains (y ∷ ys) x × (t ≡ x.text)) [
+  | inl s ↦ (y, (zero, omega arith, refl), sym ((bytes_eq-Decides y.text t).0 s))
+  | inr s ↦ let f = named_among ys t (sym (ap (λ b. b || is_named ys t) s) ∙ e) in (f.0, (suc f.1.0, omega (arith, f.1.1), f.1.2), f.2)
+]
 
 among_named : (xs : List Spot) (t : List ℕ) (x : Spot) → Contains xs x → t ≡ x.text → is_named xs t ≡ true
 unfolding is_named
-among_named [] t x c e = absurd (let less = c.1 in omega (arith, less))
-among_named (y ∷ ys) t x c e = elim (Contains-append_cases (y ∷ []) ys x c) as (λ _. (bytes_eq y.text t || is_named ys t) ≡ true) [
-  | inl s ↦
-      elim (Contains-push_cases [] y x s) as (λ _. (bytes_eq y.text t || is_named ys t) ≡ true) [
-        | inl none ↦ absurd (let less = none.1 in omega (arith, less))
-        | inr same ↦
-            or_left (bytes_eq y.text t) (is_named ys t) ((bytes_eq-Decides y.text t).1 (ap (λ (z : Spot). z.text) same ∙ sym e))
-      ]
-  | inr s ↦ or_right (bytes_eq y.text t) (is_named ys t) (among_named ys t x s e)
-]
+among_named [] t x (k, less, is) e = absurd (omega (arith, less))
+among_named (y ∷ ys) t x (zero, less, is) e = or_left (bytes_eq y.text t) (is_named ys t) ((bytes_eq-Decides y.text t).1 (ap (λ (z : Spot). z.text) is ∙ sym e))
+among_named (y ∷ ys) t x (suc k, less, is) e = or_right (bytes_eq y.text t) (is_named ys t) (among_named ys t x (k, omega (arith, less), is) e)
 
 one_elsewhere : (xs : List Spot) (i : Words) → sees_name i ≡ false → one_of xs i ≡ read_as tt i
 unfolding one_of sees_name front
@@ -85,27 +74,14 @@ unfolding is_named
 same_named [] t = refl
 same_named (x ∷ xs) t = ap (λ b. bytes_eq x.text t || b) (same_named xs t)
 
-abbrev listed : States → List Spot
-listed (StateList xs) = xs
-listed (StateAll asterisk except) = []
-
-abbrev is_list : States → Bool
-is_list (StateList xs) = true
-is_list (StateAll asterisk except) = false
-
 same_name_ended : (x y : States) → erased_states x ≡ erased_states y → (i j : Words) → SpellsEndStateName x i j → SpellsEndStateName y i j
-same_name_ended (StateList xs) (StateList ys) e i j s =
-    let texts : map erased_name xs ≡ map erased_name ys = ap listed e in
-    let named : (t : List ℕ) → is_named xs t ≡ true → is_named ys t ≡ true =
-    λ t n. same_named ys t ∙ ap (λ zs. is_named zs t) (sym texts) ∙ sym (same_named xs t) ∙ n
-    in
-    one_to ys i j (still (one_from xs i j s) named)
-  where
-    still : Named (is_named xs) i j → ((t : List ℕ) → is_named xs t ≡ true → is_named ys t ≡ true) → Named (is_named ys) i j
-    still (inl n) named = inl n
-    still (inr n) named = inr (n.0, named n.0.text n.1, n.2)
-same_name_ended (StateList xs) (StateAll a ys) e i j s = absurd (true≢false (ap is_list e))
-same_name_ended (StateAll a xs) (StateList ys) e i j s = absurd (true≢false (sym (ap is_list e)))
+same_name_ended (StateList xs) (StateList ys) e i j (inl s) = inl s
+same_name_ended (StateList xs) (StateList ys) e i j (inr s) =
+    let texts : map erased_name xs ≡ map erased_name ys = cc in
+    let t : List ℕ = s.1.text in
+    one_to ys i j (inr (s.1, same_named ys t ∙ ap (λ zs. is_named zs t) (sym texts) ∙ sym (same_named xs t) ∙ among_named xs t s.0 s.2 s.3, s.4))
+same_name_ended (StateList xs) (StateAll a ys) e i j s = absurd cc
+same_name_ended (StateAll a xs) (StateList ys) e i j s = absurd cc
 same_name_ended (StateAll a xs) (StateAll b ys) e i j s = s
 
 -- ---- ["endstate" [NAME] end]
@@ -122,7 +98,7 @@ alone_at ms i a t s p q b = ((no_statement ms i a t b, begins_unseen mark.Provid
 
 no_stimulus_before : (x : States × List Stimulus) (m j : Words) → SpellsEndState x.0 m j → Stated j → Alone m × (begins_stimulus m ≡ false)
 unfolding same_mark
-no_stimulus_before x m j (inl e) t = let F : Words → Type 0 = λ k. Alone k × (begins_stimulus k ≡ false) in subst F (sym e) t.0
+no_stimulus_before x m j (inl e) t = rw e t.0
 no_stimulus_before x m j (inr c) t = alone_at (mark.EndState ∷ []) m refl refl refl refl refl (inl (c.0, c.1, c.3))
 
 abbrev erased_stated : States × List Stimulus → States × List Stimulus
@@ -130,19 +106,13 @@ erased_stated x = (erased_states x.0, map erased_stimulus x.1)
 
 same_state_ended : (x y : States × List Stimulus) → erased_stated x ≡ erased_stated y → (i j : Words) → SpellsEndState x.0 i j → SpellsEndState y.0 i j
 same_state_ended x y e i j (inl s) = inl s
-same_state_ended x y e i j (inr s) =
-    let same : erased_states x.0 ≡ erased_states y.0 = ap (λ (p : States × List Stimulus). p.0) e in
-    inr (s.0, s.1, s.2, s.3, same_name_ended x.0 y.0 same s.1 s.2 s.4, s.5)
+same_state_ended x y e i j (inr s) = inr (s.0, s.1, s.2, s.3, same_name_ended x.0 y.0 (ap (λ (p : States × List Stimulus). p.0) e) s.1 s.2 s.4, s.5)
 
 -- ---- state = "state" states end {stimulus} ["endstate" [NAME] end]
 
-abbrev IsState : ℕ → States × List Stimulus → Words → Words → Type 0
-IsState d = Behind mark.State (Drops (Both (Ended SpellsStates) (Repeated (SpellsStimulus d))) (λ x. SpellsEndState x.0))
-
-state_law : (d : ℕ) → Law (state_part d) (Made state_with (IsState d)) (Made state_with (IsState (suc d))) Stated erased_body_part
+state_law : (d : ℕ) → Law (state_part d) (As (SpellsBodyPart d) state_with) (As (SpellsBodyPart (suc d)) state_with) Stated erased_body_part
 unfolding state_part end_state same_mark
-state_law d =
-    made_law state_with (λ x. refl)
+state_law d = made_law state_with (λ x. refl)
     (behind_law mark.State
     (drops_law (then_law (ended_law states_law (λ i j s. (end_other mark.Open refl refl i j s, end_other mark.Comma refl refl i j s))) (stimuli_law d))
     (λ x. stops_law (λ j t. t.1) (closed_law mark.EndState (end_state_name_law x.0))) no_stimulus_before same_state_ended))
@@ -155,22 +125,16 @@ Connected j = NoStatement j × (sees mark.EndConnection j ≡ false)
 
 no_statement_before : (x : Spot × Transition) (m j : Words) → SpellsEndConnection x.0 m j → Connected j → NoStatement m
 unfolding same_mark
-no_statement_before x m j (inl e) t = subst NoStatement (sym e) t.0
+no_statement_before x m j (inl e) t = rw e t.0
 no_statement_before x m j (inr c) t = no_statement (mark.EndConnection ∷ []) m refl refl (inl (c.0, c.1, c.3))
 
 same_end : (x y : Spot × Transition) → ◌≡◌ {A = Spot × Transition} (erased_name x.0, erased_transition x.1) (erased_name y.0, erased_transition y.1)
     → (i j : Words) → SpellsEndConnection x.0 i j → SpellsEndConnection y.0 i j
-same_end x y e i j s =
-    let R : List ℕ → Type 0 = λ t. (i ≡ j) ⊎ SpellsClosing mark.EndConnection t i j in
-    let texts : x.0.text ≡ y.0.text = ap (λ (p : Spot × Transition). p.0.text) e in subst R texts s
+same_end x y e i j s = let texts : x.0.text ≡ y.0.text = ap (λ (p : Spot × Transition). p.0.text) e in rw texts at s
 
-abbrev pub Connects : ℕ → Form (Spelling × (Spot × Transition))
-Connects d = Both (IsMark mark.Connection) (Drops (Both (Before SpellsName mark.Colon) (SpellsTrans d)) (λ x. SpellsEndConnection x.0))
-
-pub connection_law : (d : ℕ) → Law (connection d) (Made free_with (Connects d)) (Made free_with (Connects (suc d))) Connected erased_body_part
+pub connection_law : (d : ℕ) → Law (connection d) (As (SpellsBodyPart d) free_with) (As (SpellsBodyPart (suc d)) free_with) Connected erased_body_part
 unfolding connection end_connection
-connection_law d =
-    made_law free_with (λ x. refl)
+connection_law d = made_law free_with (λ x. refl)
     (then_law (mark_law mark.Connection)
     (drops_law (then_law (before_law mark.Colon name_law (λ s j. tt)) (trans_law d)) (λ x. stops_law (λ j t. t.1) (closed_law mark.EndConnection (end_name_law x.0.text))) no_statement_before same_end))
 
@@ -180,7 +144,7 @@ connection_law d =
 abbrev pub PartStops : Words → Type 0
 PartStops j = Stated j × Connected j
 
-part_from : (d : ℕ) (x : BodyPart) (i j : Words) → SpellsBodyPart d x i j → Made state_with (IsState d) x i j ⊎ Made free_with (Connects d) x i j
+part_from : (d : ℕ) (x : BodyPart) (i j : Words) → SpellsBodyPart d x i j → As (SpellsBodyPart d) state_with x i j ⊎ As (SpellsBodyPart d) free_with x i j
 part_from d (StatePart names stimuli) i j s = inl ((names, stimuli), refl, s)
 part_from d (FreeAction w label transition) i j s = inr ((w, (label, transition)), refl, s)
 

@@ -1,10 +1,8 @@
 -- The laws of the parts of stimuli, and of the start.
-use Rattle.std.proofs.Common.{◌≡◌, ℕ, suc, ◌⊎◌, inl, inr, false, [], map, Option, Some, None, option_map, refl, ap}
-use Rattle.sdl_read.proofs.Grammar.{Spelling, erased_name, erased_number, erased_start, erased_input, erased_inputs, erased_saved, erased_condition, erased_stimulus, SpellsStart, SpellsIn1, SpellsIns, SpellsSaved, SpellsCondition, SpellsPriority, loosest, IsMark, Both, Optional, Separated, SpellsName, SpellsSig, Ended, SignalListItem, SignalItem, ListItem, Inputs, InputList, InputAll, Saved, SaveList, SaveAll, Words, Spot, and_then, separated, name, front, sees, same_mark, sees_name}
+use Rattle.sdl_behaviour.proofs.Words.{As, SpellsStimulus, Anywhere, InputAll, InputList, Inputs, IsMark, Law, ListItem, Made, MaybeLaw, None, Optional, SaveAll, SaveList, Saved, Separated, SignalItem, SignalListItem, SpellsCondition, SpellsIn1, SpellsIns, SpellsName, SpellsPriority, SpellsSaved, SpellsSig, SpellsStart, Words, ap, as_law, behind_law, either_as, either_law, end_other, ended_law, erased_condition, erased_input, erased_inputs, erased_name, erased_number, erased_saved, erased_start, erased_stimulus, expr_law, false, front, inl, inr, loosest, made_as, made_law, map, mark_law, maybe_enclosed, maybe_law, maybe_mark, name_begins, name_front, name_last, name_law, no_name, no_words, number_law, option_map, optional_law, record_law, refl, same_mark, sees, sees_at, sees_front, sees_last, sees_name, sees_other, separated, separated_begins, separated_law, sig_law, sig_takes, spaced_law, stops_end, stops_law, suc, then_law, ℕ, ◌≡◌, ◌⊎◌}
 use Rattle.sdl_tree.specs.declared.mark.Mark.TheVariants as mark
 use Rattle.sdl_behaviour.specs.States.{start_with, start}
 use Rattle.sdl_behaviour.specs.Stimuli.{variable, input_with, in1, ins, condition_with, condition, saved, save_with, save_part, priority}
-use Rattle.sdl_read.proofs.AllLaws.{expr_law, Form, Law, MaybeLaw, Anywhere, Made, made_as, either_as, mark_law, as_law, stops_law, behind_law, made_law, either_law, maybe_law, optional_law, separated_law, spaced_law, name_front, name_law, number_law, maybe_enclosed, sig_law, record_law, maybe_mark, sig_takes, read_as, none_as, no_words, if_false, sees_front, sees_at, ended_law, stops_end, sees_other, sees_last, end_other, name_begins, name_last, no_name, separated_begins, then_law}
 use Rattle.sdl_behaviour.proofs.EndingLaws.{name_no_mark}
 use Rattle.sdl_behaviour.proofs.StepLaws.{NoStatement}
 use Rattle.sdl_behaviour.proofs.TransitionLaws.{trans_law}
@@ -13,31 +11,22 @@ use Rattle.sdl_behaviour.proofs.TransitionLaws.{trans_law}
 
 pub start_law : (d : ℕ) → Law (start d) (SpellsStart d) (SpellsStart (suc d)) NoStatement erased_start
 unfolding start
-start_law d =
-    record_law start_with (λ y. (y.word, y.transition)) (λ x. refl) (λ x. refl) (λ y. refl)
+start_law d = record_law start_with (λ y. (y.word, y.transition)) (λ x. refl) (λ x. refl) (λ y. refl)
     (then_law (ended_law (mark_law mark.Start) (λ i j s. tt)) (trans_law d))
 
 -- ---- in1
 
-abbrev Variable : Option Spot → Words → Words → Type 0
-Variable = Optional SpellsName
-
 -- where no name stands next
-variable_law : Law variable Variable Variable (λ j. Unit {0} × (sees_name j ≡ false)) (option_map erased_name)
+variable_law : Law variable (Optional SpellsName) (Optional SpellsName) (λ j. Unit {0} × (sees_name j ≡ false)) (option_map erased_name)
 unfolding variable
 variable_law = optional_law (maybe_law sees_name name_front name_law.rules name_last name_begins)
 
-variable_last : variable [] ≡ read_as None []
-unfolding variable
-variable_last = if_false (sees_name []) (and_then (name []) (λ x j. read_as (Some x) j)) (none_as []) name_last
-
 pub in1_law : Law in1 SpellsIn1 SpellsIn1 (λ j. sees mark.Open j ≡ false) erased_input
-unfolding in1
-in1_law =
-    record_law input_with (λ y. (y.signal, y.variables)) (λ x. refl) (λ x. refl) (λ y. refl)
+unfolding in1 variable sees_name front
+in1_law = record_law input_with (λ y. (y.signal, y.variables)) (λ x. refl) (λ x. refl) (λ y. refl)
     (then_law name_law
     (maybe_enclosed variable
-    (spaced_law variable_law (λ s m. (tt, no_name mark.Comma s m)) (tt, name_last) (λ s m. (tt, no_name mark.Close s m)) None variable_last)))
+    (spaced_law variable_law (λ s m. (tt, no_name mark.Comma s m)) (tt, name_last) (λ s m. (tt, no_name mark.Close s m)) None refl)))
 
 -- in1 {"," in1}
 pub inputs_law : Law (separated in1) (Separated SpellsIn1) (Separated SpellsIn1) (λ j. (sees mark.Open j ≡ false) × (sees mark.Comma j ≡ false)) (map erased_input)
@@ -79,21 +68,16 @@ saved_law =
     from (SaveAll asterisk) i j s = inl (asterisk, refl, s)
     from (SaveList items) i j s = inr (items, refl, s)
 
-abbrev pub Saves : Form (Spelling × Saved)
-Saves = Both (IsMark mark.Save) (Ended SpellsSaved)
-
-pub save_law : Law save_part (Made save_with Saves) (Made save_with Saves) Anywhere erased_stimulus
+pub save_law : (d : ℕ) → Law save_part (As (SpellsStimulus d) save_with) (As (SpellsStimulus (suc d)) save_with) Anywhere erased_stimulus
 unfolding save_part same_mark
-save_law =
-    made_law save_with (λ x. refl)
+save_law d = made_law save_with (λ x. refl)
     (then_law (mark_law mark.Save) (ended_law saved_law (λ i j s. (tt, end_other mark.Comma refl refl i j s))))
 
 -- ---- conditions and priorities
 
 pub condition_law : (d : ℕ) → MaybeLaw (condition d) (SpellsCondition d) (SpellsCondition (suc d)) Anywhere (sees mark.Provided) erased_condition
 unfolding condition
-condition_law d =
-    maybe_mark mark.Provided
+condition_law d = maybe_mark mark.Provided
     (record_law condition_with (λ y. (y.word, y.condition)) (λ x. refl) (λ x. refl) (λ y. refl)
     (then_law (mark_law mark.Provided) (ended_law (expr_law d) (stops_end loosest))))
     (λ x i j s. (x.word, s.0, s.1))

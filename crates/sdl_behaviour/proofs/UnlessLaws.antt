@@ -1,8 +1,7 @@
--- The laws of what stands wherever its first mark does, and of what doesn't begin with a mark.
-use Rattle.std.proofs.Common.{◌≡◌, inl, inr, true, false, true≢false, [], ◌∷◌, ◌++◌, Option, Some, None, option_map, Ok, Err, sym, ap, ◌∙◌, subst}
-use Rattle.sdl_read.proofs.Grammar.{AreAlike, Mark, Spelling, Optional, Begins, Unless, Wherever, Words, Fixed, Parser, Outcome, Refused, sees}
-use Rattle.sdl_behaviour.specs.Stimuli.{unless}
-use Rattle.sdl_read.proofs.AllLaws.{within, Form, Never, Gives, Law, MaybeLaw, Or, still, read_here, as_law, stops_rules, refuse_rules, either_rules, optional_law, none_begins, passes, some_read, read_as, not_read, if_true, if_false, true_or_false, sees_ok, sees_at, sees_again, sees_front}
+-- The laws of what a mark doesn't stand behind, and of what stands wherever its first mark does.
+use Rattle.sdl_behaviour.proofs.Words.{Anywhere, AreAlike, Begins, Bool, Complete, Err, Fixed, Form, Gives, GoodAfter, Law, Made, Mark, MaybeLaw, None, Nothing, Ok, Option, Or, Outcome, Parser, Refusal, Refused, Some, Spelling, Wherever, Words, [], and_then, ap, bind_is, either_rules, false, if_false, if◌then◌else◌, inl, inr, nothing_law, option_map, passes, pure, read_as, refl, rest, same_law, sees, sees_again, sees_at, sees_front, sees_ok, some_read, still, stops_rules, sym, true, true_or_false, true≢false, ◌++◌, ◌∙◌, ◌∷◌, ◌≡◌}
+use Rattle.sdl_read.proofs.Depth.{no_deeper}
+use Rattle.sdl_read.proofs.Laws.{IsRead, Told, as_rules, made_rules}
 
 module _ (m : Mark) where
   -- what isn't seen begins nothing
@@ -21,112 +20,89 @@ module _ (m : Mark) where
   alike_begins (w ∷ i) k s a = absurd a.0
 
   alike_not_begun : (i k : Words) → AreAlike i k → ¬ Begins m i → ¬ Begins m k
-  alike_not_begun i k a none b =
-      let P : Words → Type 0 = λ l. AreAlike i l in
-      true≢false (sym (alike_begins i b.1 b.0 (subst P b.2 a)) ∙ not_seen i none)
+  alike_not_begun i k a none b = true≢false (sym (alike_begins i b.1 b.0 (rw b.2 at a)) ∙ not_seen i none)
 
--- ---- a condition that holds where something is read or spelled
+-- ---- x, behind which this mark doesn't stand
 
-module _ {A : Type 0} (C : A → Words → Type 0) {p : Parser A} {P M : Form A} {S : Words → Type 0} {e : A → A} (a : Law p P M S e)
-    (reads : (i : Words) (x : A) (j : Words) → p i ≡ read_as x j → C x i) (spells : (x : A) (i j : Words) → P x i j → S j → C x i)
-    (spells_more : (x : A) (i j : Words) → M x i j → S j → C x i) (moved : (x y : A) (i k : Words) → AreAlike i k → e y ≡ e x → C x i → C y k) where
-  abbrev Given : Form A → Form A
-  Given R x i j = C x i × R x i j
+module _ {A : Type 0} (told : Words → Refusal) (m : Mark) {p : Parser A} {P : Form A} {e : A → A} (a : Law p P P Anywhere e) where
+  abbrev pub Free : Form A
+  Free x i j = P x i j × ¬ Begins m j
 
-  given_gives : (i : Words) (o : Outcome A) → Gives p P M S i o → Gives p (Given P) (Given M) S i o
-  given_gives i (Ok z) t = record { taken = t.taken; at = t.at; again = t.again; spelled = (reads i z.0 z.1 (read_here i z.0 z.1 t), t.spelled) }
-  given_gives i (Err r) t =
-      still i r
-      (λ left u.
-      within i left u (λ x. (x, [], λ k j v. (v, λ n. (spells x k j n v, n)))) (λ x. (x, [], λ k j v. (v, λ n. (spells_more x k j n v, n)))) (λ x k j same n v. (x, j, n.1, v)))
-      t
+  abbrev Unmarked : Words → Type 0
+  Unmarked j = sees m j ≡ false
 
-  given_law : Law p (Given P) (Given M) S e
-  given_law = record {
-    rules = record {
-      tells = λ i. given_gives i (p i) (a.rules.tells i);
-      complete = λ x i j s t. a.rules.complete x i j s.1 t;
-      moves = λ x i j k s t. let c = a.rules.moves x i j k s.1 t in (c.0, c.1, (moved x c.0 i k t c.4 s.0, c.2), c.3, c.4);
-      more = λ x i j s. (s.0, a.rules.more x i j s.1);
-    };
-    one = let o = a.one in (o.0, o.1, λ j t. let q = o.2 j t in (spells o.0 (o.1 ++ j) j q t, q));
-  }
+  abbrev barrier : A → Parser A
+  barrier x k = if sees m k then Err (told k) else Ok (x, k)
+
+  abbrev pub free : Parser A
+  free = λ i. and_then (p i) barrier
+
+  passed : (x : A) (k : Words) → sees m k ≡ false → barrier x k ≡ read_as x k
+  passed x k none = if_false (sees m k) (Err (told k)) (Ok (x, k)) none
+
+  pub free_complete : Complete free Free Anywhere
+  free_complete x i j s t = bind_is (p i) barrier x j (a.rules.complete x i j s.0 tt) ∙ passed x j (not_seen m j s.1)
+
+  unmarked_after : (k l : Words) → sees m k ≡ false → GoodAfter Unmarked k l → sees m l ≡ false
+  unmarked_after k l none (inl same) = sees_front m l k same ∙ none
+  unmarked_after k l none (inr t) = t
+
+  -- where it does, that is told so
+  module _ (tells : (i : Words) (x : A) (k : Words) → IsRead p P Anywhere i x k → Begins m k → Told Free Free Unmarked i (told k)) where
+    free_at : (i : Words) (x : A) (k : Words) → IsRead p P Anywhere i x k → (b : Bool) → sees m k ≡ b
+        → Gives free Free Free Unmarked i (if b then Err (told k) else Ok (x, k))
+    free_at i x k r true s = let b = sees_ok m k s in tells i x k r (b.0, rest k, b.1)
+    free_at i x k r false s = record {
+      taken = r.taken;
+      at = r.at;
+      again = λ l g. bind_is (p (r.taken ++ l)) barrier x l (r.again l (inr tt)) ∙ passed x l (unmarked_after k l s g);
+      spelled = (r.spelled, not_begun m k s);
+    }
+
+    free_gives : (i : Words) (o : Outcome A) → Gives p P P Anywhere i o → Gives free Free Free Unmarked i (and_then o barrier)
+    free_gives i (Ok z) r = free_at i z.0 z.1 r (sees m z.1) refl
+    free_gives i (Err r) t = still i r (λ left u. absurd (no_deeper i left tt u)) t
+
+    pub free_law : Law free Free Free Unmarked e
+    free_law = record {
+      rules = record {
+        tells = λ i. free_gives i (p i) (a.rules.tells i);
+        complete = λ x i j s t. free_complete x i j s tt;
+        moves = λ x i j k s t. let c = a.rules.moves x i j k s.0 t in (c.0, c.1, (c.2, alike_not_begun m j c.1 c.3 s.1), c.3, c.4);
+        more = λ x i j s. s;
+      };
+      one = let o = a.one in (o.0, o.1, λ j t. (o.2 j tt, not_begun m j t));
+    }
 
 -- ---- [x], wherever its first mark stands
 
+unbarred : {X : Type 0} (b : Bool) (x y z : X) → (if b then x else (if b then y else z)) ≡ (if b then x else z)
+unbarred true x y z = refl
+unbarred false x y z = refl
+
 module _ {A : Type 0} (m : Mark) {p : Parser (Option A)} {P M : Form A} {S : Words → Type 0} {e : A → A} (a : MaybeLaw p P M S (sees m) e) where
-  abbrev Sure : Option A → Words → Type 0
-  Sure None i = ¬ Begins m i
-  Sure (Some x) i = Unit {0}
+  abbrev none_law : Law (pure None) (Nothing None) (Nothing None) Anywhere (option_map e)
+  none_law = nothing_law None
 
-  abbrev Open : Words → Type 0
-  Open j = S j × (sees m j ≡ false)
+  wherever_to : (R : Form A) (x : Option A) (i j : Words) → Or (Made Some R) (Free Refused m none_law) x i j → Wherever m R x i j
+  wherever_to R x i j (inl s) = rw s.1 s.2
+  wherever_to R x i j (inr s) = rw s.0.0 (s.0.1, rw s.0.1 s.1)
 
-  none_read : (i : Words) (x : Option A) (j : Words) → p i ≡ read_as x j → Sure x i
-  none_read i (Some x) j s = tt
-  none_read i None j s = not_begun m i (none_begins a i j s)
-
-  none_spelled : (R : Form A) (x : Option A) (i j : Words) → Optional R x i j → Open j → Sure x i
-  none_spelled R None i j s t = not_begun m i (ap (sees m) s ∙ t.1)
-  none_spelled R (Some x) i j s t = tt
-
-  none_moved : (x y : Option A) (i k : Words) → AreAlike i k → option_map e y ≡ option_map e x → Sure x i → Sure y k
-  none_moved None None i k t n s = alike_not_begun m i k t s
-  none_moved (Some x) None i k t n s = absurd cc
-  none_moved x (Some y) i k t n s = tt
-
-  wherever_to : (R : Form A) (x : Option A) (i j : Words) → Sure x i × Optional R x i j → Wherever m R x i j
-  wherever_to R None i j s = (s.1, s.0)
-  wherever_to R (Some x) i j s = s.1
-
-  wherever_from : (x : Option A) (i j : Words) → Wherever m P x i j → Sure x i × Optional P x i j
-  wherever_from None i j s = (s.1, s.0)
-  wherever_from (Some x) i j s = (tt, s)
+  wherever_from : (x : Option A) (i j : Words) → Wherever m P x i j → Or (Made Some P) (Free Refused m none_law) x i j
+  wherever_from None i j s = inr ((refl, s.0), rw s.0 at s.1)
+  wherever_from (Some x) i j s = inl (x, refl, s)
 
   pub wherever_law : Law p (Wherever m P) (Wherever m M) (λ j. S j × (sees m j ≡ false)) (option_map e)
   wherever_law =
-      as_law (wherever_to P) wherever_from (wherever_to M)
-      (given_law Sure (optional_law a) none_read (none_spelled P) (none_spelled M) none_moved)
+      same_law (λ i. unbarred (sees m i) (and_then (a.item i) (λ x j. read_as (Some x) j)) (Err (Refused i)) (read_as None i) ∙ ap (λ q. q i) a.is) (record {
+        rules = as_rules (wherever_to P) wherever_from (wherever_to M)
+            (either_rules (sees m) a.looks (made_rules Some (λ x. refl) (stops_rules (λ j t. t.0) a.rules))
+            (stops_rules (λ j t. t.1) (free_law Refused m none_law (λ i x k r b. (r.taken, r.at))).rules)
+            (λ x i j s. a.starts s.0 i j s.2) (λ x i j s t. rw s.0.1 t.1));
+        one = (None, [], λ j t. (refl, not_begun m j t.1));
+      })
 
   -- and where the mark itself is allowed for, since the part says that it doesn't stand next
-  pub wherever_read : (x : Option A) (i j : Words) → Wherever m P x i j → S j → p i ≡ read_as x j
-  wherever_read None i j s t =
-      let F : Words → Type 0 = λ l. ¬ Begins m l in ap p s.0 ∙ passes a j (not_seen m j (subst F s.0 s.1))
+  pub wherever_read : Complete p (Wherever m P) S
+  wherever_read None i j s t = ap p s.0 ∙ passes a j (not_seen m j (rw s.0 at s.1))
   wherever_read (Some x) i j s t = some_read a x i j (a.rules.complete x i j s t)
-
--- ---- x, which doesn't begin with this mark: it never does but where it has no words
-
-module _ {A : Type 0} (m : Mark) {p : Parser A} {P M : Form A} {S : Words → Type 0} {e : A → A} (a : Law p P M S e)
-    (apart : (x : A) (i j : Words) → P x i j → sees m j ≡ false → sees m i ≡ false) (apart_more : (x : A) (i j : Words) → M x i j → sees m j ≡ false → sees m i ≡ false) where
-  abbrev Behind : Words → Type 0
-  Behind j = S j × (sees m j ≡ false)
-
-  -- either the mark is refused, or it is read
-  tried_law : Law (unless m p) (Or Never P) (Or Never M) Behind e
-  tried_law = record {
-    rules =
-        either_rules (sees m) (sees_front m) (refuse_rules (λ x i j s. s)) (stops_rules (λ j t. t.0) a.rules) (λ x i j s. absurd s) (λ x i j s t. apart x i j s t.1);
-    one = let o = a.one in (o.0, o.1, λ j t. inr (o.2 j t.0));
-  }
-
-  -- the mark itself is allowed for
-  pub unless_read : (x : A) (i j : Words) → Unless m P x i j → S j → unless m p i ≡ read_as x j
-  unless_read x i j s t = if_false (sees m i) (Err (Refused i)) (p i) (not_seen m i s.0) ∙ a.rules.complete x i j s.1 t
-
-  read_unless : (i : Words) (x : A) (j : Words) → unless m p i ≡ read_as x j → ¬ Begins m i
-  read_unless i x j s b = not_read (Refused i) x j (sym (if_true (sees m i) (Err (Refused i)) (p i) (sees_at m b.0 i b.1 b.2)) ∙ s)
-
-  unbegun : (R : Form A) → ((x : A) (i j : Words) → R x i j → sees m j ≡ false → sees m i ≡ false) → (x : A) (i j : Words) → Or Never R x i j → Behind j → ¬ Begins m i
-  unbegun R never x i j (inl s) t = absurd s
-  unbegun R never x i j (inr s) t = not_begun m i (never x i j s t.1)
-
-  only : (R : Form A) (x : A) (i j : Words) → (¬ Begins m i) × Or Never R x i j → Unless m R x i j
-  only R x i j s = elim s.1 as (λ _. Unless m R x i j) [
-    | inl t ↦ absurd t
-    | inr t ↦ (s.0, t)
-  ]
-
-  pub unless_law : Law (unless m p) (Unless m P) (Unless m M) (λ j. S j × (sees m j ≡ false)) e
-  unless_law =
-      as_law (only P) (λ x i j s. (s.0, inr s.1)) (only M)
-      (given_law (λ x i. ¬ Begins m i) tried_law read_unless (unbegun P apart) (unbegun M apart_more) (λ x y i k t n s. alike_not_begun m i k t s))
