@@ -1,9 +1,7 @@
 -- The laws of channels and their connections.
-use Rattle.std.proofs.Common.{◌≡◌, ◌⊎◌, inl, inr, Bool, true, false, true≢false, if◌then◌else◌, [], ◌∷◌, Option, option_map, Ok, Err, refl, sym, ap, ◌∙◌}
+use Rattle.sdl_behaviour.proofs.Words.{Agent, Anywhere, Bool, Both, ChannelEnd, ChannelPath, Env, Err, Fixed, Followed, Form, IsMark, Law, Made, Nothing, Ok, Option, Optional, Refused, SpellsChannel, SpellsClosing, SpellsConnect, SpellsName, SpellsNoDelay, SpellsPath, SpellsPoint, Spot, Words, [], after, and_then, ap, as_law, behind_law, both_law, closing_begins, closing_law, eat, either, either_as, either_law, end_other, ended_law, erased_channel, erased_connection, erased_end, erased_path, expect, false, followed_law, front, if◌then◌else◌, inl, inr, made, made_as, made_law, mark_law, maybe_mark, name_law, nothing_law, option_map, optional_law, pure, read_as, record_law, refl, rest, same_law, same_mark, sees, sees_at, sees_front, sigs_law, stops_law, then_law, tied_law, true, ◌∙◌, ◌∷◌, ◌≡◌, ◌⊎◌}
 use Rattle.sdl_tree.specs.declared.mark.Mark.TheVariants as mark
-use Rattle.sdl_read.proofs.Grammar.{erased_end, erased_path, erased_channel, erased_connection, SpellsPoint, SpellsPath, SpellsNoDelay, SpellsChannel, SpellsConnect, IsMark, Both, Followed, Optional, SpellsName, SpellsClosing, ChannelEnd, Env, Agent, ChannelPath, Words, Spot, Fixed, Refused, and_then, pure, either, made, expect, eat, after, front, rest, sees, same_mark}
 use Rattle.sdl_parse.specs.Channels.{point, path_with, path, paths, channel_with, channel, connection_with, connect}
-use Rattle.sdl_read.proofs.AllLaws.{Form, Law, Anywhere, Made, Nothing, made_as, either_as, mark_law, as_law, same_law, stops_law, nothing_law, tied_law, both_law, then_law, behind_law, made_law, either_law, optional_law, name_law, closing_begins, closing_law, ended_law, end_other, followed_law, record_law, maybe_mark, sigs_law, read_as, sees_at, sees_front}
 use Rattle.sdl_parse.proofs.Stops.{names_law, closed_same}
 
 pub point_law : Law point SpellsPoint SpellsPoint Anywhere erased_end
@@ -21,8 +19,7 @@ point_law =
 -- "from" point "to" point "with" sigs end
 pub path_law : Law path SpellsPath SpellsPath Anywhere erased_path
 unfolding path
-path_law =
-    record_law path_with (λ y. (y.from, (y.to, y.signals))) (λ x. refl) (λ x. refl) (λ y. refl)
+path_law = record_law path_with (λ y. (y.from, (y.to, y.signals))) (λ x. refl) (λ x. refl) (λ y. refl)
     (behind_law mark.From (then_law point_law (behind_law mark.To (then_law point_law (behind_law mark.With sigs_law)))))
 
 -- ---- ["nodelay"]
@@ -30,26 +27,21 @@ path_law =
 eat_same : (i : Words) → either (sees mark.NoDelay) (made (λ _. true) (expect mark.NoDelay)) (pure false) i ≡ eat mark.NoDelay i
 unfolding expect sees after front rest
 eat_same [] = refl
-eat_same (Fixed n s ∷ i) = by (same_mark n mark.NoDelay)
-  where
-    by : (b : Bool) → (if b then and_then (if b then Ok (s, i) else Err (Refused (Fixed n s ∷ i))) (λ _ j. read_as true j) else read_as false (Fixed n s ∷ i))
-        ≡ read_as b (if b then i else Fixed n s ∷ i)
-    by true = refl
-    by false = refl
+eat_same (Fixed n s ∷ i) =
+    elim (same_mark n mark.NoDelay) as (λ b.
+    (if b then and_then (if b then Ok (s, i) else Err (Refused (Fixed n s ∷ i))) (λ _ j. read_as true j) else read_as false (Fixed n s ∷ i))
+    ≡ read_as b (if b then i else Fixed n s ∷ i)) [ true ↦ refl | false ↦ refl ]
 eat_same (w ∷ i) = refl
 
 nodelay_law : Law (eat mark.NoDelay) SpellsNoDelay SpellsNoDelay (λ j. sees mark.NoDelay j ≡ false) (λ b. b)
-nodelay_law =
-    same_law eat_same
+nodelay_law = same_law eat_same
     (as_law to from to
     (either_law (sees mark.NoDelay) (sees_front mark.NoDelay) (stops_law (λ j t. tt) (made_law (λ _. true) (λ x. refl) (mark_law mark.NoDelay))) (nothing_law false)
     (λ b i j s. sees_at mark.NoDelay s.0 i j s.2) (λ b i j s t. ap (sees mark.NoDelay) s.1 ∙ t)))
   where
     to : (b : Bool) (i j : Words) → Made (λ _. true) (IsMark mark.NoDelay) b i j ⊎ Nothing false b i j → SpellsNoDelay b i j
-    to true i j (inl s) = (s.0, s.2)
-    to false i j (inl s) = absurd (true≢false (sym s.1))
-    to true i j (inr s) = absurd (true≢false s.0)
-    to false i j (inr s) = s.1
+    to b i j (inl s) = rw s.1 (s.0, s.2)
+    to b i j (inr s) = rw s.0 s.1
 
     from : (b : Bool) (i j : Words) → SpellsNoDelay b i j → Made (λ _. true) (IsMark mark.NoDelay) b i j ⊎ Nothing false b i j
     from true i j s = inl (s.0, refl, s.1)
@@ -77,7 +69,6 @@ channel_law =
 
 pub connect_law : Law connect SpellsConnect SpellsConnect Anywhere erased_connection
 unfolding connect sees front same_mark
-connect_law =
-    record_law connection_with (λ y. (y.word, (y.outer, y.inner))) (λ x. refl) (λ x. refl) (λ y. refl)
+connect_law = record_law connection_with (λ y. (y.word, (y.outer, y.inner))) (λ x. refl) (λ x. refl) (λ y. refl)
     (then_law (mark_law mark.Connect)
     (both_law names_law (behind_law mark.And (ended_law names_law (λ i j s. (tt, end_other mark.Comma refl refl i j s)))) (λ y m j s t. (tt, ap (sees mark.Comma) s.2))))

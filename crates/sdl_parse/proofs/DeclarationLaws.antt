@@ -1,11 +1,9 @@
 -- The laws of synonyms, parameters, variables and timers.
-use Rattle.std.proofs.Common.{◌≡◌, ℕ, suc, false, map, Option, option_map, refl, ap}
-use Rattle.sdl_read.proofs.Grammar.{erased_expr, erased_synonym, erased_synonyms, erased_parameters, erased_fpar, erased_variables, erased_timer, erased_timers, SpellsSynonymName, SpellsSynonym, SpellsParameters, SpellsFpar, SpellsInitial, SpellsVariables, SpellsDcl, SpellsOne, loosest, SpellsExpr, Behind, Optional, SpellsName, SpellsEnd, Expr, Words, front, sees, same_mark}
+use Rattle.sdl_behaviour.proofs.Words.{Anywhere, Behind, Expr, Law, Option, Optional, SpellsDcl, SpellsEnd, SpellsExpr, SpellsFpar, SpellsInitial, SpellsName, SpellsOne, SpellsParameters, SpellsSynonym, SpellsSynonymName, SpellsVariables, Stops, Words, ap, behind_law, both_law, end_other, ended_law, erased_expr, erased_fpar, erased_parameters, erased_synonym, erased_synonyms, erased_timer, erased_timers, erased_variables, expr_law, false, front, loosest, map, mark_law, maybe_mark, name_law, name_takes, no_words, option_map, optional_law, record_law, refl, same_mark, sees, separated_law, separated_takes, sort_law, sorts_law, stops_at, stops_end, stops_last, stops_law, suc, then_law, ℕ, ◌≡◌}
 use Rattle.sdl_tree.specs.declared.mark.Mark.TheVariants as mark
 use Rattle.sdl_tree.specs.Spells.{SpellsTimer}
 use Rattle.sdl_parse.specs.Synonyms.{synonym_with, synonym_name, synonyms_with, synonym}
 use Rattle.sdl_parse.specs.Declarations.{parameters_with, parameters, fpar_with, fpar, some_fpar, initial, variables_with, variables, dcl, timer_with, one, timers_with, timer}
-use Rattle.sdl_read.proofs.AllLaws.{expr_law, Law, Anywhere, mark_law, stops_law, both_law, then_law, behind_law, optional_law, separated_law, separated_takes, Stops, stops_last, stops_at, stops_end, end_other, name_law, name_takes, ended_law, record_law, maybe_mark, sort_law, sorts_law, no_words}
 use Rattle.sdl_behaviour.proofs.EndingLaws.{name_no_mark}
 use Rattle.sdl_parse.proofs.Stops.{optional_at, names_law}
 
@@ -13,14 +11,12 @@ use Rattle.sdl_parse.proofs.Stops.{optional_at, names_law}
 
 synonym_name_law : (d : ℕ) → Law (synonym_name d) (SpellsSynonymName d) (SpellsSynonymName (suc d)) (Stops loosest) erased_synonym
 unfolding synonym_name
-synonym_name_law d =
-    record_law synonym_with (λ y. (y.name, (y.sort, y.value))) (λ x. refl) (λ x. refl) (λ y. refl)
+synonym_name_law d = record_law synonym_with (λ y. (y.name, (y.sort, y.value))) (λ x. refl) (λ x. refl) (λ y. refl)
     (then_law name_law (then_law sort_law (behind_law mark.Equal (expr_law d))))
 
 pub synonym_law : (d : ℕ) → Law (synonym d) (SpellsSynonym d) (SpellsSynonym (suc d)) Anywhere erased_synonyms
 unfolding synonym same_mark
-synonym_law d =
-    record_law synonyms_with (λ y. (y.word, y.synonyms)) (λ x. refl) (λ x. refl) (λ y. refl)
+synonym_law d = record_law synonyms_with (λ y. (y.word, y.synonyms)) (λ x. refl) (λ x. refl) (λ y. refl)
     (then_law (mark_law mark.Synonym)
     (ended_law (separated_law (synonym_name_law d) (λ x j s. no_words s.1) (stops_at mark.Comma refl loosest) (stops_last loosest))
     (λ i j s. (stops_end loosest i j s, end_other mark.Comma refl refl i j s))))
@@ -29,14 +25,12 @@ synonym_law d =
 
 parameters_law : Law parameters SpellsParameters SpellsParameters Anywhere erased_parameters
 unfolding parameters
-parameters_law =
-    record_law parameters_with (λ y. (y.names, y.sort)) (λ x. refl) (λ x. refl) (λ y. refl)
+parameters_law = record_law parameters_with (λ y. (y.names, y.sort)) (λ x. refl) (λ x. refl) (λ y. refl)
     (both_law names_law sort_law (λ y m j s t. (tt, name_no_mark mark.Comma y m j s)))
 
 fpar_law : Law fpar SpellsFpar SpellsFpar Anywhere erased_fpar
 unfolding fpar same_mark
-fpar_law =
-    record_law fpar_with (λ y. (y.word, y.groups)) (λ x. refl) (λ x. refl) (λ y. refl)
+fpar_law = record_law fpar_with (λ y. (y.word, y.groups)) (λ x. refl) (λ x. refl) (λ y. refl)
     (then_law (mark_law mark.Fpar)
     (ended_law (separated_law parameters_law (λ x j s. separated_takes SpellsName name_takes x.names s.0 s.1) (λ s m. tt) tt) (λ i j s. (tt, end_other mark.Comma refl refl i j s))))
 
@@ -59,14 +53,12 @@ initial_end i j s = ((stops_end loosest i j s, end_other mark.Assign refl refl i
 
 variables_law : (d : ℕ) → Law (variables d) (SpellsVariables d) (SpellsVariables (suc d)) BehindInitial erased_variables
 unfolding variables
-variables_law d =
-    record_law variables_with (λ y. (y.names, (y.sort, y.initial))) (λ x. refl) (λ x. refl) (λ y. refl)
+variables_law d = record_law variables_with (λ y. (y.names, (y.sort, y.initial))) (λ x. refl) (λ x. refl) (λ y. refl)
     (both_law names_law (then_law sort_law (initial_law d)) (λ y m j s t. (tt, name_no_mark mark.Comma y.0 m s.0 s.1)))
 
 pub dcl_law : (d : ℕ) → Law (dcl d) (SpellsDcl d) (SpellsDcl (suc d)) Anywhere (map erased_variables)
 unfolding dcl sees front same_mark
-dcl_law d =
-    behind_law mark.Dcl
+dcl_law d = behind_law mark.Dcl
     (ended_law (separated_law (variables_law d) (λ x j s. separated_takes SpellsName name_takes x.names s.0 s.1) (λ s m. (stops_at mark.Comma refl loosest s m, refl)) (stops_last loosest, refl)) initial_end)
 
 -- ---- timers
@@ -82,14 +74,12 @@ duration_unseen d x i j s t = optional_at (Behind mark.Assign (SpellsExpr d)) (�
 
 one_law : (d : ℕ) → Law (one d) (SpellsOne d) (SpellsOne (suc d)) BehindTimer erased_timer
 unfolding one
-one_law d =
-    record_law timer_with (λ y. (y.name, (y.sorts, y.duration))) (λ x. refl) (λ x. refl) (λ y. refl)
+one_law d = record_law timer_with (λ y. (y.name, (y.sorts, y.duration))) (λ x. refl) (λ x. refl) (λ y. refl)
     (then_law name_law (both_law sorts_law (stops_law (λ j t. t.0) (initial_law d)) (duration_unseen d)))
 
 pub timer_law : (d : ℕ) → Law (timer d) (SpellsTimer d) (SpellsTimer (suc d)) Anywhere erased_timers
 unfolding timer sees front same_mark
-timer_law d =
-    record_law timers_with (λ y. (y.word, y.timers)) (λ x. refl) (λ x. refl) (λ y. refl)
+timer_law d = record_law timers_with (λ y. (y.word, y.timers)) (λ x. refl) (λ x. refl) (λ y. refl)
     (then_law (mark_law mark.Timer)
     (ended_law
     (separated_law (one_law d) (λ x j s. no_words s.1) (λ s m. ((stops_at mark.Comma refl loosest s m, refl), refl)) ((stops_last loosest, refl), refl))

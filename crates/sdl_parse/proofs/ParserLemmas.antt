@@ -1,18 +1,16 @@
 -- What a fault of the reading says of the text.
-use Rattle.std.proofs.Common.{◌≡◌, ◌≤◌, ℕ, List, [], ◌∷◌, ◌++◌, Option, Some, length, codes, Err, refl, ap, ◌∙◌, subst}
+use Rattle.sdl_behaviour.proofs.Words.{Barred, Deep, Err, Fails, Fixed, IsBarred, IsLeftOut, IsRest, List, Refused, Some, Tree, Word, Words, ap, codes, front, length, limit, read_as, refl, stands, word_place, words_of, ℕ, ◌++◌, ◌∙◌, ◌∷◌, ◌≡◌, ◌≤◌}
 use Rattle.std.specs.String.{string_bytes}
 use Rattle.sdl_lex.specs.declared.place.Place.{Place}
 use Rattle.sdl_lex.specs.declared.token.Token.{Token}
 use Rattle.sdl_lex.specs.Part.{Lexes}
 use Rattle.sdl_tree.specs.declared.mark.Mark.TheVariants as mark
-use Rattle.sdl_read.proofs.Grammar.{IsLeftOut, IsBarred, SpellsTree, limit, Tree, Word, Words, Fixed, words_of, word_place, Refusal, Refused, Deep, Barred, front, Fails}
 use Rattle.sdl_tree.specs.Words as word
 use Rattle.sdl_read.specs.declared.fault.Fault.{Fault}
 use Rattle.sdl_read.specs.declared.fault.Fault.TheVariants as fault
-use Rattle.sdl_read.proofs.AllLaws.{read_as, IsRest, stands}
 use Rattle.sdl_parse.specs.declared.error.ParseError.{ParseError}
-use Rattle.sdl_parse.specs.declared.error.ParseError.TheVariants.{Lex, Expected, LeftOut, TooDeep, Memory}
-use Rattle.sdl_parse.specs.Parser.{HasNoTree, StandsAt, TooMany, SpellsText, Refuses, TellsWord, IsPlaceOf, Tells}
+use Rattle.sdl_parse.specs.declared.error.ParseError.TheVariants.{Expected, LeftOut, TooDeep, Memory}
+use Rattle.sdl_parse.specs.Parser.{StandsAt, TooMany, SpellsText, Refuses, TellsWord, IsPlaceOf, Tells}
 use Rattle.sdl_parse.specs.Systems.{specification}
 use Rattle.sdl_parse.proofs.SystemLaws.{specification_sound, specification_one, specification_refused, specification_told, specification_law}
 
@@ -28,30 +26,22 @@ module _ (text : List ℕ) (tokens : List Token) where
   abbrev whole : Words
   whole = words_of text tokens
 
-  no_tree : (r : Refusal) → specification limit whole ≡ Err r → HasNoTree whole
-  no_tree r e t s = specification_refused limit whole r e t s
-
   at_place : (place : Place) (left : Words) (w : Word) (back : Words) → left ≡ w ∷ back → IsPlaceOf place (front left) → place ≡ word_place w
-  at_place place left w back e at = let F : Option Word → Type 0 = λ o. IsPlaceOf place o in subst F (ap front e ∙ front_of w back) at
+  at_place place left w back e placed = rw (ap front e ∙ front_of w back) at placed
 
   -- a string and a left-out word
   word_told : (place : Place) (told : List ℕ) (left : Words) → IsRest whole left → TellsWord place told (front left) → StandsAt place (λ before rest. IsLeftOut whole rest told) whole
   unfolding front
-  word_told place told [] r t = absurd t
-  word_told place told (Fixed m s ∷ back) r t = absurd t
-  word_told place told (word.Name x ∷ back) r t = absurd t
-  word_told place told (word.Number n x ∷ back) r t = absurd t
   word_told place told (word.Text x ∷ back) r t = (r.0, word.Text x, back, r.1, t.0, t.1)
   word_told place told (word.LeftOut lower x ∷ back) r t = (r.0, word.LeftOut lower x, back, r.1, t.0, t.1)
+  word_told place told left r t = absurd t
 
   -- a condition behind a priority input
   barred_told : (place : Place) (told : List ℕ) (left : Words) → IsRest whole left → IsBarred whole left → IsPlaceOf place (front left) → told ≡ codes "provided"
       → StandsAt place (λ before rest. IsLeftOut whole rest told) whole
   barred_told place told left r n at is =
-      let w : Word = Fixed mark.Provided n.5.0 in
       let back : Words = n.5.1 in
-      let F : Words → Type 0 = λ k. IsBarred whole k in
-      (r.0, w, back, r.1 ∙ ap (λ k. r.0 ++ k) n.5.2, at_place place left w back n.5.2 at, (is, subst F n.5.2 n))
+      let w : Word = Fixed mark.Provided n.5.0 in (r.0, w, back, r.1 ∙ ap (λ k. r.0 ++ k) n.5.2, at_place place left w back n.5.2 at, (is, rw n.5.2 at n))
 
   deep_told : (place : Place) (left : Words) → specification limit whole ≡ Err (Deep left) → IsPlaceOf place (front left) → StandsAt place TooMany whole
   deep_told place left e at =
@@ -59,29 +49,19 @@ module _ (text : List ℕ) (tokens : List Token) where
       (c.0, c.2, c.1, c.3, at_place place left c.2 c.1 c.4 at, c.5)
 
   pub refuses : length text ≤ 1048576 → Lexes text tokens → (e : ParseError) (f : Fault) (left : Words) → Fails (specification limit whole) f left → Tells e f (front left) → Refuses e text
-  refuses short lexes (Lex error) f left o t = absurd t
-  refuses short lexes (Expected place wanted) (fault.Expected w) left o t = (short, tokens, lexes, no_tree (Refused left) o)
-  refuses short lexes (Expected place wanted) fault.Condition left o t = absurd t
-  refuses short lexes (Expected place wanted) fault.TooDeep left o t = absurd t
-  refuses short lexes (Expected place wanted) fault.Memory left o t = absurd t
+  refuses short lexes Memory f left o t = tt
+  refuses short lexes (Expected place wanted) (fault.Expected w) left o t = (short, tokens, lexes, specification_refused limit whole (Refused left) o)
   refuses short lexes (LeftOut place s) (fault.Expected w) left o t =
-      (short, tokens, lexes, (no_tree (Refused left) o, word_told place (string_bytes s) left (stands (specification_law limit).rules whole (Refused left) o) t))
+      (short, tokens, lexes, (specification_refused limit whole (Refused left) o, word_told place (string_bytes s) left (stands (specification_law limit).rules whole (Refused left) o) t))
   refuses short lexes (LeftOut place s) fault.Condition left o t =
       let at = stands (specification_law limit).rules whole (Barred left) o in
-      (short, tokens, lexes, (no_tree (Barred left) o, barred_told place (string_bytes s) left at.0 at.1 t.0 t.1))
-  refuses short lexes (LeftOut place s) fault.TooDeep left o t = absurd t
-  refuses short lexes (LeftOut place s) fault.Memory left o t = absurd t
-  refuses short lexes (TooDeep place) (fault.Expected w) left o t = absurd t
-  refuses short lexes (TooDeep place) fault.Condition left o t = absurd t
-  refuses short lexes (TooDeep place) fault.TooDeep left o t = (short, tokens, lexes, (no_tree (Deep left) o, deep_told place left o t))
-  refuses short lexes (TooDeep place) fault.Memory left o t = absurd t
-  refuses short lexes Memory f left o t = tt
+      (short, tokens, lexes, (specification_refused limit whole (Barred left) o, barred_told place (string_bytes s) left at.0 at.1 t.0 t.1))
+  refuses short lexes (TooDeep place) fault.TooDeep left o t = (short, tokens, lexes, (specification_refused limit whole (Deep left) o, deep_told place left o t))
+  refuses short lexes e f left o t = absurd t
 
   pub found : length text ≤ 1048576 → Lexes text tokens → (t : Tree) (j : Words) → specification limit whole ≡ read_as t j → SpellsText t text
   found short lexes t j e = (short, tokens, lexes, specification_sound limit whole t j e)
 
 -- a text has one tree
 pub one : OneList → (t other : Tree) (text : List ℕ) → SpellsText t text → SpellsText other text → t ≡ other
-one lists t other text s o =
-    let F : List Token → Type 0 = λ tokens. SpellsTree limit other (words_of text tokens) in
-    specification_one limit t other (words_of text s.1) s.3 (subst F (lists text o.1 s.1 o.2 s.2) o.3)
+one lists t other text s o = specification_one limit t other (words_of text s.1) s.3 (rw (lists text o.1 s.1 o.2 s.2) at o.3)

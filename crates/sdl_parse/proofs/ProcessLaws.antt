@@ -1,13 +1,11 @@
 -- The laws of processes.
-use Rattle.std.proofs.Common.{◌≡◌, ℕ, suc, inl, inr, true, false, List, ◌∷◌, map, Option, option_map, refl, sym, ap, subst}
+use Rattle.sdl_behaviour.proofs.Words.{Anywhere, BodyPart, Both, Choice, Counts, Ended, Expr, Fixed, Followed, Form, FormalParameters, Law, List, LocalDefinition, LocalSignalList, LocalSignalSet, LocalSignals, LocalSynonyms, Made, Option, Optional, Or, Repeated, SpellsBodyPart, SpellsBound, SpellsClosing, SpellsCounts, SpellsDcl, SpellsExpr, SpellsFpar, SpellsInner, SpellsPdef, SpellsProcess, SpellsSignal, SpellsSignalList, SpellsSignalSet, SpellsStart, SpellsSynonym, Spot, Start, Stops, Timers, Variables, Words, ap, as_choice, before_law, begins_unseen, behind_law, both_law, closed_list_law, closing_begins, either_as, end_other, ended_law, erased_body_part, erased_bound, erased_counts, erased_expr, erased_fpar, erased_local, erased_process, erased_start, expr_law, false, front, inl, inr, level_begins, loosest, made_as, made_law, map, mark_law, maybe_choice, maybe_law, maybe_mark, name_law, one_choice, option_map, optional_law, or_choice, record_law, refl, repeated_law, same_mark, sees, sees_one, signal_law, signal_list_law, signal_set_law, stops_at, subst, suc, sym, then_law, tied_law, true, unary_mark, value_mark, ℕ, ◌∷◌, ◌≡◌}
 use Rattle.sdl_tree.specs.declared.expressions.KeywordValue.TheVariants as value
 use Rattle.sdl_tree.specs.declared.expressions.UnaryOperator.TheVariants as unary
 use Rattle.sdl_tree.specs.declared.mark.Mark.TheVariants as mark
 use Rattle.sdl_tree.specs.Spells.{SpellsTimer}
 use Rattle.sdl_tree.specs.Spells.Expressions.{SpellsTimer as SpellsKeys}
-use Rattle.sdl_read.proofs.Grammar.{KeywordValue, UnaryOperator, Spelling, erased_name, erased_expr, erased_bound, erased_counts, erased_fpar, erased_local, erased_start, erased_body_part, erased_process, SpellsBound, SpellsCounts, SpellsFpar, SpellsSignal, SpellsSignalList, SpellsSynonym, SpellsSignalSet, SpellsDcl, SpellsPdef, SpellsProcess, SpellsStart, SpellsBodyPart, loosest, value_mark, unary_mark, SpellsInner, SpellsExpr, Both, Followed, Optional, Repeated, Ended, SpellsClosing, Expr, Counts, FormalParameters, LocalDefinition, LocalSignals, LocalSignalList, LocalSynonyms, LocalSignalSet, Variables, Timers, Start, BodyPart, Words, Spot, Fixed, front, sees, same_mark, sees_one}
 use Rattle.sdl_parse.specs.Processes.{begins_expression_by, begins_expression, count, bound_with, bound, counts_with, counts, local_marks, some_local, local_definition, inside, process_with, process}
-use Rattle.sdl_read.proofs.AllLaws.{level_begins, expr_law, Form, Law, Anywhere, Made, Or, made_as, either_as, mark_law, tied_law, both_law, then_law, behind_law, before_law, made_law, maybe_law, optional_law, repeated_law, Stops, stops_at, name_law, closing_begins, closed_list_law, ended_law, end_other, record_law, begins_unseen, maybe_mark, Choice, one_choice, or_choice, as_choice, maybe_choice, signal_law, signal_list_law, signal_set_law}
 use Rattle.sdl_behaviour.proofs.StateLaws.{body_part_law, part_at, part_last, part_ends}
 use Rattle.sdl_behaviour.proofs.StepLaws.{NoStatement}
 use Rattle.sdl_behaviour.proofs.StimulusLaws.{start_law}
@@ -16,21 +14,12 @@ use Rattle.sdl_parse.proofs.Stops.{optional_at, repeated_at}
 
 -- ---- [expr]
 
-value_opens : (v : KeywordValue) (s : Spelling) (k : Words) → begins_expression (Fixed (value_mark v) s ∷ k) ≡ true
-unfolding begins_expression front
-value_opens value.True s k = refl
-value_opens v s k = refl
-
-unary_opens : (o : UnaryOperator) (s : Spelling) (k : Words) → begins_expression (Fixed (unary_mark o) s ∷ k) ≡ true
-unfolding begins_expression front
-unary_opens unary.Minus s k = refl
-unary_opens o s k = refl
-
 -- what spells an expression begins one
 expression_begins : (d : ℕ) (e : Expr) (i j : Words) → SpellsExpr d e i j → begins_expression i ≡ true
 unfolding begins_expression front
-expression_begins d =
-    level_begins (λ i. begins_expression i ≡ true) (λ x k. refl) (λ n k. refl) value_opens (λ s k. refl) (λ s k. refl) (SpellsInner d) (SpellsKeys d) unary_opens loosest
+expression_begins d = level_begins (λ i. begins_expression i ≡ true) (λ x k. refl) (λ n k. refl)
+    (λ v s k. elim v as (λ u. begins_expression (Fixed (value_mark u) s ∷ k) ≡ true) [ value.True ↦ refl | _ ↦ refl ]) (λ s k. refl) (λ s k. refl) (SpellsInner d) (SpellsKeys d)
+    (λ o s k. elim o as (λ u. begins_expression (Fixed (unary_mark u) s ∷ k) ≡ true) [ unary.Minus ↦ refl | _ ↦ refl ]) loosest
 
 -- where a count stops, and none begins
 abbrev BehindCount : Words → Type 0
@@ -43,14 +32,12 @@ count_law d = optional_law (maybe_law begins_expression (λ i k same. ap begins_
 -- ---- counts
 
 bound_law : (d : ℕ) → Law (bound d) (Optional (SpellsBound d)) (Optional (SpellsBound (suc d))) (λ j. BehindCount j × (sees mark.Comma j ≡ false)) (option_map erased_bound)
-bound_law d =
-    optional_law (maybe_mark mark.Comma
+bound_law d = optional_law (maybe_mark mark.Comma
     (record_law bound_with (λ b. b.maximum) (λ x. refl) (λ x. refl) (λ b. refl) (behind_law mark.Comma (count_law d))) (λ b i j s. (s.0, s.1, s.2)))
 
 counts_law : (d : ℕ) → Law (counts d) (Optional (SpellsCounts d)) (Optional (SpellsCounts (suc d))) (λ j. Anywhere j × (sees mark.Open j ≡ false)) (option_map erased_counts)
 unfolding begins_expression sees front same_mark
-counts_law d =
-    optional_law (maybe_mark mark.Open
+counts_law d = optional_law (maybe_mark mark.Open
     (record_law counts_with (λ c. (c.parenthesis, (c.initial, c.bound))) (λ x. refl) (λ x. refl) (λ c. refl)
     (then_law (mark_law mark.Open)
     (before_law mark.Close
@@ -82,8 +69,7 @@ local_from d (Timers x) i j s = inr (inr (inr (inr (inr (x, refl, s)))))
 
 local_choice : (d : ℕ) → Choice (some_local d) (SpellsPdef d) (SpellsPdef (suc d)) Anywhere local_marks erased_local
 unfolding same_mark
-local_choice d =
-    as_choice (local_to d) (local_from d) (local_to (suc d))
+local_choice d = as_choice (local_to d) (local_from d) (local_to (suc d))
     (or_choice mark.Signal _ refl (made_law LocalSignals (λ x. refl) signal_law) (λ x i j s. (s.2.0, s.2.1, s.2.2))
     (or_choice mark.SignalList _ refl (made_law LocalSignalList (λ x. refl) signal_list_law) (λ x i j s. (s.0.word, s.2.0, s.2.1))
     (or_choice mark.Synonym _ refl (made_law LocalSynonyms (λ x. refl) (synonym_law d)) (λ x i j s. (s.0.word, s.2.0, s.2.1))
@@ -94,8 +80,7 @@ local_choice d =
 -- ---- processes
 
 abbrev SpellsInside : ℕ → Spot → Form (Option Counts × (Option FormalParameters × (List LocalDefinition × (Start × List BodyPart))))
-SpellsInside d x =
-    Both (Ended (Optional (SpellsCounts d)))
+SpellsInside d x = Both (Ended (Optional (SpellsCounts d)))
     (Both (Optional SpellsFpar) (Both (Repeated (SpellsPdef d)) (Both (SpellsStart d) (Followed (Repeated (SpellsBodyPart d)) (SpellsClosing mark.EndProcess x.text)))))
 
 pub process_law : (d : ℕ) → Law (process d) (SpellsProcess d) (SpellsProcess (suc d)) Anywhere erased_process
@@ -103,7 +88,8 @@ unfolding process local_definition sees front same_mark
 process_law d =
     record_law process_with (λ p. (p.word, (p.name, (p.counts, (p.parameters, (p.definitions, (p.start, p.body)))))))
     (λ x. refl) (λ x. refl) (λ p. refl)
-    (then_law (mark_law mark.Process) (tied_law name_law inside_law (λ x y m j s t. tt) inside_same))
+    (then_law (mark_law mark.Process)
+    (tied_law name_law inside_law (λ x y m j s t. tt) (λ x y e z i j s. let R : Spot → Type 0 = λ w. SpellsInside d w z i j in subst R e s)))
   where
     -- what stands behind a start
     body_stops : (x : Spot) (y : List BodyPart) (m j : Words) → Followed (Repeated (SpellsBodyPart d)) (SpellsClosing mark.EndProcess x.text) y m j → NoStatement m
@@ -119,8 +105,7 @@ process_law d =
 
     inside_law : (x : Spot) → Law (inside d x) (SpellsInside d x) (SpellsInside (suc d) x) Anywhere
         (λ y. (option_map erased_counts y.0, (option_map erased_fpar y.1.0, (map erased_local y.1.1.0, (erased_start y.1.1.1.0, map erased_body_part y.1.1.1.1)))))
-    inside_law x =
-        then_law (ended_law (counts_law d) (λ i j s. (tt, end_other mark.Open refl refl i j s)))
+    inside_law x = then_law (ended_law (counts_law d) (λ i j s. (tt, end_other mark.Open refl refl i j s)))
         (both_law some_fpar_law
         (both_law (repeated_law (maybe_choice local_marks (local_choice d)) (λ i t. tt) tt)
         (both_law (start_law d)
@@ -128,7 +113,3 @@ process_law d =
         (λ y m j s t. body_stops x y m j s))
         (λ y m j s t. (tt, ap (sees_one local_marks) s.1.1.1)))
         (λ y m j s t. (tt, no_fpar y.0 y.1.0 m s.0 s.2.0 s.1 s.2.1)))
-
-    inside_same : (x y : Spot) → erased_name x ≡ erased_name y → (z : Option Counts × (Option FormalParameters × (List LocalDefinition × (Start × List BodyPart)))) (i j : Words)
-        → SpellsInside d x z i j → SpellsInside d y z i j
-    inside_same x y e z i j s = let R : Spot → Type 0 = λ w. SpellsInside d w z i j in subst R e s

@@ -1,19 +1,17 @@
 -- What stops where, and what goes on with what.
-use Rattle.std.proofs.Common.{◌≡◌, map, false, List, [], ◌∷◌, Option, Some, None, sym, subst}
+use Rattle.sdl_behaviour.proofs.Words.{Anywhere, Followed, Form, Law, List, Mark, None, Option, Optional, Repeated, Separated, Some, SpellsClosing, SpellsName, Spot, Words, [], erased_name, false, map, name, name_law, name_takes, sees, separated, separated_law, subst, ◌∷◌, ◌≡◌}
 use Rattle.sdl_tree.specs.declared.mark.Mark.TheVariants as mark
-use Rattle.sdl_read.proofs.Grammar.{Mark, erased_name, Followed, Optional, Separated, Repeated, SpellsName, SpellsClosing, Words, Spot, sees, name, separated}
-use Rattle.sdl_read.proofs.AllLaws.{Form, Law, Anywhere, separated_law, name_law, name_takes}
 
 -- what holds before a part that may be left out
 pub optional_at : {A : Type 0} (P : Form A) (C : Words → Type 0) → ((x : A) (i j : Words) → P x i j → C i)
     → (x : Option A) (i j : Words) → Optional P x i j → C j → C i
-optional_at P C some None i j s t = subst C (sym s) t
+optional_at P C some None i j s t = rw s t
 optional_at P C some (Some x) i j s t = some x i j s
 
 -- what holds before a list
 pub repeated_at : {A : Type 0} (P : Form A) (C : Words → Type 0) → ((x : A) (i j : Words) → P x i j → C i)
     → (xs : List A) (i j : Words) → Repeated P xs i j → C j → C i
-repeated_at P C some [] i j s t = subst C (sym s) t
+repeated_at P C some [] i j s t = rw s t
 repeated_at P C some (x ∷ xs) i j s t = some x i s.0 s.1
 
 pub names_law : Law (separated name) (Separated SpellsName) (Separated SpellsName) (λ j. Anywhere j × (sees mark.Comma j ≡ false)) (map erased_name)

@@ -1,9 +1,7 @@
 -- The laws of blocks and of the system.
-use Rattle.std.proofs.Common.{◌≡◌, ℕ, suc, ◌⊎◌, inl, inr, List, [], ◌∷◌, ◌++◌, Option, Some, None, Err, refl, sym, ap, ◌∙◌, subst}
-use Rattle.sdl_read.proofs.Grammar.{AreAlike, erased_definition, erased_block_part, erased_block, erased_system_definition, erased, SpellsSignal, SpellsSignalList, SpellsSynonym, SpellsChannel, SpellsProcess, SpellsConnect, SpellsDef, SpellsBlockPart, SpellsBlock, SpellsSystemDef, SpellsTree, Behind, Followed, Repeated, SpellsName, Ended, SpellsClosing, Definition, Signals, SignalList, Synonyms, Channel, Process, BlockPart, InBlock, Connect, SystemDefinition, InSystem, Block, Tree, Word, Words, Spot, Refusal, Deep, made, front, sees, same_mark, name, sees_one, OpensTooMany}
+use Rattle.sdl_behaviour.proofs.Words.{Anywhere, AreAlike, Behind, Block, BlockPart, Channel, Choice, Connect, Deep, Definition, Ended, Err, Followed, Form, Gives, GoodAfter, InBlock, InSystem, Law, List, Made, MaybeLaw, None, OpensTooMany, Option, Or, Process, Refusal, Repeated, SignalList, Signals, Some, SpellsBlock, SpellsBlockPart, SpellsChannel, SpellsClosing, SpellsConnect, SpellsDef, SpellsName, SpellsProcess, SpellsSignal, SpellsSignalList, SpellsSynonym, SpellsSystemDef, SpellsTree, Spot, Synonyms, SystemDefinition, Tied, Tree, Word, Words, [], ap, as_choice, behind_law, closed_list_law, either_as, ended_law, erased, erased_block, erased_block_part, erased_definition, erased_system_definition, followed_law, front, inl, inr, made, made_as, made_law, mark_law, maybe_choice, name, name_law, not_refused, one_choice, or_choice, read_as, record_law, refl, rest_here, same_mark, same_value, sees, sees_one, signal_law, signal_list_law, sound, subst, suc, sym, then_law, tied_law, was_told, whole, ℕ, ◌++◌, ◌∙◌, ◌∷◌, ◌≡◌, ◌⊎◌}
 use Rattle.sdl_tree.specs.declared.mark.Mark.TheVariants as mark
 use Rattle.sdl_parse.specs.Systems.{definition_marks, definition, block_part, block_with, block, system_definition, at_end, tree_with, system, specification}
-use Rattle.sdl_read.proofs.AllLaws.{Form, Gives, Law, MaybeLaw, Anywhere, GoodAfter, Made, Or, made_as, either_as, Tied, sound, was_told, mark_law, tied_law, then_law, behind_law, made_law, name_law, whole, closed_list_law, ended_law, followed_law, record_law, Choice, one_choice, or_choice, as_choice, maybe_choice, signal_law, signal_list_law, read_as, rest_here, same_value, not_refused}
 use Rattle.sdl_parse.proofs.ChannelLaws.{channel_law, connect_law}
 use Rattle.sdl_parse.proofs.ProcessLaws.{process_law}
 use Rattle.sdl_parse.proofs.Stops.{closed_same}
@@ -33,9 +31,8 @@ at_end_tells (w ∷ i) = rest_here (w ∷ i)
 
 -- words like none are none
 none_alike : (i k : Words) → i ≡ [] → AreAlike i k → k ≡ []
-none_alike [] [] e a = refl
-none_alike [] (w ∷ k) e a = absurd a
-none_alike (v ∷ i) k e a = absurd (let apart : v ∷ i ≡ [] = e in cc)
+none_alike i [] e a = refl
+none_alike i (w ∷ k) e a = absurd (rw e at a)
 
 at_end_law : Law at_end (λ _. IsEnd) (λ _. IsEnd) (λ j. j ≡ []) whole
 at_end_law = record {
@@ -86,8 +83,7 @@ system_definition_from d (InSystem x) i j s = inr (x, refl, s)
 module _ (d : ℕ) where
   definition_choice : Choice (definition d) (SpellsDef d) (SpellsDef (suc d)) Anywhere definition_marks erased_definition
   unfolding definition same_mark
-  definition_choice =
-      as_choice (definition_to d) (definition_from d) (definition_to (suc d))
+  definition_choice = as_choice (definition_to d) (definition_from d) (definition_to (suc d))
       (or_choice mark.Signal _ refl (made_law Signals (λ x. refl) signal_law) (λ x i j s. (s.2.0, s.2.1, s.2.2))
       (or_choice mark.SignalList _ refl (made_law SignalList (λ x. refl) signal_list_law) (λ x i j s. (s.0.word, s.2.0, s.2.1))
       (or_choice mark.Synonym _ refl (made_law Synonyms (λ x. refl) (synonym_law d)) (λ x i j s. (s.0.word, s.2.0, s.2.1))
@@ -104,8 +100,7 @@ module _ (d : ℕ) where
 
   block_part_law : MaybeLaw (block_part d) (SpellsBlockPart d) (SpellsBlockPart (suc d)) Anywhere (sees_one (mark.Connect ∷ definition_marks)) erased_block_part
   unfolding block_part same_mark
-  block_part_law =
-      maybe_choice (mark.Connect ∷ definition_marks)
+  block_part_law = maybe_choice (mark.Connect ∷ definition_marks)
       (as_choice (either_as (made_as (SpellsBlockPart d) Connect) (made_as (SpellsBlockPart d) InBlock)) (block_part_from d)
       (either_as (made_as (SpellsBlockPart (suc d)) Connect) (made_as (SpellsBlockPart (suc d)) InBlock))
       (or_choice mark.Connect definition_marks refl (made_law Connect (λ x. refl) connect_law) (λ x i j s. (s.0.word, s.2.0, s.2.1))
@@ -113,16 +108,14 @@ module _ (d : ℕ) where
 
   block_law : Law (block d) (SpellsBlock d) (SpellsBlock (suc d)) Anywhere erased_block
   unfolding block sees front same_mark
-  block_law =
-      record_law block_with (λ y. (y.word, (y.name, y.definitions))) (λ x. refl) (λ x. refl) (λ y. refl)
+  block_law = record_law block_with (λ y. (y.word, (y.name, y.definitions))) (λ x. refl) (λ x. refl) (λ y. refl)
       (then_law (mark_law mark.Block)
       (tied_law (ended_law name_law (λ i j s. tt)) (λ x. closed_list_law mark.EndBlock block_part_law (λ i t. tt) tt (λ s k. (tt, refl)) x.text)
       (λ x y m j s t. tt) (closed_same (Repeated (SpellsBlockPart d)) mark.EndBlock)))
 
   system_definition_law : MaybeLaw (system_definition d) (SpellsSystemDef d) (SpellsSystemDef (suc d)) Anywhere (sees_one (mark.Block ∷ definition_marks)) erased_system_definition
   unfolding system_definition same_mark
-  system_definition_law =
-      maybe_choice (mark.Block ∷ definition_marks)
+  system_definition_law = maybe_choice (mark.Block ∷ definition_marks)
       (as_choice (either_as (made_as (SpellsSystemDef d) Block) (made_as (SpellsSystemDef d) InSystem)) (system_definition_from d)
       (either_as (made_as (SpellsSystemDef (suc d)) Block) (made_as (SpellsSystemDef (suc d)) InSystem))
       (or_choice mark.Block definition_marks refl (made_law Block (λ x. refl) block_law) (λ x i j s. (s.0.word, s.2.0, s.2.1))
@@ -130,8 +123,7 @@ module _ (d : ℕ) where
 
   pub system_law : Law (system d) (SpellsSystem d) (SpellsSystem (suc d)) Anywhere erased
   unfolding sees front same_mark
-  system_law =
-      record_law tree_with (λ t. (t.name, t.definitions)) (λ x. refl) (λ x. refl) (λ t. refl)
+  system_law = record_law tree_with (λ t. (t.name, t.definitions)) (λ x. refl) (λ x. refl) (λ t. refl)
       (behind_law mark.System
       (tied_law (ended_law name_law (λ i j s. tt)) (λ x. closed_list_law mark.EndSystem system_definition_law (λ i t. tt) tt (λ s k. (tt, refl)) x.text)
       (λ x y m j s t. tt) (closed_same (Repeated (SpellsSystemDef d)) mark.EndSystem)))
@@ -143,7 +135,7 @@ module _ (d : ℕ) where
   -- ---- whole texts
 
   as_tree : (n : ℕ) (t : Tree) (i : Words) → Followed (SpellsSystem n) IsEnd t i [] → SpellsTree n t i
-  as_tree n t i s = let R : Words → Type 0 = λ k. SpellsSystem n t i k in subst R s.2.0 s.1
+  as_tree n t i s = rw s.2.0 at s.1
 
   -- what is read spells the words, and leaves none
   pub specification_sound : (i : Words) (t : Tree) (j : Words) → specification d i ≡ read_as t j → SpellsTree d t i

@@ -1,30 +1,24 @@
 -- One too many inside each other, in a whole text.
-use Rattle.std.proofs.Common.{◌≡◌, ℕ, suc, ◌⊎◌, inl, inr, [], ◌∷◌, ◌++◌, refl, sym, ap, ◌∙◌, subst, append_assoc, append-nil}
+use Rattle.sdl_behaviour.proofs.Words.{Fixed, GoesOn, IsHead, IsOpening, OpensTooMany, Spelling, SpellsTree, TooMany, Tree, Word, Words, [], ap, append-nil, append_assoc, arith, first_word, inl, inr, length, length-append, refl, subst, suc, sym, ℕ, ◌++◌, ◌∙◌, ◌∷◌, ◌≡◌, ◌⊎◌}
 use Rattle.sdl_tree.specs.declared.mark.Mark.TheVariants as mark
-use Rattle.sdl_read.proofs.Grammar.{Spelling, IsOpening, OpensTooMany, SpellsTree, Tree, Word, Words, Fixed}
 use Rattle.sdl_tree.specs.Depth as depth
-use Rattle.sdl_read.proofs.AllLaws.{IsHead, GoesOn, TooMany, first_word}
-
-abbrev behind_first : Words → Words
-behind_first [] = []
-behind_first (v ∷ i) = i
 
 -- a word among some and a last one is that last one, or among the others
 in_passed : (before between passed : Words) (opening last : Word) → passed ++ last ∷ [] ≡ before ++ opening ∷ between
     → (opening ≡ last) ⊎ ((rest : Words) × (passed ≡ before ++ opening ∷ rest))
 in_passed [] between [] opening last e = inl (sym (ap (first_word last) e))
 in_passed [] between (v ∷ passed) opening last e = inr (passed, ap (λ w. w ∷ passed) (ap (first_word v) e))
-in_passed (x ∷ []) between [] opening last e = absurd (let apart : [] ≡ opening ∷ between = ap behind_first e in cc)
-in_passed (x ∷ y ∷ before) between [] opening last e = absurd (let apart : [] ≡ y ∷ (before ++ opening ∷ between) = ap behind_first e in cc)
+in_passed (x ∷ before) between [] opening last e =
+    let one = ap length e in let more = length-append before (opening ∷ between) in absurd (omega (arith, one, more))
 in_passed (x ∷ before) between (v ∷ passed) opening last e =
-    elim (in_passed before between passed opening last (ap behind_first e)) as (λ _. (opening ≡ last) ⊎ ((rest : Words) × (v ∷ passed ≡ x ∷ before ++ opening ∷ rest))) [
+    elim (in_passed before between passed opening last (cc)) as (λ _. (opening ≡ last) ⊎ ((rest : Words) × (v ∷ passed ≡ x ∷ before ++ opening ∷ rest))) [
       | inl a ↦ inl a
       | inr a ↦ inr (a.0, ap (λ w. w ∷ passed) (ap (first_word v) e) ∙ ap (λ k. x ∷ k) a.1)
     ]
 
 opens_not_active : (w : Word) (r : Spelling) → IsOpening w → w ≡ Fixed mark.Active r → ⊥
-opens_not_active w r (s, inl e) a = let apart : Fixed mark.Open s ≡ Fixed mark.Active r = sym e ∙ a in absurd cc
-opens_not_active w r (s, inr e) a = let apart : Fixed mark.Decision s ≡ Fixed mark.Active r = sym e ∙ a in absurd cc
+opens_not_active w r (s, inl e) a = cc
+opens_not_active w r (s, inr e) a = cc
 
 module _ (d : ℕ) {P M : Tree → Words → Words → Type 0} (to : (t : Tree) (i : Words) → P t i [] → SpellsTree d t i) (from : (t : Tree) (i : Words) → SpellsTree d t i → P t i [])
     (to_more : (t : Tree) (i : Words) → M t i [] → SpellsTree (suc d) t i) (i left : Words) (many : TooMany P M (λ j. j ≡ []) i left) where
@@ -36,11 +30,7 @@ module _ (d : ℕ) {P M : Tree → Words → Words → Type 0} (to : (t : Tree) 
   goes_before before between opening e = on many.goes
     where
       on : (many.passed ≡ []) ⊎ GoesOn P (λ j. j ≡ []) many.passed → depth.GoesOn d (before ++ opening ∷ [])
-      on (inl none) = absurd (no_word before (sym e ∙ none))
-        where
-          no_word : (before : Words) → before ++ opening ∷ between ≡ [] → ⊥
-          no_word [] n = cc
-          no_word (v ∷ before) n = cc
+      on (inl none) = let same = ap length (sym e ∙ none) in let some = length-append before (opening ∷ between) in absurd (omega (arith, same, some))
       on (inr g) =
           let behind : Words = g.1 ++ [] in
           let whole : many.passed ++ behind ≡ (before ++ opening ∷ []) ++ (between ++ behind) =
@@ -79,8 +69,7 @@ module _ (d : ℕ) {P M : Tree → Words → Words → Type 0} (to : (t : Tree) 
     where
       by : IsHead many.head many.opening → IsTold
       by (inl e) = told_at [] e (λ before rest opening at opens. goes_before before rest opening (sym (append-nil many.passed) ∙ at))
-      by (inr e) =
-          told_at (Fixed mark.Active e.0 ∷ []) e.1
+      by (inr e) = told_at (Fixed mark.Active e.0 ∷ []) e.1
           (λ before rest opening at opens. elim (in_passed before rest many.passed opening (Fixed mark.Active e.0) at) as (λ _. depth.GoesOn d (before ++ opening ∷ [])) [
             | inl a ↦ absurd (opens_not_active opening e.0 opens a)
             | inr a ↦ goes_before before a.0 opening a.1
