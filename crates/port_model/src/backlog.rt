@@ -353,7 +353,8 @@ fn looked_after(looked: usize, place: usize) -> usize
     }
 }
 
-// Room for one entry more in a list, and for as many as there are beside it.
+// Room for one entry more in a list, and for as many as there are beside it. Where there is none, twice the room is asked
+// for: a list itself grows by its length alone, and what lies beside it may be nearly all there is.
 fn room_beside(list: &mut VecDeque<Got>, others: usize) -> Result<(), AllocError>
     requires { others + length list.old.items ≤ deque_capacity list.old }
     ensures ok { OnOk result (others + length list.new.items < deque_capacity list.new) }
@@ -361,13 +362,14 @@ fn room_beside(list: &mut VecDeque<Got>, others: usize) -> Result<(), AllocError
     ensures more { deque_capacity list.old ≤ deque_capacity list.new }
     ensures full { OnErr result (deque_capacity list.old ≡ others + length list.old.items) }
 {
-    if others < list.capacity() - list.len() {
+    let capacity = list.capacity();
+    if others < capacity - list.len() {
         return Ok(());
     }
-    match others.checked_add(1) {
-        None => Err(AllocError),
-        Some(more) => list.reserve(more),
-    }
+    let Some(more) = others.checked_add(1) else {
+        return Err(AllocError);
+    };
+    list.reserve(more.saturating_add(capacity))
 }
 
 // Notes a name, if there is memory for it. The reply is whether it is noted now.
