@@ -3,13 +3,11 @@ pub mod AnswerLaws
 pub mod ClauseLaws
 pub mod CommaLemmas
 pub mod EndingLaws
-pub mod LookLemmas
 pub mod ReceptionLaws
 pub mod StateLaws
-pub mod StateLemmas
 pub mod StepLaws
 pub mod StimulusLaws
 pub mod TransitionLaws
-pub mod TransitionLemmas
+pub mod TurnLemmas
 pub mod UnlessLaws
 pub mod Words

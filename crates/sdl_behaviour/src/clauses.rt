@@ -81,7 +81,7 @@ fn untimed(alloc: Global, cursor: &mut Cursor<'_, '_>, at: Inside) -> Result<Set
 
 /// Whether a comma stands ahead outside inner parentheses, in a clause whose parenthesis has just been passed. Each
 /// clause is looked through once, and is then read to where the look came to at least.
-#[tactic(auto, using(crate::proofs::LookLemmas::ahead_comma, crate::proofs::LookLemmas::ahead_end, crate::proofs::LookLemmas::ahead_on, crate::proofs::LookLemmas::ahead_none, crate::proofs::LookLemmas::rest_length))]
+#[tactic(auto, using(crate::proofs::TurnLemmas::ahead_turn, crate::proofs::TurnLemmas::ahead_none, crate::proofs::TurnLemmas::rest_length))]
 fn comma_ahead(mut ahead: Cursor<'_, '_>) -> bool
     ensures { result ≡ spec.comma_ahead 0 ahead.entry }
 {

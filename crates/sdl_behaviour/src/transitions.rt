@@ -36,6 +36,7 @@ impl Perhaps<AnswerPart> for Inside {
 /// `trans = {[NAME ":"] action} [[NAME ":"] terminator]`, in which `depth` parentheses and decisions may stand inside
 /// each other.
 #[cycle(transition)]
+#[tactic(auto, unfolding(crate::specs::Transitions::steps_from), using(crate::proofs::TurnLemmas::turning))]
 pub fn transition(
     alloc: Global,
     cursor: &mut Cursor<'_, '_>,
@@ -62,6 +63,7 @@ pub fn transition(
 }
 
 /// The node, made apart so that its view stands in a contract.
+#[tactic(auto, using(sdl_tree::proofs::ViewLemmas::steps_value))]
 pub fn transition_with(
     actions: Vec<ActionStatement>,
     terminator: Option<TerminatorStatement>,
@@ -104,6 +106,7 @@ pub fn action(alloc: Global, cursor: &mut Cursor<'_, '_>, depth: usize) -> Resul
 
 /// A decision, where as many parentheses and decisions may stand inside each other.
 #[cycle(transition)]
+#[tactic(auto, using(crate::proofs::TurnLemmas::decision_none, crate::proofs::TurnLemmas::decision_inside))]
 pub fn decision(alloc: Global, cursor: &mut Cursor<'_, '_>, depth: usize) -> Result<Action, Fault>
     requires { depth ≤ 64 }
     ensures { Reads action_value (spec.decision depth cursor.old) result cursor.new }
@@ -137,6 +140,7 @@ pub fn decision_around(
 }
 
 /// The node, made apart so that its view stands in a contract.
+#[tactic(auto, using(sdl_tree::proofs::ViewLemmas::decision_value))]
 pub fn decision_with(
     word: Spelling,
     question: Expression,
@@ -174,6 +178,7 @@ pub fn part(
 }
 
 /// The node, made apart so that its view stands in a contract.
+#[tactic(auto, using(sdl_tree::proofs::ViewLemmas::answered_value))]
 pub fn part_with(answers: Vec<Answer>, transition: Transition) -> AnswerPart
     ensures { answer_part_value result ≡ spec.part_with (map answer_value answers.items, transition_value transition) }
 {

@@ -1,0 +1,59 @@
+-- How readings and looks go on by a word or a turn: a clause, a name among others, a transition and a decision.
+use Rattle.std.proofs.Common.{◌≡◌, ℕ, suc, ◌+◌, ◌-◌, ◌<◌, ◌≤◌, false, ◌||◌, List, [], ◌∷◌, length, map, None, Ok, Err, refl, ap, arith}
+use Rattle.std.proofs.lemmas.Grind.{common_steps}
+use Rattle.std.specs.Str.{bytes_eq}
+use Rattle.sdl_tree.specs.declared.name.Name.{Name}
+use Rattle.sdl_read.proofs.Grammar.{Words, Deep, Action, Statement, Parser, front, rest, mark_at, name_value}
+use Rattle.sdl_read.proofs.Turns.{map_push}
+use Rattle.sdl_behaviour.specs.Clauses.{look_at, found_by, comma_ahead}
+use Rattle.sdl_behaviour.specs.States.{is_named}
+use Rattle.sdl_behaviour.specs.Transitions.{decision, decision_of, steps_from, trans}
+
+-- ---- a look over a clause
+
+pub ahead_turn : (n : ℕ) (i : Words) → 0 < length i → comma_ahead n i ≡ found_by (look_at n (mark_at i)) (λ now. comma_ahead now (rest i))
+unfolding comma_ahead mark_at front rest
+ahead_turn n [] some = absurd (omega arith)
+ahead_turn n (w ∷ i) some = refl
+
+pub ahead_none : (n : ℕ) (i : Words) → length i ≡ 0 → comma_ahead n i ≡ false
+unfolding comma_ahead
+ahead_none n [] e = refl
+ahead_none n (w ∷ i) e = absurd (omega (arith, e))
+
+pub rest_length : (i : Words) → length (rest i) ≡ length i - 1
+unfolding rest
+rest_length [] = refl
+rest_length (w ∷ i) = omega arith
+
+-- ---- a name among others
+
+pub named_turn : (among behind : List Name) (y : Name) (x : List ℕ) → among ≡ y ∷ behind
+    → is_named (map name_value among) x ≡ (bytes_eq (name_value y).text x || is_named (map name_value behind) x)
+unfolding is_named
+named_turn among behind y x e = ap (λ ys. is_named (map name_value ys) x) e
+
+pub named_none : (among : List Name) (x : List ℕ) → among ≡ [] → is_named (map name_value among) x ≡ false
+unfolding is_named
+named_none among x e = ap (λ ys. is_named (map name_value ys) x) e
+
+pub ruleset naming = (common_steps, named_turn, named_none)
+
+-- ---- transitions and decisions
+
+pub decision_none : (d : ℕ) (i : Words) → d ≡ 0 → decision d i ≡ Err (Deep i)
+unfolding decision
+decision_none d i e = ap (λ n. decision n i) e
+
+pub decision_inside : (d : ℕ) (i : Words) → 0 < d → decision d i ≡ decision_of (d - 1) (trans (d - 1)) i
+unfolding decision
+decision_inside d i some = let e : d ≡ suc (d - 1) = omega arith in ap (λ n. decision n i) e
+
+pub steps_on : (act : Parser Action) (found : List Statement) (i : Words) (n at : ℕ) → at < n → steps_from act (n - at) found i ≡ steps_from act (suc (n - (at + 1))) found i
+steps_on act found i n at below = let turn : n - at ≡ suc (n - (at + 1)) = omega arith in ap (λ k. steps_from act k found i) turn
+
+pub steps_off : (act : Parser Action) (found : List Statement) (i : Words) (n at : ℕ) → n ≤ at → steps_from act (n - at) found i ≡ Ok ((found, None), i)
+unfolding steps_from
+steps_off act found i n at done = let none : n - at ≡ 0 = omega arith in ap (λ k. steps_from act k found i) none
+
+pub ruleset turning = (common_steps, steps_on, steps_off, map_push)
