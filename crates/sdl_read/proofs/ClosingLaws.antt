@@ -5,11 +5,10 @@ use Rattle.std.proofs.lemmas.Slice.Eq.{bytes_eq-Decides}
 use Rattle.sdl_read.proofs.Grammar.{Mark, Spelling, AreAlike, Both, Behind, Followed, SpellsEnd, Ended, SpellsEndName, SpellsClosing, Words, Spot, Fixed, followed_by, followed, ended, end_name, closing_by, closing, closed, Repeated, repeated, Parser, Outcome, Refused, pure, front, rest, sees, sees_name}
 use Rattle.sdl_tree.specs.declared.mark.Mark.TheVariants as mark
 use Rattle.sdl_tree.specs.Words as word
-use Rattle.sdl_read.proofs.Laws.{Form, Gives, Law, MaybeLaw, Anywhere, GoodAfter, Made, Tied, as_law, same_law, stops_law, nothing_law, tied_law, both_law, behind_law, first_alone, made_law, either_law}
+use Rattle.sdl_read.proofs.Laws.{Form, Gives, Law, MaybeLaw, Anywhere, GoodAfter, Made, Tied, as_law, same_law, stops_law, nothing_law, tied_law, both_law, behind_law, first_alone, formed_law, made_law, either_law}
 use Rattle.sdl_read.proofs.ListLaws.{repeated_law}
-use Rattle.sdl_read.proofs.PartLaws.{name_front, end_law, end_begins, whole}
-use Rattle.sdl_read.proofs.WayLaws.{no_name}
-use Rattle.sdl_read.proofs.Steps.{read_as, rest_here, if_true, sees_front, sees_at, alike_name, alike_from}
+use Rattle.sdl_read.proofs.PartLaws.{name_front, no_name, end_law, end_begins, whole}
+use Rattle.sdl_read.proofs.Steps.{read_as, rest_here, if_true, sees_front, sees_at, swapped, alike_name, alike_from}
 
 -- ---- x and words that the node drops
 
@@ -23,14 +22,9 @@ module _ {A : Type 0} {p : Parser A} {q : A → Parser (Unit {0})} {P M : Form A
       → ((x y : A) → e x ≡ e y → (i j : Words) → D x i j → D y i j) → Law (followed_by p q) (Drops P D) (Drops M D) T e
   drops_law a b ends same =
       same_law (λ i. first_alone (p i) q)
-      (as_law (drops_to P) drops_from (drops_to M)
-      (made_law (λ (x : A × Unit {0}). x.0) (λ x. refl) (tied_law a b (λ x u m j s t. ends x m j s t) (λ x y n u i j s. same x y n i j s))))
-    where
-      drops_to : (R : Form A) (x : A) (i j : Words) → Made (λ (y : A × Unit {0}). y.0) (Tied R (λ y _. D y)) x i j → Drops R D x i j
-      drops_to R x i j s = let Q : A → Type 0 = λ y. Drops R D y i j in subst Q (sym s.1) s.2
-
-      drops_from : (x : A) (i j : Words) → Drops P D x i j → Made (λ (y : A × Unit {0}). y.0) (Tied P (λ y _. D y)) x i j
-      drops_from x i j s = ((x, tt), refl, s)
+      (formed_law (λ (x : A × Unit {0}). x.0) (λ j t. t) (λ x i j (s : Tied P (λ y _. D y) x i j). s) (λ x i j s. ((x, tt), refl, s))
+      (λ x i j (s : Tied M (λ y _. D y) x i j). s) (λ x. refl)
+      (tied_law a b (λ x u m j s t. ends x m j s t) (λ x y n u i j s. same x y n i j s)))
 
 module _ {A : Type 0} {p : Parser A} {q : Parser (Unit {0})} {P M : Form A} {D : Words → Words → Type 0} {S T : Words → Type 0} {e : A → A} where
   pub followed_law : Law p P M S e → Law q (λ _. D) (λ _. D) T whole → ((m j : Words) → D m j → T j → S m) → Law (followed p q) (Followed P D) (Followed M D) T e
@@ -53,8 +47,7 @@ Named good i j = (i ≡ j) ⊎ ((y : Spot) × (good y.text ≡ true) × (i ≡ w
 seen_name : (i : Words) → sees_name i ≡ true → (y : Spot) × (i ≡ word.Name y ∷ rest i)
 unfolding sees_name front rest
 seen_name (word.Name y ∷ i) e = (y, refl)
-seen_name [] e = absurd (true≢false (sym e))
-seen_name (w ∷ i) e = absurd (true≢false (sym e))
+seen_name i e = absurd (true≢false (sym e))
 
 abbrev pub tried : Bool → Spot → Parser (Unit {0})
 tried b y i = if b then Ok (tt, i) else Err (Refused (word.Name y ∷ i))
@@ -113,9 +106,8 @@ is_text x y = bytes_eq y x
 
 named_elsewhere : (x : List ℕ) (i : Words) → sees_name i ≡ false → end_name x i ≡ read_as tt i
 unfolding end_name sees_name front
-named_elsewhere x [] e = refl
 named_elsewhere x (word.Name y ∷ i) e = absurd (true≢false e)
-named_elsewhere x (w ∷ i) e = refl
+named_elsewhere x i e = refl
 
 called_to : (x : List ℕ) (u : Unit {0}) (i j : Words) → Named (is_text x) i j → SpellsEndName x i j
 called_to x u i j (inl e) = inl e
@@ -154,16 +146,8 @@ module _ (m : Mark) {p : Parser (Unit {0})} {D : Words → Words → Type 0} (a 
   -- [MARK .. end]
   pub closed_law : Law (closed m p) (λ _ i j. (i ≡ j) ⊎ Closes m D i j) (λ _ i j. (i ≡ j) ⊎ Closes m D i j) (λ j. sees m j ≡ false) whole
   closed_law =
-      as_law (λ u i j s. other_first i j s) (λ u i j s. this_first i j s) (λ u i j s. other_first i j s)
+      as_law (λ u i j s. swapped s) (λ u i j s. swapped s) (λ u i j s. swapped s)
       (either_law (sees m) (sees_front m) (stops_law (λ j t. tt) closing_by_law) (nowhere_law (λ j. sees m j ≡ false)) (λ u i j s. sees_at m s.0 i s.1 s.3) (λ u i j s t. ap (sees m) s ∙ t))
-    where
-      other_first : (i j : Words) → Closes m D i j ⊎ (i ≡ j) → (i ≡ j) ⊎ Closes m D i j
-      other_first i j (inl s) = inr s
-      other_first i j (inr s) = inl s
-
-      this_first : (i j : Words) → (i ≡ j) ⊎ Closes m D i j → Closes m D i j ⊎ (i ≡ j)
-      this_first i j (inl s) = inr s
-      this_first i j (inr s) = inl s
 
 -- MARK [NAME] end
 pub closing_law : (m : Mark) (x : List ℕ) → Law (closing m x) (λ _. SpellsClosing m x) (λ _. SpellsClosing m x) Anywhere whole

@@ -13,26 +13,35 @@ SameFront k m = front k ≡ front m
 abbrev pub IsHead : Words → Word → Type 0
 IsHead head w = (head ≡ w ∷ []) ⊎ ((r : Spelling) × (head ≡ Fixed mark.Active r ∷ w ∷ []))
 
+-- before words that may stand behind it, and some of its own, what is spelled reaches so far
+abbrev pub Reaches : {A : Type 0} → (A → Words → Words → Type 0) → (Words → Type 0) → (Words → Words) → Type 0
+Reaches {A} P S before = (x : A) × (u : Words) × ((j : Words) → S j → P x (before (u ++ j)) j)
+
 -- words that begin so spell a node
 abbrev pub GoesOn : {A : Type 0} → (A → Words → Words → Type 0) → (Words → Type 0) → Words → Type 0
-GoesOn {A} P S passed = (x : A) × (u : Words) × ((j : Words) → S j → P x (passed ++ (u ++ j)) j)
+GoesOn P S passed = Reaches P S (λ k. passed ++ k)
 
 -- something is spelled so
 abbrev pub HasOne : {A : Type 0} → (A → Words → Words → Type 0) → (Words → Type 0) → Type 0
 HasOne P S = GoesOn P S []
 
--- `More` spells what `P` does with one more inside each other
-pub record TooMany {A : Type 0} (P More : A → Words → Words → Type 0) (S : Words → Type 0) (i left : Words) : Type 0 where
+-- the word that opens one too many, and the words round it
+pub record Opening : Type 0 where
   pub passed : Words
   pub head : Words
   pub opening : Word
   pub back : Words
-  pub at : i ≡ passed ++ (head ++ back)
-  pub here : left ≡ opening ∷ back
   pub opens : IsOpening opening
   pub heads : IsHead head opening
+
+-- `More` spells what `P` does with one more inside each other
+pub record TooMany {A : Type 0} (P More : A → Words → Words → Type 0) (S : Words → Type 0) (i left : Words) : Type 0 where
+  pub place : Opening
+  pub open place use *
+  pub at : i ≡ passed ++ (head ++ back)
+  pub here : left ≡ opening ∷ back
   pub goes : (passed ≡ []) ⊎ GoesOn P S passed
-  pub more : (x : A) × (u : Words) × ((j : Words) → S j → More x (passed ++ (head ++ (u ++ j))) j)
+  pub more : Reaches More S (λ k. passed ++ (head ++ k))
   pub barred : (k : Words) (x : A) (j : Words) → P x (passed ++ (head ++ k)) j → S j → ⊥
 
 -- it stands in these words
@@ -70,77 +79,59 @@ pub front_behind : (v : Word) (u k m : Words) → SameFront (v ∷ u ++ k) (v �
 unfolding front
 front_behind v u k m = refl
 
--- ---- what is spelled by another name
+-- ---- nodes with words behind them
 
-module _ {A B : Type 0} {P M : A → Words → Words → Type 0} {S : Words → Type 0} {U : Words → Type 0} (i left : Words) (R O : B → Words → Words → Type 0) (f : A → B)
-    (fewer : (j : Words) → U j → S j) (to : (x : A) (k j : Words) → P x k j → R (f x) k j) (to_more : (x : A) (k j : Words) → M x k j → O (f x) k j)
-    (t : TooMany P M S i left) (barred : (k : Words) (y : B) (j : Words) → R y (t.passed ++ (t.head ++ k)) j → U j → ⊥) where
-  renamed_goes : (t.passed ≡ []) ⊎ GoesOn P S t.passed → (t.passed ≡ []) ⊎ GoesOn R U t.passed
-  renamed_goes (inl e) = inl e
-  renamed_goes (inr g) = inr (f g.0, g.1, λ j u. to g.0 (t.passed ++ (g.1 ++ j)) j (g.2 j (fewer j u)))
+-- Each node is that of one with such words behind it.
+longer : {A B : Type 0} (P : A → Words → Words → Type 0) (R : B → Words → Words → Type 0) (S U : Words → Type 0) (before : Words → Words)
+    → ((x : A) → (y : B) × (v : Words) × ((k j : Words) → U j → S (v ++ j) × (P x k (v ++ j) → R y k j))) → Reaches P S before → Reaches R U before
+longer P R S U before behind g =
+    let b = behind g.0 in (
+      b.0,
+      g.1 ++ b.1,
+      λ j u.
+          let c = b.2 (before (g.1 ++ (b.1 ++ j))) j u in
+          let F : Words → Type 0 = λ k. R b.0 (before k) j in subst F (sym (append_assoc g.1 b.1 j)) (c.1 (g.2 (b.1 ++ j) c.0)),
+    )
 
-  -- where with the word nothing else is spelled either
-  pub renamed : TooMany R O U i left
-  renamed = record {
-    passed = t.passed;
-    head = t.head;
-    opening = t.opening;
-    back = t.back;
+or_on : {X Y Z : Type 0} → (Y → Z) → X ⊎ Y → X ⊎ Z
+or_on f (inl x) = inl x
+or_on f (inr y) = inr (f y)
+
+-- ---- what stands within a larger node, with words behind it, or is spelled by another name
+
+module _ {A B : Type 0} {P M : A → Words → Words → Type 0} {S : Words → Type 0} {R O : B → Words → Words → Type 0} {U : Words → Type 0} (i left : Words) where
+  -- Each node is that of one with such words behind it, and with the word nothing else is spelled either.
+  pub larger : (t : TooMany P M S i left)
+      → ((x : A) → (y : B) × (v : Words) × ((k j : Words) → U j → S (v ++ j) × (P x k (v ++ j) → R y k j)))
+      → ((x : A) → (y : B) × (v : Words) × ((k j : Words) → U j → S (v ++ j) × (M x k (v ++ j) → O y k j)))
+      → ((k : Words) (y : B) (j : Words) → R y (t.passed ++ (t.head ++ k)) j → U j → ⊥) → TooMany R O U i left
+  larger t behind behind_more barred = record {
+    place = t.place;
     at = t.at;
     here = t.here;
-    opens = t.opens;
-    heads = t.heads;
-    goes = renamed_goes t.goes;
-    more = (f t.more.0, t.more.1, λ j u. to_more t.more.0 (t.passed ++ (t.head ++ (t.more.1 ++ j))) j (t.more.2 j (fewer j u)));
+    goes = or_on (longer P R S U (λ k. t.passed ++ k) behind) t.goes;
+    more = longer M O S U (λ k. t.passed ++ (t.head ++ k)) behind_more t.more;
     barred = barred;
   }
 
--- ---- what stands within a larger node, with words behind it
-
-module _ {A B : Type 0} {P M : A → Words → Words → Type 0} {S : Words → Type 0} {R O : B → Words → Words → Type 0} {U : Words → Type 0} (i left : Words) where
-  -- Each node is that of one with such words behind it, and whatever is spelled as the larger node has one.
+  -- whatever is spelled as the larger node has one
   pub within : TooMany P M S i left
       → ((x : A) → (y : B) × (v : Words) × ((k j : Words) → U j → S (v ++ j) × (P x k (v ++ j) → R y k j)))
       → ((x : A) → (y : B) × (v : Words) × ((k j : Words) → U j → S (v ++ j) × (M x k (v ++ j) → O y k j)))
       → ((y : B) (k j : Words) → SameFront k i → R y k j → U j → (x : A) × (l : Words) × P x k l × S l)
       → TooMany R O U i left
-  within t behind behind_more has = record {
-    passed = t.passed;
-    head = t.head;
-    opening = t.opening;
-    back = t.back;
-    at = t.at;
-    here = t.here;
-    opens = t.opens;
-    heads = t.heads;
-    goes = goes_on t.goes;
-    more =
-        let b = behind_more t.more.0 in (
-          b.0,
-          t.more.1 ++ b.1,
-          λ j u.
-              let c = b.2 (t.passed ++ (t.head ++ (t.more.1 ++ (b.1 ++ j)))) j u in
-              let F : Words → Type 0 = λ k. O b.0 (t.passed ++ (t.head ++ k)) j in
-              subst F (sym (append_assoc t.more.1 b.1 j)) (c.1 (t.more.2 (b.1 ++ j) c.0)),
-        );
-    barred = λ k y j s u.
-        let e : SameFront (t.passed ++ (t.head ++ k)) i =
-        passed_front t.passed t.head t.opening t.heads k t.back ∙ ap front (sym t.at) in
-        let c = has y (t.passed ++ (t.head ++ k)) j e s u in t.barred k c.0 c.1 c.2 c.3;
-  }
-    where
-      goes_on : (t.passed ≡ []) ⊎ GoesOn P S t.passed → (t.passed ≡ []) ⊎ GoesOn R U t.passed
-      goes_on (inl e) = inl e
-      goes_on (inr g) =
-          let b = behind g.0 in
-          inr (
-            b.0,
-            g.1 ++ b.1,
-            λ j u.
-                let c = b.2 (t.passed ++ (g.1 ++ (b.1 ++ j))) j u in
-                let F : Words → Type 0 = λ k. R b.0 (t.passed ++ k) j in
-                subst F (sym (append_assoc g.1 b.1 j)) (c.1 (g.2 (b.1 ++ j) c.0)),
-          )
+  within t behind behind_more has =
+      larger t behind behind_more
+      (λ k y j s u.
+      let e : SameFront (t.passed ++ (t.head ++ k)) i = passed_front t.passed t.head t.opening t.heads k t.back ∙ ap front (sym t.at) in
+      let c = has y (t.passed ++ (t.head ++ k)) j e s u in t.barred k c.0 c.1 c.2 c.3)
+
+-- where with the word nothing else is spelled either
+pub renamed : {A B : Type 0} {P M : A → Words → Words → Type 0} {S : Words → Type 0} {U : Words → Type 0} (i left : Words) (R O : B → Words → Words → Type 0) (f : A → B)
+    → ((j : Words) → U j → S j) → ((x : A) (k j : Words) → P x k j → R (f x) k j) → ((x : A) (k j : Words) → M x k j → O (f x) k j)
+    → (t : TooMany P M S i left) → ((k : Words) (y : B) (j : Words) → R y (t.passed ++ (t.head ++ k)) j → U j → ⊥) → TooMany R O U i left
+renamed i left R O f fewer to to_more t barred =
+    larger i left t (λ x. (f x, [], λ k j u. (fewer j u, to x k j))) (λ x. (f x, [], λ k j u. (fewer j u, to_more x k j))) barred
 
 -- ---- what stands behind words that were passed
 
@@ -153,15 +144,10 @@ module _ {A B : Type 0} {Q N : A → Words → Words → Type 0} {T : Words → 
       → ((x : B) (k j : Words) → SameFront k m → R x (u ++ k) j → U j → (y : A) × (l : Words) × Q y k l × T l)
       → TooMany R O U i left
   onward e t f fewer makes makes_more one has = record {
-    passed = u ++ t.passed;
-    head = t.head;
-    opening = t.opening;
-    back = t.back;
+    place = record t.place { passed = u ++ t.passed };
     at = e ∙ ap (λ k. u ++ k) t.at ∙ sym (append_assoc u t.passed (t.head ++ t.back));
     here = t.here;
-    opens = t.opens;
-    heads = t.heads;
-    goes = goes_on t.passed (sym_at) t.goes;
+    goes = goes_on t.passed t.at t.goes;
     more = (
       f t.more.0,
       t.more.1,
@@ -177,9 +163,6 @@ module _ {A B : Type 0} {Q N : A → Words → Words → Type 0} {T : Words → 
     where
       same : (k : Words) → SameFront (t.passed ++ (t.head ++ k)) m
       same k = passed_front t.passed t.head t.opening t.heads k t.back ∙ ap front (sym t.at)
-
-      sym_at : m ≡ t.passed ++ (t.head ++ t.back)
-      sym_at = t.at
 
       goes_on : (passed : Words) → m ≡ passed ++ (t.head ++ t.back) → (passed ≡ []) ⊎ GoesOn Q T passed → (u ++ passed ≡ []) ⊎ GoesOn R U (u ++ passed)
       goes_on [] at g = let F : Words → Type 0 = λ k. GoesOn R U k in inr (subst F (sym (append-nil u)) one)
@@ -198,19 +181,13 @@ module _ {A B : Type 0} {Q N : A → Words → Words → Type 0} {T : Words → 
 
 -- the opening word itself, or `active` and its parenthesis
 pub closed : {A : Type 0} {P M : A → Words → Words → Type 0} {S : Words → Type 0} (i left head back : Words) (w : Word) → i ≡ head ++ back → left ≡ w ∷ back
-    → IsOpening w → IsHead head w
-    → ((x : A) × (u : Words) × ((j : Words) → S j → M x (head ++ (u ++ j)) j))
+    → IsOpening w → IsHead head w → Reaches M S (λ k. head ++ k)
     → ((k : Words) (x : A) (j : Words) → P x (head ++ k) j → S j → ⊥)
     → TooMany P M S i left
 closed i left head back w at here opens heads more barred = record {
-  passed = [];
-  head = head;
-  opening = w;
-  back = back;
+  place = record { passed = []; head = head; opening = w; back = back; opens = opens; heads = heads };
   at = at;
   here = here;
-  opens = opens;
-  heads = heads;
   goes = inl refl;
   more = more;
   barred = barred;

@@ -1,5 +1,5 @@
 -- The laws of expressions.
-use Rattle.std.proofs.Common.{◌≡◌, ℕ, zero, suc, ◌⊎◌, inl, inr, Bool, true, false, is_some, if◌then◌else◌, List, [], ◌∷◌, map, Some, Ok, Err, refl, sym, ap, ◌∙◌, subst, arith}
+use Rattle.std.proofs.Common.{◌≡◌, ℕ, zero, suc, ◌⊎◌, inl, inr, Bool, true, false, is_some, if◌then◌else◌, List, [], ◌∷◌, map, Ok, Err, refl, sym, ap, ◌∙◌, subst, arith}
 use Rattle.sdl_read.proofs.Grammar.{KeywordValue, UnaryOperator, Operator, Spelling, plain, erased_word, erased_name, erased_expr, erased_exprs, erased_links, looseness, loosest, operator_mark, value_mark, unary_mark, SpellsPrimary, SpellsUnary, SpellsLink, SpellsChain, SpellsAt, SpellsInner, SpellsExpr, IsMark, Both, Behind, Before, Repeated, Enclosed, InParentheses, SpellsName, SpellsNumber, Expr, Numeral, Named, Keyword, Active, Paren, Unary, Chain, Exprs, NoExpr, AndExpr, exprs_in, Links, NoLink, AndLink, links_in, exprs_of, links_of, Number, Words, Spot, Fixed, Parser, Outcome, Refused, Deep, too_deep, refuse, ◌⊗◌, and_then, made, either, is_number, front, rest, mark_at, sees, same_mark, sees_name, sees_number, expect, in_parentheses, by_mark, value_of, operator_at, value_at, unary_at, unary_of, marked, Readers, readers, keyword_with, paren_with, active_with, unary_with, link_with, chain_with, sees_value, sees_unary, sees_operator, primary, signed, link, chain, level, expr, paren_of, active_of, deep_active, no_args, IsOpening}
 use Rattle.sdl_tree.specs.declared.expressions.KeywordValue.TheVariants as value
 use Rattle.sdl_tree.specs.declared.expressions.UnaryOperator.TheVariants as unary
@@ -8,12 +8,11 @@ use Rattle.sdl_tree.specs.Spells.Expressions.{SpellsTimer}
 use Rattle.sdl_tree.specs.Tree.{Link}
 use Rattle.sdl_tree.specs.Words as word
 use Rattle.sdl_read.proofs.Depth.{no_deeper, closed}
-use Rattle.sdl_read.proofs.Laws.{Form, Never, Gives, Rules, Law, MaybeLaw, Anywhere, Takes, Made, still, as_law, stops_law, never_rules, refuse_rules, nothing_law, mark_law, same_rules, shut, shut_first, shut_rules, both_rules, both_law, then_law, behind_law, before_law, made_law, made_as, node_rules, node_law, Or, either_as, either_rules, first_law, either_law, maybe_law}
-use Rattle.sdl_read.proofs.WayLaws.{name_begins, stops_at, sees_other}
+use Rattle.sdl_read.proofs.Laws.{Form, Never, Gives, Rules, Law, MaybeLaw, Anywhere, Takes, Made, still, as_law, stops_law, never_rules, refuse_rules, nothing_law, mark_law, same_rules, shut, shut_first, shut_rules, both_rules, both_law, then_law, behind_law, before_law, formed_rules, formed_law, made_law, made_as, Or, either_as, either_rules, first_law, either_law, maybe_law}
 use Rattle.sdl_read.proofs.ListLaws.{repeated_law, repeated_begins}
-use Rattle.sdl_read.proofs.OperatorLaws.{value_at_again, unary_at_again, operator_at_ok, operator_at_again, Stops, operator_none, operator_front, operator_end, same_mark_at, stops_last, stops_before, stops_below, IsMarked, marked_rules, marked_law}
-use Rattle.sdl_read.proofs.PartLaws.{nameless, name_front, name_law, number_law, in_parentheses_law, opens_list, listed_to, listed_from}
-use Rattle.sdl_read.proofs.Steps.{no_words, sees_front, sees_ok, sees_at}
+use Rattle.sdl_read.proofs.OperatorLaws.{value_at_again, unary_at_again, operator_at_ok, operator_at_again, Stops, operator_none, operator_front, operator_end, same_mark_at, stops_at, stops_last, stops_before, stops_below, IsMarked, marked_rules, marked_law}
+use Rattle.sdl_read.proofs.PartLaws.{nameless, name_begins, name_front, name_law, number_law, in_parentheses_law, opens_list, listed_to, listed_from}
+use Rattle.sdl_read.proofs.Steps.{no_words, sees_front, sees_ok, sees_at, sees_other, swapped}
 
 abbrev pub erased_link : Link → Link
 erased_link l = record { operator = l.operator; word = erased_word l.word; operand = erased_expr l.operand }
@@ -80,20 +79,12 @@ expr_takes d x j s =
 -- ---- operands with operators between them
 
 module _ {operand : Parser Expr} {P M : Form Expr} (l : ℕ) (a : Law operand P M (Stops l) erased_expr) where
-  abbrev IsLink : Form Expr → Form ((Operator × Spelling) × Expr)
-  IsLink R = Both (IsMarked operator_mark (λ o. looseness o ≡ suc l)) R
-
-  link_to : (R : Form Expr) (x : Link) (i j : Words) → Made link_with (IsLink R) x i j → SpellsLink R (suc l) x i j
-  link_to R x i j s = let Q : Link → Type 0 = λ y. SpellsLink R (suc l) y i j in subst Q (sym s.1) (s.2.1.0, (s.2.0, s.2.1.1, s.2.2))
-
-  link_from : (x : Link) (i j : Words) → SpellsLink P (suc l) x i j → Made link_with (IsLink P) x i j
-  link_from x i j s = (((x.operator, x.word), x.operand), refl, (s.1.0, (s.0, s.1.1), s.1.2))
-
   pub link_law : MaybeLaw (link operand (suc l)) (SpellsLink P (suc l)) (SpellsLink M (suc l)) (Stops l) (sees_operator (suc l)) erased_link
   unfolding link
   link_law =
       maybe_law (sees_operator (suc l)) (operator_front (suc l))
-      (node_rules link_with (SpellsLink P (suc l)) (SpellsLink M (suc l)) (λ x. refl) (link_to P) link_from (link_to M)
+      (formed_rules link_with (λ j t. t) (λ x i j s. (s.1.0, (s.0, s.1.1, s.2))) (λ x i j s. (((x.operator, x.word), x.operand), refl, (s.1.0, (s.0, s.1.1), s.1.2)))
+      (λ x i j s. (s.1.0, (s.0, s.1.1, s.2))) (λ x. refl)
       (both_rules (marked_rules (operator_at (suc l)) operator_mark (λ o. looseness o ≡ suc l) (λ i o e. (operator_at_ok (suc l) i o e).1) (λ o s j e. operator_at_again (suc l) o s j e))
       a (λ y m j s t. tt)))
       (operator_end (suc l)) (λ x i j s. ap (sees_operator (suc l)) s.1.1 ∙ ap is_some (operator_at_again (suc l) x.operator x.word s.1.0 s.0))
@@ -101,14 +92,10 @@ module _ {operand : Parser Expr} {P M : Form Expr} (l : ℕ) (a : Law operand P 
   abbrev IsChain : Form Expr → Form (Expr × List Link)
   IsChain R = Both R (Repeated (SpellsLink R (suc l)))
 
-  chain_to : (R : Form Expr) (x : Expr) (i j : Words) → Made (λ p. chain_with p.0 p.1) (IsChain R) x i j → R x i j ⊎ SpellsChain R (suc l) x i j
-  chain_to R x i j s = let Q : Expr → Type 0 = λ y. R y i j ⊎ SpellsChain R (suc l) y i j in subst Q (sym s.1) (chained s.0.0 s.0.1 s.2)
-    where
-      chained : (e : Expr) (ls : List Link) → IsChain R (e, ls) i j → R (chain_with e ls) i j ⊎ SpellsChain R (suc l) (chain_with e ls) i j
-      chained e [] t = let F : Words → Type 0 = λ k. R e i k in inl (subst F t.2 t.1)
-      chained e (k ∷ ks) t =
-          let F : List Link → Type 0 = λ ms. Repeated (SpellsLink R (suc l)) (k ∷ ms) t.0 j in
-          inr (t.0, t.1, subst F (sym (links_are ks)) t.2)
+  chain_to : (R : Form Expr) (x : Expr × List Link) (i j : Words) → IsChain R x i j → R (chain_with x.0 x.1) i j ⊎ SpellsChain R (suc l) (chain_with x.0 x.1) i j
+  chain_to R (e, []) i j s = let F : Words → Type 0 = λ k. R e i k in inl (subst F s.2 s.1)
+  chain_to R (e, k ∷ ks) i j s =
+      let F : List Link → Type 0 = λ ms. Repeated (SpellsLink R (suc l)) (k ∷ ms) s.0 j in inr (s.0, s.1, subst F (sym (links_are ks)) s.2)
 
   chain_from : (x : Expr) (i j : Words) → P x i j ⊎ SpellsChain P (suc l) x i j → Made (λ p. chain_with p.0 p.1) (IsChain P) x i j
   chain_from x i j (inl s) = ((x, []), refl, (j, s, refl))
@@ -118,9 +105,9 @@ module _ {operand : Parser Expr} {P M : Form Expr} (l : ℕ) (a : Law operand P 
 
   pub chain_law : Law (chain operand (suc l)) (λ x i j. P x i j ⊎ SpellsChain P (suc l) x i j) (λ x i j. M x i j ⊎ SpellsChain M (suc l) x i j) (Stops (suc l)) erased_expr
   chain_law =
-      stops_law (λ j t. (stops_below l (suc l) j (omega arith) t, operator_none (suc l) j t))
-      (node_law (λ p. chain_with p.0 p.1) (λ x i j. P x i j ⊎ SpellsChain P (suc l) x i j) (λ x i j. M x i j ⊎ SpellsChain M (suc l) x i j) (λ x. erased_chain x.0 x.1) (chain_to P) chain_from (chain_to M)
-      (both_law a (repeated_law link_law (λ i seen. stops_before l (suc l) i (omega arith) seen) (stops_last l)) (λ ls m j s t. repeated_begins link_law (λ i seen. stops_before l (suc l) i (omega arith) seen) (stops_last l) ls m j s t.0)))
+      formed_law (λ p. chain_with p.0 p.1) (λ j t. (stops_below l (suc l) j (omega arith) t, operator_none (suc l) j t))
+      (chain_to P) chain_from (chain_to M) (λ x. erased_chain x.0 x.1)
+      (both_law a (repeated_law link_law (λ i seen. stops_before l (suc l) i (omega arith) seen) (stops_last l)) (λ ls m j s t. repeated_begins link_law (λ i seen. stops_before l (suc l) i (omega arith) seen) (stops_last l) ls m j s t.0))
 
 -- ---- primaries
 
@@ -137,46 +124,34 @@ module _ (Inner : Form Expr) (Timer : Form (Spot × List Expr)) where
   abbrev IsInside : Form Expr
   IsInside = Or (IsParen Inner) (Or (IsActive Timer) Never)
 
-  abbrev IsFixed : Form Expr
-  IsFixed = Or IsKeyword IsInside
-
-  abbrev IsNumeral : Form Expr
-  IsNumeral = Or (Made Numeral SpellsNumber) IsFixed
-
   abbrev IsPrimary : Form Expr
-  IsPrimary = Or (Made Named SpellsName) IsNumeral
-
-  inside_begins : (P : Words → Type 0) → ((s : Spelling) (k : Words) → P (Fixed mark.Open s ∷ k)) → ((s : Spelling) (k : Words) → P (Fixed mark.Active s ∷ k))
-      → (x : Expr) (i j : Words) → IsInside x i j → P i
-  inside_begins P at_open at_active x i j (inl s) = subst P (sym s.2.1) (at_open s.0.0 s.2.0)
-  inside_begins P at_open at_active x i j (inr (inl s)) = subst P (sym s.2.1) (at_active s.0.0 s.2.0)
-  inside_begins P at_open at_active x i j (inr (inr s)) = absurd s
-
-  fixed_begins : (P : Words → Type 0) → ((v : KeywordValue) (s : Spelling) (k : Words) → P (Fixed (value_mark v) s ∷ k)) → ((s : Spelling) (k : Words) → P (Fixed mark.Open s ∷ k))
-      → ((s : Spelling) (k : Words) → P (Fixed mark.Active s ∷ k)) → (x : Expr) (i j : Words) → IsFixed x i j → P i
-  fixed_begins P at_value at_open at_active x i j (inl s) = subst P (sym s.2.1) (at_value s.0.0 s.0.1 j)
-  fixed_begins P at_value at_open at_active x i j (inr s) = inside_begins P at_open at_active x i j s
+  IsPrimary = Or (Made Named SpellsName) (Or (Made Numeral SpellsNumber) (Or IsKeyword IsInside))
 
   no_value : (x : Expr) (i j : Words) → IsInside x i j → sees_value i ≡ false
   unfolding value_at mark_at front
-  no_value = inside_begins (λ i. sees_value i ≡ false) (λ s k. refl) (λ s k. refl)
+  no_value x i j (inl s) = ap sees_value s.2.1
+  no_value x i j (inr (inl s)) = ap sees_value s.2.1
+  no_value x i j (inr (inr s)) = absurd s
 
-  no_number : (x : Expr) (i j : Words) → IsFixed x i j → sees_number i ≡ false
+  no_number : (x : Expr) (i j : Words) → Or IsKeyword IsInside x i j → sees_number i ≡ false
   unfolding sees_number front
-  no_number = fixed_begins (λ i. sees_number i ≡ false) (λ v s k. refl) (λ s k. refl) (λ s k. refl)
+  no_number x i j (inl s) = ap sees_number s.2.1
+  no_number x i j (inr (inl s)) = ap sees_number s.2.1
+  no_number x i j (inr (inr (inl s))) = ap sees_number s.2.1
+  no_number x i j (inr (inr (inr s))) = absurd s
 
-  no_name : (x : Expr) (i j : Words) → IsNumeral x i j → sees_name i ≡ false
+  no_name : (x : Expr) (i j : Words) → Or (Made Numeral SpellsNumber) (Or IsKeyword IsInside) x i j → sees_name i ≡ false
   unfolding sees_name front
   no_name x i j (inl s) = ap sees_name s.2
-  no_name x i j (inr s) = fixed_begins (λ i. sees_name i ≡ false) (λ v s k. refl) (λ s k. refl) (λ s k. refl) x i j s
+  no_name x i j (inr (inl s)) = ap sees_name s.2.1
+  no_name x i j (inr (inr (inl s))) = ap sees_name s.2.1
+  no_name x i j (inr (inr (inr (inl s)))) = ap sees_name s.2.1
+  no_name x i j (inr (inr (inr (inr s)))) = absurd s
 
   no_unary_value : (v : KeywordValue) (s : Spelling) (k : Words) → sees_unary (Fixed (value_mark v) s ∷ k) ≡ false
   unfolding unary_at mark_at front
-  no_unary_value v s k = none v
-    where
-      none : (v : KeywordValue) → is_some (by_mark unary_of (Some (value_mark v))) ≡ false
-      none value.True = refl
-      none v = refl
+  no_unary_value value.True s k = refl
+  no_unary_value v s k = refl
 
   no_unary : (x : Expr) (i j : Words) → SpellsPrimary Inner Timer x i j → sees_unary i ≡ false
   unfolding unary_at mark_at front
@@ -188,13 +163,10 @@ module _ (Inner : Form Expr) (Timer : Form (Spot × List Expr)) where
       let R : List Expr → Type 0 = λ es. Both (IsMark mark.Active) (Behind mark.Open (Before Timer mark.Close)) (s.0.0, (s.0.1.0, es)) i j in
       subst F (sym s.1) (subst R (sym (exprs_are s.0.1.1)) s.2)
 
-  keyword_to : (x : Expr) (i j : Words) → IsKeyword x i j → SpellsPrimary Inner Timer x i j
-  keyword_to x i j s = let F : Expr → Type 0 = λ y. SpellsPrimary Inner Timer y i j in subst F (sym s.1) s.2.1
-
   primary_to : (x : Expr) (i j : Words) → IsPrimary x i j → SpellsPrimary Inner Timer x i j
   primary_to =
       either_as (made_as (SpellsPrimary Inner Timer) Named) (either_as (made_as (SpellsPrimary Inner Timer) Numeral)
-      (either_as keyword_to (either_as (made_as (SpellsPrimary Inner Timer) paren_with) (either_as active_to (λ x i j s. absurd s)))))
+      (either_as (λ x i j s. made_as (SpellsPrimary Inner Timer) keyword_with x i j (s.0, s.1, s.2.1)) (either_as (made_as (SpellsPrimary Inner Timer) paren_with) (either_as active_to (λ x i j s. absurd s)))))
 
   primary_from : (x : Expr) (i j : Words) → SpellsPrimary Inner Timer x i j → IsPrimary x i j
   primary_from (Named x) i j s = inl (x, refl, s)
@@ -239,30 +211,20 @@ module _ (Inner MoreInner : Form Expr) (Timer MoreTimer : Form (Spot × List Exp
 
 -- ---- ("-" | "not") primary
 
-abbrev IsUnary : Form Expr → Form Expr
-IsUnary P = Made unary_with (Both (IsMarked unary_mark (λ o. Unit {0})) P)
-
-module _ (P : Form Expr) where
-  unary_to : (x : Expr) (i j : Words) → IsUnary P x i j ⊎ P x i j → P x i j ⊎ SpellsUnary P x i j
-  unary_to x i j (inl s) =
-      let Q : Expr → Type 0 = λ y. P y i j ⊎ SpellsUnary P y i j in subst Q (sym s.1) (inr (s.2.0, s.2.1.1, s.2.2))
-  unary_to x i j (inr s) = inl s
-
-  unary_from : (x : Expr) (i j : Words) → P x i j ⊎ SpellsUnary P x i j → IsUnary P x i j ⊎ P x i j
-  unary_from x i j (inl s) = inr s
-  unary_from (Unary o w e) i j (inr s) = inl (((o, w), e), refl, (s.0, (tt, s.1), s.2))
-  unary_from x i j (inr s) = absurd s
+unary_from : (P : Form Expr) (x : Expr) (i j : Words) → SpellsUnary P x i j → Made unary_with (Both (IsMarked unary_mark (λ o. Unit {0})) P) x i j
+unary_from P (Unary o w e) i j s = (((o, w), e), refl, (s.0, (tt, s.1), s.2))
+unary_from P x i j s = absurd s
 
 unary_law : {operand : Parser Expr} {P M : Form Expr} → Law operand P M Anywhere erased_expr → ((x : Expr) (i j : Words) → P x i j → sees_unary i ≡ false)
     → Law (either sees_unary (made unary_with (marked unary_at unary_mark ⊗ operand)) operand) (λ x i j. P x i j ⊎ SpellsUnary P x i j) (λ x i j. M x i j ⊎ SpellsUnary M x i j)
     Anywhere erased_expr
 unfolding unary_at
-unary_law {P = P} {M = M} a none =
-    as_law (unary_to P) (unary_from P) (unary_to M)
+unary_law {P = P} a none =
+    as_law (λ x i j s. swapped s) (λ x i j s. swapped s) (λ x i j s. swapped s)
     (either_law sees_unary (λ i k e. ap (λ m. is_some (by_mark unary_of m)) (same_mark_at i k e))
-    (made_law unary_with (λ x. refl)
+    (formed_law unary_with (λ j t. t) (λ x i j s. (s.0, s.1.1, s.2)) (unary_from P) (λ x i j s. (s.0, s.1.1, s.2)) (λ x. refl)
     (then_law (marked_law unary_at unary_mark (λ o. Unit {0}) (λ i o e. tt) (λ o s j e. unary_at_again o s j) unary.Minus tt) a))
-    a (λ x i j s. ap sees_unary s.2.1.1 ∙ ap is_some (unary_at_again s.0.0.0 s.0.0.1 s.2.0)) (λ x i j s t. none x i j s))
+    a (λ x i j s. let u = unary_from P x i j s in ap sees_unary u.2.1.1 ∙ ap is_some (unary_at_again u.0.0.0 u.0.0.1 u.2.0)) (λ x i j s t. none x i j s))
 
 -- ---- levels
 
@@ -285,10 +247,6 @@ plain_name Inner Timer (suc (suc k)) j = inl (plain_name Inner Timer (suc k) j)
 opens_paren : (s : Spelling) → IsOpening (Fixed mark.Open s)
 opens_paren s = (s, inl refl)
 
-active_one : (r s : Spelling) (j : Words)
-    → IsActive (SpellsTimer (suc zero)) (active_with (r, (nameless, []))) (Fixed mark.Active r ∷ Fixed mark.Open s ∷ word.Name nameless ∷ Fixed mark.Close plain ∷ j) j
-active_one r s j = ((r, (nameless, [])), refl, (_, refl, (s, _, refl, (plain, (Fixed mark.Close plain ∷ j, refl, refl)))))
-
 abbrev DeepActive : Words → Outcome Expr → Type 0
 DeepActive = Gives deep_active (IsActive (SpellsTimer zero)) (IsActive (SpellsTimer (suc zero))) Anywhere
 
@@ -297,7 +255,7 @@ active_by i r k at true e =
     let seen = sees_ok mark.Open k e in
     let w : Spelling = seen.0 in
     closed i k (Fixed mark.Active r ∷ Fixed mark.Open w ∷ []) (rest k) (Fixed mark.Open w) (at ∙ ap (λ l. Fixed mark.Active r ∷ l) seen.1) seen.1 (opens_paren w) (inr (r, refl))
-    (active_with (r, (nameless, [])), word.Name nameless ∷ Fixed mark.Close plain ∷ [], λ j u. active_one r w j)
+    (active_with (r, (nameless, [])), word.Name nameless ∷ Fixed mark.Close plain ∷ [], λ j u. ((r, (nameless, [])), refl, (_, refl, (w, _, refl, (plain, (Fixed mark.Close plain ∷ j, refl, refl))))))
     (λ l x j n u. n.2.2.3.1)
 active_by i r k at false e = (Fixed mark.Active r ∷ [], at)
 

@@ -101,67 +101,82 @@ read_here {p = p} i x m r = ap p r.at ∙ r.again m (inl refl)
 -- ---- refusals of a part
 
 module _ {A B : Type 0} {P M : Form A} {S : Words → Type 0} {R O : Form B} {U : Words → Type 0} (i : Words) where
-  -- of what stands here
-  pub still : (r : Refusal) → ((left : Words) → TooMany P M S i left → TooMany R O U i left) → Told P M S i r → Told R O U i r
-  still (Refused left) deep t = t
-  still (Deep left) deep t = deep left t
-  still (Barred left) deep t = t
-
   -- of what stands behind some words
   pub later : (m : Words) (r : Refusal) → IsRest i m → ((left : Words) → TooMany P M S m left → TooMany R O U i left) → Told P M S m r → Told R O U i r
   later m (Refused left) behind deep t = rest_on i m left behind t
   later m (Deep left) behind deep t = deep left t
   later m (Barred left) behind deep t = stands_on i m (Barred left) behind t
 
--- ---- another name, and fewer words to stop at
+  -- of what stands here
+  pub still : (r : Refusal) → ((left : Words) → TooMany P M S i left → TooMany R O U i left) → Told P M S i r → Told R O U i r
+  still r deep t = later i r (rest_here i) deep t
 
-module _ {A : Type 0} {p : Parser A} {P M R O : Form A} {S : Words → Type 0} {e : A → A} (to : (x : A) (i j : Words) → P x i j → R x i j)
-    (from : (x : A) (i j : Words) → R x i j → P x i j) (to_more : (x : A) (i j : Words) → M x i j → O x i j) where
-  module _ (a : Rules p P M S e) where
-    as_gives : (i : Words) (o : Outcome A) → Gives p P M S i o → Gives p R O S i o
-    as_gives i (Ok z) t = record { taken = t.taken; at = t.at; again = t.again; spelled = to z.0 i z.1 t.spelled }
-    as_gives i (Err r) t =
-        still i r
-        (λ left u. within i left u (λ x. (x, [], λ k j v. (v, to x k j))) (λ x. (x, [], λ k j v. (v, to_more x k j))) (λ x k j same n v. (x, j, from x k j n, v)))
-        t
+-- ---- nodes
 
-    pub as_rules : Rules p R O S e
-    as_rules = record {
-      tells = λ i. as_gives i (p i) (a.tells i);
-      complete = λ x i j s t. a.complete x i j (from x i j s) t;
-      moves = λ x i j k s t. let c = a.moves x i j k (from x i j s) t in (c.0, c.1, to c.0 k c.1 c.2, c.3, c.4);
-      more = λ x i j s. to_more x i j (a.more x i j (from x i j s));
-    }
+-- a node that is made of what is spelled
+abbrev pub Made : {A B : Type 0} → (A → B) → Form A → Form B
+Made {A} f P y i j = (x : A) × (y ≡ f x) × P x i j
 
-  -- the same by another name
-  pub as_law : Law p P M S e → Law p R O S e
-  as_law a = record { rules = as_rules a.rules; one = let o = a.one in (o.0, o.1, λ j t. to o.0 (o.1 ++ j) j (o.2 j t)) }
+-- a node that is spelled as what it is made of
+pub made_as : {A B : Type 0} (R : Form B) (f : A → B) (y : B) (i j : Words) → Made f (λ x. R (f x)) y i j → R y i j
+made_as {B = B} R f y i j s = let F : B → Type 0 = λ z. R z i j in subst F (sym s.1) s.2
+
+pub made_complete : {A B : Type 0} (f : A → B) {p : Parser A} {P : Form A} {S : Words → Type 0} → Complete p P S → Complete (made f p) (Made f P) S
+made_complete f {p = p} a y i j s t = bind_is (p i) (λ x k. read_as (f x) k) s.0 j (a s.0 i j s.2 t) ∙ ap (λ z. read_as z j) (sym s.1)
 
 good_stop : {S T : Words → Type 0} → ((j : Words) → T j → S j) → (m k : Words) → GoodAfter T m k → GoodAfter S m k
 good_stop fewer m k (inl s) = inl s
 good_stop fewer m k (inr t) = inr (fewer k t)
 
-module _ {A : Type 0} {p : Parser A} {P M : Form A} {S T : Words → Type 0} {e : A → A} (fewer : (j : Words) → T j → S j) where
-  module _ (a : Rules p P M S e) where
-    stops_gives : (i : Words) (o : Outcome A) → Gives p P M S i o → Gives p P M T i o
-    stops_gives i (Ok z) t = record { taken = t.taken; at = t.at; again = λ k g. t.again k (good_stop fewer z.1 k g); spelled = t.spelled }
-    stops_gives i (Err r) t =
-        still i r
-        (λ left u. within i left u (λ x. (x, [], λ k j v. (fewer j v, λ n. n))) (λ x. (x, [], λ k j v. (fewer j v, λ n. n))) (λ x k j same n v. (x, j, n, fewer j v)))
-        t
+-- What is made of nodes, which has a name of its own, stops at fewer words; but for its places, it is made of what the
+-- nodes are but for theirs.
+module _ {A B : Type 0} (f : A → B) {p : Parser A} {P M : Form A} {R : Form B} (O : Form B) {S T : Words → Type 0} {e : A → A} (fewer : (j : Words) → T j → S j)
+    (to : (x : A) (i j : Words) → P x i j → R (f x) i j) (from : (y : B) (i j : Words) → R y i j → Made f P y i j)
+    (to_more : (x : A) (i j : Words) → M x i j → O (f x) i j) (a : Rules p P M S e) where
+  formed_gives : (i : Words) (o : Outcome A) → Gives p P M S i o → Gives (made f p) R O T i (and_then o (λ x j. read_as (f x) j))
+  formed_gives i (Ok z) t = record {
+    taken = t.taken;
+    at = t.at;
+    again = λ k h. bind_is (p (t.taken ++ k)) (λ x l. read_as (f x) l) z.0 k (t.again k (good_stop fewer z.1 k h));
+    spelled = to z.0 i z.1 t.spelled;
+  }
+  formed_gives i (Err r) t =
+      still i r
+      (λ left u. within i left u (λ x. (f x, [], λ k j v. (fewer j v, to x k j))) (λ x. (f x, [], λ k j v. (fewer j v, to_more x k j)))
+      (λ y k j there n v. let c = from y k j n in (c.0, j, c.2, fewer j v)))
+      t
 
-    pub stops_rules : Rules p P M T e
-    stops_rules = record {
-      tells = λ i. stops_gives i (p i) (a.tells i);
-      complete = λ x i j s t. a.complete x i j s (fewer j t);
-      moves = a.moves;
-      more = a.more;
-    }
+module _ {A B : Type 0} (f : A → B) {p : Parser A} {P M : Form A} {R O : Form B} {S T : Words → Type 0} {e : A → A} {g : B → B} (fewer : (j : Words) → T j → S j)
+    (to : (x : A) (i j : Words) → P x i j → R (f x) i j) (from : (y : B) (i j : Words) → R y i j → Made f P y i j)
+    (to_more : (x : A) (i j : Words) → M x i j → O (f x) i j) (same : (x : A) → g (f x) ≡ f (e x)) where
+  pub formed_rules : Rules p P M S e → Rules (made f p) R O T g
+  formed_rules a = record {
+    tells = λ i. formed_gives f O fewer to from to_more a i (p i) (a.tells i);
+    complete = λ y i j s t. made_complete f (λ x k l n v. a.complete x k l n (fewer l v)) y i j (from y i j s) t;
+    moves = λ y i j k s t.
+        let b = from y i j s in
+        let c = a.moves b.0 i j k b.2 t in
+        (f c.0, c.1, to c.0 k c.1 c.2, c.3, same c.0 ∙ ap f c.4 ∙ sym (same b.0) ∙ sym (ap g b.1));
+    more = λ y i j s. let b = from y i j s in made_as O f y i j (b.0, b.1, to_more b.0 i j (a.more b.0 i j b.2));
+  }
 
-  pub stops_law : Law p P M S e → Law p P M T e
-  stops_law a = record { rules = stops_rules a.rules; one = let o = a.one in (o.0, o.1, λ j t. o.2 j (fewer j t)) }
+  pub formed_law : Law p P M S e → Law (made f p) R O T g
+  formed_law a = record { rules = formed_rules a.rules; one = let o = a.one in (f o.0, o.1, λ j t. to o.0 (o.1 ++ j) j (o.2 j (fewer j t))) }
 
--- the same reading by other words
+module _ {A B : Type 0} (f : A → B) {p : Parser A} {P M : Form A} {S : Words → Type 0} {e : A → A} {g : B → B} where
+  pub made_rules : ((x : A) → g (f x) ≡ f (e x)) → Rules p P M S e → Rules (made f p) (Made f P) (Made f M) S g
+  made_rules same a = formed_rules f (λ j t. t) (λ x i j s. (x, refl, s)) (λ y i j s. s) (λ x i j s. (x, refl, s)) same a
+
+  pub made_law : ((x : A) → g (f x) ≡ f (e x)) → Law p P M S e → Law (made f p) (Made f P) (Made f M) S g
+  made_law same a = formed_law f (λ j t. t) (λ x i j s. (x, refl, s)) (λ y i j s. s) (λ x i j s. (x, refl, s)) same a
+
+  -- the node is spelled as what it is made of, with one more inside each other too
+  pub node_law : (R O : Form B) → ((x : A) → g (f x) ≡ f (e x)) → ((y : B) (i j : Words) → Made f P y i j → R y i j)
+      → ((y : B) (i j : Words) → R y i j → Made f P y i j) → ((y : B) (i j : Words) → Made f M y i j → O y i j) → Law p P M S e → Law (made f p) R O S g
+  node_law R O same to from to_more a = formed_law f (λ j t. t) (λ x i j s. to (f x) i j (x, refl, s)) from (λ x i j s. to_more (f x) i j (x, refl, s)) same a
+
+-- ---- the same reading, another name, and fewer words to stop at
+
 module _ {A : Type 0} {p q : Parser A} {P M : Form A} {S : Words → Type 0} {e : A → A} (same : (i : Words) → p i ≡ q i) where
   pub same_rules : Rules p P M S e → Rules q P M S e
   same_rules a =
@@ -172,6 +187,26 @@ module _ {A : Type 0} {p q : Parser A} {P M : Form A} {S : Words → Type 0} {e 
   same_law a =
       let F : Parser A → Type 0 = λ r. Law r P M S e in
       let path : p ≡ q = λ n i. same i n in subst F path a
+
+pub unchanged : {A : Type 0} (o : Outcome A) → and_then o (λ x j. read_as x j) ≡ o
+unchanged (Ok z) = refl
+unchanged (Err r) = refl
+
+abbrev itself : {A : Type 0} → A → A
+itself x = x
+
+module _ {A : Type 0} {p : Parser A} {P M R O : Form A} {S : Words → Type 0} {e : A → A} (to : (x : A) (i j : Words) → P x i j → R x i j)
+    (from : (x : A) (i j : Words) → R x i j → P x i j) (to_more : (x : A) (i j : Words) → M x i j → O x i j) where
+  -- the same by another name
+  pub as_law : Law p P M S e → Law p R O S e
+  as_law a = same_law (λ i. unchanged (p i)) (formed_law itself (λ j t. t) to (λ x i j s. (x, refl, from x i j s)) to_more (λ x. refl) a)
+
+module _ {A : Type 0} {p : Parser A} {P M : Form A} {S T : Words → Type 0} {e : A → A} (fewer : (j : Words) → T j → S j) where
+  pub stops_rules : Rules p P M S e → Rules p P M T e
+  stops_rules a = same_rules (λ i. unchanged (p i)) (formed_rules itself fewer (λ x i j s. s) (λ x i j s. (x, refl, s)) (λ x i j s. s) (λ x. refl) a)
+
+  pub stops_law : Law p P M S e → Law p P M T e
+  stops_law a = same_law (λ i. unchanged (p i)) (formed_law itself fewer (λ x i j s. s) (λ x i j s. (x, refl, s)) (λ x i j s. s) (λ x. refl) a)
 
 -- ---- what is read or refused at once
 
@@ -223,9 +258,8 @@ module _ (m : Mark) where
 
   mark_tells : (i : Words) → Gives (expect m) (IsMark m) (IsMark m) Anywhere i (expect m i)
   unfolding expect front rest
-  mark_tells [] = rest_here []
   mark_tells (Fixed n t ∷ i) = mark_by n t i (same_mark n m) refl
-  mark_tells (w ∷ i) = rest_here (w ∷ i)
+  mark_tells i = rest_here i
 
   pub mark_law : Law (expect m) (IsMark m) (IsMark m) Anywhere erased_word
   mark_law = single_law
@@ -338,99 +372,38 @@ module _ {A B : Type 0} {p : Parser A} {q : Parser B} {P M : Form A} {Q N : Form
   pub then_law : Law p P M Anywhere e → Law q Q N T f → Law (p ⊗ q) (Both P Q) (Both M N) T (λ x. (e x.0, f x.1))
   then_law a b = both_law a b (λ y m j s t. tt)
 
--- ---- nodes
-
--- a node that is made of what is spelled
-abbrev pub Made : {A B : Type 0} → (A → B) → Form A → Form B
-Made {A} f P y i j = (x : A) × (y ≡ f x) × P x i j
-
--- a node that is spelled as what it is made of
-pub made_as : {A B : Type 0} (R : Form B) (f : A → B) (y : B) (i j : Words) → Made f (λ x. R (f x)) y i j → R y i j
-made_as {B = B} R f y i j s = let F : B → Type 0 = λ z. R z i j in subst F (sym s.1) s.2
-
-pub made_complete : {A B : Type 0} (f : A → B) {p : Parser A} {P : Form A} {S : Words → Type 0} → Complete p P S → Complete (made f p) (Made f P) S
-made_complete f {p = p} a y i j s t = bind_is (p i) (λ x k. read_as (f x) k) s.0 j (a s.0 i j s.2 t) ∙ ap (λ z. read_as z j) (sym s.1)
-
-module _ {A B : Type 0} (f : A → B) {p : Parser A} {P M : Form A} {S : Words → Type 0} {e : A → A} (a : Rules p P M S e) where
-  made_gives : (i : Words) (o : Outcome A) → Gives p P M S i o → Gives (made f p) (Made f P) (Made f M) S i (and_then o (λ x j. read_as (f x) j))
-  made_gives i (Ok z) t = record {
-    taken = t.taken;
-    at = t.at;
-    again = λ k h. bind_is (p (t.taken ++ k)) (λ x l. read_as (f x) l) z.0 k (t.again k h);
-    spelled = (z.0, refl, t.spelled);
-  }
-  made_gives i (Err r) t =
-      still i r
-      (λ left u. within i left u (λ x. (f x, [], λ k j v. (v, λ n. (x, refl, n)))) (λ x. (f x, [], λ k j v. (v, λ n. (x, refl, n)))) (λ y k j same n v. (n.0, j, n.2, v)))
-      t
-
-module _ {A B : Type 0} (f : A → B) {p : Parser A} {P M : Form A} {S : Words → Type 0} {e : A → A} {g : B → B} where
-  -- a node but for its places is made of what it is made of, but for its places
-  module _ (same : (x : A) → g (f x) ≡ f (e x)) (a : Rules p P M S e) where
-    pub made_rules : Rules (made f p) (Made f P) (Made f M) S g
-    made_rules = record {
-      tells = λ i. made_gives f a i (p i) (a.tells i);
-      complete = made_complete f a.complete;
-      moves = λ y i j k s t.
-          let c = a.moves s.0 i j k s.2 t in
-          (f c.0, c.1, (c.0, refl, c.2), c.3, same c.0 ∙ ap f c.4 ∙ sym (same s.0) ∙ sym (ap g s.1));
-      more = λ y i j s. (s.0, s.1, a.more s.0 i j s.2);
-    }
-
-  pub made_law : ((x : A) → g (f x) ≡ f (e x)) → Law p P M S e → Law (made f p) (Made f P) (Made f M) S g
-  made_law same a = record { rules = made_rules same a.rules; one = let o = a.one in (f o.0, o.1, λ j t. (o.0, refl, o.2 j t)) }
-
-  -- the node is spelled as what it is made of, with one more inside each other too
-  module _ (R O : Form B) (same : (x : A) → g (f x) ≡ f (e x)) (to : (y : B) (i j : Words) → Made f P y i j → R y i j)
-      (from : (y : B) (i j : Words) → R y i j → Made f P y i j) (to_more : (y : B) (i j : Words) → Made f M y i j → O y i j) where
-    pub node_rules : Rules p P M S e → Rules (made f p) R O S g
-    node_rules a = as_rules to from to_more (made_rules same a)
-
-    pub node_law : Law p P M S e → Law (made f p) R O S g
-    node_law a = as_law to from to_more (made_law same a)
-
 -- ---- marks that the node drops
 
-only_second : {A B : Type 0} (x : A) (o : Outcome B) → and_then (and_then o (λ y j. read_as (x, y) j)) (λ (z : A × B) j. read_as z.1 j) ≡ o
-only_second x (Ok w) = refl
-only_second x (Err r) = refl
+pub steps_in : {A B C : Type 0} (o : Outcome A) (f : A → Parser B) (g : B → Parser C) → and_then (and_then o f) g ≡ and_then o (λ x m. and_then (f x m) g)
+steps_in (Ok z) f g = refl
+steps_in (Err r) f g = refl
 
 second_alone : {A B : Type 0} (o : Outcome A) (q : Parser B)
     → and_then (and_then o (λ x m. and_then (q m) (λ y j. read_as (x, y) j))) (λ (z : A × B) j. read_as z.1 j) ≡ and_then o (λ _ m. q m)
-second_alone (Ok z) q = only_second z.0 (q z.1)
+second_alone {A} {B} (Ok z) q = steps_in {B = A × B} (q z.1) (λ y j. read_as (z.0, y) j) (λ w j. read_as w.1 j) ∙ unchanged (q z.1)
 second_alone (Err r) q = refl
-
-only_first : {A B : Type 0} (x : A) (o : Outcome B) → and_then (and_then o (λ y j. read_as (x, y) j)) (λ (z : A × B) j. read_as z.0 j) ≡ and_then o (λ _ j. read_as x j)
-only_first x (Ok w) = refl
-only_first x (Err r) = refl
 
 pub first_alone : {A B : Type 0} (o : Outcome A) (q : A → Parser B)
     → and_then (and_then o (λ x m. and_then (q x m) (λ y j. read_as (x, y) j))) (λ (z : A × B) j. read_as z.0 j) ≡ and_then o (λ x m. and_then (q x m) (λ _ j. read_as x j))
-first_alone (Ok z) q = only_first z.0 (q z.0 z.1)
+first_alone {A} {B} (Ok z) q = steps_in {B = A × B} (q z.0 z.1) (λ y j. read_as (z.0, y) j) (λ w j. read_as w.0 j)
 first_alone (Err r) q = refl
 
 module _ {A : Type 0} (m : Mark) {p : Parser A} {P M : Form A} {S : Words → Type 0} {e : A → A} (a : Law p P M S e) where
-  behind_to : (R : Form A) (x : A) (i j : Words) → Made (λ (z : Spelling × A). z.1) (Both (IsMark m) R) x i j → Behind m R x i j
-  behind_to R x i j s = let F : A → Type 0 = λ y. Behind m R y i j in let b = s.2 in subst F (sym s.1) (s.0.0, b.0, b.1, b.2)
-
   pub behind_law : Law (behind m p) (Behind m P) (Behind m M) S e
   behind_law =
       same_law (λ i. second_alone (expect m i) p)
-      (as_law (behind_to P) (λ x i j s. ((s.0, x), refl, (s.1, s.2, s.3))) (behind_to M)
-      (made_law (λ (z : Spelling × A). z.1) (λ x. refl) (both_law (mark_law m) a (λ y k j s t. tt))))
+      (formed_law (λ (z : Spelling × A). z.1) (λ j t. t) (λ z i j s. (z.0, s.0, s.1, s.2)) (λ x i j s. ((s.0, x), refl, (s.1, s.2, s.3)))
+      (λ z i j s. (z.0, s.0, s.1, s.2)) (λ z. refl) (both_law (mark_law m) a (λ y k j s t. tt)))
 
-  before_to : (R : Form A) (x : A) (i j : Words) → Made (λ (z : A × Spelling). z.0) (Both R (IsMark m)) x i j → Before R m x i j
-  before_to R x i j s =
-      let F : A → Type 0 = λ y. Before R m y i j in
-      let b = s.2 in
-      let G : Words → Type 0 = λ l. R s.0.0 i l in subst F (sym s.1) (s.0.1, subst G b.2 b.1)
+  before_to : (R : Form A) (z : A × Spelling) (i j : Words) → Both R (IsMark m) z i j → Before R m z.0 i j
+  before_to R z i j s = let G : Words → Type 0 = λ l. R z.0 i l in (z.1, subst G s.2 s.1)
 
   -- at that mark it stops
   pub before_law : ((s : Spelling) (j : Words) → S (Fixed m s ∷ j)) → Law (before p m) (Before P m) (Before M m) Anywhere e
   before_law at =
       same_law (λ i. first_alone (p i) (λ _. expect m))
-      (as_law (before_to P) (λ x i j s. ((x, s.0), refl, (Fixed m s.0 ∷ j, s.1, refl))) (before_to M)
-      (made_law (λ (z : A × Spelling). z.0) (λ x. refl) (both_law a (mark_law m) (λ s k j n t. subst S (sym n) (at s j)))))
+      (formed_law (λ (z : A × Spelling). z.0) (λ j t. t) (before_to P) (λ x i j s. ((x, s.0), refl, (Fixed m s.0 ∷ j, s.1, refl))) (before_to M) (λ z. refl)
+      (both_law a (mark_law m) (λ s k j n t. subst S (sym n) (at s j))))
 
 -- ---- a choice
 
@@ -449,29 +422,23 @@ module _ {A : Type 0} (begins : Words → Bool) {p q : Parser A} {P M Q N : Form
     (apart : (i : Words) (x : A) (m k : Words) (r : IsRead q Q S i x m) → begins i ≡ false → GoodAfter S m k → begins (r.taken ++ k) ≡ false)
     (this_deep : (i left : Words) → begins i ≡ true → TooMany P M S i left → TooMany (Or P Q) (Or M N) S i left)
     (that_deep : (i left : Words) → begins i ≡ false → TooMany Q N S i left → TooMany (Or P Q) (Or M N) S i left) where
-  this_gives : (i : Words) → begins i ≡ true → (o : Outcome A) → Gives p P M S i o → Gives (either begins p q) (Or P Q) (Or M N) S i o
-  this_gives i t (Ok z) r = record {
-    taken = r.taken;
-    at = r.at;
-    again = λ k g.
-        let l : Words = r.taken ++ k in
-        if_true (begins l) (p l) (q l) (first z.0 l k (spelled_again a z.0 i z.1 k r g)) ∙ r.again k g;
-    spelled = inl r.spelled;
-  }
-  this_gives i t (Err s) r = still i s (λ left u. this_deep i left t u) r
-
-  that_gives : (i : Words) → begins i ≡ false → (o : Outcome A) → Gives q Q N S i o → Gives (either begins p q) (Or P Q) (Or M N) S i o
-  that_gives i t (Ok z) r = record {
-    taken = r.taken;
-    at = r.at;
-    again = λ k g. let l : Words = r.taken ++ k in if_false (begins l) (p l) (q l) (apart i z.0 z.1 k r t g) ∙ r.again k g;
-    spelled = inr r.spelled;
-  }
-  that_gives i t (Err s) r = still i s (λ left u. that_deep i left t u) r
+  -- what the one or the other reads, the choice does
+  branch_gives : (r : Parser A) (R O : Form A) → ((x : A) (i j : Words) → R x i j → Or P Q x i j) → (i : Words)
+      → ((x : A) (m : Words) (t : IsRead r R S i x m) (k : Words) → GoodAfter S m k → either begins p q (t.taken ++ k) ≡ r (t.taken ++ k))
+      → ((left : Words) → TooMany R O S i left → TooMany (Or P Q) (Or M N) S i left)
+      → (o : Outcome A) → Gives r R O S i o → Gives (either begins p q) (Or P Q) (Or M N) S i o
+  branch_gives r R O to i same deep (Ok z) t =
+      record { taken = t.taken; at = t.at; again = λ k g. same z.0 z.1 t k g ∙ t.again k g; spelled = to z.0 i z.1 t.spelled }
+  branch_gives r R O to i same deep (Err s) t = still i s deep t
 
   either_gives : (i : Words) (t : Bool) → begins i ≡ t → Gives (either begins p q) (Or P Q) (Or M N) S i (if t then p i else q i)
-  either_gives i true t = this_gives i t (p i) (a.tells i)
-  either_gives i false t = that_gives i t (q i) (b.tells i)
+  either_gives i true e =
+      branch_gives p P M (λ x k j s. inl s) i
+      (λ x m t k g. let l : Words = t.taken ++ k in if_true (begins l) (p l) (q l) (first x l k (spelled_again a x i m k t g)))
+      (λ left u. this_deep i left e u) (p i) (a.tells i)
+  either_gives i false e =
+      branch_gives q Q N (λ x k j s. inr s) i (λ x m t k g. let l : Words = t.taken ++ k in if_false (begins l) (p l) (q l) (apart i x m k t e g))
+      (λ left u. that_deep i left e u) (q i) (b.tells i)
 
   either_complete : (x : A) (i j : Words) → Or P Q x i j → S j → either begins p q i ≡ read_as x j
   either_complete x i j (inl s) t = if_true (begins i) (p i) (q i) (first x i j s) ∙ a.complete x i j s t
@@ -562,13 +529,13 @@ module _ {A : Type 0} (R : Form A) where
 module _ {A : Type 0} {begins : Words → Bool} {p : Parser (Option A)} {P M : Form A} {S : Words → Type 0} {e : A → A} (a : MaybeLaw p P M S begins e) where
   pub optional_law : Law p (Optional P) (Optional M) (λ j. S j × (begins j ≡ false)) (option_map e)
   optional_law =
-      same_law (λ i. ap (λ q. q i) a.is) (record {
+      same_law (λ i. ap (λ q. q i) a.is)
+      (as_law (optional_to P) (optional_from P) (optional_to M) (record {
         rules =
-            as_rules (optional_to P) (optional_from P) (optional_to M)
-            (either_rules begins a.looks (made_rules Some (λ x. refl) (stops_rules (λ j t. t.0) a.rules)) (nothing_law None).rules
-            (λ x i j s. a.starts s.0 i j s.2) (λ x i j s t. ap begins s.1 ∙ t.1));
-        one = (None, [], λ j t. refl);
-      })
+            either_rules begins a.looks (made_rules Some (λ x. refl) (stops_rules (λ j t. t.0) a.rules)) (nothing_law None).rules
+            (λ x i j s. a.starts s.0 i j s.2) (λ x i j s t. ap begins s.1 ∙ t.1);
+        one = (None, [], λ j t. inr (refl, refl));
+      }))
 
   none_by : (b : Bool) (i : Words) (o : Outcome A) (j : Words) → (if b then and_then o (λ x k. read_as (Some x) k) else read_as None i) ≡ read_as None j → b ≡ false
   none_by false i o j s = refl

@@ -13,5 +13,4 @@ pub mod SignalLaws
 pub mod Steps
 pub mod TokenLemmas
 pub mod Turns
-pub mod WayLaws
 pub mod WordLemmas

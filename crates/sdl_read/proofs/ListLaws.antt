@@ -3,8 +3,8 @@ use Rattle.std.proofs.Common.{◌≡◌, ℕ, zero, suc, ◌+◌, ◌<◌, ◌�
 use Rattle.sdl_read.proofs.Grammar.{AreAlike, Spelling, Both, Behind, Optional, Separated, Repeated, Enclosed, Word, Words, Fixed, Parser, Outcome, Refused, Deep, Barred, front, rest, and_then, pure, expect, same_mark, sees, after, ◌⊗◌, behind, before, made, maybe, turns, separated_from, separated, enclosed, repeated_by, repeated_from, repeated}
 use Rattle.sdl_tree.specs.declared.mark.Mark.TheVariants as mark
 use Rattle.sdl_read.proofs.Depth.{SameFront, TooMany, passed_front, front_behind, renamed, onward}
-use Rattle.sdl_read.proofs.Laws.{Form, GoodAfter, IsRead, Told, Gives, Rules, Law, MaybeLaw, Anywhere, Takes, Made, was_read, sound, spelled_again, later, as_law, same_law, both_law, behind_law, before_law, made_rules, made_law, as_rules, maybe_law, passes, some_read}
-use Rattle.sdl_read.proofs.Steps.{read_as, none_as, some_as, same_rest, as_read, not_read, not_refused, not_some, bind_is, if_true, if_false, sees_ok, sees_at, sees_front, after_seen, after_other, rest_again, expect_again, alike_from, first_word}
+use Rattle.sdl_read.proofs.Laws.{Form, GoodAfter, IsRead, Told, Gives, Rules, Law, MaybeLaw, Anywhere, Takes, Made, was_read, sound, spelled_again, later, same_law, both_law, behind_law, before_law, formed_rules, formed_law, steps_in, unchanged, maybe_law, passes, some_read}
+use Rattle.sdl_read.proofs.Steps.{read_as, none_as, some_as, same_value, same_rest, as_read, not_read, not_refused, not_some, bind_is, if_true, if_false, sees_ok, sees_at, sees_front, sees_last, after_seen, after_other, rest_again, expect_again, alike_from, first_word}
 
 split : (a b c d : Words) → a ++ b ≡ c ++ d
     → ((w : Words) × (c ≡ a ++ w) × (b ≡ w ++ d)) ⊎ ((v : Word) × (w : Words) × (a ≡ c ++ v ∷ w) × (d ≡ v ∷ (w ++ b)))
@@ -48,18 +48,6 @@ list_of xs o = (xs, o)
 abbrev single : {A B : Type 0} → A ⊎ B → List A × Option B
 single (inl x) = list_of (x ∷ []) None
 single (inr y) = list_of [] (Some y)
-
-abbrev left_or : {A B : Type 0} → A → A ⊎ B → A
-left_or d (inl x) = x
-left_or d (inr y) = d
-
-abbrev right_or : {A B : Type 0} → B → A ⊎ B → B
-right_or d (inl x) = d
-right_or d (inr y) = y
-
-abbrev is_left : {A B : Type 0} → A ⊎ B → Bool
-is_left (inl x) = true
-is_left (inr y) = false
 
 abbrev pub Until : {A B : Type 0} → Form (A ⊎ B) → Form (List A × Option B)
 Until P = Both (Repeated (λ x. P (inl x))) (Optional (λ y. P (inr y)))
@@ -177,12 +165,12 @@ module _ {A B : Type 0} {begins : Words → Bool} {p : Parser (Option (A ⊎ B))
   -- ---- words that differ in places alone
 
   is_item : (z : A ⊎ B) (x : A) (k l : Words) → P z k l → erased_both f g z ≡ inl (f x) → (y : A) × P (inl y) k l × (f y ≡ f x)
-  is_item (inl y) x k l s e = (y, s, ap (left_or {B = B} (f x)) e)
-  is_item (inr y) x k l s e = absurd (true≢false (sym (ap is_left e)))
+  is_item (inl y) x k l s e = (y, s, cc)
+  is_item (inr y) x k l s e = absurd cc
 
   is_last : (z : A ⊎ B) (x : B) (k l : Words) → P z k l → erased_both f g z ≡ inr (g x) → (y : B) × P (inr y) k l × (g y ≡ g x)
-  is_last (inl y) x k l s e = absurd (true≢false (ap is_left e))
-  is_last (inr y) x k l s e = (y, s, ap (right_or {A = A} (g x)) e)
+  is_last (inl y) x k l s e = absurd cc
+  is_last (inr y) x k l s e = (y, s, cc)
 
   abbrev erased_until : List A × Option B → List A × Option B
   erased_until r = (map f r.0, option_map g r.1)
@@ -256,8 +244,9 @@ module _ {A B : Type 0} {begins : Words → Bool} {p : Parser (Option (A ⊎ B))
       absurd (true≢false (sym (a.starts (inl x) (u ++ k) k (sound a.rules (u ++ k) (inl x) k s)) ∙ ap begins (n.1 ∙ n.2) ∙ v.1))
   other_items u x k s [] (Some y) j n v =
       let F : Words → Type 0 = λ l. P (inr y) l j in
-      let G : A ⊎ B → Words → Type 0 = λ z l. is_left z ≡ true in
-      absurd (true≢false (sym (as_read G (inl x) (inr y) k j (sym s ∙ weak (inr y) (u ++ k) j (subst F (sym n.1) n.2) (weaker j v.0)) refl)))
+      let apart : ◌≡◌ {A = A ⊎ B} (inl x) (inr y) =
+      same_value {A = A ⊎ B} (inl x) (inr y) k j (sym s ∙ weak (inr y) (u ++ k) j (subst F (sym n.1) n.2) (weaker j v.0)) in
+      absurd cc
   other_items u x k s (z ∷ zs) o j n v =
       let b = n.1 in
       let there : k ≡ b.0 =
@@ -357,9 +346,6 @@ abbrev Alone : {A : Type 0} → Form A → Form (A ⊎ ⊥)
 Alone R (inl x) i j = R x i j
 Alone R (inr y) i j = ⊥
 
-alone_to : {A : Type 0} (R : Form A) (z : A ⊎ ⊥) (i j : Words) → Made goes_on R z i j → Alone R z i j
-alone_to {A} R z i j s = let F : A ⊎ ⊥ → Type 0 = λ y. Alone R y i j in subst F (sym s.1) s.2
-
 alone_from : {A : Type 0} (R : Form A) (z : A ⊎ ⊥) (i j : Words) → Alone R z i j → Made goes_on R z i j
 alone_from R (inl x) i j s = (x, refl, s)
 alone_from R (inr y) i j s = absurd s
@@ -381,7 +367,7 @@ module _ {A : Type 0} {begins : Words → Bool} {p : Parser (Option A)} {P M : F
   alone = record {
     item = made goes_on a.item;
     is = refl;
-    rules = as_rules (alone_to P) (alone_from P) (alone_to M) (made_rules goes_on (λ x. refl) a.rules);
+    rules = formed_rules goes_on (λ j t. t) (λ x i j s. s) (alone_from P) (λ x i j s. s) (λ x. refl) a.rules;
     starts = starts_alone;
     looks = a.looks;
     ends = a.ends;
@@ -414,24 +400,15 @@ module _ {A : Type 0} {begins : Words → Bool} {p : Parser (Option A)} {P M : F
   from_turn n found i =
       ap (λ (r : Parser (Option A)). and_then (and_then (r i) (λ q m. repeated_by found (repeated_from p n) q m)) paired) (sym a.is) ∙ turn_by n found i (begins i) (a.item i)
 
-  unpaired : (o : Outcome (List A)) → and_then (and_then o paired) (λ r j. read_as r.0 j) ≡ o
-  unpaired (Ok z) = refl
-  unpaired (Err r) = refl
-
   abbrev items : List A × Option ⊥ → List A
   items r = r.0
-
-  all_to : (R : Form A) (xs : List A) (i j : Words) → Made items (Until (Alone R)) xs i j → Repeated R xs i j
-  all_to R xs i j s =
-      let b = s.2 in
-      let F : List A → Type 0 = λ ys. Repeated R ys i j in subst F (sym s.1) (all_of R s.0.0 s.0.1 i b.0 j b.1 b.2)
 
   -- and where none begins
   pub repeated_open_law : Law (repeated p) (Repeated P) (Repeated M) (λ j. S j × (begins j ≡ false)) (map e)
   repeated_open_law =
-      same_law (λ i. unpaired (repeated p i))
-      (as_law (all_to P) (λ xs i j s. (list_of xs None, refl, (j, s, refl))) (all_to M)
-      (made_law items (λ x. refl) (until_open_law alone weak_alone at_start weaker last from from_none from_turn)))
+      same_law (λ i. steps_in (repeated p i) paired (λ r j. read_as r.0 j) ∙ unchanged (repeated p i))
+      (formed_law items (λ j t. t) (λ r i j s. all_of P r.0 r.1 i s.0 j s.1 s.2) (λ xs i j s. (list_of xs None, refl, (j, s, refl)))
+      (λ r i j s. all_of M r.0 r.1 i s.0 j s.1 s.2) (λ x. refl) (until_open_law alone weak_alone at_start weaker last from from_none from_turn))
 
 -- an item stops where another begins
 module _ {A : Type 0} {begins : Words → Bool} {p : Parser (Option A)} {P M : Form A} {S : Words → Type 0} {e : A → A} (a : MaybeLaw p P M S begins e)
@@ -446,10 +423,6 @@ module _ {A : Type 0} {begins : Words → Bool} {p : Parser (Option A)} {P M : F
   repeated_begins (x ∷ xs) i j s stop = at_start i (a.starts x i s.0 s.1)
 
 -- ---- x {"," x}: an item, and others that each stand behind a comma
-
-no_comma_last : sees mark.Comma [] ≡ false
-unfolding sees front
-no_comma_last = refl
 
 pub no_comma_at_close : (s : Spelling) (j : Words) → sees mark.Comma (Fixed mark.Close s ∷ j) ≡ false
 unfolding sees front same_mark
@@ -489,11 +462,6 @@ module _ {A : Type 0} (item : Parser A) where
   others_none (suc k) found m e =
       bind_is (another m) (λ q l. repeated_by found (repeated_from another k) q l) None m (if_false (sees mark.Comma m) (and_then (behind mark.Comma item m) (λ y j. some_as y j)) (none_as m) e)
 
-  with_some : (k : ℕ) (found : List A) (o : Outcome A)
-      → and_then (and_then o (λ y j. some_as y j)) (λ q l. repeated_by found (repeated_from another k) q l) ≡ and_then o (λ x m. repeated_from another k (found ++ x ∷ []) m)
-  with_some k found (Ok z) = refl
-  with_some k found (Err r) = refl
-
   others_more : (k : ℕ) (found : List A) (s : Spelling) (l : Words)
       → repeated_from another (suc k) found (Fixed mark.Comma s ∷ l) ≡ and_then (item l) (λ x m. repeated_from another k (found ++ x ∷ []) m)
   unfolding repeated_from
@@ -502,7 +470,7 @@ module _ {A : Type 0} (item : Parser A) where
       ap (λ (o : Outcome (Option A)). and_then o (λ q r. repeated_by found (repeated_from another k) q r))
       (if_true (sees mark.Comma m) (and_then (behind mark.Comma item m) (λ y j. some_as y j)) (none_as m) (sees_at mark.Comma s m l refl)
       ∙ ap (λ (o : Outcome Spelling). and_then (and_then o (λ _ j. item j)) (λ y j. some_as y j)) (expect_again mark.Comma s l))
-      ∙ with_some k found (item l)
+      ∙ steps_in (item l) (λ y j. some_as y j) (λ q r. repeated_by found (repeated_from another k) q r)
 
   cons_by : (k : ℕ) (x : A) (found : List A) → ((done : List A) (m : Words) → repeated_from another k (x ∷ done) m ≡ and_then (repeated_from another k done m) (λ ys j. read_as (x ∷ ys) j))
       → (o : Outcome (Option A)) → and_then o (λ q l. repeated_by (x ∷ found) (repeated_from another k) q l)
@@ -516,10 +484,6 @@ module _ {A : Type 0} (item : Parser A) where
   unfolding repeated_from
   cons_others zero x found m = refl
   cons_others (suc k) x found m = cons_by k x found (cons_others k x) (another m)
-
-  pair_joined : (x : A) (o : Outcome (List A)) → and_then o (λ ys j. read_as (x ∷ ys) j) ≡ and_then (and_then o (λ ys j. read_as (x, ys) j)) (λ z j. read_as (joined z) j)
-  pair_joined x (Ok z) = refl
-  pair_joined x (Err r) = refl
 
   -- Both readings of a list are the same where as many turns are left as there are words, or some (`spare`) fewer, if what
   -- follows refuses the words where they are too few.
@@ -558,7 +522,7 @@ module _ {A : Type 0} (item : Parser A) where
         ≡ and_then (and_then (and_then o (λ x m. and_then (repeated another m) (λ ys j. read_as (x, ys) j))) (λ z j. read_as (joined z) j)) h
     whole_by n (Ok z) known =
         same_tail n (length z.1) (z.0 ∷ []) z.1 (known z.0 z.1 refl) (omega arith)
-        ∙ ap (λ o. and_then o h) (cons_others (length z.1) z.0 [] z.1 ∙ pair_joined z.0 (repeated another z.1))
+        ∙ ap (λ o. and_then o h) (cons_others (length z.1) z.0 [] z.1 ∙ sym (steps_in {B = A × List A} (repeated another z.1) (λ ys j. read_as (z.0, ys) j) (λ y j. read_as (joined y) j)))
     whole_by n (Err r) known = refl
 
     whole_same : (i : Words) → ((x : A) (m : Words) → item i ≡ read_as x m → length m < length i + spare)
@@ -566,10 +530,6 @@ module _ {A : Type 0} (item : Parser A) where
     unfolding separated_from turns
     whole_same [] known = whole_by zero (item []) (λ x m read. let less = known x m read in omega (arith, less))
     whole_same (w ∷ i) known = whole_by (length i) (item (w ∷ i)) (λ x m read. let less = known x m read in omega (arith, less))
-
-  unchanged : (o : Outcome (List A)) → and_then o (λ xs j. read_as xs j) ≡ o
-  unchanged (Ok z) = refl
-  unchanged (Err r) = refl
 
 module _ {A : Type 0} {item : Parser A} {P M : Form A} {S : Words → Type 0} {e : A → A} (a : Law item P M S e)
     (at_comma : (s : Spelling) (m : Words) → S (Fixed mark.Comma s ∷ m)) (last : S []) where
@@ -580,7 +540,7 @@ module _ {A : Type 0} {item : Parser A} {P M : Form A} {S : Words → Type 0} {e
   comma_stops i e = let at = sees_ok mark.Comma i e in subst S (sym at.1) (at_comma at.0 (rest i))
 
   another_law : MaybeLaw (another item) (Behind mark.Comma P) (Behind mark.Comma M) S (sees mark.Comma) e
-  another_law = maybe_law (sees mark.Comma) (sees_front mark.Comma) (behind_law mark.Comma a).rules no_comma_last (λ x i j s. sees_at mark.Comma s.0 i s.1 s.2)
+  another_law = maybe_law (sees mark.Comma) (sees_front mark.Comma) (behind_law mark.Comma a).rules (sees_last mark.Comma) (λ x i j s. sees_at mark.Comma s.0 i s.1 s.2)
 
   others_stop : (ys : List A) (m j : Words) → Others P ys m j → S j × (sees mark.Comma j ≡ false) → S m
   others_stop [] m j s t = subst S (sym s) t.0
@@ -594,11 +554,6 @@ module _ {A : Type 0} {item : Parser A} {P M : Form A} {S : Words → Type 0} {e
   list_from x [] i j s = (j, s, refl)
   list_from x (y ∷ ys) i j s = let b = list_from y ys s.1 j s.3 in (Fixed mark.Comma s.0 ∷ s.1, s.2, (b.0, (s.0, s.1, refl, b.1), b.2))
 
-  joined_to : (R : Form A) (xs : List A) (i j : Words) → Made (joined item) (Both R (Others R)) xs i j → Separated R xs i j
-  joined_to R xs i j s =
-      let b = s.2 in
-      let F : List A → Type 0 = λ ys. Separated R ys i j in subst F (sym s.1) (list_to R s.0.0 s.0.1 i b.0 j b.1 b.2)
-
   joined_from : (xs : List A) (i j : Words) → Separated P xs i j → Made (joined item) (Both P (Others P)) xs i j
   joined_from [] i j s = absurd s
   joined_from (x ∷ xs) i j s = ((x, xs), refl, list_from x xs i j s)
@@ -606,8 +561,8 @@ module _ {A : Type 0} {item : Parser A} {P M : Form A} {S : Words → Type 0} {e
   -- and not at a comma
   joined_law : Law (made (joined item) (item ⊗ repeated (another item))) (Separated P) (Separated M) (λ j. S j × (sees mark.Comma j ≡ false)) (map e)
   joined_law =
-      as_law (joined_to P) joined_from (joined_to M)
-      (made_law (joined item) (λ x. refl) (both_law a (repeated_law another_law comma_stops last) others_stop))
+      formed_law (joined item) (λ j t. t) (λ x i j s. list_to P x.0 x.1 i s.0 j s.1 s.2) joined_from (λ x i j s. list_to M x.0 x.1 i s.0 j s.1 s.2) (λ x. refl)
+      (both_law a (repeated_law another_law comma_stops last) others_stop)
 
   reads_on : (i : Words) (x : A) (m : Words) → item i ≡ read_as x m → length m ≤ length i
   reads_on i x m s = let r = was_read a.rules i x m s in let same = ap length r.at ∙ length-append r.taken m in omega (arith, same)
@@ -622,7 +577,7 @@ module _ {A : Type 0} {item : Parser A} {P M : Form A} {S : Words → Type 0} {e
     unfolding separated_from expect front
     none_left k found [] less =
         sym (ap (λ o. and_then (and_then o (λ x m. repeated_from (another item) k (found ++ x ∷ []) m)) then_close) empty
-        ∙ ap (λ o. and_then o then_close) (others_none item k (found ++ c ∷ []) [] no_comma_last))
+        ∙ ap (λ o. and_then o then_close) (others_none item k (found ++ c ∷ []) [] (sees_last mark.Comma)))
     none_left k found (w ∷ l) less = absurd (omega arith)
 
     spaced_same : (i : Words) → before (separated item) mark.Close i ≡ before (made (joined item) (item ⊗ repeated (another item))) mark.Close i
@@ -645,9 +600,9 @@ module _ {A : Type 0} {item : Parser A} {P M : Form A} {S : Words → Type 0} {e
 
   separated_same : (i : Words) → separated item i ≡ made (joined item) (item ⊗ repeated (another item)) i
   separated_same i =
-      sym (unchanged item (separated item i))
+      sym (unchanged (separated item i))
       ∙ whole_same item 0 (λ xs j. read_as xs j) (reads_on a at_comma last) too_few i (λ x m s. let less = shorter a.rules takes last i x m (was_read a.rules i x m s) in omega (arith, less))
-      ∙ unchanged item (made (joined item) (item ⊗ repeated (another item)) i)
+      ∙ unchanged (made (joined item) (item ⊗ repeated (another item)) i)
 
   pub separated_law : Law (separated item) (Separated P) (Separated M) (λ j. S j × (sees mark.Comma j ≡ false)) (map e)
   separated_law = same_law (λ i. sym (separated_same i)) (joined_law a at_comma last)

@@ -1,40 +1,34 @@
 -- Operators and keyword operands, and their marks.
 use Rattle.std.proofs.Common.{◌≡◌, ℕ, ◌<◌, ◌≤◌, ◌==◌, inl, inr, true, false, is_some, [], ◌∷◌, Option, Some, None, Ok, Err, refl, sym, ap, ◌∙◌, arith}
 use Rattle.std.proofs.lemmas.Bool.Decides.{nat_tests}
-use Rattle.sdl_read.proofs.Grammar.{KeywordValue, UnaryOperator, Operator, Mark, Spelling, erased_word, plain, looseness, operator_mark, value_mark, unary_mark, IsMark, Words, Fixed, Outcome, Refused, and_then, on, mark_by, front, mark_at, expect, operator_of, by_mark, of_level, operator_at, value_of, value_at, unary_of, unary_at, marked, sees_operator}
+use Rattle.sdl_read.proofs.Grammar.{KeywordValue, UnaryOperator, Operator, Mark, Spelling, erased_word, plain, looseness, operator_mark, value_mark, unary_mark, IsMark, SpellsEnd, Words, Fixed, Outcome, Refused, and_then, on, mark_by, front, mark_at, expect, operator_of, by_mark, of_level, operator_at, value_at, unary_at, marked, sees_operator}
 use Rattle.sdl_tree.specs.declared.expressions.KeywordValue.TheVariants as value
 use Rattle.sdl_tree.specs.declared.expressions.UnaryOperator.TheVariants as unary
 use Rattle.sdl_tree.specs.declared.expressions.Operator.TheVariants as operator
+use Rattle.sdl_tree.specs.declared.mark.Mark.TheVariants as mark
 use Rattle.sdl_read.proofs.Depth.{SameFront, no_deeper}
 use Rattle.sdl_read.proofs.Laws.{Form, Gives, Rules, Law, Anywhere, still, mark_law}
+use Rattle.sdl_read.proofs.PartLaws.{end_begins}
 use Rattle.sdl_read.proofs.Steps.{read_as, rest_here, bind_is, chosen, if_true, if_false, expect_again, alike_fixed, alike_from}
 
 pub operator_of_again : (o : Operator) → operator_of (operator_mark o) ≡ Some o
 operator_of_again operator.Implies = refl
 operator_of_again o = refl
 
-pub value_of_again : (v : KeywordValue) → value_of (value_mark v) ≡ Some v
-value_of_again value.True = refl
-value_of_again v = refl
-
-pub unary_of_again : (o : UnaryOperator) → unary_of (unary_mark o) ≡ Some o
-unary_of_again unary.Minus = refl
-unary_of_again o = refl
-
 pub value_at_again : (v : KeywordValue) (s : Spelling) (j : Words) → value_at (Fixed (value_mark v) s ∷ j) ≡ Some v
 unfolding value_at mark_at front
-value_at_again v s j = value_of_again v
+value_at_again value.True s j = refl
+value_at_again v s j = refl
 
 pub unary_at_again : (o : UnaryOperator) (s : Spelling) (j : Words) → unary_at (Fixed (unary_mark o) s ∷ j) ≡ Some o
 unfolding unary_at mark_at front
-unary_at_again o s j = unary_of_again o
+unary_at_again unary.Minus s j = refl
+unary_at_again o s j = refl
 
 of_level_ok : (k : ℕ) (p : Option Operator) (o : Operator) → of_level k p ≡ Some o → (p ≡ Some o) × (looseness o ≡ k)
 of_level_ok k None o e = absurd cc
 of_level_ok k (Some q) o e = elim (chosen (looseness q == k) (Some q) None (Some o) e) [
-  | inl s ↦
-      let same : q ≡ o = cc in
-      let level : looseness q ≡ k = grind (arith, nat_tests, s.0) in (ap Some same, sym (ap looseness same) ∙ level)
+  | inl s ↦ (s.1, let same : q ≡ o = cc in let level : looseness q ≡ k = grind (arith, nat_tests, s.0) in sym (ap looseness same) ∙ level)
   | inr s ↦ absurd cc
 ]
 
@@ -56,6 +50,14 @@ some_of (Some v) e = (v, refl)
 
 abbrev pub Stops : ℕ → Words → Type 0
 Stops k j = (o : Operator) → by_mark operator_of (mark_at j) ≡ Some o → k < looseness o
+
+-- it stops at a mark that is no operator
+pub stops_at : (m : Mark) → operator_of m ≡ None → (k : ℕ) (s : Spelling) (j : Words) → Stops k (Fixed m s ∷ j)
+unfolding mark_at front
+stops_at m none k s j o e = absurd (let apart : ◌≡◌ {A = Option Operator} None (Some o) = sym none ∙ e in cc)
+
+pub stops_end : (k : ℕ) (i j : Words) → SpellsEnd i j → Stops k i
+stops_end k = end_begins (Stops k) (stops_at mark.Semicolon refl k) (stops_at mark.Comment refl k)
 
 -- and at the end of the text
 pub stops_last : (k : ℕ) → Stops k []

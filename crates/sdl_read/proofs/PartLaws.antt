@@ -1,12 +1,12 @@
 -- The laws of the productions that stand in many others.
 use Rattle.std.proofs.Common.{◌≡◌, ◌⊎◌, inl, inr, true, false, List, [], ◌∷◌, map, pos, refl, sym, ap, ◌∙◌, subst}
 use Rattle.sdl_tree.specs.declared.mark.Mark.TheVariants as mark
-use Rattle.sdl_read.proofs.Grammar.{Spelling, plain, erased_name, erased_number, erased_item, IsMark, Both, Behind, Before, Enclosed, InParentheses, SpellsName, SpellsNumber, SpellsEnd, SpellsSig, Number, SignalListItem, SignalItem, ListItem, Words, Spot, Fixed, Parser, front, rest, sees, same_mark, is_name, sees_name, name, number, text, enclosed, in_parentheses, end, sig}
+use Rattle.sdl_read.proofs.Grammar.{Mark, Spelling, plain, erased_name, erased_number, erased_item, IsMark, Both, Behind, Before, Enclosed, InParentheses, SpellsName, SpellsNumber, SpellsEnd, SpellsSig, Number, SignalListItem, SignalItem, ListItem, Words, Spot, Fixed, Parser, front, rest, sees, same_mark, is_name, sees_name, name, number, text, enclosed, in_parentheses, end, sig}
 use Rattle.sdl_tree.specs.Words as word
 use Rattle.sdl_read.proofs.Depth.{SameFront}
 use Rattle.sdl_read.proofs.Laws.{Form, Gives, Law, Anywhere, Takes, Made, Nothing, as_law, stops_law, single_law, mark_law, nothing_law, behind_law, before_law, made_law, either_law, either_as, made_as, then_law}
 use Rattle.sdl_read.proofs.ListLaws.{no_comma_at_close, separated_law}
-use Rattle.sdl_read.proofs.Steps.{no_words, rest_here, sees_front, sees_at, alike_name, alike_number, alike_text, alike_from}
+use Rattle.sdl_read.proofs.Steps.{no_words, rest_here, sees_front, sees_at, sees_other, alike_name, alike_number, alike_text, alike_from}
 
 -- ---- single words
 
@@ -16,9 +16,8 @@ nameless = record { text = []; place = plain.place }
 
 name_tells : (i : Words) → Gives name SpellsName SpellsName Anywhere i (name i)
 unfolding name front rest
-name_tells [] = rest_here []
 name_tells (word.Name x ∷ i) = record { taken = word.Name x ∷ []; at = refl; again = λ k g. refl; spelled = refl }
-name_tells (w ∷ i) = rest_here (w ∷ i)
+name_tells i = rest_here i
 
 -- a name, of which what is kept depends on its text alone
 pub name_as : (erased : Spot → Spot) → ((x y : Spot) → x.text ≡ y.text → erased x ≡ erased y) → Law name SpellsName SpellsName Anywhere erased
@@ -34,9 +33,8 @@ name_law = name_as erased_name (λ x y e n. record { text = e n; place = (erased
 
 number_tells : (i : Words) → Gives number SpellsNumber SpellsNumber Anywhere i (number i)
 unfolding number front rest
-number_tells [] = rest_here []
 number_tells (word.Number n x ∷ i) = record { taken = word.Number n x ∷ []; at = refl; again = λ k g. refl; spelled = refl }
-number_tells (w ∷ i) = rest_here (w ∷ i)
+number_tells i = rest_here i
 
 pub number_law : Law number SpellsNumber SpellsNumber Anywhere erased_number
 unfolding number front rest
@@ -57,9 +55,8 @@ whole u = u
 
 text_tells : (i : Words) → Gives text SpellsText SpellsText Anywhere i (text i)
 unfolding text front rest
-text_tells [] = rest_here []
 text_tells (word.Text x ∷ i) = record { taken = word.Text x ∷ []; at = refl; again = λ k g. refl; spelled = (x, refl) }
-text_tells (w ∷ i) = rest_here (w ∷ i)
+text_tells i = rest_here i
 
 text_law : Law text SpellsText SpellsText Anywhere whole
 unfolding text front rest
@@ -72,6 +69,18 @@ text_law = single_law
 pub name_front : (i k : Words) → SameFront i k → sees_name i ≡ sees_name k
 unfolding sees_name
 name_front i k e = ap is_name e
+
+pub name_begins : (x : Spot) (i j : Words) → i ≡ word.Name x ∷ j → sees_name i ≡ true
+unfolding sees_name front
+name_begins x i j e = ap sees_name e
+
+pub name_last : sees_name [] ≡ false
+unfolding sees_name front
+name_last = refl
+
+pub no_name : (m : Mark) (s : Spelling) (j : Words) → sees_name (Fixed m s ∷ j) ≡ false
+unfolding sees_name front
+no_name m s j = refl
 
 pub name_takes : Takes SpellsName
 name_takes x j e = no_words e
@@ -108,6 +117,9 @@ pub end_begins : (P : Words → Type 0) → ((s : Spelling) (m : Words) → P (F
     → (i j : Words) → SpellsEnd i j → P i
 end_begins P at_semicolon at_comment i j (inl s) = subst P (sym s.1) (at_semicolon s.0 j)
 end_begins P at_semicolon at_comment i j (inr s) = subst P (sym s.3) (at_comment s.0 (word.Text s.2 ∷ Fixed mark.Semicolon s.1 ∷ j))
+
+pub end_other : (m : Mark) → same_mark mark.Semicolon m ≡ false → same_mark mark.Comment m ≡ false → (i j : Words) → SpellsEnd i j → sees m i ≡ false
+end_other m a b = end_begins (λ i. sees m i ≡ false) (sees_other m mark.Semicolon a) (sees_other m mark.Comment b)
 
 -- ---- "(" x {"," x} ")"
 

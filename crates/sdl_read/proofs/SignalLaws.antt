@@ -3,22 +3,23 @@ use Rattle.std.proofs.Common.{◌≡◌, ◌⊎◌, inl, inr, Bool, true, false,
 use Rattle.sdl_read.proofs.Grammar.{Mark, erased_sort, erased_item, erased_signal, erased_signal_list, erased_signal_set, SpellsSignalName, SpellsSignal, SpellsSignalList, SpellsSignalSet, InParentheses, Begins, SpellsName, Ended, SpellsSig, SpellsSigs, sort_of, SignalItem, ListItem, Words, Parser, made, either, maybe, front, rest, sees, sees_name, same_mark, name, separated, in_parentheses, ended, sees_one, signal_with, signal_name, signal, sig, signal_list_with, signal_list, signal_set_with, signal_set}
 use Rattle.sdl_tree.specs.declared.mark.Mark.TheVariants as mark
 use Rattle.sdl_read.proofs.Depth.{SameFront}
-use Rattle.sdl_read.proofs.Laws.{Form, Rules, Law, MaybeLaw, Anywhere, Takes, Made, Or, either_as, as_law, mark_law, behind_law, made_law, first_law, maybe_law, then_law}
+use Rattle.sdl_read.proofs.Laws.{Form, Rules, Law, MaybeLaw, Anywhere, Takes, Or, either_as, as_law, mark_law, behind_law, formed_law, first_law, maybe_law, then_law}
 use Rattle.sdl_read.proofs.ListLaws.{separated_law}
 use Rattle.sdl_read.proofs.PartLaws.{name_as, name_law, name_takes, in_parentheses_law, sig_law}
 use Rattle.sdl_read.proofs.ClosingLaws.{ended_at_law}
-use Rattle.sdl_read.proofs.Steps.{no_words, true_or_false, sees_ok, sees_at, sees_front}
+use Rattle.sdl_read.proofs.Steps.{no_words, true_or_false, sees_last, sees_ok, sees_at, sees_front}
 
 -- ---- nodes that are records
 
 -- a record is made of its fields
-module _ {A B : Type 0} (f : A → B) (fields : B → A) {p : Parser A} {P M : Form A} {S : Words → Type 0} {e : A → A} {g : B → B} where
-  pub record_law : ((x : A) → g (f x) ≡ f (e x)) → ((x : A) → fields (f x) ≡ x) → ((y : B) → f (fields y) ≡ y)
-      → Law p P M S e → Law (made f p) (λ y i j. P (fields y) i j) (λ y i j. M (fields y) i j) S g
-  record_law same again back a = as_law (spelled P) (λ y i j s. (fields y, sym (back y), s)) (spelled M) (made_law f same a)
-    where
-      spelled : (R : Form A) (y : B) (i j : Words) → Made f R y i j → R (fields y) i j
-      spelled R y i j s = let Q : A → Type 0 = λ x. R x i j in subst Q (sym (again s.0) ∙ ap fields (sym s.1)) s.2
+pub record_law : {A B : Type 0} (f : A → B) (fields : B → A) {p : Parser A} {P M : Form A} {S : Words → Type 0} {e : A → A} {g : B → B}
+    → ((x : A) → g (f x) ≡ f (e x)) → ((x : A) → fields (f x) ≡ x) → ((y : B) → f (fields y) ≡ y)
+    → Law p P M S e → Law (made f p) (λ y i j. P (fields y) i j) (λ y i j. M (fields y) i j) S g
+record_law {A} f fields {P = P} {M = M} same again back a =
+    formed_law f (λ j t. t) (of_fields P) (λ y i j s. (fields y, sym (back y), s)) (of_fields M) same a
+  where
+    of_fields : (R : Form A) (x : A) (i j : Words) → R x i j → R (fields (f x)) i j
+    of_fields R x i j s = let Q : A → Type 0 = λ y. R y i j in subst Q (sym (again x)) s
 
 -- ---- what begins with a mark, and takes it
 
@@ -100,18 +101,14 @@ pub one_front : (ms : List Mark) (i k : Words) → SameFront i k → sees_one ms
 one_front [] i k same = refl
 one_front (m ∷ ms) i k same = λ n. sees_front m i k same n || one_front ms i k same n
 
-pub no_mark : (m : Mark) → sees m [] ≡ false
-unfolding sees front
-no_mark m = refl
-
 pub none_at_end : (ms : List Mark) → sees_one ms [] ≡ false
 none_at_end [] = refl
-none_at_end (m ∷ ms) = λ n. no_mark m n || none_at_end ms n
+none_at_end (m ∷ ms) = λ n. sees_last m n || none_at_end ms n
 
 -- [x], where x begins with this mark
 pub maybe_mark : {A : Type 0} (m : Mark) {p : Parser A} {P M : Form A} {S : Words → Type 0} {e : A → A} → Law p P M S e → Opens m P
     → MaybeLaw (maybe (sees m) p) P M S (sees m) e
-maybe_mark m {P = P} a opens = maybe_law (sees m) (sees_front m) a.rules (no_mark m) (opens_seen m P opens)
+maybe_mark m {P = P} a opens = maybe_law (sees m) (sees_front m) a.rules (sees_last m) (opens_seen m P opens)
 
 -- what is read, and the marks with one of which it begins
 pub record Choice {A : Type 0} (p : Parser A) (P M : Form A) (S : Words → Type 0) (marks : List Mark) (erased : A → A) : Type 0 where

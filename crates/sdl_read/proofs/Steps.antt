@@ -39,14 +39,14 @@ pub true_or_false : (b : Bool) → (b ≡ true) ⊎ (b ≡ false)
 true_or_false true = inl refl
 true_or_false false = inr refl
 
+pub swapped : {X Y : Type 0} → X ⊎ Y → Y ⊎ X
+swapped (inl x) = inr x
+swapped (inr y) = inl y
+
 -- ---- outcomes
 
-abbrev got : {A : Type 0} → A × Words → Outcome A → A × Words
-got d (Ok p) = p
-got d (Err e) = d
-
 pub same_pair : {A : Type 0} (x y : A) (j k : Words) → read_as x j ≡ read_as y k → ◌≡◌ {A = A × Words} (x, j) (y, k)
-same_pair x y j k e = ap (got (x, j)) e
+same_pair x y j k e = cc
 
 pub same_value : {A : Type 0} (x y : A) (j k : Words) → read_as x j ≡ read_as y k → x ≡ y
 same_value x y j k e = ap (λ p. p.0) (same_pair x y j k e)
@@ -109,9 +109,8 @@ same_mark_again m = true_same the_type m m refl
 -- the mark that is seen stands there
 pub sees_ok : (m : Mark) (i : Words) → sees m i ≡ true → (s : Spelling) × (i ≡ Fixed m s ∷ rest i)
 unfolding sees front rest
-sees_ok m [] e = absurd (true≢false (sym e))
 sees_ok m (Fixed n s ∷ i) e = (s, ap (λ k. Fixed k s ∷ i) (same_mark_ok n m e))
-sees_ok m (w ∷ i) e = absurd (true≢false (sym e))
+sees_ok m i e = absurd (true≢false (sym e))
 
 pub sees_again : (m : Mark) (s : Spelling) (i : Words) → sees m (Fixed m s ∷ i) ≡ true
 unfolding sees front
@@ -125,6 +124,15 @@ sees_front m i k e = ap (is_fixed m) e
 -- it is seen wherever it stands
 pub sees_at : (m : Mark) (s : Spelling) (i j : Words) → i ≡ Fixed m s ∷ j → sees m i ≡ true
 sees_at m s i j e = ap (sees m) e ∙ sees_again m s j
+
+pub sees_last : (m : Mark) → sees m [] ≡ false
+unfolding sees front
+sees_last m = refl
+
+-- another mark isn't seen
+pub sees_other : (m n : Mark) → same_mark n m ≡ false → (s : Spelling) (j : Words) → sees m (Fixed n s ∷ j) ≡ false
+unfolding sees front
+sees_other m n apart s j = apart
 
 pub after_seen : (m : Mark) (i : Words) → sees m i ≡ true → after m i ≡ rest i
 unfolding after
