@@ -44,11 +44,6 @@ ended_at_law {S = S} a at_semicolon at_comment = ended_law a (end_begins S at_se
 abbrev pub Named : (List ℕ → Bool) → Words → Words → Type 0
 Named good i j = (i ≡ j) ⊎ ((y : Spot) × (good y.text ≡ true) × (i ≡ word.Name y ∷ j))
 
-seen_name : (i : Words) → sees_name i ≡ true → (y : Spot) × (i ≡ word.Name y ∷ rest i)
-unfolding sees_name front rest
-seen_name (word.Name y ∷ i) e = (y, refl)
-seen_name i e = absurd (true≢false (sym e))
-
 abbrev pub tried : Bool → Spot → Parser (Unit {0})
 tried b y i = if b then Ok (tt, i) else Err (Refused (word.Name y ∷ i))
 
@@ -73,16 +68,13 @@ module _ {p : Parser (Unit {0})} (good : List ℕ → Bool) (at_name : (y : Spot
   }
   named_try y i false e = rest_here (word.Name y ∷ i)
 
-  named_by : (i : Words) (b : Bool) → sees_name i ≡ b → Tries i (p i)
-  named_by i true e =
-      let at = seen_name i e in
-      let y : Spot = at.0 in
-      let F : Words → Type 0 = λ k. Tries k (p k) in
-      let G : Outcome (Unit {0}) → Type 0 = λ o. Tries (word.Name y ∷ rest i) o in
-      subst F (sym at.1) (subst G (sym (at_name y (rest i))) (named_try y (rest i) (good y.text) refl))
-  named_by i false e =
+  named_tells : (i : Words) → Tries i (p i)
+  unfolding sees_name front
+  named_tells (word.Name y ∷ i) =
+      let G : Outcome (Unit {0}) → Type 0 = λ o. Tries (word.Name y ∷ i) o in subst G (sym (at_name y i)) (named_try y i (good y.text) refl)
+  named_tells i =
       let G : Outcome (Unit {0}) → Type 0 = λ o. Tries i o in
-      subst G (sym (elsewhere i e)) (record { taken = []; at = refl; again = λ k g. elsewhere k (unnamed_after i k e g); spelled = inl refl })
+      subst G (sym (elsewhere i refl)) (record { taken = []; at = refl; again = λ k g. elsewhere k (unnamed_after i k refl g); spelled = inl refl })
 
   named_complete : (u : Unit {0}) (i j : Words) → Named good i j → Unnamed j → p i ≡ read_as u j
   named_complete u i j (inl e) t = ap p e ∙ elsewhere j t
@@ -95,7 +87,7 @@ module _ {p : Parser (Unit {0})} (good : List ℕ → Bool) (at_name : (y : Spot
 
   pub named_law : Law p (λ _. Named good) (λ _. Named good) (λ j. sees_name j ≡ false) whole
   named_law = record {
-    rules = record { tells = λ i. named_by i (sees_name i) refl; complete = named_complete; moves = named_moves; more = λ u i j s. s };
+    rules = record { tells = named_tells; complete = named_complete; moves = named_moves; more = λ u i j s. s };
     one = (tt, [], λ j t. inl refl);
   }
 

@@ -58,15 +58,11 @@ deep_rest i left t = by t.heads
 pub no_deeper : {A : Type 0} {P : A → Words → Words → Type 0} {S : Words → Type 0} (i left : Words) → S [] → TooMany P P S i left → ⊥
 no_deeper i left last t = t.barred (t.more.1 ++ []) t.more.0 [] (t.more.2 [] last) last
 
-head_front : (head : Words) (w : Word) → IsHead head w → (k m : Words) → SameFront (head ++ k) (head ++ m)
-unfolding front
-head_front head w (inl e) k m = let F : Words → Type 0 = λ h. front (h ++ k) ≡ front (h ++ m) in subst F (sym e) refl
-head_front head w (inr e) k m = let F : Words → Type 0 = λ h. front (h ++ k) ≡ front (h ++ m) in subst F (sym e.1) refl
-
 -- what stands next is not changed by what stands behind the opening word
 pub passed_front : (passed head : Words) (w : Word) → IsHead head w → (k m : Words) → SameFront (passed ++ (head ++ k)) (passed ++ (head ++ m))
 unfolding front
-passed_front [] head w h k m = head_front head w h k m
+passed_front [] head w (inl e) k m = let F : Words → Type 0 = λ h. front (h ++ k) ≡ front (h ++ m) in subst F (sym e) refl
+passed_front [] head w (inr e) k m = let F : Words → Type 0 = λ h. front (h ++ k) ≡ front (h ++ m) in subst F (sym e.1) refl
 passed_front (v ∷ passed) head w h k m = refl
 
 -- nor by what stands behind other words

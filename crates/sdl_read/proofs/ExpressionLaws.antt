@@ -1,15 +1,13 @@
 -- The laws of expressions.
 use Rattle.std.proofs.Common.{◌≡◌, ℕ, zero, suc, ◌⊎◌, inl, inr, Bool, true, false, is_some, if◌then◌else◌, List, [], ◌∷◌, map, Ok, Err, refl, sym, ap, ◌∙◌, subst, arith}
-use Rattle.sdl_read.proofs.Grammar.{KeywordValue, UnaryOperator, Operator, Spelling, plain, erased_word, erased_name, erased_expr, erased_exprs, erased_links, looseness, loosest, operator_mark, value_mark, unary_mark, SpellsPrimary, SpellsUnary, SpellsLink, SpellsChain, SpellsAt, SpellsInner, SpellsExpr, IsMark, Both, Behind, Before, Repeated, Enclosed, InParentheses, SpellsName, SpellsNumber, Expr, Numeral, Named, Keyword, Active, Paren, Unary, Chain, Exprs, NoExpr, AndExpr, exprs_in, Links, NoLink, AndLink, links_in, exprs_of, links_of, Number, Words, Spot, Fixed, Parser, Outcome, Refused, Deep, too_deep, refuse, ◌⊗◌, and_then, made, either, is_number, front, rest, mark_at, sees, same_mark, sees_name, sees_number, expect, in_parentheses, by_mark, value_of, operator_at, value_at, unary_at, unary_of, marked, Readers, readers, keyword_with, paren_with, active_with, unary_with, link_with, chain_with, sees_value, sees_unary, sees_operator, primary, signed, link, chain, level, expr, paren_of, active_of, deep_active, no_args, IsOpening}
+use Rattle.sdl_read.proofs.Grammar.{KeywordValue, UnaryOperator, Operator, Spelling, plain, erased_word, erased_name, erased_expr, erased_exprs, erased_links, looseness, loosest, operator_mark, value_mark, unary_mark, SpellsPrimary, SpellsUnary, SpellsLink, SpellsChain, SpellsAt, SpellsInner, SpellsExpr, SpellsTimer, IsMark, Both, Behind, Before, Repeated, Enclosed, InParentheses, SpellsName, SpellsNumber, Expr, Numeral, Named, Keyword, Active, Paren, Unary, Chain, Exprs, NoExpr, AndExpr, exprs_in, Link, Links, NoLink, AndLink, links_in, exprs_of, links_of, Number, Words, Spot, Fixed, Parser, Outcome, Refused, Deep, too_deep, refuse, ◌⊗◌, and_then, made, either, is_number, front, rest, mark_at, sees, same_mark, sees_name, sees_number, expect, in_parentheses, by_mark, value_of, operator_at, value_at, unary_at, unary_of, marked, Readers, readers, keyword_with, paren_with, active_with, unary_with, link_with, chain_with, sees_value, sees_unary, sees_operator, primary, signed, link, chain, level, expr, paren_of, active_of, deep_active, no_args}
 use Rattle.sdl_tree.specs.declared.expressions.KeywordValue.TheVariants as value
 use Rattle.sdl_tree.specs.declared.expressions.UnaryOperator.TheVariants as unary
 use Rattle.sdl_tree.specs.declared.mark.Mark.TheVariants as mark
-use Rattle.sdl_tree.specs.Spells.Expressions.{SpellsTimer}
-use Rattle.sdl_tree.specs.Tree.{Link}
 use Rattle.sdl_tree.specs.Words as word
 use Rattle.sdl_read.proofs.Depth.{no_deeper, closed}
 use Rattle.sdl_read.proofs.Laws.{Form, Never, Gives, Rules, Law, MaybeLaw, Anywhere, Takes, Made, still, as_law, stops_law, never_rules, refuse_rules, nothing_law, mark_law, same_rules, shut, shut_first, shut_rules, both_rules, both_law, then_law, behind_law, before_law, formed_rules, formed_law, made_law, made_as, Or, either_as, either_rules, first_law, either_law, maybe_law}
-use Rattle.sdl_read.proofs.ListLaws.{repeated_law, repeated_begins}
+use Rattle.sdl_read.proofs.ListLaws.{repeated_law, repeated_begins, separated_begins}
 use Rattle.sdl_read.proofs.OperatorLaws.{value_at_again, unary_at_again, operator_at_ok, operator_at_again, Stops, operator_none, operator_front, operator_end, same_mark_at, stops_at, stops_last, stops_before, stops_below, IsMarked, marked_rules, marked_law}
 use Rattle.sdl_read.proofs.PartLaws.{nameless, name_begins, name_front, name_law, number_law, in_parentheses_law, opens_list, listed_to, listed_from}
 use Rattle.sdl_read.proofs.Steps.{no_words, sees_front, sees_ok, sees_at, sees_other, swapped}
@@ -58,8 +56,7 @@ module _ (Q : Words → Type 0) (at_name : (x : Spot) (k : Words) → Q (word.Na
   primary_begins (Keyword v w) i j s = subst Q (sym s) (at_value v w j)
   primary_begins (Paren w e) i j s = subst Q (sym s.1) (at_open w s.0)
   primary_begins (Active w timer values) i j s = subst Q (sym s.1) (at_active w s.0)
-  primary_begins (Unary o w e) i j s = absurd s
-  primary_begins (Chain e links) i j s = absurd s
+  primary_begins x i j s = absurd s
 
   module _ (at_unary : (o : UnaryOperator) (s : Spelling) (k : Words) → Q (Fixed (unary_mark o) s ∷ k)) where
     pub level_begins : (k : ℕ) (x : Expr) (i j : Words) → SpellsAt Inner Timer k x i j → Q i
@@ -174,8 +171,7 @@ module _ (Inner : Form Expr) (Timer : Form (Spot × List Expr)) where
   primary_from (Keyword v w) i j s = inr (inr (inl ((v, w), refl, (tt, s))))
   primary_from (Paren w e) i j s = inr (inr (inr (inl ((w, e), refl, s))))
   primary_from (Active w timer values) i j s = inr (inr (inr (inr (inl ((w, (timer, exprs_in values)), ap (Active w timer) (sym (exprs_again values)), s)))))
-  primary_from (Unary o w e) i j s = absurd s
-  primary_from (Chain e links) i j s = absurd s
+  primary_from x i j s = absurd s
 
 no_open : (Timer : Form (Spot × List Expr)) (x : Expr) (i j : Words) → IsActive Timer x i j ⊎ ⊥ → sees mark.Open i ≡ false
 unfolding sees front same_mark
@@ -244,9 +240,6 @@ plain_name Inner Timer zero j = refl
 plain_name Inner Timer (suc zero) j = inl refl
 plain_name Inner Timer (suc (suc k)) j = inl (plain_name Inner Timer (suc k) j)
 
-opens_paren : (s : Spelling) → IsOpening (Fixed mark.Open s)
-opens_paren s = (s, inl refl)
-
 abbrev DeepActive : Words → Outcome Expr → Type 0
 DeepActive = Gives deep_active (IsActive (SpellsTimer zero)) (IsActive (SpellsTimer (suc zero))) Anywhere
 
@@ -254,7 +247,7 @@ active_by : (i : Words) (r : Spelling) (k : Words) → i ≡ Fixed mark.Active r
 active_by i r k at true e =
     let seen = sees_ok mark.Open k e in
     let w : Spelling = seen.0 in
-    closed i k (Fixed mark.Active r ∷ Fixed mark.Open w ∷ []) (rest k) (Fixed mark.Open w) (at ∙ ap (λ l. Fixed mark.Active r ∷ l) seen.1) seen.1 (opens_paren w) (inr (r, refl))
+    closed i k (Fixed mark.Active r ∷ Fixed mark.Open w ∷ []) (rest k) (Fixed mark.Open w) (at ∙ ap (λ l. Fixed mark.Active r ∷ l) seen.1) seen.1 (w, inl refl) (inr (r, refl))
     (active_with (r, (nameless, [])), word.Name nameless ∷ Fixed mark.Close plain ∷ [], λ j u. ((r, (nameless, [])), refl, (_, refl, (w, _, refl, (plain, (Fixed mark.Close plain ∷ j, refl, refl))))))
     (λ l x j n u. n.2.2.3.1)
 active_by i r k at false e = (Fixed mark.Active r ∷ [], at)
@@ -272,14 +265,9 @@ inside_none : Rules (either (sees mark.Open) too_deep (either (sees mark.Active)
 inside_none =
     same_rules (shut_first mark.Open (either (sees mark.Active) deep_active refuse))
     (inside_rules (SpellsInner zero) (SpellsInner (suc zero)) (SpellsTimer zero) (SpellsTimer (suc zero))
-    (shut_rules mark.Open opens_paren (IsParen (SpellsInner zero)) (IsParen (SpellsInner (suc zero))) Anywhere (λ x i j s. s.2.2.1)
+    (shut_rules mark.Open (λ s. (s, inl refl)) (IsParen (SpellsInner zero)) (IsParen (SpellsInner (suc zero))) Anywhere (λ x i j s. s.2.2.1)
     (λ s. (paren_with (s, Named nameless), word.Name nameless ∷ Fixed mark.Close plain ∷ [], λ j u. ((s, Named nameless), refl, (_, refl, (plain, plain_name (SpellsInner zero) (SpellsTimer zero) loosest (Fixed mark.Close plain ∷ j)))))))
     (never_rules deep_active_tells (λ x i j s. s.2.2.3.1)))
-
-no_listed : (xs : List Expr) (i j : Words) → Enclosed (SpellsInner zero) xs i j → ⊥
-no_listed [] i j s = s.3.1
-no_listed (x ∷ []) i j s = s.3.1
-no_listed (x ∷ y ∷ xs) i j s = s.3.1.2
 
 no_args_law : Law no_args (InParentheses (SpellsInner zero)) (InParentheses (SpellsInner (suc zero))) (λ j. sees mark.Open j ≡ false) (map erased_expr)
 no_args_law =
@@ -288,7 +276,8 @@ no_args_law =
       rules =
           same_rules (shut_first mark.Open (λ i. Ok ([], i)))
           (either_rules (sees mark.Open) (sees_front mark.Open)
-          (shut_rules mark.Open opens_paren (Enclosed (SpellsInner zero)) (Enclosed (SpellsInner (suc zero))) (λ j. sees mark.Open j ≡ false) no_listed
+          (shut_rules mark.Open (λ s. (s, inl refl)) (Enclosed (SpellsInner zero)) (Enclosed (SpellsInner (suc zero))) (λ j. sees mark.Open j ≡ false)
+          (λ xs i j s. separated_begins (SpellsInner zero) (λ k. ⊥) (λ x k l n. n) xs s.1 (Fixed mark.Close s.3.0 ∷ j) s.3.1)
           (λ s. (Named nameless ∷ [], word.Name nameless ∷ Fixed mark.Close plain ∷ [], λ j u. (s, _, refl, (plain, plain_name (SpellsInner zero) (SpellsTimer zero) loosest (Fixed mark.Close plain ∷ j))))))
           (nothing_law []).rules (opens_list (SpellsInner zero)) (λ xs i j s t. ap (sees mark.Open) s.1 ∙ t));
       one = ([], [], λ j t. inr (refl, refl));
@@ -301,9 +290,6 @@ pub record AreRead (d : ℕ) : Type 0 where
 expr_in : (d : ℕ) → AreRead d → Law (expr d) (SpellsExpr d) (SpellsExpr (suc d)) (Stops loosest) erased_expr
 expr_in d a = level_law (readers d) (SpellsInner d) (SpellsInner (suc d)) (SpellsTimer d) (SpellsTimer (suc d)) a.within loosest
 
-erased_active : (x : Spelling × (Spot × List Expr)) → erased_expr (active_with x) ≡ active_with (erased_word x.0, (erased_name x.1.0, map erased_expr x.1.1))
-erased_active x = ap (Active (erased_word x.0) (erased_name x.1.0)) (erased_listed x.1.1)
-
 paren_of_law : (d : ℕ) → AreRead d → Law (paren_of (expr d)) (IsParen (SpellsInner (suc d))) (IsParen (SpellsInner (suc (suc d)))) Anywhere erased_expr
 unfolding paren_of
 paren_of_law d a = made_law paren_with (λ x. refl) (then_law (mark_law mark.Open) (before_law mark.Close (expr_in d a) (stops_at mark.Close refl loosest)))
@@ -311,7 +297,7 @@ paren_of_law d a = made_law paren_with (λ x. refl) (then_law (mark_law mark.Ope
 active_of_law : (d : ℕ) → AreRead d → Law (active_of (readers d).args) (IsActive (SpellsTimer (suc d))) (IsActive (SpellsTimer (suc (suc d)))) Anywhere erased_expr
 unfolding active_of same_mark
 active_of_law d a =
-    made_law active_with erased_active
+    made_law active_with (λ x. ap (Active (erased_word x.0) (erased_name x.1.0)) (erased_listed x.1.1))
     (then_law (mark_law mark.Active) (behind_law mark.Open (before_law mark.Close (then_law name_law a.args) (sees_other mark.Open mark.Close refl))))
 
 are_read : (d : ℕ) → AreRead d

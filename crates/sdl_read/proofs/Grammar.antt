@@ -13,9 +13,9 @@ pub use Rattle.sdl_tree.specs.Erased.{erased, erased_action, erased_actions, era
 pub use Rattle.sdl_tree.specs.LeftOut.{IsBarred, IsLeftOut, PriorityHead}
 pub use Rattle.sdl_tree.specs.Spells.{SpellsBlock, SpellsBlockPart, SpellsBound, SpellsChannel, SpellsConnect, SpellsCounts, SpellsDcl, SpellsDef, SpellsFpar, SpellsInitial, SpellsNoDelay, SpellsOne, SpellsParameters, SpellsPath, SpellsPdef, SpellsPoint, SpellsProcess, SpellsSignal, SpellsSignalList, SpellsSignalName, SpellsSignalSet, SpellsSynonym, SpellsSynonymName, SpellsSystemDef, SpellsTree, SpellsVariables}
 pub use Rattle.sdl_tree.specs.Spells.Behaviour.{SpellsAction, SpellsAnswer, SpellsAssignment, SpellsBodyPart, SpellsClause, SpellsCondition, SpellsDecision, SpellsDestination, SpellsElse, SpellsEndConnection, SpellsEndState, SpellsEndStateName, SpellsEnding, SpellsIn1, SpellsIns, SpellsLabel, SpellsNextState, SpellsPart, SpellsPriority, SpellsSaved, SpellsStart, SpellsStatement, SpellsStates, SpellsStimulus, SpellsTerminator, SpellsTrans, SpellsTransBy}
-pub use Rattle.sdl_tree.specs.Spells.Expressions.{SpellsApplied, SpellsAt, SpellsChain, SpellsExpr, SpellsInner, SpellsLink, SpellsPrimary, SpellsUnary, limit, looseness, loosest, operator_mark, unary_mark, value_mark}
+pub use Rattle.sdl_tree.specs.Spells.Expressions.{SpellsApplied, SpellsAt, SpellsChain, SpellsExpr, SpellsInner, SpellsLink, SpellsPrimary, SpellsTimer, SpellsUnary, limit, looseness, loosest, operator_mark, unary_mark, value_mark}
 pub use Rattle.sdl_tree.specs.Spells.Parts.{Before, Begins, Behind, Both, Enclosed, Ended, Followed, InParentheses, IsMark, Optional, Repeated, RepeatedOnce, Separated, SpellsClosing, SpellsEnd, SpellsEndName, SpellsName, SpellsNumber, SpellsSig, SpellsSigs, Unless, Wherever, sort_of}
-pub use Rattle.sdl_tree.specs.Tree.{Action, Actions, Active, Agent, AndAction, AndExpr, AndLink, AndPart, Answer, Applied, Assignment, Block, BlockPart, BodyPart, Chain, Channel, ChannelEnd, ChannelPath, Compared, Connect, ContinuousSignal, Counts, Create, Decision, Definition, Destination, Else, Ending, Env, Expr, Exprs, FormalParameters, FreeAction, InBlock, InSystem, Input, InputAll, InputList, InputPart, Inputs, Join, Keyword, Links, ListItem, LocalDefinition, LocalSignalList, LocalSignalSet, LocalSignals, LocalSynonyms, Named, Next, NextState, NoAction, NoElse, NoExpr, NoLink, NoPart, Number, Numeral, Otherwise, Output, Paren, Part, Parts, PriorityInput, Process, Range, Reset, Same, SaveAll, SaveList, SavePart, Saved, Set, SetClause, SignalItem, SignalList, SignalListItem, Signals, Start, StateAll, StateList, StatePart, Statement, States, Steps, Stimulus, Stop, Synonyms, SystemDefinition, Task, Terminator, Timers, To, Transition, Tree, Unary, Value, Variables, actions_of, else_in, else_of, exprs_in, exprs_of, links_in, links_of, parts_in, parts_of, statements_in}
+pub use Rattle.sdl_tree.specs.Tree.{Action, Actions, Active, Agent, AndAction, AndExpr, AndLink, AndPart, Answer, Applied, Assignment, Block, BlockPart, BodyPart, Chain, Channel, ChannelEnd, ChannelPath, Compared, Connect, ContinuousSignal, Counts, Create, Decision, Definition, Destination, Else, Ending, Env, Expr, Exprs, FormalParameters, FreeAction, InBlock, InSystem, Input, InputAll, InputList, InputPart, Inputs, Join, Keyword, Link, Links, ListItem, LocalDefinition, LocalSignalList, LocalSignalSet, LocalSignals, LocalSynonyms, Named, Next, NextState, NoAction, NoElse, NoExpr, NoLink, NoPart, Number, Numeral, Otherwise, Output, Paren, Part, Parts, PriorityInput, Process, Range, Reset, Same, SaveAll, SaveList, SavePart, Saved, Set, SetClause, SignalItem, SignalList, SignalListItem, Signals, Start, StateAll, StateList, StatePart, Statement, States, Steps, Stimulus, Stop, Synonyms, SystemDefinition, Task, Terminator, Timers, To, Transition, Tree, Unary, Value, Variables, actions_of, else_in, else_of, exprs_in, exprs_of, links_in, links_of, parts_in, parts_of, statements_in}
 pub use Rattle.sdl_tree.specs.Views.{chain_value, expr_value, link_value, name_value, statement_value, tree_value}
 pub use Rattle.sdl_tree.specs.Words.{Fixed, Spot, Word, Words, word_place, words_of}
 pub use Rattle.sdl_tree.specs.declared.expressions.KeywordValue.{KeywordValue}

@@ -87,9 +87,8 @@ module _ {A : Type 0} {p : Parser A} {P M : Form A} {S : Words → Type 0} {e : 
 
   -- a refusal stands at what is left
   stands_by : (i : Words) (r : Refusal) → Told P M S i r → StandsAt i r
-  stands_by i (Refused left) t = t
   stands_by i (Deep left) t = deep_rest i left t
-  stands_by i (Barred left) t = t
+  stands_by i r t = t
 
   pub stands : (i : Words) (r : Refusal) → p i ≡ Err r → StandsAt i r
   stands i r s = stands_by i r (was_told i r s)
@@ -184,9 +183,7 @@ module _ {A : Type 0} {p q : Parser A} {P M : Form A} {S : Words → Type 0} {e 
       let path : p ≡ q = λ n i. same i n in subst F path a
 
   pub same_law : Law p P M S e → Law q P M S e
-  same_law a =
-      let F : Parser A → Type 0 = λ r. Law r P M S e in
-      let path : p ≡ q = λ n i. same i n in subst F path a
+  same_law a = record { rules = same_rules a.rules; one = a.one }
 
 pub unchanged : {A : Type 0} (o : Outcome A) → and_then o (λ x j. read_as x j) ≡ o
 unchanged (Ok z) = refl
@@ -238,12 +235,11 @@ nothing_law {e = e} c = record {
 }
 
 -- one word
-module _ {A : Type 0} {p : Parser A} {P : Form A} {e : A → A} where
-  pub single_law : ((i : Words) → Gives p P P Anywhere i (p i)) → ((x : A) (i j : Words) → P x i j → p i ≡ read_as x j)
-      → ((x : A) (i j k : Words) → P x i j → AreAlike i k → (y : A) × (l : Words) × P y k l × AreAlike j l × (e y ≡ e x))
-      → HasOne P Anywhere → Law p P P Anywhere e
-  single_law tells complete moves one =
-      record { rules = record { tells = tells; complete = λ x i j s t. complete x i j s; moves = moves; more = λ x i j s. s }; one = one }
+pub single_law : {A : Type 0} {p : Parser A} {P : Form A} {e : A → A} → ((i : Words) → Gives p P P Anywhere i (p i)) → ((x : A) (i j : Words) → P x i j → p i ≡ read_as x j)
+    → ((x : A) (i j k : Words) → P x i j → AreAlike i k → (y : A) × (l : Words) × P y k l × AreAlike j l × (e y ≡ e x))
+    → HasOne P Anywhere → Law p P P Anywhere e
+single_law tells complete moves one =
+    record { rules = record { tells = tells; complete = λ x i j s t. complete x i j s; moves = moves; more = λ x i j s. s }; one = one }
 
 module _ (m : Mark) where
   mark_by : (n : Mark) (t : Spelling) (i : Words) (b : Bool) → same_mark n m ≡ b

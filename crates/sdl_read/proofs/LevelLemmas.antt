@@ -19,26 +19,14 @@ level_up r k i some =
 
 -- ---- what is read inside one more pair of parentheses
 
-pub paren_none : (d : ℕ) (i : Words) → d ≡ 0 → (readers d).paren i ≡ Err (Deep i)
+pub none_inside : (d : ℕ) (i : Words) → d ≡ 0 → ((readers d).paren i ≡ Err (Deep i)) × ((readers d).active i ≡ deep_active i) × ((readers d).args i ≡ no_args i)
 unfolding readers
-paren_none d i e = ap (λ n. (readers n).paren i) e
+none_inside d i e = (ap (λ n. (readers n).paren i) e, ap (λ n. (readers n).active i) e, ap (λ n. (readers n).args i) e)
 
-pub active_none : (d : ℕ) (i : Words) → d ≡ 0 → (readers d).active i ≡ deep_active i
+pub one_inside : (d : ℕ) (i : Words) → 0 < d
+    → ((readers d).paren i ≡ paren_of (expr (d - 1)) i) × ((readers d).active i ≡ active_of (readers (d - 1)).args i)
+    × ((readers d).args i ≡ in_parentheses (expr (d - 1)) i)
 unfolding readers
-active_none d i e = ap (λ n. (readers n).active i) e
-
-pub args_none : (d : ℕ) (i : Words) → d ≡ 0 → (readers d).args i ≡ no_args i
-unfolding readers
-args_none d i e = ap (λ n. (readers n).args i) e
-
-pub paren_inside : (d : ℕ) (i : Words) → 0 < d → (readers d).paren i ≡ paren_of (expr (d - 1)) i
-unfolding readers
-paren_inside d i some = let e : d ≡ suc (d - 1) = omega arith in ap (λ n. (readers n).paren i) e
-
-pub active_inside : (d : ℕ) (i : Words) → 0 < d → (readers d).active i ≡ active_of (readers (d - 1)).args i
-unfolding readers
-active_inside d i some = let e : d ≡ suc (d - 1) = omega arith in ap (λ n. (readers n).active i) e
-
-pub args_inside : (d : ℕ) (i : Words) → 0 < d → (readers d).args i ≡ in_parentheses (expr (d - 1)) i
-unfolding readers
-args_inside d i some = let e : d ≡ suc (d - 1) = omega arith in ap (λ n. (readers n).args i) e
+one_inside d i some =
+    let e : d ≡ suc (d - 1) = omega arith in
+    (ap (λ n. (readers n).paren i) e, ap (λ n. (readers n).active i) e, ap (λ n. (readers n).args i) e)

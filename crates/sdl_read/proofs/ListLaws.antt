@@ -276,9 +276,8 @@ module _ {A B : Type 0} {begins : Words → Bool} {p : Parser (Option (A ⊎ B))
   gives_item n found i le here known (Ok (inl x, m)) s r =
       let less = shorter a.rules no_item last i (inl x) m r in gives_more found i x m r (from n (found ++ x ∷ []) m) (known (found ++ x ∷ []) m (omega (arith, less, le)))
   gives_item n found i le here known (Ok (inr y, m)) s r = lists_last found i y m r
-  gives_item n found i le here known (Err (Refused left)) s r = r
   gives_item n found i le here known (Err (Deep left)) s r = deep_here i left s here r
-  gives_item n found i le here known (Err (Barred left)) s r = r
+  gives_item n found i le here known (Err q) s r = r
 
   gives_turn : (n : ℕ) (found : List A) (i : Words) → length i ≤ suc n → ((done : List A) (m : Words) → length m ≤ n → Lists done m (from n done m))
       → (b : Bool) → begins i ≡ b → Lists found i (and_then (if b then and_then (a.item i) (λ z k. some_as z k) else none_as i) (λ q m. until_by found (from n) q m))
@@ -318,12 +317,12 @@ module _ {A B : Type 0} {begins : Words → Bool} {p : Parser (Option (A ⊎ B))
   }
 
 -- an item stops where another begins
-module _ {A B : Type 0} {begins : Words → Bool} {p : Parser (Option (A ⊎ B))} {P M : Form (A ⊎ B)} {S : Words → Type 0} {f : A → A} {g : B → B}
-    (a : MaybeLaw p P M S begins (erased_both f g)) (at_start : (i : Words) → begins i ≡ true → S i) (last : S []) where
-  pub until_law : (from : ℕ → List A → Parser (List A × Option B)) → ((found : List A) (i : Words) → from zero found i ≡ read_as (list_of found None) i)
-      → ((n : ℕ) (found : List A) (i : Words) → from (suc n) found i ≡ and_then (p i) (λ o m. until_by found (from n) o m))
-      → Law (λ i. from (length i) [] i) (Until P) (Until M) (λ j. S j × (begins j ≡ false)) (λ r. (map f r.0, option_map g r.1))
-  until_law from none turn = until_open_law a a.rules.complete at_start (λ j t. t) last from none turn
+pub until_law : {A B : Type 0} {begins : Words → Bool} {p : Parser (Option (A ⊎ B))} {P M : Form (A ⊎ B)} {S : Words → Type 0} {f : A → A} {g : B → B}
+    (a : MaybeLaw p P M S begins (erased_both f g)) (at_start : (i : Words) → begins i ≡ true → S i) (last : S []) (from : ℕ → List A → Parser (List A × Option B))
+    → ((found : List A) (i : Words) → from zero found i ≡ read_as (list_of found None) i)
+    → ((n : ℕ) (found : List A) (i : Words) → from (suc n) found i ≡ and_then (p i) (λ o m. until_by found (from n) o m))
+    → Law (λ i. from (length i) [] i) (Until P) (Until M) (λ j. S j × (begins j ≡ false)) (λ r. (map f r.0, option_map g r.1))
+until_law a at_start last from none turn = until_open_law a a.rules.complete at_start (λ j t. t) last from none turn
 
 -- ---- {x}: items of which none is the last
 
@@ -388,8 +387,7 @@ module _ {A : Type 0} {begins : Words → Bool} {p : Parser (Option A)} {P M : F
       and_then (and_then (if b then and_then o (λ x k. some_as x k) else none_as i) (λ q m. repeated_by found (repeated_from p n) q m)) paired
       ≡ and_then (if b then and_then (and_then o (λ x k. read_as (goes_on x) k)) (λ z k. some_as z k) else none_as i) (λ q m. until_by found (from n) q m)
   turn_by n found i true (Ok z) = refl
-  turn_by n found i true (Err r) = refl
-  turn_by n found i false o = refl
+  turn_by n found i b o = refl
 
   from_none : (found : List A) (i : Words) → from zero found i ≡ read_as (list_of found None) i
   unfolding repeated_from
@@ -475,9 +473,8 @@ module _ {A : Type 0} (item : Parser A) where
   cons_by : (k : ℕ) (x : A) (found : List A) → ((done : List A) (m : Words) → repeated_from another k (x ∷ done) m ≡ and_then (repeated_from another k done m) (λ ys j. read_as (x ∷ ys) j))
       → (o : Outcome (Option A)) → and_then o (λ q l. repeated_by (x ∷ found) (repeated_from another k) q l)
       ≡ and_then (and_then o (λ q l. repeated_by found (repeated_from another k) q l)) (λ ys j. read_as (x ∷ ys) j)
-  cons_by k x found known (Ok (None, m)) = refl
   cons_by k x found known (Ok (Some y, m)) = known (found ++ y ∷ []) m
-  cons_by k x found known (Err r) = refl
+  cons_by k x found known o = refl
 
   -- what was found before stands before what is found
   cons_others : (k : ℕ) (x : A) (found : List A) (m : Words) → repeated_from another k (x ∷ found) m ≡ and_then (repeated_from another k found m) (λ ys j. read_as (x ∷ ys) j)

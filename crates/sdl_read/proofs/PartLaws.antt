@@ -87,9 +87,6 @@ name_takes x j e = no_words e
 
 -- ---- end
 
-abbrev DropsEnd : Unit {0} → Words → Words → Type 0
-DropsEnd u i j = SpellsEnd i j
-
 abbrev DropsComment : (Spelling × (Unit {0} × Spelling)) → Words → Words → Type 0
 DropsComment = Both (IsMark mark.Comment) (Both SpellsText (IsMark mark.Semicolon))
 
@@ -103,7 +100,7 @@ end_from : (u : Unit {0}) (i j : Words) → SpellsEnd i j → Made (λ _. tt) Dr
 end_from u i j (inl s) = inr (s.0, refl, s.1)
 end_from u i j (inr s) = inl ((s.0, (tt, s.1)), refl, (word.Text s.2 ∷ Fixed mark.Semicolon s.1 ∷ j, s.3, (Fixed mark.Semicolon s.1 ∷ j, (s.2, refl), refl)))
 
-pub end_law : Law end DropsEnd DropsEnd Anywhere whole
+pub end_law : Law end (λ _. SpellsEnd) (λ _. SpellsEnd) Anywhere whole
 unfolding end sees front same_mark
 end_law =
     as_law end_to end_from end_to

@@ -26,9 +26,8 @@ record_law {A} f fields {P = P} {M = M} same again back a =
 abbrev pub Opens : {A : Type 0} → Mark → Form A → Type 0
 Opens {A} m P = (x : A) (i j : Words) → P x i j → Begins m i
 
-module _ {A : Type 0} (m : Mark) (P : Form A) (opens : Opens m P) where
-  pub opens_seen : (x : A) (i j : Words) → P x i j → sees m i ≡ true
-  opens_seen x i j s = let o = opens x i j s in sees_at m o.0 i o.1 o.2
+pub opens_seen : {A : Type 0} (m : Mark) (P : Form A) → Opens m P → (x : A) (i j : Words) → P x i j → sees m i ≡ true
+opens_seen m P opens x i j s = let o = opens x i j s in sees_at m o.0 i o.1 o.2
 
 -- ---- one of some productions, each of which begins with a mark of its own
 
@@ -47,13 +46,9 @@ pub or_right : (a b : Bool) → b ≡ true → (a || b) ≡ true
 or_right true b e = refl
 or_right false b e = e
 
-none_left : (a b : Bool) → (a || b) ≡ false → a ≡ false
-none_left true b e = absurd (true≢false e)
-none_left false b e = refl
-
-none_right : (a b : Bool) → (a || b) ≡ false → b ≡ false
-none_right true b e = absurd (true≢false e)
-none_right false b e = e
+neither : (a b : Bool) → (a || b) ≡ false → (a ≡ false) × (b ≡ false)
+neither true b e = absurd (true≢false e)
+neither false b e = (refl, e)
 
 pub begins_seen : (ms : List Mark) (i : Words) → BeginsOne ms i → sees_one ms i ≡ true
 begins_seen [] i b = absurd b
@@ -67,8 +62,8 @@ other_mark m n i b other = ap (sees m) b.2 ∙ other
 -- a mark that is none of them doesn't stand where one of them does
 pub begins_unseen : (m : Mark) (ms : List Mark) (i : Words) → has_mark m ms ≡ false → BeginsOne ms i → sees m i ≡ false
 begins_unseen m [] i none b = absurd b
-begins_unseen m (n ∷ ns) i none (inl b) = other_mark m n i b (none_left (same_mark n m) (has_mark m ns) none)
-begins_unseen m (n ∷ ns) i none (inr b) = begins_unseen m ns i (none_right (same_mark n m) (has_mark m ns) none) b
+begins_unseen m (n ∷ ns) i none (inl b) = other_mark m n i b (neither (same_mark n m) (has_mark m ns) none).0
+begins_unseen m (n ∷ ns) i none (inr b) = begins_unseen m ns i (neither (same_mark n m) (has_mark m ns) none).1 b
 
 -- one of them that is seen stands there
 pub seen_begins : (ms : List Mark) (i : Words) → sees_one ms i ≡ true → BeginsOne ms i
@@ -86,8 +81,7 @@ have_mark (m ∷ ms) ns = has_mark m ns || have_mark ms ns
 pub others_unseen : (ms ns : List Mark) (i : Words) → have_mark ms ns ≡ false → BeginsOne ns i → sees_one ms i ≡ false
 others_unseen [] ns i none b = refl
 others_unseen (m ∷ ms) ns i none b =
-    let first = begins_unseen m ns i (none_left (has_mark m ns) (have_mark ms ns) none) b in
-    let others = others_unseen ms ns i (none_right (has_mark m ns) (have_mark ms ns) none) b in λ n. first n || others n
+    let two = neither (has_mark m ns) (have_mark ms ns) none in λ n. begins_unseen m ns i two.0 b n || others_unseen ms ns i two.1 b n
 
 -- nor a name
 pub begins_unnamed : (ms : List Mark) (i : Words) → BeginsOne ms i → sees_name i ≡ false

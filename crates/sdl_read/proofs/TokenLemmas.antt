@@ -12,16 +12,11 @@ InOrder-up : (from : ℕ) (ts : List Token) (to : ℕ) → InOrder from ts to �
 InOrder-up from [] to h = h
 InOrder-up from (t ∷ ts) to h = let later = InOrder-up t.end ts to h.2 in omega arith
 
-opened : (from : ℕ) (all : List Token) (t : Token) (ts : List Token) (to : ℕ) → all ≡ t ∷ ts → InOrder from all to → InOrder from (t ∷ ts) to
-opened from all t ts to is h = let P : List Token → Type 0 = λ xs. InOrder from xs to in subst P is h
-
-pub first_ordered : (from : ℕ) (all : List Token) (t : Token) (ts : List Token) (to : ℕ) → all ≡ t ∷ ts → InOrder from all to → t.start < t.end
-first_ordered from all t ts to is h = (opened from all t ts to is h).1
-
-pub first_within : (from : ℕ) (all : List Token) (t : Token) (ts : List Token) (to : ℕ) → all ≡ t ∷ ts → InOrder from all to → t.end ≤ to
-first_within from all t ts to is h = InOrder-up t.end ts to (opened from all t ts to is h).2
-
-pub rest_after : (from : ℕ) (all : List Token) (t : Token) (ts : List Token) (to : ℕ) → all ≡ t ∷ ts → InOrder from all to → InOrder t.start ts to
-rest_after from all t ts to is h =
-    let ordered = first_ordered from all t ts to is h in
-    InOrder-earlier t.start t.end ts to (omega arith) (opened from all t ts to is h).2
+-- the first token has a byte, ends in the text, and the others stand behind where it starts
+pub opened : (from : ℕ) (all : List Token) (t : Token) (ts : List Token) (to : ℕ) → all ≡ t ∷ ts → InOrder from all to
+    → (t.start < t.end) × (t.end ≤ to) × InOrder t.start ts to
+opened from all t ts to is h =
+    let P : List Token → Type 0 = λ xs. InOrder from xs to in
+    let o : InOrder from (t ∷ ts) to = subst P is h in
+    let ordered : t.start < t.end = o.1 in
+    (ordered, InOrder-up t.end ts to o.2, InOrder-earlier t.start t.end ts to (omega arith) o.2)
