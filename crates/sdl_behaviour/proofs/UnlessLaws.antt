@@ -1,7 +1,7 @@
 -- The laws of what a mark doesn't stand behind, and of what stands wherever its first mark does.
-use Rattle.sdl_behaviour.proofs.Words.{Anywhere, AreAlike, Begins, Bool, Complete, Err, Fixed, Form, Gives, GoodAfter, Law, Made, Mark, MaybeLaw, None, Nothing, Ok, Option, Or, Outcome, Parser, Refusal, Refused, Some, Spelling, Wherever, Words, [], and_then, ap, bind_is, either_rules, false, if_false, if◌then◌else◌, inl, inr, nothing_law, option_map, passes, pure, read_as, refl, rest, same_law, sees, sees_again, sees_at, sees_front, sees_ok, some_read, still, stops_rules, sym, true, true_or_false, true≢false, ◌++◌, ◌∙◌, ◌∷◌, ◌≡◌}
+use Rattle.sdl_behaviour.proofs.Words.{Anywhere, AreAlike, Begins, Bool, Complete, Err, Fixed, Form, Gives, GoodAfter, Law, Made, Mark, MaybeLaw, None, Nothing, Ok, Option, Or, Outcome, Parser, Refusal, Refused, Some, Spelling, Wherever, Words, [], and_then, ap, as_law, bind_is, either_rules, false, if_false, if◌then◌else◌, inl, inr, nothing_law, option_map, passes, pure, read_as, refl, rest, same_law, sees, sees_again, sees_at, sees_front, sees_ok, some_read, still, stops_rules, sym, true, true_or_false, true≢false, ◌++◌, ◌∙◌, ◌∷◌, ◌≡◌}
 use Rattle.sdl_read.proofs.Depth.{no_deeper}
-use Rattle.sdl_read.proofs.Laws.{IsRead, Told, as_rules, made_rules}
+use Rattle.sdl_read.proofs.Laws.{IsRead, Told, made_rules}
 
 module _ (m : Mark) where
   -- what isn't seen begins nothing
@@ -94,13 +94,14 @@ module _ {A : Type 0} (m : Mark) {p : Parser (Option A)} {P M : Form A} {S : Wor
 
   pub wherever_law : Law p (Wherever m P) (Wherever m M) (λ j. S j × (sees m j ≡ false)) (option_map e)
   wherever_law =
-      same_law (λ i. unbarred (sees m i) (and_then (a.item i) (λ x j. read_as (Some x) j)) (Err (Refused i)) (read_as None i) ∙ ap (λ q. q i) a.is) (record {
-        rules = as_rules (wherever_to P) wherever_from (wherever_to M)
-            (either_rules (sees m) a.looks (made_rules Some (λ x. refl) (stops_rules (λ j t. t.0) a.rules))
+      same_law (λ i. unbarred (sees m i) (and_then (a.item i) (λ x j. read_as (Some x) j)) (Err (Refused i)) (read_as None i) ∙ ap (λ q. q i) a.is)
+      (as_law (wherever_to P) wherever_from (wherever_to M) (record {
+        rules =
+            either_rules (sees m) a.looks (made_rules Some (λ x. refl) (stops_rules (λ j t. t.0) a.rules))
             (stops_rules (λ j t. t.1) (free_law Refused m none_law (λ i x k r b. (r.taken, r.at))).rules)
-            (λ x i j s. a.starts s.0 i j s.2) (λ x i j s t. rw s.0.1 t.1));
-        one = (None, [], λ j t. (refl, not_begun m j t.1));
-      })
+            (λ x i j s. a.starts s.0 i j s.2) (λ x i j s t. rw s.0.1 t.1);
+        one = (None, [], λ j t. inr ((refl, refl), not_begun m j t.1));
+      }))
 
   -- and where the mark itself is allowed for, since the part says that it doesn't stand next
   pub wherever_read : Complete p (Wherever m P) S

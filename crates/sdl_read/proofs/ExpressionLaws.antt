@@ -1,6 +1,6 @@
 -- The laws of expressions.
 use Rattle.std.proofs.Common.{◌≡◌, ℕ, zero, suc, ◌⊎◌, inl, inr, Bool, true, false, is_some, if◌then◌else◌, List, [], ◌∷◌, map, Ok, Err, refl, sym, ap, ◌∙◌, subst, arith}
-use Rattle.sdl_read.proofs.Grammar.{KeywordValue, UnaryOperator, Operator, Spelling, plain, erased_word, erased_name, erased_expr, erased_exprs, erased_links, looseness, loosest, operator_mark, value_mark, unary_mark, SpellsPrimary, SpellsUnary, SpellsLink, SpellsChain, SpellsAt, SpellsInner, SpellsExpr, SpellsTimer, IsMark, Both, Behind, Before, Repeated, Enclosed, InParentheses, SpellsName, SpellsNumber, Expr, Numeral, Named, Keyword, Active, Paren, Unary, Chain, Exprs, NoExpr, AndExpr, exprs_in, Link, Links, NoLink, AndLink, links_in, exprs_of, links_of, Number, Words, Spot, Fixed, Parser, Outcome, Refused, Deep, too_deep, refuse, ◌⊗◌, and_then, made, either, is_number, front, rest, mark_at, sees, same_mark, sees_name, sees_number, expect, in_parentheses, by_mark, value_of, operator_at, value_at, unary_at, unary_of, marked, Readers, readers, keyword_with, paren_with, active_with, unary_with, link_with, chain_with, sees_value, sees_unary, sees_operator, primary, signed, link, chain, level, expr, paren_of, active_of, deep_active, no_args}
+use Rattle.sdl_read.proofs.Grammar.{KeywordValue, UnaryOperator, Spelling, plain, erased_word, erased_name, erased_expr, erased_exprs, erased_links, looseness, loosest, operator_mark, value_mark, unary_mark, SpellsPrimary, SpellsUnary, SpellsLink, SpellsChain, SpellsAt, SpellsInner, SpellsExpr, SpellsTimer, IsMark, Both, Behind, Before, Repeated, Enclosed, InParentheses, SpellsName, SpellsNumber, Expr, Numeral, Named, Keyword, Active, Paren, Unary, Chain, Exprs, NoExpr, AndExpr, exprs_in, Link, Links, NoLink, AndLink, links_in, exprs_of, links_of, Number, Words, Spot, Fixed, Parser, Outcome, Refused, Deep, too_deep, refuse, ◌⊗◌, and_then, made, either, is_number, front, rest, mark_at, sees, same_mark, sees_name, sees_number, expect, in_parentheses, by_mark, value_of, operator_at, value_at, unary_at, unary_of, marked, Readers, readers, keyword_with, paren_with, active_with, unary_with, link_with, chain_with, sees_value, sees_unary, sees_operator, primary, signed, link, chain, level, expr, paren_of, active_of, deep_active, no_args}
 use Rattle.sdl_tree.specs.declared.expressions.KeywordValue.TheVariants as value
 use Rattle.sdl_tree.specs.declared.expressions.UnaryOperator.TheVariants as unary
 use Rattle.sdl_tree.specs.declared.mark.Mark.TheVariants as mark

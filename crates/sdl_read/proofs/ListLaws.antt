@@ -1,6 +1,6 @@
 -- The laws of lists, for any item: items up to one that is the last, if such a one stands there; `{x}`; `x {"," x}`.
 use Rattle.std.proofs.Common.{◌≡◌, ℕ, zero, suc, ◌+◌, ◌<◌, ◌≤◌, ◌⊎◌, inl, inr, Bool, true, false, if◌then◌else◌, List, [], ◌∷◌, ◌++◌, length, map, Option, Some, None, option_map, Ok, Err, true≢false, refl, sym, ap, ◌∙◌, subst, arith, append_assoc, append-nil, length-append}
-use Rattle.sdl_read.proofs.Grammar.{AreAlike, Spelling, Both, Behind, Optional, Separated, Repeated, Enclosed, Word, Words, Fixed, Parser, Outcome, Refused, Deep, Barred, front, rest, and_then, pure, expect, same_mark, sees, after, ◌⊗◌, behind, before, made, maybe, turns, separated_from, separated, enclosed, repeated_by, repeated_from, repeated}
+use Rattle.sdl_read.proofs.Grammar.{AreAlike, Spelling, Both, Behind, Optional, Separated, Repeated, Enclosed, Word, Words, Fixed, Parser, Outcome, Deep, front, rest, and_then, pure, expect, same_mark, sees, after, ◌⊗◌, behind, before, made, maybe, turns, separated_from, separated, enclosed, repeated_by, repeated_from, repeated}
 use Rattle.sdl_tree.specs.declared.mark.Mark.TheVariants as mark
 use Rattle.sdl_read.proofs.Depth.{SameFront, TooMany, passed_front, front_behind, renamed, onward}
 use Rattle.sdl_read.proofs.Laws.{Form, GoodAfter, IsRead, Told, Gives, Rules, Law, MaybeLaw, Anywhere, Takes, Made, was_read, sound, spelled_again, later, same_law, both_law, behind_law, before_law, formed_rules, formed_law, steps_in, unchanged, maybe_law, passes, some_read}
