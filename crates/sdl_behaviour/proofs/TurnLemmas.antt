@@ -1,5 +1,5 @@
 -- How readings and looks go on by a word or a turn: a clause, a name among others, a transition and a decision.
-use Rattle.std.proofs.Common.{◌≡◌, ℕ, suc, ◌+◌, ◌-◌, ◌<◌, ◌≤◌, false, ◌||◌, List, [], ◌∷◌, length, map, None, Ok, Err, refl, ap, arith}
+use Rattle.std.proofs.Common.{◌≡◌, ℕ, Bool, suc, ◌+◌, ◌-◌, ◌<◌, ◌≤◌, false, ◌||◌, List, [], ◌∷◌, length, map, None, Ok, Err, refl, ap, ◌∙◌, arith}
 use Rattle.std.proofs.lemmas.Grind.{common_steps}
 use Rattle.std.specs.Str.{bytes_eq}
 use Rattle.sdl_tree.specs.declared.name.Name.{Name}
@@ -28,16 +28,10 @@ rest_length (w ∷ i) = omega arith
 
 -- ---- a name among others
 
-pub named_turn : (among behind : List Name) (y : Name) (x : List ℕ) → among ≡ y ∷ behind
-    → is_named (map name_value among) x ≡ (bytes_eq (name_value y).text x || is_named (map name_value behind) x)
+pub named_turn : (r : Bool) (among behind : List Name) (y : Name) (x : List ℕ) → among ≡ y ∷ behind → r ≡ is_named (map name_value among) x
+    → r ≡ (bytes_eq (name_value y).text x || is_named (map name_value behind) x)
 unfolding is_named
-named_turn among behind y x e = ap (λ ys. is_named (map name_value ys) x) e
-
-pub named_none : (among : List Name) (x : List ℕ) → among ≡ [] → is_named (map name_value among) x ≡ false
-unfolding is_named
-named_none among x e = ap (λ ys. is_named (map name_value ys) x) e
-
-pub ruleset naming = (common_steps, named_turn, named_none)
+named_turn r among behind y x e f = f ∙ ap (λ ys. is_named (map name_value ys) x) e
 
 -- ---- transitions and decisions
 

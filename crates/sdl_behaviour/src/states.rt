@@ -141,7 +141,6 @@ fn one_of(alloc: Global, cursor: &mut Cursor<'_, '_>, names: &[Name]) -> Result<
 }
 
 /// Whether one of the names is this.
-#[tactic(auto, using(crate::proofs::TurnLemmas::naming))]
 fn is_named(names: &[Name], text: &str) -> bool
     ensures { result ≡ spec.is_named (map name_value names.now) text.now }
 {

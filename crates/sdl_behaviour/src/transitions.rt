@@ -140,7 +140,6 @@ pub fn decision_around(
 }
 
 /// The node, made apart so that its view stands in a contract.
-#[tactic(auto, using(sdl_tree::proofs::ViewLemmas::decision_value))]
 pub fn decision_with(
     word: Spelling,
     question: Expression,
