@@ -1,5 +1,5 @@
 -- What a look for the comma of a clause passes: expressions, and all that stands in parentheses.
-use Rattle.sdl_behaviour.proofs.Words.{Active, Applied, Chain, Expr, Fixed, InParentheses, Keyword, List, Named, Numeral, Paren, Repeated, RepeatedOnce, SameFront, Separated, Spelling, SpellsApplied, SpellsAt, SpellsExpr, SpellsInner, SpellsLink, SpellsPrimary, SpellsTimer, Spot, Stops, Unary, Words, [], ap, expr_law, exprs_in, false, front, inl, inr, links_in, loosest, operator_mark, refl, rest, same_mark, sees, sees_at, sees_front, sees_ok, stops_at, suc, sym, true, true≢false, unary_mark, value_mark, zero, ℕ, ◌∙◌, ◌∷◌, ◌≡◌, ◌⊎◌}
+use Rattle.sdl_behaviour.proofs.Words.{Active, Applied, Chain, Expr, Fixed, InParentheses, Keyword, List, Named, Numeral, Paren, Repeated, RepeatedOnce, SameFront, Separated, Spelling, SpellsApplied, SpellsAt, SpellsExpr, SpellsInner, SpellsLink, SpellsPrimary, SpellsTimer, Spot, Stops, Unary, Words, [], ap, expr_law, exprs_in, false, front, inl, inr, links_in, loosest, operator_mark, plain_name, refl, rest, same_mark, sees, sees_at, sees_front, sees_ok, stops_at, suc, sym, true, true≢false, unary_mark, value_mark, zero, ℕ, ◌∙◌, ◌∷◌, ◌≡◌, ◌⊎◌}
 use Rattle.sdl_tree.specs.declared.expressions.KeywordValue.TheVariants as value
 use Rattle.sdl_tree.specs.declared.expressions.UnaryOperator.TheVariants as unary
 use Rattle.sdl_tree.specs.declared.expressions.Operator.TheVariants as operator
@@ -101,12 +101,6 @@ timer_no_comma d x s i j t =
 abbrev pub Parenthesized : Words → Type 0
 Parenthesized l = (sees mark.Open l ≡ true) ⊎ (sees mark.Close l ≡ true)
 
-name_alone : (Inner : Expr → Words → Words → Type 0) (Timer : Spot × List Expr → Words → Words → Type 0) (y : Spot) (k : ℕ) (j : Words)
-    → SpellsAt Inner Timer k (Named y) (word.Name y ∷ j) j
-name_alone Inner Timer y zero j = refl
-name_alone Inner Timer y (suc zero) j = inl refl
-name_alone Inner Timer y (suc (suc k)) j = inl (name_alone Inner Timer y (suc k) j)
-
 -- neither an operator nor a comma stands there, and it stands wherever the same is next
 stops_parenthesized : (k : ℕ) (l : Words) → Parenthesized l → Stops k l × (sees mark.Comma l ≡ false)
 unfolding sees front same_mark
@@ -123,7 +117,7 @@ pub no_time : (d : ℕ) (x : Expr) (s : Spelling) (i j : Words) → SpellsExpr d
 no_time d x s i j t y l e b =
     let read = (expr_law d).rules.complete in
     let stop = stops_parenthesized loosest l b in
-    let alone = read (Named y) i l (rw e (name_alone (SpellsInner d) (SpellsTimer d) y loosest l)) stop.0 in
+    let alone = read (Named y) i l (rw e (plain_name (SpellsInner d) (SpellsTimer d) y loosest l)) stop.0 in
     let time = read x i (Fixed mark.Comma s ∷ j) t (stops_at mark.Comma refl loosest s j) in
     true≢false (sym (sees_at mark.Comma s l j (same_rest (Named y) x l (Fixed mark.Comma s ∷ j) (sym alone ∙ time))) ∙ stop.1)
 

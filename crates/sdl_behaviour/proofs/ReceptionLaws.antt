@@ -1,11 +1,11 @@
 -- The laws of a stimulus and of a list of them. A stimulus is read where no condition and no priority stands behind it:
 -- behind one that has no transition they may not stand in the grammar either, since they would be its own; behind others
 -- they may.
-use Rattle.sdl_behaviour.proofs.Words.{As, same_law, AndAction, Anywhere, Barred, Both, Choice, Complete, ContinuousSignal, Ended, Fixed, Form, Input, InputPart, IsMark, Law, Made, Mark, MaybeLaw, NoAction, None, Option, Or, PriorityHead, PriorityInput, Repeated, SavePart, Some, SpellsCondition, SpellsEnd, SpellsExpr, SpellsIns, SpellsLabel, SpellsPriority, SpellsStimulus, SpellsTrans, Spot, Steps, Stimulus, Transition, Wherever, Words, [], action_marks, and_then, ap, as_choice, begins_action, begins_statement, begins_terminator, begins_unseen, behind_law, bind_is, both_law, end_other, ended_law, erased_input, erased_stimulus, erased_transition, erased_word, expr_law, false, front, has_mark, if_true, inl, inr, loosest, made, made_as, made_complete, made_law, map, mark_law, maybe_choice, none_as, one_choice, or_choice, read_as, refl, repeated, repeated_open_law, same_mark, seen_begins, sees, sees_name, some_as, stops_end, stops_law, suc, sym, terminator_marks, then_complete, then_law, trans, ℕ, ◌∙◌, ◌∷◌, ◌≡◌, ◌⊗◌}
+use Rattle.sdl_behaviour.proofs.Words.{AndAction, Anywhere, As, Barred, Both, Choice, Complete, ContinuousSignal, Ended, Fixed, Form, Input, InputPart, IsMark, Law, Made, Mark, MaybeLaw, NoAction, None, Option, Or, PriorityHead, PriorityInput, Repeated, SavePart, Some, SpellsCondition, SpellsEnd, SpellsExpr, SpellsIns, SpellsLabel, SpellsPriority, SpellsStimulus, SpellsTrans, Spot, Steps, Stimulus, Transition, Wherever, Words, [], action_marks, and_then, ap, as_choice, begins_action, begins_statement, begins_terminator, begins_unseen, behind_law, bind_is, both_law, end_other, ended_law, erased_input, erased_stimulus, erased_transition, erased_word, expr_law, false, front, has_mark, if_true, inl, inr, loosest, made, made_as, made_complete, made_law, map, mark_law, maybe_choice, none_as, one_choice, or_choice, read_as, refl, repeated, repeated_open_law, same_law, same_mark, seen_begins, sees, sees_name, some_as, steps_if, steps_in, stops_end, stops_law, suc, sym, terminator_marks, then_complete, then_law, trans, ℕ, ◌∙◌, ◌∷◌, ◌≡◌, ◌⊗◌}
 use Rattle.sdl_tree.specs.declared.mark.Mark.TheVariants as mark
 use Rattle.sdl_behaviour.specs.Stimuli.{input_part_with, input_part, priority_head, priority_input_with, priority_input, save_with, continuous_with, continuous_signal, one_stimulus, begins_stimulus, stimulus, save_part, stimulus_marks}
 use Rattle.sdl_behaviour.proofs.EndingLaws.{name_no_mark, terminator_choice}
-use Rattle.sdl_behaviour.proofs.StepLaws.{and_again, and_if, NoStatement, no_statement}
+use Rattle.sdl_behaviour.proofs.StepLaws.{NoStatement, no_statement}
 use Rattle.sdl_behaviour.proofs.StimulusLaws.{ins_law, inputs_law, save_law, condition_law, priority_law}
 use Rattle.sdl_behaviour.proofs.TransitionLaws.{trans_law, action_choice}
 use Rattle.sdl_behaviour.proofs.UnlessLaws.{Free, free, free_complete, free_law, wherever_law, wherever_read}
@@ -60,7 +60,7 @@ input_law d = made_law input_part_with (λ x. refl)
 
 priority_same : (d : ℕ) (i : Words) → made priority_input_with (free Barred mark.Provided head_law ⊗ trans d) i ≡ priority_input d i
 unfolding priority_input
-priority_same d i = simp (and_again, and_if)
+priority_same d i = simp (steps_in, steps_if)
 
 -- a `provided` behind a head is told as barred
 priority_input_law : (d : ℕ) → Law (priority_input d) (IsPriority d) (IsPriority (suc d)) Alone erased_stimulus

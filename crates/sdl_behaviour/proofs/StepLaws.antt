@@ -1,5 +1,5 @@
 -- The law of transitions, over that of actions: actions with their labels, and what ends them.
-use Rattle.sdl_behaviour.proofs.Words.{Action, Actions, AndAction, Anywhere, BeginsOne, Bool, Both, Choice, Ending, Err, Fixed, Form, Law, List, Made, Mark, MaybeLaw, NoAction, None, Ok, Option, Optional, Outcome, Parser, Repeated, SameFront, Some, SpellsEnding, SpellsLabel, SpellsStatement, SpellsTerminator, SpellsTransBy, Spot, Statement, Steps, Terminator, Transition, Words, [], action_marks, actions_of, and_then, ap, begins_action, begins_seen, begins_statement, begins_terminator, begins_unnamed, both_law, either, either_law, ending_with, erased_action, erased_actions, erased_both, erased_ending, erased_name, erased_terminator, erased_transition, false, front, have_mark, if◌then◌else◌, inl, inr, label, made, made_law, map, maybe, maybe_law, name_begins, name_front, node_law, one_front, option_map, or_right, others_unseen, refl, same_mark, sees, sees_name, statement_with, statements_in, steps_from, steps_with, stops_law, suc, sym, terminator, terminator_marks, trans_of, true, until_by, until_law, ℕ, ◌||◌, ◌∙◌, ◌∷◌, ◌≡◌, ◌⊎◌, ◌⊗◌}
+use Rattle.sdl_behaviour.proofs.Words.{Action, Actions, AndAction, Anywhere, BeginsOne, Both, Choice, Ending, Fixed, Form, Law, List, Made, Mark, MaybeLaw, NoAction, None, Option, Optional, Parser, Repeated, SameFront, Some, SpellsEnding, SpellsLabel, SpellsStatement, SpellsTerminator, SpellsTransBy, Spot, Statement, Steps, Terminator, Transition, Words, [], action_marks, actions_of, and_then, ap, begins_action, begins_seen, begins_statement, begins_terminator, begins_unnamed, both_law, either, either_law, ending_with, erased_action, erased_actions, erased_both, erased_ending, erased_name, erased_terminator, erased_transition, false, front, have_mark, inl, inr, label, made, made_law, map, maybe, maybe_law, name_begins, name_front, node_law, one_front, option_map, or_right, others_unseen, refl, same_mark, sees, sees_name, statement_with, statements_in, steps_from, steps_if, steps_in, steps_with, stops_law, suc, sym, terminator, terminator_marks, trans_of, true, until_by, until_law, ℕ, ◌||◌, ◌∙◌, ◌∷◌, ◌≡◌, ◌⊎◌, ◌⊗◌}
 use Rattle.sdl_tree.specs.declared.mark.Mark.TheVariants as mark
 use Rattle.sdl_behaviour.proofs.EndingLaws.{label_law, terminator_choice}
 
@@ -73,18 +73,10 @@ step_from Act (inr e) i j t = ((e.label, inr e.terminator), refl, (t.0, t.1, inl
 
 -- ---- one turn
 
-pub and_again : {A B C : Type 0} (o : Outcome A) (f : A → Parser B) (g : B → Parser C) → and_then (and_then o f) g ≡ and_then o (λ x j. and_then (f x j) g)
-and_again (Ok p) f g = refl
-and_again (Err r) f g = refl
-
-pub and_if : {A B : Type 0} (b : Bool) (o p : Outcome A) (g : A → Parser B) → and_then (if b then o else p) g ≡ (if b then and_then o g else and_then p g)
-and_if true o p g = refl
-and_if false o p g = refl
-
 steps_turn : (act : Parser Action) (n : ℕ) (found : List Statement) (i : Words)
     → steps_from act (suc n) found i ≡ and_then (step act i) (λ o m. until_by found (steps_from act n) o m)
 unfolding steps_from
-steps_turn act n found i = simp (and_again, and_if)
+steps_turn act n found i = simp (steps_in, steps_if)
 
 -- ---- statements in the tree
 
@@ -144,4 +136,4 @@ module _ {act : Parser Action} {Act More : Form Action} (a : Choice act Act More
   unfolding steps_from
   trans_of_law =
       node_law steps_with (SpellsTransBy Act) (SpellsTransBy More) erased_steps (trans_to Act) (trans_from Act) (trans_to More)
-      (stops_law (λ j t. (tt, t)) (until_law step_law (λ i e. tt) tt (steps_from act) (λ found i. refl) (steps_turn act)))
+      (stops_law (λ j t. (tt, t)) (until_law step_law step_law.rules.complete (λ i e. tt) (λ j t. t) tt (steps_from act) (λ found i. refl) (steps_turn act)))

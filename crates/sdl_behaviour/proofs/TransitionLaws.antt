@@ -95,7 +95,7 @@ shortest s = (
   λ j t. (
     (s, (Named nameless, ([], None))),
     refl,
-    (_, refl, (_, (_, plain_name (SpellsInner zero) (SpellsTimer zero) loosest _, inl (plain, refl)), (_, refl, (_, (plain, refl), inl (plain, refl))))),
+    (_, refl, (_, (_, plain_name (SpellsInner zero) (SpellsTimer zero) nameless loosest _, inl (plain, refl)), (_, refl, (_, (plain, refl), inl (plain, refl))))),
   ),
 )
 

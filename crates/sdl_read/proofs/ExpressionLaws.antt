@@ -17,33 +17,26 @@ erased_link l = record { operator = l.operator; word = erased_word l.word; opera
 
 -- ---- lists in the tree
 
-pub exprs_again : (es : Exprs) → exprs_of (exprs_in es) ≡ es
+exprs_again : (es : Exprs) → exprs_of (exprs_in es) ≡ es
 exprs_again NoExpr = refl
 exprs_again (AndExpr e es) = ap (AndExpr e) (exprs_again es)
 
-pub exprs_are : (es : List Expr) → exprs_in (exprs_of es) ≡ es
-exprs_are [] = refl
-exprs_are (e ∷ es) = ap (λ fs. e ∷ fs) (exprs_are es)
+-- the list in the tree is the list, and without its places that without its places
+exprs_are : (es : List Expr) → (exprs_in (exprs_of es) ≡ es) × (erased_exprs (exprs_of es) ≡ exprs_of (map erased_expr es))
+exprs_are [] = (refl, refl)
+exprs_are (e ∷ es) = let more = exprs_are es in (ap (λ fs. e ∷ fs) more.0, ap (AndExpr (erased_expr e)) more.1)
 
-pub links_again : (ls : Links) → links_of (links_in ls) ≡ ls
+links_again : (ls : Links) → links_of (links_in ls) ≡ ls
 links_again NoLink = refl
 links_again (AndLink o w e ls) = ap (AndLink o w e) (links_again ls)
 
-pub links_are : (ls : List Link) → links_in (links_of ls) ≡ ls
-links_are [] = refl
-links_are (l ∷ ls) = ap (λ ks. l ∷ ks) (links_are ls)
-
-erased_listed : (es : List Expr) → erased_exprs (exprs_of es) ≡ exprs_of (map erased_expr es)
-erased_listed [] = refl
-erased_listed (e ∷ es) = ap (AndExpr (erased_expr e)) (erased_listed es)
-
-erased_linked : (ls : List Link) → erased_links (links_of ls) ≡ links_of (map erased_link ls)
-erased_linked [] = refl
-erased_linked (l ∷ ls) = ap (AndLink l.operator (erased_word l.word) (erased_expr l.operand)) (erased_linked ls)
+links_are : (ls : List Link) → (links_in (links_of ls) ≡ ls) × (erased_links (links_of ls) ≡ links_of (map erased_link ls))
+links_are [] = (refl, refl)
+links_are (l ∷ ls) = let more = links_are ls in (ap (λ ks. l ∷ ks) more.0, ap (AndLink l.operator (erased_word l.word) (erased_expr l.operand)) more.1)
 
 erased_chain : (e : Expr) (ls : List Link) → erased_expr (chain_with e ls) ≡ chain_with (erased_expr e) (map erased_link ls)
 erased_chain e [] = refl
-erased_chain e (l ∷ ls) = ap (Chain (erased_expr e)) (erased_linked (l ∷ ls))
+erased_chain e (l ∷ ls) = ap (Chain (erased_expr e)) ((links_are (l ∷ ls)).1)
 
 -- ---- what expressions begin with
 
@@ -92,7 +85,7 @@ module _ {operand : Parser Expr} {P M : Form Expr} (l : ℕ) (a : Law operand P 
   chain_to : (R : Form Expr) (x : Expr × List Link) (i j : Words) → IsChain R x i j → R (chain_with x.0 x.1) i j ⊎ SpellsChain R (suc l) (chain_with x.0 x.1) i j
   chain_to R (e, []) i j s = let F : Words → Type 0 = λ k. R e i k in inl (subst F s.2 s.1)
   chain_to R (e, k ∷ ks) i j s =
-      let F : List Link → Type 0 = λ ms. Repeated (SpellsLink R (suc l)) (k ∷ ms) s.0 j in inr (s.0, s.1, subst F (sym (links_are ks)) s.2)
+      let F : List Link → Type 0 = λ ms. Repeated (SpellsLink R (suc l)) (k ∷ ms) s.0 j in inr (s.0, s.1, subst F (sym (links_are ks).0) s.2)
 
   chain_from : (x : Expr) (i j : Words) → P x i j ⊎ SpellsChain P (suc l) x i j → Made (λ p. chain_with p.0 p.1) (IsChain P) x i j
   chain_from x i j (inl s) = ((x, []), refl, (j, s, refl))
@@ -158,7 +151,7 @@ module _ (Inner : Form Expr) (Timer : Form (Spot × List Expr)) where
   active_to x i j s =
       let F : Expr → Type 0 = λ y. SpellsPrimary Inner Timer y i j in
       let R : List Expr → Type 0 = λ es. Both (IsMark mark.Active) (Behind mark.Open (Before Timer mark.Close)) (s.0.0, (s.0.1.0, es)) i j in
-      subst F (sym s.1) (subst R (sym (exprs_are s.0.1.1)) s.2)
+      subst F (sym s.1) (subst R (sym (exprs_are s.0.1.1).0) s.2)
 
   primary_to : (x : Expr) (i j : Words) → IsPrimary x i j → SpellsPrimary Inner Timer x i j
   primary_to =
@@ -234,11 +227,11 @@ module _ (r : Readers) (Inner MoreInner : Form Expr) (Timer MoreTimer : Form (Sp
 
 -- ---- where nothing more may stand inside
 
-pub plain_name : (Inner : Form Expr) (Timer : Form (Spot × List Expr)) (k : ℕ) (j : Words)
-    → SpellsAt Inner Timer k (Named nameless) (word.Name nameless ∷ j) j
-plain_name Inner Timer zero j = refl
-plain_name Inner Timer (suc zero) j = inl refl
-plain_name Inner Timer (suc (suc k)) j = inl (plain_name Inner Timer (suc k) j)
+-- a name alone
+pub plain_name : (Inner : Form Expr) (Timer : Form (Spot × List Expr)) (y : Spot) (k : ℕ) (j : Words) → SpellsAt Inner Timer k (Named y) (word.Name y ∷ j) j
+plain_name Inner Timer y zero j = refl
+plain_name Inner Timer y (suc zero) j = inl refl
+plain_name Inner Timer y (suc (suc k)) j = inl (plain_name Inner Timer y (suc k) j)
 
 abbrev DeepActive : Words → Outcome Expr → Type 0
 DeepActive = Gives deep_active (IsActive (SpellsTimer zero)) (IsActive (SpellsTimer (suc zero))) Anywhere
@@ -266,7 +259,7 @@ inside_none =
     same_rules (shut_first mark.Open (either (sees mark.Active) deep_active refuse))
     (inside_rules (SpellsInner zero) (SpellsInner (suc zero)) (SpellsTimer zero) (SpellsTimer (suc zero))
     (shut_rules mark.Open (λ s. (s, inl refl)) (IsParen (SpellsInner zero)) (IsParen (SpellsInner (suc zero))) Anywhere (λ x i j s. s.2.2.1)
-    (λ s. (paren_with (s, Named nameless), word.Name nameless ∷ Fixed mark.Close plain ∷ [], λ j u. ((s, Named nameless), refl, (_, refl, (plain, plain_name (SpellsInner zero) (SpellsTimer zero) loosest (Fixed mark.Close plain ∷ j)))))))
+    (λ s. (paren_with (s, Named nameless), word.Name nameless ∷ Fixed mark.Close plain ∷ [], λ j u. ((s, Named nameless), refl, (_, refl, (plain, plain_name (SpellsInner zero) (SpellsTimer zero) nameless loosest (Fixed mark.Close plain ∷ j)))))))
     (never_rules deep_active_tells (λ x i j s. s.2.2.3.1)))
 
 no_args_law : Law no_args (InParentheses (SpellsInner zero)) (InParentheses (SpellsInner (suc zero))) (λ j. sees mark.Open j ≡ false) (map erased_expr)
@@ -278,7 +271,7 @@ no_args_law =
           (either_rules (sees mark.Open) (sees_front mark.Open)
           (shut_rules mark.Open (λ s. (s, inl refl)) (Enclosed (SpellsInner zero)) (Enclosed (SpellsInner (suc zero))) (λ j. sees mark.Open j ≡ false)
           (λ xs i j s. separated_begins (SpellsInner zero) (λ k. ⊥) (λ x k l n. n) xs s.1 (Fixed mark.Close s.3.0 ∷ j) s.3.1)
-          (λ s. (Named nameless ∷ [], word.Name nameless ∷ Fixed mark.Close plain ∷ [], λ j u. (s, _, refl, (plain, plain_name (SpellsInner zero) (SpellsTimer zero) loosest (Fixed mark.Close plain ∷ j))))))
+          (λ s. (Named nameless ∷ [], word.Name nameless ∷ Fixed mark.Close plain ∷ [], λ j u. (s, _, refl, (plain, plain_name (SpellsInner zero) (SpellsTimer zero) nameless loosest (Fixed mark.Close plain ∷ j))))))
           (nothing_law []).rules (opens_list (SpellsInner zero)) (λ xs i j s t. ap (sees mark.Open) s.1 ∙ t));
       one = ([], [], λ j t. inr (refl, refl));
     })
@@ -297,7 +290,7 @@ paren_of_law d a = made_law paren_with (λ x. refl) (then_law (mark_law mark.Ope
 active_of_law : (d : ℕ) → AreRead d → Law (active_of (readers d).args) (IsActive (SpellsTimer (suc d))) (IsActive (SpellsTimer (suc (suc d)))) Anywhere erased_expr
 unfolding active_of same_mark
 active_of_law d a =
-    made_law active_with (λ x. ap (Active (erased_word x.0) (erased_name x.1.0)) (erased_listed x.1.1))
+    made_law active_with (λ x. ap (Active (erased_word x.0) (erased_name x.1.0)) (exprs_are x.1.1).1)
     (then_law (mark_law mark.Active) (behind_law mark.Open (before_law mark.Close (then_law name_law a.args) (sees_other mark.Open mark.Close refl))))
 
 are_read : (d : ℕ) → AreRead d

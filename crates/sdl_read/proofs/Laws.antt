@@ -2,7 +2,7 @@
 use Rattle.std.proofs.Common.{◌≡◌, ◌⊎◌, inl, inr, Bool, true, false, true≢false, if◌then◌else◌, [], ◌∷◌, ◌++◌, Option, Some, None, option_map, Ok, Err, refl, sym, ap, ◌∙◌, subst, append_assoc}
 use Rattle.sdl_read.proofs.Grammar.{AreAlike, Mark, Spelling, IsOpening, plain, erased_word, IsBarred, IsMark, Both, Behind, Before, Optional, Words, Fixed, tied, Parser, Refusal, Refused, Deep, Barred, Outcome, and_then, pure, too_deep, refuse, expect, same_mark, sees, front, rest, ◌⊗◌, behind, before, made, either, maybe}
 use Rattle.sdl_read.proofs.Depth.{SameFront, HasOne, TooMany, same_behind, deep_rest, within, onward, closed}
-use Rattle.sdl_read.proofs.Steps.{read_as, IsRest, rest_here, rest_on, StandsAt, stands_on, same_value, as_read, not_read, bind_is, if_true, if_false, sees_ok, same_mark_ok, expect_again, alike_fixed, alike_from}
+use Rattle.sdl_read.proofs.Steps.{read_as, IsRest, rest_here, rest_on, StandsAt, stands_on, as_read, bind_is, if_true, if_false, sees_ok, same_mark_ok, expect_again, alike_fixed, alike_from}
 
 -- how words, up to a rest, spell a node
 abbrev pub Form : Type 0 → Type 1
@@ -92,10 +92,6 @@ module _ {A : Type 0} {p : Parser A} {P M : Form A} {S : Words → Type 0} {e : 
 
   pub stands : (i : Words) (r : Refusal) → p i ≡ Err r → StandsAt i r
   stands i r s = stands_by i r (was_told i r s)
-
--- it is read here
-pub read_here : {A : Type 0} {p : Parser A} {P : Form A} {S : Words → Type 0} (i : Words) (x : A) (m : Words) → IsRead p P S i x m → p i ≡ read_as x m
-read_here {p = p} i x m r = ap p r.at ∙ r.again m (inl refl)
 
 -- ---- refusals of a part
 
@@ -374,15 +370,17 @@ pub steps_in : {A B C : Type 0} (o : Outcome A) (f : A → Parser B) (g : B → 
 steps_in (Ok z) f g = refl
 steps_in (Err r) f g = refl
 
+pub steps_if : {A B : Type 0} (b : Bool) (o p : Outcome A) (g : A → Parser B) → and_then (if b then o else p) g ≡ (if b then and_then o g else and_then p g)
+steps_if true o p g = refl
+steps_if false o p g = refl
+
 second_alone : {A B : Type 0} (o : Outcome A) (q : Parser B)
     → and_then (and_then o (λ x m. and_then (q m) (λ y j. read_as (x, y) j))) (λ (z : A × B) j. read_as z.1 j) ≡ and_then o (λ _ m. q m)
-second_alone {A} {B} (Ok z) q = steps_in {B = A × B} (q z.1) (λ y j. read_as (z.0, y) j) (λ w j. read_as w.1 j) ∙ unchanged (q z.1)
-second_alone (Err r) q = refl
+second_alone o q = simp (steps_in, unchanged)
 
 pub first_alone : {A B : Type 0} (o : Outcome A) (q : A → Parser B)
     → and_then (and_then o (λ x m. and_then (q x m) (λ y j. read_as (x, y) j))) (λ (z : A × B) j. read_as z.0 j) ≡ and_then o (λ x m. and_then (q x m) (λ _ j. read_as x j))
-first_alone {A} {B} (Ok z) q = steps_in {B = A × B} (q z.0 z.1) (λ y j. read_as (z.0, y) j) (λ w j. read_as w.0 j)
-first_alone (Err r) q = refl
+first_alone o q = simp steps_in
 
 module _ {A : Type 0} (m : Mark) {p : Parser A} {P M : Form A} {S : Words → Type 0} {e : A → A} (a : Law p P M S e) where
   pub behind_law : Law (behind m p) (Behind m P) (Behind m M) S e
@@ -509,7 +507,7 @@ module _ {A : Type 0} (m : Mark) (opens : (s : Spelling) → IsOpening (Fixed m 
 
 -- ---- [x]
 
-pub maybe_law : {A : Type 0} (begins : Words → Bool) (looks : (i k : Words) → SameFront i k → begins i ≡ begins k) {p : Parser A} {P M : Form A} {S : Words → Type 0} {e : A → A}
+abbrev pub maybe_law : {A : Type 0} (begins : Words → Bool) (looks : (i k : Words) → SameFront i k → begins i ≡ begins k) {p : Parser A} {P M : Form A} {S : Words → Type 0} {e : A → A}
     → Rules p P M S e → begins [] ≡ false → ((x : A) (i j : Words) → P x i j → begins i ≡ true) → MaybeLaw (maybe begins p) P M S begins e
 maybe_law begins looks {p = p} a ends starts = record { item = p; is = refl; rules = a; starts = starts; looks = looks; ends = ends }
 
@@ -532,15 +530,6 @@ module _ {A : Type 0} {begins : Words → Bool} {p : Parser (Option A)} {P M : F
             (λ x i j s. a.starts s.0 i j s.2) (λ x i j s t. ap begins s.1 ∙ t.1);
         one = (None, [], λ j t. inr (refl, refl));
       }))
-
-  none_by : (b : Bool) (i : Words) (o : Outcome A) (j : Words) → (if b then and_then o (λ x k. read_as (Some x) k) else read_as None i) ≡ read_as None j → b ≡ false
-  none_by false i o j s = refl
-  none_by true i (Ok z) j s = absurd (let apart : ◌≡◌ {A = Option A} (Some z.0) None = same_value {A = Option A} (Some z.0) None z.1 j s in cc)
-  none_by true i (Err r) j s = not_read r None j s
-
-  -- where none is read, none begins
-  pub none_begins : (i j : Words) → p i ≡ read_as None j → begins i ≡ false
-  none_begins i j s = none_by (begins i) i (a.item i) j (ap (λ q. q i) a.is ∙ s)
 
   -- where none begins, none is read
   pub passes : (i : Words) → begins i ≡ false → p i ≡ read_as None i

@@ -3,8 +3,8 @@ use Rattle.std.proofs.Common.{◌≡◌, ℕ, zero, suc, ◌+◌, ◌<◌, ◌�
 use Rattle.sdl_read.proofs.Grammar.{AreAlike, Spelling, Both, Behind, Optional, Separated, Repeated, Enclosed, Word, Words, Fixed, Parser, Outcome, Deep, front, rest, and_then, pure, expect, same_mark, sees, after, ◌⊗◌, behind, before, made, maybe, turns, separated_from, separated, enclosed, repeated_by, repeated_from, repeated}
 use Rattle.sdl_tree.specs.declared.mark.Mark.TheVariants as mark
 use Rattle.sdl_read.proofs.Depth.{SameFront, TooMany, passed_front, front_behind, renamed, onward}
-use Rattle.sdl_read.proofs.Laws.{Form, GoodAfter, IsRead, Told, Gives, Rules, Law, MaybeLaw, Anywhere, Takes, Made, was_read, sound, spelled_again, later, same_law, both_law, behind_law, before_law, formed_rules, formed_law, steps_in, unchanged, maybe_law, passes, some_read}
-use Rattle.sdl_read.proofs.Steps.{read_as, none_as, some_as, same_value, same_rest, as_read, not_read, not_refused, not_some, bind_is, if_true, if_false, sees_ok, sees_at, sees_front, sees_last, after_seen, after_other, rest_again, expect_again, alike_from, first_word}
+use Rattle.sdl_read.proofs.Laws.{Form, GoodAfter, IsRead, Told, Gives, Rules, Law, MaybeLaw, Anywhere, Takes, Made, was_read, sound, spelled_again, later, same_law, both_law, behind_law, before_law, made_rules, made_complete, formed_law, steps_in, steps_if, unchanged, maybe_law, passes, some_read}
+use Rattle.sdl_read.proofs.Steps.{read_as, none_as, some_as, same_value, same_rest, not_read, not_refused, not_some, bind_is, if_true, if_false, sees_ok, sees_at, sees_front, sees_last, after_seen, after_other, rest_again, expect_again, alike_from, first_word}
 
 split : (a b c d : Words) → a ++ b ≡ c ++ d
     → ((w : Words) × (c ≡ a ++ w) × (b ≡ w ++ d)) ⊎ ((v : Word) × (w : Words) × (a ≡ c ++ v ∷ w) × (d ≡ v ∷ (w ++ b)))
@@ -305,8 +305,8 @@ module _ {A B : Type 0} {begins : Words → Bool} {p : Parser (Option (A ⊎ B))
   }
   gives_whole i (Err s) t = t
 
-  pub until_open_law : Law (λ i. from (length i) [] i) (Until P) (Until M) (λ j. S j × (begins j ≡ false)) (λ r. (map f r.0, option_map g r.1))
-  until_open_law = record {
+  pub until_law : Law (λ i. from (length i) [] i) (Until P) (Until M) (λ j. S j × (begins j ≡ false)) (λ r. (map f r.0, option_map g r.1))
+  until_law = record {
     rules = record {
       tells = λ i. gives_whole i (from (length i) [] i) (gives_list (length i) [] i (omega arith));
       complete = λ r i j s t. from_complete r.0 r.1 (length i) [] i j s (weaker j t.0) t.1 (omega arith);
@@ -316,66 +316,34 @@ module _ {A B : Type 0} {begins : Words → Bool} {p : Parser (Option (A ⊎ B))
     one = (list_of [] None, [], λ j t. (j, refl, refl));
   }
 
--- an item stops where another begins
-pub until_law : {A B : Type 0} {begins : Words → Bool} {p : Parser (Option (A ⊎ B))} {P M : Form (A ⊎ B)} {S : Words → Type 0} {f : A → A} {g : B → B}
-    (a : MaybeLaw p P M S begins (erased_both f g)) (at_start : (i : Words) → begins i ≡ true → S i) (last : S []) (from : ℕ → List A → Parser (List A × Option B))
-    → ((found : List A) (i : Words) → from zero found i ≡ read_as (list_of found None) i)
-    → ((n : ℕ) (found : List A) (i : Words) → from (suc n) found i ≡ and_then (p i) (λ o m. until_by found (from n) o m))
-    → Law (λ i. from (length i) [] i) (Until P) (Until M) (λ j. S j × (begins j ≡ false)) (λ r. (map f r.0, option_map g r.1))
-until_law a at_start last from none turn = until_open_law a a.rules.complete at_start (λ j t. t) last from none turn
-
 -- ---- {x}: items of which none is the last
 
-abbrev IsReadAs : {A : Type 0} → Outcome A → Option A → Words → Type 0
-IsReadAs o None k = Unit {0}
-IsReadAs o (Some x) k = o ≡ read_as x k
-
-some_item : {A : Type 0} (o : Outcome A) (x : A) (j : Words) → and_then o (λ y k. some_as y k) ≡ some_as x j → o ≡ read_as x j
-some_item {A} (Ok z) x j s = let F : Option A → Words → Type 0 = λ q k. IsReadAs (Ok z) q k in as_read F (Some z.0) (Some x) z.1 j s refl
-some_item (Err r) x j s = not_read r (Some x) j s
-
 item_by : {A : Type 0} (b : Bool) (i : Words) (o : Outcome A) (x : A) (j : Words) → (if b then and_then o (λ y k. some_as y k) else none_as i) ≡ some_as x j → o ≡ read_as x j
-item_by true i o x j s = some_item o x j s
+item_by {A} true i (Ok (y, k)) x j s =
+    let some : ◌≡◌ {A = Option A} (Some y) (Some x) = same_value {A = Option A} (Some y) (Some x) k j s in
+    let same : y ≡ x = cc in λ n. read_as (same n) (same_rest {A = Option A} (Some y) (Some x) k j s n)
+item_by true i (Err r) x j s = not_read r (Some x) j s
 item_by false i o x j s = not_some x i j s
 
 abbrev goes_on : {A : Type 0} → A → A ⊎ ⊥
 goes_on x = inl x
 
 abbrev Alone : {A : Type 0} → Form A → Form (A ⊎ ⊥)
-Alone R (inl x) i j = R x i j
-Alone R (inr y) i j = ⊥
+Alone R = Made goes_on R
 
-alone_from : {A : Type 0} (R : Form A) (z : A ⊎ ⊥) (i j : Words) → Alone R z i j → Made goes_on R z i j
-alone_from R (inl x) i j s = (x, refl, s)
-alone_from R (inr y) i j s = absurd s
+all_to : {A : Type 0} (R : Form A) (xs : List A) (o : Option ⊥) (i m j : Words) → Repeated (λ x. Alone R (inl x)) xs i m → Optional (λ y. Alone R (inr y)) o m j → Repeated R xs i j
+all_to R xs (Some y) i m j s t = absurd y
+all_to R [] None i m j s t = s ∙ t
+all_to R (x ∷ xs) None i m j s t = let b = s.1 in let same : x ≡ b.0 = cc in (s.0, rw same b.2, all_to R xs None s.0 m j s.2 t)
 
-all_of : {A : Type 0} (R : Form A) (xs : List A) (o : Option ⊥) (i m j : Words) → Repeated R xs i m → Optional (λ y. Alone R (inr y)) o m j → Repeated R xs i j
-all_of R xs None i m j s t = let F : Words → Type 0 = λ l. Repeated R xs i l in subst F t s
-all_of R xs (Some y) i m j s t = absurd y
+all_from : {A : Type 0} (R : Form A) (xs : List A) (i j : Words) → Repeated R xs i j → Repeated (λ x. Alone R (inl x)) xs i j
+all_from R [] i j s = s
+all_from R (x ∷ xs) i j s = (s.0, (x, refl, s.1), all_from R xs s.0 j s.2)
 
 module _ {A : Type 0} {begins : Words → Bool} {p : Parser (Option A)} {P M : Form A} {S W : Words → Type 0} {e : A → A} (a : MaybeLaw p P M S begins e)
     (weak : (x : A) (i j : Words) → P x i j → W j → p i ≡ some_as x j) (at_start : (i : Words) → begins i ≡ true → W i) (weaker : (j : Words) → S j → W j) (last : S []) where
-  abbrev nothing_else : ⊥ → ⊥
-  nothing_else y = y
-
-  starts_alone : (z : A ⊎ ⊥) (i j : Words) → Alone P z i j → begins i ≡ true
-  starts_alone (inl x) i j s = a.starts x i j s
-  starts_alone (inr y) i j s = absurd s
-
-  abbrev alone : MaybeLaw (maybe begins (made goes_on a.item)) (Alone P) (Alone M) S begins (erased_both e nothing_else)
-  alone = record {
-    item = made goes_on a.item;
-    is = refl;
-    rules = formed_rules goes_on (λ j t. t) (λ x i j s. s) (alone_from P) (λ x i j s. s) (λ x. refl) a.rules;
-    starts = starts_alone;
-    looks = a.looks;
-    ends = a.ends;
-  }
-
-  weak_alone : (z : A ⊎ ⊥) (i j : Words) → Alone P z i j → W j → made goes_on a.item i ≡ read_as z j
-  weak_alone (inl x) i j s t =
-      bind_is (a.item i) (λ y k. read_as (goes_on y) k) x j (item_by (begins i) i (a.item i) x j (ap (λ q. q i) a.is ∙ weak x i j s t))
-  weak_alone (inr y) i j s t = absurd s
+  abbrev alone : MaybeLaw (maybe begins (made goes_on a.item)) (Alone P) (Alone M) S begins (erased_both e (λ (y : ⊥). y))
+  alone = maybe_law begins a.looks (made_rules goes_on (λ x. refl) a.rules) a.ends (λ z i j s. a.starts s.0 i j s.2)
 
   abbrev paired : List A → Parser (List A × Option ⊥)
   paired xs = λ j. read_as (list_of xs None) j
@@ -383,30 +351,16 @@ module _ {A : Type 0} {begins : Words → Bool} {p : Parser (Option A)} {P M : F
   abbrev from : ℕ → List A → Parser (List A × Option ⊥)
   from n found = λ i. and_then (repeated_from p n found i) paired
 
-  turn_by : (n : ℕ) (found : List A) (i : Words) (b : Bool) (o : Outcome A) →
-      and_then (and_then (if b then and_then o (λ x k. some_as x k) else none_as i) (λ q m. repeated_by found (repeated_from p n) q m)) paired
-      ≡ and_then (if b then and_then (and_then o (λ x k. read_as (goes_on x) k)) (λ z k. some_as z k) else none_as i) (λ q m. until_by found (from n) q m)
-  turn_by n found i true (Ok z) = refl
-  turn_by n found i b o = refl
-
-  from_none : (found : List A) (i : Words) → from zero found i ≡ read_as (list_of found None) i
-  unfolding repeated_from
-  from_none found i = refl
-
-  from_turn : (n : ℕ) (found : List A) (i : Words) → from (suc n) found i ≡ and_then (maybe begins (made goes_on a.item) i) (λ q m. until_by found (from n) q m)
-  unfolding repeated_from
-  from_turn n found i =
-      ap (λ (r : Parser (Option A)). and_then (and_then (r i) (λ q m. repeated_by found (repeated_from p n) q m)) paired) (sym a.is) ∙ turn_by n found i (begins i) (a.item i)
-
-  abbrev items : List A × Option ⊥ → List A
-  items r = r.0
-
   -- and where none begins
   pub repeated_open_law : Law (repeated p) (Repeated P) (Repeated M) (λ j. S j × (begins j ≡ false)) (map e)
+  unfolding repeated_from
   repeated_open_law =
       same_law (λ i. steps_in (repeated p i) paired (λ r j. read_as r.0 j) ∙ unchanged (repeated p i))
-      (formed_law items (λ j t. t) (λ r i j s. all_of P r.0 r.1 i s.0 j s.1 s.2) (λ xs i j s. (list_of xs None, refl, (j, s, refl)))
-      (λ r i j s. all_of M r.0 r.1 i s.0 j s.1 s.2) (λ x. refl) (until_open_law alone weak_alone at_start weaker last from from_none from_turn))
+      (formed_law (λ (r : List A × Option ⊥). r.0) (λ j t. t) (λ r i j s. all_to P r.0 r.1 i s.0 j s.1 s.2) (λ xs i j s. (list_of xs None, refl, (j, all_from P xs i j s, refl)))
+      (λ r i j s. all_to M r.0 r.1 i s.0 j s.1 s.2) (λ x. refl)
+      (until_law alone (made_complete goes_on (λ x i j s t. item_by (begins i) i (a.item i) x j (ap (λ q. q i) a.is ∙ weak x i j s t))) at_start weaker last from (λ found i. refl)
+      (λ n found i.
+      ap (λ (r : Parser (Option A)). and_then (and_then (r i) (λ q m. repeated_by found (repeated_from p n) q m)) paired) (sym a.is) ∙ simp (steps_in, steps_if))))
 
 -- an item stops where another begins
 module _ {A : Type 0} {begins : Words → Bool} {p : Parser (Option A)} {P M : Form A} {S : Words → Type 0} {e : A → A} (a : MaybeLaw p P M S begins e)
