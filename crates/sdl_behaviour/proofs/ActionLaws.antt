@@ -1,5 +1,5 @@
 -- The laws of actions but decisions and `set`.
-use Rattle.sdl_behaviour.proofs.Words.{As, SpellsAction, Anywhere, Destination, Law, None, Option, Optional, Some, SpellsApplied, SpellsAssignment, SpellsDestination, Stops, Words, args_law, behind_law, both_law, enclosed_law, end_other, ended_law, erased_action, erased_applied, erased_assignment, erased_destination, expr_law, false, loosest, made_law, mark_law, maybe_mark, name_law, no_words, option_map, optional_law, record_law, refl, same_mark, sees, sees_last, sees_other, separated_law, stops_at, stops_end, stops_last, stops_law, subst, suc, sym, then_law, ℕ, ◌≡◌}
+use Rattle.sdl_behaviour.proofs.Words.{As, SpellsAction, Anywhere, Destination, Law, None, Option, Optional, Some, SpellsApplied, SpellsAssignment, SpellsDestination, Stops, Words, args_law, behind_law, both_law, enclosed_law, end_other, ended_law, erased_action, erased_applied, erased_assignment, erased_destination, expr_law, false, loosest, made_law, mark_law, maybe_mark, name_law, option_map, optional_law, record_law, refl, same_mark, sees, sees_last, sees_other, separated_law, stops_at, stops_end, stops_last, stops_law, subst, suc, sym, then_law, ℕ, ◌≡◌}
 use Rattle.sdl_tree.specs.declared.mark.Mark.TheVariants as mark
 use Rattle.sdl_behaviour.specs.Actions.{assignment_with, assignment, task_with, task, applied_with, applied, destination_with, destination, output_with, output, create_with, create, keys, reset_with, reset}
 
@@ -14,7 +14,7 @@ pub task_law : (d : ℕ) → Law (task d) (As (SpellsAction d) task_with) (As (S
 unfolding task same_mark
 task_law d = made_law task_with (λ x. refl)
     (then_law (mark_law mark.Task)
-    (ended_law (separated_law (assignment_law d) (λ x j s. no_words s.1) (stops_at mark.Comma refl loosest) (stops_last loosest))
+    (ended_law (separated_law (assignment_law d) (stops_at mark.Comma refl loosest) (stops_last loosest))
     (λ i j s. (stops_end loosest i j s, end_other mark.Comma refl refl i j s))))
 
 -- ---- NAME [args]
@@ -46,7 +46,7 @@ unfolding output same_mark
 output_law d = made_law output_with (λ x. refl)
     (then_law (mark_law mark.Output)
     (ended_law
-    (both_law (separated_law (applied_law d) (λ x j s. no_words s.1) (sees_other mark.Open mark.Comma refl) (sees_last mark.Open))
+    (both_law (separated_law (applied_law d) (sees_other mark.Open mark.Comma refl) (sees_last mark.Open))
     (stops_law {T = λ j. (Stops loosest j × (sees mark.To j ≡ false)) × Sent j} (λ j t. t.0) (destination_law d)) (λ y m j s t. sent_before d y m j s t.1))
     (λ i j s. ((stops_end loosest i j s, end_other mark.To refl refl i j s), (end_other mark.Open refl refl i j s, end_other mark.Comma refl refl i j s)))))
 
@@ -65,6 +65,6 @@ reset_law d = made_law reset_with (λ x. refl)
     (then_law (mark_law mark.Reset)
     (ended_law
     (separated_law
-    (enclosed_law (applied_law d) (λ x j s. no_words s.1) (sees_other mark.Open mark.Comma refl) (sees_other mark.Open mark.Close refl) (sees_last mark.Open))
-    (λ x j s. no_words s.2) (λ s m. tt) tt)
+    (enclosed_law (applied_law d) (sees_other mark.Open mark.Comma refl) (sees_other mark.Open mark.Close refl) (sees_last mark.Open))
+    (λ s m. tt) tt)
     (λ i j s. (tt, end_other mark.Comma refl refl i j s))))

@@ -1,5 +1,5 @@
 -- The law of answers.
-use Rattle.sdl_behaviour.proofs.Words.{Answer, Behind, Both, Compared, Expr, Fixed, IsMarked, Law, Made, None, Option, Optional, Range, Some, SpellsAnswer, SpellsExpr, SpellsInner, SpellsTimer, Stops, Takes, Value, Words, ap, as_law, behind_law, both_law, either_law, erased_answer, erased_expr, expr_law, expr_takes, false, front, inl, inr, is_some, level_begins, looseness, loosest, made_law, mark_at, marked_law, maybe_mark, no_words, operator_at, operator_at_again, operator_at_ok, operator_front, operator_mark, option_map, optional_law, refl, sees, sees_operator, stops_at, stops_law, suc, then_law, unary_mark, value_mark, ℕ, ◌∙◌, ◌∷◌, ◌≡◌, ◌⊎◌}
+use Rattle.sdl_behaviour.proofs.Words.{Answer, Behind, Both, Compared, Expr, Fixed, IsMarked, Law, Made, None, Option, Optional, Range, Some, SpellsAnswer, SpellsExpr, SpellsInner, SpellsTimer, Stops, Value, Words, ap, as_law, behind_law, both_law, either_law, erased_answer, erased_expr, expr_law, false, front, inl, inr, is_some, level_begins, looseness, loosest, made_law, mark_at, marked_law, maybe_mark, operator_at, operator_at_again, operator_at_ok, operator_front, operator_mark, option_map, optional_law, refl, sees, sees_operator, stops_at, stops_law, suc, then_law, unary_mark, value_mark, ℕ, ◌∙◌, ◌∷◌, ◌≡◌, ◌⊎◌}
 use Rattle.sdl_tree.specs.declared.expressions.KeywordValue.TheVariants as value
 use Rattle.sdl_tree.specs.declared.expressions.UnaryOperator.TheVariants as unary
 use Rattle.sdl_tree.specs.declared.expressions.Operator.TheVariants as operator
@@ -55,8 +55,3 @@ answer_law d = as_law (answer_to d) (answer_from d) (answer_to (suc d))
     (then_law (marked_law (operator_at 4) operator_mark (λ o. looseness o ≡ 4) (λ i o e. (operator_at_ok 4 i o e).1) (λ o s j e. operator_at_again 4 o s j e) operator.Equal refl)
     (expr_law d))))
     (made_law value_with (λ x. elim x.1 as (λ y. erased_answer (value_or_range x.0 y) ≡ value_or_range (erased_expr x.0) (option_map erased_expr y)) [ None ↦ refl | Some y ↦ refl ]) (both_law (expr_law d) (optional_law (maybe_mark mark.Colon (behind_law mark.Colon (expr_law d)) (λ x i j s. (s.0, s.1, s.2)))) (stops_before_last d))) (λ x i j s. ap (sees_operator 4) s.2.1.1 ∙ ap is_some (operator_at_again 4 s.0.0.0 s.0.0.1 s.2.0 s.2.1.0)) (λ x i j s t. no_comparison d s.0.0 i s.2.0 s.2.1))
-
-pub answer_takes : (d : ℕ) → Takes (SpellsAnswer d)
-answer_takes d (Value e) j s = expr_takes d e j s
-answer_takes d (Range e f) j s = expr_takes d e s.0 s.1
-answer_takes d (Compared o w e) j s = no_words s.1.1

@@ -1,6 +1,6 @@
 -- The laws of `set`. Which of the two clauses is read, a look beyond the next word decides; so what is passed where one too
 -- many opens is shown not to begin the other.
-use Rattle.sdl_behaviour.proofs.Words.{As, SpellsAction, Anywhere, Applied, Before, Behind, Both, Expr, Fixed, Form, IsHead, IsOpening, Law, Made, None, Option, Optional, SameFront, SetClause, Some, Spelling, SpellsApplied, SpellsClause, SpellsExpr, Spot, TooMany, Word, Words, [], ap, as_law, before_law, behind_law, either, end_other, ended_law, erased_action, erased_clause, expr_law, false, far_rules, first_word, front, inl, inr, loosest, made_law, mark_law, no_words, passed_front, refl, renamed, rest, same_mark, sees_other, separated_law, spelled_again, stops_at, suc, sym, then_law, ℕ, ◌++◌, ◌∙◌, ◌∷◌, ◌≡◌, ◌⊎◌}
+use Rattle.sdl_behaviour.proofs.Words.{As, SpellsAction, Anywhere, Applied, Before, Behind, Both, Expr, Fixed, Form, IsHead, IsOpening, Law, Made, None, Option, Optional, SameFront, SetClause, Some, Spelling, SpellsApplied, SpellsClause, SpellsExpr, Spot, TooMany, Word, Words, [], ap, as_law, before_law, behind_law, either, end_other, ended_law, erased_action, erased_clause, expr_law, false, far_rules, first_word, front, inl, inr, loosest, made_law, mark_law, passed_front, refl, renamed, rest, same_mark, sees_other, separated_law, spelled_again, stops_at, suc, sym, then_law, ℕ, ◌++◌, ◌∙◌, ◌∷◌, ◌≡◌, ◌⊎◌}
 use Rattle.sdl_tree.specs.declared.mark.Mark.TheVariants as mark
 use Rattle.sdl_tree.specs.Words as word
 use Rattle.sdl_behaviour.specs.Clauses.{comma_ahead, timed_with, timed, untimed_with, untimed, clause, set_with, set}
@@ -102,4 +102,4 @@ pub set_law : (d : ℕ) → Law (set d) (As (SpellsAction d) set_with) (As (Spel
 unfolding set same_mark
 set_law d = made_law set_with (λ x. refl)
     (then_law (mark_law mark.Set)
-    (ended_law (separated_law (clause_law d) (λ x j s. no_words s.2) (λ s m. tt) tt) (λ i j s. (tt, end_other mark.Comma refl refl i j s))))
+    (ended_law (separated_law (clause_law d) (λ s m. tt) tt) (λ i j s. (tt, end_other mark.Comma refl refl i j s))))

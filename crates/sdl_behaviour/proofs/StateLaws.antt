@@ -1,5 +1,5 @@
 -- The laws of a state and of a connection, which stand in the body of a process.
-use Rattle.sdl_behaviour.proofs.Words.{As, BeginsOne, BodyPart, Both, Choice, Fixed, FreeAction, InParentheses, IsMark, Law, List, Made, Mark, MaybeLaw, Separated, Spelling, SpellsBodyPart, SpellsEndConnection, SpellsEndState, SpellsEndStateName, SpellsName, SpellsStates, Spot, StateAll, StateList, StatePart, States, Stimulus, Transition, Words, [], action_marks, ap, arith, as_choice, as_law, before_law, begins_action, begins_statement, begins_terminator, begins_unseen, behind_law, closed_law, drops_law, either, either_as, either_law, end_name_law, end_other, ended_law, erased_body_part, erased_name, erased_states, erased_stimulus, erased_transition, false, front, has_mark, have_mark, in_parentheses_law, inl, inr, made_as, made_law, map, mark_law, maybe_choice, name_law, name_takes, named_law, nowhere_law, one_choice, or_choice, or_left, or_right, others_unseen, read_as, refl, rest, same_mark, seen_begins, sees, sees_at, sees_front, sees_name, separated_begins, separated_law, stops_law, suc, sym, terminator_marks, then_law, true, true_or_false, true≢false, whole, zero, ℕ, ◌||◌, ◌∙◌, ◌∷◌, ◌≡◌, ◌⊎◌}
+use Rattle.sdl_behaviour.proofs.Words.{As, BeginsOne, BodyPart, Both, Choice, Fixed, FreeAction, InParentheses, IsMark, Law, List, Made, Mark, MaybeLaw, Separated, Spelling, SpellsBodyPart, SpellsEndConnection, SpellsEndState, SpellsEndStateName, SpellsName, SpellsStates, Spot, StateAll, StateList, StatePart, States, Stimulus, Transition, Words, [], action_marks, ap, arith, as_choice, as_law, before_law, begins_action, begins_statement, begins_terminator, begins_unseen, behind_law, closed_law, drops_law, either, either_as, either_law, end_name_law, end_other, ended_law, erased_body_part, erased_name, erased_states, erased_stimulus, erased_transition, false, front, has_mark, have_mark, in_parentheses_law, inl, inr, made_as, made_law, map, mark_law, maybe_choice, name_law, named_law, nowhere_law, one_choice, or_choice, or_left, or_right, others_unseen, read_as, refl, rest, same_mark, seen_begins, sees, sees_at, sees_front, sees_name, separated_begins, separated_law, stops_law, suc, sym, terminator_marks, then_law, true, true_or_false, true≢false, whole, zero, ℕ, ◌||◌, ◌∙◌, ◌∷◌, ◌≡◌, ◌⊎◌}
 use Rattle.std.specs.List.{Contains}
 use Rattle.std.specs.Str.{bytes_eq}
 use Rattle.std.proofs.lemmas.Slice.Eq.{bytes_eq-Decides}
@@ -24,8 +24,8 @@ states_law =
     as_law (either_as (made_as SpellsStates all_with) (made_as SpellsStates StateList)) from (either_as (made_as SpellsStates all_with) (made_as SpellsStates StateList))
     (either_law (sees mark.Asterisk) (sees_front mark.Asterisk)
     (stops_law (λ j t. t.0)
-    (made_law all_with (λ x. refl) (then_law (mark_law mark.Asterisk) (in_parentheses_law name_law name_takes (λ s m. tt) (λ s m. tt) tt))))
-    (stops_law (λ j t. (tt, t.1)) (made_law StateList (λ x. refl) (separated_law name_law name_takes (λ s m. tt) tt)))
+    (made_law all_with (λ x. refl) (then_law (mark_law mark.Asterisk) (in_parentheses_law name_law (λ s m. tt) (λ s m. tt) tt))))
+    (stops_law (λ j t. (tt, t.1)) (made_law StateList (λ x. refl) (separated_law name_law (λ s m. tt) tt)))
     (λ x i j s. sees_at mark.Asterisk s.0.0 i s.2.0 s.2.1)
     (λ x i j s t. separated_begins SpellsName (λ k. sees mark.Asterisk k ≡ false) (name_no_mark mark.Asterisk) s.0 i j s.2))
   where

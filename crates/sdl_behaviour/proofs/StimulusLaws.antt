@@ -1,5 +1,5 @@
 -- The laws of the parts of stimuli, and of the start.
-use Rattle.sdl_behaviour.proofs.Words.{As, SpellsStimulus, Anywhere, InputAll, InputList, Inputs, IsMark, Law, ListItem, Made, MaybeLaw, None, Optional, SaveAll, SaveList, Saved, Separated, SignalItem, SignalListItem, SpellsCondition, SpellsIn1, SpellsIns, SpellsName, SpellsPriority, SpellsSaved, SpellsSig, SpellsStart, Words, ap, as_law, behind_law, either_as, either_law, end_other, ended_law, erased_condition, erased_input, erased_inputs, erased_name, erased_number, erased_saved, erased_start, erased_stimulus, expr_law, false, front, inl, inr, loosest, made_as, made_law, map, mark_law, maybe_enclosed, maybe_law, maybe_mark, name_begins, name_front, name_last, name_law, no_name, no_words, number_law, option_map, optional_law, record_law, refl, same_mark, sees, sees_at, sees_front, sees_last, sees_name, sees_other, separated, separated_begins, separated_law, sig_law, sig_takes, spaced_law, stops_end, stops_law, suc, then_law, ℕ, ◌≡◌, ◌⊎◌}
+use Rattle.sdl_behaviour.proofs.Words.{As, SpellsStimulus, Anywhere, InputAll, InputList, Inputs, IsMark, Law, ListItem, Made, MaybeLaw, Optional, SaveAll, SaveList, Saved, Separated, SignalItem, SignalListItem, SpellsCondition, SpellsIn1, SpellsIns, SpellsName, SpellsPriority, SpellsSaved, SpellsSig, SpellsStart, Words, ap, as_law, behind_law, either_as, either_law, enclosed_law, end_other, ended_law, erased_condition, erased_input, erased_inputs, erased_name, erased_number, erased_saved, erased_start, erased_stimulus, expr_law, false, front, inl, inr, loosest, made_as, made_law, map, mark_law, maybe_enclosed, maybe_law, maybe_mark, name_begins, name_front, name_last, name_law, no_name, number_law, option_map, optional_law, record_law, refl, same_mark, sees, sees_at, sees_front, sees_last, sees_name, sees_other, separated, separated_begins, separated_law, sig_law, stops_end, stops_law, suc, then_law, ℕ, ◌≡◌, ◌⊎◌}
 use Rattle.sdl_tree.specs.declared.mark.Mark.TheVariants as mark
 use Rattle.sdl_behaviour.specs.States.{start_with, start}
 use Rattle.sdl_behaviour.specs.Stimuli.{variable, input_with, in1, ins, condition_with, condition, saved, save_with, save_part, priority}
@@ -26,12 +26,12 @@ unfolding in1 variable sees_name front
 in1_law = record_law input_with (λ y. (y.signal, y.variables)) (λ x. refl) (λ x. refl) (λ y. refl)
     (then_law name_law
     (maybe_enclosed variable
-    (spaced_law variable_law (λ s m. (tt, no_name mark.Comma s m)) (tt, name_last) (λ s m. (tt, no_name mark.Close s m)) None refl)))
+    (enclosed_law variable_law (λ s m. (tt, no_name mark.Comma s m)) (λ s m. (tt, no_name mark.Close s m)) (tt, name_last))))
 
 -- in1 {"," in1}
 pub inputs_law : Law (separated in1) (Separated SpellsIn1) (Separated SpellsIn1) (λ j. (sees mark.Open j ≡ false) × (sees mark.Comma j ≡ false)) (map erased_input)
 unfolding same_mark
-inputs_law = separated_law in1_law (λ x j s. no_words s.1) (sees_other mark.Open mark.Comma refl) (sees_last mark.Open)
+inputs_law = separated_law in1_law (sees_other mark.Open mark.Comma refl) (sees_last mark.Open)
 
 -- ---- "*", or a list
 
@@ -60,7 +60,7 @@ unfolding saved
 saved_law =
     as_law (either_as (made_as SpellsSaved SaveAll) (made_as SpellsSaved SaveList)) from (either_as (made_as SpellsSaved SaveAll) (made_as SpellsSaved SaveList))
     (either_law (sees mark.Asterisk) (sees_front mark.Asterisk) (stops_law (λ j t. tt) (made_law SaveAll (λ x. refl) (mark_law mark.Asterisk)))
-    (made_law SaveList (λ x. refl) (separated_law sig_law sig_takes (λ s m. tt) tt))
+    (made_law SaveList (λ x. refl) (separated_law sig_law (λ s m. tt) tt))
     (λ x i j s. sees_at mark.Asterisk s.0 i j s.2)
     (λ x i j s t. separated_begins SpellsSig (λ k. sees mark.Asterisk k ≡ false) sig_no_asterisk s.0 i j s.2))
   where

@@ -5,7 +5,7 @@ use Rattle.sdl_tree.specs.Words as word
 use Rattle.sdl_behaviour.specs.Actions.{task_with, output_with, reset_with, create_with}
 use Rattle.sdl_behaviour.specs.Clauses.{set_with}
 use Rattle.sdl_behaviour.proofs.ActionLaws.{task_law, output_law, create_law, reset_law}
-use Rattle.sdl_behaviour.proofs.AnswerLaws.{answer_law, answer_takes}
+use Rattle.sdl_behaviour.proofs.AnswerLaws.{answer_law}
 use Rattle.sdl_behaviour.proofs.ClauseLaws.{set_law}
 use Rattle.sdl_behaviour.proofs.StepLaws.{NoStatement, trans_of_law, no_statement, statement_last}
 
@@ -57,7 +57,7 @@ module _ (d : ℕ) (t : Law (trans d) (SpellsTrans d) (SpellsTrans (suc d)) NoSt
   part_law = maybe_mark mark.Open
       (record_law part_with (λ y. (y.answers, y.transition)) (λ x. refl) (λ x. refl) (λ y. refl)
       (then_law
-      (enclosed_law (answer_law d) (answer_takes d) (λ s m. (stops_at mark.Comma refl loosest s m, sees_other mark.Colon mark.Comma refl s m))
+      (enclosed_law (answer_law d) (λ s m. (stops_at mark.Comma refl loosest s m, sees_other mark.Colon mark.Comma refl s m))
       (λ s m. (stops_at mark.Close refl loosest s m, sees_other mark.Colon mark.Close refl s m)) (stops_last loosest, sees_last mark.Colon))
       (behind_law mark.Colon t)))
       (λ x i j s. (s.1.0, s.1.1, s.1.2))

@@ -1,5 +1,5 @@
 -- The laws of synonyms, parameters, variables and timers.
-use Rattle.sdl_behaviour.proofs.Words.{Anywhere, Behind, Expr, Law, Option, Optional, SpellsDcl, SpellsEnd, SpellsExpr, SpellsFpar, SpellsInitial, SpellsName, SpellsOne, SpellsParameters, SpellsSynonym, SpellsSynonymName, SpellsVariables, Stops, Words, ap, behind_law, both_law, end_other, ended_law, erased_expr, erased_fpar, erased_parameters, erased_synonym, erased_synonyms, erased_timer, erased_timers, erased_variables, expr_law, false, front, loosest, map, mark_law, maybe_mark, name_law, name_takes, no_words, option_map, optional_law, record_law, refl, same_mark, sees, separated_law, separated_takes, sort_law, sorts_law, stops_at, stops_end, stops_last, stops_law, suc, then_law, ℕ, ◌≡◌}
+use Rattle.sdl_behaviour.proofs.Words.{Anywhere, Behind, Expr, Law, Option, Optional, SpellsDcl, SpellsEnd, SpellsExpr, SpellsFpar, SpellsInitial, SpellsOne, SpellsParameters, SpellsSynonym, SpellsSynonymName, SpellsVariables, Stops, Words, ap, behind_law, both_law, end_other, ended_law, erased_expr, erased_fpar, erased_parameters, erased_synonym, erased_synonyms, erased_timer, erased_timers, erased_variables, expr_law, false, front, loosest, map, mark_law, maybe_mark, name_law, option_map, optional_law, record_law, refl, same_mark, sees, separated_law, sort_law, sorts_law, stops_at, stops_end, stops_last, stops_law, suc, then_law, ℕ, ◌≡◌}
 use Rattle.sdl_tree.specs.declared.mark.Mark.TheVariants as mark
 use Rattle.sdl_tree.specs.Spells.{SpellsTimer}
 use Rattle.sdl_parse.specs.Synonyms.{synonym_with, synonym_name, synonyms_with, synonym}
@@ -18,7 +18,7 @@ pub synonym_law : (d : ℕ) → Law (synonym d) (SpellsSynonym d) (SpellsSynonym
 unfolding synonym same_mark
 synonym_law d = record_law synonyms_with (λ y. (y.word, y.synonyms)) (λ x. refl) (λ x. refl) (λ y. refl)
     (then_law (mark_law mark.Synonym)
-    (ended_law (separated_law (synonym_name_law d) (λ x j s. no_words s.1) (stops_at mark.Comma refl loosest) (stops_last loosest))
+    (ended_law (separated_law (synonym_name_law d) (stops_at mark.Comma refl loosest) (stops_last loosest))
     (λ i j s. (stops_end loosest i j s, end_other mark.Comma refl refl i j s))))
 
 -- ---- ["fpar" vars end]
@@ -32,7 +32,7 @@ fpar_law : Law fpar SpellsFpar SpellsFpar Anywhere erased_fpar
 unfolding fpar same_mark
 fpar_law = record_law fpar_with (λ y. (y.word, y.groups)) (λ x. refl) (λ x. refl) (λ y. refl)
     (then_law (mark_law mark.Fpar)
-    (ended_law (separated_law parameters_law (λ x j s. separated_takes SpellsName name_takes x.names s.0 s.1) (λ s m. tt) tt) (λ i j s. (tt, end_other mark.Comma refl refl i j s))))
+    (ended_law (separated_law parameters_law (λ s m. tt) tt) (λ i j s. (tt, end_other mark.Comma refl refl i j s))))
 
 pub some_fpar_law : Law some_fpar (Optional SpellsFpar) (Optional SpellsFpar) (λ j. Anywhere j × (sees mark.Fpar j ≡ false)) (option_map erased_fpar)
 some_fpar_law = optional_law (maybe_mark mark.Fpar fpar_law (λ x i j s. (x.word, s.0, s.1)))
@@ -59,7 +59,7 @@ variables_law d = record_law variables_with (λ y. (y.names, (y.sort, y.initial)
 pub dcl_law : (d : ℕ) → Law (dcl d) (SpellsDcl d) (SpellsDcl (suc d)) Anywhere (map erased_variables)
 unfolding dcl sees front same_mark
 dcl_law d = behind_law mark.Dcl
-    (ended_law (separated_law (variables_law d) (λ x j s. separated_takes SpellsName name_takes x.names s.0 s.1) (λ s m. (stops_at mark.Comma refl loosest s m, refl)) (stops_last loosest, refl)) initial_end)
+    (ended_law (separated_law (variables_law d) (λ s m. (stops_at mark.Comma refl loosest s m, refl)) (stops_last loosest, refl)) initial_end)
 
 -- ---- timers
 
@@ -82,5 +82,5 @@ unfolding timer sees front same_mark
 timer_law d = record_law timers_with (λ y. (y.word, y.timers)) (λ x. refl) (λ x. refl) (λ y. refl)
     (then_law (mark_law mark.Timer)
     (ended_law
-    (separated_law (one_law d) (λ x j s. no_words s.1) (λ s m. ((stops_at mark.Comma refl loosest s m, refl), refl)) ((stops_last loosest, refl), refl))
+    (separated_law (one_law d) (λ s m. ((stops_at mark.Comma refl loosest s m, refl), refl)) ((stops_last loosest, refl), refl))
     (λ i j s. let e = initial_end i j s in ((e.0, end_other mark.Open refl refl i j s), e.1))))

@@ -1,5 +1,5 @@
 -- What stops where, and what goes on with what.
-use Rattle.sdl_behaviour.proofs.Words.{Anywhere, Followed, Form, Law, List, Mark, None, Option, Optional, Repeated, Separated, Some, SpellsClosing, SpellsName, Spot, Words, [], erased_name, false, map, name, name_law, name_takes, sees, separated, separated_law, subst, ◌∷◌, ◌≡◌}
+use Rattle.sdl_behaviour.proofs.Words.{Anywhere, Followed, Form, Law, List, Mark, None, Option, Optional, Repeated, Separated, Some, SpellsClosing, SpellsName, Spot, Words, [], erased_name, false, map, name, name_law, sees, separated, separated_law, subst, ◌∷◌, ◌≡◌}
 use Rattle.sdl_tree.specs.declared.mark.Mark.TheVariants as mark
 
 -- what holds before a part that may be left out
@@ -15,7 +15,7 @@ repeated_at P C some [] i j s t = rw s t
 repeated_at P C some (x ∷ xs) i j s t = some x i s.0 s.1
 
 pub names_law : Law (separated name) (Separated SpellsName) (Separated SpellsName) (λ j. Anywhere j × (sees mark.Comma j ≡ false)) (map erased_name)
-names_law = separated_law name_law name_takes (λ s m. tt) tt
+names_law = separated_law name_law (λ s m. tt) tt
 
 -- what is closed by a name is closed by another that differs in places alone
 pub closed_same : {B : Type 0} (P : Form B) (m : Mark) (x y : Spot) → erased_name x ≡ erased_name y

@@ -6,11 +6,11 @@ use Rattle.sdl_tree.specs.declared.expressions.UnaryOperator.TheVariants as unar
 use Rattle.sdl_tree.specs.declared.mark.Mark.TheVariants as mark
 use Rattle.sdl_tree.specs.Words as word
 use Rattle.sdl_read.proofs.Depth.{no_deeper, closed}
-use Rattle.sdl_read.proofs.Laws.{Form, Never, Gives, Rules, Law, MaybeLaw, Anywhere, Takes, Made, still, as_law, stops_law, never_rules, refuse_rules, nothing_law, mark_law, same_rules, shut, shut_first, shut_rules, both_rules, both_law, then_law, behind_law, before_law, formed_rules, formed_law, made_law, made_as, Or, either_as, either_rules, first_law, either_law, maybe_law}
+use Rattle.sdl_read.proofs.Laws.{Form, Never, Gives, Rules, Law, MaybeLaw, Anywhere, Made, still, as_law, stops_law, never_rules, refuse_rules, nothing_law, mark_law, same_rules, shut, shut_first, shut_rules, both_rules, both_law, then_law, behind_law, before_law, formed_rules, formed_law, made_law, made_as, Or, either_as, either_rules, first_law, either_law, maybe_law}
 use Rattle.sdl_read.proofs.ListLaws.{repeated_law, repeated_begins, separated_begins}
 use Rattle.sdl_read.proofs.OperatorLaws.{value_at_again, unary_at_again, operator_at_ok, operator_at_again, Stops, operator_none, operator_front, operator_end, same_mark_at, stops_at, stops_last, stops_before, stops_below, IsMarked, marked_rules, marked_law}
 use Rattle.sdl_read.proofs.PartLaws.{nameless, name_begins, name_front, name_law, number_law, in_parentheses_law, opens_list, listed_to, listed_from}
-use Rattle.sdl_read.proofs.Steps.{no_words, sees_front, sees_ok, sees_at, sees_other, swapped}
+use Rattle.sdl_read.proofs.Steps.{sees_front, sees_ok, sees_at, sees_other, swapped}
 
 abbrev pub erased_link : Link → Link
 erased_link l = record { operator = l.operator; word = erased_word l.word; operand = erased_expr l.operand }
@@ -60,11 +60,6 @@ module _ (Q : Words → Type 0) (at_name : (x : Spot) (k : Words) → Q (word.Na
     level_begins (suc (suc k)) x i j (inl s) = level_begins (suc k) x i j s
     level_begins (suc (suc k)) (Chain e links) i j (inr s) = level_begins (suc k) e i s.0 s.1
     level_begins (suc (suc k)) x i j (inr s) = absurd s
-
-pub expr_takes : (d : ℕ) → Takes (SpellsExpr d)
-expr_takes d x j s =
-    level_begins (λ i. i ≡ [] → ⊥) (λ y k e. no_words (sym e)) (λ n k e. no_words (sym e)) (λ v w k e. no_words (sym e)) (λ w k e. no_words (sym e)) (λ w k e. no_words (sym e))
-    (SpellsInner d) (SpellsTimer d) (λ o w k e. no_words (sym e)) loosest x [] j s refl
 
 -- ---- operands with operators between them
 
@@ -302,7 +297,7 @@ are_read (suc d) =
       within =
           inside_rules (SpellsInner (suc d)) (SpellsInner (suc (suc d))) (SpellsTimer (suc d)) (SpellsTimer (suc (suc d)))
           (paren_of_law d below).rules (active_of_law d below).rules;
-      args = in_parentheses_law (expr_in d below) (expr_takes d) (stops_at mark.Comma refl loosest) (stops_at mark.Close refl loosest) (stops_last loosest);
+      args = in_parentheses_law (expr_in d below) (stops_at mark.Comma refl loosest) (stops_at mark.Close refl loosest) (stops_last loosest);
     }
 
 -- ---- expr

@@ -67,10 +67,6 @@ pub record MaybeLaw {A : Type 0} (p : Parser (Option A)) (P M : Form A) (S : Wor
   pub looks : (i k : Words) → SameFront i k → begins i ≡ begins k
   pub ends : begins [] ≡ false
 
--- what is spelled takes a word
-abbrev pub Takes : {A : Type 0} → Form A → Type 0
-Takes {A} P = (x : A) (j : Words) → P x [] j → ⊥
-
 module _ {A : Type 0} {p : Parser A} {P M : Form A} {S : Words → Type 0} {e : A → A} (a : Rules p P M S e) where
   pub was_read : (i : Words) (x : A) (m : Words) → p i ≡ read_as x m → IsRead p P S i x m
   was_read i x m s = let F : Outcome A → Type 0 = λ o. Gives p P M S i o in subst F s (a.tells i)

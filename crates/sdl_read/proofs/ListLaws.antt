@@ -1,10 +1,10 @@
 -- The laws of lists, for any item: items up to one that is the last, if such a one stands there; `{x}`; `x {"," x}`.
 use Rattle.std.proofs.Common.{◌≡◌, ℕ, zero, suc, ◌+◌, ◌<◌, ◌≤◌, ◌⊎◌, inl, inr, Bool, true, false, if◌then◌else◌, List, [], ◌∷◌, ◌++◌, length, map, Option, Some, None, option_map, Ok, Err, true≢false, refl, sym, ap, ◌∙◌, subst, arith, append_assoc, append-nil, length-append}
-use Rattle.sdl_read.proofs.Grammar.{AreAlike, Spelling, Both, Behind, Optional, Separated, Repeated, Enclosed, Word, Words, Fixed, Parser, Outcome, Deep, front, rest, and_then, pure, expect, same_mark, sees, after, ◌⊗◌, behind, before, made, maybe, turns, separated_from, separated, enclosed, repeated_by, repeated_from, repeated}
+use Rattle.sdl_read.proofs.Grammar.{AreAlike, Spelling, Both, Behind, Optional, Separated, Repeated, Word, Words, Fixed, Parser, Outcome, Deep, front, rest, and_then, same_mark, sees, behind, before, made, maybe, separated, repeated_by, repeated_from, repeated, another}
 use Rattle.sdl_tree.specs.declared.mark.Mark.TheVariants as mark
 use Rattle.sdl_read.proofs.Depth.{SameFront, TooMany, passed_front, front_behind, renamed, onward}
-use Rattle.sdl_read.proofs.Laws.{Form, GoodAfter, IsRead, Told, Gives, Rules, Law, MaybeLaw, Anywhere, Takes, Made, was_read, sound, spelled_again, later, same_law, both_law, behind_law, before_law, made_rules, made_complete, formed_law, steps_in, steps_if, unchanged, maybe_law, passes, some_read}
-use Rattle.sdl_read.proofs.Steps.{read_as, none_as, some_as, same_value, same_rest, not_read, not_refused, not_some, bind_is, if_true, if_false, sees_ok, sees_at, sees_front, sees_last, after_seen, after_other, rest_again, expect_again, alike_from, first_word}
+use Rattle.sdl_read.proofs.Laws.{Form, GoodAfter, IsRead, Told, Gives, Rules, Law, MaybeLaw, Made, was_read, sound, spelled_again, later, same_law, both_law, behind_law, made_rules, made_complete, formed_law, steps_in, steps_if, unchanged, maybe_law, passes, some_read}
+use Rattle.sdl_read.proofs.Steps.{read_as, none_as, some_as, same_value, same_rest, not_read, not_refused, not_some, bind_is, sees_ok, sees_at, sees_front, sees_last, alike_from, first_word}
 
 split : (a b c d : Words) → a ++ b ≡ c ++ d
     → ((w : Words) × (c ≡ a ++ w) × (b ≡ w ++ d)) ⊎ ((v : Word) × (w : Words) × (a ≡ c ++ v ∷ w) × (d ≡ v ∷ (w ++ b)))
@@ -21,7 +21,7 @@ split (v ∷ a) b (z ∷ c) d e =
 
 -- ---- what reads a word, where nothing is spelled by none
 
-module _ {A : Type 0} {p : Parser A} {P M : Form A} {S : Words → Type 0} {e : A → A} (a : Rules p P M S e) (takes : Takes P) (last : S []) where
+module _ {A : Type 0} {p : Parser A} {P M : Form A} {S : Words → Type 0} {e : A → A} (a : Rules p P M S e) (takes : (x : A) (j : Words) → P x [] j → ⊥) (last : S []) where
   took : (i : Words) (x : A) (m u : Words) → i ≡ u ++ m → P x (u ++ []) [] → length m < length i
   took i x m [] at s = absurd (takes x [] s)
   took i x m (w ∷ u) at s = let same = ap length at ∙ length-append (w ∷ u) m in omega (arith, same)
@@ -380,107 +380,29 @@ pub no_comma_at_close : (s : Spelling) (j : Words) → sees mark.Comma (Fixed ma
 unfolding sees front same_mark
 no_comma_at_close s j = refl
 
--- steps of which the first is the same go on alike, where they do behind what it reads
-same_first : {A B C : Type 0} (o : Outcome A) (f g : A → Parser B) (h : B → Parser C) → ((x : A) (m : Words) → o ≡ read_as x m → and_then (f x m) h ≡ and_then (g x m) h)
-    → and_then (and_then o f) h ≡ and_then (and_then o g) h
-same_first (Ok z) f g h known = known z.0 z.1 refl
-same_first (Err r) f g h known = refl
-
 module _ {A : Type 0} (item : Parser A) where
-  -- another item, if a comma stands next
-  abbrev another : Parser (Option A)
-  another = maybe (sees mark.Comma) (behind mark.Comma item)
-
   abbrev joined : A × List A → List A
   joined p = p.0 ∷ p.1
 
-  -- what is read behind an item
-  abbrev tail : ℕ → List A → Parser (List A)
-  tail n found m = (if sees mark.Comma m then separated_from item n found else pure found) (after mark.Comma m)
-
-  tail_none : (n : ℕ) (found : List A) (m : Words) → sees mark.Comma m ≡ false → tail n found m ≡ read_as found m
-  tail_none n found m e =
-      ap (λ b. (if b then separated_from item n found else pure found) (after mark.Comma m)) e ∙ ap (λ k. read_as found k) (after_other mark.Comma m e)
-
-  tail_more : (n : ℕ) (found : List A) (s : Spelling) (l : Words) → tail n found (Fixed mark.Comma s ∷ l) ≡ separated_from item n found l
-  tail_more n found s l =
-      let e = sees_at mark.Comma s (Fixed mark.Comma s ∷ l) l refl in
-      ap (λ b. (if b then separated_from item n found else pure found) (after mark.Comma (Fixed mark.Comma s ∷ l))) e
-      ∙ ap (separated_from item n found) (after_seen mark.Comma (Fixed mark.Comma s ∷ l) e ∙ rest_again (Fixed mark.Comma s) l)
-
-  others_none : (k : ℕ) (found : List A) (m : Words) → sees mark.Comma m ≡ false → repeated_from another k found m ≡ read_as found m
-  unfolding repeated_from
-  others_none zero found m e = refl
-  others_none (suc k) found m e =
-      bind_is (another m) (λ q l. repeated_by found (repeated_from another k) q l) None m (if_false (sees mark.Comma m) (and_then (behind mark.Comma item m) (λ y j. some_as y j)) (none_as m) e)
-
-  others_more : (k : ℕ) (found : List A) (s : Spelling) (l : Words)
-      → repeated_from another (suc k) found (Fixed mark.Comma s ∷ l) ≡ and_then (item l) (λ x m. repeated_from another k (found ++ x ∷ []) m)
-  unfolding repeated_from
-  others_more k found s l =
-      let m : Words = Fixed mark.Comma s ∷ l in
-      ap (λ (o : Outcome (Option A)). and_then o (λ q r. repeated_by found (repeated_from another k) q r))
-      (if_true (sees mark.Comma m) (and_then (behind mark.Comma item m) (λ y j. some_as y j)) (none_as m) (sees_at mark.Comma s m l refl)
-      ∙ ap (λ (o : Outcome Spelling). and_then (and_then o (λ _ j. item j)) (λ y j. some_as y j)) (expect_again mark.Comma s l))
-      ∙ steps_in (item l) (λ y j. some_as y j) (λ q r. repeated_by found (repeated_from another k) q r)
-
-  cons_by : (k : ℕ) (x : A) (found : List A) → ((done : List A) (m : Words) → repeated_from another k (x ∷ done) m ≡ and_then (repeated_from another k done m) (λ ys j. read_as (x ∷ ys) j))
-      → (o : Outcome (Option A)) → and_then o (λ q l. repeated_by (x ∷ found) (repeated_from another k) q l)
-      ≡ and_then (and_then o (λ q l. repeated_by found (repeated_from another k) q l)) (λ ys j. read_as (x ∷ ys) j)
+  cons_by : (k : ℕ) (x : A) (found : List A) → ((done : List A) (m : Words) → repeated_from (another item) k (x ∷ done) m ≡ and_then (repeated_from (another item) k done m) (λ ys j. read_as (x ∷ ys) j))
+      → (o : Outcome (Option A)) → and_then o (λ q l. repeated_by (x ∷ found) (repeated_from (another item) k) q l)
+      ≡ and_then (and_then o (λ q l. repeated_by found (repeated_from (another item) k) q l)) (λ ys j. read_as (x ∷ ys) j)
   cons_by k x found known (Ok (Some y, m)) = known (found ++ y ∷ []) m
   cons_by k x found known o = refl
 
   -- what was found before stands before what is found
-  cons_others : (k : ℕ) (x : A) (found : List A) (m : Words) → repeated_from another k (x ∷ found) m ≡ and_then (repeated_from another k found m) (λ ys j. read_as (x ∷ ys) j)
+  cons_others : (k : ℕ) (x : A) (found : List A) (m : Words)
+      → repeated_from (another item) k (x ∷ found) m ≡ and_then (repeated_from (another item) k found m) (λ ys j. read_as (x ∷ ys) j)
   unfolding repeated_from
   cons_others zero x found m = refl
-  cons_others (suc k) x found m = cons_by k x found (cons_others k x) (another m)
+  cons_others (suc k) x found m = cons_by k x found (cons_others k x) (another item m)
 
-  -- Both readings of a list are the same where as many turns are left as there are words, or some (`spare`) fewer, if what
-  -- follows refuses the words where they are too few.
-  module _ {C : Type 0} (spare : ℕ) (h : List A → Parser C) (no_more : (i : Words) (x : A) (m : Words) → item i ≡ read_as x m → length m ≤ length i)
-      (at_end : (k : ℕ) (found : List A) (l : Words) → length l < spare
-      → and_then (separated_from item zero found l) h ≡ and_then (and_then (item l) (λ x m. repeated_from another k (found ++ x ∷ []) m)) h) where
-    tail_by : (n k : ℕ) (found : List A) (m : Words) → length m ≤ k
-        → ((j : ℕ) (s : Spelling) (l : Words) → m ≡ Fixed mark.Comma s ∷ l → length l ≤ j
-        → and_then (separated_from item n found l) h ≡ and_then (and_then (item l) (λ x r. repeated_from another j (found ++ x ∷ []) r)) h)
-        → (b : Bool) → sees mark.Comma m ≡ b → and_then (tail n found m) h ≡ and_then (repeated_from another k found m) h
-    tail_by n k found m le known false e = ap (λ o. and_then o h) (tail_none n found m e ∙ sym (others_none k found m e))
-    tail_by n zero found m le known true e = let at = sees_ok mark.Comma m e in let same = ap length at.1 in absurd (omega (arith, same, le))
-    tail_by n (suc j) found m le known true e =
-        let at = sees_ok mark.Comma m e in
-        let same = ap length at.1 in
-        let F : Words → Type 0 = λ r. and_then (tail n found r) h ≡ and_then (repeated_from another (suc j) found r) h in
-        subst F (sym at.1)
-        (ap (λ o. and_then o h) (tail_more n found at.0 (rest m))
-        ∙ known j at.0 (rest m) at.1 (omega (arith, same, le))
-        ∙ ap (λ o. and_then o h) (sym (others_more j found at.0 (rest m))))
-
-    same_tail : (n k : ℕ) (found : List A) (m : Words) → length m ≤ n + spare → length m ≤ k → and_then (tail n found m) h ≡ and_then (repeated_from another k found m) h
-    unfolding separated_from
-    same_tail zero k found m enough le =
-        tail_by zero k found m le (λ j s l at fewer. let same = ap length at in at_end j found l (omega (arith, same, enough))) (sees mark.Comma m) refl
-    same_tail (suc n) k found m enough le =
-        tail_by (suc n) k found m le
-        (λ j s l at fewer.
-        let same = ap length at in
-        same_first (item l) (λ x r. tail n (found ++ x ∷ []) r) (λ x r. repeated_from another j (found ++ x ∷ []) r) h
-        (λ x r read. let rests = no_more l x r read in same_tail n j (found ++ x ∷ []) r (omega (arith, same, enough, rests)) (omega (arith, fewer, rests))))
-        (sees mark.Comma m) refl
-
-    whole_by : (n : ℕ) (o : Outcome A) → ((x : A) (m : Words) → o ≡ read_as x m → length m ≤ n + spare)
-        → and_then (and_then o (λ x m. tail n (x ∷ []) m)) h
-        ≡ and_then (and_then (and_then o (λ x m. and_then (repeated another m) (λ ys j. read_as (x, ys) j))) (λ z j. read_as (joined z) j)) h
-    whole_by n (Ok z) known =
-        same_tail n (length z.1) (z.0 ∷ []) z.1 (known z.0 z.1 refl) (omega arith)
-        ∙ ap (λ o. and_then o h) (cons_others (length z.1) z.0 [] z.1 ∙ sym (steps_in {B = A × List A} (repeated another z.1) (λ ys j. read_as (z.0, ys) j) (λ y j. read_as (joined y) j)))
-    whole_by n (Err r) known = refl
-
-    whole_same : (i : Words) → ((x : A) (m : Words) → item i ≡ read_as x m → length m < length i + spare)
-        → and_then (separated item i) h ≡ and_then (made joined (item ⊗ repeated another) i) h
-    unfolding separated_from turns
-    whole_same [] known = whole_by zero (item []) (λ x m read. let less = known x m read in omega (arith, less))
-    whole_same (w ∷ i) known = whole_by (length i) (item (w ∷ i)) (λ x m read. let less = known x m read in omega (arith, less))
+  separated_by : (o : Outcome A) →
+      and_then (and_then o (λ x m. and_then (repeated (another item) m) (λ ys j. read_as (x, ys) j))) (λ z j. read_as (joined z) j)
+      ≡ and_then o (λ x m. repeated_from (another item) (length m) (x ∷ []) m)
+  separated_by (Ok z) =
+      steps_in {B = A × List A} (repeated (another item) z.1) (λ ys j. read_as (z.0, ys) j) (λ y j. read_as (joined y) j) ∙ sym (cons_others (length z.1) z.0 [] z.1)
+  separated_by (Err r) = refl
 
 module _ {A : Type 0} {item : Parser A} {P M : Form A} {S : Words → Type 0} {e : A → A} (a : Law item P M S e)
     (at_comma : (s : Spelling) (m : Words) → S (Fixed mark.Comma s ∷ m)) (last : S []) where
@@ -510,58 +432,11 @@ module _ {A : Type 0} {item : Parser A} {P M : Form A} {S : Words → Type 0} {e
   joined_from (x ∷ xs) i j s = ((x, xs), refl, list_from x xs i j s)
 
   -- and not at a comma
-  joined_law : Law (made (joined item) (item ⊗ repeated (another item))) (Separated P) (Separated M) (λ j. S j × (sees mark.Comma j ≡ false)) (map e)
-  joined_law =
-      formed_law (joined item) (λ j t. t) (λ x i j s. list_to P x.0 x.1 i s.0 j s.1 s.2) joined_from (λ x i j s. list_to M x.0 x.1 i s.0 j s.1 s.2) (λ x. refl)
-      (both_law a (repeated_law another_law comma_stops last) others_stop)
-
-  reads_on : (i : Words) (x : A) (m : Words) → item i ≡ read_as x m → length m ≤ length i
-  reads_on i x m s = let r = was_read a.rules i x m s in let same = ap length r.at ∙ length-append r.taken m in omega (arith, same)
-
-  -- The items of a list in parentheses may have no words, where one is read at the end of the text.
-  module _ (at_close : (s : Spelling) (m : Words) → S (Fixed mark.Close s ∷ m)) (c : A) (empty : item [] ≡ read_as c []) where
-    abbrev then_close : List A → Parser (List A)
-    then_close xs = λ k. and_then (expect mark.Close k) (λ _ j. read_as xs j)
-
-    none_left : (k : ℕ) (found : List A) (l : Words) → length l < 1
-        → and_then (separated_from item zero found l) then_close ≡ and_then (and_then (item l) (λ x m. repeated_from (another item) k (found ++ x ∷ []) m)) then_close
-    unfolding separated_from expect front
-    none_left k found [] less =
-        sym (ap (λ o. and_then (and_then o (λ x m. repeated_from (another item) k (found ++ x ∷ []) m)) then_close) empty
-        ∙ ap (λ o. and_then o then_close) (others_none item k (found ++ c ∷ []) [] (sees_last mark.Comma)))
-    none_left k found (w ∷ l) less = absurd (omega arith)
-
-    spaced_same : (i : Words) → before (separated item) mark.Close i ≡ before (made (joined item) (item ⊗ repeated (another item))) mark.Close i
-    spaced_same i = whole_same item 1 then_close reads_on none_left i (λ x m s. let le = reads_on i x m s in omega (arith, le))
-
-    both : before (separated item) mark.Close ≡ before (made (joined item) (item ⊗ repeated (another item))) mark.Close
-    both = λ n k. spaced_same k n
-
-    pub spaced_law : Law (enclosed item) (Enclosed P) (Enclosed M) Anywhere (map e)
-    spaced_law =
-        same_law (λ i. ap (λ (q : Parser (List A)). behind mark.Open q i) (sym both))
-        (behind_law mark.Open (before_law mark.Close joined_law (λ s j. (at_close s j, no_comma_at_close s j))))
-
-module _ {A : Type 0} {item : Parser A} {P M : Form A} {S : Words → Type 0} {e : A → A} (a : Law item P M S e) (takes : Takes P)
-    (at_comma : (s : Spelling) (m : Words) → S (Fixed mark.Comma s ∷ m)) (last : S []) where
-  too_few : (k : ℕ) (found : List A) (l : Words) → length l < 0
-      → and_then (separated_from item zero found l) (λ xs j. read_as xs j)
-      ≡ and_then (and_then (item l) (λ x m. repeated_from (another item) k (found ++ x ∷ []) m)) (λ xs j. read_as xs j)
-  too_few k found l less = absurd (omega arith)
-
-  separated_same : (i : Words) → separated item i ≡ made (joined item) (item ⊗ repeated (another item)) i
-  separated_same i =
-      sym (unchanged (separated item i))
-      ∙ whole_same item 0 (λ xs j. read_as xs j) (reads_on a at_comma last) too_few i (λ x m s. let less = shorter a.rules takes last i x m (was_read a.rules i x m s) in omega (arith, less))
-      ∙ unchanged (made (joined item) (item ⊗ repeated (another item)) i)
-
   pub separated_law : Law (separated item) (Separated P) (Separated M) (λ j. S j × (sees mark.Comma j ≡ false)) (map e)
-  separated_law = same_law (λ i. sym (separated_same i)) (joined_law a at_comma last)
-
-pub separated_takes : {A : Type 0} (P : Form A) → Takes P → Takes (Separated P)
-separated_takes P takes [] j s = s
-separated_takes P takes (x ∷ []) j s = takes x j s
-separated_takes P takes (x ∷ y ∷ ys) j s = takes x (Fixed mark.Comma s.0 ∷ s.1) s.2
+  separated_law =
+      same_law (λ i. separated_by item (item i))
+      (formed_law (joined item) (λ j t. t) (λ x i j s. list_to P x.0 x.1 i s.0 j s.1 s.2) joined_from (λ x i j s. list_to M x.0 x.1 i s.0 j s.1 s.2) (λ x. refl)
+      (both_law a (repeated_law another_law comma_stops last) others_stop))
 
 -- a list begins as its first item does
 pub separated_begins : {A : Type 0} (P : Form A) (Q : Words → Type 0) → ((x : A) (i j : Words) → P x i j → Q i) → (xs : List A) (i j : Words) → Separated P xs i j → Q i

@@ -4,9 +4,9 @@ use Rattle.sdl_tree.specs.declared.mark.Mark.TheVariants as mark
 use Rattle.sdl_read.proofs.Grammar.{Mark, Spelling, plain, erased_name, erased_number, erased_item, IsMark, Both, Behind, Before, Enclosed, InParentheses, SpellsName, SpellsNumber, SpellsEnd, SpellsSig, SignalListItem, SignalItem, ListItem, Words, Spot, Fixed, Parser, front, rest, sees, same_mark, is_name, sees_name, name, number, text, enclosed, in_parentheses, end, sig}
 use Rattle.sdl_tree.specs.Words as word
 use Rattle.sdl_read.proofs.Depth.{SameFront}
-use Rattle.sdl_read.proofs.Laws.{Form, Gives, Law, Anywhere, Takes, Made, Nothing, as_law, stops_law, single_law, mark_law, nothing_law, behind_law, before_law, made_law, either_law, either_as, made_as, then_law}
+use Rattle.sdl_read.proofs.Laws.{Form, Gives, Law, Anywhere, Made, Nothing, as_law, stops_law, single_law, mark_law, nothing_law, behind_law, before_law, made_law, either_law, either_as, made_as, then_law}
 use Rattle.sdl_read.proofs.ListLaws.{no_comma_at_close, separated_law}
-use Rattle.sdl_read.proofs.Steps.{no_words, rest_here, sees_front, sees_at, sees_other, alike_name, alike_number, alike_text, alike_from}
+use Rattle.sdl_read.proofs.Steps.{rest_here, sees_front, sees_at, sees_other, alike_name, alike_number, alike_text, alike_from}
 
 -- ---- single words
 
@@ -82,9 +82,6 @@ pub no_name : (m : Mark) (s : Spelling) (j : Words) → sees_name (Fixed m s ∷
 unfolding sees_name front
 no_name m s j = refl
 
-pub name_takes : Takes SpellsName
-name_takes x j e = no_words e
-
 -- ---- end
 
 abbrev DropsComment : (Spelling × (Unit {0} × Spelling)) → Words → Words → Type 0
@@ -141,10 +138,10 @@ maybe_enclosed item {P = P} {M = M} a =
     as_law (listed_to P) (listed_from P) (listed_to M)
     (either_law (sees mark.Open) (sees_front mark.Open) (stops_law (λ j t. tt) a) (nothing_law []) (opens_list P) (λ xs i j s t. ap (sees mark.Open) s.1 ∙ t))
 
-module _ {A : Type 0} {item : Parser A} {P M : Form A} {S : Words → Type 0} {e : A → A} (a : Law item P M S e) (takes : Takes P)
+module _ {A : Type 0} {item : Parser A} {P M : Form A} {S : Words → Type 0} {e : A → A} (a : Law item P M S e)
     (at_comma : (s : Spelling) (m : Words) → S (Fixed mark.Comma s ∷ m)) (at_close : (s : Spelling) (m : Words) → S (Fixed mark.Close s ∷ m)) (last : S []) where
   pub enclosed_law : Law (enclosed item) (Enclosed P) (Enclosed M) Anywhere (map e)
-  enclosed_law = behind_law mark.Open (before_law mark.Close (separated_law a takes at_comma last) (λ s j. (at_close s j, no_comma_at_close s j)))
+  enclosed_law = behind_law mark.Open (before_law mark.Close (separated_law a at_comma last) (λ s j. (at_close s j, no_comma_at_close s j)))
 
   -- and not at a parenthesis
   pub in_parentheses_law : Law (in_parentheses item) (InParentheses P) (InParentheses M) (λ j. sees mark.Open j ≡ false) (map e)

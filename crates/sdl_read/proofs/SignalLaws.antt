@@ -1,13 +1,13 @@
 -- The laws of more ways to put readings together, of what closes a construct, and of signals.
 use Rattle.std.proofs.Common.{◌≡◌, ◌⊎◌, inl, inr, Bool, true, false, ◌||◌, List, [], ◌∷◌, map, refl, sym, ap, ◌∙◌, subst, true≢false}
-use Rattle.sdl_read.proofs.Grammar.{Mark, erased_sort, erased_item, erased_signal, erased_signal_list, erased_signal_set, SpellsSignalName, SpellsSignal, SpellsSignalList, SpellsSignalSet, InParentheses, Begins, SpellsName, Ended, SpellsSig, SpellsSigs, sort_of, SignalItem, ListItem, Words, Parser, made, either, maybe, front, rest, sees, sees_name, same_mark, name, separated, in_parentheses, ended, sees_one, signal_with, signal_name, signal, sig, signal_list_with, signal_list, signal_set_with, signal_set}
+use Rattle.sdl_read.proofs.Grammar.{Mark, erased_sort, erased_item, erased_signal, erased_signal_list, erased_signal_set, SpellsSignalName, SpellsSignal, SpellsSignalList, SpellsSignalSet, InParentheses, Begins, SpellsName, Ended, SpellsSigs, sort_of, Words, Parser, made, either, maybe, front, rest, sees, sees_name, same_mark, name, separated, in_parentheses, ended, sees_one, signal_with, signal_name, signal, sig, signal_list_with, signal_list, signal_set_with, signal_set}
 use Rattle.sdl_tree.specs.declared.mark.Mark.TheVariants as mark
 use Rattle.sdl_read.proofs.Depth.{SameFront}
-use Rattle.sdl_read.proofs.Laws.{Form, Rules, Law, MaybeLaw, Anywhere, Takes, Or, either_as, as_law, mark_law, behind_law, formed_law, first_law, maybe_law, then_law}
+use Rattle.sdl_read.proofs.Laws.{Form, Rules, Law, MaybeLaw, Anywhere, Or, either_as, as_law, mark_law, behind_law, formed_law, first_law, maybe_law, then_law}
 use Rattle.sdl_read.proofs.ListLaws.{separated_law}
-use Rattle.sdl_read.proofs.PartLaws.{name_as, name_law, name_takes, in_parentheses_law, sig_law}
+use Rattle.sdl_read.proofs.PartLaws.{name_as, name_law, in_parentheses_law, sig_law}
 use Rattle.sdl_read.proofs.ClosingLaws.{ended_at_law}
-use Rattle.sdl_read.proofs.Steps.{no_words, true_or_false, sees_last, sees_ok, sees_at, sees_front}
+use Rattle.sdl_read.proofs.Steps.{true_or_false, sees_last, sees_ok, sees_at, sees_front}
 
 -- ---- nodes that are records
 
@@ -143,7 +143,7 @@ sort_law = name_as erased_sort (λ x y e n. record { text = sort_of (e n); place
 
 -- [sorts]
 pub sorts_law : Law (in_parentheses name) (InParentheses SpellsName) (InParentheses SpellsName) (λ j. sees mark.Open j ≡ false) (map erased_sort)
-sorts_law = in_parentheses_law sort_law name_takes (λ s m. tt) (λ s m. tt) tt
+sorts_law = in_parentheses_law sort_law (λ s m. tt) (λ s m. tt) tt
 
 signal_name_law : Law signal_name SpellsSignalName SpellsSignalName (λ j. sees mark.Open j ≡ false) erased_signal
 unfolding signal_name
@@ -153,16 +153,12 @@ signal_name_law =
 pub signal_law : Law signal SpellsSignal SpellsSignal Anywhere (map erased_signal)
 unfolding signal sees front same_mark
 signal_law =
-    behind_law mark.Signal (ended_at_law (separated_law signal_name_law (λ x j s. no_words s.1) (λ s m. refl) refl) (λ s m. (refl, refl)) (λ s m. (refl, refl)))
-
-pub sig_takes : Takes SpellsSig
-sig_takes (SignalItem x) j s = no_words s
-sig_takes (ListItem x) j s = no_words s.2
+    behind_law mark.Signal (ended_at_law (separated_law signal_name_law (λ s m. refl) refl) (λ s m. (refl, refl)) (λ s m. (refl, refl)))
 
 -- sigs end
 pub sigs_law : Law (ended (separated sig)) (Ended SpellsSigs) (Ended SpellsSigs) Anywhere (map erased_item)
 unfolding sees front same_mark
-sigs_law = ended_at_law (separated_law sig_law sig_takes (λ s m. tt) tt) (λ s m. (tt, refl)) (λ s m. (tt, refl))
+sigs_law = ended_at_law (separated_law sig_law (λ s m. tt) tt) (λ s m. (tt, refl)) (λ s m. (tt, refl))
 
 pub signal_list_law : Law signal_list SpellsSignalList SpellsSignalList Anywhere erased_signal_list
 unfolding signal_list

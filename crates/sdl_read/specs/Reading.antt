@@ -191,27 +191,11 @@ either begins p q = λ i. if begins i then p i else q i
 abbrev pub maybe : {A : Type 0} → (Words → Bool) → Parser A → Parser (Option A)
 maybe begins p = λ i. if begins i then and_then (p i) (λ x j. Ok (Some x, j)) else Ok (None, i)
 
--- ---- lists. The number bounds the turns: each turn but the last takes a word.
-
 -- takes the mark, if it stands next
 abbrev pub eat : Mark → Parser Bool
 eat m = λ i. Ok (sees m i, after m i)
 
--- how many turns a list of items can take at most: an item is asked for where the text ends, too
-unfoldable pub turns : Words → ℕ
-turns [] = 1
-turns (w ∷ i) = suc (length i)
-
-unfoldable pub separated_from : {A : Type 0} → Parser A → ℕ → List A → Parser (List A)
-separated_from item zero found = refuse
-separated_from item (suc n) found = do
-  x ← item
-  more ← eat mark.Comma
-  if more then separated_from item n (found ++ x ∷ []) else pure (found ++ x ∷ [])
-
--- x {"," x}
-abbrev pub separated : {A : Type 0} → Parser A → Parser (List A)
-separated item = λ i. separated_from item (turns i) [] i
+-- ---- lists. The number bounds the turns: each turn takes a word.
 
 abbrev pub repeated_by : {A : Type 0} → List A → (List A → Parser (List A)) → Option A → Parser (List A)
 repeated_by found more None i = Ok (found, i)
@@ -226,6 +210,14 @@ repeated_from item (suc n) found = do
 -- {x}
 abbrev pub repeated : {A : Type 0} → Parser (Option A) → Parser (List A)
 repeated item = λ i. repeated_from item (length i) [] i
+
+-- ["," x]
+abbrev pub another : {A : Type 0} → Parser A → Parser (Option A)
+another item = maybe (sees mark.Comma) (behind mark.Comma item)
+
+-- x {"," x}
+abbrev pub separated : {A : Type 0} → Parser A → Parser (List A)
+separated item = λ i. and_then (item i) (λ x m. repeated_from (another item) (length m) (x ∷ []) m)
 
 -- "(" x {"," x} ")"
 abbrev pub enclosed : {A : Type 0} → Parser A → Parser (List A)

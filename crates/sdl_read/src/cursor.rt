@@ -73,18 +73,6 @@ impl<'c, 't> Cursor<'c, 't> {
         self.words.len()
     }
 
-    /// How many turns a list of items can take at most: each but the last takes a word, and where the text ends an item
-    /// is asked for, too.
-    #[tactic(auto, unfolding(crate::specs::Reading::turns))]
-    pub fn turns(&self) -> usize
-        ensures { result ≡ spec.turns self.now }
-    {
-        match self.words {
-            [] => 1,
-            [_, ..] => self.words.len(),
-        }
-    }
-
     /// Goes past one word.
     #[tactic(auto, unfolding(crate::specs::Reading::rest))]
     pub fn pass(&mut self)

@@ -6,7 +6,7 @@ ghost use Rattle.sdl_read.specs.Reading as spec;
 ghost use Rattle.sdl_read.specs.Reads.{Reads};
 
 use crate::cursor::Cursor;
-use crate::fault::{Fault, Wanted};
+use crate::fault::Fault;
 use sdl_tree::Mark;
 use std::alloc::Global;
 
@@ -68,13 +68,14 @@ pub fn separated<
     ensures { Reads (λ xs. map A.value xs.items) (spec.separated (A.reads at) cursor.old) result cursor.new }
 {
     let mut found = Vec::new(alloc);
-    for _turn in 0..cursor.turns() {
-        found.push(item(alloc, cursor, at)?)?;
+    found.push(item(alloc, cursor, at)?)?;
+    for _turn in 0..cursor.left() {
         if !cursor.eat(Mark::Comma) {
             return Ok(found);
         }
+        found.push(item(alloc, cursor, at)?)?;
     }
-    Err(Fault::Expected(Wanted::Name))
+    Ok(found)
 }
 
 /// `{x}`
