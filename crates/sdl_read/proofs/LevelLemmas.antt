@@ -1,5 +1,6 @@
 -- The levels of expressions, where the code counts down to the one below.
 use Rattle.std.proofs.Common.{◌≡◌, ℕ, suc, ◌-◌, ◌≤◌, ◌<◌, Err, sym, ap, ◌∙◌, arith}
+use Rattle.std.proofs.lemmas.Grind.{common_steps}
 use Rattle.sdl_read.proofs.Grammar.{Words, Deep, in_parentheses, Readers, readers, level, primary, signed, chain, paren_of, active_of, deep_active, no_args, expr}
 
 pub level_zero : (r : Readers) (k : ℕ) (i : Words) → k ≡ 0 → level r k i ≡ primary r i
@@ -19,14 +20,28 @@ level_up r k i some =
 
 -- ---- what is read inside one more pair of parentheses
 
-pub none_inside : (d : ℕ) (i : Words) → d ≡ 0 → ((readers d).paren i ≡ Err (Deep i)) × ((readers d).active i ≡ deep_active i) × ((readers d).args i ≡ no_args i)
+pub paren_none : (d : ℕ) (i : Words) → d ≡ 0 → (readers d).paren i ≡ Err (Deep i)
 unfolding readers
-none_inside d i e = (ap (λ n. (readers n).paren i) e, ap (λ n. (readers n).active i) e, ap (λ n. (readers n).args i) e)
+paren_none d i e = ap (λ n. (readers n).paren i) e
 
-pub one_inside : (d : ℕ) (i : Words) → 0 < d
-    → ((readers d).paren i ≡ paren_of (expr (d - 1)) i) × ((readers d).active i ≡ active_of (readers (d - 1)).args i)
-    × ((readers d).args i ≡ in_parentheses (expr (d - 1)) i)
+pub active_none : (d : ℕ) (i : Words) → d ≡ 0 → (readers d).active i ≡ deep_active i
 unfolding readers
-one_inside d i some =
-    let e : d ≡ suc (d - 1) = omega arith in
-    (ap (λ n. (readers n).paren i) e, ap (λ n. (readers n).active i) e, ap (λ n. (readers n).args i) e)
+active_none d i e = ap (λ n. (readers n).active i) e
+
+pub args_none : (d : ℕ) (i : Words) → d ≡ 0 → (readers d).args i ≡ no_args i
+unfolding readers
+args_none d i e = ap (λ n. (readers n).args i) e
+
+pub paren_one : (d : ℕ) (i : Words) → 0 < d → (readers d).paren i ≡ paren_of (expr (d - 1)) i
+unfolding readers
+paren_one d i some = let e : d ≡ suc (d - 1) = omega arith in ap (λ n. (readers n).paren i) e
+
+pub active_one : (d : ℕ) (i : Words) → 0 < d → (readers d).active i ≡ active_of (readers (d - 1)).args i
+unfolding readers
+active_one d i some = let e : d ≡ suc (d - 1) = omega arith in ap (λ n. (readers n).active i) e
+
+pub args_one : (d : ℕ) (i : Words) → 0 < d → (readers d).args i ≡ in_parentheses (expr (d - 1)) i
+unfolding readers
+args_one d i some = let e : d ≡ suc (d - 1) = omega arith in ap (λ n. (readers n).args i) e
+
+pub ruleset nesting = (common_steps, paren_none, active_none, args_none, paren_one, active_one, args_one)

@@ -59,6 +59,7 @@ pub trait Perhaps<P> {
 }
 
 /// `x {"," x}`
+#[tactic(auto, unfolding(crate::specs::Reading::repeated_from), using(crate::proofs::Turns::turning))]
 pub fn separated<
     P: Drop,
     A: Production<P> + Copy,
@@ -70,15 +71,17 @@ pub fn separated<
     let mut found = Vec::new(alloc);
     found.push(item(alloc, cursor, at)?)?;
     for _turn in 0..cursor.left() {
-        if !cursor.eat(Mark::Comma) {
+        if !cursor.sees(Mark::Comma) {
             return Ok(found);
         }
+        cursor.expect(Mark::Comma)?;
         found.push(item(alloc, cursor, at)?)?;
     }
     Ok(found)
 }
 
 /// `{x}`
+#[tactic(auto, unfolding(crate::specs::Reading::repeated_from), using(crate::proofs::Turns::turning))]
 pub fn repeated<
     P: Drop,
     A: Perhaps<P> + Copy,
