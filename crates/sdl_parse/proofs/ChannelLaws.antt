@@ -1,7 +1,7 @@
 -- The laws of channels and their connections.
-use Rattle.sdl_behaviour.proofs.Words.{Agent, Anywhere, Bool, Both, ChannelEnd, ChannelPath, Env, Err, Fixed, Followed, Form, IsMark, Law, Made, Nothing, Ok, Option, Optional, Refused, SpellsChannel, SpellsClosing, SpellsConnect, SpellsName, SpellsNoDelay, SpellsPath, SpellsPoint, Spot, Words, [], after, and_then, ap, as_law, behind_law, both_law, closing_begins, closing_law, eat, either, either_as, either_law, end_other, ended_law, erased_channel, erased_connection, erased_end, erased_path, expect, false, followed_law, front, if◌then◌else◌, inl, inr, made, made_as, made_law, mark_law, maybe_mark, name_law, nothing_law, option_map, optional_law, pure, read_as, record_law, refl, rest, same_law, same_mark, sees, sees_at, sees_front, sigs_law, stops_law, then_law, tied_law, true, ◌∙◌, ◌∷◌, ◌≡◌, ◌⊎◌}
+use Rattle.sdl_behaviour.proofs.Words.{Agent, Anywhere, Bool, Both, ChannelEnd, ChannelPath, Env, Followed, Form, IsMark, Law, Made, Nothing, Option, Optional, SpellsChannel, SpellsClosing, SpellsConnect, SpellsName, SpellsNoDelay, SpellsPath, SpellsPoint, Spot, Words, ap, as_law, behind_law, both_law, closing_begins, closing_law, either_as, either_law, end_other, ended_law, erased_channel, erased_connection, erased_end, erased_path, false, followed_law, front, inl, inr, made_as, made_law, mark_law, maybe_mark, name_law, nothing_law, option_map, optional_law, record_law, refl, same_mark, sees, sees_at, sees_front, sigs_law, stops_law, then_law, tied_law, true, ◌∙◌, ◌≡◌, ◌⊎◌}
 use Rattle.sdl_tree.specs.declared.mark.Mark.TheVariants as mark
-use Rattle.sdl_parse.specs.Channels.{point, path_with, path, paths, channel_with, channel, connection_with, connect}
+use Rattle.sdl_parse.specs.Channels.{point, path_with, path, nodelay, paths, channel_with, channel, connection_with, connect}
 use Rattle.sdl_parse.proofs.Stops.{names_law, closed_same}
 
 pub point_law : Law point SpellsPoint SpellsPoint Anywhere erased_end
@@ -24,20 +24,11 @@ path_law = record_law path_with (λ y. (y.from, (y.to, y.signals))) (λ x. refl)
 
 -- ---- ["nodelay"]
 
-eat_same : (i : Words) → either (sees mark.NoDelay) (made (λ _. true) (expect mark.NoDelay)) (pure false) i ≡ eat mark.NoDelay i
-unfolding expect sees after front rest
-eat_same [] = refl
-eat_same (Fixed n s ∷ i) =
-    elim (same_mark n mark.NoDelay) as (λ b.
-    (if b then and_then (if b then Ok (s, i) else Err (Refused (Fixed n s ∷ i))) (λ _ j. read_as true j) else read_as false (Fixed n s ∷ i))
-    ≡ read_as b (if b then i else Fixed n s ∷ i)) [ true ↦ refl | false ↦ refl ]
-eat_same (w ∷ i) = refl
-
-nodelay_law : Law (eat mark.NoDelay) SpellsNoDelay SpellsNoDelay (λ j. sees mark.NoDelay j ≡ false) (λ b. b)
-nodelay_law = same_law eat_same
-    (as_law to from to
+nodelay_law : Law nodelay SpellsNoDelay SpellsNoDelay (λ j. sees mark.NoDelay j ≡ false) (λ b. b)
+nodelay_law =
+    as_law to from to
     (either_law (sees mark.NoDelay) (sees_front mark.NoDelay) (stops_law (λ j t. tt) (made_law (λ _. true) (λ x. refl) (mark_law mark.NoDelay))) (nothing_law false)
-    (λ b i j s. sees_at mark.NoDelay s.0 i j s.2) (λ b i j s t. ap (sees mark.NoDelay) s.1 ∙ t)))
+    (λ b i j s. sees_at mark.NoDelay s.0 i j s.2) (λ b i j s t. ap (sees mark.NoDelay) s.1 ∙ t))
   where
     to : (b : Bool) (i j : Words) → Made (λ _. true) (IsMark mark.NoDelay) b i j ⊎ Nothing false b i j → SpellsNoDelay b i j
     to b i j (inl s) = rw s.1 (s.0, s.2)

@@ -1,5 +1,5 @@
 -- What a fault of the reading says of the text.
-use Rattle.sdl_behaviour.proofs.Words.{Barred, Deep, Err, Fails, Fixed, IsBarred, IsLeftOut, IsRest, List, Refused, Some, Tree, Word, Words, ap, codes, front, length, limit, read_as, refl, stands, word_place, words_of, ℕ, ◌++◌, ◌∙◌, ◌∷◌, ◌≡◌, ◌≤◌}
+use Rattle.sdl_behaviour.proofs.Words.{Barred, Deep, Err, Fails, Fixed, IsBarred, IsLeftOut, IsRest, List, Refused, Some, Tree, Word, Words, ap, codes, front, length, limit, read_as, refl, word_place, words_of, ℕ, ◌++◌, ◌∙◌, ◌∷◌, ◌≡◌, ◌≤◌}
 use Rattle.std.specs.String.{string_bytes}
 use Rattle.sdl_lex.specs.declared.place.Place.{Place}
 use Rattle.sdl_lex.specs.declared.token.Token.{Token}
@@ -12,7 +12,8 @@ use Rattle.sdl_parse.specs.declared.error.ParseError.{ParseError}
 use Rattle.sdl_parse.specs.declared.error.ParseError.TheVariants.{Expected, LeftOut, TooDeep, Memory}
 use Rattle.sdl_parse.specs.Parser.{StandsAt, TooMany, SpellsText, Refuses, TellsWord, IsPlaceOf, Tells}
 use Rattle.sdl_parse.specs.Systems.{specification}
-use Rattle.sdl_parse.proofs.SystemLaws.{specification_sound, specification_one, specification_refused, specification_told, specification_law}
+use Rattle.sdl_parse.proofs.SystemLaws.{specification_sound, specification_one, specification_refused, specification_told}
+use Rattle.sdl_parse.proofs.TooDeepLemmas.{told}
 
 -- a text has one list of tokens
 abbrev pub OneList : Type 0
@@ -45,16 +46,16 @@ module _ (text : List ℕ) (tokens : List Token) where
 
   deep_told : (place : Place) (left : Words) → specification limit whole ≡ Err (Deep left) → IsPlaceOf place (front left) → StandsAt place TooMany whole
   deep_told place left e at =
-      let c = specification_told limit whole left e in
+      let c = told limit whole left (specification_told limit whole (Deep left) e) in
       (c.0, c.2, c.1, c.3, at_place place left c.2 c.1 c.4 at, c.5)
 
   pub refuses : length text ≤ 1048576 → Lexes text tokens → (e : ParseError) (f : Fault) (left : Words) → Fails (specification limit whole) f left → Tells e f (front left) → Refuses e text
   refuses short lexes Memory f left o t = tt
   refuses short lexes (Expected place wanted) (fault.Expected w) left o t = (short, tokens, lexes, specification_refused limit whole (Refused left) o)
   refuses short lexes (LeftOut place s) (fault.Expected w) left o t =
-      (short, tokens, lexes, (specification_refused limit whole (Refused left) o, word_told place (string_bytes s) left (stands (specification_law limit).rules whole (Refused left) o) t))
+      (short, tokens, lexes, (specification_refused limit whole (Refused left) o, word_told place (string_bytes s) left (specification_told limit whole (Refused left) o) t))
   refuses short lexes (LeftOut place s) fault.Condition left o t =
-      let at = stands (specification_law limit).rules whole (Barred left) o in
+      let at = specification_told limit whole (Barred left) o in
       (short, tokens, lexes, (specification_refused limit whole (Barred left) o, barred_told place (string_bytes s) left at.0 at.1 t.0 t.1))
   refuses short lexes (TooDeep place) fault.TooDeep left o t = (short, tokens, lexes, (specification_refused limit whole (Deep left) o, deep_told place left o t))
   refuses short lexes e f left o t = absurd t

@@ -1,49 +1,11 @@
 -- The laws of blocks and of the system.
-use Rattle.sdl_behaviour.proofs.Words.{Anywhere, AreAlike, Behind, Block, BlockPart, Channel, Choice, Connect, Deep, Definition, Ended, Err, Followed, Form, Gives, GoodAfter, InBlock, InSystem, Law, List, Made, MaybeLaw, None, OpensTooMany, Option, Or, Process, Refusal, Repeated, SignalList, Signals, Some, SpellsBlock, SpellsBlockPart, SpellsChannel, SpellsClosing, SpellsConnect, SpellsDef, SpellsName, SpellsProcess, SpellsSignal, SpellsSignalList, SpellsSynonym, SpellsSystemDef, SpellsTree, Spot, Synonyms, SystemDefinition, Tied, Tree, Word, Words, [], ap, as_choice, behind_law, closed_list_law, either_as, ended_law, erased, erased_block, erased_block_part, erased_definition, erased_system_definition, followed_law, front, inl, inr, made, made_as, made_law, mark_law, maybe_choice, name_law, not_refused, one_choice, or_choice, read_as, record_law, refl, rest_here, same_mark, same_value, sees, sees_one, signal_law, signal_list_law, sound, subst, suc, sym, then_law, tied_law, was_told, whole, ℕ, ◌++◌, ◌∙◌, ◌∷◌, ◌≡◌, ◌⊎◌}
+use Rattle.sdl_behaviour.proofs.Words.{Anywhere, AreAlike, Behind, Block, BlockPart, Channel, Choice, Connect, Definition, Ended, Err, Followed, Form, Gives, InBlock, InSystem, Law, List, Made, MaybeLaw, Or, Process, Refusal, Repeated, SignalList, Signals, SpellsBlock, SpellsBlockPart, SpellsChannel, SpellsClosing, SpellsConnect, SpellsDef, SpellsName, SpellsProcess, SpellsSignal, SpellsSignalList, SpellsSynonym, SpellsSystemDef, SpellsTree, Spot, Synonyms, SystemDefinition, Tied, Tree, Words, [], ap, as_choice, behind_law, closed_list_law, either_as, ended_law, erased, erased_block, erased_block_part, erased_definition, erased_system_definition, front, inl, inr, made, made_as, made_law, mark_law, maybe_choice, name_law, not_refused, one_choice, or_choice, read_as, record_law, refl, same_mark, same_value, sees, sees_one, signal_law, signal_list_law, subst, suc, sym, then_law, tied_law, whole, ℕ, ◌∙◌, ◌∷◌, ◌≡◌, ◌⊎◌, Ok, Outcome, Told, and_then}
 use Rattle.sdl_tree.specs.declared.mark.Mark.TheVariants as mark
 use Rattle.sdl_parse.specs.Systems.{definition_marks, definition, block_part, block_with, block, system_definition, at_end, tree_with, system, specification}
 use Rattle.sdl_parse.proofs.ChannelLaws.{channel_law, connect_law}
 use Rattle.sdl_parse.proofs.ProcessLaws.{process_law}
 use Rattle.sdl_parse.proofs.Stops.{closed_same}
-use Rattle.sdl_parse.proofs.TooDeepLemmas.{told}
 use Rattle.sdl_parse.proofs.DeclarationLaws.{synonym_law}
-
--- ---- the end of the text
-
-abbrev pub IsEnd : Words → Words → Type 0
-IsEnd i j = (i ≡ []) × (j ≡ [])
-
-at_end_complete : (u : Unit {0}) (i j : Words) → IsEnd i j → at_end i ≡ read_as u j
-unfolding at_end
-at_end_complete u i j s = ap at_end s.0 ∙ ap (λ k. read_as u k) (sym s.1)
-
--- where the text ends, it ends still, where the same stands next
-end_after : (k : Words) → GoodAfter (λ j. j ≡ []) [] k → k ≡ []
-unfolding front
-end_after k (inr t) = t
-end_after [] (inl same) = refl
-end_after (w ∷ k) (inl same) = absurd (let apart : ◌≡◌ {A = Option Word} (Some w) None = same in cc)
-
-at_end_tells : (i : Words) → Gives at_end (λ _. IsEnd) (λ _. IsEnd) (λ j. j ≡ []) i (at_end i)
-unfolding at_end
-at_end_tells [] = record { taken = []; at = refl; again = λ k g. let t = end_after k g in at_end_complete tt k k (t, t); spelled = (refl, refl) }
-at_end_tells (w ∷ i) = rest_here (w ∷ i)
-
--- words like none are none
-none_alike : (i k : Words) → i ≡ [] → AreAlike i k → k ≡ []
-none_alike i [] e a = refl
-none_alike i (w ∷ k) e a = absurd (rw e at a)
-
-at_end_law : Law at_end (λ _. IsEnd) (λ _. IsEnd) (λ j. j ≡ []) whole
-at_end_law = record {
-  rules = record {
-    tells = at_end_tells;
-    complete = λ u i j s t. at_end_complete u i j s;
-    moves = λ u i j k s t. (tt, k, (none_alike i k s.0 t, none_alike i k s.0 t), subst (λ (l : Words). AreAlike l k) (s.0 ∙ sym s.1) t, refl);
-    more = λ u i j s. s;
-  };
-  one = (tt, [], λ j t. (t, t));
-}
 
 -- ---- what both a system and a block define
 
@@ -77,6 +39,11 @@ block_part_from d (InBlock x) i j s = inr (x, refl, s)
 system_definition_from : (d : ℕ) (x : SystemDefinition) (i j : Words) → SpellsSystemDef d x i j → Made Block (SpellsBlock d) x i j ⊎ Made InSystem (SpellsDef d) x i j
 system_definition_from d (Block x) i j s = inl (x, refl, s)
 system_definition_from d (InSystem x) i j s = inr (x, refl, s)
+
+-- words like none are none
+none_alike : (k : Words) → AreAlike [] k → k ≡ []
+none_alike [] a = refl
+none_alike (w ∷ k) a = absurd a
 
 -- ---- from the definitions to the text
 
@@ -128,27 +95,39 @@ module _ (d : ℕ) where
       (tied_law (ended_law name_law (λ i j s. tt)) (λ x. closed_list_law mark.EndSystem system_definition_law (λ i t. tt) tt (λ s k. (tt, refl)) x.text)
       (λ x y m j s t. tt) (closed_same (Repeated (SpellsSystemDef d)) mark.EndSystem)))
 
-  pub specification_law : Law (specification d) (Followed (SpellsSystem d) IsEnd) (Followed (SpellsSystem (suc d)) IsEnd) (λ j. j ≡ []) erased
+  -- ---- whole texts: the system, and nothing behind it
+
+  abbrev Tells : Words → Outcome Tree → Type 0
+  Tells i (Ok z) = SpellsTree d z.0 i
+  Tells i (Err r) = Told (SpellsSystem d) (SpellsSystem (suc d)) Anywhere i r
+
+  tells_by : (i : Words) (o : Outcome Tree) → Gives (system d) (SpellsSystem d) (SpellsSystem (suc d)) Anywhere i o
+      → Tells i (and_then o (λ t m. and_then (at_end m) (λ _ j. read_as t j)))
+  unfolding at_end
+  tells_by i (Ok (t, [])) told = told.spelled
+  tells_by i (Ok (t, w ∷ m)) told = (told.taken, told.at)
+  tells_by i (Err r) told = told
+
+  specification_tells : (i : Words) (o : Outcome Tree) → specification d i ≡ o → Tells i o
   unfolding specification
-  specification_law = followed_law system_law at_end_law (λ m j s t. tt)
-
-  -- ---- whole texts
-
-  as_tree : (n : ℕ) (t : Tree) (i : Words) → Followed (SpellsSystem n) IsEnd t i [] → SpellsTree n t i
-  as_tree n t i s = rw s.2.0 at s.1
+  specification_tells i o e = let F : Outcome Tree → Type 0 = λ p. Tells i p in subst F e (tells_by i (system d i) (system_law.rules.tells i))
 
   -- what is read spells the words, and leaves none
   pub specification_sound : (i : Words) (t : Tree) (j : Words) → specification d i ≡ read_as t j → SpellsTree d t i
-  specification_sound i t j e = let s = sound specification_law.rules i t j e in as_tree d t i (s.0, s.1, (s.2.0, refl))
+  specification_sound i t j e = specification_tells i (read_as t j) e
+
+  -- what a refusal says: where it stands, or what opens one too many
+  pub specification_told : (i : Words) (r : Refusal) → specification d i ≡ Err r → Told (SpellsSystem d) (SpellsSystem (suc d)) Anywhere i r
+  specification_told i r e = specification_tells i (Err r) e
 
   -- what words spell is read from them
   pub specification_complete : (t : Tree) (i : Words) → SpellsTree d t i → specification d i ≡ read_as t []
-  specification_complete t i s = specification_law.rules.complete t i [] ([], s, (refl, refl)) refl
+  unfolding specification at_end
+  specification_complete t i s = ap (λ o. and_then o (λ u m. and_then (at_end m) (λ _ j. read_as u j))) (system_law.rules.complete t i [] s tt)
 
   -- words that differ in places and spellings alone from what spells a tree spell one that differs in these alone
   pub specification_moves : (t : Tree) (i k : Words) → SpellsTree d t i → AreAlike i k → (u : Tree) × SpellsTree d u k × (erased u ≡ erased t)
-  specification_moves t i k s a =
-      let c = specification_law.rules.moves t i [] k ([], s, (refl, refl)) a in (c.0, as_tree d c.0 k (c.2.0, c.2.1, (c.2.2.0, refl)), c.4)
+  specification_moves t i k s a = let c = system_law.rules.moves t i [] k s a in (c.0, rw (none_alike c.1 c.3) at c.2, c.4)
 
   -- two trees that the same words spell are one
   pub specification_one : (t u : Tree) (i : Words) → SpellsTree d t i → SpellsTree d u i → t ≡ u
@@ -157,8 +136,3 @@ module _ (d : ℕ) where
   -- what is refused spells none
   pub specification_refused : (i : Words) (r : Refusal) → specification d i ≡ Err r → (t : Tree) → SpellsTree d t i → ⊥
   specification_refused i r e t s = not_refused t [] r (sym (specification_complete t i s) ∙ e)
-
-  -- where one too many is told, the word that stands first in what is left opens it
-  pub specification_told : (i left : Words) → specification d i ≡ Err (Deep left)
-      → (front : Words) × (back : Words) × (w : Word) × (i ≡ front ++ w ∷ back) × (left ≡ w ∷ back) × OpensTooMany d front w
-  specification_told i left e = told d (as_tree d) (λ t k s. ([], s, (refl, refl))) (as_tree (suc d)) i left (was_told specification_law.rules i (Deep left) e)

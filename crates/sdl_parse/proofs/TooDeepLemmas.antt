@@ -1,7 +1,8 @@
 -- One too many inside each other, in a whole text.
-use Rattle.sdl_behaviour.proofs.Words.{Fixed, GoesOn, IsHead, IsOpening, OpensTooMany, Spelling, SpellsTree, TooMany, Tree, Word, Words, [], ap, append-nil, append_assoc, arith, first_word, inl, inr, length, length-append, refl, subst, suc, sym, ℕ, ◌++◌, ◌∙◌, ◌∷◌, ◌≡◌, ◌⊎◌}
+use Rattle.sdl_behaviour.proofs.Words.{Anywhere, Fixed, GoesOn, IsHead, IsOpening, OpensTooMany, Spelling, SpellsTree, TooMany, Word, Words, ℕ, [], ap, append-nil, append_assoc, arith, first_word, inl, inr, length, length-append, subst, suc, sym, ◌++◌, ◌∙◌, ◌∷◌, ◌≡◌, ◌⊎◌}
 use Rattle.sdl_tree.specs.declared.mark.Mark.TheVariants as mark
 use Rattle.sdl_tree.specs.Depth as depth
+use Rattle.sdl_parse.proofs.SystemLaws.{SpellsSystem}
 
 -- a word among some and a last one is that last one, or among the others
 in_passed : (before between passed : Words) (opening last : Word) → passed ++ last ∷ [] ≡ before ++ opening ∷ between
@@ -20,8 +21,7 @@ opens_not_active : (w : Word) (r : Spelling) → IsOpening w → w ≡ Fixed mar
 opens_not_active w r (s, inl e) a = cc
 opens_not_active w r (s, inr e) a = cc
 
-module _ (d : ℕ) {P M : Tree → Words → Words → Type 0} (to : (t : Tree) (i : Words) → P t i [] → SpellsTree d t i) (from : (t : Tree) (i : Words) → SpellsTree d t i → P t i [])
-    (to_more : (t : Tree) (i : Words) → M t i [] → SpellsTree (suc d) t i) (i left : Words) (many : TooMany P M (λ j. j ≡ []) i left) where
+module _ (d : ℕ) (i left : Words) (many : TooMany (SpellsSystem d) (SpellsSystem (suc d)) Anywhere i left) where
   abbrev IsTold : Type 0
   IsTold = (front back : Words) × (w : Word) × (i ≡ front ++ w ∷ back) × (left ≡ w ∷ back) × OpensTooMany d front w
 
@@ -29,14 +29,14 @@ module _ (d : ℕ) {P M : Tree → Words → Words → Type 0} (to : (t : Tree) 
   goes_before : (before between : Words) (opening : Word) → many.passed ≡ before ++ opening ∷ between → depth.GoesOn d (before ++ opening ∷ [])
   goes_before before between opening e = on many.goes
     where
-      on : (many.passed ≡ []) ⊎ GoesOn P (λ j. j ≡ []) many.passed → depth.GoesOn d (before ++ opening ∷ [])
+      on : (many.passed ≡ []) ⊎ GoesOn (SpellsSystem d) Anywhere many.passed → depth.GoesOn d (before ++ opening ∷ [])
       on (inl none) = let same = ap length (sym e ∙ none) in let some = length-append before (opening ∷ between) in absurd (omega (arith, same, some))
       on (inr g) =
           let behind : Words = g.1 ++ [] in
           let whole : many.passed ++ behind ≡ (before ++ opening ∷ []) ++ (between ++ behind) =
           ap (λ k. k ++ behind) e ∙ append_assoc before (opening ∷ between) behind ∙ sym (append_assoc before (opening ∷ []) (between ++ behind)) in
           let F : Words → Type 0 = λ k. SpellsTree d g.0 k in
-          (g.0, between ++ behind, subst F whole (to g.0 (many.passed ++ behind) (g.2 [] refl)))
+          (g.0, between ++ behind, subst F whole (g.2 [] tt))
 
   -- with the words in between, which are the front's last ones
   told_at : (between : Words) → many.head ≡ between ++ many.opening ∷ []
@@ -56,10 +56,8 @@ module _ (d : ℕ) {P M : Tree → Words → Words → Type 0} (to : (t : Tree) 
         many.here,
         (
           many.opens,
-          (many.more.0, back, subst F (whole back) (to_more many.more.0 (many.passed ++ (many.head ++ back)) (many.more.2 [] refl))),
-          λ g.
-              let G : Words → Type 0 = λ k. P g.0 k [] in
-              many.barred g.1 g.0 [] (subst G (sym (whole g.1)) (from g.0 ((front ++ w ∷ []) ++ g.1) g.2)) refl,
+          (many.more.0, back, subst F (whole back) (many.more.2 [] tt)),
+          λ g. let G : Words → Type 0 = λ k. SpellsTree d g.0 k in many.barred g.1 g.0 [] (subst G (sym (whole g.1)) g.2) tt,
           before,
         ),
       )

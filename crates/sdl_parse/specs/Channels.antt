@@ -1,12 +1,12 @@
 -- How channels and their connections are read: a device of the proofs, which say that it reads what the grammar spells
 -- and nothing else.
-use Rattle.std.specs.Prelude.{Bool, List, Option}
+use Rattle.std.specs.Prelude.{Bool, true, false, List, Option}
 use Rattle.sdl_tree.specs.declared.mark.Mark.TheVariants as mark
 use Rattle.sdl_tree.specs.declared.name.Spelling.{Spelling}
 use Rattle.sdl_tree.specs.Tree.{SignalListItem, ChannelEnd, Env, Agent, ChannelPath, ChannelDefinition, Connection}
 use Rattle.sdl_tree.specs.Words.{Spot}
 use Rattle.sdl_read.specs.Parts.{followed, ended, closing, tied, sig}
-use Rattle.sdl_read.specs.Reading.{Parser, ◌⊗◌, behind, made, either, maybe, eat, sees, expect, name, separated}
+use Rattle.sdl_read.specs.Reading.{Parser, ◌⊗◌, behind, made, either, maybe, pure, sees, expect, name, separated}
 
 -- point = "env" | NAME
 unfoldable pub point : Parser ChannelEnd
@@ -23,9 +23,13 @@ path = made path_with (behind mark.From (point ⊗ behind mark.To (point ⊗ beh
 abbrev pub second_path : Parser (Option ChannelPath)
 second_path = maybe (sees mark.From) path
 
+-- ["nodelay"]
+abbrev pub nodelay : Parser Bool
+nodelay = either (sees mark.NoDelay) (made (λ _. true) (expect mark.NoDelay)) (pure false)
+
 -- ["nodelay"] path [path] "endchannel" [NAME] end
 abbrev pub paths : Spot → Parser (Bool × (ChannelPath × Option ChannelPath))
-paths x = followed (eat mark.NoDelay ⊗ (path ⊗ second_path)) (closing mark.EndChannel x.text)
+paths x = followed (nodelay ⊗ (path ⊗ second_path)) (closing mark.EndChannel x.text)
 
 abbrev pub channel_with : Spelling × (Spot × (Bool × (ChannelPath × Option ChannelPath))) → ChannelDefinition
 channel_with p = record { word = p.0; name = p.1.0; is_nodelay = p.1.1.0; first = p.1.1.1.0; second = p.1.1.1.1 }

@@ -19,7 +19,7 @@ pub fn channel(alloc: Global, cursor: &mut Cursor<'_, '_>) -> Result<ChannelDefi
 {
     let word = cursor.expect(Mark::Channel)?;
     let name = cursor.name(alloc)?;
-    let is_nodelay = cursor.eat(Mark::NoDelay);
+    let is_nodelay = nodelay(cursor)?;
     let first = path(alloc, cursor)?;
     let second = second_path(alloc, cursor)?;
     closing(alloc, cursor, Mark::EndChannel, &name)?;
@@ -30,6 +30,17 @@ pub fn channel(alloc: Global, cursor: &mut Cursor<'_, '_>) -> Result<ChannelDefi
         first,
         second,
     })
+}
+
+/// `["nodelay"]`
+fn nodelay(cursor: &mut Cursor<'_, '_>) -> Result<bool, Fault>
+    ensures { Reads (λ b. b) (spec.nodelay cursor.old) result cursor.new }
+{
+    if !cursor.sees(Mark::NoDelay) {
+        return Ok(false);
+    }
+    cursor.expect(Mark::NoDelay)?;
+    Ok(true)
 }
 
 /// `[path]`

@@ -2,7 +2,7 @@
 pub use Rattle.sdl_read.proofs.ClosingLaws.{Drops, Named, closed_law, closed_list_law, closing_begins, closing_law, drops_law, end_name_law, ended_law, followed_law, named_law, nowhere_law}
 pub use Rattle.sdl_read.proofs.Depth.{GoesOn, IsHead, SameFront, TooMany, passed_front, renamed, within}
 pub use Rattle.sdl_read.proofs.ExpressionLaws.{args_law, expr_law, level_begins, plain_name}
-pub use Rattle.sdl_read.proofs.Laws.{Anywhere, Complete, Form, Gives, GoodAfter, Law, Made, MaybeLaw, Never, Nothing, Or, Rules, Tied, as_law, before_law, behind_law, both_law, either_as, either_law, either_rules, far_rules, made_as, made_complete, made_law, mark_law, maybe_law, node_law, nothing_law, optional_law, passes, refuse_rules, same_law, same_rules, shut_first, shut_rules, some_read, sound, spelled_again, stands, steps_if, steps_in, still, stops_law, stops_rules, then_complete, then_law, tied_law, was_read, was_told}
+pub use Rattle.sdl_read.proofs.Laws.{Anywhere, Complete, Form, Gives, GoodAfter, Law, Made, MaybeLaw, Never, Nothing, Or, Rules, Tied, as_law, before_law, behind_law, both_law, either_as, either_law, either_rules, far_rules, made_as, made_complete, made_law, mark_law, maybe_law, node_law, nothing_law, optional_law, passes, refuse_rules, same_law, same_rules, shut_first, shut_rules, some_read, sound, spelled_again, stands, steps_if, steps_in, still, stops_law, stops_rules, then_complete, then_law, tied_law, was_read, was_told, Told}
 pub use Rattle.sdl_read.proofs.ListLaws.{erased_both, repeated_law, repeated_open_law, separated_begins, separated_law, until_by, until_law}
 pub use Rattle.sdl_read.proofs.OperatorLaws.{IsMarked, Stops, marked_law, operator_at_again, operator_at_ok, operator_front, stops_at, stops_end, stops_last}
 pub use Rattle.sdl_read.proofs.PartLaws.{enclosed_law, end_other, in_parentheses_law, maybe_enclosed, name_begins, name_front, name_last, name_law, nameless, no_name, number_law, sig_law, whole}

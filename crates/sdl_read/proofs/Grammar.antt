@@ -4,8 +4,8 @@ unfoldable pub use Rattle.sdl_read.specs.Expressions.{active_of, deep_active, le
 pub use Rattle.sdl_read.specs.Parts.{closed, closing_by, ended, followed, followed_by, sees_one, signal_list_with, signal_set_with, signal_with, tied}
 unfoldable pub use Rattle.sdl_read.specs.Parts.{closing, end, end_name, sig, signal, signal_list, signal_name, signal_set}
 pub use Rattle.sdl_read.specs.PlacedWord.{word_of_placed}
-pub use Rattle.sdl_read.specs.Reading.{Barred, Deep, Outcome, Parser, Refusal, Refused, and_then, another, before, behind, eat, either, enclosed, in_parentheses, is_fixed, is_name, is_number, made, mark_by, maybe, on, pure, refuse, repeated, repeated_by, separated, too_deep, ◌⊗◌}
-unfoldable pub use Rattle.sdl_read.specs.Reading.{after, expect, front, mark_at, name, number, repeated_from, rest, same_mark, sees, sees_name, sees_number, text}
+pub use Rattle.sdl_read.specs.Reading.{Barred, Deep, Outcome, Parser, Refusal, Refused, and_then, another, before, behind, either, enclosed, in_parentheses, is_fixed, is_name, is_number, made, mark_by, maybe, on, pure, refuse, repeated, repeated_by, separated, too_deep, ◌⊗◌}
+unfoldable pub use Rattle.sdl_read.specs.Reading.{expect, front, mark_at, name, number, repeated_from, rest, same_mark, sees, sees_name, sees_number, text}
 pub use Rattle.sdl_read.specs.Reads.{Fails}
 pub use Rattle.sdl_tree.specs.Alike.{AreAlike}
 pub use Rattle.sdl_tree.specs.Depth.{IsOpening, OpensTooMany}

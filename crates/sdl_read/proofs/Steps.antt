@@ -2,7 +2,7 @@
 use Rattle.std.proofs.Common.{◌≡◌, ◌⊎◌, inl, inr, Bool, true, false, if◌then◌else◌, [], ◌∷◌, ◌++◌, Option, Some, None, Ok, Err, refl, sym, ap, ◌∙◌, subst, true≢false, append_assoc}
 use denote.Enum.Bare.{same_true, true_same}
 use Rattle.sdl_tree.specs.contracts.mark.Mark.{the_type}
-use Rattle.sdl_read.proofs.Grammar.{Mark, Spelling, AreAlike, IsBarred, Word, Words, Spot, Fixed, Parser, Outcome, Refusal, Refused, Deep, Barred, and_then, is_fixed, front, rest, sees, after, same_mark, expect}
+use Rattle.sdl_read.proofs.Grammar.{Mark, Spelling, AreAlike, IsBarred, Word, Words, Spot, Fixed, Parser, Outcome, Refusal, Refused, Deep, Barred, and_then, is_fixed, front, rest, sees, same_mark, expect}
 use Rattle.sdl_tree.specs.Tree as plain
 use Rattle.sdl_tree.specs.Words as word
 
@@ -133,18 +133,6 @@ sees_last m = refl
 pub sees_other : (m n : Mark) → same_mark n m ≡ false → (s : Spelling) (j : Words) → sees m (Fixed n s ∷ j) ≡ false
 unfolding sees front
 sees_other m n apart s j = apart
-
-pub after_seen : (m : Mark) (i : Words) → sees m i ≡ true → after m i ≡ rest i
-unfolding after
-after_seen m i e = if_true (sees m i) (rest i) i e
-
-pub after_other : (m : Mark) (i : Words) → sees m i ≡ false → after m i ≡ i
-unfolding after
-after_other m i e = if_false (sees m i) (rest i) i e
-
-pub rest_again : (w : Word) (i : Words) → rest (w ∷ i) ≡ i
-unfolding rest
-rest_again w i = refl
 
 pub expect_again : (m : Mark) (s : Spelling) (i : Words) → expect m (Fixed m s ∷ i) ≡ read_as s i
 unfolding expect front rest

@@ -54,9 +54,6 @@ place_at i = place_by (front i)
 unfoldable pub sees : Mark → Words → Bool
 sees m i = is_fixed m (front i)
 
-unfoldable pub after : Mark → Words → Words
-after m i = if sees m i then rest i else i
-
 -- ---- parsers
 
 -- Why nothing is read: another word must stand at the front of what is left; or the word there opens one too many inside
@@ -190,10 +187,6 @@ either begins p q = λ i. if begins i then p i else q i
 -- [x], where such words begin one
 abbrev pub maybe : {A : Type 0} → (Words → Bool) → Parser A → Parser (Option A)
 maybe begins p = λ i. if begins i then and_then (p i) (λ x j. Ok (Some x, j)) else Ok (None, i)
-
--- takes the mark, if it stands next
-abbrev pub eat : Mark → Parser Bool
-eat m = λ i. Ok (sees m i, after m i)
 
 -- ---- lists. The number bounds the turns: each turn takes a word.
 

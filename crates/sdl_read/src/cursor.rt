@@ -138,19 +138,6 @@ impl<'c, 't> Cursor<'c, 't> {
         )
     }
 
-    /// Whether the mark stands next, which is then passed.
-    #[tactic(auto, unfolding(crate::specs::Reading::after))]
-    pub fn eat(&mut self, mark: Mark) -> bool
-        ensures found { result ≡ spec.sees mark self.old }
-        ensures after { self.new ≡ spec.after mark self.old }
-    {
-        let found = self.sees(mark);
-        if found {
-            self.pass();
-        }
-        found
-    }
-
     /// Passes this mark, and tells how it is spelled and where it stands.
     #[tactic(auto, unfolding(crate::specs::Reading::expect, crate::specs::Reading::same_mark))]
     pub fn expect(&mut self, mark: Mark) -> Result<Spelling, Fault>
