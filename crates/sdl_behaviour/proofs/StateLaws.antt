@@ -1,7 +1,8 @@
 -- The laws of a state and of a connection, which stand in the body of a process.
-use Rattle.sdl_behaviour.proofs.Words.{As, BeginsOne, BodyPart, Both, Choice, Fixed, FreeAction, InParentheses, IsMark, Law, List, Made, Mark, MaybeLaw, Separated, Spelling, SpellsBodyPart, SpellsEndConnection, SpellsEndState, SpellsEndStateName, SpellsName, SpellsStates, Spot, StateAll, StateList, StatePart, States, Stimulus, Transition, Words, [], action_marks, ap, arith, as_choice, as_law, before_law, begins_action, begins_statement, begins_terminator, begins_unseen, behind_law, closed_law, drops_law, either, either_as, either_law, end_name_law, end_other, ended_law, erased_body_part, erased_name, erased_states, erased_stimulus, erased_transition, false, front, has_mark, have_mark, in_parentheses_law, inl, inr, made_as, made_law, map, mark_law, maybe_choice, name_law, named_law, nowhere_law, one_choice, or_choice, or_left, or_right, others_unseen, read_as, refl, rest, same_mark, seen_begins, sees, sees_at, sees_front, sees_name, separated_begins, separated_law, stops_law, suc, sym, terminator_marks, then_law, true, true_or_false, true≢false, whole, zero, ℕ, ◌||◌, ◌∙◌, ◌∷◌, ◌≡◌, ◌⊎◌}
+use Rattle.sdl_behaviour.proofs.Words.{As, BeginsOne, BodyPart, Both, Choice, Fixed, FreeAction, InParentheses, IsMark, Law, List, Made, Mark, MaybeLaw, Separated, Spelling, SpellsBodyPart, SpellsEndConnection, SpellsEndState, SpellsEndStateName, SpellsName, SpellsStates, Spot, StateAll, StateList, StatePart, States, Stimulus, Transition, Words, [], action_marks, ap, as_choice, as_law, before_law, begins_action, begins_statement, begins_terminator, begins_unseen, behind_law, closed_law, drops_law, either, either_as, either_law, end_name_law, end_other, ended_law, erased_body_part, erased_name, erased_states, erased_stimulus, erased_transition, false, front, has_mark, have_mark, in_parentheses_law, inl, inr, made_as, made_law, map, mark_law, maybe_choice, name_law, named_law, nowhere_law, one_choice, or_choice, others_unseen, read_as, refl, rest, same_mark, seen_begins, sees, sees_at, sees_front, sees_name, separated_begins, separated_law, stops_law, suc, sym, terminator_marks, then_law, true, true≢false, whole, ℕ, ◌∙◌, ◌∷◌, ◌≡◌, ◌⊎◌}
 use Rattle.std.specs.List.{Contains}
 use Rattle.std.specs.Str.{bytes_eq}
+use Rattle.std.proofs.lemmas.List.Folds.{Any-from_list_any, list_any-from_Any}
 use Rattle.std.proofs.lemmas.Slice.Eq.{bytes_eq-Decides}
 use Rattle.sdl_behaviour.specs.States.{all_with, states, is_named, one_of, end_state_name, end_state, state_with, state_part, free_with, connection, begins_body_part, body_part, end_connection, body_part_marks}
 use Rattle.sdl_behaviour.specs.Stimuli.{begins_stimulus, stimulus_marks}
@@ -10,6 +11,7 @@ use Rattle.sdl_behaviour.proofs.EndingLaws.{name_no_mark}
 use Rattle.sdl_behaviour.proofs.ReceptionLaws.{Alone, alone_last, stimuli_law}
 use Rattle.sdl_behaviour.proofs.StepLaws.{NoStatement, no_statement}
 use Rattle.sdl_behaviour.proofs.TransitionLaws.{trans_law}
+use Rattle.sdl_behaviour.proofs.TurnLemmas.{any_map}
 use Rattle.sdl_tree.specs.declared.mark.Mark.TheVariants as mark
 use Rattle.sdl_tree.specs.Words as word
 
@@ -36,18 +38,10 @@ states_law =
 -- ---- [NAME] behind `endstate`
 
 named_among : (xs : List Spot) (t : List ℕ) → is_named xs t ≡ true → (x : Spot) × Contains xs x × (t ≡ x.text)
-unfolding is_named
-named_among [] t e = absurd (true≢false (sym e))
-named_among (y ∷ ys) t e = elim (true_or_false (bytes_eq y.text t)) as (λ _. (x : Spot) × Contains (y ∷ ys) x × (t ≡ x.text)) [
-  | inl s ↦ (y, (zero, omega arith, refl), sym ((bytes_eq-Decides y.text t).0 s))
-  | inr s ↦ let f = named_among ys t (sym (ap (λ b. b || is_named ys t) s) ∙ e) in (f.0, (suc f.1.0, omega (arith, f.1.1), f.1.2), f.2)
-]
+named_among xs t e = let a = Any-from_list_any (λ (y : Spot). bytes_eq y.text t) xs e in (a.1, (a.0, a.2, a.3), sym ((bytes_eq-Decides a.1.text t).0 a.4))
 
 among_named : (xs : List Spot) (t : List ℕ) (x : Spot) → Contains xs x → t ≡ x.text → is_named xs t ≡ true
-unfolding is_named
-among_named [] t x (k, less, is) e = absurd (omega (arith, less))
-among_named (y ∷ ys) t x (zero, less, is) e = or_left (bytes_eq y.text t) (is_named ys t) ((bytes_eq-Decides y.text t).1 (ap (λ (z : Spot). z.text) is ∙ sym e))
-among_named (y ∷ ys) t x (suc k, less, is) e = or_right (bytes_eq y.text t) (is_named ys t) (among_named ys t x (k, omega (arith, less), is) e)
+among_named xs t x c e = list_any-from_Any (λ (y : Spot). bytes_eq y.text t) xs (c.0, x, c.1, c.2, (bytes_eq-Decides x.text t).1 (sym e))
 
 one_elsewhere : (xs : List Spot) (i : Words) → sees_name i ≡ false → one_of xs i ≡ read_as tt i
 unfolding one_of sees_name front
@@ -70,9 +64,7 @@ end_state_name_law (StateAll asterisk except) = nowhere_law (λ j. sees_name j �
 
 -- names are found by their texts
 same_named : (xs : List Spot) (t : List ℕ) → is_named xs t ≡ is_named (map erased_name xs) t
-unfolding is_named
-same_named [] t = refl
-same_named (x ∷ xs) t = ap (λ b. bytes_eq x.text t || b) (same_named xs t)
+same_named xs t = sym (any_map (λ (y : Spot). bytes_eq y.text t) erased_name xs)
 
 same_name_ended : (x y : States) → erased_states x ≡ erased_states y → (i j : Words) → SpellsEndStateName x i j → SpellsEndStateName y i j
 same_name_ended (StateList xs) (StateList ys) e i j (inl s) = inl s

@@ -1,12 +1,10 @@
 -- How readings and looks go on by a word or a turn: a clause, a name among others, a transition and a decision.
-use Rattle.std.proofs.Common.{◌≡◌, ℕ, Bool, suc, ◌+◌, ◌-◌, ◌<◌, ◌≤◌, false, ◌||◌, List, [], ◌∷◌, length, map, None, Ok, Err, refl, ap, ◌∙◌, arith}
+use Rattle.std.proofs.Common.{◌≡◌, ℕ, Bool, suc, ◌+◌, ◌-◌, ◌<◌, ◌≤◌, false, ◌||◌, List, [], ◌∷◌, length, map, None, Ok, Err, refl, ap, arith}
 use Rattle.std.proofs.lemmas.Grind.{common_steps}
-use Rattle.std.specs.Str.{bytes_eq}
-use Rattle.sdl_tree.specs.declared.name.Name.{Name}
-use Rattle.sdl_read.proofs.Grammar.{Words, Deep, Action, Statement, Parser, front, rest, mark_at, name_value}
+use Rattle.std.specs.List.{list_any}
+use Rattle.sdl_read.proofs.Grammar.{Words, Deep, Action, Statement, Parser, front, rest, mark_at}
 use Rattle.sdl_read.proofs.Turns.{map_push}
 use Rattle.sdl_behaviour.specs.Clauses.{look_at, found_by, comma_ahead}
-use Rattle.sdl_behaviour.specs.States.{is_named}
 use Rattle.sdl_behaviour.specs.Transitions.{decision, decision_of, steps_from, trans}
 
 -- ---- a look over a clause
@@ -28,10 +26,9 @@ rest_length (w ∷ i) = omega arith
 
 -- ---- a name among others
 
-pub named_turn : (r : Bool) (among behind : List Name) (y : Name) (x : List ℕ) → among ≡ y ∷ behind → r ≡ is_named (map name_value among) x
-    → r ≡ (bytes_eq (name_value y).text x || is_named (map name_value behind) x)
-unfolding is_named
-named_turn r among behind y x e f = f ∙ ap (λ ys. is_named (map name_value ys) x) e
+pub any_map : {X Y : Type 0} (p : X → Bool) (h : Y → X) (ys : List Y) → list_any p (map h ys) ≡ list_any (λ y. p (h y)) ys
+any_map p h [] = refl
+any_map p h (y ∷ ys) = ap (λ b. p (h y) || b) (any_map p h ys)
 
 -- ---- transitions and decisions
 

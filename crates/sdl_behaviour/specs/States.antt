@@ -1,5 +1,6 @@
 -- Reading of the start, of states and of connections. A reading is a device of the proofs: what the grammar spells, `sdl_tree` says.
-use Rattle.std.specs.Prelude.{ℕ, Bool, false, ◌||◌, if◌then◌else◌, List, [], ◌∷◌, Option, Some, None, Ok, Err}
+use Rattle.std.specs.Prelude.{ℕ, Bool, if◌then◌else◌, List, [], ◌∷◌, Option, Some, None, Ok, Err}
+use Rattle.std.specs.List.{list_any}
 use Rattle.std.specs.Str.{bytes_eq}
 use Rattle.sdl_tree.specs.declared.mark.Mark.{Mark}
 use Rattle.sdl_tree.specs.declared.mark.Mark.TheVariants as mark
@@ -28,9 +29,8 @@ all_with p = StateAll p.0 p.1
 unfoldable pub states : Parser States
 states = either (sees mark.Asterisk) (made all_with (expect mark.Asterisk ⊗ in_parentheses name)) (made StateList (separated name))
 
-unfoldable pub is_named : List Spot → List ℕ → Bool
-is_named [] x = false
-is_named (y ∷ ys) x = bytes_eq y.text x || is_named ys x
+abbrev pub is_named : List Spot → List ℕ → Bool
+is_named xs x = list_any (λ y. bytes_eq y.text x) xs
 
 abbrev pub one_of_by : List Spot → Option Word → Parser (Unit {0})
 one_of_by xs None i = Ok (tt, i)

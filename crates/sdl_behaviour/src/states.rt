@@ -1,6 +1,8 @@
 //! The start of a process, its states and its connections.
 
 ghost use Rattle.std.specs.Prelude.{◌≡◌, ◌≤◌, map, option_map, string_bytes};
+ghost use Rattle.std.specs.List.{list_any};
+ghost use Rattle.std.specs.Str.{bytes_eq};
 ghost use Rattle.sdl_tree.specs.Views.{body_part_value, name_value, start_value, states_value};
 ghost use Rattle.sdl_read.specs.Reads.{Reads};
 ghost use Rattle.sdl_behaviour.specs.States as spec;
@@ -115,7 +117,7 @@ fn end_state_name(alloc: Global, cursor: &mut Cursor<'_, '_>, states: &States) -
 }
 
 /// `[NAME]`, where a name is one of these.
-#[tactic(auto, unfolding(crate::specs::States::one_of))]
+#[tactic(auto, unfolding(crate::specs::States::one_of), using(crate::proofs::TurnLemmas::any_map))]
 fn one_of(alloc: Global, cursor: &mut Cursor<'_, '_>, names: &[Name]) -> Result<(), Fault>
     ensures { Reads (λ _. tt) (spec.one_of (map name_value names.now) cursor.old) result cursor.new }
 {
@@ -142,16 +144,9 @@ fn one_of(alloc: Global, cursor: &mut Cursor<'_, '_>, names: &[Name]) -> Result<
 
 /// Whether one of the names is this.
 fn is_named(names: &[Name], text: &str) -> bool
-    ensures { result ≡ spec.is_named (map name_value names.now) text.now }
+    ensures { result ≡ list_any (λ name. bytes_eq (name_value name).text text.now) names.now }
 {
-    let mut rest = names;
-    'names: while let Some((name, after)) = rest.split_first() {
-        if name.text.as_str() == text {
-            return true;
-        }
-        rest = after;
-    }
-    false
+    names.iter().any(|name| name.text.as_str() == text)
 }
 
 /// `connection = "connection" NAME ":" trans ["endconnection" [NAME] end]`

@@ -13,7 +13,7 @@ use Rattle.sdl_parse.specs.declared.error.ParseError.TheVariants.{Expected, Left
 use Rattle.sdl_parse.specs.Parser.{StandsAt, TooMany, SpellsText, Refuses, TellsWord, IsPlaceOf, Tells}
 use Rattle.sdl_parse.specs.Systems.{specification}
 use Rattle.sdl_parse.proofs.SystemLaws.{specification_sound, specification_one, specification_refused, specification_told}
-use Rattle.sdl_parse.proofs.TooDeepLemmas.{told}
+use Rattle.sdl_parse.proofs.TooDeepLemmas.{one_too_many}
 
 -- a text has one list of tokens
 abbrev pub OneList : Type 0
@@ -46,7 +46,7 @@ module _ (text : List ℕ) (tokens : List Token) where
 
   deep_told : (place : Place) (left : Words) → specification limit whole ≡ Err (Deep left) → IsPlaceOf place (front left) → StandsAt place TooMany whole
   deep_told place left e at =
-      let c = told limit whole left (specification_told limit whole (Deep left) e) in
+      let c = one_too_many limit whole left (specification_told limit whole (Deep left) e) in
       (c.0, c.2, c.1, c.3, at_place place left c.2 c.1 c.4 at, c.5)
 
   pub refuses : length text ≤ 1048576 → Lexes text tokens → (e : ParseError) (f : Fault) (left : Words) → Fails (specification limit whole) f left → Tells e f (front left) → Refuses e text

@@ -62,8 +62,8 @@ module _ (d : ℕ) (i left : Words) (many : TooMany (SpellsSystem d) (SpellsSyst
         ),
       )
 
-  pub told : IsTold
-  told = by many.heads
+  pub one_too_many : IsTold
+  one_too_many = by many.heads
     where
       by : IsHead many.head many.opening → IsTold
       by (inl e) = told_at [] e (λ before rest opening at opens. goes_before before rest opening (sym (append-nil many.passed) ∙ at))

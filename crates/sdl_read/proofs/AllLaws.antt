@@ -7,4 +7,4 @@ pub use Rattle.sdl_read.proofs.ListLaws.{erased_both, repeated_law, repeated_ope
 pub use Rattle.sdl_read.proofs.OperatorLaws.{IsMarked, Stops, marked_law, operator_at_again, operator_at_ok, operator_front, stops_at, stops_end, stops_last}
 pub use Rattle.sdl_read.proofs.PartLaws.{enclosed_law, end_other, in_parentheses_law, maybe_enclosed, name_begins, name_front, name_last, name_law, nameless, no_name, number_law, sig_law, whole}
 pub use Rattle.sdl_read.proofs.SignalLaws.{BeginsOne, Choice, as_choice, begins_seen, begins_unnamed, begins_unseen, has_mark, have_mark, maybe_choice, maybe_mark, one_choice, one_front, or_choice, or_left, or_right, or_rules, others_unseen, record_law, seen_begins, signal_law, signal_list_law, signal_set_law, sigs_law, sort_law, sorts_law}
-pub use Rattle.sdl_read.proofs.Steps.{IsRest, StandsAt, bind_is, first_word, if_false, if_true, no_words, none_as, not_read, not_refused, read_as, rest_here, same_value, sees_again, sees_at, sees_front, sees_last, sees_ok, sees_other, some_as, true_or_false}
+pub use Rattle.sdl_read.proofs.Steps.{IsRest, StandsAt, bind_is, first_word, if_false, if_true, none_as, not_read, not_refused, read_as, rest_here, same_value, sees_again, sees_at, sees_front, sees_last, sees_ok, sees_other, some_as, true_or_false}

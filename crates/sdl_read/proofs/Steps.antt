@@ -32,9 +32,6 @@ rest_here i = ([], refl)
 pub rest_on : (i m j : Words) → IsRest i m → IsRest m j → IsRest i j
 rest_on i m j a b = (a.0 ++ b.0, a.1 ∙ ap (λ k. a.0 ++ k) b.1 ∙ sym (append_assoc a.0 b.0 j))
 
-pub no_words : {w : Word} {j : Words} → ◌≡◌ {A = Words} [] (w ∷ j) → ⊥
-no_words e = cc
-
 pub true_or_false : (b : Bool) → (b ≡ true) ⊎ (b ≡ false)
 true_or_false true = inl refl
 true_or_false false = inr refl
