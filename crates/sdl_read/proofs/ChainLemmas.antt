@@ -1,9 +1,8 @@
 -- What the view makes of a chain.
-use Rattle.std.proofs.Common.{◌≡◌, ◌<◌, List, [], ◌∷◌, length, map, refl, ◌∙◌, Vec, Global, arith}
 use Rattle.sdl_tree.specs.declared.expressions.Chain.{roll-Chain}
 use Rattle.sdl_tree.specs.declared.expressions.Expression.{Expression}
 use Rattle.sdl_tree.specs.declared.expressions.Link.{Link}
-use Rattle.sdl_read.proofs.Grammar.{Expr, Chain, links_of, expr_value, chain_value, link_value, chain_with}
+use Rattle.sdl_read.proofs.Grammar.{Expr, Chain, links_of, expr_value, chain_value, link_value, chain_with, ◌≡◌, ◌<◌, List, [], ◌∷◌, length, map, refl, ◌∙◌, Vec, Global, arith}
 use Rattle.sdl_tree.proofs.ViewLemmas.{chained_value}
 
 pub alone : (e : Expr) (links : List Link) → length links ≡ 0 → chain_with e (map link_value links) ≡ e

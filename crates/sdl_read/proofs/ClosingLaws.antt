@@ -1,14 +1,12 @@
 -- The laws of what is followed by words that the node drops: ends, and what closes a construct.
-use Rattle.std.proofs.Common.{◌≡◌, ℕ, ◌⊎◌, inl, inr, Bool, true, false, true≢false, if◌then◌else◌, List, [], ◌∷◌, map, Option, Ok, Err, refl, sym, ap, ◌∙◌, subst}
 use Rattle.std.specs.Str.{bytes_eq}
 use Rattle.std.proofs.lemmas.Slice.Eq.{bytes_eq-Decides}
-use Rattle.sdl_read.proofs.Grammar.{Mark, Spelling, AreAlike, Both, Behind, Followed, SpellsEnd, Ended, SpellsEndName, SpellsClosing, Words, Spot, Fixed, followed_by, followed, ended, end_name, closing_by, closing, closed, Repeated, repeated, Parser, Outcome, Refused, pure, front, rest, sees, sees_name}
+use Rattle.sdl_read.proofs.Grammar.{Mark, Spelling, AreAlike, Both, Behind, Followed, SpellsEnd, Ended, SpellsEndName, SpellsClosing, Words, Spot, Fixed, followed_by, followed, ended, end_name, closing_by, closing, closed, Repeated, repeated, Parser, Outcome, Refused, pure, front, rest, sees, sees_name, ◌≡◌, ℕ, ◌⊎◌, inl, inr, Bool, true, false, true≢false, if◌then◌else◌, List, [], ◌∷◌, map, Option, Ok, Err, refl, sym, ap, ◌∙◌, subst}
 use Rattle.sdl_tree.specs.declared.mark.Mark.TheVariants as mark
 use Rattle.sdl_tree.specs.Words as word
-use Rattle.sdl_read.proofs.Laws.{Form, Gives, Law, MaybeLaw, Anywhere, GoodAfter, Made, Tied, as_law, same_law, stops_law, nothing_law, tied_law, both_law, behind_law, first_alone, formed_law, made_law, either_law}
+use Rattle.sdl_read.proofs.Laws.{Form, Gives, Law, MaybeLaw, Anywhere, GoodAfter, Made, Tied, as_law, same_law, stops_law, nothing_law, tied_law, both_law, behind_law, first_alone, formed_law, made_law, either_law, read_as, rest_here, if_true, sees_front, sees_at, swapped, alike_name, alike_from}
 use Rattle.sdl_read.proofs.ListLaws.{repeated_law}
 use Rattle.sdl_read.proofs.PartLaws.{name_front, no_name, end_law, end_begins, whole}
-use Rattle.sdl_read.proofs.Steps.{read_as, rest_here, if_true, sees_front, sees_at, swapped, alike_name, alike_from}
 
 -- ---- x and words that the node drops
 

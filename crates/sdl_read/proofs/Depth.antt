@@ -1,8 +1,7 @@
 -- Where a reading finds one too many inside each other: what is passed can go on, and the word there goes on only with
 -- one more.
-use Rattle.std.proofs.Common.{◌≡◌, ◌⊎◌, inl, inr, [], ◌∷◌, ◌++◌, refl, sym, ap, ◌∙◌, subst, append_assoc, append-nil}
 use Rattle.sdl_tree.specs.declared.mark.Mark.TheVariants as mark
-use Rattle.sdl_read.proofs.Grammar.{Spelling, Word, Words, Fixed, IsOpening, front, behind}
+use Rattle.sdl_read.proofs.Grammar.{Spelling, Word, Words, Fixed, IsOpening, front, behind, ◌≡◌, ◌⊎◌, inl, inr, [], ◌∷◌, ◌++◌, refl, sym, ap, ◌∙◌, subst, append_assoc, append-nil}
 use Rattle.sdl_read.proofs.Steps.{IsRest}
 
 -- the same stands next

@@ -1,16 +1,13 @@
 -- The laws of expressions.
-use Rattle.std.proofs.Common.{◌≡◌, ℕ, zero, suc, ◌⊎◌, inl, inr, Bool, true, false, is_some, if◌then◌else◌, List, [], ◌∷◌, map, Ok, Err, refl, sym, ap, ◌∙◌, subst, arith}
-use Rattle.sdl_read.proofs.Grammar.{KeywordValue, UnaryOperator, Spelling, plain, erased_word, erased_name, erased_expr, erased_exprs, erased_links, looseness, loosest, operator_mark, value_mark, unary_mark, SpellsPrimary, SpellsUnary, SpellsLink, SpellsChain, SpellsAt, SpellsInner, SpellsExpr, SpellsTimer, IsMark, Both, Behind, Before, Repeated, Enclosed, InParentheses, SpellsName, SpellsNumber, Expr, Numeral, Named, Keyword, Active, Paren, Unary, Chain, Exprs, NoExpr, AndExpr, exprs_in, Link, Links, NoLink, AndLink, links_in, exprs_of, links_of, Number, Words, Spot, Fixed, Parser, Outcome, Refused, Deep, too_deep, refuse, ◌⊗◌, and_then, made, either, is_number, front, rest, mark_at, sees, same_mark, sees_name, sees_number, expect, in_parentheses, by_mark, value_of, operator_at, value_at, unary_at, unary_of, marked, Readers, readers, keyword_with, paren_with, active_with, unary_with, link_with, chain_with, sees_value, sees_unary, sees_operator, primary, signed, link, chain, level, expr, paren_of, active_of, deep_active, no_args}
+use Rattle.sdl_read.proofs.Grammar.{KeywordValue, UnaryOperator, Spelling, plain, erased_word, erased_name, erased_expr, erased_exprs, erased_links, looseness, loosest, operator_mark, value_mark, unary_mark, SpellsPrimary, SpellsUnary, SpellsLink, SpellsChain, SpellsAt, SpellsInner, SpellsExpr, SpellsTimer, IsMark, Both, Behind, Before, Repeated, Enclosed, InParentheses, SpellsName, SpellsNumber, Expr, Numeral, Named, Keyword, Active, Paren, Unary, Chain, Exprs, NoExpr, AndExpr, exprs_in, Link, Links, NoLink, AndLink, links_in, exprs_of, links_of, Number, Words, Spot, Fixed, Parser, Outcome, Refused, Deep, too_deep, refuse, ◌⊗◌, and_then, made, either, is_number, front, rest, mark_at, sees, same_mark, sees_name, sees_number, expect, in_parentheses, by_mark, value_of, operator_at, value_at, unary_at, unary_of, marked, Readers, readers, keyword_with, paren_with, active_with, unary_with, link_with, chain_with, sees_value, sees_unary, sees_operator, primary, signed, link, chain, level, expr, paren_of, active_of, deep_active, no_args, ◌≡◌, ℕ, zero, suc, ◌⊎◌, inl, inr, Bool, true, false, is_some, if◌then◌else◌, List, [], ◌∷◌, map, Ok, Err, refl, sym, ap, ◌∙◌, subst, arith}
 use Rattle.sdl_tree.specs.declared.expressions.KeywordValue.TheVariants as value
 use Rattle.sdl_tree.specs.declared.expressions.UnaryOperator.TheVariants as unary
 use Rattle.sdl_tree.specs.declared.mark.Mark.TheVariants as mark
 use Rattle.sdl_tree.specs.Words as word
-use Rattle.sdl_read.proofs.Depth.{no_deeper, closed}
-use Rattle.sdl_read.proofs.Laws.{Form, Never, Gives, Rules, Law, MaybeLaw, Anywhere, Made, still, as_law, stops_law, never_rules, refuse_rules, nothing_law, mark_law, same_rules, shut, shut_first, shut_rules, both_rules, both_law, then_law, behind_law, before_law, formed_rules, formed_law, made_law, made_as, Or, either_as, either_rules, first_law, either_law, maybe_law}
+use Rattle.sdl_read.proofs.Laws.{Form, Never, Gives, Rules, Law, MaybeLaw, Anywhere, Made, still, as_law, stops_law, never_rules, refuse_rules, nothing_law, mark_law, same_rules, shut, shut_first, shut_rules, both_rules, both_law, then_law, behind_law, before_law, formed_rules, formed_law, made_law, made_as, Or, either_as, either_rules, first_law, either_law, maybe_law, sees_front, sees_ok, sees_at, sees_other, swapped, no_deeper, closed}
 use Rattle.sdl_read.proofs.ListLaws.{repeated_law, repeated_begins, separated_begins}
 use Rattle.sdl_read.proofs.OperatorLaws.{value_at_again, unary_at_again, operator_at_ok, operator_at_again, Stops, operator_none, operator_front, operator_end, same_mark_at, stops_at, stops_last, stops_before, stops_below, IsMarked, marked_rules, marked_law}
 use Rattle.sdl_read.proofs.PartLaws.{nameless, name_begins, name_front, name_law, number_law, in_parentheses_law, opens_list, listed_to, listed_from}
-use Rattle.sdl_read.proofs.Steps.{sees_front, sees_ok, sees_at, sees_other, swapped}
 
 abbrev pub erased_link : Link → Link
 erased_link l = record { operator = l.operator; word = erased_word l.word; operand = erased_expr l.operand }

@@ -1,4 +1,5 @@
 -- The words of the grammar and of its reading, for the proofs.
+pub use Rattle.std.proofs.Common.{Bool, Err, Global, List, None, Ok, Option, Some, Vec, ℕ, [], ap, append-nil, append_assoc, arith, false, if◌then◌else◌, inl, inr, is_some, length, length-append, map, option_map, pos, refl, subst, suc, sym, true, true≢false, zero, ◌++◌, ◌+◌, ◌-◌, ◌<◌, ◌==◌, ◌||◌, ◌∙◌, ◌∷◌, ◌≡◌, ◌≤◌, ◌⊎◌}
 pub use Rattle.sdl_read.specs.Expressions.{Readers, active_with, by_mark, chain, chain_with, expr, keyword_with, link_with, marked, no_args, of_level, operator_of, paren_with, sees_operator, sees_unary, sees_value, unary_of, unary_with, value_of}
 unfoldable pub use Rattle.sdl_read.specs.Expressions.{active_of, deep_active, level, link, operator_at, paren_of, primary, readers, signed, unary_at, value_at}
 pub use Rattle.sdl_read.specs.Parts.{closed, closing_by, ended, followed, followed_by, sees_one, signal_list_with, signal_set_with, signal_with, tied}

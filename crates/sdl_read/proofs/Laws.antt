@@ -1,8 +1,7 @@
 -- The laws of a reading, and of the ways in which readings are put together.
-use Rattle.std.proofs.Common.{◌≡◌, ◌⊎◌, inl, inr, Bool, true, false, true≢false, if◌then◌else◌, [], ◌∷◌, ◌++◌, Option, Some, None, option_map, Ok, Err, refl, sym, ap, ◌∙◌, subst, append_assoc}
-use Rattle.sdl_read.proofs.Grammar.{AreAlike, Mark, Spelling, IsOpening, plain, erased_word, IsBarred, IsMark, Both, Behind, Before, Optional, Words, Fixed, tied, Parser, Refusal, Refused, Deep, Barred, Outcome, and_then, pure, too_deep, refuse, expect, same_mark, sees, front, rest, ◌⊗◌, behind, before, made, either, maybe}
-use Rattle.sdl_read.proofs.Depth.{SameFront, HasOne, TooMany, same_behind, deep_rest, within, onward, closed}
-use Rattle.sdl_read.proofs.Steps.{read_as, IsRest, rest_here, rest_on, StandsAt, stands_on, as_read, bind_is, if_true, if_false, sees_ok, same_mark_ok, expect_again, alike_fixed, alike_from}
+use Rattle.sdl_read.proofs.Grammar.{AreAlike, Mark, Spelling, IsOpening, plain, erased_word, IsBarred, IsMark, Both, Behind, Before, Optional, Words, Fixed, tied, Parser, Refusal, Refused, Deep, Barred, Outcome, and_then, pure, too_deep, refuse, expect, same_mark, sees, front, rest, ◌⊗◌, behind, before, made, either, maybe, ◌≡◌, ◌⊎◌, inl, inr, Bool, true, false, true≢false, if◌then◌else◌, [], ◌∷◌, ◌++◌, Option, Some, None, option_map, Ok, Err, refl, sym, ap, ◌∙◌, subst, append_assoc}
+pub use Rattle.sdl_read.proofs.Depth.{HasOne, SameFront, TooMany, closed, deep_rest, front_behind, no_deeper, onward, passed_front, renamed, same_behind, within}
+pub use Rattle.sdl_read.proofs.Steps.{IsRest, StandsAt, alike_fixed, alike_from, alike_name, alike_number, alike_text, as_read, bind_is, chosen, expect_again, first_word, if_false, if_true, none_as, not_read, not_refused, not_some, read_as, rest_here, rest_on, same_mark_ok, same_rest, same_value, sees_at, sees_front, sees_last, sees_ok, sees_other, some_as, stands_on, swapped, true_or_false}
 
 -- how words, up to a rest, spell a node
 abbrev pub Form : Type 0 → Type 1

@@ -1,7 +1,6 @@
 -- The levels of expressions, where the code counts down to the one below.
-use Rattle.std.proofs.Common.{◌≡◌, ℕ, suc, ◌-◌, ◌≤◌, ◌<◌, Err, sym, ap, ◌∙◌, arith}
 use Rattle.std.proofs.lemmas.Grind.{common_steps}
-use Rattle.sdl_read.proofs.Grammar.{Words, Deep, in_parentheses, Readers, readers, level, primary, signed, chain, paren_of, active_of, deep_active, no_args, expr}
+use Rattle.sdl_read.proofs.Grammar.{Words, Deep, in_parentheses, Readers, readers, level, primary, signed, chain, paren_of, active_of, deep_active, no_args, expr, ◌≡◌, ℕ, suc, ◌-◌, ◌≤◌, ◌<◌, Err, sym, ap, ◌∙◌, arith}
 
 pub level_zero : (r : Readers) (k : ℕ) (i : Words) → k ≡ 0 → level r k i ≡ primary r i
 unfolding level

@@ -1,10 +1,7 @@
 -- The laws of lists, for any item: items up to one that is the last, if such a one stands there; `{x}`; `x {"," x}`.
-use Rattle.std.proofs.Common.{◌≡◌, ℕ, zero, suc, ◌+◌, ◌<◌, ◌≤◌, ◌⊎◌, inl, inr, Bool, true, false, if◌then◌else◌, List, [], ◌∷◌, ◌++◌, length, map, Option, Some, None, option_map, Ok, Err, true≢false, refl, sym, ap, ◌∙◌, subst, arith, append_assoc, append-nil, length-append}
-use Rattle.sdl_read.proofs.Grammar.{AreAlike, Spelling, Both, Behind, Optional, Separated, Repeated, Word, Words, Fixed, Parser, Outcome, Deep, front, rest, and_then, same_mark, sees, behind, before, made, maybe, separated, repeated_by, repeated_from, repeated, another}
+use Rattle.sdl_read.proofs.Grammar.{AreAlike, Spelling, Both, Behind, Optional, Separated, Repeated, Word, Words, Fixed, Parser, Outcome, Deep, front, rest, and_then, same_mark, sees, behind, before, made, maybe, separated, repeated_by, repeated_from, repeated, another, ◌≡◌, ℕ, zero, suc, ◌+◌, ◌<◌, ◌≤◌, ◌⊎◌, inl, inr, Bool, true, false, if◌then◌else◌, List, [], ◌∷◌, ◌++◌, length, map, Option, Some, None, option_map, Ok, Err, true≢false, refl, sym, ap, ◌∙◌, subst, arith, append_assoc, append-nil, length-append}
 use Rattle.sdl_tree.specs.declared.mark.Mark.TheVariants as mark
-use Rattle.sdl_read.proofs.Depth.{SameFront, TooMany, passed_front, front_behind, renamed, onward}
-use Rattle.sdl_read.proofs.Laws.{Form, GoodAfter, IsRead, Told, Gives, Rules, Law, MaybeLaw, Made, was_read, sound, spelled_again, later, same_law, both_law, behind_law, made_rules, made_complete, formed_law, steps_in, steps_if, unchanged, maybe_law, passes, some_read}
-use Rattle.sdl_read.proofs.Steps.{read_as, none_as, some_as, same_value, same_rest, not_read, not_refused, not_some, bind_is, sees_ok, sees_at, sees_front, sees_last, alike_from, first_word}
+use Rattle.sdl_read.proofs.Laws.{Form, GoodAfter, IsRead, Told, Gives, Rules, Law, MaybeLaw, Made, was_read, sound, spelled_again, later, same_law, both_law, behind_law, made_rules, made_complete, formed_law, steps_in, steps_if, unchanged, maybe_law, passes, some_read, read_as, none_as, some_as, same_value, same_rest, not_read, not_refused, not_some, bind_is, sees_ok, sees_at, sees_front, sees_last, alike_from, first_word, SameFront, TooMany, passed_front, front_behind, renamed, onward}
 
 split : (a b c d : Words) → a ++ b ≡ c ++ d
     → ((w : Words) × (c ≡ a ++ w) × (b ≡ w ++ d)) ⊎ ((v : Word) × (w : Words) × (a ≡ c ++ v ∷ w) × (d ≡ v ∷ (w ++ b)))

@@ -1,15 +1,12 @@
 -- Operators and keyword operands, and their marks.
-use Rattle.std.proofs.Common.{◌≡◌, ℕ, ◌<◌, ◌≤◌, ◌==◌, inl, inr, true, false, is_some, [], ◌∷◌, Option, Some, None, Ok, Err, refl, sym, ap, ◌∙◌, arith}
 use Rattle.std.proofs.lemmas.Bool.Decides.{nat_tests}
-use Rattle.sdl_read.proofs.Grammar.{KeywordValue, UnaryOperator, Operator, Mark, Spelling, erased_word, plain, looseness, operator_mark, value_mark, unary_mark, IsMark, SpellsEnd, Words, Fixed, Outcome, Refused, and_then, on, mark_by, front, mark_at, expect, operator_of, by_mark, of_level, operator_at, value_at, unary_at, marked, sees_operator}
+use Rattle.sdl_read.proofs.Grammar.{KeywordValue, UnaryOperator, Operator, Mark, Spelling, erased_word, plain, looseness, operator_mark, value_mark, unary_mark, IsMark, SpellsEnd, Words, Fixed, Outcome, Refused, and_then, on, mark_by, front, mark_at, expect, operator_of, by_mark, of_level, operator_at, value_at, unary_at, marked, sees_operator, ◌≡◌, ℕ, ◌<◌, ◌≤◌, ◌==◌, inl, inr, true, false, is_some, [], ◌∷◌, Option, Some, None, Ok, Err, refl, sym, ap, ◌∙◌, arith}
 use Rattle.sdl_tree.specs.declared.expressions.KeywordValue.TheVariants as value
 use Rattle.sdl_tree.specs.declared.expressions.UnaryOperator.TheVariants as unary
 use Rattle.sdl_tree.specs.declared.expressions.Operator.TheVariants as operator
 use Rattle.sdl_tree.specs.declared.mark.Mark.TheVariants as mark
-use Rattle.sdl_read.proofs.Depth.{SameFront, no_deeper}
-use Rattle.sdl_read.proofs.Laws.{Form, Gives, Rules, Law, Anywhere, still, mark_law}
+use Rattle.sdl_read.proofs.Laws.{Form, Gives, Rules, Law, Anywhere, still, mark_law, read_as, rest_here, bind_is, chosen, if_true, if_false, expect_again, alike_fixed, alike_from, SameFront, no_deeper}
 use Rattle.sdl_read.proofs.PartLaws.{end_begins}
-use Rattle.sdl_read.proofs.Steps.{read_as, rest_here, bind_is, chosen, if_true, if_false, expect_again, alike_fixed, alike_from}
 
 pub operator_of_again : (o : Operator) → operator_of (operator_mark o) ≡ Some o
 operator_of_again operator.Implies = refl

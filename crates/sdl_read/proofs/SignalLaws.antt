@@ -1,13 +1,10 @@
 -- The laws of more ways to put readings together, of what closes a construct, and of signals.
-use Rattle.std.proofs.Common.{◌≡◌, ◌⊎◌, inl, inr, Bool, true, false, ◌||◌, List, [], ◌∷◌, map, refl, sym, ap, ◌∙◌, subst, true≢false}
-use Rattle.sdl_read.proofs.Grammar.{Mark, erased_sort, erased_item, erased_signal, erased_signal_list, erased_signal_set, SpellsSignalName, SpellsSignal, SpellsSignalList, SpellsSignalSet, InParentheses, Begins, SpellsName, Ended, SpellsSigs, sort_of, Words, Parser, made, either, maybe, front, rest, sees, sees_name, same_mark, name, separated, in_parentheses, ended, sees_one, signal_with, signal_name, signal, sig, signal_list_with, signal_list, signal_set_with, signal_set}
+use Rattle.sdl_read.proofs.Grammar.{Mark, erased_sort, erased_item, erased_signal, erased_signal_list, erased_signal_set, SpellsSignalName, SpellsSignal, SpellsSignalList, SpellsSignalSet, InParentheses, Begins, SpellsName, Ended, SpellsSigs, sort_of, Words, Parser, made, either, maybe, front, rest, sees, sees_name, same_mark, name, separated, in_parentheses, ended, sees_one, signal_with, signal_name, signal, sig, signal_list_with, signal_list, signal_set_with, signal_set, ◌≡◌, ◌⊎◌, inl, inr, Bool, true, false, ◌||◌, List, [], ◌∷◌, map, refl, sym, ap, ◌∙◌, subst, true≢false}
 use Rattle.sdl_tree.specs.declared.mark.Mark.TheVariants as mark
-use Rattle.sdl_read.proofs.Depth.{SameFront}
-use Rattle.sdl_read.proofs.Laws.{Form, Rules, Law, MaybeLaw, Anywhere, Or, either_as, as_law, mark_law, behind_law, formed_law, first_law, maybe_law, then_law}
+use Rattle.sdl_read.proofs.Laws.{Form, Rules, Law, MaybeLaw, Anywhere, Or, either_as, as_law, mark_law, behind_law, formed_law, first_law, maybe_law, then_law, true_or_false, sees_last, sees_ok, sees_at, sees_front, SameFront}
 use Rattle.sdl_read.proofs.ListLaws.{separated_law}
 use Rattle.sdl_read.proofs.PartLaws.{name_as, name_law, in_parentheses_law, sig_law}
 use Rattle.sdl_read.proofs.ClosingLaws.{ended_at_law}
-use Rattle.sdl_read.proofs.Steps.{true_or_false, sees_last, sees_ok, sees_at, sees_front}
 
 -- ---- nodes that are records
 

@@ -1,8 +1,7 @@
 -- What the steps of a reading say, and the tools of which the laws are made.
-use Rattle.std.proofs.Common.{◌≡◌, ◌⊎◌, inl, inr, Bool, true, false, if◌then◌else◌, [], ◌∷◌, ◌++◌, Option, Some, None, Ok, Err, refl, sym, ap, ◌∙◌, subst, true≢false, append_assoc}
 use denote.Enum.Bare.{same_true, true_same}
 use Rattle.sdl_tree.specs.contracts.mark.Mark.{the_type}
-use Rattle.sdl_read.proofs.Grammar.{Mark, Spelling, AreAlike, IsBarred, Word, Words, Spot, Fixed, Parser, Outcome, Refusal, Refused, Deep, Barred, and_then, is_fixed, front, rest, sees, same_mark, expect}
+use Rattle.sdl_read.proofs.Grammar.{Mark, Spelling, AreAlike, IsBarred, Word, Words, Spot, Fixed, Parser, Outcome, Refusal, Refused, Deep, Barred, and_then, is_fixed, front, rest, sees, same_mark, expect, ◌≡◌, ◌⊎◌, inl, inr, Bool, true, false, if◌then◌else◌, [], ◌∷◌, ◌++◌, Option, Some, None, Ok, Err, refl, sym, ap, ◌∙◌, subst, true≢false, append_assoc}
 use Rattle.sdl_tree.specs.Tree as plain
 use Rattle.sdl_tree.specs.Words as word
 

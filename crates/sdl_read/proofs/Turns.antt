@@ -1,7 +1,6 @@
 -- A recursion on a count of turns, beside a loop that counts up.
-use Rattle.std.proofs.Common.{◌≡◌, ℕ, suc, ◌+◌, ◌-◌, ◌<◌, ◌≤◌, List, [], ◌∷◌, ◌++◌, map, Option, Ok, ap, refl, arith}
 use Rattle.std.proofs.lemmas.Grind.{common_steps}
-use Rattle.sdl_read.proofs.Grammar.{Parser, Words, repeated_from}
+use Rattle.sdl_read.proofs.Grammar.{Parser, Words, repeated_from, ◌≡◌, ℕ, suc, ◌+◌, ◌-◌, ◌<◌, ◌≤◌, List, [], ◌∷◌, ◌++◌, map, Option, Ok, ap, refl, arith}
 
 pub map_push : {A B : Type 0} (f : A → B) (xs : List A) (x : A) → map f (xs ++ x ∷ []) ≡ map f xs ++ f x ∷ []
 map_push f [] x = refl
