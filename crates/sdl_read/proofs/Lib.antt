@@ -1,16 +1,13 @@
 pub mod AllLaws
-pub mod ChainLemmas
 pub mod ClosingLaws
 pub mod Depth
 pub mod ExpressionLaws
 pub mod Grammar
 pub mod Laws
-pub mod LevelLemmas
 pub mod ListLaws
 pub mod OperatorLaws
 pub mod PartLaws
 pub mod SignalLaws
 pub mod Steps
-pub mod TokenLemmas
-pub mod Turns
+pub mod TurnLemmas
 pub mod WordLemmas

@@ -55,7 +55,7 @@ pub fn expression(
 
 /// An expression whose operators have at most the looseness of the place.
 #[cycle(nesting)]
-#[tactic(auto, using(crate::proofs::LevelLemmas::level_zero, crate::proofs::LevelLemmas::level_one, crate::proofs::LevelLemmas::level_up))]
+#[tactic(auto, using(crate::proofs::TurnLemmas::level_zero, crate::proofs::TurnLemmas::level_one, crate::proofs::TurnLemmas::level_up))]
 pub fn level(alloc: Global, cursor: &mut Cursor<'_, '_>, at: At) -> Result<Expression, Fault>
     requires shallow { at.depth ≤ 64 }
     requires loosest { at.loose ≤ 7 }
@@ -98,7 +98,7 @@ pub fn link(alloc: Global, cursor: &mut Cursor<'_, '_>, at: At) -> Result<Option
 }
 
 /// Operands with the operators between them, or one operand alone.
-#[tactic(auto, using(crate::proofs::ChainLemmas::alone, crate::proofs::ChainLemmas::chained))]
+#[tactic(auto, using(crate::proofs::TurnLemmas::alone, crate::proofs::TurnLemmas::chained))]
 fn chain(alloc: Global, first: Expression, rest: Vec<Link>) -> Result<Expression, AllocError>
     ensures { IfOk result (λ e. expr_value e ≡ spec.chain_with (expr_value first) (map link_value rest.items)) }
 {
@@ -156,7 +156,7 @@ fn primary(alloc: Global, cursor: &mut Cursor<'_, '_>, depth: usize) -> Result<E
 
 /// `"(" expr ")"`, where as many parentheses may stand inside each other.
 #[cycle(nesting)]
-#[tactic(auto, using(crate::proofs::LevelLemmas::nesting))]
+#[tactic(auto, using(crate::proofs::TurnLemmas::nesting))]
 fn parenthesized(
     alloc: Global,
     cursor: &mut Cursor<'_, '_>,
@@ -194,7 +194,7 @@ fn between_parentheses(
 
 /// `"active" "(" NAME [args] ")"`, where as many parentheses may stand inside each other.
 #[cycle(nesting)]
-#[tactic(auto, using(crate::proofs::LevelLemmas::nesting))]
+#[tactic(auto, using(crate::proofs::TurnLemmas::nesting))]
 fn active(alloc: Global, cursor: &mut Cursor<'_, '_>, depth: usize) -> Result<Expression, Fault>
     requires { depth ≤ 64 }
     ensures { Reads expr_value ((spec.readers depth).active cursor.old) result cursor.new }
@@ -250,7 +250,7 @@ fn active_with(word: Spelling, timer: Name, values: Vec<Expression>) -> Expressi
 
 /// `[args]` inside `active`, where the parentheses count.
 #[cycle(nesting)]
-#[tactic(auto, using(crate::proofs::LevelLemmas::nesting))]
+#[tactic(auto, using(crate::proofs::TurnLemmas::nesting))]
 fn inner_arguments(
     alloc: Global,
     cursor: &mut Cursor<'_, '_>,

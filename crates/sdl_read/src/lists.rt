@@ -59,7 +59,7 @@ pub trait Perhaps<P> {
 }
 
 /// `x {"," x}`
-#[tactic(auto, unfolding(crate::specs::Reading::repeated_from), using(crate::proofs::Turns::turning))]
+#[tactic(auto, unfolding(crate::specs::Reading::repeated_from), using(crate::proofs::TurnLemmas::turning))]
 pub fn separated<
     P: Drop,
     A: Production<P> + Copy,
@@ -81,7 +81,7 @@ pub fn separated<
 }
 
 /// `{x}`
-#[tactic(auto, unfolding(crate::specs::Reading::repeated_from), using(crate::proofs::Turns::turning))]
+#[tactic(auto, unfolding(crate::specs::Reading::repeated_from), using(crate::proofs::TurnLemmas::turning))]
 pub fn repeated<
     P: Drop,
     A: Perhaps<P> + Copy,

@@ -84,6 +84,7 @@ fn placed<'t>(text: &'t [u8], token: Token, place: Place) -> PlacedWord<'t>
 }
 
 /// The bytes of a word, a number or a mark as text.
+#[tactic(auto, using(crate::proofs::WordLemmas::ascii))]
 fn spelled(bytes: &[u8]) -> &str
     requires { IsAscii bytes.now }
     ensures { result.now ≡ bytes.now }
@@ -95,6 +96,7 @@ fn spelled(bytes: &[u8]) -> &str
 }
 
 /// The place of the offset `to`, from the place of an offset before it.
+#[tactic(auto, using(crate::proofs::WordLemmas::counting))]
 fn moved(text: &[u8], from: usize, place: Place, to: usize) -> Place
     requires forward { from ≤ to }
     requires within { to ≤ length text.now }

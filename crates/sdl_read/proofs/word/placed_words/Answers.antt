@@ -1,7 +1,6 @@
 use Rattle.std.proofs.Common.{arith, ◌<◌, ◌≤◌, length}
 use Rattle.sdl_read.proofs.Grammar.{words_of}
-use Rattle.sdl_read.proofs.WordLemmas.{read_on, slices_after}
-use Rattle.sdl_read.proofs.TokenLemmas.{opened}
+use Rattle.sdl_read.proofs.WordLemmas.{opened, read_on, slices_after}
 use Rattle.sdl_read.proofs.word.placed_words.Goals as goal
 
 pub moved-place-requires-clause-within : goal.moved-place-requires-clause-within
