@@ -1,10 +1,10 @@
 -- The laws of a state and of a connection, which stand in the body of a process.
-use Rattle.sdl_behaviour.proofs.Words.{As, BeginsOne, BodyPart, Both, Choice, Fixed, FreeAction, InParentheses, IsMark, Law, List, Made, Mark, MaybeLaw, Separated, Spelling, SpellsBodyPart, SpellsEndConnection, SpellsEndState, SpellsEndStateName, SpellsName, SpellsStates, Spot, StateAll, StateList, StatePart, States, Stimulus, Transition, Words, [], action_marks, ap, as_choice, as_law, before_law, begins_action, begins_statement, begins_terminator, begins_unseen, behind_law, closed_law, drops_law, either, either_as, either_law, end_name_law, end_other, ended_law, erased_body_part, erased_name, erased_states, erased_stimulus, erased_transition, false, front, has_mark, have_mark, in_parentheses_law, inl, inr, made_as, made_law, map, mark_law, maybe_choice, name_law, named_law, nowhere_law, one_choice, or_choice, others_unseen, read_as, refl, rest, same_mark, seen_begins, sees, sees_at, sees_front, sees_name, separated_begins, separated_law, stops_law, suc, sym, terminator_marks, then_law, true, true≢false, whole, ℕ, ◌∙◌, ◌∷◌, ◌≡◌, ◌⊎◌}
+use Rattle.sdl_behaviour.proofs.Words.{As, BeginsOne, BodyPart, Both, Choice, Fixed, FreeAction, InParentheses, IsMark, Law, List, Made, Mark, MaybeLaw, Separated, Spelling, SpellsBodyPart, SpellsEndConnection, SpellsEndState, SpellsEndStateName, SpellsName, SpellsStates, Spot, StateAll, StateList, StatePart, States, Stimulus, Transition, Words, [], action_marks, ap, as_choice, as_law, before_law, begins_action, begins_statement, begins_terminator, begins_unseen, behind_law, closed_law, drops_law, either, either_as, either_law, end_name_law, end_other, ended_law, erased_body_part, erased_name, erased_states, erased_stimulus, erased_transition, false, front, has_mark, have_mark, in_parentheses_law, inl, inr, made_as, made_law, map, mark_law, maybe_choice, name_law, named_law, nowhere_law, one_choice, or_choice, others_unseen, refl, same_mark, seen_begins, sees, sees_at, sees_front, sees_name, separated_begins, separated_law, stops_law, suc, sym, terminator_marks, then_law, true, whole, ℕ, ◌∙◌, ◌∷◌, ◌≡◌, ◌⊎◌}
 use Rattle.std.specs.List.{Contains}
 use Rattle.std.specs.Str.{bytes_eq}
 use Rattle.std.proofs.lemmas.List.Folds.{Any-from_list_any, list_any-from_Any}
 use Rattle.std.proofs.lemmas.Slice.Eq.{bytes_eq-Decides}
-use Rattle.sdl_behaviour.specs.States.{all_with, states, is_named, one_of, end_state_name, end_state, state_with, state_part, free_with, connection, begins_body_part, body_part, end_connection, body_part_marks}
+use Rattle.sdl_behaviour.specs.States.{all_with, states, is_named, end_state_name, end_state, state_with, state_part, free_with, connection, begins_body_part, body_part, end_connection, body_part_marks}
 use Rattle.sdl_behaviour.specs.Stimuli.{begins_stimulus, stimulus_marks}
 use Rattle.sdl_read.proofs.AllLaws.{Named}
 use Rattle.sdl_behaviour.proofs.EndingLaws.{name_no_mark}
@@ -43,12 +43,6 @@ named_among xs t e = let a = Any-from_list_any (λ (y : Spot). bytes_eq y.text t
 among_named : (xs : List Spot) (t : List ℕ) (x : Spot) → Contains xs x → t ≡ x.text → is_named xs t ≡ true
 among_named xs t x c e = list_any-from_Any (λ (y : Spot). bytes_eq y.text t) xs (c.0, x, c.1, c.2, (bytes_eq-Decides x.text t).1 (sym e))
 
-one_elsewhere : (xs : List Spot) (i : Words) → sees_name i ≡ false → one_of xs i ≡ read_as tt i
-unfolding one_of sees_name front
-one_elsewhere xs [] e = refl
-one_elsewhere xs (word.Name y ∷ i) e = absurd (true≢false e)
-one_elsewhere xs (w ∷ i) e = refl
-
 one_to : (xs : List Spot) (i j : Words) → Named (is_named xs) i j → SpellsEndStateName (StateList xs) i j
 one_to xs i j (inl e) = inl e
 one_to xs i j (inr c) = let found = named_among xs c.0.text c.1 in inr (found.0, c.0, found.1, found.2, c.2)
@@ -58,8 +52,7 @@ one_from xs i j (inl e) = inl e
 one_from xs i j (inr c) = inr (c.1, among_named xs c.1.text c.0 c.2 c.3, c.4)
 
 end_state_name_law : (x : States) → Law (end_state_name x) (λ _. SpellsEndStateName x) (λ _. SpellsEndStateName x) (λ j. sees_name j ≡ false) whole
-unfolding one_of front rest
-end_state_name_law (StateList xs) = as_law (λ u. one_to xs) (λ u. one_from xs) (λ u. one_to xs) (named_law (is_named xs) (λ y i. refl) (one_elsewhere xs))
+end_state_name_law (StateList xs) = as_law (λ u. one_to xs) (λ u. one_from xs) (λ u. one_to xs) (named_law (is_named xs))
 end_state_name_law (StateAll asterisk except) = nowhere_law (λ j. sees_name j ≡ false)
 
 -- names are found by their texts

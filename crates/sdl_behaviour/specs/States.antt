@@ -1,17 +1,17 @@
 -- Reading of the start, of states and of connections. A reading is a device of the proofs: what the grammar spells, `sdl_tree` says.
-use Rattle.std.specs.Prelude.{ℕ, Bool, if◌then◌else◌, List, [], ◌∷◌, Option, Some, None, Ok, Err}
+use Rattle.std.specs.Prelude.{ℕ, Bool, List, [], ◌∷◌, Option}
 use Rattle.std.specs.List.{list_any}
 use Rattle.std.specs.Str.{bytes_eq}
 use Rattle.sdl_tree.specs.declared.mark.Mark.{Mark}
 use Rattle.sdl_tree.specs.declared.mark.Mark.TheVariants as mark
 use Rattle.sdl_tree.specs.declared.name.Spelling.{Spelling}
 use Rattle.sdl_tree.specs.Tree.{Transition, Start, Stimulus, States, StateList, StateAll, BodyPart, StatePart, FreeAction}
-use Rattle.sdl_tree.specs.Words.{Word, Words, Spot, Fixed}
+use Rattle.sdl_tree.specs.Words.{Words, Spot}
 use Rattle.sdl_tree.specs.Words as word
 use Rattle.sdl_behaviour.specs.Stimuli.{stimulus}
 use Rattle.sdl_behaviour.specs.Transitions.{trans}
-use Rattle.sdl_read.specs.Parts.{followed_by, ended, end_name, closed, sees_one}
-use Rattle.sdl_read.specs.Reading.{Parser, Refused, pure, ◌⊗◌, behind, before, made, either, maybe, front, rest, sees, expect, name, separated, repeated, in_parentheses}
+use Rattle.sdl_read.specs.Parts.{followed_by, ended, named, end_name, closed, sees_one}
+use Rattle.sdl_read.specs.Reading.{Parser, pure, ◌⊗◌, behind, before, made, either, maybe, sees, expect, name, separated, repeated, in_parentheses}
 
 abbrev pub start_with : Spelling × Transition → Start
 start_with p = record { word = p.0; transition = p.1 }
@@ -32,17 +32,9 @@ states = either (sees mark.Asterisk) (made all_with (expect mark.Asterisk ⊗ in
 abbrev pub is_named : List Spot → List ℕ → Bool
 is_named xs x = list_any (λ y. bytes_eq y.text x) xs
 
-abbrev pub one_of_by : List Spot → Option Word → Parser (Unit {0})
-one_of_by xs None i = Ok (tt, i)
-one_of_by xs (Some (Fixed m s)) i = Ok (tt, i)
-one_of_by xs (Some (word.Name y)) i = if is_named xs y.text then Ok (tt, rest i) else Err (Refused i)
-one_of_by xs (Some (word.Number n y)) i = Ok (tt, i)
-one_of_by xs (Some (word.Text y)) i = Ok (tt, i)
-one_of_by xs (Some (word.LeftOut lower y)) i = Ok (tt, i)
-
 -- [NAME], where a name is one of these
-unfoldable pub one_of : List Spot → Parser (Unit {0})
-one_of xs = λ i. one_of_by xs (front i) i
+abbrev pub one_of : List Spot → Parser (Unit {0})
+one_of xs = named (is_named xs)
 
 -- [NAME] behind `endstate`
 abbrev pub end_state_name : States → Parser (Unit {0})

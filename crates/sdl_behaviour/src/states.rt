@@ -117,7 +117,7 @@ fn end_state_name(alloc: Global, cursor: &mut Cursor<'_, '_>, states: &States) -
 }
 
 /// `[NAME]`, where a name is one of these.
-#[tactic(auto, unfolding(crate::specs::States::one_of), using(crate::proofs::TurnLemmas::any_map))]
+#[tactic(auto, unfolding(sdl_read::specs::Parts::named), using(crate::proofs::TurnLemmas::any_map))]
 fn one_of(alloc: Global, cursor: &mut Cursor<'_, '_>, names: &[Name]) -> Result<(), Fault>
     ensures { Reads (λ _. tt) (spec.one_of (map name_value names.now) cursor.old) result cursor.new }
 {

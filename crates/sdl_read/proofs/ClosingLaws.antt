@@ -1,7 +1,7 @@
 -- The laws of what is followed by words that the node drops: ends, and what closes a construct.
 use Rattle.std.specs.Str.{bytes_eq}
 use Rattle.std.proofs.lemmas.Slice.Eq.{bytes_eq-Decides}
-use Rattle.sdl_read.proofs.Grammar.{Mark, Spelling, AreAlike, Both, Behind, Followed, SpellsEnd, Ended, SpellsEndName, SpellsClosing, Words, Spot, Fixed, followed_by, followed, ended, end_name, closing_by, closing, closed, Repeated, repeated, Parser, Outcome, Refused, pure, front, rest, sees, sees_name, ◌≡◌, ℕ, ◌⊎◌, inl, inr, Bool, true, false, true≢false, if◌then◌else◌, List, [], ◌∷◌, map, Option, Ok, Err, refl, sym, ap, ◌∙◌, subst}
+use Rattle.sdl_read.proofs.Grammar.{Mark, Spelling, AreAlike, Both, Behind, Followed, SpellsEnd, Ended, SpellsEndName, SpellsClosing, Words, Spot, Fixed, followed_by, followed, ended, end_name, closing_by, closing, closed, Repeated, repeated, Parser, Outcome, Refused, pure, front, rest, sees, sees_name, ◌≡◌, ℕ, ◌⊎◌, inl, inr, Bool, true, false, true≢false, if◌then◌else◌, List, [], ◌∷◌, map, Option, Ok, Err, refl, sym, ap, ◌∙◌, subst, named}
 use Rattle.sdl_tree.specs.declared.mark.Mark.TheVariants as mark
 use Rattle.sdl_tree.specs.Words as word
 use Rattle.sdl_read.proofs.Laws.{Form, Gives, Law, MaybeLaw, Anywhere, GoodAfter, Made, Tied, as_law, same_law, stops_law, nothing_law, tied_law, both_law, behind_law, first_alone, formed_law, made_law, either_law, read_as, rest_here, if_true, sees_front, sees_at, swapped, alike_name, alike_from}
@@ -42,48 +42,45 @@ ended_at_law {S = S} a at_semicolon at_comment = ended_law a (end_begins S at_se
 abbrev pub Named : (List ℕ → Bool) → Words → Words → Type 0
 Named good i j = (i ≡ j) ⊎ ((y : Spot) × (good y.text ≡ true) × (i ≡ word.Name y ∷ j))
 
-abbrev pub tried : Bool → Spot → Parser (Unit {0})
-tried b y i = if b then Ok (tt, i) else Err (Refused (word.Name y ∷ i))
-
-module _ {p : Parser (Unit {0})} (good : List ℕ → Bool) (at_name : (y : Spot) (i : Words) → p (word.Name y ∷ i) ≡ tried (good y.text) y i)
-    (elsewhere : (i : Words) → sees_name i ≡ false → p i ≡ read_as tt i) where
+module _ (good : List ℕ → Bool) where
   abbrev Unnamed : Words → Type 0
   Unnamed j = sees_name j ≡ false
 
   abbrev Tries : Words → Outcome (Unit {0}) → Type 0
-  Tries = Gives p (λ _. Named good) (λ _. Named good) Unnamed
+  Tries = Gives (named good) (λ _. Named good) (λ _. Named good) Unnamed
+
+  at_name : (y : Spot) (i : Words) → good y.text ≡ true → named good (word.Name y ∷ i) ≡ read_as tt i
+  unfolding named front rest
+  at_name y i e = if_true (good y.text) (Ok (tt, i)) (Err (Refused (word.Name y ∷ i))) e
+
+  elsewhere : (i : Words) → sees_name i ≡ false → named good i ≡ read_as tt i
+  unfolding named sees_name front
+  elsewhere (word.Name y ∷ i) e = absurd (true≢false e)
+  elsewhere i e = refl
 
   unnamed_after : (j k : Words) → sees_name j ≡ false → GoodAfter Unnamed j k → sees_name k ≡ false
   unnamed_after j k none (inl same) = name_front k j same ∙ none
   unnamed_after j k none (inr t) = t
 
-  named_try : (y : Spot) (i : Words) (b : Bool) → good y.text ≡ b → Tries (word.Name y ∷ i) (tried b y i)
-  named_try y i true e = record {
-    taken = word.Name y ∷ [];
-    at = refl;
-    again = λ k g. at_name y k ∙ if_true (good y.text) (Ok (tt, k)) (Err (Refused (word.Name y ∷ k))) e;
-    spelled = inr (y, e, refl);
-  }
+  named_try : (y : Spot) (i : Words) (b : Bool) → good y.text ≡ b → Tries (word.Name y ∷ i) (if b then Ok (tt, i) else Err (Refused (word.Name y ∷ i)))
+  named_try y i true e = record { taken = word.Name y ∷ []; at = refl; again = λ k g. at_name y k e; spelled = inr (y, e, refl) }
   named_try y i false e = rest_here (word.Name y ∷ i)
 
-  named_tells : (i : Words) → Tries i (p i)
-  unfolding sees_name front
-  named_tells (word.Name y ∷ i) =
-      let G : Outcome (Unit {0}) → Type 0 = λ o. Tries (word.Name y ∷ i) o in subst G (sym (at_name y i)) (named_try y i (good y.text) refl)
-  named_tells i =
-      let G : Outcome (Unit {0}) → Type 0 = λ o. Tries i o in
-      subst G (sym (elsewhere i refl)) (record { taken = []; at = refl; again = λ k g. elsewhere k (unnamed_after i k refl g); spelled = inl refl })
+  named_tells : (i : Words) → Tries i (named good i)
+  unfolding named sees_name front rest
+  named_tells (word.Name y ∷ i) = named_try y i (good y.text) refl
+  named_tells i = record { taken = []; at = refl; again = λ k g. elsewhere k (unnamed_after i k refl g); spelled = inl refl }
 
-  named_complete : (u : Unit {0}) (i j : Words) → Named good i j → Unnamed j → p i ≡ read_as u j
-  named_complete u i j (inl e) t = ap p e ∙ elsewhere j t
-  named_complete u i j (inr c) t = ap p c.2 ∙ at_name c.0 j ∙ if_true (good c.0.text) (Ok (tt, j)) (Err (Refused (word.Name c.0 ∷ j))) c.1
+  named_complete : (u : Unit {0}) (i j : Words) → Named good i j → Unnamed j → named good i ≡ read_as u j
+  named_complete u i j (inl e) t = ap (named good) e ∙ elsewhere j t
+  named_complete u i j (inr c) t = ap (named good) c.2 ∙ at_name c.0 j c.1
 
   named_moves : (u : Unit {0}) (i j k : Words) → Named good i j → AreAlike i k → (v : Unit {0}) × (l : Words) × Named good k l × AreAlike j l × (whole v ≡ whole u)
   named_moves u i j k (inl e) t = (tt, k, inl refl, alike_from i j k e t, refl)
   named_moves u i j k (inr c) t =
       let a = alike_name c.0 j k (alike_from i (word.Name c.0 ∷ j) k c.2 t) in (tt, a.1, inr (a.0, ap good a.4 ∙ c.1, a.2), a.3, refl)
 
-  pub named_law : Law p (λ _. Named good) (λ _. Named good) (λ j. sees_name j ≡ false) whole
+  pub named_law : Law (named good) (λ _. Named good) (λ _. Named good) (λ j. sees_name j ≡ false) whole
   named_law = record {
     rules = record { tells = named_tells; complete = named_complete; moves = named_moves; more = λ u i j s. s };
     one = (tt, [], λ j t. inl refl);
@@ -93,11 +90,6 @@ module _ {p : Parser (Unit {0})} (good : List ℕ → Bool) (at_name : (y : Spot
 
 abbrev is_text : List ℕ → List ℕ → Bool
 is_text x y = bytes_eq y x
-
-named_elsewhere : (x : List ℕ) (i : Words) → sees_name i ≡ false → end_name x i ≡ read_as tt i
-unfolding end_name sees_name front
-named_elsewhere x (word.Name y ∷ i) e = absurd (true≢false e)
-named_elsewhere x i e = refl
 
 called_to : (x : List ℕ) (u : Unit {0}) (i j : Words) → Named (is_text x) i j → SpellsEndName x i j
 called_to x u i j (inl e) = inl e
@@ -109,8 +101,7 @@ called_from x u i j (inr c) = inr (c.0, (bytes_eq-Decides c.0.text x).1 c.1, c.2
 
 -- and not before a name
 pub end_name_law : (x : List ℕ) → Law (end_name x) (λ _. SpellsEndName x) (λ _. SpellsEndName x) (λ j. sees_name j ≡ false) whole
-unfolding end_name front rest
-end_name_law x = as_law (called_to x) (called_from x) (called_to x) (named_law (is_text x) (λ y i. refl) (named_elsewhere x))
+end_name_law x = as_law (called_to x) (called_from x) (called_to x) (named_law (is_text x))
 
 -- ---- MARK .. end
 

@@ -2,8 +2,8 @@
 pub use Rattle.std.proofs.Common.{Bool, Err, Global, List, None, Ok, Option, Some, Vec, ℕ, [], ap, append-nil, append_assoc, arith, false, if◌then◌else◌, inl, inr, is_some, length, length-append, map, option_map, pos, refl, subst, suc, sym, true, true≢false, zero, ◌++◌, ◌+◌, ◌-◌, ◌<◌, ◌==◌, ◌||◌, ◌∙◌, ◌∷◌, ◌≡◌, ◌≤◌, ◌⊎◌}
 pub use Rattle.sdl_read.specs.Expressions.{Readers, active_with, by_mark, chain, chain_with, expr, keyword_with, link_with, marked, no_args, of_level, operator_of, paren_with, sees_operator, sees_unary, sees_value, unary_of, unary_with, value_of}
 unfoldable pub use Rattle.sdl_read.specs.Expressions.{active_of, deep_active, level, link, operator_at, paren_of, primary, readers, signed, unary_at, value_at}
-pub use Rattle.sdl_read.specs.Parts.{closed, closing_by, ended, followed, followed_by, sees_one, signal_list_with, signal_set_with, signal_with, tied}
-unfoldable pub use Rattle.sdl_read.specs.Parts.{closing, end, end_name, sig, signal, signal_list, signal_name, signal_set}
+pub use Rattle.sdl_read.specs.Parts.{closed, closing_by, end_name, ended, followed, followed_by, sees_one, signal_list_with, signal_set_with, signal_with, tied}
+unfoldable pub use Rattle.sdl_read.specs.Parts.{closing, end, named, sig, signal, signal_list, signal_name, signal_set}
 pub use Rattle.sdl_read.specs.PlacedWord.{word_of_placed}
 pub use Rattle.sdl_read.specs.Reading.{Barred, Deep, Outcome, Parser, Refusal, Refused, and_then, another, before, behind, either, enclosed, in_parentheses, is_fixed, is_name, is_number, made, mark_by, maybe, on, pure, refuse, repeated, repeated_by, separated, too_deep, ◌⊗◌}
 unfoldable pub use Rattle.sdl_read.specs.Reading.{expect, front, mark_at, name, number, repeated_from, rest, same_mark, sees, sees_name, sees_number, text}

@@ -37,17 +37,21 @@ sees_one (m ∷ ms) i = sees m i || sees_one ms i
 abbrev pub ended : {A : Type 0} → Parser A → Parser A
 ended p = followed p end
 
-abbrev pub end_name_by : List ℕ → Option Word → Parser (Unit {0})
-end_name_by x None i = Ok (tt, i)
-end_name_by x (Some (Fixed m s)) i = Ok (tt, i)
-end_name_by x (Some (word.Name y)) i = if bytes_eq y.text x then Ok (tt, rest i) else Err (Refused i)
-end_name_by x (Some (word.Number n y)) i = Ok (tt, i)
-end_name_by x (Some (word.Text y)) i = Ok (tt, i)
-end_name_by x (Some (word.LeftOut lower y)) i = Ok (tt, i)
+abbrev pub named_by : (List ℕ → Bool) → Option Word → Parser (Unit {0})
+named_by good None i = Ok (tt, i)
+named_by good (Some (Fixed m s)) i = Ok (tt, i)
+named_by good (Some (word.Name y)) i = if good y.text then Ok (tt, rest i) else Err (Refused i)
+named_by good (Some (word.Number n y)) i = Ok (tt, i)
+named_by good (Some (word.Text y)) i = Ok (tt, i)
+named_by good (Some (word.LeftOut lower y)) i = Ok (tt, i)
+
+-- [NAME], where a name passes a test
+unfoldable pub named : (List ℕ → Bool) → Parser (Unit {0})
+named good = λ i. named_by good (front i) i
 
 -- [NAME], where a name is this one
-unfoldable pub end_name : List ℕ → Parser (Unit {0})
-end_name x = λ i. end_name_by x (front i) i
+abbrev pub end_name : List ℕ → Parser (Unit {0})
+end_name x = named (λ y. bytes_eq y x)
 
 -- MARK .. end
 abbrev pub closing_by : Mark → Parser (Unit {0}) → Parser (Unit {0})

@@ -53,7 +53,7 @@ pub fn end(cursor: &mut Cursor<'_, '_>) -> Result<(), Fault>
 }
 
 /// `[NAME]` behind a word such as `endprocess`: if a name stands there, it is that of what ends.
-#[tactic(auto, unfolding(crate::specs::Parts::end_name))]
+#[tactic(auto, unfolding(crate::specs::Parts::named))]
 pub fn end_name(alloc: Global, cursor: &mut Cursor<'_, '_>, name: &Name) -> Result<(), Fault>
     ensures { Reads (λ _. tt) (spec.end_name (string_bytes name.now.text) cursor.old) result cursor.new }
 {
