@@ -1,5 +1,5 @@
 -- The laws of a state and of a connection, which stand in the body of a process.
-use Rattle.sdl_behaviour.proofs.Words.{As, BeginsOne, BodyPart, Both, Choice, Fixed, FreeAction, InParentheses, IsMark, Law, List, Made, Mark, MaybeLaw, Separated, Spelling, SpellsBodyPart, SpellsEndConnection, SpellsEndState, SpellsEndStateName, SpellsName, SpellsStates, Spot, StateAll, StateList, StatePart, States, Stimulus, Transition, Words, [], action_marks, ap, as_choice, as_law, before_law, begins_action, begins_statement, begins_terminator, begins_unseen, behind_law, closed_law, drops_law, either, either_as, either_law, end_name_law, end_other, ended_law, erased_body_part, erased_name, erased_states, erased_stimulus, erased_transition, false, front, has_mark, have_mark, in_parentheses_law, inl, inr, made_as, made_law, map, mark_law, maybe_choice, name_law, named_law, nowhere_law, one_choice, or_choice, others_unseen, refl, same_mark, seen_begins, sees, sees_at, sees_front, sees_name, separated_begins, separated_law, stops_law, suc, sym, terminator_marks, then_law, true, whole, ℕ, ◌∙◌, ◌∷◌, ◌≡◌, ◌⊎◌}
+use Rattle.sdl_behaviour.proofs.Words.{As, BeginsOne, BodyPart, Both, Choice, Fixed, FreeAction, InParentheses, IsMark, Law, List, Made, Mark, MaybeLaw, Separated, Spelling, SpellsBodyPart, SpellsEndConnection, SpellsEndState, SpellsEndStateName, SpellsName, SpellsStates, Spot, StateAll, StateList, StatePart, States, Stimulus, Transition, Words, [], action_marks, ap, as_choice, as_law, before_law, begins_action, begins_statement, begins_terminator, begins_unseen, behind_law, closed_law, drops_law, either, either_as, either_law, end_name_law, end_other, ended_law, erased_body_part, erased_name, erased_states, erased_stimulus, erased_transition, false, front, has_mark, have_mark, in_parentheses_law, inl, inr, made_as, made_law, map, mark_law, maybe_choice, name_law, named_law, nowhere_law, one_choice, or_choice, others_unseen, refl, same_mark, seen_begins, sees, sees_at, sees_front, sees_name, separated_begins, stops_law, suc, sym, terminator_marks, then_law, true, whole, ℕ, ◌∙◌, ◌∷◌, ◌≡◌, ◌⊎◌, names_law}
 use Rattle.std.specs.List.{Contains}
 use Rattle.std.specs.Str.{bytes_eq}
 use Rattle.std.proofs.lemmas.List.Folds.{Any-from_list_any, list_any-from_Any}
@@ -27,7 +27,7 @@ states_law =
     (either_law (sees mark.Asterisk) (sees_front mark.Asterisk)
     (stops_law (λ j t. t.0)
     (made_law all_with (λ x. refl) (then_law (mark_law mark.Asterisk) (in_parentheses_law name_law (λ s m. tt) (λ s m. tt) tt))))
-    (stops_law (λ j t. (tt, t.1)) (made_law StateList (λ x. refl) (separated_law name_law (λ s m. tt) tt)))
+    (stops_law (λ j t. (tt, t.1)) (made_law StateList (λ x. refl) names_law))
     (λ x i j s. sees_at mark.Asterisk s.0.0 i s.2.0 s.2.1)
     (λ x i j s t. separated_begins SpellsName (λ k. sees mark.Asterisk k ≡ false) (name_no_mark mark.Asterisk) s.0 i j s.2))
   where

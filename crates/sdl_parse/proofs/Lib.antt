@@ -1,7 +1,6 @@
 pub mod ChannelLaws
 pub mod DeclarationLaws
 pub mod ProcessLaws
-pub mod Stops
 pub mod ParserLemmas
 pub mod SystemLaws
 pub mod TooDeepLemmas

@@ -1,7 +1,7 @@
 -- The laws of what is followed by words that the node drops: ends, and what closes a construct.
 use Rattle.std.specs.Str.{bytes_eq}
 use Rattle.std.proofs.lemmas.Slice.Eq.{bytes_eq-Decides}
-use Rattle.sdl_read.proofs.Grammar.{Mark, Spelling, AreAlike, Both, Behind, Followed, SpellsEnd, Ended, SpellsEndName, SpellsClosing, Words, Spot, Fixed, followed_by, followed, ended, end_name, closing_by, closing, closed, Repeated, repeated, Parser, Outcome, Refused, pure, front, rest, sees, sees_name, ◌≡◌, ℕ, ◌⊎◌, inl, inr, Bool, true, false, true≢false, if◌then◌else◌, List, [], ◌∷◌, map, Option, Ok, Err, refl, sym, ap, ◌∙◌, subst, named}
+use Rattle.sdl_read.proofs.Grammar.{Mark, Spelling, AreAlike, Both, Behind, Followed, SpellsEnd, Ended, SpellsEndName, SpellsClosing, Words, Spot, Fixed, followed_by, followed, ended, end_name, closing_by, closing, closed, Repeated, repeated, Parser, Outcome, Refused, pure, front, rest, sees, sees_name, ◌≡◌, ℕ, ◌⊎◌, inl, inr, Bool, true, false, true≢false, if◌then◌else◌, List, [], ◌∷◌, map, Option, Ok, Err, refl, sym, ap, ◌∙◌, subst, named, erased_name}
 use Rattle.sdl_tree.specs.declared.mark.Mark.TheVariants as mark
 use Rattle.sdl_tree.specs.Words as word
 use Rattle.sdl_read.proofs.Laws.{Form, Gives, Law, MaybeLaw, Anywhere, GoodAfter, Made, Tied, as_law, same_law, stops_law, nothing_law, tied_law, both_law, behind_law, first_alone, formed_law, made_law, either_law, read_as, rest_here, if_true, sees_front, sees_at, swapped, alike_name, alike_from}
@@ -145,3 +145,8 @@ pub closed_list_law : {A : Type 0} (m : Mark) {begins : Words → Bool} {p : Par
     → Law (followed (repeated p) (closing m x)) (Followed (Repeated P) (SpellsClosing m x)) (Followed (Repeated M) (SpellsClosing m x)) Anywhere (map e)
 closed_list_law m {begins = begins} {S = S} a at_start last ends x =
     followed_law (repeated_law a at_start last) (closing_law m x) (λ k j s t. closing_begins (λ l. S l × (begins l ≡ false)) m ends x k j s)
+
+-- what is closed by a name is closed by another that differs in places alone
+pub closed_same : {B : Type 0} (P : Form B) (m : Mark) (x y : Spot) → erased_name x ≡ erased_name y
+    → (z : B) (i j : Words) → Followed P (SpellsClosing m x.text) z i j → Followed P (SpellsClosing m y.text) z i j
+closed_same P m x y e z i j s = let R : Spot → Type 0 = λ w. Followed P (SpellsClosing m w.text) z i j in subst R e s

@@ -440,3 +440,15 @@ pub separated_begins : {A : Type 0} (P : Form A) (Q : Words → Type 0) → ((x 
 separated_begins P Q first [] i j s = absurd s
 separated_begins P Q first (x ∷ []) i j s = first x i j s
 separated_begins P Q first (x ∷ y ∷ ys) i j s = first x i (Fixed mark.Comma s.0 ∷ s.1) s.2
+
+-- what holds before a part that may be left out
+pub optional_at : {A : Type 0} (P : Form A) (C : Words → Type 0) → ((x : A) (i j : Words) → P x i j → C i)
+    → (x : Option A) (i j : Words) → Optional P x i j → C j → C i
+optional_at P C some None i j s t = rw s t
+optional_at P C some (Some x) i j s t = some x i j s
+
+-- what holds before a list
+pub repeated_at : {A : Type 0} (P : Form A) (C : Words → Type 0) → ((x : A) (i j : Words) → P x i j → C i)
+    → (xs : List A) (i j : Words) → Repeated P xs i j → C j → C i
+repeated_at P C some [] i j s t = rw s t
+repeated_at P C some (x ∷ xs) i j s t = some x i s.0 s.1

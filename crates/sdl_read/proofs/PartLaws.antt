@@ -1,6 +1,6 @@
 -- The laws of the productions that stand in many others.
 use Rattle.sdl_tree.specs.declared.mark.Mark.TheVariants as mark
-use Rattle.sdl_read.proofs.Grammar.{Mark, Spelling, plain, erased_name, erased_number, erased_item, IsMark, Both, Behind, Before, Enclosed, InParentheses, SpellsName, SpellsNumber, SpellsEnd, SpellsSig, SignalListItem, SignalItem, ListItem, Words, Spot, Fixed, Parser, front, rest, sees, same_mark, is_name, sees_name, name, number, text, enclosed, in_parentheses, end, sig, ◌≡◌, ◌⊎◌, inl, inr, true, false, List, [], ◌∷◌, map, pos, refl, sym, ap, ◌∙◌, subst}
+use Rattle.sdl_read.proofs.Grammar.{Mark, Spelling, plain, erased_name, erased_number, erased_item, IsMark, Both, Behind, Before, Enclosed, InParentheses, SpellsName, SpellsNumber, SpellsEnd, SpellsSig, SignalListItem, SignalItem, ListItem, Words, Spot, Fixed, Parser, front, rest, sees, same_mark, is_name, sees_name, name, number, text, enclosed, in_parentheses, end, sig, ◌≡◌, ◌⊎◌, inl, inr, true, false, List, [], ◌∷◌, map, pos, refl, sym, ap, ◌∙◌, subst, separated, Separated}
 use Rattle.sdl_tree.specs.Words as word
 use Rattle.sdl_read.proofs.Laws.{Form, Gives, Law, Anywhere, Made, Nothing, as_law, stops_law, single_law, mark_law, nothing_law, behind_law, before_law, made_law, either_law, either_as, made_as, then_law, rest_here, sees_front, sees_at, sees_other, alike_name, alike_number, alike_text, alike_from, SameFront}
 use Rattle.sdl_read.proofs.ListLaws.{no_comma_at_close, separated_law}
@@ -143,6 +143,9 @@ module _ {A : Type 0} {item : Parser A} {P M : Form A} {S : Words → Type 0} {e
   -- and not at a parenthesis
   pub in_parentheses_law : Law (in_parentheses item) (InParentheses P) (InParentheses M) (λ j. sees mark.Open j ≡ false) (map e)
   in_parentheses_law = maybe_enclosed item enclosed_law
+
+pub names_law : Law (separated name) (Separated SpellsName) (Separated SpellsName) (λ j. Anywhere j × (sees mark.Comma j ≡ false)) (map erased_name)
+names_law = separated_law name_law (λ s m. tt) tt
 
 -- ---- sig
 
