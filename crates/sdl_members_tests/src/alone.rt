@@ -4,7 +4,6 @@ ghost use Rattle.std.specs.Prelude.{◌≡◌, [], ℕ};
 ghost use Rattle.port_model.specs.Port.{empty_port};
 
 use crate::outside::{Lonely, OWN};
-use inbox::Inbox;
 use input_port::birth::port;
 use input_port::{Desk, Held, NewPort, Owner, Port};
 use port_model::{Pid, Ticks, Values};
@@ -13,13 +12,12 @@ use sdl_evaluation::Identity;
 use sdl_members::{Left, Member};
 use sdl_parse::parse;
 use sdl_peers::Run;
-use sdl_report::{Report, write_report};
+use sdl_report::{Record, Report, write_report};
 use sdl_system::{ProcessId, System};
 use std::alloc::Global;
 use std::marker::{Brand, PhantomData};
 use std::process::Abort;
 use std::sync::Wait;
-use std::test::Fail;
 
 const TEXT: &str = "system S; signal a, v(Integer);
     process P; timer T, U; dcl n Integer; start; output v(3) to self; set(now, T); set(now + 5, U); nextstate s;
@@ -44,20 +42,20 @@ const WANTED: &str = "instance #1 P parent null
 end 0 whole
 ";
 
-fn system_of(alloc: Global) -> Result<System, Fail> {
-    let tree = parse(alloc, TEXT.as_bytes())?;
-    Ok(build(alloc, &tree)?)
+fn system_of(rt: &impl Abort, alloc: Global) -> System {
+    let tree = parse(alloc, TEXT.as_bytes()).expect(rt, "a tree");
+    build(alloc, &tree).expect(rt, "a system")
 }
 
 #[test]
-fn talks_to_itself(rt: HostRuntime) -> Result<(), Fail> {
-    let system = system_of(rt.alloc())?;
-    with_port(rt, rt.alloc(), &system)
+fn talks_to_itself(rt: HostRuntime) {
+    let system = system_of(&rt, rt.alloc());
+    with_port(rt, rt.alloc(), &system);
 }
 
-fn with_port<R: Abort + Wait + Copy>(rt: R, alloc: Global, system: &System) -> Result<(), Fail> {
-    let NewPort { port, owner, desk } = port(alloc, OWN)?;
-    talk::<Brand, R>(rt, alloc, system, &port, owner, desk)
+fn with_port<R: Abort + Wait + Copy>(rt: R, alloc: Global, system: &System) {
+    let NewPort { port, owner, desk } = port(alloc, OWN).expect(&rt, "a port");
+    talk::<Brand, R>(rt, alloc, system, &port, owner, desk);
 }
 
 fn talk<J: Run, R: Abort + Wait + Copy>(
@@ -67,7 +65,7 @@ fn talk<J: Run, R: Abort + Wait + Copy>(
     port: &Port,
     owner: Owner,
     desk: Desk,
-) -> Result<(), Fail>
+)
     requires named { (n : ℕ) → port.now.queue ≡ J.ports n }
     requires desk { desk.port ≡ port.now.queue }
     requires owner { owner.port ≡ port.now.queue }
@@ -81,56 +79,58 @@ fn talk<J: Run, R: Abort + Wait + Copy>(
         kept: Vec::new(alloc),
         of: PhantomData,
     };
-    let mut member = member::<J, _>(alloc, system, Held::new(rt, port, owner))?;
-    for _ in 0..5 {
-        let _ = member.step(alloc, &rt, &mut outside);
-    }
-    assert_eq!(rt; outside.kept.len(), 1);
-    let left = member.close(false);
-    assert!(rt; left.peers.is_known(OWN) && left.peers.sent(OWN) == 2);
-    compare(&rt, alloc, system, left)
+    let mut member = member::<J, _>(&rt, alloc, system, Held::new(rt, port, owner));
+    run(&rt, alloc, &mut member, &mut outside);
+    assert!(rt; outside.kept.len() == 1);
+    let Left { trace, peers, .. } = member.close(false);
+    assert!(rt; peers.is_known(OWN) && peers.sent(OWN) == 2);
+    compare(&rt, alloc, system, trace);
 }
 
 /// The instance before its start.
-fn member<'s, 'a, J: Run, R: Wait + Copy>(
+fn member<'s, 'a, J: Run, R: Abort + Wait + Copy>(
+    rt: &R,
     alloc: Global,
     system: &'s System,
     inbox: Held<'a, R>,
-) -> Result<Member<'s, J, Held<'a, R>>, Fail>
+) -> Member<'s, J, Held<'a, R>>
     requires empty { inbox.owner.state ≡ empty_port }
     requires drawn { inbox.owner.drawn ≡ [] }
     requires own { inbox.owner.pid ≡ 1 }
 {
     let id = ProcessId(0);
-    let Some(process) = system.process(id) else {
-        return Err(Fail::new("no process"));
-    };
+    let process = system.process(id).expect(rt, "a process");
     let who = Identity {
         process: id,
         pid: OWN,
         parent: Pid::Null,
     };
     match Member::new(alloc, system, process, who, &Values::none(alloc), inbox) {
-        Ok(member) => Ok(member),
-        Err(_) => Err(Fail::new("memory")),
+        Ok(member) => member,
+        Err(_) => panic!(rt; "no memory for a member"),
+    }
+}
+
+/// Five steps.
+fn run<J: Run, R: Wait + Copy>(
+    rt: &R,
+    alloc: Global,
+    member: &mut Member<'_, J, Held<'_, R>>,
+    outside: &mut Lonely<'_, J>,
+) {
+    for _ in 0..5 {
+        let _ = member.step(alloc, rt, outside);
     }
 }
 
 /// Compares the record with what is wanted.
-fn compare<J: Run, P: Inbox + Drop>(
-    rt: &impl Abort,
-    alloc: Global,
-    system: &System,
-    left: Left<J, P>,
-) -> Result<(), Fail> {
+fn compare(rt: &impl Abort, alloc: Global, system: &System, trace: Record) {
     let report = Report {
-        records: vec![in alloc; left.trace]?,
+        records: vec![in alloc; trace].expect(rt, "a list"),
         end: Ticks::new(0),
         whole: true,
     };
     let mut bytes = Vec::new(alloc);
-    write_report(alloc, &report, system, &mut bytes)?;
-    let text = String::from_utf8_lossy(alloc, bytes.as_slice())?;
-    assert_eq!(rt; text.as_str(), WANTED);
-    Ok(())
+    write_report(alloc, &report, system, &mut bytes).expect(rt, "a report");
+    assert!(rt; bytes.as_slice() == WANTED.as_bytes());
 }
