@@ -4,45 +4,43 @@ use crate::case::{Play, identity};
 use crate::outside::{OWN, Outside};
 use crate::play::{Subject, finish, play};
 use inbox::{Alone, Fuse};
-use port_model::{Item, PortError, Ticks};
+use port_model::{Item, Ticks};
 use sdl_interp::{Instance, Stepped};
 use sdl_report::Record;
-use std::alloc::{AllocError, Global};
+use std::alloc::Global;
+use std::process::Abort;
 
 impl Subject for Instance<'_, Alone> {
     fn advance(&mut self, alloc: Global, outside: &mut Outside<'_>) -> Stepped {
         self.step(alloc, outside)
     }
 
-    fn hear(&mut self, item: Item) -> Result<(), AllocError> {
-        self.put(item).map_err(|_| AllocError)
+    fn hear(&mut self, item: Item) -> bool {
+        self.put(item).is_ok()
     }
 
-    fn hear_expiry(&mut self, fuse: Fuse, at: Ticks) -> Result<(), AllocError> {
-        match self.expire(fuse, at) {
-            Ok(_) => Ok(()),
-            Err(_) => Err(AllocError),
-        }
+    fn hear_expiry(&mut self, fuse: Fuse, at: Ticks) -> bool {
+        self.expire(fuse, at).is_ok()
     }
 }
 
 /// What the first process of the system did.
 pub fn record_alone(
+    rt: &impl Abort,
     alloc: Global,
     played: Play<'_>,
     outside: &mut Outside<'_>,
-) -> Result<Record, AllocError> {
+) -> Record {
+    let Play {
+        system,
+        process,
+        values,
+        script,
+    } = played;
     let inbox = Alone::new(alloc, OWN);
-    let Ok(mut instance) = Instance::new(
-        alloc,
-        played.system,
-        played.process,
-        identity(),
-        &played.values,
-        inbox,
-    ) else {
-        return Err(AllocError);
+    let Ok(mut instance) = Instance::new(alloc, system, process, identity(), &values, inbox) else {
+        panic!(rt; "no memory for an instance");
     };
-    play(alloc, &mut instance, outside, played.script)?;
-    Ok(finish(alloc, instance, outside))
+    play(rt, alloc, &mut instance, outside, script);
+    finish(alloc, instance, outside)
 }

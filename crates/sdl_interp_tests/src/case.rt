@@ -12,14 +12,18 @@ use sdl_parse::parse;
 use sdl_report::{Record, Report, write_report};
 use sdl_script::{Script, read_script};
 use sdl_system::{Process, ProcessId, System};
-use std::alloc::{AllocError, Global};
+use std::alloc::Global;
 use std::process::Abort;
 use std::sync::Wait;
-use std::test::Fail;
 
 /// The signals of the small system.
 const SIGNALS: &str =
     "signal a, b, c, v(Integer), pair(Integer, Boolean), at(Time), who(Pid), few(Natural);";
+
+/// What stands in a report above the record of the instance, and behind it.
+const HEADING: &str = "instance #1 P parent null";
+
+const END: &str = "end 0 whole\n";
 
 /// What is in process P and, of other processes, behind it; the script of the environment; and the record that the
 /// instance is to have, without its heading and the end of the report. `done`: the signals that were sent, and the
@@ -72,114 +76,82 @@ pub fn identity() -> Identity
 }
 
 /// The system of the case.
-pub fn system_of(alloc: Global, case: Case<'_>) -> Result<System, Fail> {
-    let Case {
-        process,
-        others,
-        ..
-    } = case;
+fn system_of(rt: &impl Abort, alloc: Global, case: &Case<'_>) -> System {
+    let (process, others) = (case.process, case.others);
     let text = format!(in alloc;
         "system S; {SIGNALS} process P; {process} endprocess; {others} endsystem;"
-    )?;
-    let tree = parse(alloc, text.as_bytes())?;
-    Ok(build(alloc, &tree)?)
+    ).expect(rt, "a text");
+    let tree = parse(alloc, text.as_bytes()).expect(rt, "a tree");
+    build(alloc, &tree).expect(rt, "a system")
 }
 
 /// What is run in that system.
-pub fn play_of<'s>(alloc: Global, system: &'s System, case: Case<'_>) -> Result<Play<'s>, Fail> {
-    let Some(process) = system.process(ProcessId(0)) else {
-        return Err(Fail::new("no process"));
-    };
-    Ok(Play {
+fn play_of<'s>(rt: &impl Abort, alloc: Global, system: &'s System, case: &Case<'_>) -> Play<'s> {
+    Play {
         system,
-        process,
-        values: Values::from_slice(alloc, case.values)?,
-        script: read_script(alloc, system, case.script.as_bytes())?,
-    })
-}
-
-/// The text of a report with this record alone.
-fn text_of(alloc: Global, system: &System, trace: Record) -> Result<String, Fail> {
-    let report = Report {
-        records: vec![in alloc; trace]?,
-        end: Ticks::new(0),
-        whole: true,
-    };
-    text_of_report(alloc, system, &report)
-}
-
-fn text_of_report(alloc: Global, system: &System, report: &Report) -> Result<String, Fail> {
-    let mut bytes = Vec::new(alloc);
-    write_report(alloc, report, system, &mut bytes)?;
-    let text = String::from_utf8_lossy(alloc, bytes.as_slice())?;
-    Ok(String::from_str(alloc, text.as_str())?)
-}
-
-/// The text that is wanted, with the name of the case above it.
-fn wanted_text(alloc: Global, case: Case<'_>) -> Result<String, AllocError> {
-    let Case { name, wanted, .. } = case;
-    format!(in alloc; "{name}\ninstance #1 P parent null{wanted}end 0 whole\n")
-}
-
-/// Compares a record with the wanted one.
-fn compare(
-    rt: &impl Abort,
-    alloc: Global,
-    case: Case<'_>,
-    system: &System,
-    trace: Record,
-) -> Result<(), Fail> {
-    let told = text_of(alloc, system, trace)?;
-    compare_text(rt, alloc, case, told.as_str())
-}
-
-fn compare_text(rt: &impl Abort, alloc: Global, case: Case<'_>, told: &str) -> Result<(), Fail> {
-    let name = case.name;
-    let told = format!(in alloc; "{name}\n{told}")?;
-    let wanted = wanted_text(alloc, case)?;
-    assert_eq!(rt; told.as_str(), wanted.as_str());
-    Ok(())
-}
-
-fn compare_done(rt: &impl Abort, outside: &Outside<'_>, done: Option<&str>) {
-    if let Some(done) = done {
-        assert_eq!(rt; outside.done.as_str(), done);
+        process: system.process(ProcessId(0)).expect(rt, "a process"),
+        values: Values::from_slice(alloc, case.values).expect(rt, "values"),
+        script: read_script(alloc, system, case.script.as_bytes()).expect(rt, "a script"),
     }
 }
 
-/// Runs the process over the port of one thread, and compares its record and what was done.
-fn check_alone(
+/// The text of a report with this record alone.
+fn text_of(rt: &impl Abort, alloc: Global, system: &System, trace: Record) -> Vec<u8> {
+    let report = Report {
+        records: vec![in alloc; trace].expect(rt, "a list"),
+        end: Ticks::new(0),
+        whole: true,
+    };
+    let mut text = Vec::new(alloc);
+    write_report(alloc, &report, system, &mut text).expect(rt, "a report");
+    text
+}
+
+/// Whether a report is the wanted one.
+fn is_wanted(case: &Case<'_>, text: &[u8]) -> bool {
+    let Some(record) = text.strip_prefix(HEADING.as_bytes()) else {
+        return false;
+    };
+    match record.strip_suffix(END.as_bytes()) {
+        Some(record) => record == case.wanted.as_bytes(),
+        None => false,
+    }
+}
+
+/// Compares a record and what was done with what is wanted.
+fn compare(
     rt: &impl Abort,
     alloc: Global,
-    case: Case<'_>,
+    case: &Case<'_>,
     system: &System,
-) -> Result<(), Fail> {
-    let mut outside = Outside::new(alloc, system, case.room)?;
-    let trace = record_alone(alloc, play_of(alloc, system, case)?, &mut outside)?;
-    compare_done(rt, &outside, case.done);
-    compare(rt, alloc, case, system, trace)
+    trace: Record,
+    done: &str,
+) {
+    let name = case.name;
+    let text = text_of(rt, alloc, system, trace);
+    assert!(rt; is_wanted(case, text.as_slice()), "{name}: the record");
+    assert!(rt; case.done.unwrap_or(done) == done, "{name}: what was done");
+}
+
+/// Runs the process over the port of one thread, and compares its record and what was done.
+fn check_alone(rt: &impl Abort, alloc: Global, case: &Case<'_>, system: &System) {
+    let mut outside = Outside::new(rt, alloc, system, case.room);
+    let played = play_of(rt, alloc, system, case);
+    let trace = record_alone(rt, alloc, played, &mut outside);
+    compare(rt, alloc, case, system, trace, outside.done.as_str());
 }
 
 /// Runs it over a shared port, and compares the same.
-fn check_shared<R: Abort + Wait + Copy>(
-    rt: R,
-    alloc: Global,
-    case: Case<'_>,
-    system: &System,
-) -> Result<(), Fail> {
-    let mut outside = Outside::new(alloc, system, case.room)?;
-    let trace = record_shared(rt, alloc, play_of(alloc, system, case)?, &mut outside)?;
-    compare_done(&rt, &outside, case.done);
-    compare(&rt, alloc, case, system, trace)
+fn check_shared<R: Abort + Wait + Copy>(rt: R, alloc: Global, case: &Case<'_>, system: &System) {
+    let mut outside = Outside::new(&rt, alloc, system, case.room);
+    let played = play_of(&rt, alloc, system, case);
+    let trace = record_shared(rt, alloc, played, &mut outside);
+    compare(&rt, alloc, case, system, trace, outside.done.as_str());
 }
 
 /// Runs the process over either port, and compares its record and what was done.
-pub fn check_case<R: Abort + Wait + Copy>(
-    rt: R,
-    alloc: Global,
-    case: Case<'_>,
-) -> Result<(), Fail> {
-    let system = system_of(alloc, case)?;
-    check_alone(&rt, alloc, case, &system)?;
-    check_shared(rt, alloc, case, &system)
+pub fn check_case<R: Abort + Wait + Copy>(rt: R, alloc: Global, case: &Case<'_>) {
+    let system = system_of(&rt, alloc, case);
+    check_alone(&rt, alloc, case, &system);
+    check_shared(rt, alloc, case, &system);
 }

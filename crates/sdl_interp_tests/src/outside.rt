@@ -7,6 +7,7 @@ use port_model::{Item, SignalId, Ticks, Values};
 use sdl_runs::World;
 use sdl_system::{Dest, ProcessId, Source, System, Target};
 use std::alloc::{AllocError, Global};
+use std::process::Abort;
 
 /// The number of the instance that is run.
 pub const OWN: u32 = 1;
@@ -27,24 +28,17 @@ pub struct Outside<'s> {
 
 impl<'s> Outside<'s> {
     /// The world before the start, in which the instance that is run lives alone.
-    pub fn new(alloc: Global, system: &'s System, room: usize) -> Result<Self, AllocError> {
-        let mut living = Vec::new(alloc);
-        for _ in system.processes() {
-            living.push(None)?;
-        }
-        if let Some(own) = living.first_mut() {
-            *own = Some(OWN);
-        }
-        Ok(Outside {
+    pub fn new(rt: &impl Abort, alloc: Global, system: &'s System, room: usize) -> Self {
+        Outside {
             system,
             clock: Ticks::new(0),
             fuses: Vec::new(alloc),
             own: Vec::new(alloc),
             done: String::new(alloc),
-            living,
+            living: living(rt, alloc, system.processes().len()),
             given: OWN,
             room,
-        })
+        }
     }
 
     /// When the next timer is due.
@@ -70,6 +64,15 @@ impl<'s> Outside<'s> {
             _ => self.given.checked_add(1),
         }
     }
+}
+
+/// The least living instances of so many processes before the start.
+fn living(rt: &impl Abort, alloc: Global, processes: usize) -> Vec<Option<u32>> {
+    let mut living = vec![in alloc; None; processes].expect(rt, "a list");
+    if let Some(own) = living.first_mut() {
+        *own = Some(OWN);
+    }
+    living
 }
 
 fn name_of(system: &System, signal: SignalId) -> &str {

@@ -9,7 +9,8 @@ use port_model::{Item, Ticks};
 use sdl_interp::{Instance, Stepped};
 use sdl_report::Record;
 use sdl_script::{Script, ScriptLine};
-use std::alloc::{AllocError, Global};
+use std::alloc::Global;
+use std::process::Abort;
 
 /// So many steps are made at one time, and so many timers expire, at most.
 const MOST: u32 = 50;
@@ -19,79 +20,79 @@ pub trait Subject {
     /// One step.
     fn advance(&mut self, alloc: Global, outside: &mut Outside<'_>) -> Stepped;
 
-    /// Brings a signal into the port.
-    fn hear(&mut self, item: Item) -> Result<(), AllocError>;
+    /// Brings a signal into the port; false: for want of memory it is not there.
+    fn hear(&mut self, item: Item) -> bool;
 
-    /// Brings the expiry of a timer into the port.
-    fn hear_expiry(&mut self, fuse: Fuse, at: Ticks) -> Result<(), AllocError>
+    /// Brings the expiry of a timer into the port; false: for want of memory it is not there.
+    fn hear_expiry(&mut self, fuse: Fuse, at: Ticks) -> bool
         requires { fuse.due ≤ at };
 }
 
 /// Runs the instance by the script.
 pub fn play<S: Subject>(
+    rt: &impl Abort,
     alloc: Global,
     subject: &mut S,
     outside: &mut Outside<'_>,
     script: Script,
-) -> Result<(), AllocError> {
+) {
     for line in script.lines {
         let ScriptLine { at, signal } = line;
         if outside.clock < at {
-            pass(alloc, subject, outside, at)?;
+            pass(rt, alloc, subject, outside, at);
         }
         if let Some(signal) = signal {
-            subject.hear(signal.item)?;
+            assert!(rt; subject.hear(signal.item));
         }
     }
-    settle(alloc, subject, outside)
+    settle(rt, alloc, subject, outside);
 }
 
 // Lets time pass up to this one.
 fn pass<S: Subject>(
+    rt: &impl Abort,
     alloc: Global,
     subject: &mut S,
     outside: &mut Outside<'_>,
     to: Ticks,
-) -> Result<(), AllocError> {
+) {
     for _ in 0..MOST {
-        settle(alloc, subject, outside)?;
+        settle(rt, alloc, subject, outside);
         match outside.next_due() {
             Some(due) if due <= to => outside.clock = due,
             _ => break,
         }
     }
     outside.clock = to;
-    Ok(())
 }
 
 // Steps until the instance rests or ends.
-fn settle<S: Subject>(
-    alloc: Global,
-    subject: &mut S,
-    outside: &mut Outside<'_>,
-) -> Result<(), AllocError> {
+fn settle<S: Subject>(rt: &impl Abort, alloc: Global, subject: &mut S, outside: &mut Outside<'_>) {
     for _ in 0..MOST {
-        expire(subject, outside)?;
+        expire(rt, subject, outside);
         if subject.advance(alloc, outside) != Stepped::Moved {
             break;
         }
-        for item in outside.own.drain(..) {
-            subject.hear(item)?;
-        }
+        hear_own(rt, subject, outside);
     }
-    Ok(())
+}
+
+// What the instance has sent to itself comes into its port.
+fn hear_own<S: Subject>(rt: &impl Abort, subject: &mut S, outside: &mut Outside<'_>) {
+    for item in outside.own.drain(..) {
+        assert!(rt; subject.hear(item));
+    }
 }
 
 // The timers that are due by now expire.
-fn expire<S: Subject>(subject: &mut S, outside: &mut Outside<'_>) -> Result<(), AllocError> {
+fn expire<S: Subject>(rt: &impl Abort, subject: &mut S, outside: &mut Outside<'_>) {
     for _ in 0..MOST {
         let Some(fuse) = outside.take_due() else {
             break;
         };
         let at = Ticks::later_of(outside.clock, fuse.due());
-        subject.hear_expiry(fuse, at)?;
+        assert!(rt; subject.hear_expiry(fuse, at));
     }
-    Ok(())
 }
 
 /// The record of an instance: whole where it rests.

@@ -9,10 +9,11 @@ use crate::play::{Subject, finish, play};
 use inbox::Fuse;
 use input_port::birth::port;
 use input_port::{Held, NewPort, Port, Sender};
-use port_model::{Item, PortError, Ticks};
+use port_model::{Item, Ticks};
 use sdl_interp::{Instance, Stepped};
 use sdl_report::Record;
-use std::alloc::{AllocError, Global};
+use std::alloc::Global;
+use std::process::Abort;
 use std::sync::Wait;
 
 /// The instance, its port, and a sender of that port.
@@ -30,45 +31,34 @@ impl<R: Wait + Copy> Subject for Sharing<'_, '_, R> {
         self.instance.step(alloc, outside)
     }
 
-    fn hear(&mut self, item: Item) -> Result<(), AllocError> {
-        self.sender
-            .put(&self.rt, self.port, item)
-            .map_err(|_| AllocError)
+    fn hear(&mut self, item: Item) -> bool {
+        self.sender.put(&self.rt, self.port, item).is_ok()
     }
 
-    fn hear_expiry(&mut self, fuse: Fuse, at: Ticks) -> Result<(), AllocError> {
-        self.sender
-            .expire(&self.rt, self.port, fuse, at)
-            .map_err(|_| AllocError)
+    fn hear_expiry(&mut self, fuse: Fuse, at: Ticks) -> bool {
+        self.sender.expire(&self.rt, self.port, fuse, at).is_ok()
     }
 }
 
 /// What the first process of the system did.
-pub fn record_shared<R: Wait + Copy>(
+pub fn record_shared<R: Abort + Wait + Copy>(
     rt: R,
     alloc: Global,
     played: Play<'_>,
     outside: &mut Outside<'_>,
-) -> Result<Record, PortError> {
+) -> Record {
     let NewPort {
         port,
         owner,
         mut desk,
-    } = port(alloc, OWN)?;
-    let sender = desk.sender(&port)?;
-    record_of(
-        rt,
-        alloc,
-        &port,
-        Held::new(rt, &port, owner),
-        sender,
-        played,
-        outside,
-    )
+    } = port(alloc, OWN).expect(&rt, "a port");
+    let sender = desk.sender(&port).expect(&rt, "a sender");
+    let inbox = Held::new(rt, &port, owner);
+    record_of(rt, alloc, &port, inbox, sender, played, outside)
 }
 
 /// The same over a port, its owner and a sender of it.
-fn record_of<'a, R: Wait + Copy>(
+fn record_of<'a, R: Abort + Wait + Copy>(
     rt: R,
     alloc: Global,
     port: &'a Port,
@@ -76,7 +66,7 @@ fn record_of<'a, R: Wait + Copy>(
     sender: Sender,
     played: Play<'_>,
     outside: &mut Outside<'_>,
-) -> Result<Record, PortError>
+) -> Record
     requires empty { inbox.owner.state ≡ empty_port }
     requires drawn { inbox.owner.drawn ≡ [] }
     requires own { inbox.owner.pid ≡ 1 }
@@ -89,7 +79,7 @@ fn record_of<'a, R: Wait + Copy>(
         script,
     } = played;
     let Ok(instance) = Instance::new(alloc, system, process, identity(), &values, inbox) else {
-        return Err(PortError::Memory);
+        panic!(rt; "no memory for an instance");
     };
     let mut sharing = Sharing {
         rt,
@@ -97,9 +87,7 @@ fn record_of<'a, R: Wait + Copy>(
         sender,
         instance,
     };
-    if play(alloc, &mut sharing, outside, script).is_err() {
-        return Err(PortError::Memory);
-    }
+    play(&rt, alloc, &mut sharing, outside, script);
     let Sharing { instance, .. } = sharing;
-    Ok(finish(alloc, instance, outside))
+    finish(alloc, instance, outside)
 }
