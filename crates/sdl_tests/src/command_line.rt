@@ -1,10 +1,11 @@
 //! Which words of a command line choose what.
 
+use clap::Error;
 use clap::error::ErrorKind;
 use sdl_command_line::{Task, chosen};
 use sdl_engine::{Command, Options};
-use std::alloc::{AllocError, Global};
-use std::test::Fail;
+use std::alloc::Global;
+use std::process::Abort;
 
 /// What a command line asks for: the command and the limit, and the files of the specification and the script.
 type Asked<'a> = (Command, u64, Option<&'a str>, Option<&'a str>);
@@ -50,25 +51,26 @@ static LINES: [(&str, Option<Asked<'static>>); 18] = [
 ];
 
 #[test]
-fn command_lines(rt: HostRuntime) -> Result<(), Fail> {
+fn command_lines(rt: HostRuntime) {
     for (line, asked) in &LINES {
-        let task = task_of(rt.alloc(), line)?;
-        assert_eq!(rt; asked_by(&task), *asked, "{line}");
+        let told = told(&rt, rt.alloc(), line);
+        assert!(rt; asked_by(&told) == *asked, "{line}");
     }
-    Ok(())
 }
 
+/// Command lines, and whether a refusal is explained.
+static EXPLAINED: [(&str, bool); 3] = [
+    ("sdlrun check", false),
+    ("sdlrun check --explain", true),
+    ("sdlrun run --explain a", true),
+];
+
 #[test]
-fn explains_where_asked(rt: HostRuntime) -> Result<(), Fail> {
-    for (line, explain) in [
-        ("sdlrun check", false),
-        ("sdlrun check --explain", true),
-        ("sdlrun run --explain a", true),
-    ] {
-        let task = task_of(rt.alloc(), line)?;
-        assert_eq!(rt; is_explained(&task), explain, "{line}");
+fn explains_where_asked(rt: HostRuntime) {
+    for (line, explain) in &EXPLAINED {
+        let told = told(&rt, rt.alloc(), line);
+        assert!(rt; is_explained(&told) == *explain, "{line}");
     }
-    Ok(())
 }
 
 /// Command lines that aren't mistakes, though nothing is read for them.
@@ -80,39 +82,31 @@ static ANSWERED: [(&str, ErrorKind); 4] = [
 ];
 
 #[test]
-fn answered_lines(rt: HostRuntime) -> Result<(), Fail> {
+fn answered_lines(rt: HostRuntime) {
     for (line, kind) in &ANSWERED {
-        let found = kind_of(rt.alloc(), line)?;
-        assert_eq!(rt; found, Some(*kind), "{line}");
-    }
-    Ok(())
-}
-
-/// What the words of a line choose; none for a mistake, and for help.
-fn task_of(alloc: Global, line: &str) -> Result<Option<Task>, AllocError> {
-    let words = words(alloc, line)?;
-    Ok(chosen(alloc, words.as_slice()).ok())
-}
-
-/// As what a line is told by which nothing is to be done; none for one by which something is.
-fn kind_of(alloc: Global, line: &str) -> Result<Option<ErrorKind>, AllocError> {
-    let words = words(alloc, line)?;
-    match chosen(alloc, words.as_slice()) {
-        Ok(_) => Ok(None),
-        Err(error) => Ok(Some(error.kind())),
+        let told = told(&rt, rt.alloc(), line);
+        assert!(rt; kind_of(&told) == Some(*kind), "{line}");
     }
 }
 
-fn words(alloc: Global, line: &str) -> Result<Vec<String>, AllocError> {
+/// What the words of a line choose, or as what the line is told by which nothing is to be done.
+fn told(rt: &impl Abort, alloc: Global, line: &str) -> Result<Task, Error> {
+    let words = words(rt, alloc, line);
+    chosen(alloc, words.as_slice())
+}
+
+fn words(rt: &impl Abort, alloc: Global, line: &str) -> Vec<String> {
     let mut words = Vec::new(alloc);
     for word in line.split(" ") {
-        words.push(String::from_str(alloc, word)?)?;
+        let word = String::from_str(alloc, word).expect(rt, "memory");
+        words.push(word).expect(rt, "memory");
     }
-    Ok(words)
+    words
 }
 
-fn asked_by(task: &Option<Task>) -> Option<Asked<'_>> {
-    let Some(task) = task else {
+/// What is asked for; none by a mistake, and by help.
+fn asked_by(told: &Result<Task, Error>) -> Option<Asked<'_>> {
+    let Ok(task) = told else {
         return None;
     };
     let Options { command, limit } = task.options;
@@ -126,9 +120,17 @@ fn name_in(name: &Option<String>) -> Option<&str> {
     }
 }
 
-fn is_explained(task: &Option<Task>) -> bool {
-    match task {
-        Some(task) => task.explain,
-        None => false,
+fn is_explained(told: &Result<Task, Error>) -> bool {
+    match told {
+        Ok(task) => task.explain,
+        Err(_) => false,
+    }
+}
+
+/// As what a line is told by which nothing is to be done; none for one by which something is.
+fn kind_of(told: &Result<Task, Error>) -> Option<ErrorKind> {
+    match told {
+        Ok(_) => None,
+        Err(error) => Some(error.kind()),
     }
 }

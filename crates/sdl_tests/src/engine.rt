@@ -9,19 +9,18 @@ use sdl_lex::LexError;
 use sdl_parse::ParseError;
 use sdl_script::ScriptError;
 use sdl_serial::RunError;
-use std::alloc::{AllocError, Global};
+use std::alloc::Global;
 use std::process::Abort;
-use std::test::Fail;
 
 /// The signal is discarded, and the timer expires between two lines of the script.
-const TEXT: &str = "system S; signal a; process P; timer t := 3;
+static TEXT: &str = "system S; signal a; process P; timer t := 3;
 start; set(t); nextstate s; state s; input t; stop; endprocess; endsystem;
 %script
 2 a to P
 7
 ";
 
-const REPORT: &str = "instance #1 P parent null
+static REPORT: &str = "instance #1 P parent null
 0 start
   set t 3
   nextstate s
@@ -31,7 +30,7 @@ const REPORT: &str = "instance #1 P parent null
 end 7 whole
 ";
 
-const CANONICAL: &str = "system S ;
+static CANONICAL: &str = "system S ;
 signal a ;
 process P ;
 timer t := 3 ;
@@ -46,180 +45,189 @@ endprocess P ;
 endsystem S ;
 ";
 
-const REFUSED: &str = "system S; signal a; endsystem;
+static REFUSED: &str = "system S; signal a; endsystem;
 %script
 0 a
 ";
 
-const REFUSAL: &str = "script 1 UnknownSignal\n";
+static REFUSAL: &str = "script 1 UnknownSignal\n";
 
-const RUN: Options = Options {
+static RUN: Options = Options {
     command: Command::Run,
     limit: Options::DEFAULT_LIMIT,
 };
 
-const CHECK: Options = Options {
+static CHECK: Options = Options {
     command: Command::Check,
     limit: Options::DEFAULT_LIMIT,
 };
 
 #[test]
-fn reads_and_writes_single_bytes(rt: HostRuntime) -> Result<(), Fail> {
-    for (options, output) in [(RUN, REPORT), (CHECK, CANONICAL)] {
-        let mut reader = Trickle {
-            rest: TEXT.as_bytes(),
-            interrupted: false,
-        };
-        let mut writer = Hurried {
-            taken: Vec::new(rt.alloc()),
-            interrupted: false,
-        };
-        assert_eq!(rt;
-            run_text(rt.alloc(), &mut reader, &mut writer, &options),
-            Ok(Outcome::Whole)
-        );
-        assert_eq!(rt; writer.taken.as_slice(), output.as_bytes());
-    }
-    Ok(())
+fn reads_and_writes_single_bytes(rt: HostRuntime) {
+    expect_single_bytes(&rt, rt.alloc(), &RUN, REPORT);
+    expect_single_bytes(&rt, rt.alloc(), &CHECK, CANONICAL);
+}
+
+fn expect_single_bytes(rt: &impl Abort, alloc: Global, options: &Options, output: &str) {
+    let mut reader = Trickle {
+        rest: TEXT.as_bytes(),
+        interrupted: false,
+    };
+    let mut writer = Hurried {
+        taken: Vec::new(alloc),
+        interrupted: false,
+    };
+    let told = run_text(alloc, &mut reader, &mut writer, options);
+    assert!(rt; told == Ok(Outcome::Whole));
+    assert!(rt; writer.taken.as_slice() == output.as_bytes());
 }
 
 #[test]
-fn tells_a_reader_that_fails(rt: HostRuntime) -> Result<(), Fail> {
-    for options in [RUN, CHECK] {
-        let mut written = Vec::new(rt.alloc());
-        let mut reader = Torn {
-            rest: TEXT.as_bytes(),
-        };
-        assert_eq!(rt;
-            run_text(rt.alloc(), &mut reader, &mut written, &options),
-            Err(TextFault::Read)
-        );
-        assert!(rt; written.is_empty());
-    }
-    Ok(())
+fn tells_a_reader_that_fails(rt: HostRuntime) {
+    expect_torn(&rt, rt.alloc(), &RUN);
+    expect_torn(&rt, rt.alloc(), &CHECK);
+}
+
+fn expect_torn(rt: &impl Abort, alloc: Global, options: &Options) {
+    let mut written = Vec::new(alloc);
+    let mut reader = Torn {
+        rest: TEXT.as_bytes(),
+    };
+    let told = run_text(alloc, &mut reader, &mut written, options);
+    assert!(rt; told == Err(TextFault::Read));
+    assert!(rt; written.is_empty());
 }
 
 // The text takes one read, and the end of the input another.
 #[test]
-fn bounds_the_reads(rt: HostRuntime) -> Result<(), Fail> {
-    for (interruptions, told) in [
-        (4_194_302u32, Ok(Outcome::Whole)),
-        (4_194_303, Err(TextFault::Read)),
-        (u32::MAX, Err(TextFault::Read)),
-    ] {
-        let mut reader = Restless {
-            interruptions,
-            rest: TEXT.as_bytes(),
+fn bounds_the_reads(rt: HostRuntime) {
+    expect_restless(&rt, rt.alloc(), 4_194_302, Ok(Outcome::Whole));
+    expect_restless(&rt, rt.alloc(), 4_194_303, Err(TextFault::Read));
+    expect_restless(&rt, rt.alloc(), u32::MAX, Err(TextFault::Read));
+}
+
+/// Sees what comes of so many interruptions, and that something is written where that is no fault.
+fn expect_restless(
+    rt: &impl Abort,
+    alloc: Global,
+    interruptions: u32,
+    wanted: Result<Outcome, TextFault>,
+) {
+    let mut reader = Restless {
+        interruptions,
+        rest: TEXT.as_bytes(),
+    };
+    let mut written = Vec::new(alloc);
+    let told = run_text(alloc, &mut reader, &mut written, &RUN);
+    assert!(rt; told == wanted);
+    assert!(rt; written.is_empty() == wanted.is_err());
+}
+
+#[test]
+fn tells_a_writer_that_fails(rt: HostRuntime) {
+    expect_narrow_writers(&rt, rt.alloc(), &RUN, TEXT, REPORT);
+    expect_narrow_writers(&rt, rt.alloc(), &CHECK, TEXT, CANONICAL);
+    expect_narrow_writers(&rt, rt.alloc(), &RUN, REFUSED, REFUSAL);
+}
+
+/// How much a writer takes, and whether it fails then.
+static ROOMS: [(usize, bool); 4] = [(0, true), (0, false), (20, true), (20, false)];
+
+fn expect_narrow_writers(
+    rt: &impl Abort,
+    alloc: Global,
+    options: &Options,
+    text: &str,
+    output: &str,
+) {
+    for (room, fails) in &ROOMS {
+        let writer = Narrow {
+            taken: Vec::new(alloc),
+            room: *room,
+            fails: *fails,
         };
-        let mut written = Vec::new(rt.alloc());
-        assert_eq!(rt; run_text(rt.alloc(), &mut reader, &mut written, &RUN), told);
-        assert_eq!(rt; written.is_empty(), told.is_err());
+        expect_beginning(rt, alloc, options, text, output, writer);
     }
-    Ok(())
+}
+
+/// Sees that the fault of a writer is told, and that it took the beginning of the output that it has room for.
+fn expect_beginning(
+    rt: &impl Abort,
+    alloc: Global,
+    options: &Options,
+    text: &str,
+    output: &str,
+    mut writer: Narrow,
+) {
+    let room = writer.room;
+    let mut reader = text.as_bytes();
+    let told = run_text(alloc, &mut reader, &mut writer, options);
+    assert!(rt; told == Err(TextFault::Write));
+    assert!(rt; writer.taken.len() == room);
+    assert!(rt;
+        output.as_bytes().starts_with(writer.taken.as_slice()),
+        "at {room}"
+    );
 }
 
 #[test]
-fn tells_a_writer_that_fails(rt: HostRuntime) -> Result<(), Fail> {
-    for (options, text, output) in [
-        (RUN, TEXT, REPORT),
-        (CHECK, TEXT, CANONICAL),
-        (RUN, REFUSED, REFUSAL),
-    ] {
-        for (room, fails) in [(0usize, true), (0, false), (20, true), (20, false)] {
-            let mut reader = text.as_bytes();
-            let mut writer = Narrow {
-                taken: Vec::new(rt.alloc()),
-                room,
-                fails,
-            };
-            assert_eq!(rt;
-                run_text(rt.alloc(), &mut reader, &mut writer, &options),
-                Err(TextFault::Write)
-            );
-            assert_eq!(rt; writer.taken.len(), room);
-            assert!(rt;
-                output.as_bytes().starts_with(writer.taken.as_slice()),
-                "at {room}"
-            );
-        }
-    }
-    Ok(())
-}
-
-#[test]
-fn has_lines_of_parsing_that_need_no_memory(rt: HostRuntime) -> Result<(), Fail> {
+fn has_lines_that_need_no_memory(rt: HostRuntime) {
     let alloc = rt.alloc();
-    has_fixed_line(
-        &rt,
-        alloc,
-        Refusal::Parse(ParseError::Lex(LexError::TooLong)),
-        "lex 1:1 TooLong\n",
-    )?;
-    has_fixed_line(
-        &rt,
-        alloc,
-        Refusal::Parse(ParseError::Lex(LexError::Memory)),
-        "lex Memory\n",
-    )?;
-    has_fixed_line(
+    let too_long = ParseError::Lex(LexError::TooLong);
+    expect_fixed_line(&rt, alloc, Refusal::Parse(too_long), "lex 1:1 TooLong\n");
+    let memory = ParseError::Lex(LexError::Memory);
+    expect_fixed_line(&rt, alloc, Refusal::Parse(memory), "lex Memory\n");
+    expect_fixed_line(
         &rt,
         alloc,
         Refusal::Parse(ParseError::Memory),
         "parse Memory\n",
-    )?;
-    Ok(())
-}
-
-#[test]
-fn has_lines_that_need_no_memory(rt: HostRuntime) -> Result<(), Fail> {
-    let alloc = rt.alloc();
-    has_fixed_line(
+    );
+    expect_fixed_line(
         &rt,
         alloc,
         Refusal::Build(BuildError::Memory),
         "build Memory\n",
-    )?;
-    has_fixed_line(
+    );
+    expect_fixed_line(
         &rt,
         alloc,
         Refusal::Script(ScriptError::Memory),
         "script Memory\n",
-    )?;
-    has_fixed_line(&rt, alloc, Refusal::Run(RunError::Memory), "run Memory\n")?;
-    Ok(())
+    );
+    expect_fixed_line(&rt, alloc, Refusal::Run(RunError::Memory), "run Memory\n");
 }
 
 #[test]
-fn has_lines_that_are_made(rt: HostRuntime) -> Result<(), Fail> {
-    for (error, line) in [
-        (ScriptError::Syntax(12), "script 12 Syntax\n"),
-        (ScriptError::BackInTime(3), "script 3 BackInTime\n"),
-    ] {
-        let refusal = Refusal::Script(error);
-        assert_eq!(rt; fixed_line(&refusal), None);
-        has_line(&rt, rt.alloc(), &refusal, line)?;
-    }
-    Ok(())
+fn has_lines_that_are_made(rt: HostRuntime) {
+    expect_made_line(
+        &rt,
+        rt.alloc(),
+        ScriptError::Syntax(12),
+        "script 12 Syntax\n",
+    );
+    expect_made_line(
+        &rt,
+        rt.alloc(),
+        ScriptError::BackInTime(3),
+        "script 3 BackInTime\n",
+    );
 }
 
 /// Sees that a refusal has this line, with memory and without.
-fn has_fixed_line(
-    rt: &impl Abort,
-    alloc: Global,
-    refusal: Refusal,
-    line: &str,
-) -> Result<(), AllocError> {
-    assert_eq!(rt; fixed_line(&refusal), Some(line));
-    has_line(rt, alloc, &refusal, line)
+fn expect_fixed_line(rt: &impl Abort, alloc: Global, refusal: Refusal, line: &str) {
+    assert!(rt; fixed_line(&refusal) == Some(line));
+    expect_line(rt, alloc, &refusal, line);
 }
 
-fn has_line(
-    rt: &impl Abort,
-    alloc: Global,
-    refusal: &Refusal,
-    line: &str,
-) -> Result<(), AllocError> {
-    let told = refusal_line(alloc, refusal)?;
-    assert_eq!(rt; told.as_str(), line);
-    Ok(())
+/// Sees that a script's refusal has this line, and only with memory.
+fn expect_made_line(rt: &impl Abort, alloc: Global, error: ScriptError, line: &str) {
+    let refusal = Refusal::Script(error);
+    assert!(rt; fixed_line(&refusal).is_none());
+    expect_line(rt, alloc, &refusal, line);
+}
+
+fn expect_line(rt: &impl Abort, alloc: Global, refusal: &Refusal, line: &str) {
+    let told = refusal_line(alloc, refusal).expect(rt, "memory");
+    assert!(rt; told.as_str() == line);
 }
