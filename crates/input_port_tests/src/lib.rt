@@ -1,6 +1,7 @@
-//! Tests of the port of many senders and one owner: calls on their happy paths, whole rows of calls, and calls from several threads.
+//! Tests of the port of many senders and one owner: calls on their happy paths, whole rows of calls, and calls from several threads;
+//! and of the sending side of an instance: each call that can be refused, where memory is there.
 //!
-//! They stand above `input_port`, so that it isn't proved a second time for its tests.
+//! They stand above `input_port` and `sdl_peers`, so that these aren't proved a second time for their tests.
 #![tactic(auto)]
 
 #[cfg(test)]
@@ -9,6 +10,10 @@ mod calls;
 mod ends;
 #[cfg(test)]
 mod inboxes;
+#[cfg(test)]
+mod peer_ends;
+#[cfg(test)]
+mod peers;
 #[cfg(test)]
 mod senders;
 #[cfg(test)]

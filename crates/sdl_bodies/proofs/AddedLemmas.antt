@@ -13,7 +13,7 @@ use Rattle.sdl_nodes.specs.declared.table.Mark.{Mark}
 use Rattle.sdl_nodes.proofs.CountLemmas.{at-end, gathers-last, kept-behind}
 use Rattle.sdl_nodes.proofs.LinkLemmas.{times-in}
 use Rattle.sdl_nodes.proofs.MadeLemmas.{body-made}
-use Rattle.sdl_scope.specs.FaultLaws.{In}
+use Rattle.sdl_faults.specs.FaultLaws.{In}
 use Rattle.sdl_sorts.specs.Partial.{both}
 use Rattle.sdl_system.specs.Body as body
 use Rattle.sdl_system.specs.Body.{Body, Ends}

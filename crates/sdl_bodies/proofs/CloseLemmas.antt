@@ -20,9 +20,9 @@ use Rattle.sdl_nodes.specs.Contexts.{Context, label_in}
 use Rattle.sdl_nodes.specs.Labels.{itself, joined, no_label, not_joined, times}
 use Rattle.sdl_nodes.specs.Made.{Closed, all_joins, all_labels}
 use Rattle.sdl_nodes.specs.Transitions.{body_in}
-use Rattle.sdl_scope.specs.FaultLaws.{In}
-use Rattle.sdl_scope.specs.Faults.{Told, fault_if}
-use Rattle.sdl_scope.specs.declared.fault.Kind.{Kind}
+use Rattle.sdl_faults.specs.FaultLaws.{In}
+use Rattle.sdl_faults.specs.Faults.{Told, fault_if}
+use Rattle.sdl_faults.specs.declared.fault.Kind.{Kind}
 use Rattle.sdl_system.specs.Body as body
 use Rattle.sdl_system.specs.Body.{Body, Ends, FromLabel}
 use Rattle.sdl_system.specs.Table.{LabelOf}

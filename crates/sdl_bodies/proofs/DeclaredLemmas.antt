@@ -6,7 +6,7 @@ use Rattle.sdl_bodies.proofs.CloseLemmas.{no-fault}
 use Rattle.sdl_bodies.proofs.EndLemmas.{some-same}
 use Rattle.sdl_bodies.specs.Numbered.{AreDifferent, declared_faults}
 use Rattle.sdl_scope.specs.Names.{first_of}
-use Rattle.sdl_scope.specs.declared.fault.Kind.TheVariants.{Duplicate}
+use Rattle.sdl_faults.specs.declared.fault.Kind.TheVariants.{Duplicate}
 use Rattle.sdl_system.specs.declared.id.LabelId.{LabelId}
 use Rattle.sdl_tree.specs.Words.{Spot}
 

@@ -7,7 +7,7 @@ use Rattle.sdl_nodes.specs.Statements.{answers_in, asked_in, create_in, kind_in,
 use Rattle.sdl_nodes.specs.Transitions.{Head, Piece, acts, asks, before, body_in, ending_in, head_in, labelled, other_in, parts_of, piece, pieces_in, steps_in}
 use Rattle.sdl_sorts.specs.Partial.{both}
 use Rattle.sdl_sorts.specs.Typing.{term_in}
-use Rattle.sdl_sorts.specs.declared.kind.Kind.{Kind}
+use Rattle.sdl_kinds.specs.declared.kind.Kind.{Kind}
 use Rattle.sdl_system.proofs.BodyLemmas.{Ends-first, Ends-second}
 use Rattle.sdl_system.specs.Body as body
 use Rattle.sdl_system.specs.Body.{AllEnd, Body, Ends, FromLabel, InParts, followed, here, in_first, in_later, in_otherwise, past_action, past_decision, past_label, within}

@@ -12,7 +12,7 @@ use Rattle.sdl_nodes.specs.Statements.{answers_in, asked_in, create_in, kind_in,
 use Rattle.sdl_nodes.specs.Transitions.{Head, Piece, acts, asks, before, body_in, ending_in, head_in, other_in, parts_of, piece, pieces_in, steps_in}
 use Rattle.sdl_sorts.specs.Partial.{both}
 use Rattle.sdl_sorts.specs.Typing.{term_in}
-use Rattle.sdl_sorts.specs.declared.kind.Kind.{Kind}
+use Rattle.sdl_kinds.specs.declared.kind.Kind.{Kind}
 use Rattle.sdl_system.specs.Body as body
 use Rattle.sdl_system.specs.Body.{Body}
 use Rattle.sdl_system.specs.declared.id.LabelId.{LabelId}

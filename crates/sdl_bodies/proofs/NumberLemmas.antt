@@ -9,7 +9,7 @@ use Rattle.sdl_bodies.specs.Numbered.{AreNumbered, numbered}
 use Rattle.sdl_labels.specs.Labels.{process_labels}
 use Rattle.sdl_nodes.specs.Contexts.{Context, label_in}
 use Rattle.sdl_nodes.specs.Labels.{times}
-use Rattle.sdl_scope.specs.FaultLaws.{In}
+use Rattle.sdl_faults.specs.FaultLaws.{In}
 use Rattle.sdl_scope.specs.Names.{first_of}
 use Rattle.sdl_system.specs.declared.id.LabelId.{LabelId}
 use Rattle.sdl_tree.specs.Tree.{ProcessDefinition}

@@ -4,7 +4,7 @@ use Rattle.std.specs.Prelude.{List, Option, flat_map, map}
 use Rattle.sdl_ends.specs.Beginnings.{Beginning, beginnings}
 use Rattle.sdl_nodes.specs.Contexts.{Context}
 use Rattle.sdl_nodes.specs.Transitions.{body_in, labelled, transition_faults}
-use Rattle.sdl_scope.specs.Faults.{Told}
+use Rattle.sdl_faults.specs.Faults.{Told}
 use Rattle.sdl_system.specs.Body.{Body}
 use Rattle.sdl_tree.specs.Tree.{ProcessDefinition}
 

@@ -2,9 +2,9 @@
 use Rattle.std.specs.Prelude.{◌≡◌, ◌+◌, ◌++◌, ℕ, List, [], ◌∷◌, Some, is_some, slice_get}
 use Rattle.sdl_labels.specs.Labels.{process_labels}
 use Rattle.sdl_nodes.specs.Contexts.{Context}
-use Rattle.sdl_scope.specs.Faults.{Told, fault_if}
+use Rattle.sdl_faults.specs.Faults.{Told, fault_if}
 use Rattle.sdl_scope.specs.Names.{first_of}
-use Rattle.sdl_scope.specs.declared.fault.Kind.TheVariants.{Duplicate}
+use Rattle.sdl_faults.specs.declared.fault.Kind.TheVariants.{Duplicate}
 use Rattle.sdl_system.specs.declared.id.LabelId.{LabelId}
 use Rattle.sdl_tree.specs.Tree.{ProcessDefinition}
 use Rattle.sdl_tree.specs.Words.{Spot}

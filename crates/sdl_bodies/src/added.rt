@@ -7,12 +7,12 @@ ghost use Rattle.sdl_ends.specs.Beginnings.{part_beginnings, stimulus_beginnings
 ghost use Rattle.sdl_nodes.specs.Built.{BuiltIf, Table, table_of};
 ghost use Rattle.sdl_nodes.specs.Contexts.{context_of};
 ghost use Rattle.sdl_nodes.specs.Transitions.{body_in, labelled, transition_faults};
-ghost use Rattle.sdl_scope.specs.Faults.{least_of, told};
+ghost use Rattle.sdl_faults.specs.Faults.{least_of, told};
 ghost use Rattle.sdl_system.specs.Body.{Body};
 ghost use Rattle.sdl_tree.specs.Views.{body_part_value, name_value, stimulus_value, transition_value};
 
 use sdl_nodes::{Context, NodeTable, add};
-use sdl_scope::Faults;
+use sdl_faults::Faults;
 use sdl_system::NodeId;
 use sdl_tree::{BodyPart, FreeAction, Name, Stimulus, Transition};
 use std::alloc::{AllocError, Global};

@@ -8,13 +8,13 @@ ghost use Rattle.sdl_ends.specs.Beginnings.{beginnings};
 ghost use Rattle.sdl_nodes.specs.Built.{table_of};
 ghost use Rattle.sdl_nodes.specs.Contexts.{context_of};
 ghost use Rattle.sdl_nodes.specs.Made.{Closed};
-ghost use Rattle.sdl_scope.specs.Faults.{least_of, told};
+ghost use Rattle.sdl_faults.specs.Faults.{least_of, told};
 ghost use Rattle.sdl_system.specs.Body.{Body};
 ghost use Rattle.sdl_tree.specs.Views.{process_value};
 
 use crate::added::{Added, add_parts, add_transition, nothing_added};
 use sdl_nodes::Context;
-use sdl_scope::Faults;
+use sdl_faults::Faults;
 use sdl_stimuli::TransitionId;
 use sdl_system::{Node, NodeId};
 use sdl_tree::ProcessDefinition;

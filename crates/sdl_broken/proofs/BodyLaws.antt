@@ -15,9 +15,9 @@ use Rattle.sdl_nodes.proofs.ListedLaws as node_listed
 use Rattle.sdl_nodes.specs.Broken as transitions
 use Rattle.sdl_process.specs.Faulty.{body_faults}
 use Rattle.sdl_process.specs.Surroundings.{Surroundings, for_stimuli, for_transitions}
-use Rattle.sdl_scope.proofs.FaultLemmas.{each-both, each-of, in-each, in-left, in-right}
-use Rattle.sdl_scope.specs.FaultLaws.{Each, In}
-use Rattle.sdl_scope.specs.Faults.{Told}
+use Rattle.sdl_faults.proofs.FaultLemmas.{each-both, each-of, in-each, in-left, in-right}
+use Rattle.sdl_faults.specs.FaultLaws.{Each, In}
+use Rattle.sdl_faults.specs.Faults.{Told}
 use Rattle.sdl_sorts.proofs.ListedLaws.{each-weaker}
 use Rattle.sdl_states.proofs.BrokenLaws as state_laws
 use Rattle.sdl_states.specs.Broken as states

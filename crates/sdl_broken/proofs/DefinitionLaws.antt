@@ -20,11 +20,11 @@ use Rattle.sdl_names.proofs.BrokenLaws as name_laws
 use Rattle.sdl_names.specs.Broken.{IsDeclaredTwice}
 use Rattle.sdl_names.specs.Meanings.{duplicate_faults}
 use Rattle.sdl_names.specs.declared.declared.Declared.{Declared}
-use Rattle.sdl_scope.proofs.FaultLemmas.{each-both, each-of, in-each, in-left, in-right}
+use Rattle.sdl_faults.proofs.FaultLemmas.{each-both, each-of, in-each, in-left, in-right}
 use Rattle.sdl_scope.proofs.LimitLaws as limit_laws
 use Rattle.sdl_scope.specs.Broken.{IsLimit}
-use Rattle.sdl_scope.specs.FaultLaws.{Each, In}
-use Rattle.sdl_scope.specs.Faults.{Told}
+use Rattle.sdl_faults.specs.FaultLaws.{Each, In}
+use Rattle.sdl_faults.specs.Faults.{Told}
 use Rattle.sdl_scope.specs.Limits.{limit_faults}
 use Rattle.sdl_sorts.proofs.ConstantLaws.{broken-listed-constant, listed-broken-constant}
 use Rattle.sdl_sorts.proofs.ListedLaws.{each-weaker}

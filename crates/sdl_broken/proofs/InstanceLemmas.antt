@@ -8,9 +8,9 @@ use Rattle.sdl_declared.specs.Tables.{Rows}
 use Rattle.sdl_figures.specs.Figures.{all_counts, counts_at}
 use Rattle.sdl_figures.specs.Limit.{limit_faults, limit_from, most_instances, taken_by}
 use Rattle.sdl_names.specs.declared.declared.Declared.{Declared}
-use Rattle.sdl_scope.specs.FaultLaws.{Each, In}
-use Rattle.sdl_scope.specs.Faults.{Told, told_at}
-use Rattle.sdl_scope.specs.declared.fault.Kind.TheVariants.{Limit}
+use Rattle.sdl_faults.specs.FaultLaws.{Each, In}
+use Rattle.sdl_faults.specs.Faults.{Told, told_at}
+use Rattle.sdl_faults.specs.declared.fault.Kind.TheVariants.{Limit}
 use Rattle.sdl_sorts.specs.declared.scope.Constant.{Constant}
 
 -- ---- numbers

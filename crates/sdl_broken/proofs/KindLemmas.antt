@@ -21,16 +21,16 @@ use Rattle.sdl_nodes.specs.Contexts as node_contexts
 use Rattle.sdl_nodes.specs.Statements.{asked_in, kind_in}
 use Rattle.sdl_process.specs.Faulty.{flow_faults}
 use Rattle.sdl_process.specs.Surroundings.{for_stimuli, for_transitions}
-use Rattle.sdl_scope.proofs.FaultLemmas.{each-both, each-of}
-use Rattle.sdl_scope.specs.FaultLaws.{Each}
-use Rattle.sdl_scope.specs.Faults.{Told}
-use Rattle.sdl_scope.specs.declared.fault.Kind.TheVariants.{Limit, NoEnd, NoState}
+use Rattle.sdl_faults.proofs.FaultLemmas.{each-both, each-of}
+use Rattle.sdl_faults.specs.FaultLaws.{Each}
+use Rattle.sdl_faults.specs.Faults.{Told}
+use Rattle.sdl_faults.specs.declared.fault.Kind.TheVariants.{Limit, NoEnd, NoState}
 use Rattle.sdl_sorts.proofs.ListedLaws.{each-weaker}
 use Rattle.sdl_sorts.specs.Broken as sorted
 use Rattle.sdl_sorts.specs.Scope.{Scope, signal_in}
 use Rattle.sdl_sorts.specs.declared.context.Context.{Context}
 use Rattle.sdl_sorts.specs.declared.context.Context.TheVariants as place
-use Rattle.sdl_sorts.specs.declared.kind.Kind as sort_kinds
+use Rattle.sdl_kinds.specs.declared.kind.Kind as sort_kinds
 use Rattle.sdl_states.proofs.BrokenLaws as state_laws
 use Rattle.sdl_states.specs.Broken as states
 use Rattle.sdl_states.specs.States.{process_faults, states_faults}

@@ -2,10 +2,10 @@
 use Rattle.std.proofs.Common.{◌≡◌, ◌∙◌, ◌==◌, ◌&&◌, ◌||◌, ℕ, Bool, false, [], ◌∷◌, None, ap, arith, nat_lt, refl, sym}
 use Rattle.std.proofs.lemmas.Bool.Decides.{nat_tests}
 use Rattle.sdl_broken.specs.Limits.{IsNoLimit, LimitFirst, LimitStays}
-use Rattle.sdl_scope.proofs.FaultLemmas.{both_noted}
-use Rattle.sdl_scope.specs.Faults.{Told, is_less, least_of, phase, precedes, rank}
-use Rattle.sdl_scope.specs.declared.fault.Kind.{Kind}
-use Rattle.sdl_scope.specs.declared.fault.Kind.TheVariants.{BadCount, Duplicate, Limit, NoEnd, NoLabel, NoRoute, NoState, Sort, TwiceInState, Unknown}
+use Rattle.sdl_faults.proofs.FaultLemmas.{both_noted}
+use Rattle.sdl_faults.specs.Faults.{Told, is_less, least_of, phase, precedes, rank}
+use Rattle.sdl_faults.specs.declared.fault.Kind.{Kind}
+use Rattle.sdl_faults.specs.declared.fault.Kind.TheVariants.{BadCount, Duplicate, Limit, NoEnd, NoLabel, NoRoute, NoState, Sort, TwiceInState, Unknown}
 
 no-phase : (kind : Kind) → (kind ≡ Limit → ⊥) → phase kind ≡ 1
 no-phase Unknown isnt = refl

@@ -7,10 +7,9 @@ use Rattle.sdl_constants.specs.Broken.{BreaksCounts, IsBrokenInCounts, IsInitial
 use Rattle.sdl_constants.specs.Counts.{accepted, allows_none, are_misfit, counts_faults, counts_in, exceeds, maximum_in, number_part, part_faults, part_in, with_maximum}
 use Rattle.sdl_figures.specs.Limit.{taken_by}
 use Rattle.sdl_figures.specs.Scopes.{scope_in}
-use Rattle.sdl_scope.proofs.FaultLemmas.{each-in, in-if, in-right}
-use Rattle.sdl_scope.specs.Faults.{Told, fault_if, told_at}
-use Rattle.sdl_scope.specs.Limits.{mark_word}
-use Rattle.sdl_scope.specs.declared.fault.Kind.TheVariants.{BadCount}
+use Rattle.sdl_faults.proofs.FaultLemmas.{each-in, in-if, in-right}
+use Rattle.sdl_faults.specs.Faults.{Told, fault_if, told_at, mark_word}
+use Rattle.sdl_faults.specs.declared.fault.Kind.TheVariants.{BadCount}
 use Rattle.sdl_sorts.specs.Scope.{Scope}
 use Rattle.sdl_sorts.specs.declared.scope.Constant.TheVariants as constants
 use Rattle.sdl_system.specs.Operation.{number_of}

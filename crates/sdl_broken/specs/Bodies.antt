@@ -7,8 +7,8 @@ use Rattle.sdl_ends.specs.Reach.{AreReached}
 use Rattle.sdl_nodes.specs.Broken as transitions
 use Rattle.sdl_process.specs.Faulty.{body_faults}
 use Rattle.sdl_process.specs.Surroundings.{Surroundings, for_stimuli, for_transitions}
-use Rattle.sdl_scope.specs.FaultLaws.{Each, In}
-use Rattle.sdl_scope.specs.Faults.{Told}
+use Rattle.sdl_faults.specs.FaultLaws.{Each, In}
+use Rattle.sdl_faults.specs.Faults.{Told}
 use Rattle.sdl_states.specs.Broken as states
 use Rattle.sdl_stimuli.specs.Broken as stimuli
 use Rattle.sdl_tree.specs.Tree.{ProcessDefinition}

@@ -13,8 +13,8 @@ use Rattle.sdl_names.specs.Broken.{IsDeclaredTwice}
 use Rattle.sdl_names.specs.Meanings.{duplicate_faults}
 use Rattle.sdl_names.specs.declared.declared.Declared.{Declared}
 use Rattle.sdl_scope.specs.Broken.{IsLimit}
-use Rattle.sdl_scope.specs.FaultLaws.{Each, In}
-use Rattle.sdl_scope.specs.Faults.{Told}
+use Rattle.sdl_faults.specs.FaultLaws.{Each, In}
+use Rattle.sdl_faults.specs.Faults.{Told}
 use Rattle.sdl_scope.specs.Limits.{limit_faults}
 use Rattle.sdl_sorts.specs.Broken.{IsBrokenConstant}
 use Rattle.sdl_sorts.specs.declared.scope.Constant.{Constant}

@@ -9,8 +9,8 @@ use Rattle.sdl_figures.specs.Figures.{counts_at}
 use Rattle.sdl_figures.specs.Limit.{most_instances, taken_by}
 use Rattle.sdl_figures.specs.Scopes.{scope_in}
 use Rattle.sdl_names.specs.declared.declared.Declared.{Declared}
-use Rattle.sdl_scope.specs.Faults.{Told, told_at}
-use Rattle.sdl_scope.specs.declared.fault.Kind.TheVariants.{Limit}
+use Rattle.sdl_faults.specs.Faults.{Told, told_at}
+use Rattle.sdl_faults.specs.declared.fault.Kind.TheVariants.{Limit}
 use Rattle.sdl_sorts.specs.Scope.{Scope}
 use Rattle.sdl_sorts.specs.declared.scope.Constant.{Constant}
 use Rattle.sdl_tree.specs.Tree.{Counts}

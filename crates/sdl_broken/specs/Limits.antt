@@ -5,9 +5,9 @@ use Rattle.sdl_names.specs.declared.declared.Declared.{Declared}
 use Rattle.sdl_network.specs.Network.{network_faults}
 use Rattle.sdl_process.specs.Faulty.{body_faults}
 use Rattle.sdl_process.specs.Surroundings.{Surroundings}
-use Rattle.sdl_scope.specs.FaultLaws.{Each}
-use Rattle.sdl_scope.specs.Faults.{Told, least_of}
-use Rattle.sdl_scope.specs.declared.fault.Kind.TheVariants.{Limit}
+use Rattle.sdl_faults.specs.FaultLaws.{Each}
+use Rattle.sdl_faults.specs.Faults.{Told, least_of}
+use Rattle.sdl_faults.specs.declared.fault.Kind.TheVariants.{Limit}
 use Rattle.sdl_tree.specs.Tree.{ProcessDefinition}
 
 -- the fault is no limit that is passed

@@ -15,7 +15,7 @@ use Rattle.sdl_declared.specs.Tables.{Rows}
 use Rattle.sdl_names.specs.declared.declared.Declared.{Declared}
 use Rattle.sdl_signal_lists.specs.Numbered.{numbered}
 use Rattle.sdl_process.specs.Faulty.{NotesBody}
-use Rattle.sdl_scope.specs.Faults.{Told}
+use Rattle.sdl_faults.specs.Faults.{Told}
 use Rattle.sdl_routes.proofs.TableLemmas.{get_push}
 use Rattle.sdl_routes.specs.Valid.{AreValid}
 use Rattle.sdl_channels.specs.declared.network.Network.{Network}

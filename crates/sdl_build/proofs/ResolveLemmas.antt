@@ -19,11 +19,11 @@ use Rattle.sdl_figures.specs.Figures.{all_durations, figures_faults}
 use Rattle.sdl_figures.specs.Synonyms.{AreSynonymConstants}
 use Rattle.sdl_names.specs.Meanings.{duplicate_faults}
 use Rattle.sdl_names.specs.Spaces.{AreNamesOf}
-use Rattle.sdl_scope.proofs.FaultLemmas.{both_noted}
-use Rattle.sdl_scope.specs.Faults.{Told, least_of}
+use Rattle.sdl_faults.proofs.FaultLemmas.{both_noted}
+use Rattle.sdl_faults.specs.Faults.{Told, least_of}
 use Rattle.sdl_scope.specs.Limits.{limit_faults}
-use Rattle.sdl_scope.specs.declared.fault.Kind.{Kind}
-use Rattle.sdl_scope.specs.declared.fault.Kind.TheVariants as kind
+use Rattle.sdl_faults.specs.declared.fault.Kind.{Kind}
+use Rattle.sdl_faults.specs.declared.fault.Kind.TheVariants as kind
 use Rattle.sdl_system.specs.System.{SystemValue}
 use Rattle.sdl_system.specs.declared.process.Process.{Process}
 use Rattle.sdl_tree.specs.Tree.{Tree}

@@ -25,8 +25,8 @@ use Rattle.sdl_names.specs.Spaces.{AreNamesOf}
 use Rattle.sdl_network.specs.Network.{network_faults}
 use Rattle.sdl_process.specs.Faulty.{body_faults}
 use Rattle.sdl_process.specs.Surroundings.{for_transitions}
-use Rattle.sdl_scope.proofs.FaultLemmas.{none_noted}
-use Rattle.sdl_scope.specs.Faults.{Told, least_of}
+use Rattle.sdl_faults.proofs.FaultLemmas.{none_noted}
+use Rattle.sdl_faults.specs.Faults.{Told, least_of}
 use Rattle.sdl_scope.specs.Limits.{limit_faults}
 use Rattle.sdl_spaces.specs.declared.scope.ScopeId.TheVariants as scope
 use Rattle.sdl_tree.specs.Tree.{Tree}

@@ -9,9 +9,9 @@ use Rattle.sdl_survey.specs.Survey.{AreDefinitions, Definitions, IsJoined, Surve
 use Rattle.sdl_declared.specs.Rows.{ProcessRow, SignalRow}
 use Rattle.sdl_figures.specs.Figures.{all_durations}
 use Rattle.sdl_process.specs.Refused.{IsRefused}
-use Rattle.sdl_scope.specs.Faults.{Told, least_of}
+use Rattle.sdl_faults.specs.Faults.{Told, least_of}
 use Rattle.sdl_scope.specs.Names.{first_of}
-use Rattle.sdl_scope.specs.declared.fault.Kind.TheVariants.{Limit}
+use Rattle.sdl_faults.specs.declared.fault.Kind.TheVariants.{Limit}
 use Rattle.sdl_spaces.specs.Spaces.{entry_if, is_same_scope}
 use Rattle.sdl_spaces.specs.declared.scope.ScopeId.TheVariants as scope
 use Rattle.sdl_system.specs.System.{SystemValue, meaning_of}

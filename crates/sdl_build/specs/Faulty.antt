@@ -8,7 +8,7 @@ use Rattle.sdl_figures.specs.Figures.{figures_faults}
 use Rattle.sdl_names.specs.Meanings.{duplicate_faults}
 use Rattle.sdl_network.specs.Network.{network_faults}
 use Rattle.sdl_process.specs.Faulty.{NotesBody}
-use Rattle.sdl_scope.specs.Faults.{Told, least_of}
+use Rattle.sdl_faults.specs.Faults.{Told, least_of}
 use Rattle.sdl_scope.specs.Limits.{limit_faults}
 use Rattle.sdl_tree.specs.Tree.{Tree}
 

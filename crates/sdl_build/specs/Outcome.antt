@@ -11,9 +11,9 @@ use Rattle.sdl_figures.specs.Synonyms.{AreSynonymConstants}
 use Rattle.sdl_names.specs.Meanings.{duplicate_faults}
 use Rattle.sdl_names.specs.Spaces.{AreNamesOf}
 use Rattle.sdl_names.specs.declared.declared.Declared.{Declared}
-use Rattle.sdl_scope.specs.Faults.{Told, least_of, told_at}
-use Rattle.sdl_scope.specs.declared.fault.Kind.{Kind}
-use Rattle.sdl_scope.specs.declared.fault.Kind.TheVariants.{Limit}
+use Rattle.sdl_faults.specs.Faults.{Told, least_of, told_at}
+use Rattle.sdl_faults.specs.declared.fault.Kind.{Kind}
+use Rattle.sdl_faults.specs.declared.fault.Kind.TheVariants.{Limit}
 use Rattle.sdl_sorts.specs.declared.scope.Constant.{Constant}
 use Rattle.sdl_system.specs.System.{SystemValue}
 use Rattle.sdl_tree.specs.Tree.{Tree}

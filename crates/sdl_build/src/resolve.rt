@@ -6,7 +6,7 @@ ghost use Rattle.sdl_build.specs.Built.{IsBuilt};
 ghost use Rattle.sdl_build.specs.Outcome.{IsMadeBehind, IsMadeOf, IsMadeOn, IsMadeWith, IsRefusedAs, is_past_limit};
 ghost use Rattle.sdl_declared.specs.Tables.{rows_of};
 ghost use Rattle.sdl_names.specs.Spaces.{AreNamesOf};
-ghost use Rattle.sdl_scope.specs.Faults.{told};
+ghost use Rattle.sdl_faults.specs.Faults.{told};
 ghost use Rattle.sdl_tree.specs.Views.{tree_value};
 
 use crate::error::BuildError;
@@ -14,7 +14,8 @@ use crate::system::{processes_in, system_with};
 use sdl_declared::Tables;
 use sdl_figures::Figures;
 use sdl_names::Declared;
-use sdl_scope::{Faults, Kind, note_limits};
+use sdl_faults::{Faults, Kind};
+use sdl_scope::note_limits;
 use sdl_survey::Joined;
 use sdl_system::System;
 use sdl_tree::Tree;

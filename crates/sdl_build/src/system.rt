@@ -8,14 +8,14 @@ ghost use Rattle.sdl_build.specs.Made.{AreMade, AreProcessesOr, IsComposed, IsCo
 ghost use Rattle.sdl_declared.specs.Tables.{rows_of};
 ghost use Rattle.sdl_channels.specs.SignalLists.{AreSets};
 ghost use Rattle.sdl_routes.specs.Valid.{AreValid};
-ghost use Rattle.sdl_scope.specs.Faults.{told};
+ghost use Rattle.sdl_faults.specs.Faults.{told};
 
 use crate::defined::Defined;
 use sdl_declared::Tables;
 use sdl_figures::Figures;
 use sdl_names::Declared;
 use sdl_routes::valid_sets;
-use sdl_scope::Faults;
+use sdl_faults::Faults;
 use sdl_signal_lists::counted;
 use sdl_survey::{Joined, process_at};
 use sdl_system::{Process, ProcessId, Routes, SignalSet, System};

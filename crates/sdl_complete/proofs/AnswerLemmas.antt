@@ -3,19 +3,18 @@ use Rattle.std.proofs.Common.{◌≡◌, ◌++◌, not, Bool, true, false, [], O
 use Rattle.port_model.specs.declared.value.Value.{Value}
 use Rattle.sdl_complete.specs.Complete.{HasValue, IsComplete, IsThere}
 use Rattle.sdl_complete.specs.Expressions.{HasTerm}
-use Rattle.sdl_scope.specs.Faults.{fault_if}
-use Rattle.sdl_scope.specs.declared.fault.Kind.TheVariants as broken
-use Rattle.sdl_scope.specs.Limits.{mark_word}
+use Rattle.sdl_faults.specs.Faults.{fault_if, mark_word}
+use Rattle.sdl_faults.specs.declared.fault.Kind.TheVariants as broken
 use Rattle.sdl_sorts.specs.Answers.{answer_constant, answer_faults, answer_in, answer_value, answer_value_faults, comparable_in, compared_faults, comparison_for, has_order, is_comparable, is_incomparable, known}
 use Rattle.sdl_sorts.specs.Constants.{constant_faults, constant_in, counted, counted_faults, is_miscounted, value_of, with_value}
-use Rattle.sdl_sorts.specs.Kinds.{result_of}
+use Rattle.sdl_kinds.specs.Kinds.{result_of}
 use Rattle.sdl_sorts.specs.Misused.{expression_faults, place_faults}
 use Rattle.sdl_sorts.specs.Partial.{both}
 use Rattle.sdl_sorts.specs.Scope.{Scope}
 use Rattle.sdl_sorts.specs.Typing.{Typed, taken_in, typed_in}
 use Rattle.sdl_sorts.specs.Words.{first_word}
 use Rattle.sdl_sorts.specs.declared.context.Context.TheVariants as at
-use Rattle.sdl_sorts.specs.declared.kind.Kind.{Kind}
+use Rattle.sdl_kinds.specs.declared.kind.Kind.{Kind}
 use Rattle.sdl_sorts.specs.declared.scope.Constant.{Constant}
 use Rattle.sdl_sorts.specs.declared.scope.Constant.TheVariants as constants
 use Rattle.sdl_system.specs.declared.answer.Answer.TheVariants as answers

@@ -1,8 +1,8 @@
 -- Lists of faults that are empty.
 use Rattle.std.proofs.Common.{◌≡◌, ◌++◌, Bool, true, false, List, [], ◌∷◌, flat_map, refl, sym, subst, inl, inr}
-use Rattle.sdl_scope.specs.FaultLaws.{In}
-use Rattle.sdl_scope.specs.Faults.{fault_if}
-use Rattle.sdl_scope.specs.declared.fault.Kind.{Kind}
+use Rattle.sdl_faults.specs.FaultLaws.{In}
+use Rattle.sdl_faults.specs.Faults.{fault_if}
+use Rattle.sdl_faults.specs.declared.fault.Kind.{Kind}
 use Rattle.sdl_tree.specs.Words.{Spot}
 
 pub left-empty : {A : Type 0} (xs ys : List A) → xs ++ ys ≡ [] → xs ≡ []

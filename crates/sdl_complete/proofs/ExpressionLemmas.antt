@@ -3,20 +3,19 @@ use Rattle.std.proofs.Common.{◌≡◌, ◌&&◌, ◌||◌, ◌==◌, ◌++◌,
 use Rattle.std.proofs.lemmas.Bool.{eqb-true}
 use Rattle.sdl_complete.specs.Complete.{HasValue, IsComplete, IsCompleteValue, IsThere}
 use Rattle.sdl_complete.specs.Expressions.{HasTerm}
-use Rattle.sdl_scope.specs.Faults.{fault_if, told_at}
-use Rattle.sdl_scope.specs.declared.fault.Kind as faults
-use Rattle.sdl_scope.specs.declared.fault.Kind.TheVariants as broken
-use Rattle.sdl_scope.specs.Limits.{mark_word}
+use Rattle.sdl_faults.specs.Faults.{fault_if, told_at, mark_word}
+use Rattle.sdl_faults.specs.declared.fault.Kind as faults
+use Rattle.sdl_faults.specs.declared.fault.Kind.TheVariants as broken
 use Rattle.sdl_sorts.specs.Contexts.{allows_instance, allows_word}
-use Rattle.sdl_sorts.specs.Kinds.{fits, result_of, unary_result_of}
+use Rattle.sdl_kinds.specs.Kinds.{fits, result_of, unary_result_of}
 use Rattle.sdl_sorts.specs.Misused.{active_faults, binary_faults, expression_faults, fault_of_place, links_faults, list_faults, misplaced, name_faults, place_faults, places_faults, timer_faults, unary_faults, values_faults}
 use Rattle.sdl_sorts.specs.Partial.{both}
 use Rattle.sdl_sorts.specs.Scope.{Scope, SignalMeaning, signal, timer, signal_in, value_in}
 use Rattle.sdl_sorts.specs.Typing.{Argument, Typed, active_term, active_typed, activity, any_refused, are_taken, argument_in, argument_refused, argument_term, argument_terms, arguments_in, binary_typed, chain_typed, is_refused_in, is_taken, joined_by, name_typed, of_synonym, of_variable, taken_in, taken_term, taken_terms, term_in, typed_in, unary_typed, with_operation, word_typed}
 use Rattle.sdl_sorts.specs.Words.{first_word}
 use Rattle.sdl_sorts.specs.declared.context.Context as contexts
-use Rattle.sdl_sorts.specs.declared.operator.TypedOperation.{TypedOperation}
-use Rattle.sdl_sorts.specs.declared.operator.TypedUnaryOperation.{TypedUnaryOperation}
+use Rattle.sdl_kinds.specs.declared.operator.TypedOperation.{TypedOperation}
+use Rattle.sdl_kinds.specs.declared.operator.TypedUnaryOperation.{TypedUnaryOperation}
 use Rattle.sdl_sorts.specs.declared.scope.Constant.{Constant}
 use Rattle.sdl_sorts.specs.declared.scope.Constant.TheVariants as constants
 use Rattle.sdl_sorts.specs.declared.scope.ValueMeaning.{ValueMeaning}

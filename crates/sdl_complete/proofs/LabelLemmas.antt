@@ -17,11 +17,11 @@ use Rattle.sdl_labels.specs.Labels.{process_labels}
 use Rattle.sdl_names.specs.Entries.{Entry, Standing, duplicates, duplicates_behind, entries_in, entry_in, is_same_name, standing, standings}
 use Rattle.sdl_names.specs.Meanings.{label_entries, label_entry, state_entries, state_entry}
 use Rattle.sdl_names.specs.declared.declared.Declared.{Declared}
-use Rattle.sdl_scope.proofs.FaultLemmas.{in-left, in-right}
-use Rattle.sdl_scope.specs.FaultLaws.{In}
-use Rattle.sdl_scope.specs.Faults.{fault_if}
+use Rattle.sdl_faults.proofs.FaultLemmas.{in-left, in-right}
+use Rattle.sdl_faults.specs.FaultLaws.{In}
+use Rattle.sdl_faults.specs.Faults.{fault_if}
 use Rattle.sdl_scope.specs.Limits.{different, state_names}
-use Rattle.sdl_scope.specs.declared.fault.Kind.TheVariants.{Duplicate}
+use Rattle.sdl_faults.specs.declared.fault.Kind.TheVariants.{Duplicate}
 use Rattle.sdl_sorts.specs.declared.scope.Constant.{Constant}
 use Rattle.sdl_spaces.specs.Spaces.{entry_if, names_of}
 use Rattle.sdl_spaces.specs.declared.scope.ScopeId.{ScopeId}

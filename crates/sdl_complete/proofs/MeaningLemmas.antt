@@ -3,7 +3,7 @@ use Rattle.std.proofs.Common.{◌≡◌, ◌∙◌, ◌<◌, ℕ, zero, suc, Con
 use Rattle.std.specs.List.{AllZip}
 use Rattle.port_model.specs.declared.item.SignalId.{SignalId}
 use Rattle.sdl_complete.proofs.MentionedLemmas.{Begins, BeginsNumbered, Bounds, IsCondition, IsTable, found-begins, tried-each}
-use Rattle.sdl_scope.specs.FaultLaws.{Each}
+use Rattle.sdl_faults.specs.FaultLaws.{Each}
 use Rattle.sdl_states.specs.States.{Numbered, Table, meaning_of, named_in, numbered_from, state_of, table_named, tried}
 use Rattle.sdl_stimuli.specs.Mentions as said
 use Rattle.sdl_stimuli.specs.Reading.{Part}

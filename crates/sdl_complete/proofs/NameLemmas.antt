@@ -2,7 +2,7 @@
 use Rattle.std.proofs.Common.{◌≡◌, ◌++◌, ℕ, Bool, true, false, cond, List, [], ◌∷◌, Option, None, Some, map, sym, subst}
 use Rattle.std.specs.Str.{bytes_eq}
 use Rattle.sdl_names.specs.Entries.{Entry, Has, HasMeant, entries_in, entry_in}
-use Rattle.sdl_scope.specs.FaultLaws.{Each}
+use Rattle.sdl_faults.specs.FaultLaws.{Each}
 use Rattle.sdl_scope.specs.Names.{first_of}
 use Rattle.sdl_sorts.specs.Scope.{meaning}
 use Rattle.sdl_spaces.specs.Spaces.{block_names, entry_if, is_same_scope, names_of, process_names, seen_in}

@@ -14,7 +14,7 @@ use Rattle.sdl_ends.specs.Stays.{stay_faults}
 use Rattle.sdl_process.specs.Faulty.{flow_faults}
 use Rattle.sdl_process.specs.Refused.{no_condition, no_entry, no_flow}
 use Rattle.sdl_process.specs.Surroundings.{Surroundings, for_stimuli, for_transitions}
-use Rattle.sdl_scope.specs.Faults.{Told}
+use Rattle.sdl_faults.specs.Faults.{Told}
 use Rattle.sdl_scope.specs.Limits.{different}
 use Rattle.sdl_states.specs.States.{names_in, process_faults, states_faults}
 use Rattle.sdl_stimuli.specs.Reading.{body_faults, process_read}

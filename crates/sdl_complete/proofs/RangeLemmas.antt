@@ -7,7 +7,7 @@ use Rattle.sdl_complete.proofs.ReadLemmas.{bounds_of, process-table}
 use Rattle.sdl_complete.specs.Ranges.{EntriesReach, IsBelow, SignalsWithin}
 use Rattle.sdl_ends.specs.Beginnings.{beginnings}
 use Rattle.sdl_process.specs.Meant.{NamesSignals}
-use Rattle.sdl_scope.specs.FaultLaws.{Each}
+use Rattle.sdl_faults.specs.FaultLaws.{Each}
 use Rattle.sdl_scope.specs.Limits.{different}
 use Rattle.sdl_states.specs.States.{Numbered, Table, named_in, names_in, state_of, states_of, table_named}
 use Rattle.sdl_stimuli.specs.Mentions.{Response, input, priority_input, save}

@@ -6,8 +6,8 @@ use Rattle.sdl_bodies.proofs.OrderLemmas.{stimuli-in-order}
 use Rattle.sdl_complete.proofs.StayLemmas.{condition-among, last-among, parts-stay, stimuli-stay, within}
 use Rattle.sdl_complete.proofs.MentionedLemmas.{Begins, BeginsContinuous, Bounds, IsCondition, IsMention, IsPart, IsTable, Speaks, table-named}
 use Rattle.sdl_ends.specs.Beginnings.{beginnings, part_beginnings, stimulus_beginnings}
-use Rattle.sdl_scope.proofs.FaultLemmas.{each-both}
-use Rattle.sdl_scope.specs.FaultLaws.{Each}
+use Rattle.sdl_faults.proofs.FaultLemmas.{each-both}
+use Rattle.sdl_faults.specs.FaultLaws.{Each}
 use Rattle.sdl_sorts.specs.Scope.{SignalMeaning, signal_in}
 use Rattle.sdl_states.specs.States.{table_named}
 use Rattle.sdl_stimuli.specs.Context.{Context, list_in}

@@ -2,8 +2,8 @@
 use Rattle.std.proofs.Common.{◌≡◌, ◌++◌, ℕ, ◌+◌, List, [], ◌∷◌, flat_map, refl, inl}
 use Rattle.sdl_declared.specs.Parts.{OfBlock, OfProcess, OfChannel, OfConnection, OfSignals, OfTimers, OfSignalList, OfSynonyms, OfSignalSet, OfParameters, OfVariables, Placed, placed, after_block_part, after_block_parts, after_definition, all_parts, block_part_parts, block_parts, blocks_after, definition_parts, groups_of, local_parts, own_parts, parameter_part, parts_in, process_parts, processes_after, system_parts, variable_part}
 use Rattle.sdl_declared.specs.Rows.{placed_labels, placed_processes, placed_states}
-use Rattle.sdl_scope.proofs.FaultLemmas.{in-each, in-left}
-use Rattle.sdl_scope.specs.FaultLaws.{In}
+use Rattle.sdl_faults.proofs.FaultLemmas.{in-each, in-left}
+use Rattle.sdl_faults.specs.FaultLaws.{In}
 use Rattle.sdl_spaces.specs.declared.scope.ScopeId.{ScopeId}
 use Rattle.sdl_spaces.specs.declared.scope.ScopeId.TheVariants as scope
 use Rattle.sdl_system.specs.declared.id.ProcessId.{ProcessId}

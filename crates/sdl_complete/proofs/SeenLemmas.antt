@@ -26,8 +26,8 @@ use Rattle.sdl_names.specs.Entries.{Entry}
 use Rattle.sdl_names.specs.Meanings.{agent_entries, agent_entry, agent_means, signal_entries, signal_means, signals_from, sorts_of_row, value_entries, value_entry}
 use Rattle.sdl_names.specs.declared.declared.Declared.{Declared}
 use Rattle.sdl_nodes.specs.Contexts.{Context}
-use Rattle.sdl_scope.proofs.FaultLemmas.{each-both}
-use Rattle.sdl_scope.specs.FaultLaws.{Each, In}
+use Rattle.sdl_faults.proofs.FaultLemmas.{each-both}
+use Rattle.sdl_faults.specs.FaultLaws.{Each, In}
 use Rattle.sdl_scope.specs.Names.{first_of}
 use Rattle.sdl_sorts.specs.Constants.{constant_in}
 use Rattle.sdl_sorts.specs.Scope.{AgentMeaning, SignalMeaning, agent_meaning, meaning, signal, signal_in, signal_meaning, timer, value_in, value_meaning}

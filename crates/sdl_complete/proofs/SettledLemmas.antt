@@ -3,10 +3,10 @@ use Rattle.std.proofs.Common.{◌≡◌, ◌∙◌, ℕ, zero, suc, ◌<◌, Lis
 use Rattle.std.proofs.lemmas.Option.{unwrap_or-slice_get}
 use Rattle.sdl_complete.proofs.ValueLemmas.{HaveSynonymSorts, IsAccepted, accepted-typed, constant-valued, fits-place}
 use Rattle.sdl_complete.specs.Complete.{HasValue}
-use Rattle.sdl_scope.specs.FaultLaws.{Each, In}
-use Rattle.sdl_scope.specs.Faults.{told_at}
+use Rattle.sdl_faults.specs.FaultLaws.{Each, In}
+use Rattle.sdl_faults.specs.Faults.{told_at}
 use Rattle.sdl_scope.specs.Names.{first_of}
-use Rattle.sdl_scope.specs.declared.fault.Kind.TheVariants.{BadCount}
+use Rattle.sdl_faults.specs.declared.fault.Kind.TheVariants.{BadCount}
 use Rattle.sdl_sorts.proofs.ScopeLemmas.{meaning-first}
 use Rattle.sdl_sorts.specs.Broken.{Within}
 use Rattle.sdl_sorts.specs.Scope.{constant_at, value_in, value_meaning, visible}

@@ -8,10 +8,10 @@ use Rattle.sdl_declared.specs.Parts.{Part, OfBlock, OfProcess, OfChannel, OfConn
 use Rattle.sdl_declared.specs.Rows.{ProcessRow, SignalRow, SynonymRow, ValueRow, after_synonyms, after_variables, group_sorts, placed_processes, placed_signals, placed_synonyms, repeated, signal_row, signals_of, synonym_row, synonym_values, synonyms_of, timer_row, value_rows, values_of, variable_rows}
 use Rattle.sdl_declared.specs.Sorts.{sort_at, unknown_sort, unknown_sorts}
 use Rattle.sdl_figures.specs.Figures.{sort_of_entry}
-use Rattle.sdl_scope.proofs.FaultLemmas.{each-both, each-of}
-use Rattle.sdl_scope.specs.FaultLaws.{Each, In}
-use Rattle.sdl_scope.specs.Faults.{fault_if}
-use Rattle.sdl_scope.specs.declared.fault.Kind.TheVariants.{Unknown}
+use Rattle.sdl_faults.proofs.FaultLemmas.{each-both, each-of}
+use Rattle.sdl_faults.specs.FaultLaws.{Each, In}
+use Rattle.sdl_faults.specs.Faults.{fault_if}
+use Rattle.sdl_faults.specs.declared.fault.Kind.TheVariants.{Unknown}
 use Rattle.sdl_spaces.specs.declared.scope.ScopeId.{ScopeId}
 use Rattle.sdl_spaces.specs.declared.scope.ScopeId.TheVariants as scope
 use Rattle.sdl_system.specs.declared.sort.Sort.{Sort}

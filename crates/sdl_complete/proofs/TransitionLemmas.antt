@@ -16,14 +16,14 @@ use Rattle.sdl_nodes.specs.Contexts.{Context, label_in, state_in}
 use Rattle.sdl_nodes.specs.Faulty.{answers_faults, asked_faults, terminator_faults}
 use Rattle.sdl_nodes.specs.Statements.{answers_in, asked_in, create_in, kind_in, output_in, reset_in, set_in, task_in, terminator_in}
 use Rattle.sdl_nodes.specs.Transitions.{acts, action_faults, asks, before, body_in, ending_faults, ending_in, head_in, labelled, other_faults, other_in, parts_faults, parts_of, piece, pieces_in, steps_faults, steps_in, transition_faults}
-use Rattle.sdl_scope.proofs.FaultLemmas.{in-left, in-right}
-use Rattle.sdl_scope.specs.FaultLaws.{In}
+use Rattle.sdl_faults.proofs.FaultLemmas.{in-left, in-right}
+use Rattle.sdl_faults.specs.FaultLaws.{In}
 use Rattle.sdl_scope.specs.Names.{first_of}
-use Rattle.sdl_scope.specs.declared.fault.Kind.TheVariants.{NoLabel, NoState}
+use Rattle.sdl_faults.specs.declared.fault.Kind.TheVariants.{NoLabel, NoState}
 use Rattle.sdl_sorts.specs.Partial.{both}
 use Rattle.sdl_sorts.specs.Typing.{Typed, term_in}
 use Rattle.sdl_sorts.specs.declared.context.Context.TheVariants.{Transition}
-use Rattle.sdl_sorts.specs.declared.kind.Kind.{Kind}
+use Rattle.sdl_kinds.specs.declared.kind.Kind.{Kind}
 use Rattle.sdl_system.specs.Body as body
 use Rattle.sdl_system.specs.Body.{Body}
 use Rattle.sdl_system.specs.declared.id.LabelId.{LabelId}

@@ -5,20 +5,20 @@ use Rattle.std.specs.Option.{option_and_then}
 use Rattle.port_model.specs.declared.value.Value.{Value}
 use Rattle.sdl_complete.proofs.EmptyLemmas.{left-empty, not-broken, right-empty}
 use Rattle.sdl_complete.specs.Complete.{HasValue, IsThere}
-use Rattle.sdl_scope.specs.Faults.{fault_if}
-use Rattle.sdl_scope.specs.declared.fault.Kind.TheVariants.{BadCount, Sort}
+use Rattle.sdl_faults.specs.Faults.{fault_if}
+use Rattle.sdl_faults.specs.declared.fault.Kind.TheVariants.{BadCount, Sort}
 use Rattle.sdl_sorts.specs.Broken.{InLinks, TakesKind, Within}
 use Rattle.sdl_sorts.specs.Broken as broken
 use Rattle.sdl_sorts.specs.Constants.{constant_faults, constant_in, counted, counted_faults, is_miscounted, value_of, with_value}
 use Rattle.sdl_sorts.specs.Contexts.{allows_word}
-use Rattle.sdl_sorts.specs.Kinds.{fits, result_of, unary_result_of}
+use Rattle.sdl_kinds.specs.Kinds.{fits, result_of, unary_result_of}
 use Rattle.sdl_sorts.specs.Misused.{active_faults, binary_faults, expression_faults, fault_of_place, links_faults, name_faults, place_faults, unary_faults, word_faults}
 use Rattle.sdl_sorts.specs.Scope.{Scope, SignalMeaning, signal, timer, signal_in, value_in}
 use Rattle.sdl_sorts.specs.Typing.{Argument, Typed, active_typed, activity, are_taken, arguments_in, binary_typed, chain_typed, is_refused_in, joined_by, name_typed, taken_in, typed_in, unary_typed, with_operation, word_typed}
 use Rattle.sdl_sorts.specs.Words.{first_word}
 use Rattle.sdl_sorts.specs.declared.context.Context.TheVariants.{Constant}
-use Rattle.sdl_sorts.specs.declared.operator.TypedOperation.{TypedOperation}
-use Rattle.sdl_sorts.specs.declared.operator.TypedUnaryOperation.{TypedUnaryOperation}
+use Rattle.sdl_kinds.specs.declared.operator.TypedOperation.{TypedOperation}
+use Rattle.sdl_kinds.specs.declared.operator.TypedUnaryOperation.{TypedUnaryOperation}
 use Rattle.sdl_sorts.specs.declared.scope.Constant as constants
 use Rattle.sdl_sorts.specs.declared.scope.Constant.TheVariants as value
 use Rattle.sdl_sorts.specs.declared.scope.ValueMeaning.{ValueMeaning}

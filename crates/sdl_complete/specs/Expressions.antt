@@ -8,7 +8,7 @@ use Rattle.sdl_sorts.specs.Misused.{expression_faults, list_faults, place_faults
 use Rattle.sdl_sorts.specs.Scope.{Scope}
 use Rattle.sdl_sorts.specs.Typing.{Typed, argument_in, taken_term, taken_terms, typed_in}
 use Rattle.sdl_sorts.specs.declared.context.Context as contexts
-use Rattle.sdl_sorts.specs.declared.kind.Kind.{Kind}
+use Rattle.sdl_kinds.specs.declared.kind.Kind.{Kind}
 use Rattle.sdl_stimuli.specs.Context.{Context}
 use Rattle.sdl_stimuli.specs.Reading.{body_faults, body_read}
 use Rattle.sdl_system.specs.declared.sort.Sort.{Sort}

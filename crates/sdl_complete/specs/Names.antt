@@ -14,7 +14,7 @@ use Rattle.sdl_names.specs.Meanings.{duplicate_faults}
 use Rattle.sdl_names.specs.Spaces.{AreNamesOf}
 use Rattle.sdl_names.specs.declared.declared.Declared.{Declared}
 use Rattle.sdl_nodes.specs.Contexts.{Context}
-use Rattle.sdl_scope.specs.FaultLaws.{Each}
+use Rattle.sdl_faults.specs.FaultLaws.{Each}
 use Rattle.sdl_scope.specs.Limits.{different, state_names}
 use Rattle.sdl_sorts.specs.Scope.{SignalMeaning, signal, timer, signal_in}
 use Rattle.sdl_sorts.specs.declared.scope.Constant.{Constant}

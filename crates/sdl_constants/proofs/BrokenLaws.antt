@@ -6,11 +6,10 @@ use Rattle.sdl_constants.specs.Timers.{duration_faults, timer_faults}
 use Rattle.sdl_constants.specs.Variables.{group_faults, initial_faults}
 use Rattle.sdl_constants.specs.declared.counts.Part.{Part}
 use Rattle.sdl_constants.specs.declared.counts.Part.TheVariants.{LeftOut, Refused, Number}
-use Rattle.sdl_scope.proofs.FaultLemmas.{each-both, each-if, each-of, in-each, in-if, in-left, in-right}
-use Rattle.sdl_scope.specs.FaultLaws.{Each, In}
-use Rattle.sdl_scope.specs.Faults.{Told, fault_if, told_at}
-use Rattle.sdl_scope.specs.Limits.{mark_word}
-use Rattle.sdl_scope.specs.declared.fault.Kind.TheVariants.{BadCount}
+use Rattle.sdl_faults.proofs.FaultLemmas.{each-both, each-if, each-of, in-each, in-if, in-left, in-right}
+use Rattle.sdl_faults.specs.FaultLaws.{Each, In}
+use Rattle.sdl_faults.specs.Faults.{Told, fault_if, told_at, mark_word}
+use Rattle.sdl_faults.specs.declared.fault.Kind.TheVariants.{BadCount}
 use Rattle.sdl_sorts.proofs.ConstantLaws.{broken-listed-constant, listed-broken-constant}
 use Rattle.sdl_sorts.proofs.ListedLaws.{each-weaker}
 use Rattle.sdl_sorts.specs.Broken.{IsBrokenConstant}

@@ -3,9 +3,9 @@ use Rattle.std.proofs.Common.{◌≡◌, ◌∙◌, ◌++◌, List, Option, ap}
 use Rattle.sdl_constants.specs.Counts.{accepted, are_misfit, part_faults, part_in}
 use Rattle.sdl_constants.specs.declared.counts.InstanceCounts.{InstanceCounts}
 use Rattle.sdl_constants.specs.declared.counts.Part.{Part}
-use Rattle.sdl_scope.proofs.FaultLemmas.{both_noted}
-use Rattle.sdl_scope.specs.Faults.{Told, fault_if, least_of}
-use Rattle.sdl_scope.specs.declared.fault.Kind.TheVariants.{BadCount}
+use Rattle.sdl_faults.proofs.FaultLemmas.{both_noted}
+use Rattle.sdl_faults.specs.Faults.{Told, fault_if, least_of}
+use Rattle.sdl_faults.specs.declared.fault.Kind.TheVariants.{BadCount}
 use Rattle.sdl_sorts.specs.Scope.{Scope}
 use Rattle.sdl_tree.specs.Tree.{Expr}
 use Rattle.sdl_tree.specs.Words.{Spot}

@@ -4,10 +4,9 @@ use Rattle.port_model.specs.declared.value.Value.{Value}
 use Rattle.sdl_constants.specs.Counts.{counts_faults, maximum_in}
 use Rattle.sdl_constants.specs.Timers.{timer_faults}
 use Rattle.sdl_constants.specs.Variables.{SortedGroup, group_faults}
-use Rattle.sdl_scope.specs.FaultLaws.{Each, In}
-use Rattle.sdl_scope.specs.Faults.{Told, told_at}
-use Rattle.sdl_scope.specs.Limits.{mark_word}
-use Rattle.sdl_scope.specs.declared.fault.Kind.TheVariants.{BadCount}
+use Rattle.sdl_faults.specs.FaultLaws.{Each, In}
+use Rattle.sdl_faults.specs.Faults.{Told, told_at, mark_word}
+use Rattle.sdl_faults.specs.declared.fault.Kind.TheVariants.{BadCount}
 use Rattle.sdl_sorts.specs.Broken.{IsBrokenConstant}
 use Rattle.sdl_sorts.specs.Constants.{constant_in}
 use Rattle.sdl_sorts.specs.Scope.{Scope}

@@ -3,9 +3,8 @@ use Rattle.std.specs.Prelude.{ℤ, pos, ◌++◌, ◌||◌, Bool, false, List, [
 use Rattle.sdl_constants.specs.declared.counts.InstanceCounts.{InstanceCounts}
 use Rattle.sdl_constants.specs.declared.counts.Part.{Part}
 use Rattle.sdl_constants.specs.declared.counts.Part.TheVariants.{LeftOut, Refused, Number}
-use Rattle.sdl_scope.specs.Faults.{Told, fault_if}
-use Rattle.sdl_scope.specs.Limits.{mark_word}
-use Rattle.sdl_scope.specs.declared.fault.Kind.TheVariants.{BadCount}
+use Rattle.sdl_faults.specs.Faults.{Told, fault_if, mark_word}
+use Rattle.sdl_faults.specs.declared.fault.Kind.TheVariants.{BadCount}
 use Rattle.sdl_sorts.specs.Constants.{constant_faults, constant_in}
 use Rattle.sdl_sorts.specs.Scope.{Scope}
 use Rattle.sdl_sorts.specs.declared.scope.Constant.{Constant}

@@ -1,6 +1,6 @@
 -- For how many ticks the timers of a process are set where no time is told (Z.102: timer).
 use Rattle.std.specs.Prelude.{ℤ, List, [], Option, None, Some}
-use Rattle.sdl_scope.specs.Faults.{Told}
+use Rattle.sdl_faults.specs.Faults.{Told}
 use Rattle.sdl_sorts.specs.Constants.{constant_faults, constant_in}
 use Rattle.sdl_sorts.specs.Scope.{Scope}
 use Rattle.sdl_sorts.specs.declared.scope.Constant.{Constant}

@@ -1,6 +1,6 @@
 -- What the variables of a process begin with (Z.102: variable definition).
 use Rattle.std.specs.Prelude.{List, [], Option, None, Some, option_map}
-use Rattle.sdl_scope.specs.Faults.{Told}
+use Rattle.sdl_faults.specs.Faults.{Told}
 use Rattle.sdl_sorts.specs.Constants.{constant_faults, constant_in}
 use Rattle.sdl_sorts.specs.Scope.{Scope}
 use Rattle.sdl_sorts.specs.declared.scope.Constant.{Constant}

@@ -2,14 +2,13 @@
 
 ghost use Rattle.std.specs.Prelude.{◌≡◌, ◌||◌, Some, option_map, IfOk, OnOk};
 ghost use Rattle.sdl_constants.specs.Counts.{accepted, allows_none, are_misfit, counts_faults, counts_in, exceeds, is_above, is_negative, maximum_in, number_part, part_faults, part_in, with_maximum, with_parts};
-ghost use Rattle.sdl_scope.specs.Faults.{fault_if, least_of, told};
-ghost use Rattle.sdl_scope.specs.Limits.{mark_word};
-ghost use Rattle.sdl_scope.specs.declared.fault.Kind.TheVariants.{BadCount};
+ghost use Rattle.sdl_faults.specs.Faults.{fault_if, least_of, told, mark_word};
+ghost use Rattle.sdl_faults.specs.declared.fault.Kind.TheVariants.{BadCount};
 ghost use Rattle.sdl_sorts.specs.Scope.{scope_of};
 ghost use Rattle.sdl_tree.specs.Views.{bound_value, counts_value, expr_value};
 ghost use Rattle.sdl_tree.specs.declared.mark.Mark.TheVariants as mark;
 
-use sdl_scope::{Faults, Kind, Token};
+use sdl_faults::{Faults, Kind, Token};
 use sdl_sorts::{Constant, Scope, constant};
 use sdl_system::{Sort, number_of};
 use sdl_tree::{Bound, Counts, Expression, Mark, Spelling};

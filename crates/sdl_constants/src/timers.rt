@@ -2,11 +2,11 @@
 
 ghost use Rattle.std.specs.Prelude.{◌≡◌, option_map, IfOk, OnOk};
 ghost use Rattle.sdl_constants.specs.Timers.{duration_faults, duration_in, ticks_of};
-ghost use Rattle.sdl_scope.specs.Faults.{least_of, told};
+ghost use Rattle.sdl_faults.specs.Faults.{least_of, told};
 ghost use Rattle.sdl_sorts.specs.Scope.{scope_of};
 ghost use Rattle.sdl_tree.specs.Views.{expr_value};
 
-use sdl_scope::Faults;
+use sdl_faults::Faults;
 use sdl_sorts::{Constant, Scope, constant};
 use sdl_system::{Sort, number_of};
 use sdl_tree::Expression;

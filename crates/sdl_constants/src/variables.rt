@@ -2,11 +2,11 @@
 
 ghost use Rattle.std.specs.Prelude.{◌≡◌, option_map, IfOk, OnOk};
 ghost use Rattle.sdl_constants.specs.Variables.{initial_faults, initial_in};
-ghost use Rattle.sdl_scope.specs.Faults.{least_of, told};
+ghost use Rattle.sdl_faults.specs.Faults.{least_of, told};
 ghost use Rattle.sdl_sorts.specs.Scope.{scope_of};
 ghost use Rattle.sdl_tree.specs.Views.{expr_value};
 
-use sdl_scope::Faults;
+use sdl_faults::Faults;
 use sdl_sorts::{Constant, Scope, constant};
 use sdl_system::Sort;
 use sdl_tree::Expression;

@@ -4,10 +4,10 @@ use Rattle.sdl_declared.specs.Broken.{IsUnknownSort, NamesNoSort, NamesSort}
 use Rattle.sdl_declared.specs.Broken as way
 use Rattle.sdl_declared.specs.Parts.{OfBlock, OfChannel, OfConnection, OfParameters, OfProcess, OfSignalList, OfSignalSet, OfSignals, OfSynonyms, OfTimers, OfVariables, Part, all_sort_faults, parts_in, placed_sort_faults, signal_sort_faults, sort_faults, synonym_sort_faults, timer_sort_faults}
 use Rattle.sdl_declared.specs.Sorts.{sort_at, unknown_sort}
-use Rattle.sdl_scope.proofs.FaultLemmas.{each-if, each-of, in-each, in-if}
-use Rattle.sdl_scope.specs.FaultLaws.{Each, In}
-use Rattle.sdl_scope.specs.Faults.{Told, told_at}
-use Rattle.sdl_scope.specs.declared.fault.Kind.TheVariants.{Unknown}
+use Rattle.sdl_faults.proofs.FaultLemmas.{each-if, each-of, in-each, in-if}
+use Rattle.sdl_faults.specs.FaultLaws.{Each, In}
+use Rattle.sdl_faults.specs.Faults.{Told, told_at}
+use Rattle.sdl_faults.specs.declared.fault.Kind.TheVariants.{Unknown}
 use Rattle.sdl_sorts.proofs.ListedLaws.{each-weaker}
 use Rattle.sdl_system.specs.declared.sort.Sort.{Sort}
 use Rattle.sdl_tree.specs.Tree.{Tree}

@@ -2,9 +2,9 @@
 use Rattle.std.specs.Prelude.{◌≡◌, List, None}
 use Rattle.sdl_declared.specs.Parts.{OfParameters, OfSignals, OfSynonyms, OfTimers, OfVariables, Part, Placed, all_sort_faults, parts_in}
 use Rattle.sdl_declared.specs.Sorts.{sort_at}
-use Rattle.sdl_scope.specs.FaultLaws.{Each, In}
-use Rattle.sdl_scope.specs.Faults.{Told, told_at}
-use Rattle.sdl_scope.specs.declared.fault.Kind.TheVariants.{Unknown}
+use Rattle.sdl_faults.specs.FaultLaws.{Each, In}
+use Rattle.sdl_faults.specs.Faults.{Told, told_at}
+use Rattle.sdl_faults.specs.declared.fault.Kind.TheVariants.{Unknown}
 use Rattle.sdl_tree.specs.Tree.{ParameterGroup, SignalDefinition, SynonymDefinition, TimerDefinition, Tree, VariableGroup}
 use Rattle.sdl_tree.specs.Words.{Spot}
 

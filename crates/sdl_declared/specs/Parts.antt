@@ -2,7 +2,7 @@
 -- numbered from 0, each kind for itself, and what stands within one follows it.
 use Rattle.std.specs.Prelude.{ℕ, ◌+◌, ◌++◌, List, [], ◌∷◌, Option, None, Some, flat_map}
 use Rattle.sdl_declared.specs.Sorts.{unknown_sort, unknown_sorts}
-use Rattle.sdl_scope.specs.Faults.{Told}
+use Rattle.sdl_faults.specs.Faults.{Told}
 use Rattle.sdl_spaces.specs.declared.scope.ScopeId.{ScopeId}
 use Rattle.sdl_spaces.specs.declared.scope.ScopeId.TheVariants as scope
 use Rattle.sdl_system.specs.declared.id.BlockId.{BlockId}

@@ -4,12 +4,12 @@ ghost use Rattle.std.specs.Prelude.{◌≡◌, flat_map, map, IfOk};
 ghost use Rattle.sdl_declared.specs.Parts.{placed_sort_faults, signal_sort_faults, sort_faults, synonym_sort_faults, timer_sort_faults};
 ghost use Rattle.sdl_declared.specs.Sorts.{sort_at, sort_named, unknown_sort, unknown_sorts};
 ghost use Rattle.sdl_declared.specs.Views.{part_value, parts_listed};
-ghost use Rattle.sdl_scope.specs.Faults.{least_of, told};
+ghost use Rattle.sdl_faults.specs.Faults.{least_of, told};
 ghost use Rattle.sdl_tree.specs.Views.{signal_value, sort_value, sorts_value, synonym_value, timer_value};
 
 use crate::enter::enter;
 use crate::part::{Part, Placed};
-use sdl_scope::{Faults, Kind, Token};
+use sdl_faults::{Faults, Kind, Token};
 use sdl_system::Sort;
 use sdl_tree::{SignalDefinition, SortName, SynonymDefinition, TimerDefinition};
 use std::alloc::{AllocError, Global};

@@ -5,7 +5,7 @@ ghost use Rattle.sdl_declared.specs.Parts.{all_sort_faults, parts_in};
 ghost use Rattle.sdl_declared.specs.Seen.{process_seen};
 ghost use Rattle.sdl_declared.specs.Tables.{block_of, block_round, path_of, rows_in, rows_of};
 ghost use Rattle.sdl_declared.specs.Views.{parts_listed};
-ghost use Rattle.sdl_scope.specs.Faults.{least_of, told};
+ghost use Rattle.sdl_faults.specs.Faults.{least_of, told};
 ghost use Rattle.sdl_tree.specs.Views.{tree_value};
 
 use crate::entries::{
@@ -16,7 +16,7 @@ use crate::groups::{AgentTables, ChannelTables, PlaceTables, SignalTables, Value
 use crate::part::Placed;
 use crate::sorts::note_in_parts;
 use crate::walk::parts_in;
-use sdl_scope::Faults;
+use sdl_faults::Faults;
 use sdl_spaces::{ScopeId, ScopePath};
 use sdl_system::{BlockId, ProcessId};
 use sdl_tree::Tree;

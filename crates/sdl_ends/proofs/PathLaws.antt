@@ -1,7 +1,7 @@
 -- Lists of what paths come to have all that they come to, and nothing else.
 use Rattle.std.proofs.Common.{◌≡◌, ◌∙◌, ◌||◌, ◌⊎◌, ◌++◌, inl, inr, Bool, true, false, List, [], ◌∷◌, Option, None, Some, refl, ap, sym, subst}
-use Rattle.sdl_scope.proofs.FaultLemmas.{in-left, in-right}
-use Rattle.sdl_scope.specs.FaultLaws.{In}
+use Rattle.sdl_faults.proofs.FaultLemmas.{in-left, in-right}
+use Rattle.sdl_faults.specs.FaultLaws.{In}
 use Rattle.sdl_tree.specs.Tree.{Ending, Terminator, Transition, Steps, Actions, NoAction, AndAction, Action, Task, Output, Set, Reset, Create, Decision, Parts, NoPart, AndPart, Otherwise, NoElse, Else}
 use Rattle.sdl_tree.specs.Words.{Spot}
 use Rattle.sdl_ends.specs.Laws.{begins}

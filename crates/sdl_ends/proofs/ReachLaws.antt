@@ -1,8 +1,8 @@
 -- The start reaches the terminators that are met from it and from the labels of the joins that it reaches, and no
 -- others.
 use Rattle.std.proofs.Common.{◌≡◌, ◌∙◌, ◌&&◌, ◌||◌, ◌++◌, ℕ, inl, inr, Bool, true, false, List, [], ◌∷◌, Option, None, Some, flat_map, refl, ap, sym, subst}
-use Rattle.sdl_scope.proofs.FaultLemmas.{in-each, in-left, in-right}
-use Rattle.sdl_scope.specs.FaultLaws.{In}
+use Rattle.sdl_faults.proofs.FaultLemmas.{in-each, in-left, in-right}
+use Rattle.sdl_faults.specs.FaultLaws.{In}
 use Rattle.sdl_tree.specs.Tree.{Ending, Join, Terminator, Transition, Actions, Action, Parts}
 use Rattle.sdl_tree.specs.Words.{Spot}
 use Rattle.sdl_tree.specs.declared.name.Spelling.{Spelling}

@@ -1,8 +1,8 @@
 -- One round of the search for what the start reaches.
 use Rattle.std.proofs.Common.{◌≡◌, ◌∙◌, ◌<◌, ℕ, inl, inr, Bool, true, false, if◌then◌else◌, List, [], ◌∷◌, ◌++◌, Option, is_some, flat_map, ap, sym, subst}
 use Rattle.std.proofs.lemmas.List.{map-append}
-use Rattle.sdl_scope.specs.FaultLaws.{In}
-use Rattle.sdl_scope.specs.Faults.{Told, least_of}
+use Rattle.sdl_faults.specs.FaultLaws.{In}
+use Rattle.sdl_faults.specs.Faults.{Told, least_of}
 use Rattle.sdl_scope.specs.Names.{first_of}
 use Rattle.sdl_tree.specs.Tree.{Join, ProcessDefinition, Terminator}
 use Rattle.sdl_ends.specs.Beginnings.{Beginning, beginnings}

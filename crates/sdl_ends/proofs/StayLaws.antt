@@ -1,8 +1,8 @@
 -- NoState is listed at each `nextstate -` that the start reaches, and nowhere else.
 use Rattle.std.proofs.Common.{ℕ, inl, List, refl}
-use Rattle.sdl_scope.proofs.FaultLemmas.{each-of, in-each}
-use Rattle.sdl_scope.specs.FaultLaws.{Each, In}
-use Rattle.sdl_scope.specs.Faults.{Told}
+use Rattle.sdl_faults.proofs.FaultLemmas.{each-of, in-each}
+use Rattle.sdl_faults.specs.FaultLaws.{Each, In}
+use Rattle.sdl_faults.specs.Faults.{Told}
 use Rattle.sdl_tree.specs.Tree.{Join, Next, ProcessDefinition, Same, Stop, Terminator, To}
 use Rattle.sdl_ends.specs.Beginnings.{beginnings}
 use Rattle.sdl_ends.specs.Broken.{IsStay}

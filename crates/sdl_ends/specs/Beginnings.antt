@@ -1,6 +1,6 @@
 -- What begins the transitions of a process: its start, stimuli and connections.
 use Rattle.std.specs.Prelude.{Bool, true, false, List, [], ◌∷◌, Option, None, Some, flat_map}
-use Rattle.sdl_scope.specs.Limits.{mark_word}
+use Rattle.sdl_faults.specs.Faults.{mark_word}
 use Rattle.sdl_tree.specs.Tree.{Transition, Stimulus, InputPart, PriorityInput, SavePart, ContinuousSignal, BodyPart, StatePart, FreeAction, ProcessDefinition}
 use Rattle.sdl_tree.specs.Words.{Spot}
 use Rattle.sdl_tree.specs.declared.mark.Mark.TheVariants as mark

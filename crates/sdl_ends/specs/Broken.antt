@@ -1,9 +1,8 @@
 -- When a rule on the ends of transitions is broken: said of paths, and not of lists.
 use Rattle.std.specs.Prelude.{◌≡◌}
-use Rattle.sdl_scope.specs.FaultLaws.{In}
-use Rattle.sdl_scope.specs.Faults.{Told, told_at}
-use Rattle.sdl_scope.specs.declared.fault.Kind.TheVariants.{NoEnd, NoState}
-use Rattle.sdl_scope.specs.Limits.{mark_word}
+use Rattle.sdl_faults.specs.FaultLaws.{In}
+use Rattle.sdl_faults.specs.Faults.{Told, told_at, mark_word}
+use Rattle.sdl_faults.specs.declared.fault.Kind.TheVariants.{NoEnd, NoState}
 use Rattle.sdl_tree.specs.Tree.{Next, ProcessDefinition, Same}
 use Rattle.sdl_tree.specs.Words.{Spot}
 use Rattle.sdl_tree.specs.declared.mark.Mark.TheVariants as mark

@@ -1,8 +1,8 @@
 -- Transitions with a path to their end without a terminator (Z.101: each path through a transition ends with a
 -- terminator).
 use Rattle.std.specs.Prelude.{ℕ, Bool, true, List, flat_map}
-use Rattle.sdl_scope.specs.Faults.{Told, fault_if}
-use Rattle.sdl_scope.specs.declared.fault.Kind.TheVariants.{NoEnd}
+use Rattle.sdl_faults.specs.Faults.{Told, fault_if}
+use Rattle.sdl_faults.specs.declared.fault.Kind.TheVariants.{NoEnd}
 use Rattle.sdl_tree.specs.Tree.{ProcessDefinition}
 use Rattle.sdl_tree.specs.Words.{Spot}
 use Rattle.sdl_ends.specs.Beginnings.{Beginning, beginnings}

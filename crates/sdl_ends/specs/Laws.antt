@@ -1,7 +1,7 @@
 -- What holds of paths and of what is noted.
 use Rattle.std.specs.Prelude.{◌≡◌, ℕ, Bool, true, List}
-use Rattle.sdl_scope.specs.FaultLaws.{Each, In}
-use Rattle.sdl_scope.specs.Faults.{Told}
+use Rattle.sdl_faults.specs.FaultLaws.{Each, In}
+use Rattle.sdl_faults.specs.Faults.{Told}
 use Rattle.sdl_tree.specs.Tree.{ProcessDefinition, Terminator, Transition}
 use Rattle.sdl_tree.specs.Words.{Spot}
 use Rattle.sdl_ends.specs.Beginnings.{Beginning, beginnings}

@@ -11,7 +11,7 @@ use Rattle.sdl_ends.specs.declared.walk.Entries.{Entries}
 use Rattle.sdl_ends.specs.declared.walk.Entries.TheVariants as entries
 use Rattle.sdl_ends.specs.declared.walk.Found.{Found}
 use Rattle.sdl_lex.specs.declared.place.Place.{Place}
-use Rattle.sdl_scope.specs.Faults.{token_word}
+use Rattle.sdl_faults.specs.Faults.{token_word}
 use Rattle.sdl_scope.specs.Names.{first_of}
 use Rattle.sdl_tree.specs.Tree as tree
 use Rattle.sdl_tree.specs.Views.{name_value, terminator_value, transition_value}

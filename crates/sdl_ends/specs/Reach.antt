@@ -1,7 +1,7 @@
 -- Which terminators the start of a process comes to, by any branch and join.
 use Rattle.std.specs.Prelude.{◌≡◌, ◌==◌, ◌&&◌, ◌||◌, ℕ, Bool, true, false, List, Option, None, Some, flat_map}
 use Rattle.sdl_lex.specs.declared.place.Place.{Place}
-use Rattle.sdl_scope.specs.FaultLaws.{In}
+use Rattle.sdl_faults.specs.FaultLaws.{In}
 use Rattle.sdl_scope.specs.Names.{first_of}
 use Rattle.sdl_tree.specs.Tree.{Join, Terminator}
 use Rattle.sdl_tree.specs.Words.{Spot}

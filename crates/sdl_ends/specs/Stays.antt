@@ -1,8 +1,7 @@
 -- `nextstate -` that the start can reach: there is no state to stay in (Z.101: nextstate).
 use Rattle.std.specs.Prelude.{◌≡◌, ℕ, List, [], ◌∷◌, Option, flat_map}
-use Rattle.sdl_scope.specs.Faults.{Told, least_of, told_at}
-use Rattle.sdl_scope.specs.Limits.{mark_word}
-use Rattle.sdl_scope.specs.declared.fault.Kind.TheVariants.{NoState}
+use Rattle.sdl_faults.specs.Faults.{Told, least_of, told_at, mark_word}
+use Rattle.sdl_faults.specs.declared.fault.Kind.TheVariants.{NoState}
 use Rattle.sdl_tree.specs.Tree.{Join, Next, Stop, Terminator, NextState, Same, To, ProcessDefinition}
 use Rattle.sdl_tree.specs.declared.mark.Mark.TheVariants as mark
 use Rattle.sdl_ends.specs.Beginnings.{Beginning, beginnings}

@@ -3,10 +3,10 @@
 ghost use Rattle.std.specs.Prelude.{◌≡◌, ◌++◌, ◌∷◌, [], false, flat_map, map, option_map, IfOk, OnOk};
 ghost use Rattle.sdl_ends.specs.Beginnings.{beginning_of, beginnings, part_beginnings, stimulus_beginnings};
 ghost use Rattle.sdl_ends.specs.Listed.{beginning_value, beginnings_listed};
-ghost use Rattle.sdl_scope.specs.Faults.{token_word};
+ghost use Rattle.sdl_faults.specs.Faults.{token_word};
 ghost use Rattle.sdl_tree.specs.Views.{body_part_value, name_value, process_value, stimulus_value, transition_value};
 
-use sdl_scope::Token;
+use sdl_faults::Token;
 use sdl_tree::{BodyPart, Mark, Name, ProcessDefinition, Stimulus, Transition};
 use std::alloc::{AllocError, Global};
 

@@ -11,7 +11,8 @@ ghost use Rattle.sdl_tree.specs.Views.{action_value, answer_part_value, ending_v
 
 use crate::beginnings::Beginning;
 use sdl_lex::Place;
-use sdl_scope::{Faults, Names};
+use sdl_faults::Faults;
+use sdl_scope::Names;
 use sdl_tree::{
     Action, ActionStatement, AnswerPart, Name, Terminator, TerminatorStatement, Transition,
 };

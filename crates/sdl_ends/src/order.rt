@@ -2,7 +2,8 @@
 //! proved rests on it.
 
 use crate::beginnings::Beginning;
-use sdl_scope::{Faults, Names};
+use sdl_faults::Faults;
+use sdl_scope::Names;
 use sdl_tree::{
     Action, ActionStatement, AnswerPart, Name, Terminator, TerminatorStatement, Transition,
 };

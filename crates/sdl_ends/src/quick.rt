@@ -13,7 +13,8 @@ use crate::order::order;
 use crate::reach::found_from;
 use crate::walk::{Entries, Found};
 use sdl_lex::Place;
-use sdl_scope::{Faults, Names};
+use sdl_faults::Faults;
+use sdl_scope::Names;
 use sdl_tree::{Name, Terminator};
 use std::alloc::{AllocError, Global};
 

@@ -4,7 +4,7 @@ ghost use Rattle.std.specs.Prelude.{◌≡◌, flat_map, IfOk, OnOk};
 ghost use Rattle.sdl_ends.specs.Joins.{AreAllMet};
 ghost use Rattle.sdl_ends.specs.Listed.{beginnings_listed, terminators_listed};
 ghost use Rattle.sdl_ends.specs.Stays.{NotesStays, stay_fault};
-ghost use Rattle.sdl_scope.specs.Faults.{least_of, told};
+ghost use Rattle.sdl_faults.specs.Faults.{least_of, told};
 ghost use Rattle.sdl_tree.specs.Views.{process_value, terminator_value};
 
 use crate::beginnings::{Beginning, beginnings_of};
@@ -12,7 +12,7 @@ use crate::mentions::labels_in;
 use crate::quick::quick_names;
 use crate::reach::reach;
 use crate::walk::Found;
-use sdl_scope::{Faults, Kind, Token};
+use sdl_faults::{Faults, Kind, Token};
 use sdl_tree::{Mark, NextState, ProcessDefinition, Terminator};
 use std::alloc::{AllocError, Global};
 

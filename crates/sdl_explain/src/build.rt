@@ -14,7 +14,7 @@ use crate::sentence::build_advice;
 use sdl_build::BuildError;
 use sdl_lex::Place;
 use sdl_parse::parse;
-use sdl_scope::Kind;
+use sdl_faults::Kind;
 use sdl_tree::Name;
 use std::alloc::{AllocError, Global};
 

@@ -5,7 +5,7 @@
 
 use sdl_declared::Tables;
 use sdl_lex::Place;
-use sdl_scope::Faults;
+use sdl_faults::Faults;
 use sdl_spaces::ScopeId;
 use sdl_tree::{Name, Tree};
 use std::alloc::{AllocError, Global};

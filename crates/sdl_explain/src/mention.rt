@@ -3,7 +3,7 @@
 use sdl_declared::Tables;
 use sdl_labels::states_of;
 use sdl_lex::Place;
-use sdl_scope::{Faults, Token};
+use sdl_faults::{Faults, Token};
 use sdl_tree::{
     BodyPart, Input, InputPart, Inputs, Mark, Name, ProcessDefinition, SavePart, Saved,
     SignalListItem, StatePart, States, Stimulus, Tree,

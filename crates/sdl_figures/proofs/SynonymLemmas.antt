@@ -7,7 +7,7 @@ use Rattle.std.proofs.lemmas.Slice.Zip.{all_zipped_more}
 use Rattle.sdl_declared.specs.Rows.{SynonymRow}
 use Rattle.sdl_declared.specs.Tables.{Rows}
 use Rattle.sdl_names.specs.declared.declared.Declared.{Declared}
-use Rattle.sdl_scope.specs.Faults.{Told, least_of}
+use Rattle.sdl_faults.specs.Faults.{Told, least_of}
 use Rattle.sdl_sorts.specs.declared.scope.Constant.{Constant}
 use Rattle.sdl_synonyms.specs.Synonyms.{synonym_faults}
 use Rattle.sdl_synonyms.specs.declared.synonym.Synonym.{Synonym}

@@ -10,7 +10,7 @@ use Rattle.sdl_figures.specs.Limit.{limit_faults}
 use Rattle.sdl_figures.specs.Scopes.{scope_in}
 use Rattle.sdl_figures.specs.Synonyms.{faults_in_row}
 use Rattle.sdl_names.specs.declared.declared.Declared.{Declared}
-use Rattle.sdl_scope.specs.Faults.{Told}
+use Rattle.sdl_faults.specs.Faults.{Told}
 use Rattle.sdl_sorts.specs.declared.scope.Constant.{Constant}
 use Rattle.sdl_sorts.specs.declared.scope.ValueEntry.{ValueEntry}
 use Rattle.sdl_sorts.specs.declared.scope.ValueEntry.TheVariants as entry

@@ -2,8 +2,8 @@
 use Rattle.std.specs.Prelude.{ℤ, pos, ◌-ℤ◌, List, [], ◌∷◌, Option, None, Some, int_lt, if◌then◌else◌}
 use Rattle.sdl_constants.specs.declared.counts.InstanceCounts.{InstanceCounts}
 use Rattle.sdl_declared.specs.Rows.{ProcessRow}
-use Rattle.sdl_scope.specs.Faults.{Told, told_at}
-use Rattle.sdl_scope.specs.declared.fault.Kind.TheVariants.{Limit}
+use Rattle.sdl_faults.specs.Faults.{Told, told_at}
+use Rattle.sdl_faults.specs.declared.fault.Kind.TheVariants.{Limit}
 
 abbrev pub most_instances : ℤ
 most_instances = pos 1000

@@ -5,7 +5,7 @@ use Rattle.sdl_declared.specs.Rows.{ProcessRow, SynonymRow}
 use Rattle.sdl_declared.specs.Tables.{Rows, path_of}
 use Rattle.sdl_figures.specs.Scopes.{scope_in}
 use Rattle.sdl_names.specs.declared.declared.Declared.{Declared}
-use Rattle.sdl_scope.specs.Faults.{Told}
+use Rattle.sdl_faults.specs.Faults.{Told}
 use Rattle.sdl_sorts.specs.Constants.{constant_faults}
 use Rattle.sdl_sorts.specs.Scope.{visible}
 use Rattle.sdl_sorts.specs.declared.scope.Constant.{Constant}

@@ -4,13 +4,13 @@ ghost use Rattle.std.specs.Prelude.{◌≡◌, flat_map, IfOk};
 ghost use Rattle.sdl_declared.specs.Seen.{process_seen};
 ghost use Rattle.sdl_declared.specs.Tables.{rows_of};
 ghost use Rattle.sdl_figures.specs.Figures.{all_counts, counts_at, counts_faults_at};
-ghost use Rattle.sdl_scope.specs.Faults.{least_of, told};
+ghost use Rattle.sdl_faults.specs.Faults.{least_of, told};
 
 use crate::scope::scope_at;
 use sdl_constants::{InstanceCounts, instance_counts};
 use sdl_declared::{ProcessEntry, Tables};
 use sdl_names::Declared;
-use sdl_scope::Faults;
+use sdl_faults::Faults;
 use sdl_sorts::Constant;
 use std::alloc::{AllocError, Global};
 

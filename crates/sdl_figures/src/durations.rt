@@ -4,14 +4,14 @@ ghost use Rattle.std.specs.Prelude.{◌≡◌, flat_map, option_map, IfOk};
 ghost use Rattle.sdl_declared.specs.Seen.{kind_seen, signal_seen};
 ghost use Rattle.sdl_declared.specs.Tables.{rows_of};
 ghost use Rattle.sdl_figures.specs.Figures.{all_durations, duration_at, duration_faults_at, duration_of};
-ghost use Rattle.sdl_scope.specs.Faults.{least_of, told};
+ghost use Rattle.sdl_faults.specs.Faults.{least_of, told};
 ghost use Rattle.sdl_tree.specs.Views.{expr_value};
 
 use crate::scope::scope_at;
 use sdl_constants::default_duration;
 use sdl_declared::{SignalEntry, SignalKind, Tables};
 use sdl_names::Declared;
-use sdl_scope::Faults;
+use sdl_faults::Faults;
 use sdl_sorts::Constant;
 use sdl_tree::Expression;
 use std::alloc::{AllocError, Global};

@@ -4,7 +4,7 @@ ghost use Rattle.std.specs.Prelude.{◌≡◌, IfOk};
 ghost use Rattle.sdl_declared.specs.Tables.{rows_of};
 ghost use Rattle.sdl_figures.specs.Figures.{all_counts, all_durations, all_initials, figures_faults};
 ghost use Rattle.sdl_figures.specs.Synonyms.{AreSynonymConstants};
-ghost use Rattle.sdl_scope.specs.Faults.{least_of, told};
+ghost use Rattle.sdl_faults.specs.Faults.{least_of, told};
 
 use crate::counts::counts_of;
 use crate::durations::durations_of;
@@ -14,7 +14,7 @@ use crate::synonyms::constants_of;
 use sdl_constants::InstanceCounts;
 use sdl_declared::Tables;
 use sdl_names::Declared;
-use sdl_scope::Faults;
+use sdl_faults::Faults;
 use sdl_sorts::Constant;
 use std::alloc::{AllocError, Global};
 

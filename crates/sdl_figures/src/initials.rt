@@ -4,13 +4,13 @@ ghost use Rattle.std.specs.Prelude.{◌≡◌, flat_map, IfOk};
 ghost use Rattle.sdl_declared.specs.Seen.{value_seen};
 ghost use Rattle.sdl_declared.specs.Tables.{rows_of};
 ghost use Rattle.sdl_figures.specs.Figures.{all_initials, initial_at, initial_faults_at, sort_of_entry};
-ghost use Rattle.sdl_scope.specs.Faults.{least_of, told};
+ghost use Rattle.sdl_faults.specs.Faults.{least_of, told};
 
 use crate::scope::scope_at;
 use sdl_constants::initial_value;
 use sdl_declared::{Tables, ValueName};
 use sdl_names::Declared;
-use sdl_scope::Faults;
+use sdl_faults::Faults;
 use sdl_sorts::{Constant, ValueEntry};
 use sdl_system::Sort;
 use std::alloc::{AllocError, Global};

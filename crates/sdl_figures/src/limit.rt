@@ -3,11 +3,11 @@
 ghost use Rattle.std.specs.Prelude.{◌≡◌, pos, false, int_lt, map};
 ghost use Rattle.sdl_declared.specs.Seen.{process_seen};
 ghost use Rattle.sdl_figures.specs.Limit.{limit_faults, taken_by};
-ghost use Rattle.sdl_scope.specs.Faults.{least_of, told};
+ghost use Rattle.sdl_faults.specs.Faults.{least_of, told};
 
 use sdl_constants::InstanceCounts;
 use sdl_declared::ProcessEntry;
-use sdl_scope::{Faults, Kind, Token};
+use sdl_faults::{Faults, Kind, Token};
 
 /// The most instances that there may be at the start.
 const MOST_INSTANCES: i64 = 1_000;

@@ -5,11 +5,11 @@ ghost use Rattle.std.specs.List.{AllZip};
 ghost use Rattle.sdl_declared.specs.Seen.{process_seen, synonym_seen};
 ghost use Rattle.sdl_declared.specs.Tables.{rows_of};
 ghost use Rattle.sdl_figures.specs.Synonyms.{AreSynonymConstants, AreSynonyms, IsSynonym, faults_in_row};
-ghost use Rattle.sdl_scope.specs.Faults.{least_of, told};
+ghost use Rattle.sdl_faults.specs.Faults.{least_of, told};
 
 use sdl_declared::{SynonymEntry, Tables};
 use sdl_names::Declared;
-use sdl_scope::Faults;
+use sdl_faults::Faults;
 use sdl_sorts::Constant;
 use sdl_synonyms::{Synonym, synonym_constants};
 use std::alloc::{AllocError, Global};

@@ -10,10 +10,10 @@ use Rattle.sdl_names.specs.Broken.{IsDeclaredTwice, IsDuplicate}
 use Rattle.sdl_names.specs.Broken as way
 use Rattle.sdl_names.specs.Entries.{Standing, duplicates, duplicates_behind, is_same_name, standings}
 use Rattle.sdl_names.specs.Meanings.{agent_entries, channel_entries, duplicate_faults, label_entries, list_entries, signal_entries, value_entries}
-use Rattle.sdl_scope.proofs.FaultLemmas.{each-both, each-if, in-if, in-left, in-right}
-use Rattle.sdl_scope.specs.FaultLaws.{Each, In}
-use Rattle.sdl_scope.specs.Faults.{Told, fault_if, told_at}
-use Rattle.sdl_scope.specs.declared.fault.Kind.TheVariants.{Duplicate}
+use Rattle.sdl_faults.proofs.FaultLemmas.{each-both, each-if, in-if, in-left, in-right}
+use Rattle.sdl_faults.specs.FaultLaws.{Each, In}
+use Rattle.sdl_faults.specs.Faults.{Told, fault_if, told_at}
+use Rattle.sdl_faults.specs.declared.fault.Kind.TheVariants.{Duplicate}
 use Rattle.sdl_sorts.proofs.ListedLaws.{each-weaker}
 use Rattle.sdl_spaces.specs.Spaces.{is_same_scope}
 use Rattle.sdl_spaces.specs.declared.scope.ScopeId.{ScopeId}

@@ -6,10 +6,10 @@ use Rattle.std.proofs.lemmas.Grind.{flat_map-append}
 use Rattle.std.proofs.lemmas.List.{append-nil, append_assoc, map-append}
 use Rattle.sdl_names.specs.Entries.{Entry, Standing, duplicates_behind, entries_in, entries_of, entry_in, entry_of, entry_seen, is_same_name, standing, standings}
 use Rattle.sdl_names.specs.declared.declaration.Declaration.{Declaration}
-use Rattle.sdl_scope.proofs.FaultLemmas.{both_noted}
-use Rattle.sdl_scope.specs.Faults.{Told, fault_if, least_of}
+use Rattle.sdl_faults.proofs.FaultLemmas.{both_noted}
+use Rattle.sdl_faults.specs.Faults.{Told, fault_if, least_of}
 use Rattle.sdl_scope.specs.Names.{first_of}
-use Rattle.sdl_scope.specs.declared.fault.Kind.TheVariants.{Duplicate}
+use Rattle.sdl_faults.specs.declared.fault.Kind.TheVariants.{Duplicate}
 use Rattle.sdl_sorts.specs.Scope.{meaning}
 use Rattle.sdl_spaces.specs.Spaces.{entry_if, is_same_scope}
 use Rattle.sdl_spaces.specs.declared.scope.ScopeId.{ScopeId}

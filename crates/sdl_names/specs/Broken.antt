@@ -3,9 +3,9 @@ use Rattle.std.specs.Prelude.{◌≡◌, ◌++◌, List, ◌∷◌}
 use Rattle.sdl_declared.specs.Tables.{Rows}
 use Rattle.sdl_names.specs.Entries.{Standing, standings}
 use Rattle.sdl_names.specs.Meanings.{agent_entries, channel_entries, duplicate_faults, label_entries, list_entries, signal_entries, value_entries}
-use Rattle.sdl_scope.specs.FaultLaws.{Each, In}
-use Rattle.sdl_scope.specs.Faults.{Told, told_at}
-use Rattle.sdl_scope.specs.declared.fault.Kind.TheVariants.{Duplicate}
+use Rattle.sdl_faults.specs.FaultLaws.{Each, In}
+use Rattle.sdl_faults.specs.Faults.{Told, told_at}
+use Rattle.sdl_faults.specs.declared.fault.Kind.TheVariants.{Duplicate}
 
 -- a name stands in the scope, and is spelled, as one before it
 pub record IsDuplicate (names : List Standing) (fault : Told) : Type 0 where

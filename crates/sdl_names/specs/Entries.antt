@@ -3,8 +3,8 @@ use Rattle.std.specs.Prelude.{◌≡◌, ◌&&◌, ◌++◌, ℕ, Bool, List, []
 use Rattle.std.specs.List.{list_any}
 use Rattle.std.specs.Str.{bytes_eq}
 use Rattle.sdl_names.specs.declared.declaration.Declaration.{Declaration}
-use Rattle.sdl_scope.specs.Faults.{Told, fault_if}
-use Rattle.sdl_scope.specs.declared.fault.Kind.TheVariants.{Duplicate}
+use Rattle.sdl_faults.specs.Faults.{Told, fault_if}
+use Rattle.sdl_faults.specs.declared.fault.Kind.TheVariants.{Duplicate}
 use Rattle.sdl_sorts.specs.Scope.{meaning}
 use Rattle.sdl_spaces.specs.Spaces.{entry_if, is_same_scope, names_of}
 use Rattle.sdl_spaces.specs.declared.scope.ScopeId.{ScopeId}

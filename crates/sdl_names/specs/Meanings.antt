@@ -7,7 +7,7 @@ use Rattle.sdl_declared.specs.declared.entries.Agent.TheVariants as agent
 use Rattle.sdl_declared.specs.declared.entries.ChannelId.{ChannelId}
 use Rattle.sdl_declared.specs.declared.entries.SignalListId.{SignalListId}
 use Rattle.sdl_names.specs.Entries.{Entry, duplicates, standings}
-use Rattle.sdl_scope.specs.Faults.{Told}
+use Rattle.sdl_faults.specs.Faults.{Told}
 use Rattle.sdl_sorts.specs.Scope as meant
 use Rattle.sdl_sorts.specs.declared.scope.ValueEntry.{ValueEntry}
 use Rattle.sdl_spaces.specs.declared.scope.ScopeId.TheVariants as scope

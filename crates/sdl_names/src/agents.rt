@@ -5,12 +5,12 @@ ghost use Rattle.sdl_declared.specs.Seen.{agent_seen, process_seen};
 ghost use Rattle.sdl_declared.specs.Tables.{rows_of};
 ghost use Rattle.sdl_names.specs.Entries.{HasMeant, duplicates, entry_seen, standings};
 ghost use Rattle.sdl_names.specs.Meanings.{agent_entries, agent_entry, agent_means, sorts_of};
-ghost use Rattle.sdl_scope.specs.Faults.{least_of, told};
+ghost use Rattle.sdl_faults.specs.Faults.{least_of, told};
 ghost use Rattle.sdl_sorts.specs.Scope.{agent_meaning};
 
 use crate::declaration::{Declaration, add, declare_all};
 use sdl_declared::{Agent, AgentEntry, ProcessEntry, Tables};
-use sdl_scope::Faults;
+use sdl_faults::Faults;
 use sdl_sorts::AgentMeaning;
 use sdl_spaces::Spaces;
 use sdl_system::{ProcessId, Sort};

@@ -2,9 +2,9 @@
 
 ghost use Rattle.std.specs.Prelude.{◌≡◌, ◌++◌, ◌∷◌, [], IfOk, OnOk};
 ghost use Rattle.sdl_names.specs.Entries.{Has, duplicates, entries_of, standings};
-ghost use Rattle.sdl_scope.specs.Faults.{least_of, told};
+ghost use Rattle.sdl_faults.specs.Faults.{least_of, told};
 
-use sdl_scope::Faults;
+use sdl_faults::Faults;
 use sdl_spaces::{ScopeId, Spaces};
 use sdl_tree::Name;
 use std::alloc::{AllocError, Global};

@@ -4,11 +4,11 @@ ghost use Rattle.std.specs.Prelude.{◌≡◌, IfOk};
 ghost use Rattle.sdl_declared.specs.Tables.{rows_of};
 ghost use Rattle.sdl_names.specs.Spaces.{AreNamesOf};
 ghost use Rattle.sdl_names.specs.Meanings.{duplicate_faults};
-ghost use Rattle.sdl_scope.specs.Faults.{least_of, told};
+ghost use Rattle.sdl_faults.specs.Faults.{least_of, told};
 
 use crate::groups::{AgentNames, BodyNames, SignalNames, agent_names, body_names, signal_names};
 use sdl_declared::{ChannelId, SignalListId, Tables};
-use sdl_scope::Faults;
+use sdl_faults::Faults;
 use sdl_sorts::{AgentMeaning, SignalMeaning, ValueEntry};
 use sdl_spaces::Spaces;
 use sdl_system::{LabelId, StateId};

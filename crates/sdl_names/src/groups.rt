@@ -4,7 +4,7 @@ ghost use Rattle.std.specs.Prelude.{◌≡◌, ◌++◌, IfOk};
 ghost use Rattle.sdl_declared.specs.Tables.{rows_of};
 ghost use Rattle.sdl_names.specs.Entries.{Has, HasMeant, duplicates, standings};
 ghost use Rattle.sdl_names.specs.Meanings.{agent_entries, channel_entries, label_entries, list_entries, signal_entries, state_entries, value_entries};
-ghost use Rattle.sdl_scope.specs.Faults.{least_of, told};
+ghost use Rattle.sdl_faults.specs.Faults.{least_of, told};
 ghost use Rattle.sdl_sorts.specs.Scope.{agent_meaning, signal_meaning};
 
 use crate::agents::declare_agents;
@@ -15,7 +15,7 @@ use crate::signals::declare_signals;
 use crate::states::declare_states;
 use crate::values::declare_values;
 use sdl_declared::{ChannelId, SignalListId, Tables};
-use sdl_scope::Faults;
+use sdl_faults::Faults;
 use sdl_sorts::{AgentMeaning, SignalMeaning, ValueEntry};
 use sdl_spaces::Spaces;
 use sdl_system::{LabelId, StateId};

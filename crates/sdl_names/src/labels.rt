@@ -5,11 +5,11 @@ ghost use Rattle.sdl_declared.specs.Seen.{label_seen};
 ghost use Rattle.sdl_declared.specs.Tables.{rows_of};
 ghost use Rattle.sdl_names.specs.Entries.{Has, duplicates, entries_of, standings};
 ghost use Rattle.sdl_names.specs.Meanings.{label_entries, label_entry};
-ghost use Rattle.sdl_scope.specs.Faults.{least_of, told};
+ghost use Rattle.sdl_faults.specs.Faults.{least_of, told};
 
 use crate::declaration::{Declaration, add, declare_all};
 use sdl_declared::{LabelEntry, Tables};
-use sdl_scope::Faults;
+use sdl_faults::Faults;
 use sdl_spaces::{ScopeId, Spaces};
 use sdl_system::LabelId;
 use std::alloc::{AllocError, Global};

@@ -5,13 +5,13 @@ ghost use Rattle.sdl_declared.specs.Seen.{kind_seen, signal_seen};
 ghost use Rattle.sdl_declared.specs.Tables.{rows_of};
 ghost use Rattle.sdl_names.specs.Entries.{HasMeant, duplicates, entry_seen, standings};
 ghost use Rattle.sdl_names.specs.Meanings.{signal_entries, signal_means, signals_from};
-ghost use Rattle.sdl_scope.specs.Faults.{least_of, told};
+ghost use Rattle.sdl_faults.specs.Faults.{least_of, told};
 ghost use Rattle.sdl_sorts.specs.Scope.{signal_meaning};
 
 use crate::declaration::{Declaration, add, declare_all};
 use port_model::SignalId;
 use sdl_declared::{SignalEntry, SignalKind, Tables, next_number};
-use sdl_scope::Faults;
+use sdl_faults::Faults;
 use sdl_sorts::SignalMeaning;
 use sdl_spaces::Spaces;
 use sdl_system::Sort;

@@ -8,7 +8,7 @@ ghost use Rattle.sdl_names.specs.Meanings.{state_entries, state_entry};
 
 use crate::declaration::{Declaration, add, declare_all};
 use sdl_declared::{StateEntry, Tables};
-use sdl_scope::Faults;
+use sdl_faults::Faults;
 use sdl_spaces::{ScopeId, Spaces};
 use sdl_system::StateId;
 use std::alloc::{AllocError, Global};

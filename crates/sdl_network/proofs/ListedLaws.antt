@@ -14,11 +14,11 @@ use Rattle.sdl_signal_lists.specs.Numbered.{joined, numbered}
 use Rattle.sdl_network.specs.Paths.{Placed, channel_paths, path_faults, second_path, seen_from}
 use Rattle.sdl_signal_lists.specs.Processes.{faults_of, processes_faults, seen_within, set_faults}
 use Rattle.sdl_signal_lists.specs.Seen.{Seen, item_faults, item_in, item_name, items_faults, list_item, seen_at, signal_item}
-use Rattle.sdl_scope.proofs.FaultLemmas.{each-both, each-if, each-of}
-use Rattle.sdl_scope.specs.FaultLaws.{Each, In}
-use Rattle.sdl_scope.specs.Faults.{Told, fault_if, told_at}
+use Rattle.sdl_faults.proofs.FaultLemmas.{each-both, each-if, each-of}
+use Rattle.sdl_faults.specs.FaultLaws.{Each, In}
+use Rattle.sdl_faults.specs.Faults.{Told, fault_if, told_at}
 use Rattle.sdl_scope.specs.Names.{first_of}
-use Rattle.sdl_scope.specs.declared.fault.Kind.TheVariants.{Unknown}
+use Rattle.sdl_faults.specs.declared.fault.Kind.TheVariants.{Unknown}
 use Rattle.sdl_declared.specs.declared.entries.SignalListId.{SignalListId}
 use Rattle.sdl_sorts.specs.declared.scope.AgentMeaning.{AgentMeaning}
 use Rattle.sdl_sorts.specs.declared.scope.AgentMeaning.TheVariants as agent

@@ -3,9 +3,9 @@ use Rattle.std.specs.Prelude.{ℕ, List, [], Option, None, Some, is_none}
 use Rattle.sdl_signal_lists.specs.Numbered.{numbered}
 use Rattle.sdl_channels.specs.declared.network.End.{End}
 use Rattle.sdl_channels.specs.declared.network.End.TheVariants as at
-use Rattle.sdl_scope.specs.Faults.{Told, fault_if}
+use Rattle.sdl_faults.specs.Faults.{Told, fault_if}
 use Rattle.sdl_scope.specs.Names.{first_of}
-use Rattle.sdl_scope.specs.declared.fault.Kind.TheVariants.{Unknown}
+use Rattle.sdl_faults.specs.declared.fault.Kind.TheVariants.{Unknown}
 use Rattle.sdl_sorts.specs.declared.scope.AgentMeaning.{AgentMeaning}
 use Rattle.sdl_sorts.specs.declared.scope.AgentMeaning.TheVariants as agent
 use Rattle.sdl_system.specs.declared.id.BlockId.{BlockId}

@@ -9,10 +9,10 @@ use Rattle.sdl_network.specs.Network.{network_faults}
 use Rattle.sdl_network.specs.Paths.{seen_from}
 use Rattle.sdl_signal_lists.specs.Processes.{seen_within}
 use Rattle.sdl_signal_lists.specs.Seen.{Seen, item_name, seen_at}
-use Rattle.sdl_scope.specs.FaultLaws.{Each, In}
-use Rattle.sdl_scope.specs.Faults.{Told, told_at}
+use Rattle.sdl_faults.specs.FaultLaws.{Each, In}
+use Rattle.sdl_faults.specs.Faults.{Told, told_at}
 use Rattle.sdl_scope.specs.Names.{first_of}
-use Rattle.sdl_scope.specs.declared.fault.Kind.TheVariants.{Unknown}
+use Rattle.sdl_faults.specs.declared.fault.Kind.TheVariants.{Unknown}
 use Rattle.sdl_sorts.specs.declared.scope.AgentMeaning.TheVariants as agent
 use Rattle.sdl_spaces.specs.Spaces.{names_of}
 use Rattle.sdl_spaces.specs.declared.scope.ScopeId.{ScopeId}

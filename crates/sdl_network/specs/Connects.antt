@@ -7,9 +7,9 @@ use Rattle.sdl_signal_lists.specs.Seen.{listed}
 use Rattle.sdl_network.specs.declared.paths.ChannelPaths.{ChannelPaths}
 use Rattle.sdl_channels.specs.declared.network.Connect as routes
 use Rattle.sdl_channels.specs.declared.network.PathId.{PathId}
-use Rattle.sdl_scope.specs.Faults.{Told, fault_if}
+use Rattle.sdl_faults.specs.Faults.{Told, fault_if}
 use Rattle.sdl_scope.specs.Names.{first_of}
-use Rattle.sdl_scope.specs.declared.fault.Kind.TheVariants.{Unknown}
+use Rattle.sdl_faults.specs.declared.fault.Kind.TheVariants.{Unknown}
 use Rattle.sdl_spaces.specs.Spaces.{names_of}
 use Rattle.sdl_spaces.specs.declared.scope.ScopeId.{ScopeId}
 use Rattle.sdl_spaces.specs.declared.scope.ScopeId.TheVariants as scope

@@ -13,7 +13,7 @@ use Rattle.sdl_channels.specs.declared.list.Item.{Item}
 use Rattle.sdl_channels.specs.declared.network.Block.{Block}
 use Rattle.sdl_channels.specs.declared.network.ChannelPath.{ChannelPath}
 use Rattle.sdl_channels.specs.declared.network.Process.{Process}
-use Rattle.sdl_scope.specs.Faults.{Told}
+use Rattle.sdl_faults.specs.Faults.{Told}
 use Rattle.sdl_spaces.specs.Spaces.{names_of}
 use Rattle.sdl_spaces.specs.declared.scope.ScopeId.{ScopeId}
 use Rattle.sdl_spaces.specs.declared.scope.ScopeId.TheVariants as scope

@@ -15,7 +15,7 @@ use Rattle.sdl_channels.specs.declared.network.ChannelPath as routes
 use Rattle.sdl_channels.specs.declared.network.End.{End}
 use Rattle.sdl_channels.specs.declared.network.End.TheVariants as at
 use Rattle.sdl_channels.specs.declared.network.PathId.{PathId}
-use Rattle.sdl_scope.specs.Faults.{Told}
+use Rattle.sdl_faults.specs.Faults.{Told}
 use Rattle.sdl_spaces.specs.Spaces.{names_of}
 use Rattle.sdl_spaces.specs.declared.scope.ScopeId.{ScopeId}
 use Rattle.sdl_system.specs.declared.id.BlockId.{BlockId}

@@ -3,14 +3,15 @@
 ghost use Rattle.std.specs.Prelude.{◌≡◌, ◌==◌, length, map, IfOk};
 ghost use Rattle.sdl_declared.specs.Seen.{block_seen};
 ghost use Rattle.sdl_network.specs.Agents.{agent_end, block_end, block_names, end_faults, end_in};
-ghost use Rattle.sdl_scope.specs.Faults.{least_of, told};
+ghost use Rattle.sdl_faults.specs.Faults.{least_of, told};
 ghost use Rattle.sdl_scope.specs.Names.{first_of, names_in};
 ghost use Rattle.sdl_spaces.specs.Spaces.{names_of};
 ghost use Rattle.sdl_tree.specs.Views.{end_value};
 
 use sdl_channels::End;
 use sdl_declared::BlockEntry;
-use sdl_scope::{Faults, Names, Token};
+use sdl_faults::{Faults, Token};
+use sdl_scope::Names;
 use sdl_signal_lists::{counted, note_unknown, path_at};
 use sdl_sorts::AgentMeaning;
 use sdl_spaces::{ScopeId, Spaces};

@@ -3,7 +3,7 @@
 ghost use Rattle.std.specs.Prelude.{◌≡◌, ◌++◌, flat_map, map, IfOk, OnOk};
 ghost use Rattle.sdl_declared.specs.Seen.{connection_seen};
 ghost use Rattle.sdl_network.specs.Connects.{channel_faults, connect_faults, connect_in, connect_value, connects_at, connects_of, ids_of, named_paths, numbers_at};
-ghost use Rattle.sdl_scope.specs.Faults.{least_of, told};
+ghost use Rattle.sdl_faults.specs.Faults.{least_of, told};
 ghost use Rattle.sdl_spaces.specs.Spaces.{names_of};
 ghost use Rattle.sdl_tree.specs.Views.{connection_value, name_value, names_value};
 
@@ -12,7 +12,7 @@ use crate::paths::ChannelPaths;
 use sdl_channels::{Connect, PathId};
 use sdl_declared::{ChannelId, ConnectionEntry};
 use sdl_names::Declared;
-use sdl_scope::{Faults, Token};
+use sdl_faults::{Faults, Token};
 use sdl_signal_lists::note_unknown;
 use sdl_spaces::{ScopeId, Spaces};
 use sdl_system::BlockId;

@@ -8,7 +8,7 @@ ghost use Rattle.sdl_network.specs.Connects.{connect_value};
 ghost use Rattle.sdl_network.specs.Network.{all_paths, blocks_in, has_no_channel, network_connects, network_faults, network_lists, network_paths, network_processes};
 ghost use Rattle.sdl_signal_lists.specs.Seen.{list_items};
 ghost use Rattle.sdl_network.specs.Paths.{carried, channel_paths, path_faults, paths_from};
-ghost use Rattle.sdl_scope.specs.Faults.{least_of, told};
+ghost use Rattle.sdl_faults.specs.Faults.{least_of, told};
 ghost use Rattle.sdl_spaces.specs.declared.scope.ScopeId.TheVariants as scope;
 
 use crate::agents::{block_names, is_empty_at};
@@ -17,7 +17,8 @@ use crate::paths::{add_paths, all_paths, note_paths};
 use sdl_channels::{Block, ChannelPath, Connect, Network, Process, SignalList};
 use sdl_declared::{BlockEntry, ChannelEntry, Tables};
 use sdl_names::Declared;
-use sdl_scope::{Faults, Names};
+use sdl_faults::Faults;
+use sdl_scope::Names;
 use sdl_signal_lists::{add_processes, counted, named_lists, note_lists, note_processes};
 use sdl_spaces::ScopeId;
 use sdl_system::BlockId;

@@ -4,14 +4,15 @@ ghost use Rattle.std.specs.Prelude.{◌≡◌, ◌++◌, ◌+◌, ◌∷◌, [],
 ghost use Rattle.sdl_declared.specs.Seen.{channel_seen};
 ghost use Rattle.sdl_network.specs.Paths.{carried, channel_paths, items_if, numbers_from, numbers_of, path_faults, path_of, paths_from, placed_value, second_number, second_path, seen_from};
 ghost use Rattle.sdl_signal_lists.specs.Seen.{items_faults, list_items};
-ghost use Rattle.sdl_scope.specs.Faults.{least_of, told};
+ghost use Rattle.sdl_faults.specs.Faults.{least_of, told};
 ghost use Rattle.sdl_tree.specs.Views.{path_value};
 
 use crate::agents::{end_in, note_end};
 use sdl_channels::{ChannelPath, End, Item, ListId, PathId, SignalList};
 use sdl_declared::ChannelEntry;
 use sdl_names::Declared;
-use sdl_scope::{Faults, Names};
+use sdl_faults::Faults;
+use sdl_scope::Names;
 use sdl_signal_lists::{counted, path_at, scope_of, seen_at};
 use sdl_spaces::ScopeId;
 use sdl_system::BlockId;

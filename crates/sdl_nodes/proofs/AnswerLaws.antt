@@ -3,22 +3,22 @@ use Rattle.std.proofs.Common.{◌≡◌, ◌∙◌, ◌++◌, not, Bool, true, f
 use Rattle.port_model.specs.declared.value.Value as values
 use Rattle.sdl_nodes.specs.BrokenAnswers.{operator_word, BreaksAnswer, BreaksValue, IsComparable, IsComparison, IsOrdering, IsUnordered, IsValueOf, IsWithoutValue}
 use Rattle.sdl_nodes.specs.BrokenAnswers as broken
-use Rattle.sdl_scope.proofs.FaultLemmas.{each-both, each-if, in-if, in-left, in-right}
-use Rattle.sdl_scope.specs.FaultLaws.{Each, In}
-use Rattle.sdl_scope.specs.Faults.{Told, fault_if, told_at}
-use Rattle.sdl_scope.specs.declared.fault.Kind.TheVariants.{BadCount, Sort}
+use Rattle.sdl_faults.proofs.FaultLemmas.{each-both, each-if, in-if, in-left, in-right}
+use Rattle.sdl_faults.specs.FaultLaws.{Each, In}
+use Rattle.sdl_faults.specs.Faults.{Told, fault_if, told_at}
+use Rattle.sdl_faults.specs.declared.fault.Kind.TheVariants.{BadCount, Sort}
 use Rattle.sdl_sorts.specs.Answers.{answer_faults, answer_value_faults, comparable_in, compared_faults, comparison_for, has_order, is_incomparable}
 use Rattle.sdl_sorts.specs.Broken as sorted
 use Rattle.sdl_sorts.specs.Constants.{counted_faults, is_miscounted, value_of}
-use Rattle.sdl_sorts.specs.Kinds.{result_of}
+use Rattle.sdl_kinds.specs.Kinds.{result_of}
 use Rattle.sdl_sorts.specs.Misused.{expression_faults}
 use Rattle.sdl_sorts.specs.Scope.{Scope}
 use Rattle.sdl_sorts.specs.Typing.{Typed, typed_in}
 use Rattle.sdl_sorts.specs.Words.{first_word}
 use Rattle.sdl_sorts.specs.declared.context.Context.TheVariants.{Constant}
-use Rattle.sdl_sorts.specs.declared.kind.Kind.{Kind}
-use Rattle.sdl_sorts.specs.declared.kind.Kind.TheVariants as kind
-use Rattle.sdl_sorts.specs.declared.operator.TypedOperation.{TypedOperation}
+use Rattle.sdl_kinds.specs.declared.kind.Kind.{Kind}
+use Rattle.sdl_kinds.specs.declared.kind.Kind.TheVariants as kind
+use Rattle.sdl_kinds.specs.declared.operator.TypedOperation.{TypedOperation}
 use Rattle.sdl_sorts.proofs.BrokenLaws.{broken-listed}
 use Rattle.sdl_sorts.proofs.ListedLaws.{each-weaker, listed-broken, not-true}
 use Rattle.sdl_system.specs.declared.operation.Comparison.{Comparison}

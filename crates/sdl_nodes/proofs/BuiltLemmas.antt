@@ -5,7 +5,7 @@ use Rattle.sdl_nodes.specs.Decided.{BuiltParts}
 use Rattle.sdl_nodes.specs.Labels.{gathered_in, itself, joined, joins_of, labels_of, no_label, not_joined, times}
 use Rattle.sdl_nodes.specs.declared.table.Mark.{Mark}
 use Rattle.sdl_nodes.proofs.CountLemmas.{at-end, gathers-last, in-append, kept-behind, maps-last, none-plus, times-append}
-use Rattle.sdl_scope.proofs.FaultLemmas.{in-left, in-right}
+use Rattle.sdl_faults.proofs.FaultLemmas.{in-left, in-right}
 use Rattle.sdl_system.proofs.BodyLemmas.{Has-followed}
 use Rattle.sdl_system.proofs.GrowLemmas.{Has-grows}
 use Rattle.sdl_system.specs.Body as body

@@ -1,7 +1,7 @@
 -- Lists, and how often labels stand in them.
 use Rattle.std.proofs.Common.{◌≡◌, ◌⊎◌, inl, inr, ℕ, zero, suc, ◌+◌, ◌==◌, ◌++◌, List, [], ◌∷◌, Some, arith, cond, flat_map, length, map, slice_get, refl}
 use Rattle.sdl_nodes.specs.Labels.{times}
-use Rattle.sdl_scope.specs.FaultLaws.{In}
+use Rattle.sdl_faults.specs.FaultLaws.{In}
 use Rattle.sdl_system.specs.declared.id.LabelId.{LabelId}
 
 -- ---- places in a list

@@ -1,8 +1,8 @@
 -- Faults of a later part of the text, noted apart.
 use Rattle.std.proofs.Common.{◌≡◌, ◌∙◌, Bool, true, false, List, [], ◌∷◌, Option, None, Some, if◌then◌else◌, refl, ap, sym}
 use Rattle.sdl_nodes.specs.Later.{with_later}
-use Rattle.sdl_scope.specs.Faults.{Told, earlier, key, least_of, precedes}
-use Rattle.sdl_scope.proofs.OrderLemmas.{less-asym, not_less-trans}
+use Rattle.sdl_faults.specs.Faults.{Told, earlier, key, least_of, precedes}
+use Rattle.sdl_faults.proofs.OrderLemmas.{less-asym, not_less-trans}
 
 earlier-is : (old fault : Told) (b : Bool) → precedes fault old ≡ b →
     earlier (Some old) fault ≡ (if b then Some fault else Some old)

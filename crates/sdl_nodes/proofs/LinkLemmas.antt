@@ -7,8 +7,8 @@ use Rattle.sdl_nodes.specs.Built.{Becomes, Table, label_of, marked_labels, node_
 use Rattle.sdl_nodes.specs.Labels.{times}
 use Rattle.sdl_nodes.specs.Linked.{first_mark, linked, linked_nodes, next_of, place_at}
 use Rattle.sdl_nodes.specs.declared.table.Mark.{Mark}
-use Rattle.sdl_scope.proofs.FaultLemmas.{in-left, in-right}
-use Rattle.sdl_scope.specs.FaultLaws.{In}
+use Rattle.sdl_faults.proofs.FaultLemmas.{in-left, in-right}
+use Rattle.sdl_faults.specs.FaultLaws.{In}
 use Rattle.sdl_system.specs.BodyLaws.{KeepsNext}
 use Rattle.sdl_system.specs.declared.id.LabelId.{LabelId}
 use Rattle.sdl_system.specs.declared.id.NodeId.{NodeId}

@@ -10,10 +10,10 @@ use Rattle.sdl_nodes.specs.Standing.{EndsIn, IsAskedBy, IsPart, IsPidPlace, Stan
 use Rattle.sdl_nodes.specs.Standing as stands
 use Rattle.sdl_nodes.specs.Statements.{agent_name, asked_in, kind_in, sort_of, target_of}
 use Rattle.sdl_nodes.specs.Transitions.{action_faults, ending_faults, other_faults, parts_faults, steps_faults, transition_faults}
-use Rattle.sdl_scope.proofs.FaultLemmas.{each-both, each-if, each-of}
-use Rattle.sdl_scope.specs.FaultLaws.{Each, In}
-use Rattle.sdl_scope.specs.Faults.{Told, fault_if, told_at}
-use Rattle.sdl_scope.specs.declared.fault.Kind.TheVariants.{NoLabel, NoRoute, NoState, Sort, Unknown}
+use Rattle.sdl_faults.proofs.FaultLemmas.{each-both, each-if, each-of}
+use Rattle.sdl_faults.specs.FaultLaws.{Each, In}
+use Rattle.sdl_faults.specs.Faults.{Told, fault_if, told_at}
+use Rattle.sdl_faults.specs.declared.fault.Kind.TheVariants.{NoLabel, NoRoute, NoState, Sort, Unknown}
 use Rattle.sdl_sorts.proofs.ListedLaws as expressions
 use Rattle.sdl_sorts.proofs.ListedLaws.{each-weaker, none-is, not-true}
 use Rattle.sdl_sorts.specs.Answers.{answer_faults}
@@ -22,7 +22,7 @@ use Rattle.sdl_sorts.specs.Broken.{IsBrokenAt, IsBrokenIn, IsMisfit, IsNoTimer, 
 use Rattle.sdl_sorts.specs.Scope.{AgentMeaning, SignalMeaning, agent_in, block, process, signal, signal_in, timer, value_in}
 use Rattle.sdl_sorts.specs.Words.{first_word}
 use Rattle.sdl_sorts.specs.declared.context.Context.TheVariants as place
-use Rattle.sdl_sorts.specs.declared.kind.Kind.{Kind}
+use Rattle.sdl_kinds.specs.declared.kind.Kind.{Kind}
 use Rattle.sdl_sorts.specs.declared.scope.ValueMeaning.{ValueMeaning}
 use Rattle.sdl_sorts.specs.declared.scope.ValueMeaning.TheVariants as meant
 use Rattle.sdl_system.specs.declared.sort.Sort as sorts

@@ -6,7 +6,7 @@ use Rattle.sdl_nodes.specs.Linked.{first_mark, linked_nodes, place_at}
 use Rattle.sdl_nodes.specs.Made.{Closed, Made, MadeAt, all_joins, all_labels}
 use Rattle.sdl_nodes.proofs.CountLemmas.{at-end, gathers-last, in-append, kept-behind}
 use Rattle.sdl_nodes.proofs.LinkLemmas.{in-times, join-at, linked-becomes, mark-of, marked-first, times-in}
-use Rattle.sdl_scope.specs.FaultLaws.{In}
+use Rattle.sdl_faults.specs.FaultLaws.{In}
 use Rattle.sdl_system.specs.Body as body
 use Rattle.sdl_system.specs.Body.{Body, FromLabel, InParts, Parts, followed, here, in_first, in_later, in_otherwise, past_action, past_decision, past_label, within}
 use Rattle.sdl_system.specs.Table.{At, Has, IsTableOf, Joined, LabelOf}

@@ -5,8 +5,8 @@ use Rattle.sdl_nodes.specs.Decided.{BuiltParts, BuiltPiece, BuiltPieces, HasPiec
 use Rattle.sdl_nodes.specs.Labels.{gathered, gathered_in, itself, joined, joins_of, labels_of, no_label, not_joined, times}
 use Rattle.sdl_nodes.specs.Transitions.{Piece, parts_of}
 use Rattle.sdl_nodes.proofs.CountLemmas.{gathers-last, none-plus, times-append}
-use Rattle.sdl_scope.proofs.FaultLemmas.{in-left, in-right}
-use Rattle.sdl_scope.specs.FaultLaws.{In}
+use Rattle.sdl_faults.proofs.FaultLemmas.{in-left, in-right}
+use Rattle.sdl_faults.specs.FaultLaws.{In}
 use Rattle.sdl_system.specs.Body.{Body, FromLabel, InParts, Terminator, in_first, in_later, in_otherwise}
 use Rattle.sdl_system.specs.Table.{Has, HasParts}
 use Rattle.sdl_system.specs.declared.id.LabelId.{LabelId}

@@ -3,7 +3,7 @@ use Rattle.std.proofs.Common.{◌≡◌, ◌∙◌, ◌++◌, List, [], ◌∷�
 use Rattle.sdl_nodes.specs.Contexts.{Context}
 use Rattle.sdl_nodes.specs.Transitions.{part_faults, parts_faults, piece_in, pieces_in}
 use Rattle.sdl_sorts.specs.Partial.{all_some, both}
-use Rattle.sdl_sorts.specs.declared.kind.Kind.{Kind}
+use Rattle.sdl_kinds.specs.declared.kind.Kind.{Kind}
 use Rattle.sdl_tree.proofs.ViewLemmas.{answered_value, steps_value}
 use Rattle.sdl_tree.specs.Tree as tree
 use Rattle.sdl_tree.specs.Tree.{actions_of, parts_of}

@@ -7,9 +7,9 @@ use Rattle.sdl_nodes.specs.Contexts.{Context, is_reaching, label_in, state_in}
 use Rattle.sdl_nodes.specs.Standing.{EndsIn, IsAskedBy, IsPidPlace, StandsIn}
 use Rattle.sdl_nodes.specs.Statements.{asked_in, kind_in}
 use Rattle.sdl_nodes.specs.Transitions.{transition_faults}
-use Rattle.sdl_scope.specs.FaultLaws.{Each, In}
-use Rattle.sdl_scope.specs.Faults.{Told, told_at}
-use Rattle.sdl_scope.specs.declared.fault.Kind.TheVariants.{NoLabel, NoRoute, NoState, Sort, Unknown}
+use Rattle.sdl_faults.specs.FaultLaws.{Each, In}
+use Rattle.sdl_faults.specs.Faults.{Told, told_at}
+use Rattle.sdl_faults.specs.declared.fault.Kind.TheVariants.{NoLabel, NoRoute, NoState, Sort, Unknown}
 use Rattle.sdl_sorts.specs.Broken as sorted
 use Rattle.sdl_sorts.specs.Broken.{BreaksPlaces, IsMisfit, IsNoTimer, TimerMeaning}
 use Rattle.sdl_sorts.specs.Scope.{AgentMeaning, Scope, SignalMeaning, agent_in, block, process, signal, signal_in, timer, value_in}

@@ -1,21 +1,20 @@
 -- When a rule is broken in an answer of a decision, and at which word: said of its values and of the question, and not
 -- of what is noted (Z.102: decision).
 use Rattle.std.specs.Prelude.{◌≡◌, false, Option, None, Some, option_and_then}
-use Rattle.sdl_scope.specs.FaultLaws.{Each, In}
-use Rattle.sdl_scope.specs.Faults.{Told, told_at}
-use Rattle.sdl_scope.specs.Limits.{mark_word}
-use Rattle.sdl_scope.specs.declared.fault.Kind.TheVariants.{BadCount, Sort}
+use Rattle.sdl_faults.specs.FaultLaws.{Each, In}
+use Rattle.sdl_faults.specs.Faults.{Told, told_at, mark_word}
+use Rattle.sdl_faults.specs.declared.fault.Kind.TheVariants.{BadCount, Sort}
 use Rattle.sdl_sorts.specs.Answers.{answer_faults}
 use Rattle.sdl_sorts.specs.Broken.{IsBroken}
 use Rattle.sdl_sorts.specs.Constants.{value_of}
-use Rattle.sdl_sorts.specs.Kinds.{result_of}
+use Rattle.sdl_kinds.specs.Kinds.{result_of}
 use Rattle.sdl_sorts.specs.Scope.{Scope}
 use Rattle.sdl_sorts.specs.Typing.{Typed, typed_in}
 use Rattle.sdl_sorts.specs.Words.{first_word}
 use Rattle.sdl_sorts.specs.declared.context.Context.TheVariants.{Constant}
-use Rattle.sdl_sorts.specs.declared.kind.Kind.{Kind}
-use Rattle.sdl_sorts.specs.declared.kind.Kind.TheVariants.{Boolean, Pid}
-use Rattle.sdl_sorts.specs.declared.operator.TypedOperation.{TypedOperation}
+use Rattle.sdl_kinds.specs.declared.kind.Kind.{Kind}
+use Rattle.sdl_kinds.specs.declared.kind.Kind.TheVariants.{Boolean, Pid}
+use Rattle.sdl_kinds.specs.declared.operator.TypedOperation.{TypedOperation}
 use Rattle.sdl_tree.specs.Spells.Expressions.{operator_mark}
 use Rattle.sdl_tree.specs.Tree.{Answer, Compared, Expr, Range, Value}
 use Rattle.sdl_tree.specs.Words.{Spot}

@@ -5,7 +5,7 @@ use Rattle.sdl_nodes.specs.Contexts.{Context, label_in}
 use Rattle.sdl_nodes.specs.Labels.{joins_of, labels_of, times}
 use Rattle.sdl_nodes.specs.declared.table.Mark.{Mark}
 use Rattle.sdl_nodes.specs.declared.table.NodeTable.{NodeTable}
-use Rattle.sdl_scope.specs.FaultLaws.{In}
+use Rattle.sdl_faults.specs.FaultLaws.{In}
 use Rattle.sdl_system.specs.Body.{Body, FromLabel}
 use Rattle.sdl_system.specs.BodyLaws.{Keeps}
 use Rattle.sdl_system.specs.Table.{Has}

@@ -5,7 +5,7 @@ use Rattle.sdl_nodes.specs.Built.{Built, GrownTo, Lasts, Becomes, Table, joined_
 use Rattle.sdl_nodes.specs.Labels.{gathered_in, itself, joined, joins_of, labels_of, no_label, not_joined, times}
 use Rattle.sdl_nodes.specs.Transitions.{Head, Piece, acts, asks}
 use Rattle.sdl_nodes.specs.declared.table.Mark.{Mark}
-use Rattle.sdl_scope.specs.FaultLaws.{In}
+use Rattle.sdl_faults.specs.FaultLaws.{In}
 use Rattle.sdl_system.specs.Body as body
 use Rattle.sdl_system.specs.Body.{Body, FromLabel, InParts, Parts}
 use Rattle.sdl_system.specs.Table.{Has, HasParts, action_of}

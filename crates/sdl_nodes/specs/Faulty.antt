@@ -4,14 +4,14 @@ use Rattle.std.specs.Prelude.{◌++◌, ◌&&◌, not, Bool, true, false, List, 
 use Rattle.port_model.specs.declared.item.SignalId.{SignalId}
 use Rattle.sdl_nodes.specs.Contexts.{Context, is_reaching, label_in, state_in}
 use Rattle.sdl_nodes.specs.Statements.{agent_name, sort_of, target_in}
-use Rattle.sdl_scope.specs.Faults.{Told, fault_if, told_at}
-use Rattle.sdl_scope.specs.declared.fault.Kind.TheVariants.{NoLabel, NoRoute, NoState, Unknown}
-use Rattle.sdl_scope.specs.declared.fault.Kind.TheVariants as broken
+use Rattle.sdl_faults.specs.Faults.{Told, fault_if, told_at}
+use Rattle.sdl_faults.specs.declared.fault.Kind.TheVariants.{NoLabel, NoRoute, NoState, Unknown}
+use Rattle.sdl_faults.specs.declared.fault.Kind.TheVariants as broken
 use Rattle.sdl_sorts.specs.Answers.{answer_faults}
 use Rattle.sdl_sorts.specs.Misused.{expression_faults, list_faults, place_faults}
 use Rattle.sdl_sorts.specs.Scope.{AgentMeaning, SignalMeaning, agent_in, block, process, signal, signal_in, timer}
 use Rattle.sdl_sorts.specs.declared.context.Context.TheVariants.{Transition}
-use Rattle.sdl_sorts.specs.declared.kind.Kind.{Kind}
+use Rattle.sdl_kinds.specs.declared.kind.Kind.{Kind}
 use Rattle.sdl_system.specs.declared.sort.Sort.{Sort}
 use Rattle.sdl_system.specs.declared.sort.Sort.TheVariants as sorts
 use Rattle.sdl_tree.specs.Tree as tree

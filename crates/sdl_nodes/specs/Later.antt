@@ -1,6 +1,6 @@
 -- Faults of a later part of the text may be noted apart, and then behind those of the parts before it.
 use Rattle.std.specs.Prelude.{◌≡◌, List, Option, None, Some}
-use Rattle.sdl_scope.specs.Faults.{Told, earlier, least_of}
+use Rattle.sdl_faults.specs.Faults.{Told, earlier, least_of}
 
 -- of the faults of a part and those of a later one, the fault that is told
 abbrev pub with_later : Option Told → Option Told → Option Told

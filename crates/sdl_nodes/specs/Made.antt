@@ -5,7 +5,7 @@ use Rattle.sdl_nodes.specs.Contexts.{Context, label_in}
 use Rattle.sdl_nodes.specs.Labels.{joins_of, labels_of, times}
 use Rattle.sdl_nodes.specs.Transitions.{body_in}
 use Rattle.sdl_nodes.specs.declared.table.Mark.{Mark}
-use Rattle.sdl_scope.specs.FaultLaws.{In}
+use Rattle.sdl_faults.specs.FaultLaws.{In}
 use Rattle.sdl_system.specs.Body.{Body, Ends}
 use Rattle.sdl_system.specs.Table.{LabelOf}
 use Rattle.sdl_system.specs.declared.id.LabelId.{LabelId}

@@ -1,6 +1,6 @@
 -- What stands in a transition: in itself, and in the parts of the decisions in it (Z.102: transition string, decision).
 use Rattle.std.specs.Prelude.{◌≡◌, List, Option, None, Some}
-use Rattle.sdl_scope.specs.FaultLaws.{In}
+use Rattle.sdl_faults.specs.FaultLaws.{In}
 use Rattle.sdl_sorts.specs.Scope.{Scope, value_in}
 use Rattle.sdl_tree.specs.Tree.{Action, Actions, Applied, Assignment, Create, Decision, Destination, Else, Ending, Expr, Named, Otherwise, Output, Part, Parts, Reset, Set, SetClause, Statement, Steps, Task, Terminator, Transition, parts_in, statements_in}
 use Rattle.sdl_tree.specs.Words.{Spot}

@@ -10,7 +10,7 @@ use Rattle.sdl_sorts.specs.Partial.{all_some, both}
 use Rattle.sdl_sorts.specs.Scope.{AgentMeaning, Scope, SignalMeaning, agent_in, block, process, signal, signal_in, timer, value_in}
 use Rattle.sdl_sorts.specs.Typing.{Typed, argument_in, taken_term, taken_terms, typed_in}
 use Rattle.sdl_sorts.specs.declared.context.Context.TheVariants.{Transition}
-use Rattle.sdl_sorts.specs.declared.kind.Kind.{Kind}
+use Rattle.sdl_kinds.specs.declared.kind.Kind.{Kind}
 use Rattle.sdl_sorts.specs.declared.scope.ValueMeaning.{ValueMeaning}
 use Rattle.sdl_sorts.specs.declared.scope.ValueMeaning.TheVariants as meant
 use Rattle.sdl_system.specs.Body as body

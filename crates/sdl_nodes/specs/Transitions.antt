@@ -3,10 +3,10 @@ use Rattle.std.specs.Prelude.{◌++◌, List, [], ◌∷◌, Option, None, Some,
 use Rattle.sdl_nodes.specs.Contexts.{Context, label_in}
 use Rattle.sdl_nodes.specs.Faulty.{answers_faults, asked_faults, assignment_faults, create_faults, output_faults, setting_faults, terminator_faults, timing_faults}
 use Rattle.sdl_nodes.specs.Statements.{answers_in, asked_in, create_in, kind_in, output_in, reset_in, set_in, task_in, terminator_in}
-use Rattle.sdl_scope.specs.Faults.{Told}
+use Rattle.sdl_faults.specs.Faults.{Told}
 use Rattle.sdl_sorts.specs.Partial.{both}
 use Rattle.sdl_sorts.specs.Typing.{Typed, term_in}
-use Rattle.sdl_sorts.specs.declared.kind.Kind.{Kind}
+use Rattle.sdl_kinds.specs.declared.kind.Kind.{Kind}
 use Rattle.sdl_system.specs.Body as body
 use Rattle.sdl_system.specs.Body.{Body}
 use Rattle.sdl_system.specs.Term.{Term}

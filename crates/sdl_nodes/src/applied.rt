@@ -3,11 +3,11 @@
 ghost use Rattle.std.specs.Prelude.{◌≡◌, flat_map, map, OnOk};
 ghost use Rattle.sdl_nodes.specs.Contexts.{context_of};
 ghost use Rattle.sdl_nodes.specs.Faulty.{asked_faults, unknown_faults};
-ghost use Rattle.sdl_scope.specs.Faults.{least_of, told};
+ghost use Rattle.sdl_faults.specs.Faults.{least_of, told};
 ghost use Rattle.sdl_tree.specs.Views.{applied_value, expr_value};
 
 use crate::context::Context;
-use sdl_scope::{Faults, Kind, Token};
+use sdl_faults::{Faults, Kind, Token};
 use sdl_sorts::resolve;
 use sdl_tree::{Applied, Expression};
 use std::alloc::{AllocError, Global};

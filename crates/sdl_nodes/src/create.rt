@@ -4,7 +4,7 @@ ghost use Rattle.std.specs.Prelude.{◌≡◌, map, option_and_then, option_map,
 ghost use Rattle.sdl_nodes.specs.Contexts.{context_of};
 ghost use Rattle.sdl_nodes.specs.Faulty.{create_faults};
 ghost use Rattle.sdl_nodes.specs.Statements.{create_in};
-ghost use Rattle.sdl_scope.specs.Faults.{least_of, told};
+ghost use Rattle.sdl_faults.specs.Faults.{least_of, told};
 ghost use Rattle.sdl_system.specs.Body.{create};
 ghost use Rattle.sdl_system.specs.Table.{action_of};
 ghost use Rattle.sdl_system.specs.Term.{term_of};
@@ -12,7 +12,7 @@ ghost use Rattle.sdl_tree.specs.Views.{applied_value};
 
 use crate::applied::note_unknown;
 use crate::context::Context;
-use sdl_scope::Faults;
+use sdl_faults::Faults;
 use sdl_sorts::{AgentMeaning, resolve_values};
 use sdl_system::{Creation, Expression, ProcessId, Statement};
 use sdl_tree::Applied;

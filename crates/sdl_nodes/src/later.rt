@@ -2,9 +2,9 @@
 
 ghost use Rattle.std.specs.Prelude.{◌≡◌};
 ghost use Rattle.sdl_nodes.specs.Later.{with_later};
-ghost use Rattle.sdl_scope.specs.Faults.{told};
+ghost use Rattle.sdl_faults.specs.Faults.{told};
 
-use sdl_scope::Faults;
+use sdl_faults::Faults;
 
 /// Notes the faults of a later part behind those of the parts before it.
 pub fn note_later<'t>(later: &Faults<'t>, faults: &mut Faults<'t>)

@@ -4,8 +4,8 @@ ghost use Rattle.std.specs.Prelude.{◌≡◌, flat_map, is_none, map, option_an
 ghost use Rattle.sdl_nodes.specs.Contexts.{context_of};
 ghost use Rattle.sdl_nodes.specs.Faulty.{assignment_faults};
 ghost use Rattle.sdl_nodes.specs.Statements.{assigned, assigning_in, sort_of, target_in, target_of, task_in};
-ghost use Rattle.sdl_scope.specs.Faults.{fault_if, least_of, told};
-ghost use Rattle.sdl_scope.specs.declared.fault.Kind.TheVariants.{Unknown};
+ghost use Rattle.sdl_faults.specs.Faults.{fault_if, least_of, told};
+ghost use Rattle.sdl_faults.specs.declared.fault.Kind.TheVariants.{Unknown};
 ghost use Rattle.sdl_sorts.specs.Partial.{all_some, both};
 ghost use Rattle.sdl_system.specs.Body.{task};
 ghost use Rattle.sdl_system.specs.Table.{action_of, assigning};
@@ -14,7 +14,7 @@ ghost use Rattle.sdl_tree.specs.Views.{assignment_value, name_value};
 
 use crate::context::Context;
 use crate::list::all_there;
-use sdl_scope::{Faults, Kind, Token};
+use sdl_faults::{Faults, Kind, Token};
 use sdl_sorts::{ValueMeaning, resolve_for};
 use sdl_system::{Expression, Sort, Statement, VariableId};
 use sdl_tree::{Assignment, Name};

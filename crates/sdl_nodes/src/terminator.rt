@@ -4,14 +4,14 @@ ghost use Rattle.std.specs.Prelude.{◌≡◌, is_none, option_and_then, option_
 ghost use Rattle.sdl_nodes.specs.Contexts.{context_of, label_in, state_in};
 ghost use Rattle.sdl_nodes.specs.Faulty.{terminator_faults};
 ghost use Rattle.sdl_nodes.specs.Statements.{terminator_in};
-ghost use Rattle.sdl_scope.specs.Faults.{fault_if, least_of, told};
-ghost use Rattle.sdl_scope.specs.declared.fault.Kind.TheVariants.{NoLabel, NoState};
+ghost use Rattle.sdl_faults.specs.Faults.{fault_if, least_of, told};
+ghost use Rattle.sdl_faults.specs.declared.fault.Kind.TheVariants.{NoLabel, NoState};
 ghost use Rattle.sdl_system.specs.Body.{join, to_state};
 ghost use Rattle.sdl_system.specs.Table.{terminator_of};
 ghost use Rattle.sdl_tree.specs.Views.{name_value, terminator_value};
 
 use crate::context::Context;
-use sdl_scope::{Faults, Kind, Token};
+use sdl_faults::{Faults, Kind, Token};
 use sdl_system::Statement;
 use sdl_tree::{Name, NextState, Terminator};
 

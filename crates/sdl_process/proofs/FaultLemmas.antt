@@ -1,7 +1,7 @@
 -- Passes one behind another.
 use Rattle.std.proofs.Common.{◌≡◌, ◌∙◌, ◌++◌, ℕ, Bool, List, Option, OnOk, Result, Ok, Err, ap, append_assoc, flat_map}
-use Rattle.sdl_scope.proofs.FaultLemmas.{both_noted}
-use Rattle.sdl_scope.specs.Faults.{Told, least_of}
+use Rattle.sdl_faults.proofs.FaultLemmas.{both_noted}
+use Rattle.sdl_faults.specs.Faults.{Told, least_of}
 use Rattle.sdl_scope.specs.Limits.{different}
 use Rattle.sdl_states.specs.States.{is_named, left_out_faults, named_faults, names_in, process_faults}
 use Rattle.sdl_states.proofs.ProcessLemmas.{left_out-same}

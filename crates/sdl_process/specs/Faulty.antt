@@ -5,7 +5,7 @@ use Rattle.sdl_ends.specs.Beginnings.{beginnings}
 use Rattle.sdl_ends.specs.Ends.{ends_faults}
 use Rattle.sdl_ends.specs.Reach.{AreReached}
 use Rattle.sdl_ends.specs.Stays.{stay_faults}
-use Rattle.sdl_scope.specs.Faults.{Told, least_of}
+use Rattle.sdl_faults.specs.Faults.{Told, least_of}
 use Rattle.sdl_states.specs.States.{process_faults}
 use Rattle.sdl_tree.specs.Tree.{ProcessDefinition}
 use Rattle.sdl_process.specs.Surroundings.{Surroundings, for_stimuli, for_transitions}

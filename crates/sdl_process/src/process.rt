@@ -4,7 +4,7 @@ ghost use Rattle.std.specs.Prelude.{◌≡◌, ◌≤◌, ◌++◌, ℕ, All, Li
 ghost use Rattle.sdl_bodies.specs.Added.{HasEach};
 ghost use Rattle.sdl_bodies.specs.Sound.{AreTransitionsOf};
 ghost use Rattle.sdl_ends.specs.Beginnings.{beginnings};
-ghost use Rattle.sdl_scope.specs.Faults.{least_of, told};
+ghost use Rattle.sdl_faults.specs.Faults.{least_of, told};
 ghost use Rattle.sdl_scope.specs.Limits.{different};
 ghost use Rattle.sdl_states.specs.States.{is_named, left_out_faults, names_in};
 ghost use Rattle.sdl_states.specs.Tabled.{is_state, names_listed};
@@ -24,7 +24,7 @@ use crate::making::process_of;
 use crate::surroundings::Surroundings;
 use sdl_bodies::{Transitions, transitions_of};
 use sdl_ends::{note_ends, note_stays};
-use sdl_scope::Faults;
+use sdl_faults::Faults;
 use sdl_states::{note_left_out, read_states};
 use sdl_stimuli::{Reading, read_body};
 use sdl_system::Process;

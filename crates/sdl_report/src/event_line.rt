@@ -1,10 +1,11 @@
 //! The lines of events.
 
+ghost use Rattle.std.specs.Fmt.{decimal};
 ghost use Rattle.std.specs.Prelude.{◌≡◌, ◌++◌, codes, OnOk};
 ghost use Rattle.std.specs.String.{string_bytes};
-ghost use Rattle.port_model.specs.Text.{values_text};
+ghost use Rattle.port_model.specs.Text.{value_text, values_text};
 ghost use Rattle.sdl_report.specs.Entry.{event_of, got_of};
-ghost use Rattle.sdl_report.specs.Name.{process_name};
+ghost use Rattle.sdl_report.specs.Name.{process_name, variable_name};
 ghost use Rattle.sdl_report.specs.ReportText.{created_text, event_line, line, signal_text, stimulus_text, target_text};
 
 use crate::Record;
@@ -12,7 +13,7 @@ use crate::entry::{Entry, Stimulus};
 use crate::names::{process_name, signal_name, state_name, variable_name};
 use crate::pieces::{push_number, push_pid, push_target, push_value};
 use port_model::{SignalId, Value};
-use sdl_system::{ProcessId, System, Target};
+use sdl_system::{ProcessId, System, Target, VariableId};
 use std::alloc::AllocError;
 
 /// Appends the line of an event of the record, which is an entry with its values.
@@ -32,46 +33,24 @@ pub fn push_event(
             text.push_str(" start\n")
         }
         Entry::Consumed { at, got } => {
-            push_number(text, *at)?;
-            text.push_str(" input ")?;
-            push_stimulus(text, *got, values, record, system)
+            push_reception(text, *at, " input ", *got, values, record, system)
         }
         Entry::Prior { at, got } => {
-            push_number(text, *at)?;
-            text.push_str(" priority ")?;
-            push_stimulus(text, *got, values, record, system)
+            push_reception(text, *at, " priority ", *got, values, record, system)
         }
         Entry::Discarded { at, got } => {
-            push_number(text, *at)?;
-            text.push_str(" discard ")?;
-            push_stimulus(text, *got, values, record, system)
+            push_reception(text, *at, " discard ", *got, values, record, system)
         }
         Entry::Provided { at, number } => writeln!(text, "{at} provided {number}"),
         Entry::FailedAt { at, why } => writeln!(text, "{at} failed {why}"),
-        Entry::Task { variable, value } => {
-            text.push_str("  task ")?;
-            text.push_str(variable_name(system, record.process(), *variable))?;
-            text.push_str(" := ")?;
-            push_value(text, value)?;
-            text.push('\n')
-        }
+        Entry::Task { variable, value } => push_task(text, *variable, value, record, system),
         Entry::OutputOnPath { signal, target, .. }
         | Entry::OutputToProcess { signal, target, .. }
         | Entry::OutputToPid { signal, target, .. } => {
             push_output(text, *signal, values, *target, system)
         }
-        Entry::Set { timer, due, .. } => {
-            text.push_str("  set ")?;
-            push_signal(text, *timer, values, system)?;
-            text.push(' ')?;
-            push_number(text, *due)?;
-            text.push('\n')
-        }
-        Entry::Reset { timer, .. } => {
-            text.push_str("  reset ")?;
-            push_signal(text, *timer, values, system)?;
-            text.push('\n')
-        }
+        Entry::Set { timer, due, .. } => push_set(text, *timer, values, *due, system),
+        Entry::Reset { timer, .. } => push_reset(text, *timer, values, system),
         Entry::Create { process, pid } => push_create(text, *process, *pid, system),
         Entry::NextState { state } => push_name(
             text,
@@ -97,6 +76,75 @@ fn push_name(text: &mut String, beginning: &str, name: &str) -> Result<(), Alloc
 {
     text.push_str(beginning)?;
     text.push_str(name)?;
+    text.push('\n')
+}
+
+// Appends the line of a signal or a timer that was taken: when, the word for what was done with it, and what it was.
+fn push_reception(
+    text: &mut String,
+    at: u64,
+    word: &str,
+    got: Stimulus,
+    values: &[Value],
+    record: &Record,
+    system: &System,
+) -> Result<(), AllocError>
+    ensures { OnOk result (string_bytes text.new ≡ string_bytes text.old
+        ++ line (decimal at ++ word.now ++ stimulus_text system.now «record».now (got_of got values.now))) }
+{
+    push_number(text, at)?;
+    text.push_str(word)?;
+    push_stimulus(text, got, values, record, system)
+}
+
+// Appends the line of a task.
+fn push_task(
+    text: &mut String,
+    variable: VariableId,
+    value: &Value,
+    record: &Record,
+    system: &System,
+) -> Result<(), AllocError>
+    ensures { OnOk result (string_bytes text.new ≡ string_bytes text.old
+        ++ line (codes "  task " ++ variable_name system.now «record».now.process variable ++ codes " := " ++ value_text value.now)) }
+{
+    text.push_str("  task ")?;
+    text.push_str(variable_name(system, record.process(), variable))?;
+    text.push_str(" := ")?;
+    push_value(text, value)?;
+    text.push('\n')
+}
+
+// Appends the line of a set.
+fn push_set(
+    text: &mut String,
+    timer: SignalId,
+    values: &[Value],
+    due: u64,
+    system: &System,
+) -> Result<(), AllocError>
+    ensures { OnOk result (string_bytes text.new ≡ string_bytes text.old
+        ++ line (codes "  set " ++ signal_text system.now timer values.now ++ codes " " ++ decimal due)) }
+{
+    text.push_str("  set ")?;
+    push_signal(text, timer, values, system)?;
+    text.push(' ')?;
+    push_number(text, due)?;
+    text.push('\n')
+}
+
+// Appends the line of a reset.
+fn push_reset(
+    text: &mut String,
+    timer: SignalId,
+    values: &[Value],
+    system: &System,
+) -> Result<(), AllocError>
+    ensures { OnOk result (string_bytes text.new ≡ string_bytes text.old
+        ++ line (codes "  reset " ++ signal_text system.now timer values.now)) }
+{
+    text.push_str("  reset ")?;
+    push_signal(text, timer, values, system)?;
     text.push('\n')
 }
 

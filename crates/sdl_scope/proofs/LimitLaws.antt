@@ -7,12 +7,12 @@ use Rattle.std.proofs.lemmas.List.Sums.{fold-append}
 use Rattle.std.proofs.lemmas.Option.{same_Some, slice_get_past}
 use Rattle.sdl_tree.specs.Tree.{ProcessDefinition, Tree}
 use Rattle.sdl_tree.specs.Words.{Spot}
-use Rattle.sdl_scope.specs.declared.fault.Kind.TheVariants.{Limit}
+use Rattle.sdl_faults.specs.declared.fault.Kind.TheVariants.{Limit}
 use Rattle.sdl_scope.specs.Broken.{AtProcess, IsLimit, IsNewBehind, PassesLimit, StandsBehind, processes, declared, statements, sorts, parameters, states}
-use Rattle.sdl_scope.specs.Faults.{Told, told_at, told_word, limit_at, fault_at}
-use Rattle.sdl_scope.specs.FaultLaws.{Each, In}
+use Rattle.sdl_faults.specs.Faults.{Told, told_at, told_word, limit_at, fault_at}
+use Rattle.sdl_faults.specs.FaultLaws.{Each, In}
 use Rattle.sdl_scope.specs.Limits.{Declared, declared_faults, declared_in, declared_name, different, is_same_text, limit_faults, parameter_names, process_faults, process_name, processes_in, state_names, statements_in, with_new}
-use Rattle.sdl_scope.proofs.FaultLemmas.{each-both, each-of, in-each, in-left, in-right}
+use Rattle.sdl_faults.proofs.FaultLemmas.{each-both, each-of, in-each, in-left, in-right}
 
 -- ---- elements behind others
 

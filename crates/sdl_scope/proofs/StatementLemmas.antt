@@ -11,7 +11,8 @@ use Rattle.sdl_tree.specs.Tree as tree
 use Rattle.sdl_tree.specs.Words.{Spot}
 use Rattle.sdl_tree.specs.Views.{ending_value, transition_value, statement_value, action_value, answer_part_value}
 use Rattle.sdl_tree.proofs.ViewLemmas.{steps_value, decision_value, answered_value}
-use Rattle.sdl_scope.specs.Limits.{mark_word, transition_statements, actions_statements, action_statements, parts_statements, otherwise_statements, ending_statements}
+use Rattle.sdl_faults.specs.Faults.{mark_word}
+use Rattle.sdl_scope.specs.Limits.{transition_statements, actions_statements, action_statements, parts_statements, otherwise_statements, ending_statements}
 
 pub steps_statements : (t : Transition) → transition_statements (transition_value t)
     ≡ actions_statements (actions_of (map statement_value (out-Transition t).actions.items))

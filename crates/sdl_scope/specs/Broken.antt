@@ -3,9 +3,9 @@ use Rattle.std.specs.Prelude.{◌≡◌, ◌++◌, ℕ, false, List, ◌∷◌, 
 use Rattle.std.specs.List.{list_any}
 use Rattle.sdl_tree.specs.Tree.{ProcessDefinition, Tree}
 use Rattle.sdl_tree.specs.Words.{Spot}
-use Rattle.sdl_scope.specs.declared.fault.Kind.TheVariants.{Limit}
-use Rattle.sdl_scope.specs.Faults.{Told, told_word}
-use Rattle.sdl_scope.specs.FaultLaws.{Each, In}
+use Rattle.sdl_faults.specs.declared.fault.Kind.TheVariants.{Limit}
+use Rattle.sdl_faults.specs.Faults.{Told, told_word}
+use Rattle.sdl_faults.specs.FaultLaws.{Each, In}
 use Rattle.sdl_scope.specs.Limits.{Declared, declared_in, different, is_same_text, limit_faults, parameter_names, processes_in, state_names, statements_in}
 
 -- the word stands in the list behind so many others

@@ -2,13 +2,11 @@
 use Rattle.std.specs.Prelude.{◌++◌, Bool, List, [], ◌∷◌, Option, None, Some, flat_map, fold, map, if◌then◌else◌}
 use Rattle.std.specs.List.{list_any}
 use Rattle.std.specs.Str.{bytes_eq}
-use Rattle.sdl_tree.specs.Mark.{spelled}
 use Rattle.sdl_tree.specs.Tree.{Ending, Join, Next, Stop, Terminator, Transition, Steps, Actions, NoAction, AndAction, Action, Task, Output, Set, Reset, Create, Decision, Parts, NoPart, AndPart, Otherwise, NoElse, Else, Stimulus, InputPart, PriorityInput, SavePart, ContinuousSignal, States, StateList, StateAll, BodyPart, StatePart, FreeAction, SignalDefinition, TimerDefinition, ParameterGroup, FormalParameters, LocalDefinition, LocalSignals, LocalSignalList, LocalSynonyms, LocalSignalSet, Variables, Timers, ProcessDefinition, Definition, Signals, SignalList, Synonyms, Channel, Process, BlockPart, InBlock, Connect, SystemDefinition, InSystem, Block, Tree}
 use Rattle.sdl_tree.specs.Words.{Spot}
 use Rattle.sdl_tree.specs.declared.mark.Mark.{Mark}
 use Rattle.sdl_tree.specs.declared.mark.Mark.TheVariants as mark
-use Rattle.sdl_tree.specs.declared.name.Spelling.{Spelling}
-use Rattle.sdl_scope.specs.Faults.{Told, fault_at}
+use Rattle.sdl_faults.specs.Faults.{Told, fault_at, mark_word}
 
 -- ---- definitions, each list in the order of the text
 
@@ -71,9 +69,6 @@ abbrev pub declared_name : Declared → Spot
 declared_name declared = declared.name
 
 -- ---- statements, each by its word: nextstate and stop are none
-
-abbrev pub mark_word : Mark → Spelling → Spot
-mark_word mark word = record { text = spelled mark word.case; place = word.place }
 
 abbrev pub terminator_statements : Terminator → List Spot
 terminator_statements (Join word label) = mark_word mark.Join word ∷ []

@@ -6,8 +6,8 @@ ghost use Rattle.std.specs.Str.{bytes_eq};
 ghost use Rattle.sdl_scope.specs.Names.{first_of, first_outward, names_in};
 ghost use Rattle.sdl_tree.specs.Views.{name_value};
 
-use crate::fault::{Faults, Kind, Token};
 use indexmap::IndexMap;
+use sdl_faults::{Faults, Kind, Token};
 use sdl_tree::Name;
 use std::alloc::{AllocError, Global};
 use std::marker::Model;
@@ -30,8 +30,8 @@ impl<'t, T: Copy> Model for Names<'t, T> {
 }
 
 impl<'t, T: Copy> Names<'t, T> {
-    ghost use Rattle.sdl_scope.specs.Faults.{fault_if, least_of, told};
-    ghost use Rattle.sdl_scope.specs.declared.fault.Kind.TheVariants.{Duplicate};
+    ghost use Rattle.sdl_faults.specs.Faults.{fault_if, least_of, told};
+    ghost use Rattle.sdl_faults.specs.declared.fault.Kind.TheVariants.{Duplicate};
 
     /// No names yet.
     pub fn new(alloc: Global) -> Self

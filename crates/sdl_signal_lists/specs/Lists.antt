@@ -4,7 +4,7 @@ use Rattle.sdl_declared.specs.Rows.{ProcessRow, SignalListRow}
 use Rattle.sdl_declared.specs.Tables.{path_of}
 use Rattle.sdl_names.specs.declared.declared.Declared.{Declared}
 use Rattle.sdl_channels.specs.declared.list.Item.{Item}
-use Rattle.sdl_scope.specs.Faults.{Told}
+use Rattle.sdl_faults.specs.Faults.{Told}
 use Rattle.sdl_signal_lists.specs.Seen.{items_faults, items_in, seen_at}
 
 abbrev pub list_at : Declared → List ProcessRow → SignalListRow → List Item

@@ -8,7 +8,7 @@ use Rattle.sdl_channels.specs.declared.list.Item.{Item}
 use Rattle.sdl_channels.specs.declared.network.Process.{Process}
 use Rattle.sdl_channels.specs.declared.network.Scope as networks
 use Rattle.sdl_channels.specs.declared.network.Scope.TheVariants as its
-use Rattle.sdl_scope.specs.Faults.{Told}
+use Rattle.sdl_faults.specs.Faults.{Told}
 use Rattle.sdl_spaces.specs.declared.scope.ScopeId.{ScopeId}
 use Rattle.sdl_spaces.specs.declared.scope.ScopeId.TheVariants as scope
 use Rattle.sdl_tree.specs.Tree.{BodyPart, StatePart, FreeAction, Input, Inputs, InputList, InputAll, LocalDefinition, LocalSignals, LocalSignalList, LocalSynonyms, LocalSignalSet, Variables, Timers, ProcessDefinition, Saved, SaveList, SaveAll, Stimulus, InputPart, PriorityInput, SavePart, ContinuousSignal, TimerDefinition}

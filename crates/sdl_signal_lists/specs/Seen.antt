@@ -7,9 +7,9 @@ use Rattle.sdl_signal_lists.specs.declared.seen.Seen as the_seen
 use Rattle.sdl_channels.specs.declared.list.Item.{Item}
 use Rattle.sdl_channels.specs.declared.list.Item.TheVariants as item
 use Rattle.sdl_channels.specs.declared.list.SignalList.{SignalList}
-use Rattle.sdl_scope.specs.Faults.{Told, fault_if}
+use Rattle.sdl_faults.specs.Faults.{Told, fault_if}
 use Rattle.sdl_scope.specs.Names.{first_of}
-use Rattle.sdl_scope.specs.declared.fault.Kind.TheVariants.{Unknown}
+use Rattle.sdl_faults.specs.declared.fault.Kind.TheVariants.{Unknown}
 use Rattle.sdl_sorts.specs.Scope.{visible}
 use Rattle.sdl_sorts.specs.declared.scope.SignalMeaning.{SignalMeaning}
 use Rattle.sdl_sorts.specs.declared.scope.SignalMeaning.TheVariants.{Signal, Timer}

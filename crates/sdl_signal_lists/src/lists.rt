@@ -5,14 +5,14 @@ ghost use Rattle.sdl_declared.specs.Seen.{signal_list_seen};
 ghost use Rattle.sdl_declared.specs.Tables.{rows_of};
 ghost use Rattle.sdl_signal_lists.specs.Lists.{list_at, list_faults};
 ghost use Rattle.sdl_signal_lists.specs.Seen.{list_items};
-ghost use Rattle.sdl_scope.specs.Faults.{least_of, told};
+ghost use Rattle.sdl_faults.specs.Faults.{least_of, told};
 
 use crate::number::counted;
 use crate::seen::seen_at;
 use sdl_channels::{Item, ListId, SignalList};
 use sdl_declared::{SignalListEntry, Tables};
 use sdl_names::Declared;
-use sdl_scope::Faults;
+use sdl_faults::Faults;
 use std::alloc::{AllocError, Global};
 
 /// Adds a list of these items, and answers its number.

@@ -4,7 +4,7 @@ ghost use Rattle.std.specs.Prelude.{◌≡◌, ◌++◌, ◌+◌, ◌^◌, ◌<�
 ghost use Rattle.sdl_declared.specs.Seen.{process_seen};
 ghost use Rattle.sdl_signal_lists.specs.Processes.{faults_of, lists_of, named_items, process_at, process_lists, processes_faults, processes_from, scope_of, seen_within, timers_items, two_lists};
 ghost use Rattle.sdl_signal_lists.specs.Seen.{list_items, seen_of};
-ghost use Rattle.sdl_scope.specs.Faults.{least_of, told};
+ghost use Rattle.sdl_faults.specs.Faults.{least_of, told};
 ghost use Rattle.sdl_tree.specs.Views.{process_value};
 
 use crate::lists::add_list;
@@ -14,7 +14,7 @@ use crate::seen::{Seen, path_within, seen_at};
 use sdl_channels::{Item, Process, Scope, SignalList};
 use sdl_declared::ProcessEntry;
 use sdl_names::Declared;
-use sdl_scope::Faults;
+use sdl_faults::Faults;
 use sdl_spaces::ScopeId;
 use sdl_system::ProcessId;
 use sdl_tree::ProcessDefinition;

@@ -2,15 +2,14 @@
 use Rattle.std.proofs.Common.{◌≡◌, ◌∙◌, ◌++◌, ◌==◌, not, Bool, true, false, ℕ, List, [], ◌∷◌, Option, None, Some, flat_map, length, map, is_none, if◌then◌else◌, inl, refl, sym, ap, subst}
 use Rattle.std.proofs.lemmas.Bool.{eqb-true, eqb-false}
 use Rattle.std.proofs.lemmas.List.{length-map}
-use Rattle.sdl_scope.proofs.FaultLemmas.{in-each, in-if, in-left, in-right}
-use Rattle.sdl_scope.specs.FaultLaws.{In}
-use Rattle.sdl_scope.specs.Faults.{Told, told_at}
-use Rattle.sdl_scope.specs.Limits.{mark_word}
-use Rattle.sdl_scope.specs.declared.fault.Kind.TheVariants.{Unknown, Sort}
+use Rattle.sdl_faults.proofs.FaultLemmas.{in-each, in-if, in-left, in-right}
+use Rattle.sdl_faults.specs.FaultLaws.{In}
+use Rattle.sdl_faults.specs.Faults.{Told, told_at, mark_word}
+use Rattle.sdl_faults.specs.declared.fault.Kind.TheVariants.{Unknown, Sort}
 use Rattle.sdl_sorts.specs.Broken.{BreaksPlaces, HasMisfit, InLinks, InValues, IsBroken, IsBrokenAt, IsBrokenIn, IsMisfit, IsNoTimer, IsOperation, TimerMeaning, Within, append_links}
 use Rattle.sdl_sorts.specs.Broken as broken
 use Rattle.sdl_sorts.specs.Contexts.{allows_instance, allows_word}
-use Rattle.sdl_sorts.specs.Kinds.{fits, result_of, unary_result_of}
+use Rattle.sdl_kinds.specs.Kinds.{fits, result_of, unary_result_of}
 use Rattle.sdl_sorts.specs.Misused.{active_faults, binary_faults, expression_faults, fault_of_place, links_faults, list_faults, misplaced, name_faults, place_faults, places_faults, timer_faults, unary_faults, values_faults}
 use Rattle.sdl_sorts.specs.Scope.{Scope, SignalMeaning, signal_in}
 use Rattle.sdl_sorts.specs.Typing.{Typed, argument_in, arguments_in, binary_typed, chain_typed, typed_in}

@@ -1,20 +1,20 @@
 -- What is noted of a constant expression is broken in it, and the other way round.
 use Rattle.std.proofs.Common.{◌≡◌, ◌&&◌, ℕ, ℤ, pos, negsuc, Bool, true, false, List, [], ◌∷◌, Option, None, Some, is_none, option_and_then, if◌then◌else◌, refl, sym, ap, subst}
 use Rattle.port_model.specs.declared.value.Value.{Value}
-use Rattle.sdl_scope.proofs.FaultLemmas.{each-both, each-if, in-if, in-left, in-right}
-use Rattle.sdl_scope.specs.FaultLaws.{Each, In}
-use Rattle.sdl_scope.specs.Faults.{Told, fault_if, told_at}
-use Rattle.sdl_scope.specs.declared.fault.Kind.TheVariants.{BadCount}
+use Rattle.sdl_faults.proofs.FaultLemmas.{each-both, each-if, in-if, in-left, in-right}
+use Rattle.sdl_faults.specs.FaultLaws.{Each, In}
+use Rattle.sdl_faults.specs.Faults.{Told, fault_if, told_at}
+use Rattle.sdl_faults.specs.declared.fault.Kind.TheVariants.{BadCount}
 use Rattle.sdl_sorts.specs.Broken.{IsBrokenAt, IsBrokenConstant, IsUncounted, LacksValue, TakesKind}
 use Rattle.sdl_sorts.specs.Broken as broken
 use Rattle.sdl_sorts.specs.Constants.{constant_faults, counted_faults, is_miscounted, value_of}
-use Rattle.sdl_sorts.specs.Kinds.{fits}
+use Rattle.sdl_kinds.specs.Kinds.{fits}
 use Rattle.sdl_sorts.specs.Misused.{place_faults}
 use Rattle.sdl_sorts.specs.Scope.{Scope}
 use Rattle.sdl_sorts.specs.Typing.{Typed, is_taken, taken_in, typed_in}
 use Rattle.sdl_sorts.specs.Words.{first_word}
 use Rattle.sdl_sorts.specs.declared.context.Context.TheVariants.{Constant}
-use Rattle.sdl_sorts.specs.declared.kind.Kind.{Kind}
+use Rattle.sdl_kinds.specs.declared.kind.Kind.{Kind}
 use Rattle.sdl_sorts.proofs.BrokenLaws.{broken-listed-at}
 use Rattle.sdl_sorts.proofs.ListedLaws.{each-weaker, listed-broken-at}
 use Rattle.sdl_system.specs.Operation.{number_of}

@@ -1,19 +1,18 @@
 -- The answers of a decision (Z.102: decision): constants that can be compared with the value of its question.
 use Rattle.std.specs.Prelude.{◌++◌, Bool, true, false, List, Option, None, Some, is_none, is_some, option_map, if◌then◌else◌, not}
 use Rattle.port_model.specs.declared.value.Value.{Value}
-use Rattle.sdl_scope.specs.Faults.{Told, fault_if}
-use Rattle.sdl_scope.specs.Limits.{mark_word}
-use Rattle.sdl_scope.specs.declared.fault.Kind.TheVariants as broken
+use Rattle.sdl_faults.specs.Faults.{Told, fault_if, mark_word}
+use Rattle.sdl_faults.specs.declared.fault.Kind.TheVariants as broken
 use Rattle.sdl_sorts.specs.Constants.{counted, counted_faults}
-use Rattle.sdl_sorts.specs.Kinds.{result_of}
+use Rattle.sdl_kinds.specs.Kinds.{result_of}
 use Rattle.sdl_sorts.specs.Misused.{expression_faults}
 use Rattle.sdl_sorts.specs.Partial.{both}
 use Rattle.sdl_sorts.specs.Scope.{Scope}
 use Rattle.sdl_sorts.specs.Typing.{Typed, typed_in}
 use Rattle.sdl_sorts.specs.Words.{first_word}
 use Rattle.sdl_sorts.specs.declared.context.Context.TheVariants as context
-use Rattle.sdl_sorts.specs.declared.kind.Kind.{Kind}
-use Rattle.sdl_sorts.specs.declared.kind.Kind.TheVariants as kind
+use Rattle.sdl_kinds.specs.declared.kind.Kind.{Kind}
+use Rattle.sdl_kinds.specs.declared.kind.Kind.TheVariants as kind
 use Rattle.sdl_sorts.specs.declared.scope.Constant.{Constant}
 use Rattle.sdl_sorts.specs.declared.scope.Constant.TheVariants as constants
 use Rattle.sdl_system.specs.declared.answer.Answer as answers

@@ -1,21 +1,20 @@
 -- When a rule is broken in an expression, and at which word: said of the parts of the expression, and not of what is noted.
 use Rattle.std.specs.Prelude.{◌≡◌, ◌++◌, ℕ, negsuc, Bool, true, false, List, ◌∷◌, Option, None, Some, length, option_and_then}
-use Rattle.sdl_scope.specs.FaultLaws.{Each, In}
-use Rattle.sdl_scope.specs.Faults.{Told, told_at}
-use Rattle.sdl_scope.specs.Limits.{mark_word}
-use Rattle.sdl_scope.specs.declared.fault.Kind.TheVariants.{Unknown, Sort, BadCount}
+use Rattle.sdl_faults.specs.FaultLaws.{Each, In}
+use Rattle.sdl_faults.specs.Faults.{Told, told_at, mark_word}
+use Rattle.sdl_faults.specs.declared.fault.Kind.TheVariants.{Unknown, Sort, BadCount}
 use Rattle.port_model.specs.declared.item.SignalId.{SignalId}
 use Rattle.port_model.specs.declared.value.Value.{Value}
 use Rattle.sdl_sorts.specs.Constants.{constant_faults, value_of}
 use Rattle.sdl_sorts.specs.Contexts.{allows_instance, allows_word}
-use Rattle.sdl_sorts.specs.Kinds.{fits, result_of, unary_result_of}
+use Rattle.sdl_kinds.specs.Kinds.{fits, result_of, unary_result_of}
 use Rattle.sdl_sorts.specs.Misused.{expression_faults, list_faults, place_faults}
 use Rattle.sdl_sorts.specs.Scope.{Scope, SignalMeaning, signal, timer, signal_in, value_in}
 use Rattle.sdl_sorts.specs.Typing.{Typed, typed_in}
 use Rattle.sdl_sorts.specs.Words.{first_word}
 use Rattle.sdl_sorts.specs.declared.context.Context.{Context}
 use Rattle.sdl_sorts.specs.declared.context.Context.TheVariants.{Constant}
-use Rattle.sdl_sorts.specs.declared.kind.Kind.{Kind}
+use Rattle.sdl_kinds.specs.declared.kind.Kind.{Kind}
 use Rattle.sdl_sorts.specs.declared.scope.ValueMeaning.TheVariants as meant
 use Rattle.sdl_system.specs.Operation.{number_of}
 use Rattle.sdl_system.specs.declared.id.VariableId.{VariableId}

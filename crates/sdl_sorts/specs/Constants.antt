@@ -2,8 +2,8 @@
 use Rattle.std.specs.Prelude.{◌++◌, Bool, true, false, List, [], Option, None, Some, Result, Ok, Err, is_none, option_and_then, if◌then◌else◌}
 use Rattle.std.specs.Option.{unwrap_or}
 use Rattle.port_model.specs.declared.value.Value.{Value}
-use Rattle.sdl_scope.specs.Faults.{Told, fault_if}
-use Rattle.sdl_scope.specs.declared.fault.Kind.TheVariants.{BadCount}
+use Rattle.sdl_faults.specs.Faults.{Told, fault_if}
+use Rattle.sdl_faults.specs.declared.fault.Kind.TheVariants.{BadCount}
 use Rattle.sdl_sorts.specs.Misused.{place_faults}
 use Rattle.sdl_sorts.specs.Scope.{Scope}
 use Rattle.sdl_sorts.specs.Typing.{Typed, taken_in, typed_in}

@@ -2,7 +2,6 @@ pub mod Answers
 pub mod Broken
 pub mod Constants
 pub mod Contexts
-pub mod Kinds
 pub mod Misused
 pub mod Partial
 pub mod Resolved

@@ -1,10 +1,9 @@
 -- The faults of an expression: the rules that it breaks, each at the word where it does (Z.104: expressions).
 use Rattle.std.specs.Prelude.{◌++◌, ◌==◌, not, Bool, false, List, [], ◌∷◌, Option, None, Some, flat_map, is_none, length, map, if◌then◌else◌}
-use Rattle.sdl_scope.specs.Faults.{Told, told_at, fault_if}
-use Rattle.sdl_scope.specs.Limits.{mark_word}
-use Rattle.sdl_scope.specs.declared.fault.Kind.TheVariants.{Unknown, Sort}
+use Rattle.sdl_faults.specs.Faults.{Told, told_at, fault_if, mark_word}
+use Rattle.sdl_faults.specs.declared.fault.Kind.TheVariants.{Unknown, Sort}
 use Rattle.sdl_sorts.specs.Contexts.{allows_instance, allows_word}
-use Rattle.sdl_sorts.specs.Kinds.{fits, result_of, unary_result_of}
+use Rattle.sdl_kinds.specs.Kinds.{fits, result_of, unary_result_of}
 use Rattle.sdl_sorts.specs.Scope.{Scope, SignalMeaning, signal, timer, signal_in, value_in}
 use Rattle.sdl_sorts.specs.Typing.{Argument, Typed, argument_in, arguments_in, binary_typed, typed_in}
 use Rattle.sdl_sorts.specs.Words.{first_word}

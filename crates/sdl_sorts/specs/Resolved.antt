@@ -1,6 +1,6 @@
 -- What the code keeps of expressions that are resolved.
 use Rattle.std.specs.Prelude.{map, option_map}
-use Rattle.sdl_scope.specs.Faults.{token_word}
+use Rattle.sdl_faults.specs.Faults.{token_word}
 use Rattle.sdl_sorts.specs.Typing as typing
 use Rattle.sdl_sorts.specs.declared.arguments.Argument.{Argument}
 use Rattle.sdl_sorts.specs.declared.left.Left.{Left}

@@ -6,15 +6,15 @@ use Rattle.port_model.specs.declared.item.SignalId.{SignalId}
 use Rattle.port_model.specs.declared.pid.Pid.TheVariants.{Null}
 use Rattle.port_model.specs.declared.value.Value.TheVariants as value
 use Rattle.sdl_sorts.specs.Contexts.{allows_instance, allows_word}
-use Rattle.sdl_sorts.specs.Kinds.{fits, kind_of, result_of, unary_result_of}
+use Rattle.sdl_kinds.specs.Kinds.{fits, kind_of, result_of, unary_result_of}
 use Rattle.sdl_sorts.specs.Partial.{all_some, both}
 use Rattle.sdl_sorts.specs.Scope.{Scope, SignalMeaning, signal, timer, signal_in, value_in}
 use Rattle.sdl_sorts.specs.Words.{first_word}
 use Rattle.sdl_sorts.specs.declared.context.Context.{Context}
-use Rattle.sdl_sorts.specs.declared.kind.Kind.{Kind}
-use Rattle.sdl_sorts.specs.declared.kind.Kind.TheVariants.{Free, Time, Boolean, Pid}
-use Rattle.sdl_sorts.specs.declared.operator.TypedOperation.{TypedOperation}
-use Rattle.sdl_sorts.specs.declared.operator.TypedUnaryOperation.{TypedUnaryOperation}
+use Rattle.sdl_kinds.specs.declared.kind.Kind.{Kind}
+use Rattle.sdl_kinds.specs.declared.kind.Kind.TheVariants.{Free, Time, Boolean, Pid}
+use Rattle.sdl_kinds.specs.declared.operator.TypedOperation.{TypedOperation}
+use Rattle.sdl_kinds.specs.declared.operator.TypedUnaryOperation.{TypedUnaryOperation}
 use Rattle.sdl_sorts.specs.declared.scope.Constant.{Constant}
 use Rattle.sdl_sorts.specs.declared.scope.Constant.TheVariants as constants
 use Rattle.sdl_sorts.specs.declared.scope.ValueMeaning.{ValueMeaning}

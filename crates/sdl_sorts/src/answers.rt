@@ -1,23 +1,22 @@
 //! The answers of a decision.
 
 ghost use Rattle.std.specs.Prelude.{◌≡◌, None, option_map, IfOk, OnOk};
-ghost use Rattle.sdl_scope.specs.Faults.{fault_if, least_of, told, token_word};
+ghost use Rattle.sdl_faults.specs.Faults.{fault_if, least_of, told, token_word};
 ghost use Rattle.sdl_sorts.specs.Answers.{answer_faults, answer_in, answer_value, answer_value_faults, comparable_in, compared_faults, comparison_for, has_order, is_incomparable, known, order_for};
 ghost use Rattle.sdl_sorts.specs.Constants.{counted};
-ghost use Rattle.sdl_scope.specs.declared.fault.Kind.TheVariants.{Sort};
+ghost use Rattle.sdl_faults.specs.declared.fault.Kind.TheVariants.{Sort};
 ghost use Rattle.sdl_sorts.specs.Resolved.{typed_of};
 ghost use Rattle.sdl_sorts.specs.Scope.{scope_of};
 ghost use Rattle.sdl_tree.specs.Views.{answer_value as answer_tree, expr_value};
 
 use crate::constants::counted;
 use crate::context::Context;
-use crate::kind::Kind;
-use crate::operator::result_of;
 use crate::scope::{Constant, Scope};
 use crate::typed::Typed;
 use crate::typing::{first_token, resolve_in};
 use port_model::Value;
-use sdl_scope::{Faults, Token};
+use sdl_faults::{Faults, Token};
+use sdl_kinds::{Kind, result_of};
 use sdl_system::Comparison;
 use sdl_tree::{Answer, Expression, Operator};
 use std::alloc::{AllocError, Global};
@@ -47,7 +46,7 @@ pub fn resolve_answer<'t>(
         Answer::Range { first, last } => {
             let has_order = has_order(question);
             if !has_order {
-                faults.note(sdl_scope::Kind::Sort, first_token(first));
+                faults.note(sdl_faults::Kind::Sort, first_token(first));
             }
             let first = resolve_value(alloc, scope, question, first, faults)?;
             let last = resolve_value(alloc, scope, question, last, faults)?;
@@ -66,7 +65,7 @@ pub fn resolve_answer<'t>(
             let comparison = comparison_for(question, *operator);
             if comparison.is_none() {
                 faults.note(
-                    sdl_scope::Kind::Sort,
+                    sdl_faults::Kind::Sort,
                     Token::of_mark(operator.mark(), *word),
                 );
             }
@@ -130,7 +129,7 @@ fn comparable<'t>(
     if is_comparable {
         Some(typed)
     } else {
-        faults.note(sdl_scope::Kind::Sort, token);
+        faults.note(sdl_faults::Kind::Sort, token);
         None
     }
 }

@@ -1,7 +1,7 @@
 //! Values in a list, each for a place of a sort.
 
 ghost use Rattle.std.specs.Prelude.{◌≡◌, ◌&&◌, ◌||◌, IfOk, None, Some, map, option_map};
-ghost use Rattle.sdl_scope.specs.Faults.{least_of, told, token_word};
+ghost use Rattle.sdl_faults.specs.Faults.{least_of, told, token_word};
 ghost use Rattle.sdl_sorts.specs.Misused.{fault_of_place, places_faults};
 ghost use Rattle.sdl_sorts.specs.Partial.{and_last};
 ghost use Rattle.sdl_sorts.specs.Resolved.{argument_of, typed_of};
@@ -10,7 +10,7 @@ ghost use Rattle.sdl_system.specs.Term.{term_of};
 ghost use Rattle.sdl_tree.specs.Views.{name_value};
 
 use crate::typed::Typed;
-use sdl_scope::{Faults, Kind, Token};
+use sdl_faults::{Faults, Kind, Token};
 use sdl_system::{Expression, Sort};
 use sdl_tree::Name;
 use std::alloc::{AllocError, Global};

@@ -1,8 +1,8 @@
 //! Constant expressions.
 
 ghost use Rattle.std.specs.Prelude.{◌≡◌, option_and_then, option_map, IfOk, OnOk};
-ghost use Rattle.sdl_scope.specs.Faults.{fault_if, least_of, told, token_word};
-ghost use Rattle.sdl_scope.specs.declared.fault.Kind.TheVariants.{BadCount};
+ghost use Rattle.sdl_faults.specs.Faults.{fault_if, least_of, told, token_word};
+ghost use Rattle.sdl_faults.specs.declared.fault.Kind.TheVariants.{BadCount};
 ghost use Rattle.sdl_sorts.specs.Constants.{binary_value, constant_faults, constant_in, counted, counted_faults, given, is_miscounted, unary_value, value_of, with_value};
 ghost use Rattle.sdl_sorts.specs.Resolved.{typed_of};
 ghost use Rattle.sdl_sorts.specs.Scope.{scope_of};
@@ -15,7 +15,7 @@ use crate::scope::{Constant, Scope};
 use crate::typed::Typed;
 use crate::typing::{first_token, resolve_in};
 use port_model::Value;
-use sdl_scope::{Faults, Kind, Token};
+use sdl_faults::{Faults, Kind, Token};
 use sdl_system::{Chain, Failure, Link, Operation, Sort, UnaryOperation, in_sort};
 use sdl_tree::Expression;
 use std::alloc::{AllocError, Global};

@@ -5,9 +5,8 @@ ghost use Rattle.sdl_sorts.specs.Partial.{both};
 ghost use Rattle.sdl_sorts.specs.Resolved.{operands_term};
 ghost use Rattle.sdl_system.specs.Term.{binary, term_of};
 
-use crate::kind::Kind;
-use crate::operator::TypedOperation;
 use crate::typed::Typed;
+use sdl_kinds::{Kind, TypedOperation};
 use sdl_system::{Chain, Expression, Link, Operation};
 use std::alloc::{AllocError, Global};
 

@@ -1,9 +1,9 @@
 //! Expressions of a specification: what the names in them stand for, their sorts, and the values of those that are
 //! constant (Z.104).
 //!
-//! `specs/Kinds` has the table of operators, `specs/Scope` what names stand for at a place of the text, and
-//! `specs/Typing` the kind and the term of an expression and the rules that it breaks. Each function answers exactly
-//! what its definition says, and notes exactly the faults of its list.
+//! `specs/Scope` has what names stand for at a place of the text, and `specs/Typing` the kind and the term of an
+//! expression and the rules that it breaks, by the table of operators of `sdl_kinds`. Each function answers exactly what
+//! its definition says, and notes exactly the faults of its list.
 #![tactic(auto)]
 
 mod answers;
@@ -11,10 +11,8 @@ mod arguments;
 mod constants;
 mod context;
 mod expression;
-mod kind;
 pub mod laws;
 mod left;
-mod operator;
 mod scope;
 mod typed;
 mod typing;
@@ -23,8 +21,6 @@ pub use answers::resolve_answer;
 pub use constants::constant;
 pub use context::Context;
 pub use expression::{resolve, resolve_condition, resolve_for, resolve_values};
-pub use kind::Kind;
-pub use operator::{TypedOperation, TypedUnaryOperation, result_of, unary_result_of};
 pub use scope::{
     AgentMeaning, Constant, Scope, SignalMeaning, SynonymId, ValueEntry, ValueMeaning,
 };

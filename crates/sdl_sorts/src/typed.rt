@@ -4,10 +4,9 @@ ghost use Rattle.std.specs.Prelude.{◌≡◌, Some, IfOk, option_map};
 ghost use Rattle.sdl_system.specs.Term.{term_of, unary};
 
 use crate::context::Context;
-use crate::kind::Kind;
-use crate::operator::TypedUnaryOperation;
 use crate::scope::{Constant, ValueMeaning};
 use port_model::{Pid, Value};
+use sdl_kinds::{Kind, TypedUnaryOperation};
 use sdl_system::{Expression, PidExpression, Sort, UnaryOperation};
 use sdl_tree::KeywordValue;
 use std::alloc::{AllocError, Global};

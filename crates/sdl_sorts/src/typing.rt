@@ -2,7 +2,7 @@
 
 ghost use Rattle.std.specs.Prelude.{◌≡◌, ◌++◌, None, Some, flat_map, map, option_map, if◌then◌else◌, IfOk, OnOk};
 ghost use Rattle.sdl_sorts.specs.Contexts.{allows_word};
-ghost use Rattle.sdl_scope.specs.Faults.{least_of, told, token_word};
+ghost use Rattle.sdl_faults.specs.Faults.{least_of, told, token_word};
 ghost use Rattle.sdl_sorts.specs.Misused.{active_faults, binary_faults, expression_faults, links_faults, name_faults, timer_faults, unary_faults, word_faults};
 ghost use Rattle.sdl_sorts.specs.Resolved.{argument_of, left_of, typed_of};
 ghost use Rattle.sdl_sorts.specs.Scope.{scope_of, signal_in, value_in};
@@ -12,13 +12,12 @@ ghost use Rattle.sdl_tree.specs.Views.{chain_value, expr_value, name_value};
 
 use crate::arguments::{Argument, any_refused, expressions, place_all};
 use crate::context::Context;
-use crate::kind::Kind;
 use crate::left::Left;
-use crate::operator::{result_of, unary_result_of};
 use crate::scope::{Scope, SignalMeaning, ValueMeaning};
 use crate::typed::Typed;
 use port_model::{SignalId, Value};
-use sdl_scope::{Faults, Token};
+use sdl_faults::{Faults, Token};
+use sdl_kinds::{Kind, result_of, unary_result_of};
 use sdl_tree::{
     Chain, Expression, KeywordValue, Link, Mark, Name, Operator, Spelling, UnaryOperator,
 };
@@ -172,13 +171,13 @@ fn resolve_name<'t>(
         (name_faults context (name_value name.now) (value_in (scope_of scope.now) (name_value name.now).text)) }
 {
     let Some(meaning) = scope.value(&name.text) else {
-        faults.note(sdl_scope::Kind::Unknown, Token::of_name(name));
+        faults.note(sdl_faults::Kind::Unknown, Token::of_name(name));
         return None;
     };
     if let ValueMeaning::Variable { .. } = meaning
         && !context.allows_instance()
     {
-        faults.note(sdl_scope::Kind::Sort, Token::of_name(name));
+        faults.note(sdl_faults::Kind::Sort, Token::of_name(name));
     }
     Typed::of_name(context, meaning)
 }
@@ -195,7 +194,7 @@ fn resolve_word<'t>(
     if context.allows_word(value) {
         Some(Typed::of_word(value))
     } else {
-        faults.note(sdl_scope::Kind::Sort, Token::of_mark(value.mark(), word));
+        faults.note(sdl_faults::Kind::Sort, Token::of_mark(value.mark(), word));
         None
     }
 }
@@ -217,7 +216,7 @@ fn resolve_unary<'t>(
     match unary_result_of(operator, operand.kind) {
         Some(operation) => Ok(Some(operand.with(alloc, operation)?)),
         None => {
-            faults.note(sdl_scope::Kind::Sort, Token::of_mark(operator.mark(), word));
+            faults.note(sdl_faults::Kind::Sort, Token::of_mark(operator.mark(), word));
             Ok(None)
         }
     }
@@ -250,7 +249,7 @@ fn join<'t>(
     match result_of(operator, left.kind, right.kind) {
         Some(operation) => Ok(Some(left.join(operation, right)?)),
         None => {
-            faults.note(sdl_scope::Kind::Sort, Token::of_mark(operator.mark(), word));
+            faults.note(sdl_faults::Kind::Sort, Token::of_mark(operator.mark(), word));
             Ok(None)
         }
     }
@@ -269,7 +268,7 @@ fn note_active<'t>(context: Context, word: Spelling, faults: &mut Faults<'t>)
     ensures { told faults.new ≡ least_of (told faults.old) (active_faults context word) }
 {
     if !context.allows_instance() {
-        faults.note(sdl_scope::Kind::Sort, Token::of_mark(Mark::Active, word));
+        faults.note(sdl_faults::Kind::Sort, Token::of_mark(Mark::Active, word));
     }
 }
 
@@ -287,7 +286,7 @@ fn resolve_timer<'t>(
         (signal_in (scope_of scope.now) (name_value timer.now).text) (map argument_of arguments.entry.items))) }
 {
     let Some(SignalMeaning::Timer { number, sorts, .. }) = scope.signal(&timer.text) else {
-        faults.note(sdl_scope::Kind::Unknown, Token::of_name(timer));
+        faults.note(sdl_faults::Kind::Unknown, Token::of_name(timer));
         return Ok(None);
     };
     let are_taken = place_all(timer, sorts, &arguments, faults);

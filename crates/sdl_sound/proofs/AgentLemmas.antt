@@ -6,7 +6,7 @@ use Rattle.sdl_declared.specs.declared.entries.Agent.{Agent}
 use Rattle.sdl_declared.specs.declared.entries.Agent.TheVariants as agent
 use Rattle.sdl_names.specs.Entries.{Entry}
 use Rattle.sdl_names.specs.Meanings.{agent_entry, agent_means, sorts_of_row}
-use Rattle.sdl_scope.specs.FaultLaws.{Each}
+use Rattle.sdl_faults.specs.FaultLaws.{Each}
 use Rattle.sdl_sorts.specs.Scope as names
 use Rattle.sdl_sorts.specs.Scope.{AgentMeaning}
 use Rattle.sdl_sound.proofs.VariableLemmas.{sort_meant}

@@ -12,10 +12,10 @@ use Rattle.sdl_declared.specs.Rows.{SynonymRow, ValueRow, after_synonyms, after_
 use Rattle.sdl_figures.proofs.SynonymLemmas.{faults-of}
 use Rattle.sdl_figures.specs.Synonyms.{IsSynonym, faults_in_row}
 use Rattle.sdl_names.specs.declared.declared.Declared.{Declared}
-use Rattle.sdl_scope.proofs.FaultLemmas.{each-both}
-use Rattle.sdl_scope.specs.FaultLaws.{Each, In}
-use Rattle.sdl_scope.specs.Faults.{fault_if}
-use Rattle.sdl_scope.specs.declared.fault.Kind.TheVariants.{BadCount}
+use Rattle.sdl_faults.proofs.FaultLemmas.{each-both}
+use Rattle.sdl_faults.specs.FaultLaws.{Each, In}
+use Rattle.sdl_faults.specs.Faults.{fault_if}
+use Rattle.sdl_faults.specs.declared.fault.Kind.TheVariants.{BadCount}
 use Rattle.sdl_sorts.specs.Constants.{constant_faults, constant_in, counted, counted_faults, is_miscounted, value_of, with_value}
 use Rattle.sdl_sorts.specs.Misused.{place_faults}
 use Rattle.sdl_sorts.specs.Scope.{Scope, constant_at}

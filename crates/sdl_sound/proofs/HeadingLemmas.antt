@@ -25,11 +25,10 @@ use Rattle.sdl_figures.specs.Scopes.{scope_in}
 use Rattle.sdl_names.specs.declared.declared.Declared.{Declared}
 use Rattle.sdl_runs.specs.Instance.{first_store}
 use Rattle.sdl_runs.specs.Place.{AtStart}
-use Rattle.sdl_scope.proofs.FaultLemmas.{each-both}
-use Rattle.sdl_scope.specs.FaultLaws.{Each}
-use Rattle.sdl_scope.specs.Faults.{fault_if}
-use Rattle.sdl_scope.specs.Limits.{mark_word}
-use Rattle.sdl_scope.specs.declared.fault.Kind.TheVariants.{BadCount}
+use Rattle.sdl_faults.proofs.FaultLemmas.{each-both}
+use Rattle.sdl_faults.specs.FaultLaws.{Each}
+use Rattle.sdl_faults.specs.Faults.{fault_if, mark_word}
+use Rattle.sdl_faults.specs.declared.fault.Kind.TheVariants.{BadCount}
 use Rattle.sdl_sorts.specs.Constants.{constant_faults, constant_in}
 use Rattle.sdl_sorts.specs.Scope.{Scope}
 use Rattle.sdl_sorts.specs.declared.scope.Constant.{Constant}

@@ -15,7 +15,7 @@ use Rattle.sdl_figures.specs.Scopes.{scope_in}
 use Rattle.sdl_names.specs.Entries.{Entry, entries_in, entry_in}
 use Rattle.sdl_names.specs.Meanings.{agent_entries, signal_entries, value_entries, value_entry}
 use Rattle.sdl_names.specs.declared.declared.Declared.{Declared}
-use Rattle.sdl_scope.specs.FaultLaws.{Each}
+use Rattle.sdl_faults.specs.FaultLaws.{Each}
 use Rattle.sdl_scope.specs.Names.{first_of}
 use Rattle.sdl_sorts.specs.Scope.{agent_meaning, meaning, signal_meaning, value_meaning}
 use Rattle.sdl_sorts.specs.declared.scope.Constant.{Constant}

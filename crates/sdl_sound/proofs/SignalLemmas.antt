@@ -10,7 +10,7 @@ use Rattle.sdl_declared.specs.Rows.{SignalKind, OrdinarySignal, OrdinaryTimer, S
 use Rattle.sdl_names.specs.Entries.{Entry}
 use Rattle.sdl_names.specs.Meanings.{signal_entry, signal_means}
 use Rattle.sdl_names.specs.Meanings as names
-use Rattle.sdl_scope.specs.FaultLaws.{Each}
+use Rattle.sdl_faults.specs.FaultLaws.{Each}
 use Rattle.sdl_sorts.specs.Scope.{SignalMeaning}
 use Rattle.sdl_sound.proofs.WalkLemmas.{IsTimed, IsTimedRow, the_process}
 use Rattle.sdl_sound_terms.specs.Scopes.{IsSoundSignal}

@@ -32,8 +32,8 @@ use Rattle.sdl_figures.specs.Scopes.{scope_in}
 use Rattle.sdl_names.specs.declared.declared.Declared.{Declared}
 use Rattle.sdl_process.specs.Faulty.{body_faults}
 use Rattle.sdl_process.specs.Surroundings.{for_stimuli}
-use Rattle.sdl_scope.specs.FaultLaws.{Each}
-use Rattle.sdl_scope.specs.Faults.{Told}
+use Rattle.sdl_faults.specs.FaultLaws.{Each}
+use Rattle.sdl_faults.specs.Faults.{Told}
 use Rattle.sdl_scope.specs.Limits.{different, state_names}
 use Rattle.sdl_scope.specs.Names.{first_of}
 use Rattle.sdl_sorts.specs.declared.scope.Constant.{Constant}

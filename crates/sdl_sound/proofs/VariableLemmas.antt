@@ -10,8 +10,8 @@ use Rattle.sdl_declared.specs.Parts.{Part, OfBlock, OfProcess, OfChannel, OfConn
 use Rattle.sdl_declared.specs.Rows.{ProcessRow, ValueRow, after_synonyms, after_variables, group_sorts, process_row, repeated, synonym_values, value_rows, values_of, variable_rows}
 use Rattle.sdl_declared.specs.Sorts.{sort_at}
 use Rattle.sdl_figures.specs.Figures.{sort_of_entry}
-use Rattle.sdl_scope.proofs.FaultLemmas.{each-both}
-use Rattle.sdl_scope.specs.FaultLaws.{Each}
+use Rattle.sdl_faults.proofs.FaultLemmas.{each-both}
+use Rattle.sdl_faults.specs.FaultLaws.{Each}
 use Rattle.sdl_sorts.specs.declared.scope.Constant.{Constant}
 use Rattle.sdl_sorts.specs.declared.scope.ValueEntry.{ValueEntry}
 use Rattle.sdl_sorts.specs.declared.scope.ValueEntry.TheVariants as entry

@@ -6,8 +6,8 @@ use Rattle.sdl_declared.specs.Parts.{Part, OfBlock, OfProcess, OfChannel, OfConn
 use Rattle.sdl_declared.specs.Rows.{AgentRow, ProcessRow, SignalKind, OrdinarySignal, OrdinaryTimer, SignalRow, placed_agents, placed_processes, placed_signals}
 use Rattle.sdl_declared.specs.declared.entries.Agent.{Agent}
 use Rattle.sdl_declared.specs.declared.entries.Agent.TheVariants as agent
-use Rattle.sdl_scope.proofs.FaultLemmas.{each-both}
-use Rattle.sdl_scope.specs.FaultLaws.{Each}
+use Rattle.sdl_faults.proofs.FaultLemmas.{each-both}
+use Rattle.sdl_faults.specs.FaultLaws.{Each}
 use Rattle.sdl_spaces.specs.declared.scope.ScopeId.{ScopeId}
 use Rattle.sdl_spaces.specs.declared.scope.ScopeId.TheVariants as scope
 use Rattle.sdl_system.specs.declared.id.BlockId.{BlockId}

@@ -8,11 +8,11 @@ use Rattle.sdl_ends.specs.Paths.{Answered, AtFirst, AtLabel, IsPart, Origin}
 use Rattle.sdl_nodes.specs.Contexts.{Context, label_in}
 use Rattle.sdl_nodes.specs.Statements.{answers_in, asked_in, create_in, kind_in, output_in, reset_in, set_in, task_in, terminator_in}
 use Rattle.sdl_nodes.specs.Transitions.{Head, Piece, acts, asks, before, body_in, ending_in, head_in, labelled, other_in, parts_of, piece, pieces_in, steps_in}
-use Rattle.sdl_scope.proofs.FaultLemmas.{in-left, in-right}
-use Rattle.sdl_scope.specs.FaultLaws.{In}
+use Rattle.sdl_faults.proofs.FaultLemmas.{in-left, in-right}
+use Rattle.sdl_faults.specs.FaultLaws.{In}
 use Rattle.sdl_sorts.specs.Partial.{both}
 use Rattle.sdl_sorts.specs.Typing.{term_in}
-use Rattle.sdl_sorts.specs.declared.kind.Kind.{Kind}
+use Rattle.sdl_kinds.specs.declared.kind.Kind.{Kind}
 use Rattle.sdl_sound_bodies.proofs.MeetLemmas.{Leaves, LeavesBehind, LeavesPart, closed, meeting, meets-head, meets-steps, step-left, through-part}
 use Rattle.sdl_sound_runs.specs.Paths.{Meets}
 use Rattle.sdl_system.proofs.BodyLemmas.{followed-assoc}

@@ -20,12 +20,11 @@ use Rattle.sdl_lex.specs.declared.place.Place.{Place}
 use Rattle.sdl_nodes.specs.Contexts.{Context, label_in, state_in}
 use Rattle.sdl_nodes.specs.Statements.{terminator_in}
 use Rattle.sdl_nodes.specs.Transitions.{body_in, labelled}
-use Rattle.sdl_scope.proofs.FaultLemmas.{in-each, in-right}
-use Rattle.sdl_scope.specs.FaultLaws.{In}
-use Rattle.sdl_scope.specs.Faults.{Told, told_at}
-use Rattle.sdl_scope.specs.Limits.{mark_word}
+use Rattle.sdl_faults.proofs.FaultLemmas.{in-each, in-right}
+use Rattle.sdl_faults.specs.FaultLaws.{In}
+use Rattle.sdl_faults.specs.Faults.{Told, told_at, mark_word}
 use Rattle.sdl_scope.specs.Names.{first_of}
-use Rattle.sdl_scope.specs.declared.fault.Kind.TheVariants.{NoState}
+use Rattle.sdl_faults.specs.declared.fault.Kind.TheVariants.{NoState}
 use Rattle.sdl_sound_bodies.proofs.LabelLemmas.{FromTransition, from-transition}
 use Rattle.sdl_sound_bodies.proofs.MeetLemmas.{Leaves, meeting, meets-transition}
 use Rattle.sdl_sound_bodies.specs.Laws.{StartLeadsOn}

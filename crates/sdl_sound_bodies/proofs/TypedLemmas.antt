@@ -13,7 +13,7 @@ use Rattle.sdl_sorts.specs.Scope as names
 use Rattle.sdl_sorts.specs.Scope.{AgentMeaning, SignalMeaning, agent_in, signal_in, value_in}
 use Rattle.sdl_sorts.specs.Typing.{Typed, term_in}
 use Rattle.sdl_sorts.specs.declared.context.Context.TheVariants.{Transition}
-use Rattle.sdl_sorts.specs.declared.kind.Kind.{Kind}
+use Rattle.sdl_kinds.specs.declared.kind.Kind.{Kind}
 use Rattle.sdl_sorts.specs.declared.scope.ValueMeaning.{ValueMeaning}
 use Rattle.sdl_sorts.specs.declared.scope.ValueMeaning.TheVariants as meant
 use Rattle.sdl_sound_bodies.specs.Laws.{BodiesAreTyped, TransitionsAreTyped}

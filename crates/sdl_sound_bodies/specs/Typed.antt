@@ -2,7 +2,7 @@
 -- decision, nextstate).
 use Rattle.std.specs.Prelude.{◌≡◌, ℕ, All, IfSome, List, None, Some, length, slice_get}
 use Rattle.sdl_nodes.specs.Contexts.{Context, state_in}
-use Rattle.sdl_sorts.specs.declared.kind.Kind.{Kind}
+use Rattle.sdl_kinds.specs.declared.kind.Kind.{Kind}
 use Rattle.sdl_sound_runs.specs.Paths.{Every}
 use Rattle.sdl_sound_terms.specs.Kinds.{FitPlaces, FitsPlace, HasKind}
 use Rattle.sdl_sound_terms.specs.Scopes.{IsSoundScope, parameter_sorts}

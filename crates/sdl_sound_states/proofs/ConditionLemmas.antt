@@ -1,7 +1,7 @@
 -- Each condition that stimuli ask fits a place of a truth.
 use Rattle.std.proofs.Common.{◌++◌, ℕ, zero, suc, List, [], ◌∷◌, Option, None, Some, fold, slice_get}
-use Rattle.sdl_scope.proofs.FaultLemmas.{each-both}
-use Rattle.sdl_scope.specs.FaultLaws.{Each}
+use Rattle.sdl_faults.proofs.FaultLemmas.{each-both}
+use Rattle.sdl_faults.specs.FaultLaws.{Each}
 use Rattle.sdl_sorts.specs.declared.context.Context.TheVariants as at
 use Rattle.sdl_sound_bodies.proofs.TypedLemmas.{Holds, holds-of}
 use Rattle.sdl_sound_states.specs.States.{IsTruth}

@@ -4,12 +4,12 @@ use Rattle.std.proofs.lemmas.Bool.{eqb-true, ltb-false}
 use Rattle.std.proofs.lemmas.List.{length-map}
 use Rattle.std.specs.Option.{option_or}
 use Rattle.port_model.specs.declared.item.SignalId.{SignalId}
-use Rattle.sdl_scope.proofs.FaultLemmas.{each-both, each-in, each-of}
-use Rattle.sdl_scope.specs.FaultLaws.{Each}
-use Rattle.sdl_scope.specs.Faults.{fault_if}
-use Rattle.sdl_scope.specs.declared.fault.Kind as faults
-use Rattle.sdl_scope.specs.declared.fault.Kind.TheVariants as broken
-use Rattle.sdl_sorts.specs.Kinds.{fits, kind_of}
+use Rattle.sdl_faults.proofs.FaultLemmas.{each-both, each-in, each-of}
+use Rattle.sdl_faults.specs.FaultLaws.{Each}
+use Rattle.sdl_faults.specs.Faults.{fault_if}
+use Rattle.sdl_faults.specs.declared.fault.Kind as faults
+use Rattle.sdl_faults.specs.declared.fault.Kind.TheVariants as broken
+use Rattle.sdl_kinds.specs.Kinds.{fits, kind_of}
 use Rattle.sdl_sorts.specs.Scope as names
 use Rattle.sdl_sorts.specs.Scope.{Scope, SignalMeaning, signal_in, value_in}
 use Rattle.sdl_sorts.specs.declared.scope.ValueMeaning.{ValueMeaning}

@@ -7,7 +7,7 @@ use Rattle.port_model.specs.declared.item.SignalId.{SignalId}
 use Rattle.sdl_bodies.proofs.EndLemmas.{map-some, some-same}
 use Rattle.sdl_complete.proofs.MentionedLemmas.{Begins, BeginsNumbered, Bounds, IsTable, found-begins, tried-each}
 use Rattle.sdl_process.specs.Meant.{NamesSignals}
-use Rattle.sdl_scope.specs.FaultLaws.{Each}
+use Rattle.sdl_faults.specs.FaultLaws.{Each}
 use Rattle.sdl_sound_bodies.proofs.TypedLemmas.{Holds}
 use Rattle.sdl_sound_states.proofs.ConditionLemmas.{AreTruths, truth-at}
 use Rattle.sdl_sound_states.proofs.InputLemmas.{AreGood, Says, SaysRest, named-says, rest-says}

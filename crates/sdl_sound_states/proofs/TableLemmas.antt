@@ -5,7 +5,7 @@ use Rattle.std.proofs.lemmas.Option.{slice_get_within}
 use Rattle.std.specs.List.{AllZip}
 use Rattle.port_model.specs.declared.item.SignalId.{SignalId}
 use Rattle.sdl_bodies.proofs.EndLemmas.{map-some, some-same}
-use Rattle.sdl_scope.specs.FaultLaws.{Each}
+use Rattle.sdl_faults.specs.FaultLaws.{Each}
 use Rattle.sdl_sound_states.specs.Behaviours.{IsSoundBehaviour}
 use Rattle.sdl_sound_states.specs.States as states
 use Rattle.sdl_sound_states.specs.States.{IsSoundInput, IsSoundResponse, IsSoundState, TakeAll}

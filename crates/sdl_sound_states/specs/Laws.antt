@@ -17,7 +17,7 @@ use Rattle.sdl_process.specs.declared.heading.Heading.{Heading}
 use Rattle.sdl_runs.specs.Act.{Deed}
 use Rattle.sdl_runs.specs.Place.{Definition, Place}
 use Rattle.sdl_runs.specs.Runs.{Runs}
-use Rattle.sdl_sorts.specs.declared.kind.Kind.{Kind}
+use Rattle.sdl_kinds.specs.declared.kind.Kind.{Kind}
 use Rattle.sdl_sound_runs.specs.Sorts.{HaveSorts}
 use Rattle.sdl_sound_states.specs.Behaviours.{IsSoundAround, IsSoundBehaviour}
 use Rattle.sdl_sound_terms.specs.Kinds.{HasKind, has_kind}

@@ -4,15 +4,15 @@ use Rattle.port_model.specs.declared.item.SignalId.{SignalId}
 use Rattle.port_model.specs.declared.pid.Pid.TheVariants.{Null}
 use Rattle.port_model.specs.declared.value.Value.TheVariants as value
 use Rattle.sdl_sorts.specs.Contexts.{allows_instance, allows_word}
-use Rattle.sdl_sorts.specs.Kinds.{fits, kind_of, result_of, unary_result_of}
+use Rattle.sdl_kinds.specs.Kinds.{fits, kind_of, result_of, unary_result_of}
 use Rattle.sdl_sorts.specs.Partial.{both}
 use Rattle.sdl_sorts.specs.Scope.{Scope, SignalMeaning, signal, timer, signal_in, value_in}
 use Rattle.sdl_sorts.specs.Typing.{Argument, Typed, active_term, active_typed, activity, are_taken, argument_in, argument_terms, arguments_in, binary_typed, chain_typed, is_taken, joined_by, name_typed, of_variable as typed_variable, taken_term, term_in, typed_in, unary_typed, with_operation, word_typed}
 use Rattle.sdl_sorts.specs.declared.context.Context as contexts
-use Rattle.sdl_sorts.specs.declared.kind.Kind.{Kind}
-use Rattle.sdl_sorts.specs.declared.kind.Kind.TheVariants.{Free, Boolean, Pid}
-use Rattle.sdl_sorts.specs.declared.operator.TypedOperation.{TypedOperation}
-use Rattle.sdl_sorts.specs.declared.operator.TypedUnaryOperation.{TypedUnaryOperation}
+use Rattle.sdl_kinds.specs.declared.kind.Kind.{Kind}
+use Rattle.sdl_kinds.specs.declared.kind.Kind.TheVariants.{Free, Boolean, Pid}
+use Rattle.sdl_kinds.specs.declared.operator.TypedOperation.{TypedOperation}
+use Rattle.sdl_kinds.specs.declared.operator.TypedUnaryOperation.{TypedUnaryOperation}
 use Rattle.sdl_sorts.specs.declared.scope.Constant.TheVariants as constants
 use Rattle.sdl_sorts.specs.declared.scope.ValueMeaning.{ValueMeaning}
 use Rattle.sdl_sorts.specs.declared.scope.ValueMeaning.TheVariants as meant

@@ -3,7 +3,7 @@ use Rattle.std.proofs.Common.{◌≡◌, List, length, refl, ap, sym, suc}
 use Rattle.std.proofs.lemmas.Option.{slice_get_within}
 use Rattle.sdl_sound_terms.specs.Kinds.{FitPlaces, HasKind, and_place, no_place, of_binary, of_now, of_pid, of_timer, of_unary, of_value, of_variable}
 use Rattle.sdl_sound_terms.specs.Laws.{FittingTermsAreSound, KindedTermsAreSound}
-use Rattle.sdl_sorts.specs.declared.kind.Kind.{Kind}
+use Rattle.sdl_kinds.specs.declared.kind.Kind.{Kind}
 use Rattle.sdl_system.specs.Soundness.{AreSoundTerms, IsSoundTerm, count_terms}
 use Rattle.sdl_system.specs.System.{SystemValue}
 use Rattle.sdl_system.specs.Term.{Term, Terms}

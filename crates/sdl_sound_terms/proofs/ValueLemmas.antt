@@ -7,11 +7,11 @@ use Rattle.sdl_evaluation.specs.Environment.{Environment}
 use Rattle.sdl_evaluation.specs.Value.{accessed, asked, given, keyed, operated, operated_on, value_of, values_of}
 use Rattle.sdl_evaluation.specs.Variables.{value_in}
 use Rattle.sdl_report.specs.declared.failure.Failure.{Failure}
-use Rattle.sdl_sorts.specs.Kinds.{added, compared, fits, joined, kind_of, ordered, result_of, scaled, subtracted, unary_result_of}
-use Rattle.sdl_sorts.specs.declared.kind.Kind.{Kind}
-use Rattle.sdl_sorts.specs.declared.kind.Kind.TheVariants.{Free, Integer, Time, Duration, Boolean, Pid}
-use Rattle.sdl_sorts.specs.declared.operator.TypedOperation.{TypedOperation}
-use Rattle.sdl_sorts.specs.declared.operator.TypedUnaryOperation.{TypedUnaryOperation}
+use Rattle.sdl_kinds.specs.Kinds.{added, compared, fits, joined, kind_of, ordered, result_of, scaled, subtracted, unary_result_of}
+use Rattle.sdl_kinds.specs.declared.kind.Kind.{Kind}
+use Rattle.sdl_kinds.specs.declared.kind.Kind.TheVariants.{Free, Integer, Time, Duration, Boolean, Pid}
+use Rattle.sdl_kinds.specs.declared.operator.TypedOperation.{TypedOperation}
+use Rattle.sdl_kinds.specs.declared.operator.TypedUnaryOperation.{TypedUnaryOperation}
 use Rattle.sdl_sound_terms.specs.Kinds.{HasKind, has_kind, of_binary, of_now, of_pid, of_timer, of_unary, of_value, of_variable}
 use Rattle.sdl_sound_terms.specs.Laws.{HaveSorts, StaysWhatItIs, ValuesHaveKinds}
 use Rattle.sdl_system.specs.Operation.{applied, applied_to_one, calculated, number_in, number_of, ranged, unsorted}

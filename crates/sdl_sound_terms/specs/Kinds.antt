@@ -3,11 +3,11 @@ use Rattle.std.specs.Prelude.{◌≡◌, Bool, true, false, List, [], ◌∷◌,
 use Rattle.port_model.specs.declared.item.SignalId.{SignalId}
 use Rattle.port_model.specs.declared.value.Value.{Value}
 use Rattle.port_model.specs.declared.value.Value.TheVariants as value
-use Rattle.sdl_sorts.specs.Kinds.{fits, kind_of, result_of, unary_result_of}
-use Rattle.sdl_sorts.specs.declared.kind.Kind.{Kind}
-use Rattle.sdl_sorts.specs.declared.kind.Kind.TheVariants.{Free, Integer, Time, Duration, Boolean, Pid}
-use Rattle.sdl_sorts.specs.declared.operator.TypedOperation.{TypedOperation}
-use Rattle.sdl_sorts.specs.declared.operator.TypedUnaryOperation.{TypedUnaryOperation}
+use Rattle.sdl_kinds.specs.Kinds.{fits, kind_of, result_of, unary_result_of}
+use Rattle.sdl_kinds.specs.declared.kind.Kind.{Kind}
+use Rattle.sdl_kinds.specs.declared.kind.Kind.TheVariants.{Free, Integer, Time, Duration, Boolean, Pid}
+use Rattle.sdl_kinds.specs.declared.operator.TypedOperation.{TypedOperation}
+use Rattle.sdl_kinds.specs.declared.operator.TypedUnaryOperation.{TypedUnaryOperation}
 use Rattle.sdl_system.specs.System.{SystemValue}
 use Rattle.sdl_system.specs.Term.{Term, Terms, constant, variable, now, pid, active, unary, binary, no_term, and_term}
 use Rattle.sdl_system.specs.declared.expression.PidExpression.{PidExpression}

@@ -4,11 +4,11 @@ use Rattle.port_model.specs.declared.value.Value.{Value}
 use Rattle.sdl_evaluation.specs.Environment.{Environment}
 use Rattle.sdl_evaluation.specs.Value.{value_of}
 use Rattle.sdl_evaluation.specs.Variables.{VariableList, value_in}
-use Rattle.sdl_sorts.specs.Kinds.{fits}
+use Rattle.sdl_kinds.specs.Kinds.{fits}
 use Rattle.sdl_sorts.specs.Scope.{Scope}
 use Rattle.sdl_sorts.specs.Typing.{Typed, argument_in, taken_term, taken_terms, typed_in}
 use Rattle.sdl_sorts.specs.declared.context.Context.{Context}
-use Rattle.sdl_sorts.specs.declared.kind.Kind.{Kind}
+use Rattle.sdl_kinds.specs.declared.kind.Kind.{Kind}
 use Rattle.sdl_sound_terms.specs.Kinds.{FitPlaces, FitsPlace, HasKind, has_kind}
 use Rattle.sdl_sound_terms.specs.Scopes.{IsSoundScope}
 use Rattle.sdl_system.specs.Operation.{unsorted}

@@ -1,6 +1,6 @@
 -- When what names stand for is there, in a process of a system.
 use Rattle.std.specs.Prelude.{◌≡◌, ℕ, true, List, Option, None, Some, IfSome, length, map, slice_get, take}
-use Rattle.sdl_sorts.specs.Kinds.{kind_of}
+use Rattle.sdl_kinds.specs.Kinds.{kind_of}
 use Rattle.sdl_sorts.specs.Scope as names
 use Rattle.sdl_sorts.specs.Scope.{AgentMeaning, Scope, SignalMeaning, agent_in, signal_in, value_in}
 use Rattle.sdl_sorts.specs.declared.scope.Constant.{Constant}

@@ -1,13 +1,14 @@
 //! The names of scopes that are numbered.
 
 ghost use Rattle.std.specs.Prelude.{◌≡◌, ◌==◌, ◌++◌, ℕ, ◌<◌, [], is_some, length, string_bytes, OnOk};
-ghost use Rattle.sdl_scope.specs.Faults.{fault_if, least_of, told};
+ghost use Rattle.sdl_faults.specs.Faults.{fault_if, least_of, told};
 ghost use Rattle.sdl_scope.specs.Names.{first_of, names_in};
-ghost use Rattle.sdl_scope.specs.declared.fault.Kind.TheVariants.{Duplicate};
+ghost use Rattle.sdl_faults.specs.declared.fault.Kind.TheVariants.{Duplicate};
 ghost use Rattle.sdl_spaces.specs.Spaces.{entry_if, names_at};
 ghost use Rattle.sdl_tree.specs.Views.{name_value};
 
-use sdl_scope::{Faults, Names};
+use sdl_faults::Faults;
+use sdl_scope::Names;
 use sdl_tree::Name;
 use std::alloc::{AllocError, Global};
 

@@ -1,9 +1,9 @@
 //! The names of one name space, by their scopes.
 
 ghost use Rattle.std.specs.Prelude.{◌≡◌, ◌++◌, [], is_some, string_bytes, OnOk};
-ghost use Rattle.sdl_scope.specs.Faults.{fault_if, least_of, told};
+ghost use Rattle.sdl_faults.specs.Faults.{fault_if, least_of, told};
 ghost use Rattle.sdl_scope.specs.Names.{first_of, names_in};
-ghost use Rattle.sdl_scope.specs.declared.fault.Kind.TheVariants.{Duplicate};
+ghost use Rattle.sdl_faults.specs.declared.fault.Kind.TheVariants.{Duplicate};
 ghost use Rattle.sdl_spaces.specs.Spaces.{block_names, entry_if, is_same_scope, names_of, process_names, seen_in};
 ghost use Rattle.sdl_spaces.specs.declared.scope.ScopeId as scopes;
 ghost use Rattle.sdl_spaces.specs.declared.scope.ScopeId.TheVariants as scope;
@@ -11,7 +11,8 @@ ghost use Rattle.sdl_tree.specs.Views.{name_value};
 
 use crate::row::Row;
 use crate::scope::{ScopeId, ScopePath};
-use sdl_scope::{Faults, Names, Outward};
+use sdl_faults::Faults;
+use sdl_scope::{Names, Outward};
 use sdl_system::{BlockId, ProcessId};
 use sdl_tree::Name;
 use std::alloc::{AllocError, Global};

@@ -1,8 +1,8 @@
 -- A list of faults that is noted again changes nothing.
 use Rattle.std.proofs.Common.{◌≡◌, ◌∙◌, Bool, true, false, List, [], ◌∷◌, Option, None, Some, ap, if◌then◌else◌, refl, subst}
-use Rattle.sdl_scope.proofs.OrderLemmas.{less-asym, not_less-same, not_less-trans}
-use Rattle.sdl_scope.specs.FaultLaws.{Each}
-use Rattle.sdl_scope.specs.Faults.{Told, earlier, key, least_of, precedes}
+use Rattle.sdl_faults.proofs.OrderLemmas.{less-asym, not_less-same, not_less-trans}
+use Rattle.sdl_faults.specs.FaultLaws.{Each}
+use Rattle.sdl_faults.specs.Faults.{Told, earlier, key, least_of, precedes}
 
 -- a fault that is told, and doesn't come behind this one
 abbrev Covers : Option Told → Told → Type 0

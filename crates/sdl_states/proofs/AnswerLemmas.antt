@@ -5,9 +5,9 @@ use Rattle.std.specs.Map.{lookup}
 use Rattle.std.proofs.lemmas.List.{append_assoc, map-append, take_more}
 use Rattle.std.proofs.lemmas.List.Sums.{fold-append}
 use Rattle.port_model.specs.declared.item.SignalId.{SignalId}
-use Rattle.sdl_scope.proofs.FaultLemmas.{both_noted}
-use Rattle.sdl_scope.specs.Faults.{Told, fault_if, least_of}
-use Rattle.sdl_scope.specs.declared.fault.Kind.TheVariants.{TwiceInState}
+use Rattle.sdl_faults.proofs.FaultLemmas.{both_noted}
+use Rattle.sdl_faults.specs.Faults.{Told, fault_if, least_of}
+use Rattle.sdl_faults.specs.declared.fault.Kind.TheVariants.{TwiceInState}
 use Rattle.sdl_system.specs.State.{same_signal}
 use Rattle.sdl_stimuli.specs.Listed.{mention_value, mentions_listed, named_value, rest_value}
 use Rattle.sdl_stimuli.specs.Mentions as plain

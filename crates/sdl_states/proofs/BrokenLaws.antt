@@ -3,11 +3,11 @@ use Rattle.std.proofs.Common.{◌≡◌, ◌∙◌, ◌⊎◌, inl, inr, ◌||�
 use Rattle.std.specs.List.{list_any}
 use Rattle.std.specs.Str.{bytes_eq}
 use Rattle.std.proofs.lemmas.Slice.Eq.{bytes_eq-Decides}
-use Rattle.sdl_scope.proofs.FaultLemmas.{each-both, each-if, each-of, in-each, in-if, in-left, in-right}
-use Rattle.sdl_scope.specs.FaultLaws.{Each, In}
-use Rattle.sdl_scope.specs.Faults.{Told, told_at}
+use Rattle.sdl_faults.proofs.FaultLemmas.{each-both, each-if, each-of, in-each, in-if, in-left, in-right}
+use Rattle.sdl_faults.specs.FaultLaws.{Each, In}
+use Rattle.sdl_faults.specs.Faults.{Told, told_at}
 use Rattle.sdl_scope.specs.Limits.{different, is_same_text, with_new}
-use Rattle.sdl_scope.specs.declared.fault.Kind.TheVariants.{NoState, TwiceInState}
+use Rattle.sdl_faults.specs.declared.fault.Kind.TheVariants.{NoState, TwiceInState}
 use Rattle.sdl_tree.specs.Tree.{BodyPart, FreeAction, StateAll, StateList, StatePart, States, Stimulus}
 use Rattle.sdl_tree.specs.Words.{Spot}
 use Rattle.sdl_stimuli.specs.Context.{Context}

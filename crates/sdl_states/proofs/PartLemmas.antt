@@ -3,8 +3,8 @@ use Rattle.std.proofs.Common.{◌≡◌, ◌∙◌, ◌+◌, ◌<◌, ◌++◌, 
 use Rattle.std.proofs.lemmas.Grind.{flat_map-append}
 use Rattle.std.proofs.lemmas.List.Elements.{filter-append}
 use Rattle.std.proofs.lemmas.List.Sums.{fold-append}
-use Rattle.sdl_scope.proofs.FaultLemmas.{both_noted}
-use Rattle.sdl_scope.specs.Faults.{Told, least_of}
+use Rattle.sdl_faults.proofs.FaultLemmas.{both_noted}
+use Rattle.sdl_faults.specs.Faults.{Told, least_of}
 use Rattle.sdl_stimuli.specs.Listed.{part_value}
 use Rattle.sdl_stimuli.specs.Reading as plain
 use Rattle.sdl_states.specs.States.{Table, answers_in, continuous_in, enabling_in, is_part_of, mentions_in, no_answers, parts_of, state_faults, table_of, twice_faults, with_mention, with_parts}

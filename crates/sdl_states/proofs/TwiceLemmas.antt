@@ -3,10 +3,10 @@ use Rattle.std.proofs.Common.{◌≡◌, ◌∙◌, ◌⊎◌, inl, inr, ℕ, �
 use Rattle.std.specs.List.{list_any}
 use Rattle.std.proofs.lemmas.List.{append_assoc}
 use Rattle.std.proofs.lemmas.List.Sums.{fold-append}
-use Rattle.sdl_scope.proofs.FaultLemmas.{each-both, each-if, in-if, in-left, in-right}
-use Rattle.sdl_scope.specs.FaultLaws.{Each, In}
-use Rattle.sdl_scope.specs.Faults.{Told, fault_if, told_at}
-use Rattle.sdl_scope.specs.declared.fault.Kind.TheVariants.{TwiceInState}
+use Rattle.sdl_faults.proofs.FaultLemmas.{each-both, each-if, in-if, in-left, in-right}
+use Rattle.sdl_faults.specs.FaultLaws.{Each, In}
+use Rattle.sdl_faults.specs.Faults.{Told, fault_if, told_at}
+use Rattle.sdl_faults.specs.declared.fault.Kind.TheVariants.{TwiceInState}
 use Rattle.sdl_tree.specs.Words.{Spot}
 use Rattle.sdl_stimuli.specs.Mentions.{Mention, Response}
 use Rattle.sdl_stimuli.specs.declared.subject.Subject.{Subject}

@@ -1,8 +1,8 @@
 -- When a rule is broken in what the states of a process say, and at which word: said of the text, and not of what is noted.
 use Rattle.std.specs.Prelude.{◌≡◌, ◌++◌, true, false, List, ◌∷◌}
-use Rattle.sdl_scope.specs.FaultLaws.{Each, In}
-use Rattle.sdl_scope.specs.Faults.{Told, told_at}
-use Rattle.sdl_scope.specs.declared.fault.Kind.TheVariants.{NoState, TwiceInState}
+use Rattle.sdl_faults.specs.FaultLaws.{Each, In}
+use Rattle.sdl_faults.specs.Faults.{Told, told_at}
+use Rattle.sdl_faults.specs.declared.fault.Kind.TheVariants.{NoState, TwiceInState}
 use Rattle.sdl_tree.specs.Tree.{BodyPart, StateAll, StatePart, Stimulus}
 use Rattle.sdl_tree.specs.Words.{Spot}
 use Rattle.sdl_tree.specs.declared.name.Spelling.{Spelling}

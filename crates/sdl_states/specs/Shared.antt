@@ -2,7 +2,7 @@
 use Rattle.std.specs.Prelude.{◌≡◌, ℕ, Bool, List, Option, Some, map, slice_get}
 use Rattle.std.specs.Map.{lookup}
 use Rattle.std.specs.Cmp.Lexicographic.{pointwise}
-use Rattle.sdl_scope.specs.Faults.{Told, least_of}
+use Rattle.sdl_faults.specs.Faults.{Told, least_of}
 use Rattle.sdl_system.specs.declared.id.TableId.{TableId}
 use Rattle.sdl_tree.specs.Tree.{States}
 use Rattle.sdl_tree.specs.Words.{Spot}

@@ -5,9 +5,9 @@ use Rattle.std.specs.Map.{lookup}
 use Rattle.std.specs.Option.{option_or}
 use Rattle.std.specs.Str.{bytes_eq}
 use Rattle.port_model.specs.declared.item.SignalId.{SignalId}
-use Rattle.sdl_scope.specs.Faults.{Told, fault_if}
+use Rattle.sdl_faults.specs.Faults.{Told, fault_if}
 use Rattle.sdl_scope.specs.Limits.{different, part_states}
-use Rattle.sdl_scope.specs.declared.fault.Kind.TheVariants.{NoState, TwiceInState}
+use Rattle.sdl_faults.specs.declared.fault.Kind.TheVariants.{NoState, TwiceInState}
 use Rattle.sdl_system.specs.State.{same_signal}
 use Rattle.sdl_system.specs.declared.id.ConditionId.{ConditionId}
 use Rattle.sdl_tree.specs.Tree.{BodyPart, FreeAction, ProcessDefinition, StateAll, StateList, StatePart, States}

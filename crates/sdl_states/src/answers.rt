@@ -2,14 +2,14 @@
 
 ghost use Rattle.std.specs.Prelude.{◌≡◌, ◌||◌, OnOk};
 ghost use Rattle.std.specs.List.{list_any};
-ghost use Rattle.sdl_scope.specs.Faults.{fault_if, least_of, told};
-ghost use Rattle.sdl_scope.specs.declared.fault.Kind.TheVariants.{TwiceInState};
+ghost use Rattle.sdl_faults.specs.Faults.{fault_if, least_of, told};
+ghost use Rattle.sdl_faults.specs.declared.fault.Kind.TheVariants.{TwiceInState};
 ghost use Rattle.sdl_states.specs.Answered.{answers_value};
 ghost use Rattle.sdl_stimuli.specs.Listed.{mention_value, mentions_listed, response_value};
 ghost use Rattle.sdl_states.specs.States.{is_again, is_answered, no_answers, twice_faults, with_answer, with_mention, with_mentions, with_subjects};
 
 use crate::named::Named;
-use sdl_scope::{Faults, Kind};
+use sdl_faults::{Faults, Kind};
 use sdl_stimuli::{Mention, Response, Subject};
 use std::alloc::{AllocError, Global};
 

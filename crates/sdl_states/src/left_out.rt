@@ -1,12 +1,13 @@
 //! Names that asterisks leave out.
 
 ghost use Rattle.std.specs.Prelude.{◌≡◌, ℕ, Bool, List, flat_map, map};
-ghost use Rattle.sdl_scope.specs.Faults.{least_of, told};
+ghost use Rattle.sdl_faults.specs.Faults.{least_of, told};
 ghost use Rattle.sdl_states.specs.States.{except_faults, left_out_faults, unnamed_faults};
 ghost use Rattle.sdl_states.specs.Tabled.{is_state};
 ghost use Rattle.sdl_tree.specs.Views.{body_part_value, name_value, names_value, states_value};
 
-use sdl_scope::{Faults, Kind, Names, Token};
+use sdl_faults::{Faults, Kind, Token};
+use sdl_scope::Names;
 use sdl_system::StateId;
 use sdl_tree::{BodyPart, Name, States};
 

@@ -1,7 +1,7 @@
 //! What the states of a process say. States with the same parts share a table.
 
 ghost use Rattle.std.specs.Prelude.{◌≡◌, ◌<◌, ◌^◌, ℕ, All, List, None, Some, IfOk, IsOk, OnOk, flat_map, length, map};
-ghost use Rattle.sdl_scope.specs.Faults.{least_of, told};
+ghost use Rattle.sdl_faults.specs.Faults.{least_of, told};
 ghost use Rattle.sdl_stimuli.specs.Listed.{part_value};
 ghost use Rattle.sdl_states.specs.Outlined.{seen_in};
 ghost use Rattle.sdl_states.specs.Shared.{AreShared, IsKnown, IsOfName, Keeps, KeepsKnown, faults_by, known_in, seen_of, state_tables, states_listed, table_at, table_by};
@@ -12,7 +12,7 @@ use crate::chosen::chosen;
 use crate::known::Known;
 use crate::outline::{Outline, Turn};
 use crate::table::{Table, read_table};
-use sdl_scope::Faults;
+use sdl_faults::Faults;
 use sdl_stimuli::Part;
 use sdl_system::TableId;
 use sdl_tree::Name;

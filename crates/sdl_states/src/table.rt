@@ -1,14 +1,14 @@
 //! What a state says, by its parts.
 
 ghost use Rattle.std.specs.Prelude.{◌≡◌, ◌++◌, ◌∷◌, [], IfOk, OnOk, map, option_map, slice_get};
-ghost use Rattle.sdl_scope.specs.Faults.{least_of, told};
+ghost use Rattle.sdl_faults.specs.Faults.{least_of, told};
 ghost use Rattle.sdl_stimuli.specs.Listed.{continuous_value, part_value};
 ghost use Rattle.sdl_states.specs.States.{mentions_in, no_table, state_faults, table_of, twice_faults, with_parts};
 ghost use Rattle.sdl_states.specs.Outlined.{listed_part, parts_at};
 ghost use Rattle.sdl_states.specs.Tabled.{part_seen, table_value};
 
 use crate::answers::Answers;
-use sdl_scope::Faults;
+use sdl_faults::Faults;
 use sdl_stimuli::{ContinuousSignal, Part};
 use sdl_system::ConditionId;
 use std::alloc::{AllocError, Global};

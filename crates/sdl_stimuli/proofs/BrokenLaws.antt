@@ -2,14 +2,14 @@
 use Rattle.std.proofs.Common.{◌≡◌, ◌∙◌, inl, ◌+◌, ◌<◌, ◌++◌, ℕ, suc, true, false, not, List, [], ◌∷◌, Option, None, Some, ap, arith, drop, is_none, length, nat_lt, refl, subst, sym}
 use Rattle.std.proofs.lemmas.Bool.Decides.{nat_tests}
 use Rattle.std.proofs.lemmas.List.{append_assoc, length-append}
-use Rattle.sdl_scope.proofs.FaultLemmas.{each-both, each-if, each-of, in-each, in-if, in-left, in-right}
-use Rattle.sdl_scope.specs.FaultLaws.{Each, In}
-use Rattle.sdl_scope.specs.Faults.{Told, told_at}
-use Rattle.sdl_scope.specs.declared.fault.Kind.TheVariants as kind
+use Rattle.sdl_faults.proofs.FaultLemmas.{each-both, each-if, each-of, in-each, in-if, in-left, in-right}
+use Rattle.sdl_faults.specs.FaultLaws.{Each, In}
+use Rattle.sdl_faults.specs.Faults.{Told, told_at}
+use Rattle.sdl_faults.specs.declared.fault.Kind.TheVariants as kind
 use Rattle.sdl_sorts.proofs.BrokenLaws.{broken-listed-at}
 use Rattle.sdl_sorts.proofs.ListedLaws.{each-weaker, listed-broken-at, none-is, not-true}
 use Rattle.sdl_sorts.specs.Broken.{IsBrokenAt}
-use Rattle.sdl_sorts.specs.Kinds.{fits, kind_of}
+use Rattle.sdl_kinds.specs.Kinds.{fits, kind_of}
 use Rattle.sdl_sorts.specs.Scope.{Scope, SignalMeaning, signal_in, value_in}
 use Rattle.sdl_sorts.specs.declared.context.Context.TheVariants as at
 use Rattle.sdl_sorts.specs.declared.scope.ValueMeaning.{ValueMeaning}

@@ -1,10 +1,10 @@
 -- When a rule is broken in a stimulus, and at which word: said of the words of the text, and not of what is noted.
 use Rattle.std.specs.Prelude.{◌≡◌, ◌++◌, ◌<◌, ℕ, false, List, ◌∷◌, Option, None, Some, length}
-use Rattle.sdl_scope.specs.FaultLaws.{Each, In}
-use Rattle.sdl_scope.specs.Faults.{Told, told_at}
-use Rattle.sdl_scope.specs.declared.fault.Kind.TheVariants.{Sort, Unknown}
+use Rattle.sdl_faults.specs.FaultLaws.{Each, In}
+use Rattle.sdl_faults.specs.Faults.{Told, told_at}
+use Rattle.sdl_faults.specs.declared.fault.Kind.TheVariants.{Sort, Unknown}
 use Rattle.sdl_sorts.specs.Broken.{IsBrokenAt}
-use Rattle.sdl_sorts.specs.Kinds.{fits, kind_of}
+use Rattle.sdl_kinds.specs.Kinds.{fits, kind_of}
 use Rattle.sdl_sorts.specs.Scope.{Scope, SignalMeaning, signal_in, value_in}
 use Rattle.sdl_sorts.specs.declared.context.Context.TheVariants as at
 use Rattle.sdl_sorts.specs.declared.scope.Constant.{Constant}

@@ -1,8 +1,8 @@
 -- The faults of a stimulus: the rules that it breaks, each at the word where it does (Z.101: input, save).
 use Rattle.std.specs.Prelude.{◌++◌, Bool, false, not, is_none, List, [], ◌∷◌, Option, None, Some, flat_map, length, nat_lt}
-use Rattle.sdl_scope.specs.Faults.{Told, fault_if, told_at}
-use Rattle.sdl_scope.specs.declared.fault.Kind.TheVariants as broken
-use Rattle.sdl_sorts.specs.Kinds.{fits, kind_of}
+use Rattle.sdl_faults.specs.Faults.{Told, fault_if, told_at}
+use Rattle.sdl_faults.specs.declared.fault.Kind.TheVariants as broken
+use Rattle.sdl_kinds.specs.Kinds.{fits, kind_of}
 use Rattle.sdl_sorts.specs.Misused.{place_faults}
 use Rattle.sdl_sorts.specs.Scope.{Scope, SignalMeaning, signal_in, value_in}
 use Rattle.sdl_sorts.specs.declared.context.Context.TheVariants as at

@@ -2,7 +2,7 @@
 -- condition).
 use Rattle.std.specs.Prelude.{List, [], ◌∷◌, Option, None, Some, map}
 use Rattle.port_model.specs.declared.item.SignalId.{SignalId}
-use Rattle.sdl_scope.specs.Limits.{mark_word}
+use Rattle.sdl_faults.specs.Faults.{mark_word}
 use Rattle.sdl_sorts.specs.Scope.{Scope, SignalMeaning, signal, signal_in, timer, value_in}
 use Rattle.sdl_sorts.specs.declared.scope.ValueMeaning.{ValueMeaning}
 use Rattle.sdl_sorts.specs.declared.scope.ValueMeaning.TheVariants as meant

@@ -1,7 +1,7 @@
 -- What the parts of a process say, in the order of the text (Z.101: state; Z.102: continuous signal, enabling
 -- condition).
 use Rattle.std.specs.Prelude.{◌+◌, ℤ, ◌++◌, List, [], ◌∷◌, Option, None, Some, flat_map, fold, length}
-use Rattle.sdl_scope.specs.Faults.{Told}
+use Rattle.sdl_faults.specs.Faults.{Told}
 use Rattle.sdl_sorts.specs.Typing.{taken_term, typed_in}
 use Rattle.sdl_sorts.specs.declared.context.Context.TheVariants as at
 use Rattle.sdl_system.specs.Term.{Term}

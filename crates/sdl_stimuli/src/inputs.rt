@@ -1,7 +1,7 @@
 //! Inputs, and what they say of their signals.
 
 ghost use Rattle.std.specs.Prelude.{◌≡◌, ◌++◌, ◌∷◌, [], IfOk, OnOk, map, option_map};
-ghost use Rattle.sdl_scope.specs.Faults.{least_of, told};
+ghost use Rattle.sdl_faults.specs.Faults.{least_of, told};
 ghost use Rattle.sdl_stimuli.specs.Context.{context_of};
 ghost use Rattle.sdl_sorts.specs.Scope.{signal_meaning};
 ghost use Rattle.sdl_stimuli.specs.Faulty.{input_faults, inputs_faults, list_faults, named_faults};
@@ -16,7 +16,7 @@ use crate::signals::{parameters, subjects};
 use crate::subject::Subject;
 use crate::transition::TransitionId;
 use crate::variables::read_variables;
-use sdl_scope::{Faults, Kind, Token};
+use sdl_faults::{Faults, Kind, Token};
 use sdl_sorts::SignalMeaning;
 use sdl_tree::{Input, Inputs, Mark, Spelling};
 use std::alloc::{AllocError, Global};

@@ -6,7 +6,7 @@ ghost use Rattle.sdl_stimuli.specs.Mentions.{received};
 
 use crate::subject::Subject;
 use crate::transition::TransitionId;
-use sdl_scope::Token;
+use sdl_faults::Token;
 use sdl_system::{ConditionId, VariableId};
 
 /// What a state does with a signal. Conditions and transitions are named by their numbers in the process.

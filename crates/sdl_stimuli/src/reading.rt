@@ -1,7 +1,7 @@
 //! The parts of a process, in the order of the text.
 
 ghost use Rattle.std.specs.Prelude.{◌≡◌, ◌∷◌, ◌++◌, [], IfOk, OnOk, map, option_map};
-ghost use Rattle.sdl_scope.specs.Faults.{least_of, told};
+ghost use Rattle.sdl_faults.specs.Faults.{least_of, told};
 ghost use Rattle.sdl_stimuli.specs.Context.{context_of};
 ghost use Rattle.sdl_stimuli.specs.Faulty.{condition_faults, expression_faults, inputs_faults, list_faults, stimulus_faults};
 ghost use Rattle.sdl_stimuli.specs.Listed.{begun_value, conditions_listed, numbering_value, reading_value};
@@ -13,7 +13,7 @@ use crate::inputs::{add_inputs, add_list};
 use crate::mention::{Manner, Mention};
 use crate::saves::add_saved;
 use crate::transition::TransitionId;
-use sdl_scope::Faults;
+use sdl_faults::Faults;
 use sdl_sorts::resolve_condition;
 use sdl_system::{ConditionId, Expression};
 use sdl_tree::{

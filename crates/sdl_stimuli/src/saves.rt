@@ -1,8 +1,8 @@
 //! Saves, and what they say of their signals.
 
 ghost use Rattle.std.specs.Prelude.{◌≡◌, ◌++◌, ◌∷◌, [], IfOk, OnOk, map};
-ghost use Rattle.sdl_scope.specs.Faults.{fault_if, least_of, told};
-ghost use Rattle.sdl_scope.specs.declared.fault.Kind.TheVariants.{Unknown};
+ghost use Rattle.sdl_faults.specs.Faults.{fault_if, least_of, told};
+ghost use Rattle.sdl_faults.specs.declared.fault.Kind.TheVariants.{Unknown};
 ghost use Rattle.sdl_stimuli.specs.Context.{context_of};
 ghost use Rattle.sdl_stimuli.specs.Faulty.{item_faults, saved_faults};
 ghost use Rattle.sdl_stimuli.specs.Listed.{mentions_listed};
@@ -15,7 +15,7 @@ use crate::inputs::add_rest;
 use crate::mention::{Mention, Response};
 use crate::signals::{list_subjects, subjects};
 use crate::subject::Subject;
-use sdl_scope::{Faults, Kind, Token};
+use sdl_faults::{Faults, Kind, Token};
 use sdl_tree::{Name, Saved, SignalListItem};
 use std::alloc::{AllocError, Global};
 

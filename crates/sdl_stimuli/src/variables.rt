@@ -1,14 +1,14 @@
 //! The variables that take the values of an input.
 
 ghost use Rattle.std.specs.Prelude.{◌≡◌, IfOk, OnOk, map, option_map};
-ghost use Rattle.sdl_scope.specs.Faults.{least_of, told};
+ghost use Rattle.sdl_faults.specs.Faults.{least_of, told};
 ghost use Rattle.sdl_sorts.specs.Scope.{scope_of};
 ghost use Rattle.sdl_stimuli.specs.Faulty.{is_unfit, variable_faults, variables_faults};
 ghost use Rattle.sdl_stimuli.specs.Mentions.{variable_in, variables_in};
 ghost use Rattle.sdl_stimuli.specs.Places.{sort_at};
 ghost use Rattle.sdl_tree.specs.Views.{name_value};
 
-use sdl_scope::{Faults, Kind, Token};
+use sdl_faults::{Faults, Kind, Token};
 use sdl_sorts::{Scope, ValueMeaning};
 use sdl_system::{Sort, VariableId};
 use sdl_tree::Name;
@@ -76,7 +76,7 @@ fn is_unfit(parameter: Option<Sort>, variable: Option<Sort>) -> bool
     ensures { result ≡ is_unfit parameter variable }
 {
     match (parameter, variable) {
-        (Some(parameter), Some(variable)) => !sdl_sorts::Kind::of_sort(parameter).fits(variable),
+        (Some(parameter), Some(variable)) => !sdl_kinds::Kind::of_sort(parameter).fits(variable),
         _ => false,
     }
 }

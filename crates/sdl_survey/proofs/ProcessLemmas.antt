@@ -7,7 +7,7 @@ use Rattle.sdl_process.specs.Meant.{IsBehaviour}
 use Rattle.sdl_process.specs.Refused.{IsRefused}
 use Rattle.sdl_process.specs.Surroundings.{Surroundings}
 use Rattle.sdl_process.specs.declared.heading.Heading.{Heading}
-use Rattle.sdl_scope.specs.Faults.{Told}
+use Rattle.sdl_faults.specs.Faults.{Told}
 use Rattle.sdl_survey.specs.Headings.{IsHeading}
 use Rattle.sdl_survey.specs.Processes.{IsMadeFrom}
 use Rattle.sdl_survey.specs.Surroundings.{surroundings}

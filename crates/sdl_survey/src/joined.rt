@@ -7,7 +7,7 @@ ghost use Rattle.sdl_declared.specs.Tables.{rows_of};
 ghost use Rattle.sdl_network.specs.Network.{network_faults};
 ghost use Rattle.sdl_channels.specs.SignalLists.{AreSets};
 ghost use Rattle.sdl_routes.specs.Table.{AreRoutes};
-ghost use Rattle.sdl_scope.specs.Faults.{least_of, told};
+ghost use Rattle.sdl_faults.specs.Faults.{least_of, told};
 ghost use Rattle.sdl_stimuli.specs.Context.{listed_members};
 
 use crate::lists::members;
@@ -17,7 +17,7 @@ use sdl_declared::Tables;
 use sdl_names::Declared;
 use sdl_network::{network_of, note_network};
 use sdl_routes::routes_of;
-use sdl_scope::Faults;
+use sdl_faults::Faults;
 use sdl_signal_lists::counted;
 use sdl_system::Routes;
 use std::alloc::{AllocError, Global};

@@ -9,7 +9,7 @@ ghost use Rattle.sdl_declared.specs.Seen.{process_seen};
 ghost use Rattle.sdl_labels.specs.Labels.{names_listed};
 ghost use Rattle.sdl_process.specs.Faulty.{NotesBody};
 ghost use Rattle.sdl_process.specs.Surroundings.{surroundings_of};
-ghost use Rattle.sdl_scope.specs.Faults.{told};
+ghost use Rattle.sdl_faults.specs.Faults.{told};
 
 use crate::heading::variables_of;
 use crate::inside::Inside;
@@ -19,7 +19,7 @@ use sdl_declared::{ProcessEntry, Tables};
 use sdl_figures::{Figures, scope_at};
 use sdl_names::Declared;
 use sdl_process::{Heading, Surroundings, make_process};
-use sdl_scope::Faults;
+use sdl_faults::Faults;
 use sdl_signal_lists::counted;
 use sdl_spaces::ScopeId;
 use sdl_states::NamedStates;

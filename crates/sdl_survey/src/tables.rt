@@ -6,7 +6,8 @@ ghost use Rattle.sdl_survey.specs.Surroundings.{numbered_states};
 ghost use Rattle.sdl_labels.specs.Labels.{names_listed};
 
 use sdl_declared::next_number;
-use sdl_scope::{Faults, Names};
+use sdl_faults::Faults;
+use sdl_scope::Names;
 use sdl_system::{LabelId, StateId};
 use sdl_tree::Name;
 use std::alloc::{AllocError, Global};

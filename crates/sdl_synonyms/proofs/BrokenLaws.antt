@@ -2,9 +2,9 @@
 use Rattle.std.proofs.Common.{◌≡◌, ◌∙◌, ◌++◌, ◌⊎◌, ℕ, List, [], ◌∷◌, Option, None, Some, flat_map, refl, ap, sym, subst, inl, inr}
 use Rattle.std.specs.List.{slice_get}
 use Rattle.std.specs.Option.{unwrap_or}
-use Rattle.sdl_scope.proofs.FaultLemmas.{each-of, in-each}
-use Rattle.sdl_scope.specs.FaultLaws.{Each, In}
-use Rattle.sdl_scope.specs.Faults.{Told}
+use Rattle.sdl_faults.proofs.FaultLemmas.{each-of, in-each}
+use Rattle.sdl_faults.specs.FaultLaws.{Each, In}
+use Rattle.sdl_faults.specs.Faults.{Told}
 use Rattle.sdl_scope.specs.Names.{first_of}
 use Rattle.sdl_sorts.proofs.ConstantLaws.{broken-listed-constant, listed-broken-constant}
 use Rattle.sdl_sorts.proofs.ListedLaws.{each-weaker}

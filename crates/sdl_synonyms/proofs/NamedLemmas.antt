@@ -2,8 +2,8 @@
 use Rattle.std.proofs.Common.{◌≡◌, ◌∙◌, ◌++◌, ℕ, List, ◌∷◌, Option, None, Some, option_map, refl, ap, sym, inl}
 use Rattle.std.proofs.lemmas.Option.{unwrap_or-slice_get}
 use Rattle.sdl_sorts.specs.declared.scope.Constant.TheVariants.{NoValue}
-use Rattle.sdl_scope.proofs.FaultLemmas.{in-left, in-right}
-use Rattle.sdl_scope.specs.FaultLaws.{In}
+use Rattle.sdl_faults.proofs.FaultLemmas.{in-left, in-right}
+use Rattle.sdl_faults.specs.FaultLaws.{In}
 use Rattle.sdl_scope.specs.Names.{first_of, first_outward}
 use Rattle.sdl_sorts.proofs.ScopeLemmas.{meaning-first, outward-first}
 use Rattle.sdl_sorts.specs.Broken.{Within, InLinks, InValues}

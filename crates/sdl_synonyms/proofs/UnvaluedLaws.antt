@@ -2,23 +2,23 @@
 use Rattle.std.proofs.Common.{◌≡◌, ◌∙◌, ◌&&◌, ℕ, Bool, true, false, List, Option, None, Some, option_map, if◌then◌else◌, refl, ap, sym, subst}
 use Rattle.std.proofs.lemmas.Option.{unwrap_or-slice_get}
 use Rattle.std.specs.Option.{option_and_then}
-use Rattle.sdl_scope.specs.FaultLaws.{In}
-use Rattle.sdl_scope.specs.Faults.{told_at}
+use Rattle.sdl_faults.specs.FaultLaws.{In}
+use Rattle.sdl_faults.specs.Faults.{told_at}
 use Rattle.sdl_scope.specs.Names.{first_of}
-use Rattle.sdl_scope.specs.declared.fault.Kind.TheVariants.{BadCount}
+use Rattle.sdl_faults.specs.declared.fault.Kind.TheVariants.{BadCount}
 use Rattle.sdl_sorts.proofs.ConstantLaws.{broken-listed-constant}
 use Rattle.sdl_sorts.proofs.ScopeLemmas.{meaning-first}
 use Rattle.sdl_sorts.specs.Broken.{InLinks, LacksValue, TakesKind, Within}
 use Rattle.sdl_sorts.specs.Broken as broken
 use Rattle.sdl_sorts.specs.Constants.{value_of}
-use Rattle.sdl_sorts.specs.Kinds.{result_of, unary_result_of}
+use Rattle.sdl_kinds.specs.Kinds.{result_of, unary_result_of}
 use Rattle.sdl_sorts.specs.Partial.{both}
 use Rattle.sdl_sorts.specs.Scope.{Scope, SignalMeaning, signal, timer, signal_in, value_in, value_meaning, visible}
 use Rattle.sdl_sorts.specs.Typing.{Argument, Typed, active_typed, activity, are_taken, arguments_in, binary_typed, chain_typed, joined_by, name_typed, of_synonym, typed_in, unary_typed, with_operation}
 use Rattle.sdl_sorts.specs.Words.{first_word}
 use Rattle.sdl_sorts.specs.declared.context.Context.TheVariants.{Constant}
-use Rattle.sdl_sorts.specs.declared.operator.TypedOperation.{TypedOperation}
-use Rattle.sdl_sorts.specs.declared.operator.TypedUnaryOperation.{TypedUnaryOperation}
+use Rattle.sdl_kinds.specs.declared.operator.TypedOperation.{TypedOperation}
+use Rattle.sdl_kinds.specs.declared.operator.TypedUnaryOperation.{TypedUnaryOperation}
 use Rattle.sdl_sorts.specs.declared.scope.Constant as constants
 use Rattle.sdl_sorts.specs.declared.scope.Constant.TheVariants.{NoValue}
 use Rattle.sdl_sorts.specs.declared.scope.ValueMeaning.TheVariants as meant

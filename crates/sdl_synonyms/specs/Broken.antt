@@ -1,8 +1,8 @@
 -- Which synonyms an expression names, which one rests on, and when a rule is broken in their definitions: said of the parts of the
 -- expressions, and not of lists.
 use Rattle.std.specs.Prelude.{◌≡◌, ℕ, List, Option, Some, slice_get}
-use Rattle.sdl_scope.specs.FaultLaws.{In}
-use Rattle.sdl_scope.specs.Faults.{Told}
+use Rattle.sdl_faults.specs.FaultLaws.{In}
+use Rattle.sdl_faults.specs.Faults.{Told}
 use Rattle.sdl_scope.specs.Names.{first_of}
 use Rattle.sdl_sorts.specs.Broken.{IsBrokenConstant, Within}
 use Rattle.sdl_sorts.specs.Scope.{visible}

@@ -1,8 +1,8 @@
 -- What holds of synonyms and of what they come to.
 use Rattle.std.specs.Prelude.{◌≡◌, ℕ, false, List, Some, flat_map}
-use Rattle.sdl_scope.specs.FaultLaws.{Each, In}
-use Rattle.sdl_scope.specs.Faults.{Told, told_at}
-use Rattle.sdl_scope.specs.declared.fault.Kind.TheVariants.{BadCount}
+use Rattle.sdl_faults.specs.FaultLaws.{Each, In}
+use Rattle.sdl_faults.specs.Faults.{Told, told_at}
+use Rattle.sdl_faults.specs.declared.fault.Kind.TheVariants.{BadCount}
 use Rattle.sdl_sorts.specs.Broken.{TakesKind, Within}
 use Rattle.sdl_sorts.specs.Scope.{Scope, signal_in, value_in, visible}
 use Rattle.sdl_sorts.specs.Typing.{Typed, typed_in}

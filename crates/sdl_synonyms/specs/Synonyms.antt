@@ -1,8 +1,8 @@
 -- What the synonyms of a specification come to (Z.104: synonyms). A synonym may be used before the place of its definition; one
 -- that is defined by itself, directly or by others, has no value, nor has one that rests on such a one.
 use Rattle.std.specs.Prelude.{◌≡◌, ℕ, List, Some, length, slice_get, slice_index_or}
-use Rattle.sdl_scope.specs.FaultLaws.{In}
-use Rattle.sdl_scope.specs.Faults.{Told}
+use Rattle.sdl_faults.specs.FaultLaws.{In}
+use Rattle.sdl_faults.specs.Faults.{Told}
 use Rattle.sdl_sorts.specs.Constants.{constant_faults, constant_in}
 use Rattle.sdl_sorts.specs.Scope.{Scope, agent_meaning, meaning, signal_meaning, value_meaning, visible}
 use Rattle.sdl_sorts.specs.declared.scope.Constant.{Constant}

@@ -7,7 +7,7 @@ ghost use Rattle.sdl_synonyms.specs.declared.synonym.Synonym as the_synonym;
 
 use crate::order::order;
 use crate::synonym::Synonym;
-use sdl_scope::Faults;
+use sdl_faults::Faults;
 use sdl_sorts::Constant;
 use std::alloc::{AllocError, Global};
 

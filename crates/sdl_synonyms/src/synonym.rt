@@ -1,11 +1,12 @@
 //! The definition of a synonym.
 
 ghost use Rattle.std.specs.Prelude.{◌≡◌, ◌++◌, IfOk, OnOk};
-ghost use Rattle.sdl_scope.specs.Faults.{least_of, told};
+ghost use Rattle.sdl_faults.specs.Faults.{least_of, told};
 ghost use Rattle.sdl_synonyms.specs.Synonyms.{constant_with, named_by, synonym_faults};
 
 use crate::named::add_named;
-use sdl_scope::{Faults, Outward};
+use sdl_faults::Faults;
+use sdl_scope::Outward;
 use sdl_sorts::{AgentMeaning, Constant, Scope, SignalMeaning, ValueEntry, constant};
 use sdl_system::Sort;
 use sdl_tree::Expression;

@@ -1,12 +1,12 @@
 //! What all synonyms of a specification come to, and the faults in their definitions.
 
 ghost use Rattle.std.specs.Prelude.{◌≡◌, flat_map, map, IfOk, OnOk};
-ghost use Rattle.sdl_scope.specs.Faults.{least_of, told};
+ghost use Rattle.sdl_faults.specs.Faults.{least_of, told};
 ghost use Rattle.sdl_synonyms.specs.Synonyms.{AreConstants, named_by, synonym_faults};
 
 use crate::known::settle_all;
 use crate::synonym::Synonym;
-use sdl_scope::Faults;
+use sdl_faults::Faults;
 use sdl_sorts::Constant;
 use std::alloc::{AllocError, Global};
 

@@ -12,7 +12,7 @@ use crate::statement::Node;
 use port_model::{SignalId, Value};
 
 /// What the instances of a process are made of.
-#[derive(Debug, Drop)]
+#[derive(Debug)]
 pub struct Process {
     pub name: String,
     /// How many instances there are at the start.
@@ -33,6 +33,25 @@ pub struct Process {
     pub nodes: Vec<Node>,
     /// Where the start transition begins.
     pub start: NodeId,
+}
+
+/// Written out, as that of a system is.
+impl Drop for Process {
+    fn drop(self) {
+        let Process {
+            name: _,
+            initial: _,
+            maximum: _,
+            parameters: _,
+            variables: _,
+            valid: _,
+            states: _,
+            tables: _,
+            conditions: _,
+            nodes: _,
+            start: _,
+        } = self;
+    }
 }
 
 /// A variable, with the value that it has before the start, where it has one.

@@ -19,7 +19,7 @@ pub struct Node {
 }
 
 /// What a node does. A statement with a list counts once.
-#[derive(Debug, Drop)]
+#[derive(Debug)]
 pub enum Statement {
     Task(Vec<Assignment>),
     Output(Output),
@@ -33,6 +33,24 @@ pub enum Statement {
     /// To the state from which the transition began.
     SameState,
     Stop,
+}
+
+/// Written out, as that of a system is.
+impl Drop for Statement {
+    fn drop(self) {
+        match self {
+            Statement::Task(_)
+            | Statement::Output(_)
+            | Statement::Set(_)
+            | Statement::Reset(_)
+            | Statement::Create(_)
+            | Statement::Decision(_)
+            | Statement::Join(_)
+            | Statement::NextState(_)
+            | Statement::SameState
+            | Statement::Stop => {}
+        }
+    }
 }
 
 /// `variable := value`.

@@ -12,10 +12,19 @@ pub struct Start {
 }
 
 /// What stands in the body of a process behind the start.
-#[derive(Debug, Drop)]
+#[derive(Debug)]
 pub enum BodyPart {
     State(StatePart),
     FreeAction(FreeAction),
+}
+
+/// Written out, as that of a tree is.
+impl Drop for BodyPart {
+    fn drop(self) {
+        match self {
+            BodyPart::State(_) | BodyPart::FreeAction(_) => {}
+        }
+    }
 }
 
 /// One `state`, with the states that it is a part of. Several parts may name one state.

@@ -5,10 +5,20 @@ use crate::expressions::Expression;
 use crate::name::{Name, SortName, Spelling};
 
 /// A specification: one system.
-#[derive(Debug, Drop)]
+#[derive(Debug)]
 pub struct Tree {
     pub name: Name,
     pub definitions: Vec<SystemDefinition>,
+}
+
+/// Written out, so that the drop of all that a tree may hold is proved here, and not anew in each crate that drops one.
+impl Drop for Tree {
+    fn drop(self) {
+        let Tree {
+            name: _,
+            definitions: _,
+        } = self;
+    }
 }
 
 /// What a system defines.

@@ -2,7 +2,7 @@
 
 use crate::advice::Advice;
 use sdl_build::BuildError;
-use sdl_scope::Kind;
+use sdl_faults::Kind;
 
 /// What is said of a specification that has no system.
 pub fn build_advice(error: &BuildError) -> Advice<'_> {

@@ -3,7 +3,7 @@ use Rattle.sdl_bodies.specs.Added.{Holds}
 use Rattle.sdl_bodies.specs.Bodies.{bodies_among, faults_among}
 use Rattle.sdl_ends.specs.Beginnings.{stimulus_beginnings}
 use Rattle.sdl_nodes.specs.Contexts.{context_of}
-use Rattle.sdl_scope.specs.Faults.{least_of, told}
+use Rattle.sdl_faults.specs.Faults.{least_of, told}
 use Rattle.sdl_system.specs.Body.{Body}
 use Rattle.sdl_tree.specs.Views.{stimulus_value}
 use Rattle.sdl_bodies.proofs.added.add_stimuli.Given as goal

@@ -5,7 +5,7 @@ use Rattle.sdl_survey.specs.Around.{definitions_with}
 use Rattle.sdl_build.specs.Outcome as outcome
 use Rattle.sdl_declared.specs.Tables.{rows_of}
 use Rattle.sdl_figures.specs.Figures.{figures_faults}
-use Rattle.sdl_scope.specs.Faults.{least_of, told}
+use Rattle.sdl_faults.specs.Faults.{least_of, told}
 use Rattle.sdl_build.proofs.resolve.look_behind_names.Goals as goal
 
 pub returns-then-is_past_limit : goal.returns-then-is_past_limit

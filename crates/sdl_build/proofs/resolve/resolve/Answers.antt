@@ -3,7 +3,7 @@ use Rattle.sdl_build.proofs.ResolveLemmas.{looked-at-if}
 use Rattle.sdl_survey.proofs.ProcessLemmas.{not-made}
 use Rattle.sdl_declared.specs.Parts.{all_sort_faults}
 use Rattle.sdl_declared.specs.Tables.{rows_of}
-use Rattle.sdl_scope.specs.Faults.{least_of}
+use Rattle.sdl_faults.specs.Faults.{least_of}
 use Rattle.sdl_scope.specs.Limits.{limit_faults}
 use Rattle.sdl_tree.specs.Views.{tree_value}
 use Rattle.sdl_build.proofs.resolve.resolve.Goals as goal

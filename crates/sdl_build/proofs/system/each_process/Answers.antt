@@ -8,7 +8,7 @@ use Rattle.sdl_survey.specs.Around.{survey_of}
 use Rattle.sdl_build.specs.Faulty.{NotesBodies}
 use Rattle.sdl_build.specs.Faulty as notes
 use Rattle.sdl_declared.specs.Tables.{rows_of}
-use Rattle.sdl_scope.specs.Faults.{told}
+use Rattle.sdl_faults.specs.Faults.{told}
 use Rattle.sdl_build.proofs.system.each_process.Goals as goal
 
 pub loop-set-init : goal.loop-set-init

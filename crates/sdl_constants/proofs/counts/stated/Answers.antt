@@ -1,8 +1,7 @@
 use Rattle.std.proofs.Common.{option_map}
 use Rattle.sdl_constants.proofs.CountLemmas.{counts_accepted, counts_noted}
 use Rattle.sdl_constants.specs.Counts.{maximum_in}
-use Rattle.sdl_scope.specs.Faults.{told}
-use Rattle.sdl_scope.specs.Limits.{mark_word}
+use Rattle.sdl_faults.specs.Faults.{told, mark_word}
 use Rattle.sdl_sorts.specs.Scope.{scope_of}
 use Rattle.sdl_tree.specs.Views.{bound_value, expr_value}
 use Rattle.sdl_tree.specs.declared.mark.Mark.TheVariants as mark

@@ -1,6 +1,6 @@
 use Rattle.std.proofs.Common.{◌≡◌, flat_map, map, take}
 use Rattle.sdl_declared.specs.Parts.{timer_sort_faults}
-use Rattle.sdl_scope.specs.Faults.{least_of, told}
+use Rattle.sdl_faults.specs.Faults.{least_of, told}
 use Rattle.sdl_tree.specs.Views.{timer_value}
 use Rattle.sdl_declared.proofs.sorts.note_in_timers.Given as goal
 

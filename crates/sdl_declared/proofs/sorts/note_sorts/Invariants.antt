@@ -1,6 +1,6 @@
 use Rattle.std.proofs.Common.{◌≡◌, take}
 use Rattle.sdl_declared.specs.Sorts.{unknown_sorts}
-use Rattle.sdl_scope.specs.Faults.{least_of, told}
+use Rattle.sdl_faults.specs.Faults.{least_of, told}
 use Rattle.sdl_tree.specs.Views.{sorts_value}
 use Rattle.sdl_declared.proofs.sorts.note_sorts.Given as goal
 

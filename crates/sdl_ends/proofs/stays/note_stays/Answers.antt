@@ -1,5 +1,5 @@
 use Rattle.std.proofs.Common.{◌∙◌, ap, flat_map}
-use Rattle.sdl_scope.specs.Faults.{least_of, told}
+use Rattle.sdl_faults.specs.Faults.{least_of, told}
 use Rattle.sdl_tree.specs.Views.{process_value}
 use Rattle.sdl_ends.specs.Listed.{beginnings_listed, terminators_listed}
 use Rattle.sdl_ends.specs.Stays.{stay_fault}

@@ -2,7 +2,7 @@ use Rattle.std.proofs.Common.{◌≡◌, flat_map, map, take}
 use Rattle.sdl_declared.specs.Seen.{process_seen}
 use Rattle.sdl_declared.specs.Tables.{rows_of}
 use Rattle.sdl_figures.specs.Figures.{counts_at, counts_faults_at}
-use Rattle.sdl_scope.specs.Faults.{least_of, told}
+use Rattle.sdl_faults.specs.Faults.{least_of, told}
 use Rattle.sdl_figures.proofs.counts.counts_of.Given as goal
 
 abbrev pub invariant-loop-entry : goal.invariant-loop-entry

@@ -2,7 +2,7 @@ use Rattle.std.proofs.Common.{◌≡◌, flat_map, map, take}
 use Rattle.sdl_declared.specs.Seen.{value_seen}
 use Rattle.sdl_declared.specs.Tables.{rows_of}
 use Rattle.sdl_figures.specs.Figures.{initial_at, initial_faults_at}
-use Rattle.sdl_scope.specs.Faults.{least_of, told}
+use Rattle.sdl_faults.specs.Faults.{least_of, told}
 use Rattle.sdl_figures.proofs.initials.initials_of.Given as goal
 
 abbrev pub invariant-loop-entry : goal.invariant-loop-entry

@@ -3,7 +3,7 @@ use Rattle.std.specs.Iterator.Adapters.{zip_first, zip_second}
 use Rattle.std.specs.Slice.Iter.{iter_rest}
 use Rattle.sdl_declared.specs.Seen.{process_seen}
 use Rattle.sdl_figures.specs.Limit.{limit_faults, limit_from, most_instances}
-use Rattle.sdl_scope.specs.Faults.{least_of, told}
+use Rattle.sdl_faults.specs.Faults.{least_of, told}
 use Rattle.sdl_figures.proofs.limit.note_limit.Given as goal
 
 abbrev pub invariant-loop-entry : goal.invariant-loop-entry

@@ -1,5 +1,5 @@
 use Rattle.sdl_declared.specs.Tables.{rows_of}
-use Rattle.sdl_scope.specs.Faults.{told}
+use Rattle.sdl_faults.specs.Faults.{told}
 use Rattle.sdl_figures.proofs.SynonymLemmas.{noted-of}
 use Rattle.sdl_figures.proofs.synonyms.constants_of.Goals as goal
 

@@ -5,7 +5,7 @@ use Rattle.sdl_declared.specs.Tables.{rows_of}
 use Rattle.sdl_names.proofs.EntryLemmas.{entries_in-meant, standings-meant}
 use Rattle.sdl_names.specs.Entries.{Has, HasMeant, duplicates, entries_in, entries_of, entry_seen, standings}
 use Rattle.sdl_names.specs.Meanings.{agent_entries, agent_entry}
-use Rattle.sdl_scope.specs.Faults.{least_of, told}
+use Rattle.sdl_faults.specs.Faults.{least_of, told}
 use Rattle.sdl_sorts.specs.Scope.{agent_meaning, meaning}
 use Rattle.sdl_names.proofs.agents.declare_agents.Goals as goal
 

@@ -2,7 +2,7 @@ use Rattle.std.proofs.Common.{◌≡◌, ◌∙◌, ◌+◌, ◌++◌, [], ◌�
 use Rattle.std.proofs.lemmas.List.{drop_more, map-append, take_more}
 use Rattle.sdl_names.proofs.EntryLemmas.{entries_in-more, noted-more}
 use Rattle.sdl_names.specs.Entries.{duplicates_behind, entries_in, entries_of, entry_in, entry_of, standings}
-use Rattle.sdl_scope.specs.Faults.{least_of, told}
+use Rattle.sdl_faults.specs.Faults.{least_of, told}
 use Rattle.sdl_spaces.specs.Spaces.{names_of}
 use Rattle.sdl_names.proofs.declaration.declare_all.Goals as goal
 

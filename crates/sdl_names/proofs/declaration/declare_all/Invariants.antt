@@ -1,6 +1,6 @@
 use Rattle.std.proofs.Common.{◌≡◌, drop, take}
 use Rattle.sdl_names.specs.Entries.{Has, duplicates, duplicates_behind, entries_of, standings}
-use Rattle.sdl_scope.specs.Faults.{least_of, told}
+use Rattle.sdl_faults.specs.Faults.{least_of, told}
 use Rattle.sdl_names.proofs.declaration.declare_all.Given as goal
 
 abbrev pub invariant-loop-declaration : goal.invariant-loop-declaration

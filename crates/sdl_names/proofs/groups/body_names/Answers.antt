@@ -2,7 +2,7 @@ use Rattle.sdl_declared.specs.Tables.{rows_of}
 use Rattle.sdl_names.proofs.EntryLemmas.{noted-then}
 use Rattle.sdl_names.specs.Entries.{duplicates, standings}
 use Rattle.sdl_names.specs.Meanings.{label_entries, value_entries}
-use Rattle.sdl_scope.specs.Faults.{told}
+use Rattle.sdl_faults.specs.Faults.{told}
 use Rattle.sdl_names.proofs.groups.body_names.Goals as goal
 
 pub returns-clause-noted : goal.returns-clause-noted

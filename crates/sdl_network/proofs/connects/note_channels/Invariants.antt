@@ -1,6 +1,6 @@
 use Rattle.std.proofs.Common.{◌≡◌, flat_map, take}
 use Rattle.sdl_network.specs.Connects.{channel_faults}
-use Rattle.sdl_scope.specs.Faults.{least_of, told}
+use Rattle.sdl_faults.specs.Faults.{least_of, told}
 use Rattle.sdl_spaces.specs.Spaces.{names_of}
 use Rattle.sdl_tree.specs.Views.{names_value}
 use Rattle.sdl_network.proofs.connects.note_channels.Given as goal

@@ -1,7 +1,7 @@
 use Rattle.std.proofs.Common.{◌≡◌, flat_map, map, take}
 use Rattle.sdl_declared.specs.Seen.{connection_seen}
 use Rattle.sdl_network.specs.Connects.{connect_faults}
-use Rattle.sdl_scope.specs.Faults.{least_of, told}
+use Rattle.sdl_faults.specs.Faults.{least_of, told}
 use Rattle.sdl_network.proofs.connects.note_connects.Given as goal
 
 abbrev pub invariant-loop-entry : goal.invariant-loop-entry

@@ -1,6 +1,6 @@
 use Rattle.std.proofs.Common.{◌≡◌, flat_map, map, take}
 use Rattle.sdl_network.specs.Paths.{path_faults, placed_value}
-use Rattle.sdl_scope.specs.Faults.{least_of, told}
+use Rattle.sdl_faults.specs.Faults.{least_of, told}
 use Rattle.sdl_network.proofs.paths.note_paths.Given as goal
 
 abbrev pub invariant-loop-entry : goal.invariant-loop-entry

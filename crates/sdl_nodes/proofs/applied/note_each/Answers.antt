@@ -1,6 +1,6 @@
 use Rattle.sdl_nodes.specs.Contexts.{context_of}
 use Rattle.sdl_nodes.specs.Faulty.{asked_faults}
-use Rattle.sdl_scope.specs.Faults.{told}
+use Rattle.sdl_faults.specs.Faults.{told}
 use Rattle.sdl_tree.specs.Views.{expr_value}
 use Rattle.sdl_nodes.proofs.StepLemmas.{noted-next}
 use Rattle.sdl_nodes.proofs.applied.note_each.Goals as goal

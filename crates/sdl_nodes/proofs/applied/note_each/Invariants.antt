@@ -1,7 +1,7 @@
 use Rattle.std.proofs.Common.{◌≡◌, flat_map, map, take}
 use Rattle.sdl_nodes.specs.Contexts.{context_of}
 use Rattle.sdl_nodes.specs.Faulty.{asked_faults}
-use Rattle.sdl_scope.specs.Faults.{least_of, told}
+use Rattle.sdl_faults.specs.Faults.{least_of, told}
 use Rattle.sdl_tree.specs.Views.{expr_value}
 use Rattle.sdl_nodes.proofs.applied.note_each.Given as goal
 

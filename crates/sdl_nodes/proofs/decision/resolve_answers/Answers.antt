@@ -1,5 +1,5 @@
 use Rattle.sdl_nodes.specs.Contexts.{context_of}
-use Rattle.sdl_scope.specs.Faults.{told}
+use Rattle.sdl_faults.specs.Faults.{told}
 use Rattle.sdl_sorts.specs.Answers.{answer_faults, answer_in}
 use Rattle.sdl_tree.specs.Views.{answer_value}
 use Rattle.sdl_nodes.proofs.StepLemmas.{added-next, noted-next}

@@ -1,7 +1,7 @@
 use Rattle.std.proofs.Common.{◌≡◌, flat_map, map, take}
 use Rattle.sdl_nodes.specs.Contexts.{context_of}
 use Rattle.sdl_sorts.specs.Answers.{answer_faults, answer_in}
-use Rattle.sdl_scope.specs.Faults.{least_of, told}
+use Rattle.sdl_faults.specs.Faults.{least_of, told}
 use Rattle.sdl_tree.specs.Views.{answer_value}
 use Rattle.sdl_nodes.proofs.decision.resolve_answers.Given as goal
 

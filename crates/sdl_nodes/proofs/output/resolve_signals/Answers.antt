@@ -4,7 +4,7 @@ use Rattle.std.proofs.lemmas.Result.{IfOk-weaker}
 use Rattle.sdl_nodes.specs.Contexts.{context_of}
 use Rattle.sdl_nodes.specs.Faulty.{sending_faults}
 use Rattle.sdl_nodes.specs.Statements.{sending_in}
-use Rattle.sdl_scope.specs.Faults.{told}
+use Rattle.sdl_faults.specs.Faults.{told}
 use Rattle.sdl_system.specs.Table.{sending}
 use Rattle.sdl_tree.specs.Views.{applied_value}
 use Rattle.sdl_nodes.proofs.ListLemmas.{all_made}

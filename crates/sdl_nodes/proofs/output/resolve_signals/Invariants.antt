@@ -3,7 +3,7 @@ use Rattle.sdl_nodes.specs.Contexts.{context_of}
 use Rattle.sdl_nodes.specs.Faulty.{sending_faults}
 use Rattle.sdl_nodes.specs.Statements.{sending_in}
 use Rattle.sdl_system.specs.Table.{sending}
-use Rattle.sdl_scope.specs.Faults.{least_of, told}
+use Rattle.sdl_faults.specs.Faults.{least_of, told}
 use Rattle.sdl_tree.specs.Views.{applied_value}
 use Rattle.sdl_nodes.proofs.output.resolve_signals.Given as goal
 

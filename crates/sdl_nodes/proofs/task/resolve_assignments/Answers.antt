@@ -4,7 +4,7 @@ use Rattle.std.proofs.lemmas.Result.{IfOk-weaker}
 use Rattle.sdl_nodes.specs.Contexts.{context_of}
 use Rattle.sdl_nodes.specs.Faulty.{assignment_faults}
 use Rattle.sdl_nodes.specs.Statements.{assigning_in}
-use Rattle.sdl_scope.specs.Faults.{told}
+use Rattle.sdl_faults.specs.Faults.{told}
 use Rattle.sdl_system.specs.Table.{assigning}
 use Rattle.sdl_tree.specs.Views.{assignment_value}
 use Rattle.sdl_nodes.proofs.ListLemmas.{all_made}

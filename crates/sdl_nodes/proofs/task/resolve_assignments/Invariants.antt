@@ -3,7 +3,7 @@ use Rattle.sdl_nodes.specs.Contexts.{context_of}
 use Rattle.sdl_nodes.specs.Faulty.{assignment_faults}
 use Rattle.sdl_nodes.specs.Statements.{assigning_in}
 use Rattle.sdl_system.specs.Table.{assigning}
-use Rattle.sdl_scope.specs.Faults.{least_of, told}
+use Rattle.sdl_faults.specs.Faults.{least_of, told}
 use Rattle.sdl_tree.specs.Views.{assignment_value}
 use Rattle.sdl_nodes.proofs.task.resolve_assignments.Given as goal
 

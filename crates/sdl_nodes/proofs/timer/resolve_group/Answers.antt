@@ -2,7 +2,7 @@ use Rattle.std.proofs.Common.{map, option_map}
 use Rattle.sdl_nodes.specs.Contexts.{context_of}
 use Rattle.sdl_nodes.specs.Faulty.{timing_faults}
 use Rattle.sdl_nodes.specs.Statements.{timing_in}
-use Rattle.sdl_scope.specs.Faults.{told}
+use Rattle.sdl_faults.specs.Faults.{told}
 use Rattle.sdl_system.specs.Table.{timing}
 use Rattle.sdl_tree.specs.Views.{applied_value}
 use Rattle.sdl_nodes.proofs.StepLemmas.{noted-next, pushed-behind}

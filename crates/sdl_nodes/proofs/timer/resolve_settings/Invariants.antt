@@ -3,7 +3,7 @@ use Rattle.sdl_nodes.specs.Contexts.{context_of}
 use Rattle.sdl_nodes.specs.Faulty.{setting_faults}
 use Rattle.sdl_nodes.specs.Statements.{setting_in}
 use Rattle.sdl_system.specs.Table.{setting}
-use Rattle.sdl_scope.specs.Faults.{least_of, told}
+use Rattle.sdl_faults.specs.Faults.{least_of, told}
 use Rattle.sdl_tree.specs.Views.{clause_value}
 use Rattle.sdl_nodes.proofs.timer.resolve_settings.Given as goal
 

@@ -2,7 +2,7 @@ use Rattle.std.proofs.Common.{◌≡◌, flat_map, map, option_map, take}
 use Rattle.sdl_nodes.specs.Contexts.{context_of}
 use Rattle.sdl_nodes.specs.Faulty.{timing_faults}
 use Rattle.sdl_nodes.specs.Statements.{timing_in}
-use Rattle.sdl_scope.specs.Faults.{least_of, told}
+use Rattle.sdl_faults.specs.Faults.{least_of, told}
 use Rattle.sdl_system.specs.Table.{timing}
 use Rattle.sdl_tree.specs.Views.{group_value}
 use Rattle.sdl_nodes.proofs.timer.resolve_timers.Given as goal

@@ -13,8 +13,8 @@ use Rattle.sdl_nodes.proofs.LaterLemmas.{later-noted}
 use Rattle.sdl_nodes.proofs.ListLemmas.{flat_map-last, if_on}
 use Rattle.sdl_nodes.proofs.TransitionLemmas.{decision-built, pieces-more, placed-built, step-built}
 use Rattle.sdl_nodes.proofs.TreeLemmas.{part_faults-list, pieces-list, transition-tree}
-use Rattle.sdl_scope.proofs.FaultLemmas.{both_noted}
-use Rattle.sdl_scope.specs.Faults.{least_of, told}
+use Rattle.sdl_faults.proofs.FaultLemmas.{both_noted}
+use Rattle.sdl_faults.specs.Faults.{least_of, told}
 use Rattle.sdl_sorts.proofs.ArgumentLemmas.{all_some-last}
 use Rattle.sdl_sorts.specs.Partial.{all_some, and_last}
 use Rattle.sdl_sorts.specs.Typing.{term_in}

@@ -3,7 +3,7 @@ use Rattle.sdl_nodes.specs.Built.{BuiltIf, table_of}
 use Rattle.sdl_nodes.specs.Contexts.{context_of}
 use Rattle.sdl_nodes.specs.Decided.{BuiltPiecesIf}
 use Rattle.sdl_nodes.specs.Transitions.{ending_faults, ending_in, part_faults, piece_in, steps_faults, steps_in}
-use Rattle.sdl_scope.specs.Faults.{least_of, told}
+use Rattle.sdl_faults.specs.Faults.{least_of, told}
 use Rattle.sdl_sorts.specs.Partial.{all_some}
 use Rattle.sdl_tree.specs.Tree.{actions_of}
 use Rattle.sdl_tree.specs.Views.{answer_part_value, ending_value, statement_value}

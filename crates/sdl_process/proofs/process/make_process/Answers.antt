@@ -4,7 +4,7 @@ use Rattle.sdl_bodies.specs.Added.{HasEach}
 use Rattle.sdl_ends.specs.Beginnings.{beginnings}
 use Rattle.sdl_states.specs.Shared.{IsOfName}
 use Rattle.sdl_bodies.specs.Sound.{AreTransitionsOf}
-use Rattle.sdl_scope.specs.Faults.{told}
+use Rattle.sdl_faults.specs.Faults.{told}
 use Rattle.sdl_states.specs.States.{state_of, tables_of}
 use Rattle.sdl_states.specs.Tabled.{is_state, meanings_at, names_listed, table_value}
 use Rattle.sdl_states.proofs.ProcessLemmas.{meanings-read}

@@ -1,5 +1,5 @@
 use Rattle.std.proofs.Common.{◌∙◌, ap, flat_map, map}
-use Rattle.sdl_scope.specs.Faults.{least_of, told}
+use Rattle.sdl_faults.specs.Faults.{least_of, told}
 use Rattle.sdl_states.specs.States.{left_out_faults}
 use Rattle.sdl_states.specs.Tabled.{is_state}
 use Rattle.sdl_stimuli.specs.Context.{context_of}

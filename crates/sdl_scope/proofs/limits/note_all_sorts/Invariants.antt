@@ -1,5 +1,5 @@
 use Rattle.std.proofs.Common.{◌≡◌, flat_map, take}
-use Rattle.sdl_scope.specs.Faults.{least_of, told}
+use Rattle.sdl_faults.specs.Faults.{least_of, told}
 use Rattle.sdl_scope.specs.Limits.{declared_faults}
 use Rattle.sdl_scope.specs.Listed.{declared_listed}
 use Rattle.sdl_scope.proofs.limits.note_all_sorts.Given as goal

@@ -1,6 +1,6 @@
 use Rattle.std.proofs.Common.{◌∙◌, ap, option_map, sym}
-use Rattle.sdl_scope.specs.declared.fault.Kind.TheVariants.{Limit}
-use Rattle.sdl_scope.specs.Faults.{earlier, least_of, limit_at, told, told_at}
+use Rattle.sdl_faults.specs.declared.fault.Kind.TheVariants.{Limit}
+use Rattle.sdl_faults.specs.Faults.{earlier, least_of, limit_at, told, told_at}
 use Rattle.sdl_scope.specs.Limits.{declared_name}
 use Rattle.sdl_scope.specs.Listed.{declared_value}
 use Rattle.sdl_scope.proofs.PastLemmas.{noted-at}

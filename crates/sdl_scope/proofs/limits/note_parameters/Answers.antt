@@ -1,7 +1,7 @@
 use Rattle.std.proofs.Common.{◌∙◌, ap, option_map}
 use Rattle.sdl_tree.specs.Views.{fpar_value}
 use Rattle.sdl_scope.specs.Counted.{past_limit}
-use Rattle.sdl_scope.specs.Faults.{least_of, limit_at, told}
+use Rattle.sdl_faults.specs.Faults.{least_of, limit_at, told}
 use Rattle.sdl_scope.specs.Limits.{parameter_names}
 use Rattle.sdl_scope.proofs.CountLemmas.{past_limit-counted}
 use Rattle.sdl_scope.proofs.limits.note_parameters.Goals as goal

@@ -1,7 +1,7 @@
 use Rattle.std.proofs.Common.{◌∙◌, ap, option_map, sym}
 use Rattle.sdl_tree.specs.Views.{process_value}
-use Rattle.sdl_scope.specs.declared.fault.Kind.TheVariants.{Limit}
-use Rattle.sdl_scope.specs.Faults.{earlier, least_of, limit_at, told, told_at}
+use Rattle.sdl_faults.specs.declared.fault.Kind.TheVariants.{Limit}
+use Rattle.sdl_faults.specs.Faults.{earlier, least_of, limit_at, told, told_at}
 use Rattle.sdl_scope.specs.Limits.{process_name}
 use Rattle.sdl_scope.proofs.PastLemmas.{noted-at}
 use Rattle.sdl_scope.proofs.limits.note_processes.Goals as goal

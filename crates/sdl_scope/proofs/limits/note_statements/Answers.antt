@@ -1,7 +1,7 @@
 use Rattle.std.proofs.Common.{◌∙◌, ap, flat_map}
 use Rattle.std.proofs.lemmas.List.{take_all}
 use Rattle.sdl_scope.specs.Counted.{Left, counted, past_limit}
-use Rattle.sdl_scope.specs.Faults.{least_of, limit_at, told}
+use Rattle.sdl_faults.specs.Faults.{least_of, limit_at, told}
 use Rattle.sdl_scope.specs.Limits.{process_statements}
 use Rattle.sdl_scope.specs.Listed.{processes_listed}
 use Rattle.sdl_scope.proofs.CountLemmas.{past_limit-counted}

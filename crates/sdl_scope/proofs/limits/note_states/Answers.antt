@@ -1,7 +1,7 @@
 use Rattle.std.proofs.Common.{◌∙◌, ap, flat_map, map}
 use Rattle.std.proofs.lemmas.List.{take_all}
 use Rattle.sdl_tree.specs.Views.{body_part_value}
-use Rattle.sdl_scope.specs.Faults.{fault_at, least_of, told}
+use Rattle.sdl_faults.specs.Faults.{fault_at, least_of, told}
 use Rattle.sdl_scope.specs.Limits.{different, part_states}
 use Rattle.sdl_scope.specs.Listed.{entry_word, words_listed}
 use Rattle.sdl_scope.proofs.PastLemmas.{limit_at-got}

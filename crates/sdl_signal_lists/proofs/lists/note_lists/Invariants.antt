@@ -2,7 +2,7 @@ use Rattle.std.proofs.Common.{◌≡◌, flat_map, map, take}
 use Rattle.sdl_declared.specs.Seen.{signal_list_seen}
 use Rattle.sdl_declared.specs.Tables.{rows_of}
 use Rattle.sdl_signal_lists.specs.Lists.{list_faults}
-use Rattle.sdl_scope.specs.Faults.{least_of, told}
+use Rattle.sdl_faults.specs.Faults.{least_of, told}
 use Rattle.sdl_signal_lists.proofs.lists.note_lists.Given as goal
 
 abbrev pub invariant-loop-entry : goal.invariant-loop-entry

@@ -1,7 +1,7 @@
 use Rattle.std.proofs.Common.{◌≡◌, flat_map, map, take}
 use Rattle.sdl_signal_lists.specs.Processes.{set_faults}
 use Rattle.sdl_signal_lists.specs.Seen.{seen_of}
-use Rattle.sdl_scope.specs.Faults.{least_of, told}
+use Rattle.sdl_faults.specs.Faults.{least_of, told}
 use Rattle.sdl_tree.specs.Views.{local_value}
 use Rattle.sdl_signal_lists.proofs.mentions.note_sets.Given as goal
 

@@ -2,8 +2,8 @@ use Rattle.std.proofs.Common.{◌∙◌, ap, arith, map, sym, take}
 use Rattle.sdl_declared.specs.Seen.{process_seen}
 use Rattle.sdl_signal_lists.proofs.NumberLemmas.{joined-map-step}
 use Rattle.sdl_signal_lists.specs.Processes.{faults_of, processes_faults}
-use Rattle.sdl_scope.proofs.FaultLemmas.{both_noted}
-use Rattle.sdl_scope.specs.Faults.{least_of, told}
+use Rattle.sdl_faults.proofs.FaultLemmas.{both_noted}
+use Rattle.sdl_faults.specs.Faults.{least_of, told}
 use Rattle.sdl_signal_lists.proofs.processes.note_processes.Goals as goal
 
 pub loop-index-preserved : goal.loop-index-preserved

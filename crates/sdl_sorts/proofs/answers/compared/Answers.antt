@@ -1,7 +1,7 @@
 use Rattle.std.proofs.Common.{◌∙◌, None, ap, option_map}
-use Rattle.sdl_scope.proofs.FaultLemmas.{both_noted}
-use Rattle.sdl_scope.specs.Faults.{fault_if, least_of, told, token_word}
-use Rattle.sdl_scope.specs.declared.fault.Kind.TheVariants.{Sort}
+use Rattle.sdl_faults.proofs.FaultLemmas.{both_noted}
+use Rattle.sdl_faults.specs.Faults.{fault_if, least_of, told, token_word}
+use Rattle.sdl_faults.specs.declared.fault.Kind.TheVariants.{Sort}
 use Rattle.sdl_sorts.specs.Answers.{comparable_in, is_incomparable}
 use Rattle.sdl_sorts.specs.Constants.{counted_faults}
 use Rattle.sdl_sorts.specs.Resolved.{typed_of}

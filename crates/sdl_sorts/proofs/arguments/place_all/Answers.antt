@@ -1,7 +1,7 @@
 use Rattle.std.proofs.Common.{◌∙◌, ◌+◌, ◌<◌, ◌&&◌, ◌∷◌, None, ap, arith, drop, get_or, length, map, sym}
 use Rattle.std.proofs.lemmas.List.{drop_more, length-map}
-use Rattle.sdl_scope.proofs.FaultLemmas.{both_noted}
-use Rattle.sdl_scope.specs.Faults.{least_of, told}
+use Rattle.sdl_faults.proofs.FaultLemmas.{both_noted}
+use Rattle.sdl_faults.specs.Faults.{least_of, told}
 use Rattle.sdl_sorts.specs.Misused.{fault_of_place, misplaced}
 use Rattle.sdl_sorts.specs.Resolved.{argument_of}
 use Rattle.sdl_sorts.specs.Typing.{are_taken}

@@ -1,5 +1,5 @@
 use Rattle.std.proofs.Common.{◌≡◌, ◌&&◌, drop, map}
-use Rattle.sdl_scope.specs.Faults.{least_of, told}
+use Rattle.sdl_faults.specs.Faults.{least_of, told}
 use Rattle.sdl_sorts.specs.Misused.{misplaced}
 use Rattle.sdl_sorts.specs.Resolved.{argument_of}
 use Rattle.sdl_sorts.specs.Typing.{are_taken}

@@ -1,6 +1,6 @@
 use Rattle.std.proofs.Common.{◌∙◌, ap, option_map}
-use Rattle.sdl_scope.proofs.FaultLemmas.{both_noted}
-use Rattle.sdl_scope.specs.Faults.{least_of, told}
+use Rattle.sdl_faults.proofs.FaultLemmas.{both_noted}
+use Rattle.sdl_faults.specs.Faults.{least_of, told}
 use Rattle.sdl_sorts.specs.Constants.{counted_faults}
 use Rattle.sdl_sorts.specs.Misused.{expression_faults, fault_of_place, place_faults}
 use Rattle.sdl_sorts.specs.Resolved.{typed_of}

@@ -1,8 +1,8 @@
 use Rattle.std.proofs.Common.{◌≡◌, ◌∙◌, ◌+◌, ◌++◌, ◌∷◌, List, ap, drop, flat_map, map, option_map, sym}
 use Rattle.std.proofs.lemmas.List.{at_drop_more, drop_all}
 use Rattle.std.proofs.lemmas.Result.{IfOk-weaker, on_ok_weaker}
-use Rattle.sdl_scope.proofs.FaultLemmas.{both_noted}
-use Rattle.sdl_scope.specs.Faults.{least_of, told}
+use Rattle.sdl_faults.proofs.FaultLemmas.{both_noted}
+use Rattle.sdl_faults.specs.Faults.{least_of, told}
 use Rattle.sdl_sorts.specs.Misused.{active_faults, binary_faults, expression_faults, links_faults, timer_faults, values_faults}
 use Rattle.sdl_sorts.specs.Resolved.{left_of}
 use Rattle.sdl_sorts.specs.Scope.{scope_of, signal_in}

@@ -1,5 +1,5 @@
 use Rattle.std.proofs.Common.{◌≡◌, drop, flat_map, map, option_map, take}
-use Rattle.sdl_scope.specs.Faults.{least_of, told}
+use Rattle.sdl_faults.specs.Faults.{least_of, told}
 use Rattle.sdl_sorts.specs.Misused.{expression_faults, links_faults}
 use Rattle.sdl_sorts.specs.Resolved.{argument_of, left_of}
 use Rattle.sdl_sorts.specs.Scope.{scope_of}

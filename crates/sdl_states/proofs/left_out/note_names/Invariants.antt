@@ -1,5 +1,5 @@
 use Rattle.std.proofs.Common.{◌≡◌, flat_map, take}
-use Rattle.sdl_scope.specs.Faults.{least_of, told}
+use Rattle.sdl_faults.specs.Faults.{least_of, told}
 use Rattle.sdl_states.specs.States.{unnamed_faults}
 use Rattle.sdl_tree.specs.Views.{names_value}
 use Rattle.sdl_states.specs.Tabled.{is_state}

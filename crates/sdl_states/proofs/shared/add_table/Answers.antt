@@ -1,7 +1,7 @@
 use Rattle.std.proofs.Common.{◌≡◌, ◌∙◌, ◌++◌, ◌∷◌, All, [], Some, ap, length, map, subst, sym}
 use Rattle.std.proofs.lemmas.List.{length-map, map-append}
 use Rattle.std.proofs.lemmas.List.Elements.{All-push}
-use Rattle.sdl_scope.specs.Faults.{least_of, told}
+use Rattle.sdl_faults.specs.Faults.{least_of, told}
 use Rattle.sdl_stimuli.specs.Listed.{part_value}
 use Rattle.sdl_states.specs.Outlined.{parts_at}
 use Rattle.sdl_states.specs.Shared.{IsKnown, IsOfName, Keeps, KeepsKnown, faults_by, known_in, table_at, table_by}

@@ -1,5 +1,5 @@
 use Rattle.std.proofs.Common.{◌≡◌, All, Some, flat_map, map, take}
-use Rattle.sdl_scope.specs.Faults.{least_of, told}
+use Rattle.sdl_faults.specs.Faults.{least_of, told}
 use Rattle.sdl_stimuli.specs.Listed.{part_value}
 use Rattle.sdl_states.specs.Shared.{IsKnown, IsOfName, table_at}
 use Rattle.sdl_states.specs.States.{named_faults, tables_of}

@@ -1,5 +1,5 @@
 use Rattle.std.proofs.Common.{◌≡◌, map, take}
-use Rattle.sdl_scope.specs.Faults.{least_of, told}
+use Rattle.sdl_faults.specs.Faults.{least_of, told}
 use Rattle.sdl_stimuli.specs.Listed.{part_value}
 use Rattle.sdl_states.specs.Outlined.{parts_at}
 use Rattle.sdl_states.specs.States.{state_faults, table_of}

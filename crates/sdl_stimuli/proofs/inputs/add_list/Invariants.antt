@@ -1,5 +1,5 @@
 use Rattle.std.proofs.Common.{◌≡◌, ◌++◌, map, take}
-use Rattle.sdl_scope.specs.Faults.{least_of, told}
+use Rattle.sdl_faults.specs.Faults.{least_of, told}
 use Rattle.sdl_stimuli.specs.Context.{context_of}
 use Rattle.sdl_stimuli.specs.Faulty.{list_faults}
 use Rattle.sdl_stimuli.specs.Listed.{mentions_listed}

@@ -1,7 +1,7 @@
 use Rattle.std.proofs.Common.{◌∙◌, ◌+◌, ◌++◌, ◌∷◌, [], ap, drop, map, option_map, sym, take}
 use Rattle.std.proofs.lemmas.List.{drop_more, map-append, take_more}
-use Rattle.sdl_scope.proofs.FaultLemmas.{both_noted}
-use Rattle.sdl_scope.specs.Faults.{least_of, told}
+use Rattle.sdl_faults.proofs.FaultLemmas.{both_noted}
+use Rattle.sdl_faults.specs.Faults.{least_of, told}
 use Rattle.sdl_sorts.specs.Scope.{scope_of}
 use Rattle.sdl_tree.specs.Views.{name_value}
 use Rattle.sdl_stimuli.specs.Faulty.{other_sorts, variable_faults, variables_faults}

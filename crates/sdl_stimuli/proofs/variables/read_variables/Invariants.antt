@@ -1,5 +1,5 @@
 use Rattle.std.proofs.Common.{◌≡◌, drop, map, option_map, take}
-use Rattle.sdl_scope.specs.Faults.{least_of, told}
+use Rattle.sdl_faults.specs.Faults.{least_of, told}
 use Rattle.sdl_sorts.specs.Scope.{scope_of}
 use Rattle.sdl_stimuli.specs.Faulty.{variables_faults}
 use Rattle.sdl_stimuli.specs.Mentions.{variables_in}

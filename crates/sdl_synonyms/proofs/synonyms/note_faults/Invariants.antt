@@ -1,5 +1,5 @@
 use Rattle.std.proofs.Common.{◌≡◌, flat_map, take}
-use Rattle.sdl_scope.specs.Faults.{least_of, told}
+use Rattle.sdl_faults.specs.Faults.{least_of, told}
 use Rattle.sdl_synonyms.specs.Synonyms.{synonym_faults}
 use Rattle.sdl_synonyms.proofs.synonyms.note_faults.Given as goal
 

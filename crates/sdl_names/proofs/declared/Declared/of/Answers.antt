@@ -3,7 +3,7 @@ use Rattle.sdl_declared.specs.Tables.{rows_of}
 use Rattle.sdl_names.proofs.EntryLemmas.{noted-both}
 use Rattle.sdl_names.specs.Entries.{Has, HasMeant, duplicates, standings}
 use Rattle.sdl_names.specs.Meanings.{agent_entries, channel_entries, label_entries, list_entries, signal_entries, state_entries, value_entries}
-use Rattle.sdl_scope.specs.Faults.{told}
+use Rattle.sdl_faults.specs.Faults.{told}
 use Rattle.sdl_sorts.specs.Scope.{agent_meaning, signal_meaning}
 use Rattle.sdl_names.proofs.declared.Declared.of.Goals as goal
 

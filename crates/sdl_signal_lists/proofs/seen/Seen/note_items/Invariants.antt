@@ -1,6 +1,6 @@
 use Rattle.std.proofs.Common.{◌≡◌, take}
 use Rattle.sdl_signal_lists.specs.Seen.{seen_of, items_faults}
-use Rattle.sdl_scope.specs.Faults.{least_of, told}
+use Rattle.sdl_faults.specs.Faults.{least_of, told}
 use Rattle.sdl_tree.specs.Views.{items_value}
 use Rattle.sdl_signal_lists.proofs.seen.Seen.note_items.Given as goal
 

@@ -1,5 +1,5 @@
 use Rattle.std.proofs.Common.{◌≡◌, take}
-use Rattle.sdl_scope.specs.Faults.{least_of, told}
+use Rattle.sdl_faults.specs.Faults.{least_of, told}
 use Rattle.sdl_states.specs.Answered.{answers_value}
 use Rattle.sdl_stimuli.specs.Listed.{mentions_listed}
 use Rattle.sdl_states.specs.States.{twice_faults, with_mentions}
