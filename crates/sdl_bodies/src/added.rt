@@ -11,8 +11,8 @@ ghost use Rattle.sdl_faults.specs.Faults.{least_of, told};
 ghost use Rattle.sdl_system.specs.Body.{Body};
 ghost use Rattle.sdl_tree.specs.Views.{body_part_value, name_value, stimulus_value, transition_value};
 
-use sdl_nodes::{Context, NodeTable, add};
 use sdl_faults::Faults;
+use sdl_nodes::{Context, NodeTable, add};
 use sdl_system::NodeId;
 use sdl_tree::{BodyPart, FreeAction, Name, Stimulus, Transition};
 use std::alloc::{AllocError, Global};

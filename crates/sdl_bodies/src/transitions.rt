@@ -13,8 +13,8 @@ ghost use Rattle.sdl_system.specs.Body.{Body};
 ghost use Rattle.sdl_tree.specs.Views.{process_value};
 
 use crate::added::{Added, add_parts, add_transition, nothing_added};
-use sdl_nodes::Context;
 use sdl_faults::Faults;
+use sdl_nodes::Context;
 use sdl_stimuli::TransitionId;
 use sdl_system::{Node, NodeId};
 use sdl_tree::ProcessDefinition;

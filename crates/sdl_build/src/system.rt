@@ -12,10 +12,10 @@ ghost use Rattle.sdl_faults.specs.Faults.{told};
 
 use crate::defined::Defined;
 use sdl_declared::Tables;
+use sdl_faults::Faults;
 use sdl_figures::Figures;
 use sdl_names::Declared;
 use sdl_routes::valid_sets;
-use sdl_faults::Faults;
 use sdl_signal_lists::counted;
 use sdl_survey::{Joined, process_at};
 use sdl_system::{Process, ProcessId, Routes, SignalSet, System};

@@ -10,8 +10,8 @@ ghost use Rattle.sdl_tree.specs.Tree as tree;
 ghost use Rattle.sdl_tree.specs.Views.{action_value, answer_part_value, ending_value, name_value, statement_value, terminator_value, transition_value};
 
 use crate::beginnings::Beginning;
-use sdl_lex::Place;
 use sdl_faults::Faults;
+use sdl_lex::Place;
 use sdl_scope::Names;
 use sdl_tree::{
     Action, ActionStatement, AnswerPart, Name, Terminator, TerminatorStatement, Transition,

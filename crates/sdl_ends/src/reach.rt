@@ -10,8 +10,8 @@ ghost use Rattle.sdl_tree.specs.Views.{name_value, terminator_value};
 
 use crate::beginnings::Beginning;
 use crate::walk::{Entries, Found, walk_transition};
-use sdl_lex::Place;
 use sdl_faults::Faults;
+use sdl_lex::Place;
 use sdl_scope::Names;
 use sdl_tree::{Name, Terminator};
 use std::alloc::{AllocError, Global};

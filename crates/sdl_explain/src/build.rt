@@ -12,9 +12,9 @@ use crate::mention::first_mention;
 use crate::parse::shown_at;
 use crate::sentence::build_advice;
 use sdl_build::BuildError;
+use sdl_faults::Kind;
 use sdl_lex::Place;
 use sdl_parse::parse;
-use sdl_faults::Kind;
 use sdl_tree::Name;
 use std::alloc::{AllocError, Global};
 

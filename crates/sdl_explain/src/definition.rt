@@ -4,8 +4,8 @@
 //! channels; blocks with processes; variables, parameters and synonyms; labels.
 
 use sdl_declared::Tables;
-use sdl_lex::Place;
 use sdl_faults::Faults;
+use sdl_lex::Place;
 use sdl_spaces::ScopeId;
 use sdl_tree::{Name, Tree};
 use std::alloc::{AllocError, Global};

@@ -1,9 +1,9 @@
 //! The first mention of a signal that a state mentions twice.
 
 use sdl_declared::Tables;
+use sdl_faults::{Faults, Token};
 use sdl_labels::states_of;
 use sdl_lex::Place;
-use sdl_faults::{Faults, Token};
 use sdl_tree::{
     BodyPart, Input, InputPart, Inputs, Mark, Name, ProcessDefinition, SavePart, Saved,
     SignalListItem, StatePart, States, Stimulus, Tree,

@@ -9,8 +9,8 @@ ghost use Rattle.sdl_faults.specs.Faults.{least_of, told};
 use crate::scope::scope_at;
 use sdl_constants::{InstanceCounts, instance_counts};
 use sdl_declared::{ProcessEntry, Tables};
-use sdl_names::Declared;
 use sdl_faults::Faults;
+use sdl_names::Declared;
 use sdl_sorts::Constant;
 use std::alloc::{AllocError, Global};
 

@@ -13,8 +13,8 @@ use crate::limit::note_limit;
 use crate::synonyms::constants_of;
 use sdl_constants::InstanceCounts;
 use sdl_declared::Tables;
-use sdl_names::Declared;
 use sdl_faults::Faults;
+use sdl_names::Declared;
 use sdl_sorts::Constant;
 use std::alloc::{AllocError, Global};
 

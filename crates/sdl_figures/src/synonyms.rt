@@ -8,8 +8,8 @@ ghost use Rattle.sdl_figures.specs.Synonyms.{AreSynonymConstants, AreSynonyms, I
 ghost use Rattle.sdl_faults.specs.Faults.{least_of, told};
 
 use sdl_declared::{SynonymEntry, Tables};
-use sdl_names::Declared;
 use sdl_faults::Faults;
+use sdl_names::Declared;
 use sdl_sorts::Constant;
 use sdl_synonyms::{Synonym, synonym_constants};
 use std::alloc::{AllocError, Global};

@@ -6,8 +6,8 @@ ghost use Rattle.sdl_scope.specs.Limits.{different, part_states, state_names, wi
 ghost use Rattle.sdl_scope.specs.Listed.{words_listed};
 ghost use Rattle.sdl_tree.specs.Views.{body_part_value, name_value, names_value, process_value};
 
-use sdl_lex::Place;
 use sdl_faults::Faults;
+use sdl_lex::Place;
 use sdl_scope::Names;
 use sdl_tree::{BodyPart, Name, ProcessDefinition, StatePart, States};
 use std::alloc::{AllocError, Global};

@@ -13,8 +13,8 @@ ghost use Rattle.sdl_tree.specs.Views.{answer_value};
 
 use crate::context::Context;
 use crate::list::all_there;
-use sdl_kinds::Kind;
 use sdl_faults::Faults;
+use sdl_kinds::Kind;
 use sdl_sorts::{Typed, resolve_answer};
 use sdl_system::{Branch, Decision, Expression, Statement, Way};
 use sdl_tree::Answer;

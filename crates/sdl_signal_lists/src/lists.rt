@@ -11,8 +11,8 @@ use crate::number::counted;
 use crate::seen::seen_at;
 use sdl_channels::{Item, ListId, SignalList};
 use sdl_declared::{SignalListEntry, Tables};
-use sdl_names::Declared;
 use sdl_faults::Faults;
+use sdl_names::Declared;
 use std::alloc::{AllocError, Global};
 
 /// Adds a list of these items, and answers its number.

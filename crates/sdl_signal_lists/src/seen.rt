@@ -11,8 +11,8 @@ ghost use Rattle.sdl_tree.specs.Views.{item_value, items_value, name_value};
 
 use sdl_channels::{Item, ListId};
 use sdl_declared::SignalListId;
-use sdl_names::Declared;
 use sdl_faults::{Faults, Kind, Token};
+use sdl_names::Declared;
 use sdl_scope::Outward;
 use sdl_sorts::SignalMeaning;
 use sdl_spaces::{ScopeId, ScopePath};

@@ -216,7 +216,10 @@ fn resolve_unary<'t>(
     match unary_result_of(operator, operand.kind) {
         Some(operation) => Ok(Some(operand.with(alloc, operation)?)),
         None => {
-            faults.note(sdl_faults::Kind::Sort, Token::of_mark(operator.mark(), word));
+            faults.note(
+                sdl_faults::Kind::Sort,
+                Token::of_mark(operator.mark(), word),
+            );
             Ok(None)
         }
     }
@@ -249,7 +252,10 @@ fn join<'t>(
     match result_of(operator, left.kind, right.kind) {
         Some(operation) => Ok(Some(left.join(operation, right)?)),
         None => {
-            faults.note(sdl_faults::Kind::Sort, Token::of_mark(operator.mark(), word));
+            faults.note(
+                sdl_faults::Kind::Sort,
+                Token::of_mark(operator.mark(), word),
+            );
             Ok(None)
         }
     }

@@ -1,8 +1,8 @@
 //! How far joins are followed.
 
 use sdl_ends::note_stays;
-use sdl_parse::parse;
 use sdl_faults::{Faults, Kind};
+use sdl_parse::parse;
 use sdl_tree::{Definition, ProcessDefinition, SystemDefinition, Tree};
 use std::alloc::{AllocError, Global};
 use std::test::Fail;
