@@ -1,8 +1,7 @@
 //! The port of one thread with much in it.
 
-use port_model::{
-    Class, Got, Item, Pid, PlainPort, Selection, SignalId, Taken, Ticks, TimerKey, Value, Values,
-};
+use port_model::{Class, Got, PlainPort, Selection, Taken};
+use port_values::{Item, Pid, SignalId, Ticks, TimerKey, Value, Values};
 use std::alloc::Global;
 
 /// A signal of this name with one value.

@@ -6,7 +6,7 @@ use Rattle.port_model.specs.declared.taken.Taken.{Taken}
 use Rattle.port_model.specs.declared.taken.Taken.TheVariants.{Consumed, Nothing}
 use Rattle.port_model.specs.declared.error.PortError.{PortError}
 use Rattle.port_model.specs.declared.error.PortError.TheVariants.{SetsSpent, Memory}
-use Rattle.port_model.specs.declared.timer_key.TimerKey.{TimerKey}
+use Rattle.port_values.specs.declared.timer_key.TimerKey.{TimerKey}
 use Rattle.port_model.specs.PlainPort.{armed_left}
 use Rattle.port_model.specs.Port.{PortState, put_into, expire_in, remove_from, set_in, stopped}
 use Rattle.port_model.specs.Timers.{with_armed, without_armed}

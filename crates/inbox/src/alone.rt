@@ -6,7 +6,8 @@ ghost use Rattle.inbox.specs.declared.entry.Entry.TheVariants.{Timer};
 
 use crate::entry::FuseParts;
 use crate::{Fuse, Inbox, Refused, fused};
-use port_model::{Item, PlainPort, PortError, Selection, Taken, Ticks, TimerKey};
+use port_model::{PlainPort, PortError, Selection, Taken};
+use port_values::{Item, Ticks, TimerKey};
 use std::alloc::Global;
 use std::marker::Model;
 

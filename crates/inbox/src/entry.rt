@@ -3,7 +3,7 @@
 ghost use Rattle.std.specs.Prelude.{◌≡◌};
 ghost use Rattle.inbox.specs.Ends.{is_signal_entry};
 
-use port_model::{Arm, Item, Ticks, TimerKey};
+use port_values::{Arm, Item, Ticks, TimerKey};
 
 /// A timer that was set: which port set it, its key, by which set of that port, and the time at which it expires.
 /// `Owner::set` makes it.

@@ -11,7 +11,8 @@ ghost use Rattle.inbox.specs.Left.{got_of, AreWaiting, HasItsFuse, IsFused};
 
 use crate::entry::FuseParts;
 use crate::{Entry, Fuse, Placed};
-use port_model::{Got, PlainPort, PortError, PortParts, Ticks, TimerKey, Timers};
+use port_model::{Got, PlainPort, PortError, PortParts, Timers};
+use port_values::{Ticks, TimerKey};
 use std::alloc::Global;
 use std::collections::VecDeque;
 

@@ -7,7 +7,8 @@ ghost use Rattle.inbox.specs.Ends.{OwnerState};
 ghost use Rattle.inbox.specs.declared.entry.Entry.{Entry};
 
 use crate::Fuse;
-use port_model::{PortError, Selection, Taken, Ticks, TimerKey};
+use port_model::{PortError, Selection, Taken};
+use port_values::{Ticks, TimerKey};
 
 /// The owner's calls of an input port, whatever stands behind it. After `stop` none of them is called: that is the
 /// caller's condition.

@@ -4,7 +4,7 @@ ghost use Rattle.std.specs.Prelude.{◌≡◌, ◌≤◌, if◌then◌else◌};
 ghost use Rattle.inbox.specs.Ends.{is_signal_entry};
 
 use crate::{Entry, PutCount, SenderNumber};
-use port_model::Ticks;
+use port_values::Ticks;
 
 /// An entry on its way into a port, with its sender and its place among the entries of that sender. `at` is the time of
 /// an expiry, and the start of the run for a signal.

@@ -5,9 +5,9 @@ use Rattle.inbox.specs.Put.{of}
 use Rattle.inbox.specs.declared.entry.Entry.{Entry}
 use Rattle.inbox.specs.declared.entry.Entry.TheVariants.{Signal, Timer}
 use Rattle.inbox.specs.declared.placed.Placed.{Placed}
-use Rattle.port_model.specs.Same.{same_pid}
-use Rattle.port_model.specs.declared.item.Item.{Item}
-use Rattle.port_model.specs.declared.pid.Pid.{Pid}
+use Rattle.port_values.specs.Same.{same_pid}
+use Rattle.port_values.specs.declared.item.Item.{Item}
+use Rattle.port_values.specs.declared.pid.Pid.{Pid}
 
 -- the signals among entries, in their order
 abbrev pub signal_before : Entry → List Item → List Item

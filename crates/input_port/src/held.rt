@@ -7,7 +7,8 @@ ghost use Rattle.input_port.specs.Words.{signals_drawn, DrainIs, GatherHereIs, H
 use crate::drawer::{Drawer, refused};
 use crate::{Finished, Owner, Port, Sender, since};
 use inbox::{Entry, Fuse, Inbox, Refused};
-use port_model::{PortError, Selection, Taken, Ticks, TimerKey};
+use port_model::{PortError, Selection, Taken};
+use port_values::{Ticks, TimerKey};
 use std::marker::Model;
 use std::sync::Wait;
 

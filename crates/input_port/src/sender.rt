@@ -7,7 +7,7 @@ use crate::drawer::refused;
 use crate::rule::Pass;
 use crate::{Port, steps};
 use inbox::{Entry, Fuse, Placed, PutCount, Refused, SenderNumber};
-use port_model::{Item, Ticks};
+use port_values::{Item, Ticks};
 use std::marker::Model;
 use std::sync::Wait;
 

@@ -8,7 +8,8 @@ use crate::calls::{
 };
 use input_port::birth::port;
 use input_port::{Held, NewPort, Owner, Port, Sender};
-use port_model::{Class, Ticks};
+use port_model::Class;
+use port_values::Ticks;
 use std::alloc::Global;
 use std::process::Abort;
 use std::sync::Wait;

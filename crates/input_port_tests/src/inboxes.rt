@@ -5,7 +5,8 @@ ghost use Rattle.std.specs.Prelude.{◌≡◌, true};
 use crate::calls::{are_left, consumed, item, key, put, selection, with_sender};
 use inbox::{Alone, Fuse, Inbox};
 use input_port::Held;
-use port_model::{Class, Ticks};
+use port_model::Class;
+use port_values::Ticks;
 use std::alloc::Global;
 use std::process::Abort;
 

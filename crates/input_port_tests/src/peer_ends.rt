@@ -1,11 +1,11 @@
 //! A port with its owner and a sender, and what goes into it.
 
 ghost use Rattle.std.specs.Prelude.{◌≡◌, []};
-ghost use Rattle.port_model.specs.declared.pid.Pid.TheVariants.{Of};
+ghost use Rattle.port_values.specs.declared.pid.Pid.TheVariants.{Of};
 
 use input_port::birth::port;
 use input_port::{NewPort, Owner, Port, Sender};
-use port_model::{Item, Pid, SignalId, TimerKey, Values};
+use port_values::{Item, Pid, SignalId, TimerKey, Values};
 use std::alloc::Global;
 use std::process::Abort;
 use std::sync::Wait;

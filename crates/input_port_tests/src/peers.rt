@@ -6,7 +6,7 @@ ghost use Rattle.sdl_peers.specs.Peers.{is_known};
 use crate::peer_ends::{expect_drawn, item, key, with_sender};
 use inbox::Fuse;
 use input_port::{Owner, Port, Sender};
-use port_model::Ticks;
+use port_values::Ticks;
 use sdl_peers::{Peers, Run};
 use std::alloc::Global;
 use std::marker::Brand;

@@ -7,7 +7,8 @@ use crate::calls::{
 };
 use inbox::Fuse;
 use input_port::Owner;
-use port_model::{Class, Ticks};
+use port_model::Class;
+use port_values::Ticks;
 use std::alloc::Global;
 use std::process::Abort;
 

@@ -9,7 +9,7 @@ use Rattle.std.proofs.lemmas.Bool.Decides.{nat_tests}
 use Rattle.port_model.specs.declared.selection.Class.{Class}
 use Rattle.port_model.specs.declared.selection.Class.TheVariants as class
 use Rattle.port_model.specs.declared.got.Got.{Got}
-use Rattle.port_model.specs.declared.item.SignalId.{SignalId}
+use Rattle.port_values.specs.declared.item.SignalId.{SignalId}
 use Rattle.port_model.specs.Backlog.{looked_after, waiting_in, BacklogValue, IsBacklog, IsNoted, IsOrdinaryName, IsSavedName, Leaves}
 use Rattle.port_model.specs.Take.{name_of, HasClass, IsOrdinary, IsSaved}
 use Rattle.port_model.specs.Search.{IsFirst}

@@ -5,11 +5,8 @@ pub mod History
 pub mod Laws
 pub mod PlainPort
 pub mod Port
-pub mod Same
 pub mod Search
 pub mod Selection
 pub mod Table
 pub mod Take
-pub mod Text
 pub mod Timers
-pub mod Value

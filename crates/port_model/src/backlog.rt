@@ -8,7 +8,8 @@ ghost use Rattle.port_model.specs.Take.{HasClass, IsOrdinary, IsSaved};
 ghost use Rattle.port_model.specs.Timers.{without_signal};
 ghost use Rattle.port_model.specs.declared.selection.Class.TheVariants as class;
 
-use crate::{Class, Got, Selection, SignalId, TimerKey, search};
+use crate::{Class, Got, Selection, search};
+use port_values::{SignalId, TimerKey};
 use std::alloc::{AllocError, Global};
 use std::collections::VecDeque;
 use std::marker::Model;

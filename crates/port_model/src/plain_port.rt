@@ -9,7 +9,8 @@ ghost use Rattle.port_model.specs.Timers.{after_taking, armed_after, due_times, 
 ghost use Rattle.port_model.specs.declared.selection.Class.TheVariants as class;
 
 use crate::backlog::{Backlog, Unsaved};
-use crate::{Arm, Class, Got, Item, PortError, Refused, Selection, Taken, Ticks, TimerKey, Timers};
+use crate::{Class, Got, PortError, Refused, Selection, Taken, Timers};
+use port_values::{Arm, Item, Ticks, TimerKey};
 use std::alloc::{AllocError, Global};
 use std::collections::VecDeque;
 use std::marker::Model;

@@ -5,7 +5,8 @@ ghost use Rattle.port_model.specs.Search.{FindsPriority, FindsUnsaved};
 ghost use Rattle.port_model.specs.Take.{IsOrdinary};
 ghost use Rattle.port_model.specs.Timers.{without_signal};
 
-use crate::{Class, Got, Selection, TimerKey};
+use crate::{Class, Got, Selection};
+use port_values::TimerKey;
 use std::collections::VecDeque;
 
 // The place of the first entry of a priority input, where none of those before `from` is one.

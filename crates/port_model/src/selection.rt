@@ -2,7 +2,7 @@
 ghost use Rattle.std.specs.Prelude.{◌≡◌, ◌↔◌, IsTrue, Contains};
 ghost use Rattle.port_model.specs.Selection.{class_of};
 
-use crate::SignalId;
+use port_values::SignalId;
 use std::marker::Model;
 
 /// What a state does with a signal or a timer of one name.

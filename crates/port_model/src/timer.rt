@@ -1,5 +1,6 @@
 //! The active timers as callers see them.
-use crate::{Arm, Ticks, TimerKey};
+
+use port_values::{Arm, Ticks, TimerKey};
 
 /// A timer between its set and the end of its activity. No value of it is made.
 pub struct ActiveTimer {

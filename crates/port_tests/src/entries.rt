@@ -2,7 +2,7 @@
 
 ghost use Rattle.std.specs.Prelude.{◌≡◌, ◌<◌, ◌≤◌};
 
-use port_model::Pid;
+use port_values::Pid;
 use sdl_roster::{Entered, Entries};
 use sdl_system::ProcessId;
 use std::thread;

@@ -1,9 +1,7 @@
 //! The port of one thread: puts, takes, timers, and what waits at the end.
 
-use port_model::{
-    Arm, Class, Got, Item, Pid, PlainPort, PortParts, Selection, SignalId, Taken, Ticks, TimerKey,
-    Value, Values,
-};
+use port_model::{Class, Got, PlainPort, PortParts, Selection, Taken};
+use port_values::{Arm, Item, Pid, SignalId, Ticks, TimerKey, Value, Values};
 use std::alloc::Global;
 use std::process::Abort;
 

@@ -3,7 +3,7 @@
 ghost use Rattle.std.specs.Prelude.{◌≡◌, ◌≤◌, true};
 
 use inbox::{Alone, Fuse, Inbox};
-use port_model::{SignalId, Ticks, TimerKey, Values};
+use port_values::{SignalId, Ticks, TimerKey, Values};
 use sdl_timers::{NewClock, Reader, Ticker, Wheel, clock};
 use std::alloc::Global;
 use std::process::Abort;

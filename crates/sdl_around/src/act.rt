@@ -1,7 +1,7 @@
 //! What an instance does to what lies outside of it.
 
 use inbox::Fuse;
-use port_model::{Item, Values};
+use port_values::{Item, Values};
 use sdl_system::{ProcessId, Target};
 
 /// What an instance does outside, in a step, which is done when the step is over.

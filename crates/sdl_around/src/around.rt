@@ -7,7 +7,7 @@ use crate::act::Act;
 use crate::acts::Acts;
 use crate::census::Census;
 use inbox::Fuse;
-use port_model::{Item, SignalId, Ticks, Values};
+use port_values::{Item, SignalId, Ticks, Values};
 use sdl_runs::World;
 use sdl_system::{Dest, ProcessId, Source, System, Target};
 use std::alloc::AllocError;

@@ -5,7 +5,7 @@ use Rattle.std.specs.Option.{unwrap_or}
 use Rattle.sdl_bodies.specs.Added.{AreEntries, AreWhole, BuiltAt, Enters, HasEach, MadeOf, Stand}
 use Rattle.sdl_bodies.specs.declared.transitions.Transitions.{Transitions}
 use Rattle.sdl_nodes.specs.Built.{Becomes, Built, BuiltIf, Table, label_of, marked_labels}
-use Rattle.sdl_nodes.specs.Contexts.{Context, label_in}
+use Rattle.sdl_statements.specs.Contexts.{Context, label_in}
 use Rattle.sdl_nodes.specs.Labels.{labels_of, times}
 use Rattle.sdl_nodes.specs.Made.{Made}
 use Rattle.sdl_nodes.specs.Transitions.{labelled}

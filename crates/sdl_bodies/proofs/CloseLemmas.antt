@@ -8,15 +8,15 @@ use Rattle.sdl_bodies.proofs.NumberLemmas.{counted, counted-once, number-in, num
 use Rattle.sdl_bodies.specs.Bodies.{beginning_body, bodies_among, bodies_of}
 use Rattle.sdl_bodies.specs.Numbered.{AreNumbered}
 use Rattle.sdl_bodies.specs.Sound.{BodiesClosed}
-use Rattle.sdl_ends.specs.Beginnings.{Beginning, beginnings}
+use Rattle.sdl_paths.specs.Beginnings.{Beginning, beginnings}
 use Rattle.sdl_ends.specs.Ends.{beginning_faults, ends_faults, enters_named}
-use Rattle.sdl_ends.specs.Mentions as mention
-use Rattle.sdl_ends.specs.Mentions.{Mention, is_named, join_names, process_joins, process_mentions}
-use Rattle.sdl_ends.specs.Passing.{transition_passed}
+use Rattle.sdl_paths.specs.Mentions as mention
+use Rattle.sdl_paths.specs.Mentions.{Mention, is_named, join_names, process_joins, process_mentions}
+use Rattle.sdl_paths.specs.Passing.{transition_passed}
 use Rattle.sdl_labels.specs.Labels.{process_labels}
 use Rattle.sdl_nodes.proofs.CountLemmas.{in-append}
 use Rattle.sdl_nodes.proofs.LinkLemmas.{in-times, times-in}
-use Rattle.sdl_nodes.specs.Contexts.{Context, label_in}
+use Rattle.sdl_statements.specs.Contexts.{Context, label_in}
 use Rattle.sdl_nodes.specs.Labels.{itself, joined, no_label, not_joined, times}
 use Rattle.sdl_nodes.specs.Made.{Closed, all_joins, all_labels}
 use Rattle.sdl_nodes.specs.Transitions.{body_in}

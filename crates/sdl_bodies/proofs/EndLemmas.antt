@@ -1,9 +1,9 @@
 -- Where no path through a transition runs off its end, none through its body does.
 use Rattle.std.proofs.Common.{◌≡◌, ◌∙◌, ◌⊎◌, ◌||◌, inl, inr, Bool, true, false, List, [], ◌∷◌, Option, None, Some, option_map, refl, ap, sym, subst}
 use Rattle.std.specs.Option.{unwrap_or}
-use Rattle.sdl_ends.specs.Passing.{action_passed, actions_passed, is_entered, otherwise_passed, parts_passed, transition_passed}
-use Rattle.sdl_nodes.specs.Contexts.{Context, label_in}
-use Rattle.sdl_nodes.specs.Statements.{answers_in, asked_in, create_in, kind_in, output_in, reset_in, set_in, task_in, terminator_in}
+use Rattle.sdl_paths.specs.Passing.{action_passed, actions_passed, is_entered, otherwise_passed, parts_passed, transition_passed}
+use Rattle.sdl_statements.specs.Contexts.{Context, label_in}
+use Rattle.sdl_statements.specs.Statements.{answers_in, asked_in, create_in, kind_in, output_in, reset_in, set_in, task_in, terminator_in}
 use Rattle.sdl_nodes.specs.Transitions.{Head, Piece, acts, asks, before, body_in, ending_in, head_in, labelled, other_in, parts_of, piece, pieces_in, steps_in}
 use Rattle.sdl_sorts.specs.Partial.{both}
 use Rattle.sdl_sorts.specs.Typing.{term_in}

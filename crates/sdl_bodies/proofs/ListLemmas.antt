@@ -3,9 +3,9 @@ use Rattle.std.proofs.Common.{◌≡◌, ◌∙◌, ◌++◌, List, [], ◌∷�
 use Rattle.std.proofs.lemmas.Grind.{flat_map-append}
 use Rattle.std.proofs.lemmas.List.{map-append}
 use Rattle.sdl_bodies.specs.Bodies.{beginning_body, bodies_among, faults_among, statement_faults}
-use Rattle.sdl_ends.specs.Beginnings.{Beginning}
-use Rattle.sdl_nodes.proofs.ListLemmas.{flat_map-last}
-use Rattle.sdl_nodes.specs.Contexts.{Context}
+use Rattle.sdl_paths.specs.Beginnings.{Beginning}
+use Rattle.sdl_statements.proofs.ListLemmas.{flat_map-last}
+use Rattle.sdl_statements.specs.Contexts.{Context}
 use Rattle.sdl_system.specs.Body.{Body}
 
 -- those of one more part

@@ -3,12 +3,12 @@ use Rattle.std.proofs.Common.{◌≡◌, ◌∙◌, ◌++◌, List, [], ◌∷�
 use Rattle.std.proofs.lemmas.Grind.{flat_map-append}
 use Rattle.sdl_bodies.proofs.EndLemmas.{Labelled, both-some, labelled-some, map-some, opened, some-same, without}
 use Rattle.sdl_bodies.specs.Bodies.{beginning_body, bodies_among}
-use Rattle.sdl_ends.specs.Beginnings.{Beginning, part_beginnings, stimulus_beginnings}
-use Rattle.sdl_ends.specs.Mentions.{Mention, Standing, Joined, action_mentions, actions_mentions, beginning_mentions, ending_mentions, label_mentions, otherwise_mentions, parts_mentions, process_mentions, terminator_mentions, transition_mentions}
+use Rattle.sdl_paths.specs.Beginnings.{Beginning, part_beginnings, stimulus_beginnings}
+use Rattle.sdl_paths.specs.Mentions.{Mention, Standing, Joined, action_mentions, actions_mentions, beginning_mentions, ending_mentions, label_mentions, otherwise_mentions, parts_mentions, process_mentions, terminator_mentions, transition_mentions}
 use Rattle.sdl_labels.specs.Labels.{action_labels, actions_labels, body_labels, ending_labels, label_words, otherwise_labels, parts_labels, process_labels, stimulus_labels, transition_labels}
-use Rattle.sdl_nodes.specs.Contexts.{Context, label_in, state_in}
+use Rattle.sdl_statements.specs.Contexts.{Context, label_in, state_in}
 use Rattle.sdl_nodes.specs.Labels.{gathered, gathered_in}
-use Rattle.sdl_nodes.specs.Statements.{answers_in, asked_in, create_in, kind_in, output_in, reset_in, set_in, task_in, terminator_in}
+use Rattle.sdl_statements.specs.Statements.{answers_in, asked_in, create_in, kind_in, output_in, reset_in, set_in, task_in, terminator_in}
 use Rattle.sdl_nodes.specs.Transitions.{Head, Piece, acts, asks, before, body_in, ending_in, head_in, other_in, parts_of, piece, pieces_in, steps_in}
 use Rattle.sdl_sorts.specs.Partial.{both}
 use Rattle.sdl_sorts.specs.Typing.{term_in}

@@ -7,7 +7,7 @@ use Rattle.sdl_bodies.proofs.EndLemmas.{some-same}
 use Rattle.sdl_bodies.proofs.MentionLemmas.{for_some, number_of}
 use Rattle.sdl_bodies.specs.Numbered.{AreNumbered, numbered}
 use Rattle.sdl_labels.specs.Labels.{process_labels}
-use Rattle.sdl_nodes.specs.Contexts.{Context, label_in}
+use Rattle.sdl_statements.specs.Contexts.{Context, label_in}
 use Rattle.sdl_nodes.specs.Labels.{times}
 use Rattle.sdl_faults.specs.FaultLaws.{In}
 use Rattle.sdl_scope.specs.Names.{first_of}

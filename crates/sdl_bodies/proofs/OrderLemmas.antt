@@ -1,7 +1,7 @@
 -- How many transitions begin in the parts of a process.
 use Rattle.std.proofs.Common.{◌≡◌, ◌∙◌, ℕ, ◌+◌, List, [], ◌∷◌, arith, flat_map, fold, length, length-append, suc, refl, ap, sym}
 use Rattle.sdl_bodies.specs.Order.{PartsInOrder, StimuliInOrder}
-use Rattle.sdl_ends.specs.Beginnings.{part_beginnings, stimulus_beginnings}
+use Rattle.sdl_paths.specs.Beginnings.{part_beginnings, stimulus_beginnings}
 use Rattle.sdl_stimuli.specs.Context.{Context}
 use Rattle.sdl_stimuli.specs.Reading.{Begun, Reading, first_reading, no_stimuli, with_part, with_stimulus}
 use Rattle.sdl_tree.specs.Tree.{BodyPart, ContinuousSignal, FreeAction, InputPart, PriorityInput, SavePart, StatePart, Stimulus}

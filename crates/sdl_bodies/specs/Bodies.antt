@@ -1,8 +1,8 @@
 -- The bodies of the transitions of a process, and the rules that are broken in them (Z.101: start, input, connection;
 -- Z.102: priority input, continuous signal).
 use Rattle.std.specs.Prelude.{List, Option, flat_map, map}
-use Rattle.sdl_ends.specs.Beginnings.{Beginning, beginnings}
-use Rattle.sdl_nodes.specs.Contexts.{Context}
+use Rattle.sdl_paths.specs.Beginnings.{Beginning, beginnings}
+use Rattle.sdl_statements.specs.Contexts.{Context}
 use Rattle.sdl_nodes.specs.Transitions.{body_in, labelled, transition_faults}
 use Rattle.sdl_faults.specs.Faults.{Told}
 use Rattle.sdl_system.specs.Body.{Body}

@@ -1,7 +1,7 @@
 -- Labels with their numbers (Z.101: a label belongs to its process).
 use Rattle.std.specs.Prelude.{◌≡◌, ◌+◌, ◌++◌, ℕ, List, [], ◌∷◌, Some, is_some, slice_get}
 use Rattle.sdl_labels.specs.Labels.{process_labels}
-use Rattle.sdl_nodes.specs.Contexts.{Context}
+use Rattle.sdl_statements.specs.Contexts.{Context}
 use Rattle.sdl_faults.specs.Faults.{Told, fault_if}
 use Rattle.sdl_scope.specs.Names.{first_of}
 use Rattle.sdl_faults.specs.declared.fault.Kind.TheVariants.{Duplicate}

@@ -1,6 +1,6 @@
 -- The bodies of a process stand in the order in which its transitions are numbered where its stimuli are read.
 use Rattle.std.specs.Prelude.{◌≡◌, ◌+◌, List, ◌∷◌, flat_map, length}
-use Rattle.sdl_ends.specs.Beginnings.{Beginning, part_beginnings, stimulus_beginnings}
+use Rattle.sdl_paths.specs.Beginnings.{Beginning, part_beginnings, stimulus_beginnings}
 use Rattle.sdl_stimuli.specs.Context.{Context}
 use Rattle.sdl_stimuli.specs.Reading.{Numbering, body_read, part_read}
 use Rattle.sdl_tree.specs.Tree.{BodyPart, States, Stimulus}

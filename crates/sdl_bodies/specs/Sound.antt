@@ -5,7 +5,7 @@ use Rattle.sdl_bodies.specs.Bodies.{bodies_of}
 use Rattle.sdl_bodies.specs.Numbered.{AreNumbered}
 use Rattle.sdl_bodies.specs.declared.transitions.Transitions.{Transitions}
 use Rattle.sdl_ends.specs.Ends.{ends_faults}
-use Rattle.sdl_nodes.specs.Contexts.{Context}
+use Rattle.sdl_statements.specs.Contexts.{Context}
 use Rattle.sdl_nodes.specs.Made.{Closed}
 use Rattle.sdl_system.specs.Body.{Body}
 use Rattle.sdl_tree.specs.Tree.{ProcessDefinition}

@@ -3,16 +3,17 @@
 ghost use Rattle.std.specs.Prelude.{◌≡◌, ◌++◌, ◌∷◌, [], List, Option, None, Some, flat_map, map, IfOk, OnOk};
 ghost use Rattle.sdl_bodies.specs.Added.{Enters, Holds, Stand};
 ghost use Rattle.sdl_bodies.specs.Bodies.{bodies_among, faults_among};
-ghost use Rattle.sdl_ends.specs.Beginnings.{part_beginnings, stimulus_beginnings};
+ghost use Rattle.sdl_paths.specs.Beginnings.{part_beginnings, stimulus_beginnings};
 ghost use Rattle.sdl_nodes.specs.Built.{BuiltIf, Table, table_of};
-ghost use Rattle.sdl_nodes.specs.Contexts.{context_of};
+ghost use Rattle.sdl_statements.specs.Contexts.{context_of};
 ghost use Rattle.sdl_nodes.specs.Transitions.{body_in, labelled, transition_faults};
 ghost use Rattle.sdl_faults.specs.Faults.{least_of, told};
 ghost use Rattle.sdl_system.specs.Body.{Body};
 ghost use Rattle.sdl_tree.specs.Views.{body_part_value, name_value, stimulus_value, transition_value};
 
 use sdl_faults::Faults;
-use sdl_nodes::{Context, NodeTable, add};
+use sdl_nodes::{NodeTable, add};
+use sdl_statements::Context;
 use sdl_system::NodeId;
 use sdl_tree::{BodyPart, FreeAction, Name, Stimulus, Transition};
 use std::alloc::{AllocError, Global};

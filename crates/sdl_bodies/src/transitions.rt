@@ -4,9 +4,9 @@ ghost use Rattle.std.specs.Prelude.{◌≡◌, List, IfOk, OnOk, length, slice_g
 ghost use Rattle.sdl_bodies.specs.Added.{AreEntries, HasEach, Holds, IsTableIf, MadeOf};
 ghost use Rattle.sdl_bodies.specs.Bodies.{bodies_faults, bodies_of};
 ghost use Rattle.sdl_bodies.specs.Sound.{AreTransitionsOf};
-ghost use Rattle.sdl_ends.specs.Beginnings.{beginnings};
+ghost use Rattle.sdl_paths.specs.Beginnings.{beginnings};
 ghost use Rattle.sdl_nodes.specs.Built.{table_of};
-ghost use Rattle.sdl_nodes.specs.Contexts.{context_of};
+ghost use Rattle.sdl_statements.specs.Contexts.{context_of};
 ghost use Rattle.sdl_nodes.specs.Made.{Closed};
 ghost use Rattle.sdl_faults.specs.Faults.{least_of, told};
 ghost use Rattle.sdl_system.specs.Body.{Body};
@@ -14,7 +14,7 @@ ghost use Rattle.sdl_tree.specs.Views.{process_value};
 
 use crate::added::{Added, add_parts, add_transition, nothing_added};
 use sdl_faults::Faults;
-use sdl_nodes::Context;
+use sdl_statements::Context;
 use sdl_stimuli::TransitionId;
 use sdl_system::{Node, NodeId};
 use sdl_tree::ProcessDefinition;

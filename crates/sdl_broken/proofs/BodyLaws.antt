@@ -5,10 +5,10 @@ use Rattle.sdl_broken.specs.Bodies as broken
 use Rattle.sdl_broken.specs.Bodies.{BrokenBody, BrokenListed, ListedBroken}
 use Rattle.sdl_ends.proofs.EndlessLaws.{endless-listed, listed-endless}
 use Rattle.sdl_ends.proofs.StayLaws.{listed-stays, stays-listed}
-use Rattle.sdl_ends.specs.Beginnings.{beginnings}
+use Rattle.sdl_paths.specs.Beginnings.{beginnings}
 use Rattle.sdl_ends.specs.Broken.{IsEndless, IsStay}
 use Rattle.sdl_ends.specs.Ends.{ends_faults}
-use Rattle.sdl_ends.specs.Reach.{AreReached}
+use Rattle.sdl_paths.specs.Reach.{AreReached}
 use Rattle.sdl_ends.specs.Stays.{stay_faults}
 use Rattle.sdl_nodes.proofs.BrokenLaws as node_laws
 use Rattle.sdl_nodes.proofs.ListedLaws as node_listed

@@ -5,10 +5,10 @@ use Rattle.sdl_bodies.specs.Bodies.{bodies_faults, statement_faults}
 use Rattle.sdl_broken.specs.Limits.{IsNoLimit, NoLimitInBodies, NoLimitInNetwork}
 use Rattle.sdl_declared.specs.Tables.{Rows}
 use Rattle.sdl_ends.proofs.EndlessLaws.{listed-endless}
-use Rattle.sdl_ends.specs.Beginnings.{beginnings}
+use Rattle.sdl_paths.specs.Beginnings.{beginnings}
 use Rattle.sdl_ends.specs.Broken.{IsEndless}
 use Rattle.sdl_ends.specs.Ends.{ends_faults}
-use Rattle.sdl_ends.specs.Reach.{met_from}
+use Rattle.sdl_paths.specs.Reach.{met_from}
 use Rattle.sdl_ends.specs.Stays.{stay_fault, stay_faults}
 use Rattle.sdl_names.specs.declared.declared.Declared.{Declared}
 use Rattle.sdl_network.proofs.ListedLaws as network_laws
@@ -17,8 +17,8 @@ use Rattle.sdl_network.specs.Network.{network_faults}
 use Rattle.sdl_nodes.proofs.ListedLaws as node_laws
 use Rattle.sdl_nodes.specs.Broken as nodes
 use Rattle.sdl_nodes.specs.BrokenAnswers as answers
-use Rattle.sdl_nodes.specs.Contexts as node_contexts
-use Rattle.sdl_nodes.specs.Statements.{asked_in, kind_in}
+use Rattle.sdl_statements.specs.Contexts as node_contexts
+use Rattle.sdl_statements.specs.Statements.{asked_in, kind_in}
 use Rattle.sdl_process.specs.Faulty.{flow_faults}
 use Rattle.sdl_process.specs.Surroundings.{for_stimuli, for_transitions}
 use Rattle.sdl_faults.proofs.FaultLemmas.{each-both, each-of}

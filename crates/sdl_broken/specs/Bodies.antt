@@ -1,9 +1,9 @@
 -- When a rule is broken in the states and transitions of a process, and at which word: said of the text and of what
 -- names stand for around it, and not of what is noted.
 use Rattle.std.specs.Prelude.{ℕ, List}
-use Rattle.sdl_ends.specs.Beginnings.{Beginning, beginnings}
+use Rattle.sdl_paths.specs.Beginnings.{Beginning, beginnings}
 use Rattle.sdl_ends.specs.Broken.{IsEndless, IsStay}
-use Rattle.sdl_ends.specs.Reach.{AreReached}
+use Rattle.sdl_paths.specs.Reach.{AreReached}
 use Rattle.sdl_nodes.specs.Broken as transitions
 use Rattle.sdl_process.specs.Faulty.{body_faults}
 use Rattle.sdl_process.specs.Surroundings.{Surroundings, for_stimuli, for_transitions}

@@ -10,7 +10,7 @@ ghost use Rattle.sdl_system.specs.System.{meaning_of, named};
 use crate::own::{own_signals, process_names};
 use crate::signals::signals_of;
 use indexmap::IndexMap;
-use port_model::SignalId;
+use port_values::SignalId;
 use sdl_declared::Tables;
 use sdl_figures::Figures;
 use sdl_system::{ProcessId, Signal};

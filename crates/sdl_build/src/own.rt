@@ -10,7 +10,7 @@ ghost use Rattle.sdl_spaces.specs.declared.scope.ScopeId.TheVariants as scopes;
 ghost use Rattle.sdl_system.specs.System.{meaning_of, named};
 
 use indexmap::IndexMap;
-use port_model::SignalId;
+use port_values::SignalId;
 use sdl_declared::{ProcessEntry, SignalEntry, next_number};
 use sdl_spaces::ScopeId;
 use sdl_system::ProcessId;

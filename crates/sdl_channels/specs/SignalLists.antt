@@ -1,6 +1,6 @@
 -- Which signals a list stands for.
 use Rattle.std.specs.Prelude.{◌≡◌, ℕ, zero, suc, ◌/◌, ◌%◌, ◌<◌, ◌↔◌, List, [], ◌∷◌, None, Some, slice_get}
-use Rattle.port_model.specs.declared.item.SignalId.{SignalId}
+use Rattle.port_values.specs.declared.item.SignalId.{SignalId}
 use Rattle.sdl_channels.specs.Each.{ForSome}
 use Rattle.sdl_channels.specs.Mask.{Has}
 use Rattle.sdl_channels.specs.declared.graph.Step.{Step}

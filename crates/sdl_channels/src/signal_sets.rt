@@ -4,7 +4,7 @@
 //! for each 64 signals, and as many steps more as there are lists through which a signal comes to a list.
 
 ghost use Rattle.std.specs.Prelude.{◌≡◌, ◌⊎◌, ℕ, ◌<◌, ◌/◌, ◌%◌, ◌↔◌, IfOk, IsTrue, OnOk};
-ghost use Rattle.port_model.specs.declared.item.SignalId.{SignalId};
+ghost use Rattle.port_values.specs.declared.item.SignalId.{SignalId};
 ghost use Rattle.sdl_channels.specs.Each.{ForSome};
 ghost use Rattle.sdl_channels.specs.Graph.{Adds, Leads};
 ghost use Rattle.sdl_channels.specs.Mask.{Bit, Has};
@@ -15,7 +15,7 @@ ghost use Rattle.sdl_channels.specs.declared.graph.Step.{Step};
 use crate::graph::{Graph, Step};
 use crate::list::{Item, ListId, SignalList};
 use crate::mask::{has_bit, mask_at, with_bit};
-use port_model::SignalId;
+use port_values::SignalId;
 use std::alloc::{AllocError, Global};
 
 /// For each list, by its number, the signals that it stands for.

@@ -8,7 +8,7 @@ use Rattle.sdl_complete.proofs.RangeLemmas.{anything, each-anything, entries-rea
 use Rattle.sdl_complete.proofs.ReadLemmas.{process-table}
 use Rattle.sdl_complete.proofs.TransitionLemmas.{bodies-given}
 use Rattle.sdl_complete.specs.Processes.{BehaviourGiven, IsGiven, ProcessGiven}
-use Rattle.sdl_ends.specs.Beginnings.{beginnings}
+use Rattle.sdl_paths.specs.Beginnings.{beginnings}
 use Rattle.sdl_ends.specs.Ends.{ends_faults}
 use Rattle.sdl_ends.specs.Stays.{stay_faults}
 use Rattle.sdl_process.specs.Faulty.{flow_faults}

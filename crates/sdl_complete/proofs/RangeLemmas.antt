@@ -1,11 +1,11 @@
 -- Transitions that states begin, and signals that they name.
 use Rattle.std.proofs.Common.{◌≡◌, ◌∙◌, ◌==◌, ◌<◌, ◌≤◌, ℕ, zero, suc, Bool, true, false, cond, All, IfSome, List, [], ◌∷◌, Option, None, Some, arith, length, map, option_map, refl, ap, slice_get, subst}
 use Rattle.std.proofs.lemmas.List.Elements.{All-contains, All-cons, All-head, All-nil, All-tail}
-use Rattle.port_model.specs.declared.item.SignalId.{SignalId}
+use Rattle.port_values.specs.declared.item.SignalId.{SignalId}
 use Rattle.sdl_complete.proofs.MentionedLemmas.{Begins, Bounds, BeginsNumbered, IsTable, IsSaid, found-begins, tried-each}
 use Rattle.sdl_complete.proofs.ReadLemmas.{bounds_of, process-table}
 use Rattle.sdl_complete.specs.Ranges.{EntriesReach, IsBelow, SignalsWithin}
-use Rattle.sdl_ends.specs.Beginnings.{beginnings}
+use Rattle.sdl_paths.specs.Beginnings.{beginnings}
 use Rattle.sdl_process.specs.Meant.{NamesSignals}
 use Rattle.sdl_faults.specs.FaultLaws.{Each}
 use Rattle.sdl_scope.specs.Limits.{different}

@@ -1,11 +1,11 @@
 -- What the parts of a process say: each begins transitions of the process alone, asks conditions of it, and speaks of
 -- what names stand for.
 use Rattle.std.proofs.Common.{◌≡◌, ◌+◌, ◌<◌, ◌≤◌, ℕ, suc, IfSome, List, [], ◌∷◌, Option, None, Some, arith, flat_map, fold, length, length-append, map, refl}
-use Rattle.port_model.specs.declared.item.SignalId.{SignalId}
+use Rattle.port_values.specs.declared.item.SignalId.{SignalId}
 use Rattle.sdl_bodies.proofs.OrderLemmas.{stimuli-in-order}
 use Rattle.sdl_complete.proofs.StayLemmas.{condition-among, last-among, parts-stay, stimuli-stay, within}
 use Rattle.sdl_complete.proofs.MentionedLemmas.{Begins, BeginsContinuous, Bounds, IsCondition, IsMention, IsPart, IsTable, Speaks, table-named}
-use Rattle.sdl_ends.specs.Beginnings.{beginnings, part_beginnings, stimulus_beginnings}
+use Rattle.sdl_paths.specs.Beginnings.{beginnings, part_beginnings, stimulus_beginnings}
 use Rattle.sdl_faults.proofs.FaultLemmas.{each-both}
 use Rattle.sdl_faults.specs.FaultLaws.{Each}
 use Rattle.sdl_sorts.specs.Scope.{SignalMeaning, signal_in}

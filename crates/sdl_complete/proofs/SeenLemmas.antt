@@ -25,7 +25,7 @@ use Rattle.sdl_figures.specs.Synonyms.{IsSynonym, faults_in_row}
 use Rattle.sdl_names.specs.Entries.{Entry}
 use Rattle.sdl_names.specs.Meanings.{agent_entries, agent_entry, agent_means, signal_entries, signal_means, signals_from, sorts_of_row, value_entries, value_entry}
 use Rattle.sdl_names.specs.declared.declared.Declared.{Declared}
-use Rattle.sdl_nodes.specs.Contexts.{Context}
+use Rattle.sdl_statements.specs.Contexts.{Context}
 use Rattle.sdl_faults.proofs.FaultLemmas.{each-both}
 use Rattle.sdl_faults.specs.FaultLaws.{Each, In}
 use Rattle.sdl_scope.specs.Names.{first_of}

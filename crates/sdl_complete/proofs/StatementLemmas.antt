@@ -3,9 +3,9 @@ use Rattle.std.proofs.Common.{◌≡◌, ◌++◌, Bool, true, false, List, [], 
 use Rattle.sdl_complete.proofs.AnswerLemmas.{answer-given}
 use Rattle.sdl_complete.proofs.ExpressionLemmas.{both-there, empty-left, empty-right, is-there, list-given, mapped-there, placed-given, unbroken}
 use Rattle.sdl_complete.specs.Complete.{HasDurations, IsComplete, IsThere}
-use Rattle.sdl_nodes.specs.Contexts.{Context}
-use Rattle.sdl_nodes.specs.Faulty.{answers_faults, asked_faults, assignment_faults, create_faults, created_faults, default_faults, destination_faults, has_destination, is_lost, lacks_default, output_faults, process_faults, sending_faults, sent_faults, setting_faults, time_faults, timed_faults, timing_faults, unknown_faults, value_faults, values_faults, whither_faults}
-use Rattle.sdl_nodes.specs.Statements.{agent_name, answers_in, assigned, assigning_in, create_in, created_as, default_of, output_in, process_of, reset_in, sending_in, sent, sent_as, sent_to, set_for, set_in, setting_in, sort_of, target_in, task_in, timed, timed_as, timing_in, value_for, values_for, when_in, whither_in, whither_of}
+use Rattle.sdl_statements.specs.Contexts.{Context}
+use Rattle.sdl_statements.specs.Faulty.{answers_faults, asked_faults, assignment_faults, create_faults, created_faults, default_faults, destination_faults, has_destination, is_lost, lacks_default, output_faults, process_faults, sending_faults, sent_faults, setting_faults, time_faults, timed_faults, timing_faults, unknown_faults, value_faults, values_faults, whither_faults}
+use Rattle.sdl_statements.specs.Statements.{agent_name, answers_in, assigned, assigning_in, create_in, created_as, default_of, output_in, process_of, reset_in, sending_in, sent, sent_as, sent_to, set_for, set_in, setting_in, sort_of, target_in, task_in, timed, timed_as, timing_in, value_for, values_for, when_in, whither_in, whither_of}
 use Rattle.sdl_faults.specs.Faults.{fault_if, told_at}
 use Rattle.sdl_faults.specs.declared.fault.Kind.TheVariants.{NoRoute, Unknown}
 use Rattle.sdl_faults.specs.declared.fault.Kind.TheVariants as broken

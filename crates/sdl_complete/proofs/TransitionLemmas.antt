@@ -10,11 +10,11 @@ use Rattle.sdl_complete.proofs.StatementLemmas.{answers-there, create-there, out
 use Rattle.sdl_complete.specs.Complete.{HasDurations, IsComplete, IsThere}
 use Rattle.sdl_complete.specs.Expressions.{HasTerm}
 use Rattle.sdl_complete.specs.Transitions.{BodiesGiven}
-use Rattle.sdl_ends.specs.Beginnings.{Beginning, beginnings, part_beginnings, stimulus_beginnings}
+use Rattle.sdl_paths.specs.Beginnings.{Beginning, beginnings, part_beginnings, stimulus_beginnings}
 use Rattle.sdl_labels.specs.Labels.{action_labels, actions_labels, body_labels, ending_labels, label_words, otherwise_labels, parts_labels, process_labels, stimulus_labels, transition_labels}
-use Rattle.sdl_nodes.specs.Contexts.{Context, label_in, state_in}
-use Rattle.sdl_nodes.specs.Faulty.{answers_faults, asked_faults, terminator_faults}
-use Rattle.sdl_nodes.specs.Statements.{answers_in, asked_in, create_in, kind_in, output_in, reset_in, set_in, task_in, terminator_in}
+use Rattle.sdl_statements.specs.Contexts.{Context, label_in, state_in}
+use Rattle.sdl_statements.specs.Faulty.{answers_faults, asked_faults, terminator_faults}
+use Rattle.sdl_statements.specs.Statements.{answers_in, asked_in, create_in, kind_in, output_in, reset_in, set_in, task_in, terminator_in}
 use Rattle.sdl_nodes.specs.Transitions.{acts, action_faults, asks, before, body_in, ending_faults, ending_in, head_in, labelled, other_faults, other_in, parts_faults, parts_of, piece, pieces_in, steps_faults, steps_in, transition_faults}
 use Rattle.sdl_faults.proofs.FaultLemmas.{in-left, in-right}
 use Rattle.sdl_faults.specs.FaultLaws.{In}

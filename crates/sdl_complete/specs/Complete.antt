@@ -1,7 +1,7 @@
 -- When the names that are seen at a place lack nothing: each has its sort, and each synonym its value.
 use Rattle.std.specs.Prelude.{◌≡◌, ℕ, true, List, [], ◌∷◌, Option, None, Some}
-use Rattle.port_model.specs.declared.item.SignalId.{SignalId}
-use Rattle.sdl_nodes.specs.Contexts.{Context, duration_of}
+use Rattle.port_values.specs.declared.item.SignalId.{SignalId}
+use Rattle.sdl_statements.specs.Contexts.{Context, duration_of}
 use Rattle.sdl_sorts.specs.Scope.{AgentMeaning, Scope, SignalMeaning, agent_in, block, process, signal, signal_in, timer, value_in}
 use Rattle.sdl_sorts.specs.declared.scope.Constant.{Constant}
 use Rattle.sdl_sorts.specs.declared.scope.Constant.TheVariants as constants

@@ -1,6 +1,6 @@
 -- Where no rule is broken in the definitions of a specification, its names lack nothing.
 use Rattle.std.specs.Prelude.{◌≡◌, ℕ, ◌+◌, ◌<◌, List, [], ◌∷◌, Some, length, slice_get}
-use Rattle.port_model.specs.declared.item.SignalId.{SignalId}
+use Rattle.port_values.specs.declared.item.SignalId.{SignalId}
 use Rattle.sdl_bodies.specs.Numbered.{AreDifferent, numbered}
 use Rattle.sdl_complete.specs.Complete.{AreThere, HasDurations, HasValue, IsComplete, IsThere}
 use Rattle.sdl_declared.specs.Parts.{all_sort_faults, parts_in}
@@ -13,7 +13,7 @@ use Rattle.sdl_labels.specs.Labels.{process_labels}
 use Rattle.sdl_names.specs.Meanings.{duplicate_faults}
 use Rattle.sdl_names.specs.Spaces.{AreNamesOf}
 use Rattle.sdl_names.specs.declared.declared.Declared.{Declared}
-use Rattle.sdl_nodes.specs.Contexts.{Context}
+use Rattle.sdl_statements.specs.Contexts.{Context}
 use Rattle.sdl_faults.specs.FaultLaws.{Each}
 use Rattle.sdl_scope.specs.Limits.{different, state_names}
 use Rattle.sdl_sorts.specs.Scope.{SignalMeaning, signal, timer, signal_in}

@@ -1,8 +1,8 @@
 -- Numbers in what the states of a process say are below what they count (Z.101: state, input, save; Z.102: priority
 -- input, continuous signal).
 use Rattle.std.specs.Prelude.{◌≡◌, ◌<◌, ℕ, All, List, Some, length}
-use Rattle.port_model.specs.declared.item.SignalId.{SignalId}
-use Rattle.sdl_ends.specs.Beginnings.{beginnings}
+use Rattle.port_values.specs.declared.item.SignalId.{SignalId}
+use Rattle.sdl_paths.specs.Beginnings.{beginnings}
 use Rattle.sdl_process.specs.Meant.{NamesSignals}
 use Rattle.sdl_sorts.specs.Scope.{SignalMeaning, signal_in}
 use Rattle.sdl_states.specs.States.{states_of, table_named}

@@ -3,7 +3,7 @@ use Rattle.std.specs.Prelude.{◌≡◌, List, [], Some, map}
 use Rattle.sdl_bodies.specs.Bodies.{bodies_faults, bodies_of}
 use Rattle.sdl_bodies.specs.Numbered.{AreNumbered}
 use Rattle.sdl_complete.specs.Complete.{HasDurations, IsComplete}
-use Rattle.sdl_nodes.specs.Contexts.{Context}
+use Rattle.sdl_statements.specs.Contexts.{Context}
 use Rattle.sdl_system.specs.Body.{Body}
 use Rattle.sdl_tree.specs.Tree.{ProcessDefinition}
 

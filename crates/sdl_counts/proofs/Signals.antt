@@ -6,7 +6,7 @@ use Rattle.inbox.specs.declared.entry.Entry.{Entry}
 use Rattle.inbox.specs.declared.entry.Entry.TheVariants.{Signal, Timer}
 use Rattle.inbox.specs.declared.placed.Placed.{Placed}
 use Rattle.input_port.specs.Counts.{signal_before, signals_in}
-use Rattle.port_model.specs.declared.item.Item.{Item}
+use Rattle.port_values.specs.declared.item.Item.{Item}
 
 signal_before-append : (e : Entry) (xs ys : List Item) → signal_before e (xs ++ ys) ≡ signal_before e xs ++ ys
 signal_before-append (Signal item) xs ys = refl

@@ -10,9 +10,9 @@ use Rattle.input_port.proofs.Counting.{counts_tell, no_fewer}
 use Rattle.input_port.proofs.PutLists.{of-append}
 use Rattle.input_port.specs.Counts as counts
 use Rattle.input_port.specs.Counts.{AllIsDrawn as AreDrawn, Flow, FlowsInto, IsOfOne, put_by_all, sent_by, signals_in}
-use Rattle.port_model.specs.Same.{same_pid, same_pid-Decides}
-use Rattle.port_model.specs.declared.item.Item.{Item}
-use Rattle.port_model.specs.declared.pid.Pid.{Pid}
+use Rattle.port_values.specs.Same.{same_pid, same_pid-Decides}
+use Rattle.port_values.specs.declared.item.Item.{Item}
+use Rattle.port_values.specs.declared.pid.Pid.{Pid}
 use Rattle.sdl_counts.proofs.Signals.{count_by-signals, signals_in-append}
 use Rattle.sdl_counts.specs.Rows.{AllIsDrawn, AreApart, EndsAreDrawn, EndsWith, Holds, IsOfRow, IsOther}
 use Rattle.sdl_counts.specs.Rows.{NoFewerAreDrawn, NoOtherIsDrawn, NothingMoreIsDrawn, Row, RowsStay, told_by_all}

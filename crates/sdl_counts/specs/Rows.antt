@@ -5,9 +5,9 @@ use Rattle.inbox.specs.Ends.{is_signal}
 use Rattle.inbox.specs.Put.{StartsWith}
 use Rattle.inbox.specs.declared.placed.Placed.{Placed}
 use Rattle.input_port.specs.Counts.{FlowsInto, sent_by, signals_in}
-use Rattle.port_model.specs.Same.{same_pid}
-use Rattle.port_model.specs.declared.item.Item.{Item}
-use Rattle.port_model.specs.declared.pid.Pid.{Pid}
+use Rattle.port_values.specs.Same.{same_pid}
+use Rattle.port_values.specs.declared.item.Item.{Item}
+use Rattle.port_values.specs.declared.pid.Pid.{Pid}
 
 -- the first list ends with the second
 abbrev pub EndsWith : List Item → List Item → Type 0

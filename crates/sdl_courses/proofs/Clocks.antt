@@ -3,8 +3,8 @@ use Rattle.std.proofs.Common.{◌≡◌, ◌∙◌, ◌++◌, ◌≤◌, ap, ari
 use Rattle.std.proofs.lemmas.List.Elements.{All-contains, All-map}
 use Rattle.inbox.specs.declared.entry.Fuse.{Fuse}
 use Rattle.port_model.specs.Timers.{IsLeast, earlier}
-use Rattle.port_model.specs.declared.pid.Pid.TheVariants.{Of}
-use Rattle.port_model.specs.declared.value.Value.{Value}
+use Rattle.port_values.specs.declared.pid.Pid.TheVariants.{Of}
+use Rattle.port_values.specs.declared.value.Value.{Value}
 use Rattle.sdl_courses.proofs.Beginnings.{first_time}
 use Rattle.sdl_courses.proofs.Histories.{are_followed, moment_from}
 use Rattle.sdl_courses.proofs.Known.{moment_of}
@@ -16,8 +16,8 @@ use Rattle.sdl_courses.specs.Times.{AreAt, AreTimed, IsAt, IsTimed}
 use Rattle.sdl_courses.specs.Told.{Moment, first_moment, moment_after}
 use Rattle.sdl_evaluation.specs.declared.identity.Identity.{Identity}
 use Rattle.sdl_interp.specs.Instance.{InstanceValue}
-use Rattle.sdl_report.specs.Event as event
-use Rattle.sdl_report.specs.Event.{Event}
+use Rattle.sdl_record.specs.Event as event
+use Rattle.sdl_record.specs.Event.{Event}
 use Rattle.sdl_runs.specs.Act.{Act, Arm, Create, Deed, Send, acts_of}
 use Rattle.sdl_runs.specs.World.{IsReading, IsTrueOf, IsTrueOfOne, WorldValue, time_after, time_after_one}
 use Rattle.sdl_runs.specs.World as world

@@ -15,7 +15,7 @@ use Rattle.sdl_courses.specs.Laws.{EachIsTold}
 use Rattle.sdl_courses.specs.Told.{Moment, comes_by, deeds_of, deeds_of_one, first_moment, given_after, history_from, history_of, history_of_one, moment_after}
 use Rattle.sdl_evaluation.specs.declared.identity.Identity.{Identity}
 use Rattle.sdl_interp.specs.Instance.{InstanceValue}
-use Rattle.sdl_report.specs.Event.{Event}
+use Rattle.sdl_record.specs.Event.{Event}
 use Rattle.sdl_runs.proofs.Acting.{runs_acts}
 use Rattle.sdl_runs.proofs.Deeds.{events_of-append}
 use Rattle.sdl_runs.proofs.Runs.{Runs-append}

@@ -6,9 +6,9 @@ use Rattle.inbox.specs.declared.entry.Fuse.{Fuse}
 use Rattle.port_model.specs.History.{Expire, PortEvent, PortStep, Put}
 use Rattle.port_model.specs.Laws.{IsFromOutside}
 use Rattle.port_model.specs.Port.{PortState, empty_port, expire_in, put_into}
-use Rattle.port_model.specs.declared.item.Item.{Item}
-use Rattle.port_model.specs.declared.pid.Pid.TheVariants.{Of}
-use Rattle.port_model.specs.declared.value.Value.{Value}
+use Rattle.port_values.specs.declared.item.Item.{Item}
+use Rattle.port_values.specs.declared.pid.Pid.TheVariants.{Of}
+use Rattle.port_values.specs.declared.value.Value.{Value}
 use Rattle.sdl_courses.proofs.Numbers.{at_change, at_more, eq_is, eq_of, length-change, not_there, there}
 use Rattle.sdl_courses.proofs.Made.{IsProcess, MakeNext, MakesNext}
 use Rattle.sdl_courses.specs.Course.{AreBehaviours}

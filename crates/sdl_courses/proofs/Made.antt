@@ -2,11 +2,11 @@
 use Rattle.std.proofs.Common.{◌≡◌, ◌∙◌, ◌+◌, ◌||◌, ap, refl, subst, sym, if◌then◌else◌, ℕ, Bool, true, false, IfSome, List, [], ◌∷◌, ◌++◌, Option, None, Some, nat_le, slice_get}
 use Rattle.std.specs.Option.{option_map, option_map_or}
 use Rattle.std.proofs.lemmas.Option.{same_Some}
-use Rattle.port_model.specs.declared.value.Value.{Value}
+use Rattle.port_values.specs.declared.value.Value.{Value}
 use Rattle.sdl_courses.specs.Told.{given_after, given_after_one}
 use Rattle.sdl_evaluation.specs.declared.identity.Identity.{Identity}
-use Rattle.sdl_report.specs.Event as event
-use Rattle.sdl_report.specs.Event.{Event}
+use Rattle.sdl_record.specs.Event as event
+use Rattle.sdl_record.specs.Event.{Event}
 use Rattle.sdl_runs.proofs.Acting.{AreActs, AreActsOf}
 use Rattle.sdl_runs.specs.Act.{Act, Arm, Create, Deed, Send, acts_of}
 use Rattle.sdl_runs.specs.Leads.{created}

@@ -3,17 +3,17 @@ use Rattle.std.proofs.Common.{◌≡◌, ◌∙◌, ◌+◌, ◌&&◌, ◌==◌,
 use Rattle.std.proofs.lemmas.List.Elements.{All-head, All-tail}
 use Rattle.inbox.specs.declared.entry.Fuse.{Fuse}
 use Rattle.port_model.specs.History.{Expire, PortEvent, Put, Reset, Set, Stop, Take}
-use Rattle.port_model.specs.declared.item.Item.{Item}
-use Rattle.port_model.specs.declared.pid.Pid.{Pid}
-use Rattle.port_model.specs.declared.pid.Pid.TheVariants as pid
+use Rattle.port_values.specs.declared.item.Item.{Item}
+use Rattle.port_values.specs.declared.pid.Pid.{Pid}
+use Rattle.port_values.specs.declared.pid.Pid.TheVariants as pid
 use Rattle.sdl_courses.proofs.Scripts.{script_goes}
 use Rattle.sdl_courses.specs.Course.{Course, Expired, Follows, Happening, Heard, Moved, Steps, Ticked, begins, goes}
 use Rattle.sdl_courses.specs.Global.{Global, beginning, heard_acts}
 use Rattle.sdl_courses.specs.Laws.{AreFromEnv, EachIsMatched}
 use Rattle.sdl_courses.specs.Told.{Moment, acts_by, comes_by, comes_by_one, expiry_by, first_moment, from, history_from, history_of_one, is_from, is_there, lines_of_one, moment_after, put_by, puts_of, sends_from}
 use Rattle.sdl_evaluation.specs.declared.identity.Identity.{Identity}
-use Rattle.sdl_report.specs.Event as event
-use Rattle.sdl_report.specs.Event.{Event}
+use Rattle.sdl_record.specs.Event as event
+use Rattle.sdl_record.specs.Event.{Event}
 use Rattle.sdl_runs.proofs.Acting.{AreActs, AreActsOf, runs_acts}
 use Rattle.sdl_runs.specs.Act.{Act, Arm, Create, Deed, Send, acts_of, calls_of}
 use Rattle.sdl_runs.specs.Leads.{created}
@@ -27,7 +27,7 @@ use Rattle.sdl_system.specs.System.{SystemValue}
 use Rattle.sdl_system.specs.declared.id.ProcessId.{ProcessId}
 use Rattle.sdl_system.specs.declared.route.Target.{Target}
 use Rattle.sdl_system.specs.declared.route.Target.TheVariants.{Env, Instance, Nobody, Null}
-use Rattle.port_model.specs.declared.value.Value.{Value}
+use Rattle.port_values.specs.declared.value.Value.{Value}
 
 -- ---- puts and senders
 

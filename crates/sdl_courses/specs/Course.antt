@@ -6,7 +6,7 @@ use Rattle.port_model.specs.Timers.{IsLeast, earlier}
 use Rattle.sdl_courses.specs.Global.{Global, after_acts, around, expired, heard_acts, instance_at, with_instance}
 use Rattle.sdl_evaluation.specs.declared.identity.Identity.{Identity}
 use Rattle.sdl_interp.specs.Instance.{InstanceValue, IsQuietAt, IsRunAs, Keeps, work_of}
-use Rattle.sdl_report.specs.Event.{is_beginning}
+use Rattle.sdl_record.specs.Event.{is_beginning}
 use Rattle.sdl_runs.specs.Act.{Act, Deed, acts_of}
 use Rattle.sdl_runs.specs.Behaves.{Behaves}
 use Rattle.sdl_runs.specs.Goes.{Goes, IsOneStep}

@@ -6,9 +6,9 @@ use Rattle.inbox.specs.Ends.{single}
 use Rattle.inbox.specs.declared.entry.Entry.TheVariants.{Timer}
 use Rattle.inbox.specs.declared.entry.Fuse.{Fuse}
 use Rattle.port_model.specs.Port.{empty_port, put_into}
-use Rattle.port_model.specs.declared.item.Item.{Item}
-use Rattle.port_model.specs.declared.pid.Pid.TheVariants.{Null, Of}
-use Rattle.port_model.specs.declared.value.Value.{Value}
+use Rattle.port_values.specs.declared.item.Item.{Item}
+use Rattle.port_values.specs.declared.pid.Pid.TheVariants.{Null, Of}
+use Rattle.port_values.specs.declared.value.Value.{Value}
 use Rattle.sdl_evaluation.specs.declared.identity.Identity.{Identity}
 use Rattle.sdl_interp.specs.Instance.{InstanceValue, created}
 use Rattle.sdl_runs.specs.Act.{Act, Arm, Create, Send}

@@ -1,6 +1,6 @@
 -- Laws of the serial order.
 use Rattle.std.specs.Prelude.{◌≡◌, ◌++◌, ℕ, List, All, IfSome}
-use Rattle.port_model.specs.declared.pid.Pid.TheVariants.{Env}
+use Rattle.port_values.specs.declared.pid.Pid.TheVariants.{Env}
 use Rattle.sdl_courses.specs.Course.{AreBehaviours, Course, Happening}
 use Rattle.sdl_courses.specs.Global.{Global, beginning}
 use Rattle.sdl_courses.specs.Times.{AreTimed}

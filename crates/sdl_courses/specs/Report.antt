@@ -4,8 +4,8 @@ use Rattle.std.specs.List.{AllZip}
 use Rattle.sdl_courses.specs.Course.{Course, EndsInTransition, Happening, IsMeant, IsNoFuseBefore, Rests, transitions_of}
 use Rattle.sdl_courses.specs.Global.{Global, beginning}
 use Rattle.sdl_interp.specs.Instance.{InstanceValue, IsClosed}
-use Rattle.sdl_report.specs.Record.{RecordValue}
-use Rattle.sdl_report.specs.declared.record.Report.{Report}
+use Rattle.sdl_record.specs.Record.{RecordValue}
+use Rattle.sdl_record.specs.declared.record.Report.{Report}
 use Rattle.sdl_script.specs.Script.{end_of}
 use Rattle.sdl_script.specs.declared.script.ScriptLine.{ScriptLine}
 use Rattle.sdl_system.specs.Behaviour.{Behaviour}

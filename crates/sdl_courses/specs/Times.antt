@@ -2,8 +2,8 @@
 use Rattle.std.specs.Prelude.{◌≡◌, ℕ, List, [], ◌∷◌}
 use Rattle.sdl_courses.specs.Course.{Expired, Happening, Heard, Moved, Ticked}
 use Rattle.sdl_courses.specs.Told.{Moment, moment_after}
-use Rattle.sdl_report.specs.Event as event
-use Rattle.sdl_report.specs.Event.{Event}
+use Rattle.sdl_record.specs.Event as event
+use Rattle.sdl_record.specs.Event.{Event}
 use Rattle.sdl_runs.specs.Act.{Deed}
 
 -- the time of an event, where it has one, is this

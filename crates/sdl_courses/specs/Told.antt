@@ -3,10 +3,10 @@ use Rattle.std.specs.Prelude.{◌≡◌, ◌==◌, ◌&&◌, ◌+◌, ℕ, nat_l
 use Rattle.inbox.specs.declared.entry.Fuse.{Fuse}
 use Rattle.port_model.specs.History.{Expire, PortEvent, Put}
 use Rattle.port_model.specs.Port.{empty_port}
-use Rattle.port_model.specs.declared.item.Item.{Item}
-use Rattle.port_model.specs.declared.pid.Pid.{Pid}
-use Rattle.port_model.specs.declared.pid.Pid.TheVariants.{Env, Of}
-use Rattle.port_model.specs.declared.value.Value.{Value}
+use Rattle.port_values.specs.declared.item.Item.{Item}
+use Rattle.port_values.specs.declared.pid.Pid.{Pid}
+use Rattle.port_values.specs.declared.pid.Pid.TheVariants.{Env, Of}
+use Rattle.port_values.specs.declared.value.Value.{Value}
 use Rattle.sdl_courses.specs.Course.{Expired, Happening, Heard, IsMeant, Moved, Ticked}
 use Rattle.sdl_courses.specs.Global.{Global, beginning, instance_at}
 use Rattle.sdl_interp.specs.Instance.{InstanceValue}

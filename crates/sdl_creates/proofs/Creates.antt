@@ -3,8 +3,8 @@ use Rattle.std.proofs.Common.{◌≡◌, ◌∙◌, ◌++◌, ◌+◌, ap, appen
 use Rattle.std.proofs.lemmas.List.Concat.{flat_map-append}
 use Rattle.std.proofs.lemmas.Option.{same_Some}
 use Rattle.std.specs.List.{AllZip, flat_map}
-use Rattle.port_model.specs.declared.pid.Pid.TheVariants.{Of}
-use Rattle.port_model.specs.declared.value.Value.{Value}
+use Rattle.port_values.specs.declared.pid.Pid.TheVariants.{Of}
+use Rattle.port_values.specs.declared.value.Value.{Value}
 use Rattle.sdl_courses.proofs.Made.{MakeNext, MakesNext, deeds_make}
 use Rattle.sdl_courses.specs.Course.{Course, Expired, Follows, Happening, Heard, Moved, Steps, Ticked, begins, goes}
 use Rattle.sdl_courses.specs.Global.{Global, after_act, after_acts, around, beginning, census_of, change_at, changed_at, heard_acts, instance_at, instance_of, with_created, with_expiry, with_instance, with_put}
@@ -13,9 +13,9 @@ use Rattle.sdl_courses.specs.Told.{given_after_one}
 use Rattle.sdl_creates.specs.Creates.{EachIsCreatedOnce, all_created, created_by, created_in, created_in_one, identities}
 use Rattle.sdl_evaluation.specs.declared.identity.Identity.{Identity}
 use Rattle.sdl_interp.specs.Instance.{InstanceValue}
-use Rattle.sdl_report.specs.Event as event
-use Rattle.sdl_report.specs.Event.{Event}
-use Rattle.sdl_report.specs.Record.{RecordValue}
+use Rattle.sdl_record.specs.Event as event
+use Rattle.sdl_record.specs.Event.{Event}
+use Rattle.sdl_record.specs.Record.{RecordValue}
 use Rattle.sdl_runs.proofs.Acting.{AreActs, AreActsOf, runs_acts}
 use Rattle.sdl_runs.specs.Act.{Act, Arm, Create, Deed, Send, acts_of}
 use Rattle.sdl_runs.specs.Place.{Definition}

@@ -6,9 +6,9 @@ use Rattle.std.specs.List.{AllZip}
 use Rattle.std.specs.List.Sorted.{IsNonDecreasingBy}
 use Rattle.inbox.specs.declared.entry.Fuse.{Fuse}
 use Rattle.port_model.specs.Timers.{IsLeast, earlier}
-use Rattle.port_model.specs.declared.pid.Pid.TheVariants as pid
-use Rattle.port_model.specs.declared.pid.Pid.TheVariants.{Of}
-use Rattle.port_model.specs.declared.value.Value.{Value}
+use Rattle.port_values.specs.declared.pid.Pid.TheVariants as pid
+use Rattle.port_values.specs.declared.pid.Pid.TheVariants.{Of}
+use Rattle.port_values.specs.declared.value.Value.{Value}
 use Rattle.sdl_courses.specs.Course.{Course, Expired, Follows, Happening, Heard, IsNoFuseBefore, IsNoLineBefore, Moved, Steps, Ticked, Ticks, begins, goes, next_line}
 use Rattle.sdl_courses.specs.Global.{Global, after_act, after_acts, around, beginning, change_at, changed_at, first_instances, first_of, instance_at, instance_of, with_created, with_expiry, with_instance, with_put}
 use Rattle.sdl_courses.specs.Report.{Closes, Ends}
@@ -16,9 +16,9 @@ use Rattle.sdl_creates.proofs.Within.{IsWithin, all_within, lines_within}
 use Rattle.sdl_creates.specs.Ends.{EndsAreNotBefore, IsBy}
 use Rattle.sdl_evaluation.specs.declared.identity.Identity.{Identity}
 use Rattle.sdl_interp.specs.Instance.{InstanceValue, closing}
-use Rattle.sdl_report.specs.Event as event
-use Rattle.sdl_report.specs.Event.{Event}
-use Rattle.sdl_report.specs.Record.{RecordValue}
+use Rattle.sdl_record.specs.Event as event
+use Rattle.sdl_record.specs.Event.{Event}
+use Rattle.sdl_record.specs.Record.{RecordValue}
 use Rattle.sdl_runs.specs.Act.{Act, Arm, Create, Deed, Send, acts_of, events_of}
 use Rattle.sdl_runs.specs.World.{IsReading, IsTrueOf, IsTrueOfOne, WorldValue, time_after, time_after_one}
 use Rattle.sdl_runs.specs.World as world

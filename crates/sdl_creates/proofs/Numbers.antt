@@ -8,7 +8,7 @@ use Rattle.sdl_creates.proofs.Creates.{acts_who, all_who, deeds_whom, next_who, 
 use Rattle.sdl_creates.specs.Creates.{EachHasOneRecord, created_in_one, identities}
 use Rattle.sdl_evaluation.specs.declared.identity.Identity.{Identity}
 use Rattle.sdl_interp.specs.Instance.{InstanceValue}
-use Rattle.sdl_report.specs.Record.{RecordValue}
+use Rattle.sdl_record.specs.Record.{RecordValue}
 use Rattle.sdl_runs.specs.Act.{Act, Arm, Create, Send, acts_of}
 use Rattle.sdl_script.specs.Script.{end_of}
 use Rattle.sdl_script.specs.declared.script.ScriptLine.{ScriptLine}

@@ -15,8 +15,8 @@ use Rattle.sdl_creates.specs.Creates.{identities}
 use Rattle.sdl_creates.specs.Steps.{AreCounted, EachIsCounted, EachIsCountedAmid, HasNoNumber, NullsHaveCause, OutputsAreMeant, SignalsAreMeant, all_given, as_many, no_process}
 use Rattle.sdl_evaluation.specs.declared.identity.Identity.{Identity}
 use Rattle.sdl_interp.specs.Instance.{InstanceValue}
-use Rattle.sdl_report.specs.Event as event
-use Rattle.sdl_report.specs.Event.{Event}
+use Rattle.sdl_record.specs.Event as event
+use Rattle.sdl_record.specs.Event.{Event}
 use Rattle.sdl_runs.specs.Act.{Act, Deed, Send, acts_of}
 use Rattle.sdl_runs.specs.World.{Census, IsRoute, IsRouteBy, IsTrueOf, IsTrueOfOne, WorldValue, count_in, is_full, is_reached, most_instances, number_for, time_after_one}
 use Rattle.sdl_runs.specs.World as world

@@ -1,17 +1,17 @@
 -- Whom a serial run creates (Z.101: agent; Z.102: create).
 use Rattle.std.specs.Prelude.{◌≡◌, ◌++◌, ℕ, List, [], ◌∷◌, Some, length, map}
 use Rattle.std.specs.List.{flat_map, range_with_len}
-use Rattle.port_model.specs.declared.pid.Pid.TheVariants.{Of}
+use Rattle.port_values.specs.declared.pid.Pid.TheVariants.{Of}
 use Rattle.sdl_courses.specs.Course.{Happening, Moved}
 use Rattle.sdl_courses.specs.Global.{beginning}
 use Rattle.sdl_courses.specs.Laws.{AtEachEnd}
 use Rattle.sdl_courses.specs.Report.{IsSerialReport}
 use Rattle.sdl_evaluation.specs.declared.identity.Identity.{Identity}
 use Rattle.sdl_interp.specs.Instance.{InstanceValue}
-use Rattle.sdl_report.specs.Event as event
-use Rattle.sdl_report.specs.Event.{Event}
-use Rattle.sdl_report.specs.Record.{RecordValue}
-use Rattle.sdl_report.specs.declared.record.Report.{Report}
+use Rattle.sdl_record.specs.Event as event
+use Rattle.sdl_record.specs.Event.{Event}
+use Rattle.sdl_record.specs.Record.{RecordValue}
+use Rattle.sdl_record.specs.declared.record.Report.{Report}
 use Rattle.sdl_runs.specs.Act.{Deed}
 use Rattle.sdl_script.specs.declared.script.ScriptLine.{ScriptLine}
 use Rattle.sdl_steps.specs.Machine.{identity_of}

@@ -2,9 +2,9 @@
 use Rattle.std.specs.Prelude.{◌≡◌, ◌≤◌, ℕ, true, List, All}
 use Rattle.std.specs.List.Sorted.{IsNonDecreasingBy}
 use Rattle.sdl_courses.specs.Report.{IsSerialReport}
-use Rattle.sdl_report.specs.Event.{Event}
-use Rattle.sdl_report.specs.Record.{RecordValue}
-use Rattle.sdl_report.specs.declared.record.Report.{Report}
+use Rattle.sdl_record.specs.Event.{Event}
+use Rattle.sdl_record.specs.Record.{RecordValue}
+use Rattle.sdl_record.specs.declared.record.Report.{Report}
 use Rattle.sdl_runs.specs.World.{time_after_one}
 use Rattle.sdl_script.specs.declared.script.ScriptLine.{ScriptLine}
 use Rattle.sdl_system.specs.Behaviour.{Behaviour}

@@ -1,14 +1,14 @@
 -- What each step of a serial run, and each line that is heard, do outside (Z.101: agent; Z.102: create, output).
 use Rattle.std.specs.Prelude.{◌≡◌, ◌≢◌, ◌≤◌, ℕ, List, [], ◌∷◌, ◌++◌, None, Some, length, slice_get}
-use Rattle.port_model.specs.declared.item.SignalId.{SignalId}
-use Rattle.port_model.specs.declared.pid.Pid.TheVariants.{Of}
-use Rattle.port_model.specs.declared.value.Value.{Value}
+use Rattle.port_values.specs.declared.item.SignalId.{SignalId}
+use Rattle.port_values.specs.declared.pid.Pid.TheVariants.{Of}
+use Rattle.port_values.specs.declared.value.Value.{Value}
 use Rattle.sdl_courses.specs.Course.{Course, Happening, Hears, Steps}
 use Rattle.sdl_courses.specs.Global.{Global, after_acts, beginning, census_of, count_living, instance_at, least_living}
 use Rattle.sdl_courses.specs.Laws.{AtEachEnd}
 use Rattle.sdl_evaluation.specs.declared.identity.Identity.{Identity}
 use Rattle.sdl_interp.specs.Instance.{InstanceValue}
-use Rattle.sdl_report.specs.Event as event
+use Rattle.sdl_record.specs.Event as event
 use Rattle.sdl_runs.specs.Act.{Act, Deed, Send, acts_of}
 use Rattle.sdl_runs.specs.World.{most_instances}
 use Rattle.sdl_script.specs.declared.script.ScriptLine.{ScriptLine}

@@ -7,8 +7,8 @@ use Rattle.sdl_faults.specs.FaultLaws.{In}
 use Rattle.sdl_tree.specs.Tree.{Join, Next, Stop, Terminator}
 use Rattle.sdl_tree.specs.Words.{Spot}
 use Rattle.sdl_tree.specs.declared.name.Spelling.{Spelling}
-use Rattle.sdl_ends.specs.Joins.{any_new, count_open, one_if, with_join, with_joins, with_name}
-use Rattle.sdl_ends.specs.Mentions.{is_named}
+use Rattle.sdl_paths.specs.Joins.{any_new, count_open, one_if, with_join, with_joins, with_name}
+use Rattle.sdl_paths.specs.Mentions.{is_named}
 use Rattle.sdl_ends.proofs.PathLaws.{never, or-cases, or-left, or-right}
 
 -- ---- names behind others

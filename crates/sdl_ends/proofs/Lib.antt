@@ -6,6 +6,4 @@ pub mod QuickLemmas
 pub mod ReachLaws
 pub mod RoundLemmas
 pub mod StayLaws
-pub mod StepLemmas
-pub mod TreeLemmas
 pub mod TurnLemmas

@@ -10,13 +10,13 @@ use Rattle.sdl_scope.specs.Names.{first_of}
 use Rattle.sdl_tree.specs.Tree.{Join, Next, Stop, Terminator}
 use Rattle.sdl_tree.specs.Words.{Spot}
 use Rattle.sdl_tree.specs.declared.name.Spelling.{Spelling}
-use Rattle.sdl_ends.specs.Beginnings.{Beginning}
-use Rattle.sdl_ends.specs.Listed.{led_turn, texts}
-use Rattle.sdl_ends.specs.Mentions.{is_named}
-use Rattle.sdl_ends.specs.Met.{met_if}
+use Rattle.sdl_paths.specs.Beginnings.{Beginning}
+use Rattle.sdl_paths.specs.Listed.{led_turn, texts}
+use Rattle.sdl_paths.specs.Mentions.{is_named}
+use Rattle.sdl_paths.specs.Met.{met_if}
 use Rattle.sdl_ends.specs.Quick.{all_confirmed, all_named, confirmed_by, confirmed_in, is_sooner}
-use Rattle.sdl_ends.specs.Reach.{EachReached, StartReaches, is_first, labels_in}
-use Rattle.sdl_ends.specs.Turns.{Found, found_from, sooner}
+use Rattle.sdl_paths.specs.Reach.{EachReached, StartReaches, is_first, labels_in}
+use Rattle.sdl_paths.specs.Turns.{Found, found_from, sooner}
 use Rattle.sdl_ends.proofs.PassingLemmas.{found-named}
 use Rattle.sdl_ends.proofs.PathLaws.{never, or-cases}
 use Rattle.sdl_ends.proofs.ReachLaws.{IsLed, and-left, and-right, entered-reached}

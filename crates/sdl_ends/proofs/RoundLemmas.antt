@@ -5,11 +5,11 @@ use Rattle.sdl_faults.specs.FaultLaws.{In}
 use Rattle.sdl_faults.specs.Faults.{Told, least_of}
 use Rattle.sdl_scope.specs.Names.{first_of}
 use Rattle.sdl_tree.specs.Tree.{Join, ProcessDefinition, Terminator}
-use Rattle.sdl_ends.specs.Beginnings.{Beginning, beginnings}
-use Rattle.sdl_ends.specs.Joins.{AreAllMet, any_new, count_open, joins_in, with_joins, with_name}
-use Rattle.sdl_ends.specs.Listed.{texts}
-use Rattle.sdl_ends.specs.Mentions.{is_named}
-use Rattle.sdl_ends.specs.Reach.{AreReached, EachReached, met_from}
+use Rattle.sdl_paths.specs.Beginnings.{Beginning, beginnings}
+use Rattle.sdl_paths.specs.Joins.{AreAllMet, any_new, count_open, joins_in, with_joins, with_name}
+use Rattle.sdl_paths.specs.Listed.{texts}
+use Rattle.sdl_paths.specs.Mentions.{is_named}
+use Rattle.sdl_paths.specs.Reach.{AreReached, EachReached, met_from}
 use Rattle.sdl_ends.specs.Stays.{NotesStays, stay_fault}
 use Rattle.sdl_ends.proofs.JoinLemmas.{comes-from, fewer-open, kept-named, none-new, one-new}
 use Rattle.sdl_ends.proofs.PassingLemmas.{found-named}

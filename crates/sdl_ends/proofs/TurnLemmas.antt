@@ -2,11 +2,11 @@
 use Rattle.std.proofs.Common.{◌≡◌, ◌∙◌, ◌||◌, ◌++◌, ℕ, Bool, true, false, List, [], ◌∷◌, Option, None, Some, flat_map, is_some, nat_lt, if◌then◌else◌, refl, ap, sym}
 use Rattle.sdl_tree.specs.Tree.{Ending, Terminator, Transition, Steps, Actions, NoAction, AndAction, Action, Task, Output, Set, Reset, Create, Decision, Parts, NoPart, AndPart, Otherwise, NoElse, Else}
 use Rattle.sdl_tree.specs.Words.{Spot}
-use Rattle.sdl_ends.specs.Beginnings.{Beginning}
-use Rattle.sdl_ends.specs.Met.{action_met, actions_met, ending_met, met_if, otherwise_met, parts_met, transition_met}
-use Rattle.sdl_ends.specs.Passing.{action_passed, actions_passed, is_entered, otherwise_passed, parts_passed, transition_passed}
-use Rattle.sdl_ends.specs.Reach.{beginning_met}
-use Rattle.sdl_ends.specs.Turns.{Found, action_found, action_turn, actions_found, actions_turn, ending_found, entry_turn, first_turn, found_from, found_in, otherwise_found, otherwise_turn, parts_found, parts_turn, sooner, transition_found, transition_turn}
+use Rattle.sdl_paths.specs.Beginnings.{Beginning}
+use Rattle.sdl_paths.specs.Met.{action_met, actions_met, ending_met, met_if, otherwise_met, parts_met, transition_met}
+use Rattle.sdl_paths.specs.Passing.{action_passed, actions_passed, is_entered, otherwise_passed, parts_passed, transition_passed}
+use Rattle.sdl_paths.specs.Reach.{beginning_met}
+use Rattle.sdl_paths.specs.Turns.{Found, action_found, action_turn, actions_found, actions_turn, ending_found, entry_turn, first_turn, found_from, found_in, otherwise_found, otherwise_turn, parts_found, parts_turn, sooner, transition_found, transition_turn}
 
 either-same : (a b c d : Bool) → a ≡ c → b ≡ d → (a || b) ≡ (c || d)
 either-same a b c d left right = ap (λ x. x || b) left ∙ ap (λ x. c || x) right

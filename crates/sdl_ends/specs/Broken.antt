@@ -7,10 +7,10 @@ use Rattle.sdl_tree.specs.Tree.{Next, ProcessDefinition, Same}
 use Rattle.sdl_tree.specs.Words.{Spot}
 use Rattle.sdl_tree.specs.declared.mark.Mark.TheVariants as mark
 use Rattle.sdl_tree.specs.declared.name.Spelling.{Spelling}
-use Rattle.sdl_ends.specs.Beginnings.{Beginning, beginnings}
-use Rattle.sdl_ends.specs.Mentions.{Joined, process_mentions}
-use Rattle.sdl_ends.specs.Paths.{AtFirst, AtLabel, Origin, RunsOff}
-use Rattle.sdl_ends.specs.Reach.{StartReaches}
+use Rattle.sdl_paths.specs.Beginnings.{Beginning, beginnings}
+use Rattle.sdl_paths.specs.Mentions.{Joined, process_mentions}
+use Rattle.sdl_paths.specs.Paths.{AtFirst, AtLabel, Origin, RunsOff}
+use Rattle.sdl_paths.specs.Reach.{StartReaches}
 
 -- a path through a transition of the process begins there: at its first statement, or at a label that a join of the
 -- process names

@@ -5,9 +5,9 @@ use Rattle.sdl_faults.specs.Faults.{Told, fault_if}
 use Rattle.sdl_faults.specs.declared.fault.Kind.TheVariants.{NoEnd}
 use Rattle.sdl_tree.specs.Tree.{ProcessDefinition}
 use Rattle.sdl_tree.specs.Words.{Spot}
-use Rattle.sdl_ends.specs.Beginnings.{Beginning, beginnings}
-use Rattle.sdl_ends.specs.Mentions.{is_named, process_joins}
-use Rattle.sdl_ends.specs.Passing.{transition_passed}
+use Rattle.sdl_paths.specs.Beginnings.{Beginning, beginnings}
+use Rattle.sdl_paths.specs.Mentions.{is_named, process_joins}
+use Rattle.sdl_paths.specs.Passing.{transition_passed}
 
 -- paths enter at each label with one of the names
 abbrev pub enters_named : List (List ℕ) → Spot → Bool

@@ -5,8 +5,8 @@ use Rattle.sdl_scope.specs.Names.{first_of}
 use Rattle.sdl_tree.specs.Tree.{Join, Next, Stop, Terminator}
 use Rattle.sdl_tree.specs.Views.{name_value}
 use Rattle.sdl_tree.specs.declared.name.Name.{Name}
-use Rattle.sdl_ends.specs.Mentions.{is_named}
-use Rattle.sdl_ends.specs.Turns.{Found}
+use Rattle.sdl_paths.specs.Mentions.{is_named}
+use Rattle.sdl_paths.specs.Turns.{Found}
 
 -- whether the turn comes before the name's own
 abbrev pub is_sooner : ℕ → Option ℕ → Bool

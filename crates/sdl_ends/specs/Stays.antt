@@ -4,8 +4,8 @@ use Rattle.sdl_faults.specs.Faults.{Told, least_of, told_at, mark_word}
 use Rattle.sdl_faults.specs.declared.fault.Kind.TheVariants.{NoState}
 use Rattle.sdl_tree.specs.Tree.{Join, Next, Stop, Terminator, NextState, Same, To, ProcessDefinition}
 use Rattle.sdl_tree.specs.declared.mark.Mark.TheVariants as mark
-use Rattle.sdl_ends.specs.Beginnings.{Beginning, beginnings}
-use Rattle.sdl_ends.specs.Reach.{AreReached, met_from}
+use Rattle.sdl_paths.specs.Beginnings.{Beginning, beginnings}
+use Rattle.sdl_paths.specs.Reach.{AreReached, met_from}
 
 -- NoState at the `-`
 abbrev pub next_fault : NextState → List Told

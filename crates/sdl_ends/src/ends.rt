@@ -2,15 +2,13 @@
 
 ghost use Rattle.std.specs.Prelude.{◌≡◌, flat_map, true, IfOk, OnOk};
 ghost use Rattle.sdl_ends.specs.Ends.{beginning_faults, ends_faults, enters_named};
-ghost use Rattle.sdl_ends.specs.Listed.{beginning_value, beginnings_listed, texts};
-ghost use Rattle.sdl_ends.specs.Passing.{transition_passed};
+ghost use Rattle.sdl_paths.specs.Listed.{beginning_value, beginnings_listed, texts};
+ghost use Rattle.sdl_paths.specs.Passing.{transition_passed};
 ghost use Rattle.sdl_faults.specs.Faults.{least_of, told};
 ghost use Rattle.sdl_tree.specs.Views.{process_value, transition_value};
 
-use crate::beginnings::{Beginning, beginnings_of};
-use crate::mentions::joins_in;
-use crate::walk::{Entries, walk_transition};
 use sdl_faults::{Faults, Kind};
+use sdl_paths::{Beginning, Entries, beginnings_of, joins_in, walk_transition};
 use sdl_scope::Names;
 use sdl_tree::{ProcessDefinition, Transition};
 use std::alloc::{AllocError, Global};

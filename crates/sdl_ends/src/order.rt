@@ -1,8 +1,8 @@
 //! The names of the joins that the start reaches, in the order in which a quick search finds them. Nothing that is
 //! proved rests on it.
 
-use crate::beginnings::Beginning;
 use sdl_faults::Faults;
+use sdl_paths::Beginning;
 use sdl_scope::Names;
 use sdl_tree::{
     Action, ActionStatement, AnswerPart, Name, Terminator, TerminatorStatement, Transition,

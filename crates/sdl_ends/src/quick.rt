@@ -1,19 +1,18 @@
 //! Names of joins that the start reaches, found by a quick search and tested in one walk.
 
 ghost use Rattle.std.specs.Prelude.{◌≡◌, ◌++◌, ◌∷◌, [], IfOk, OnOk};
-ghost use Rattle.sdl_ends.specs.Listed.{beginnings_listed, found_listed, found_value, led_turn, texts};
-ghost use Rattle.sdl_ends.specs.Mentions.{is_named};
+ghost use Rattle.sdl_paths.specs.Listed.{beginnings_listed, found_listed, found_value, led_turn, texts};
+ghost use Rattle.sdl_paths.specs.Mentions.{is_named};
 ghost use Rattle.sdl_ends.specs.Quick.{all_confirmed, all_named, confirmed_in, is_sooner, name_text, name_texts};
-ghost use Rattle.sdl_ends.specs.Reach.{EachReached, labels_in};
-ghost use Rattle.sdl_ends.specs.Turns.{found_from};
+ghost use Rattle.sdl_paths.specs.Reach.{EachReached, labels_in};
+ghost use Rattle.sdl_paths.specs.Turns.{found_from};
 ghost use Rattle.sdl_tree.specs.Views.{name_value};
 
-use crate::beginnings::Beginning;
 use crate::order::order;
 use crate::reach::found_from;
-use crate::walk::{Entries, Found};
 use sdl_faults::Faults;
 use sdl_lex::Place;
+use sdl_paths::{Beginning, Entries, Found};
 use sdl_scope::Names;
 use sdl_tree::{Name, Terminator};
 use std::alloc::{AllocError, Global};

@@ -1,17 +1,16 @@
 //! The terminators that the start of a process reaches by any branch and join.
 
 ghost use Rattle.std.specs.Prelude.{◌≡◌, ◌++◌, not, IfOk, OnOk};
-ghost use Rattle.sdl_ends.specs.Joins.{AreAllMet, any_new, is_new, with_join, with_joins, with_name};
-ghost use Rattle.sdl_ends.specs.Listed.{beginning_value, beginnings_listed, found_listed, terminators_listed, texts, turns_of};
-ghost use Rattle.sdl_ends.specs.Mentions.{is_named};
-ghost use Rattle.sdl_ends.specs.Reach.{EachReached, labels_in};
-ghost use Rattle.sdl_ends.specs.Turns.{beginning_found, entry_turn, first_turn, found_from};
+ghost use Rattle.sdl_paths.specs.Joins.{AreAllMet, any_new, is_new, with_join, with_joins, with_name};
+ghost use Rattle.sdl_paths.specs.Listed.{beginning_value, beginnings_listed, found_listed, terminators_listed, texts, turns_of};
+ghost use Rattle.sdl_paths.specs.Mentions.{is_named};
+ghost use Rattle.sdl_paths.specs.Reach.{EachReached, labels_in};
+ghost use Rattle.sdl_paths.specs.Turns.{beginning_found, entry_turn, first_turn, found_from};
 ghost use Rattle.sdl_tree.specs.Views.{name_value, terminator_value};
 
-use crate::beginnings::Beginning;
-use crate::walk::{Entries, Found, walk_transition};
 use sdl_faults::Faults;
 use sdl_lex::Place;
+use sdl_paths::{Beginning, Entries, Found, walk_transition};
 use sdl_scope::Names;
 use sdl_tree::{Name, Terminator};
 use std::alloc::{AllocError, Global};

@@ -1,18 +1,16 @@
 //! `nextstate -` that the start can reach.
 
 ghost use Rattle.std.specs.Prelude.{◌≡◌, flat_map, IfOk, OnOk};
-ghost use Rattle.sdl_ends.specs.Joins.{AreAllMet};
-ghost use Rattle.sdl_ends.specs.Listed.{beginnings_listed, terminators_listed};
+ghost use Rattle.sdl_paths.specs.Joins.{AreAllMet};
+ghost use Rattle.sdl_paths.specs.Listed.{beginnings_listed, terminators_listed};
 ghost use Rattle.sdl_ends.specs.Stays.{NotesStays, stay_fault};
 ghost use Rattle.sdl_faults.specs.Faults.{least_of, told};
 ghost use Rattle.sdl_tree.specs.Views.{process_value, terminator_value};
 
-use crate::beginnings::{Beginning, beginnings_of};
-use crate::mentions::labels_in;
 use crate::quick::quick_names;
 use crate::reach::reach;
-use crate::walk::Found;
 use sdl_faults::{Faults, Kind, Token};
+use sdl_paths::{Beginning, Found, beginnings_of, labels_in};
 use sdl_tree::{Mark, NextState, ProcessDefinition, Terminator};
 use std::alloc::{AllocError, Global};
 

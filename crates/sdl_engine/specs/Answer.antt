@@ -12,7 +12,7 @@ use Rattle.sdl_parse.specs.declared.error.ParseError.{ParseError}
 use Rattle.sdl_parse.specs.declared.error.ParseError.TheVariants as parse
 use Rattle.sdl_report.specs.Gathered as gathered
 use Rattle.sdl_report.specs.ReportText.{report_text}
-use Rattle.sdl_report.specs.declared.record.Report.{Report}
+use Rattle.sdl_record.specs.declared.record.Report.{Report}
 use Rattle.sdl_script.specs.Script.{IsScript}
 use Rattle.sdl_script.specs.ScriptText.{SaysScript}
 use Rattle.sdl_script.specs.ScriptText as faults

@@ -12,7 +12,7 @@ use sdl_build::build;
 use sdl_lex::LexError;
 use sdl_parse::{ParseError, parse};
 use sdl_print::print;
-use sdl_report::Report;
+use sdl_record::Report;
 use sdl_script::{Script, read_script};
 use sdl_serial::run_serial;
 use sdl_system::System;

@@ -2,10 +2,10 @@
 use Rattle.std.proofs.Common.{◌≡◌, ◌∙◌, true, refl, ap, pos, Option, None, Some, Result, Ok, Err, List, subst}
 use Rattle.std.specs.Option.{IfSome}
 use Rattle.port_model.specs.Port.{PortState}
-use Rattle.port_model.specs.declared.item.SignalId.{SignalId}
-use Rattle.port_model.specs.declared.timer_key.TimerKey.{TimerKey}
-use Rattle.port_model.specs.declared.value.Value.{Value}
-use Rattle.port_model.specs.declared.value.Value.TheVariants as value
+use Rattle.port_values.specs.declared.item.SignalId.{SignalId}
+use Rattle.port_values.specs.declared.timer_key.TimerKey.{TimerKey}
+use Rattle.port_values.specs.declared.value.Value.{Value}
+use Rattle.port_values.specs.declared.value.Value.TheVariants as value
 use Rattle.sdl_system.specs.Operation.{applied, applied_to_one, ranged, value_in}
 use Rattle.sdl_system.specs.OperationLaws.{TakesSort}
 use Rattle.sdl_system.specs.Sort.{as_sort, has_sort}
@@ -19,7 +19,7 @@ use Rattle.sdl_system.specs.declared.operation.NumberSort.TheVariants as number
 use Rattle.sdl_system.specs.declared.operation.Operation.{Operation}
 use Rattle.sdl_system.specs.declared.operation.UnaryOperation.{UnaryOperation}
 use Rattle.sdl_system.specs.declared.sort.Sort.{Sort}
-use Rattle.sdl_report.specs.declared.failure.Failure.{Failure}
+use Rattle.sdl_record.specs.declared.failure.Failure.{Failure}
 use Rattle.sdl_evaluation.specs.Environment.{Environment, environment}
 use Rattle.sdl_evaluation.specs.Laws.{AreActiveInBoth, FailsByItself, FailsLeftFirst, FailsRight, HasSortOfPlace, KnowTheSame, ListsFailByThemselves, ListsReadWhatIsKnown, ReadsWhatIsKnown, is_of_evaluation}
 use Rattle.sdl_evaluation.specs.Value.{accessed, asked, at_place, first_sort, followed, given, keyed, later_sorts, narrowed, operated, operated_on, pid_in, time_value, value_of, values_of}

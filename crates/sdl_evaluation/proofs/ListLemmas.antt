@@ -1,16 +1,16 @@
 -- The values of several expressions, and of a timer.
 use Rattle.std.proofs.Common.{◌≡◌, ◌∙◌, ◌++◌, ℕ, Bool, sym, ap, subst, inl, inr, Result, Ok, Err, Vec, Global, List, drop, map}
-use Rattle.port_model.specs.declared.item.SignalId.{SignalId}
-use Rattle.port_model.specs.declared.timer_key.TimerKey.{TimerKey}
-use Rattle.port_model.specs.declared.value.Value.{Value}
-use Rattle.port_model.specs.declared.value.Value.TheVariants as value
+use Rattle.port_values.specs.declared.item.SignalId.{SignalId}
+use Rattle.port_values.specs.declared.timer_key.TimerKey.{TimerKey}
+use Rattle.port_values.specs.declared.value.Value.{Value}
+use Rattle.port_values.specs.declared.value.Value.TheVariants as value
 use Rattle.sdl_system.specs.Term.{Operand, Term, active, chain_step, expression_step, link_step, term_of, terms_of}
 use Rattle.sdl_system.specs.declared.expression.Expression.{Expression}
 use Rattle.sdl_system.specs.declared.expression.Expression.TheFolds.{fold-roll-Expression}
 use Rattle.sdl_system.specs.declared.expression.Expression.TheOpen.{Expression-F}
 use Rattle.sdl_system.specs.declared.expression.Expression.TheVariants.{Active, rolls-Active}
 use Rattle.sdl_system.specs.declared.sort.Sort.{Sort}
-use Rattle.sdl_report.specs.declared.failure.Failure.{Failure}
+use Rattle.sdl_record.specs.declared.failure.Failure.{Failure}
 use Rattle.sdl_evaluation.specs.Environment.{Environment}
 use Rattle.sdl_evaluation.specs.Memory.{FailsAs, list_wants_memory, wants_memory}
 use Rattle.sdl_evaluation.specs.Value.{asked, key_at, value_of, values_of}

@@ -2,15 +2,15 @@
 use Rattle.std.specs.Prelude.{◌≡◌, Bool, true, false, List, Ok, Err}
 use Rattle.port_model.specs.Port.{PortState}
 use Rattle.port_model.specs.Timers.{is_active}
-use Rattle.port_model.specs.declared.timer_key.TimerKey.{TimerKey}
-use Rattle.port_model.specs.declared.value.Value.{Value}
+use Rattle.port_values.specs.declared.timer_key.TimerKey.{TimerKey}
+use Rattle.port_values.specs.declared.value.Value.{Value}
 use Rattle.sdl_system.specs.Sort.{has_sort}
 use Rattle.sdl_system.specs.System.{SystemValue}
 use Rattle.sdl_system.specs.Term.{Term, binary}
 use Rattle.sdl_system.specs.declared.operation.Operation.{Operation}
 use Rattle.sdl_system.specs.declared.sort.Sort.{Sort}
-use Rattle.sdl_report.specs.declared.failure.Failure.{Failure}
-use Rattle.sdl_report.specs.declared.failure.Failure.TheVariants.{NotNatural, Overflow, Undefined, ZeroDivisor}
+use Rattle.sdl_record.specs.declared.failure.Failure.{Failure}
+use Rattle.sdl_record.specs.declared.failure.Failure.TheVariants.{NotNatural, Overflow, Undefined, ZeroDivisor}
 use Rattle.sdl_evaluation.specs.Environment.{Environment, environment}
 use Rattle.sdl_evaluation.specs.Value.{value_at, value_of, values_at}
 use Rattle.sdl_evaluation.specs.declared.identity.Identity.{Identity}

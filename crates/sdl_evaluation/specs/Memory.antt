@@ -1,8 +1,8 @@
 -- Where an evaluation may want memory.
 use Rattle.std.specs.Prelude.{◌≡◌, ◌⊎◌, ◌||◌, Bool, true, false, List, Result, Err}
 use Rattle.sdl_system.specs.Term.{Term, Terms, constant, variable, now, pid, active, unary, binary, no_term, and_term, terms_of}
-use Rattle.sdl_report.specs.declared.failure.Failure.{Failure}
-use Rattle.sdl_report.specs.declared.failure.Failure.TheVariants.{Memory}
+use Rattle.sdl_record.specs.declared.failure.Failure.{Failure}
+use Rattle.sdl_record.specs.declared.failure.Failure.TheVariants.{Memory}
 
 -- a list of values is kept, so it wants memory where it has any
 abbrev pub want_memory : Terms → Bool

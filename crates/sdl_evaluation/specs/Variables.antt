@@ -1,6 +1,6 @@
 -- The variables of an instance (Z.102: variable).
 use Rattle.std.specs.Prelude.{List, Option, None, slice_get, unwrap_or}
-use Rattle.port_model.specs.declared.value.Value.{Value}
+use Rattle.port_values.specs.declared.value.Value.{Value}
 use Rattle.sdl_system.specs.declared.id.VariableId.{VariableId}
 
 -- by number, each with its value once it has one

@@ -14,8 +14,8 @@ use crate::identity::Identity;
 use crate::sorts::sorts_of;
 use crate::store::Store;
 use inbox::Inbox;
-use port_model::{Pid, SignalId, Ticks, TimerKey, Value, Values};
-use sdl_report::Failure;
+use port_values::{Pid, SignalId, Ticks, TimerKey, Value, Values};
+use sdl_record::Failure;
 use sdl_system::{
     Chain, Expression, Link, PidExpression, Sort, System, VariableId, in_sort, truth_of,
 };

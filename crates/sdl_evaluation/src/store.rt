@@ -4,7 +4,7 @@ ghost use Rattle.std.specs.Prelude.{◌≡◌};
 ghost use Rattle.sdl_evaluation.specs.Environment.{initial_store};
 
 use crate::variables::Variables;
-use port_model::{Pid, Ticks};
+use port_values::{Pid, Ticks};
 
 /// What an instance knows besides who it is and what its port has.
 #[derive(Debug, Drop)]

@@ -3,7 +3,7 @@
 ghost use Rattle.std.specs.Prelude.{◌≡◌, ◌↔◌, [], IsTrue, Some, length, slice_set};
 ghost use Rattle.sdl_evaluation.specs.Variables.{value_in};
 
-use port_model::Value;
+use port_values::Value;
 use sdl_system::VariableId;
 use std::marker::Model;
 

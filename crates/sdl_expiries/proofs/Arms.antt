@@ -10,9 +10,9 @@ use Rattle.sdl_evaluation.specs.declared.identity.Identity.{Identity}
 use Rattle.sdl_evaluation.specs.declared.store.Store.{Store}
 use Rattle.sdl_expiries.proofs.Ports.{AreSetsOf, fused_legal, fused_more, fused_step, heard_sets, sets_more}
 use Rattle.sdl_expiries.specs.Fused.{AreFused}
-use Rattle.sdl_report.specs.Event as event
-use Rattle.sdl_report.specs.Event.{Event}
-use Rattle.sdl_report.specs.declared.failure.Failure.{Failure}
+use Rattle.sdl_record.specs.Event as event
+use Rattle.sdl_record.specs.Event.{Event}
+use Rattle.sdl_record.specs.declared.failure.Failure.{Failure}
 use Rattle.sdl_runs.proofs.Deeds.{acts_of-append}
 use Rattle.sdl_runs.specs.Act.{Act, Arm, Deed, acts_of}
 use Rattle.sdl_runs.specs.Fails.{FailsIn, of_condition, of_continuous, of_event, of_take, of_trying}

@@ -2,7 +2,7 @@
 use Rattle.std.proofs.Common.{◌≡◌, ◌∙◌, ◌+◌, ◌++◌, ◌&&◌, ◌≤◌, ◌==◌, ap, arith, if◌then◌else◌, refl, subst, sym, ℕ, Bool, true, false, List, [], ◌∷◌, nat_le}
 use Rattle.inbox.specs.declared.entry.Fuse.{Fuse}
 use Rattle.port_model.specs.History.{Expire, PortEvent, Put, Reset, Set, Stop, Take}
-use Rattle.port_model.specs.declared.item.Item.{Item}
+use Rattle.port_values.specs.declared.item.Item.{Item}
 use Rattle.sdl_courses.specs.Course.{Course, Expired, Follows, Happening, Heard, Moved, Steps, Ticked, begins, goes}
 use Rattle.sdl_courses.specs.Global.{Global, after_act, after_acts, beginning, change_at, with_expiry, with_instance}
 use Rattle.sdl_courses.specs.Told.{Moment, comes_by, comes_by_one, expiry_by, first_moment, given_after_one, history_from, history_of_one, is_there, moment_after, put_by}

@@ -4,7 +4,7 @@ use Rattle.std.specs.Prelude.{All, Contains}
 use Rattle.std.proofs.lemmas.List.Elements.{All-head, Contains-append_left, Contains-append_right}
 use Rattle.inbox.specs.declared.entry.Fuse.{Fuse}
 use Rattle.port_model.specs.History.{Expire, PortEvent, Put, Reset, Set, Stop, Take}
-use Rattle.port_model.specs.declared.item.Item.{Item}
+use Rattle.port_values.specs.declared.item.Item.{Item}
 use Rattle.sdl_courses.specs.Course.{Course, Expired, Follows, Happening, Heard, Moved, Steps, Ticked, begins, goes}
 use Rattle.sdl_courses.specs.Global.{Global, beginning}
 use Rattle.sdl_courses.specs.Told.{Moment, comes_by, comes_by_one, expiry_by, first_moment, given_after_one, history_of, history_of_one, is_there, put_by}

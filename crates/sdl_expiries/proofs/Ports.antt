@@ -10,14 +10,14 @@ use Rattle.port_model.specs.Take.{Takes, TakesFirst}
 use Rattle.port_model.specs.Timers.{after_taking, is_running, same_key, same_phase, waiting_timer, with_waiting, without_key}
 use Rattle.port_model.specs.declared.got.Got.{Got}
 use Rattle.port_model.specs.declared.got.Got.TheVariants.{Signal, Timer}
-use Rattle.port_model.specs.declared.item.Item.{Item}
+use Rattle.port_values.specs.declared.item.Item.{Item}
 use Rattle.port_model.specs.declared.selection.Class.{Class}
 use Rattle.port_model.specs.declared.taken.Taken.{Taken}
 use Rattle.port_model.specs.declared.taken.Taken.TheVariants.{Consumed, Discarded, Nothing}
 use Rattle.port_model.specs.declared.timer.ActiveTimer.{ActiveTimer}
 use Rattle.port_model.specs.declared.timer.Phase.{Phase}
 use Rattle.port_model.specs.declared.timer.Phase.TheVariants.{Running, Waiting}
-use Rattle.port_model.specs.declared.timer_key.TimerKey.{TimerKey}
+use Rattle.port_values.specs.declared.timer_key.TimerKey.{TimerKey}
 use Rattle.sdl_expiries.proofs.Numbers.{eq_is}
 use Rattle.sdl_expiries.specs.Fused.{AreFused, IsOfFuse}
 

@@ -5,7 +5,7 @@ use Rattle.std.proofs.lemmas.List.Elements.{All-nil, All-rest, All-weaker, Conta
 use Rattle.inbox.specs.declared.entry.Fuse.{Fuse}
 use Rattle.port_model.specs.History.{PortEvent, Set}
 use Rattle.port_model.specs.Port.{PortState}
-use Rattle.port_model.specs.declared.value.Value.{Value}
+use Rattle.port_values.specs.declared.value.Value.{Value}
 use Rattle.sdl_courses.specs.Course.{Course, Expired, Follows, Happening, Heard, Moved, Steps, Ticked, begins, goes}
 use Rattle.sdl_courses.specs.Global.{Global, after_act, after_acts, beginning, change_at, heard_acts, with_expiry, with_instance}
 use Rattle.sdl_courses.specs.Told.{Moment, comes_by, first_moment, history_from, history_of, history_of_one, moment_after}
@@ -15,8 +15,8 @@ use Rattle.sdl_expiries.proofs.Arms.{Among, IsArmed, among_left, among_right, co
 use Rattle.sdl_expiries.proofs.Dues.{moment_from}
 use Rattle.sdl_expiries.proofs.Numbers.{eq_is}
 use Rattle.sdl_expiries.specs.Fused.{FusesWereSet, WasSet}
-use Rattle.sdl_report.specs.Event as event
-use Rattle.sdl_report.specs.Event.{Event}
+use Rattle.sdl_record.specs.Event as event
+use Rattle.sdl_record.specs.Event.{Event}
 use Rattle.sdl_runs.proofs.Acting.{AreActs, AreActsOf, runs_acts}
 use Rattle.sdl_runs.specs.Act.{Act, Arm, Create, Deed, Send, acts_of, calls_of}
 use Rattle.sdl_runs.specs.Leads.{created}

@@ -5,14 +5,14 @@ use Rattle.port_model.specs.History.{Expire, PortEvent, Set}
 use Rattle.port_model.specs.declared.timer.ActiveTimer.{ActiveTimer}
 use Rattle.port_model.specs.declared.timer.Phase.{Phase}
 use Rattle.port_model.specs.declared.timer.Phase.TheVariants.{Running, Waiting}
-use Rattle.port_model.specs.declared.timer_key.TimerKey.{TimerKey}
+use Rattle.port_values.specs.declared.timer_key.TimerKey.{TimerKey}
 use Rattle.sdl_courses.specs.Course.{AreBehaviours, Expired, Happening, Heard, Moved, Ticked}
 use Rattle.sdl_courses.specs.Global.{instance_at}
 use Rattle.sdl_courses.specs.Laws.{AtEachEnd}
 use Rattle.sdl_courses.specs.Report.{IsSerialReport}
 use Rattle.sdl_courses.specs.Told.{Moment, first_moment, history_of, moment_after}
 use Rattle.sdl_interp.specs.Instance.{InstanceValue}
-use Rattle.sdl_report.specs.declared.record.Report.{Report}
+use Rattle.sdl_record.specs.declared.record.Report.{Report}
 use Rattle.sdl_script.specs.declared.script.ScriptLine.{ScriptLine}
 use Rattle.sdl_system.specs.Behaviour.{Behaviour}
 use Rattle.sdl_system.specs.System.{SystemValue}

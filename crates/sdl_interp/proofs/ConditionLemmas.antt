@@ -11,8 +11,8 @@ use Rattle.sdl_evaluation.specs.Environment.{Environment}
 use Rattle.sdl_evaluation.specs.Memory.{FailsAs, wants_memory}
 use Rattle.sdl_evaluation.specs.Value.{truth_at}
 use Rattle.sdl_interp.specs.Condition.{are_conditions}
-use Rattle.sdl_report.specs.declared.failure.Failure.{Failure}
-use Rattle.sdl_report.specs.declared.failure.Failure.TheVariants.{Memory}
+use Rattle.sdl_record.specs.declared.failure.Failure.{Failure}
+use Rattle.sdl_record.specs.declared.failure.Failure.TheVariants.{Memory}
 use Rattle.sdl_runs.specs.Fails.{conditions_of}
 use Rattle.sdl_runs.specs.Selection.{begins, failing, fails, first_failure, none_true, tried, tried_or}
 use Rattle.sdl_system.specs.Behaviour.{ContinuousSignal, MeansContinuous, condition_in}

@@ -14,10 +14,10 @@ use Rattle.sdl_evaluation.specs.declared.store.Store.{Store}
 use Rattle.sdl_interp.specs.Selected.{CannotSelect}
 use Rattle.sdl_interp.specs.Stimulus.{Answers, FailsThen, Took}
 use Rattle.sdl_interp.specs.declared.stimulus.Led.{Led}
-use Rattle.sdl_report.specs.Event as event
-use Rattle.sdl_report.specs.Event.{Event, is_beginning, values_got}
-use Rattle.sdl_report.specs.declared.failure.Failure.{Failure}
-use Rattle.sdl_report.specs.declared.failure.Failure.TheVariants.{Memory}
+use Rattle.sdl_record.specs.Event as event
+use Rattle.sdl_record.specs.Event.{Event, is_beginning, values_got}
+use Rattle.sdl_record.specs.declared.failure.Failure.{Failure}
+use Rattle.sdl_record.specs.declared.failure.Failure.TheVariants.{Memory}
 use Rattle.sdl_runs.proofs.Goes.{IsOneStep-first, goes_deed, goes_drawn_stopped, goes_stopped, goes_taken, goes_taken_stopped, goes_until}
 use Rattle.sdl_runs.proofs.Same.{fails_drawn, selecting_drawn, tried_drawn}
 use Rattle.sdl_runs.specs.Act.{Deed}

@@ -6,14 +6,14 @@ use Rattle.inbox.specs.declared.entry.Entry.TheVariants.{Timer}
 use Rattle.inbox.specs.declared.entry.Fuse.{Fuse}
 use Rattle.port_model.specs.declared.refused.Refused.{Refused}
 use Rattle.port_model.specs.Port.{PortState, expire_in, put_into}
-use Rattle.port_model.specs.declared.item.Item.{Item}
-use Rattle.port_model.specs.declared.value.Value.{Value}
+use Rattle.port_values.specs.declared.item.Item.{Item}
+use Rattle.port_values.specs.declared.value.Value.{Value}
 use Rattle.sdl_interp.specs.Instance.{IsAtRest, IsClosed, IsInstance, closing, instance_of, variables_from}
 use Rattle.sdl_interp.specs.Stimulus.{IsAnswered, IsStepped, Responds, StepsFrom}
 use Rattle.sdl_interp.specs.declared.stimulus.Led.{Led}
-use Rattle.sdl_report.specs.Event as event
-use Rattle.sdl_report.specs.Event.{Event}
-use Rattle.sdl_report.specs.Record.{RecordValue, noted}
+use Rattle.sdl_record.specs.Event as event
+use Rattle.sdl_record.specs.Event.{Event}
+use Rattle.sdl_record.specs.Record.{RecordValue, noted}
 use Rattle.sdl_runs.proofs.Histories.{run_cut, run_goes, run_hears_expiry, run_hears_put, run_rests, run_unstarted, run_waits}
 use Rattle.sdl_runs.specs.Goes.{IsOneStep, MachineValue}
 use Rattle.sdl_runs.specs.Instance.{HasRun, first_variables, parameters_from}

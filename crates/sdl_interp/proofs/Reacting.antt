@@ -16,10 +16,10 @@ use Rattle.sdl_interp.proofs.First.{consumes, consumes_first, fails_taken}
 use Rattle.sdl_interp.specs.Selected.{IsTried}
 use Rattle.sdl_interp.specs.Stimulus.{Answers, BeginsWith, FailsThen, Took}
 use Rattle.sdl_interp.specs.declared.stimulus.Led.{Led}
-use Rattle.sdl_report.specs.Event as event
-use Rattle.sdl_report.specs.Event.{values_got}
-use Rattle.sdl_report.specs.declared.failure.Failure.{Failure}
-use Rattle.sdl_report.specs.declared.failure.Failure.TheVariants.{Memory}
+use Rattle.sdl_record.specs.Event as event
+use Rattle.sdl_record.specs.Event.{values_got}
+use Rattle.sdl_record.specs.declared.failure.Failure.{Failure}
+use Rattle.sdl_record.specs.declared.failure.Failure.TheVariants.{Memory}
 use Rattle.sdl_runs.proofs.Goes.{step_on, waits_taken}
 use Rattle.sdl_runs.proofs.Same.{environment_drawn}
 use Rattle.sdl_runs.specs.Fails.{FailsIn, conditions_of, of_continuous, of_trying}

@@ -3,12 +3,12 @@ use Rattle.std.proofs.Common.{◌≡◌, ◌⊎◌, ◌∙◌, inl, inr, sym, ap
 use Rattle.std.proofs.lemmas.Option.{slice_get-map}
 use Rattle.inbox.specs.Ends.{OwnerState}
 use Rattle.port_model.specs.Port.{PortState}
-use Rattle.port_model.specs.declared.value.Value.{Value}
+use Rattle.port_values.specs.declared.value.Value.{Value}
 use Rattle.sdl_evaluation.specs.Value.{placed}
 use Rattle.sdl_evaluation.specs.declared.store.Store.{Store}
 use Rattle.sdl_interp.specs.Stimulus.{HasVariables}
-use Rattle.sdl_report.specs.Record.{RecordValue}
-use Rattle.sdl_report.specs.declared.failure.Failure.{Failure}
+use Rattle.sdl_record.specs.Record.{RecordValue}
+use Rattle.sdl_record.specs.declared.failure.Failure.{Failure}
 use Rattle.sdl_runs.proofs.Goes.{goes_on, goes_turn, wrong_here, wrong_on}
 use Rattle.sdl_runs.specs.Goes.{AreInner, Goes, GoesWrong}
 use Rattle.sdl_runs.specs.Leads.{Turns}

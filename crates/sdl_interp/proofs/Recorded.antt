@@ -3,15 +3,15 @@ use Rattle.std.proofs.Common.{◌≡◌, ◌∙◌, ap, refl, ℕ}
 use Rattle.inbox.specs.Calls.{after_stop}
 use Rattle.inbox.specs.Ends.{OwnerState}
 use Rattle.port_model.specs.declared.got.Got.{Got}
-use Rattle.port_model.specs.declared.pid.Pid.{Pid}
-use Rattle.port_model.specs.declared.pid.Pid.TheVariants.{Of}
+use Rattle.port_values.specs.declared.pid.Pid.{Pid}
+use Rattle.port_values.specs.declared.pid.Pid.TheVariants.{Of}
 use Rattle.sdl_evaluation.specs.declared.store.Store.{Store}
 use Rattle.sdl_interp.specs.Stimulus.{FailsThen}
 use Rattle.sdl_interp.specs.declared.stimulus.Led.{Led}
-use Rattle.sdl_report.specs.Event as event
-use Rattle.sdl_report.specs.Event.{Event}
-use Rattle.sdl_report.specs.Record.{RecordValue, noted, with_room}
-use Rattle.sdl_report.specs.declared.failure.Failure.{Failure}
+use Rattle.sdl_record.specs.Event as event
+use Rattle.sdl_record.specs.Event.{Event}
+use Rattle.sdl_record.specs.Record.{RecordValue, noted, with_room}
+use Rattle.sdl_record.specs.declared.failure.Failure.{Failure}
 use Rattle.sdl_runs.specs.Goes.{MachineValue, with_event}
 use Rattle.sdl_runs.specs.Reception.{provided, sender_of, taking}
 use Rattle.sdl_runs.specs.World.{WorldValue}

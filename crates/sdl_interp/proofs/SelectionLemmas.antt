@@ -9,7 +9,7 @@ use Rattle.std.proofs.lemmas.Slice.Zip.{AllZip-left}
 use Rattle.port_model.specs.History.{Stop}
 use Rattle.port_model.specs.Port.{PortState}
 use Rattle.port_model.specs.Selection as selection
-use Rattle.port_model.specs.declared.item.SignalId.{SignalId}
+use Rattle.port_values.specs.declared.item.SignalId.{SignalId}
 use Rattle.port_model.specs.declared.selection.Class.{Class}
 use Rattle.port_model.specs.declared.selection.Class.TheVariants as class
 use Rattle.sdl_evaluation.specs.Environment.{Environment, environment}
@@ -19,8 +19,8 @@ use Rattle.sdl_evaluation.specs.declared.store.Store.{Store}
 use Rattle.sdl_interp.proofs.ConditionLemmas.{condition_at, none_fails, none_to_fail, truth_of_place}
 use Rattle.sdl_interp.specs.Condition.{are_conditions}
 use Rattle.sdl_interp.specs.Selected.{AreShut, IsShut, SelectsBy, SelectsNone}
-use Rattle.sdl_report.specs.declared.failure.Failure.{Failure}
-use Rattle.sdl_report.specs.declared.failure.Failure.TheVariants.{Memory}
+use Rattle.sdl_record.specs.declared.failure.Failure.{Failure}
+use Rattle.sdl_record.specs.declared.failure.Failure.TheVariants.{Memory}
 use Rattle.sdl_runs.specs.Fails.{FailsIn, of_condition, of_take}
 use Rattle.sdl_runs.specs.Place.{Definition}
 use Rattle.sdl_runs.specs.Selection.{Selects, class_by, enabled, first_failure}

@@ -2,14 +2,14 @@
 use Rattle.std.specs.Prelude.{◌≡◌, ◌≢◌, ◌⊎◌, Bool, true, false, List, [], ◌∷◌, ◌++◌, None, Some, drop, map}
 use Rattle.inbox.specs.Ends.{OwnerState}
 use Rattle.port_model.specs.declared.selection.Class.{Class}
-use Rattle.port_model.specs.declared.value.Value.{Value}
+use Rattle.port_values.specs.declared.value.Value.{Value}
 use Rattle.sdl_evaluation.specs.Environment.{initial_store}
 use Rattle.sdl_evaluation.specs.Variables.{VariableList}
 use Rattle.sdl_evaluation.specs.declared.identity.Identity.{Identity}
 use Rattle.sdl_evaluation.specs.declared.store.Store.{Store}
-use Rattle.sdl_report.specs.Event.{Event}
-use Rattle.sdl_report.specs.Event as event
-use Rattle.sdl_report.specs.Record.{RecordValue}
+use Rattle.sdl_record.specs.Event.{Event}
+use Rattle.sdl_record.specs.Event as event
+use Rattle.sdl_record.specs.Record.{RecordValue}
 use Rattle.sdl_runs.specs.Goes.{Goes, IsOneStep, MachineValue}
 use Rattle.sdl_runs.specs.Instance.{HasRun, parameters_from}
 use Rattle.sdl_runs.specs.Leads.{IsQuiet}

@@ -7,13 +7,13 @@ use Rattle.port_model.specs.declared.got.Got.{Got}
 use Rattle.port_model.specs.declared.selection.Class.{Class}
 use Rattle.port_model.specs.declared.taken.Taken.{Taken}
 use Rattle.port_model.specs.declared.taken.Taken.TheVariants.{Nothing}
-use Rattle.port_model.specs.declared.value.Value.{Value}
+use Rattle.port_values.specs.declared.value.Value.{Value}
 use Rattle.sdl_evaluation.specs.Environment.{environment}
 use Rattle.sdl_interp.specs.Selected.{IsTried}
 use Rattle.sdl_interp.specs.declared.stimulus.Led.{Led}
-use Rattle.sdl_report.specs.Event as event
-use Rattle.sdl_report.specs.Event.{values_got}
-use Rattle.sdl_report.specs.declared.failure.Failure.{Failure}
+use Rattle.sdl_record.specs.Event as event
+use Rattle.sdl_record.specs.Event.{values_got}
+use Rattle.sdl_record.specs.declared.failure.Failure.{Failure}
 use Rattle.sdl_runs.specs.Goes.{AreInner, Goes, GoesWrong, IsOneStep, MachineValue, Waits, with_event}
 use Rattle.sdl_runs.specs.Leads.{Selecting}
 use Rattle.sdl_runs.specs.Place.{Definition, Doing, In, Place, Receiving}

@@ -3,7 +3,7 @@
 ghost use Rattle.std.specs.Prelude.{◌≡◌, ◌≤◌};
 ghost use Rattle.sdl_runs.specs.World.{IsReading};
 
-use port_model::Ticks;
+use port_values::Ticks;
 use sdl_runs::World;
 use sdl_steps::Machine;
 

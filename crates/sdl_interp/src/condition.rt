@@ -12,7 +12,7 @@ ghost use Rattle.sdl_system.specs.Term.{Term};
 
 use inbox::Inbox;
 use sdl_evaluation::is_true;
-use sdl_report::Failure;
+use sdl_record::Failure;
 use sdl_steps::Machine;
 use sdl_system::{ConditionId, Enabling, Process, System};
 use std::alloc::Global;

@@ -13,7 +13,7 @@ ghost use Rattle.sdl_system.specs.declared.id.NodeId.{NodeId};
 
 use crate::condition::is_condition_true;
 use inbox::Inbox;
-use sdl_report::Failure;
+use sdl_record::Failure;
 use sdl_steps::Machine;
 use sdl_system::{Continuous, Process, System};
 use std::alloc::Global;

@@ -10,9 +10,9 @@ ghost use Rattle.sdl_interp.specs.Instance.{HasRunOf, IsAtRest, IsClosed, Keeps,
 
 use crate::stimulus::step_from;
 use inbox::{Alone, Fuse, Inbox, Refused};
-use port_model::{Item, Ticks, Value, Values};
+use port_values::{Item, Ticks, Value, Values};
 use sdl_evaluation::{Identity, Store, Variables};
-use sdl_report::Record;
+use sdl_record::Record;
 use sdl_runs::World;
 use sdl_steps::{Machine, Position};
 use sdl_system::{Process, System};

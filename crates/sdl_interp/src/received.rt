@@ -3,14 +3,15 @@
 ghost use Rattle.std.specs.Prelude.{◌≡◌, ◌≤◌};
 ghost use Rattle.port_model.specs.Take as port;
 ghost use Rattle.sdl_evaluation.specs.declared.identity.Identity.{Identity};
-ghost use Rattle.sdl_report.specs.Event.{values_got};
+ghost use Rattle.sdl_record.specs.Event.{values_got};
 ghost use Rattle.sdl_runs.specs.Reception as reception;
 ghost use Rattle.sdl_runs.specs.Reception.{receiving};
 ghost use Rattle.sdl_runs.specs.World.{IsReading};
 ghost use Rattle.sdl_steps.specs.Machine.{identity_of};
 
 use crate::clock::read_clock;
-use port_model::{Got, Pid, SignalId, Ticks, Value};
+use port_model::Got;
+use port_values::{Pid, SignalId, Ticks, Value};
 use sdl_runs::World;
 use sdl_steps::Machine;
 

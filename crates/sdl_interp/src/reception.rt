@@ -5,9 +5,9 @@ ghost use Rattle.inbox.specs.Ends.{OwnerState};
 ghost use Rattle.sdl_interp.specs.Stimulus.{Receives, ReceivesWrong};
 ghost use Rattle.sdl_steps.specs.Machine.{IsGoing, value_of};
 
-use port_model::Value;
+use port_values::Value;
 use sdl_evaluation::place;
-use sdl_report::Failure;
+use sdl_record::Failure;
 use sdl_steps::{Machine, sort_of};
 use sdl_system::{Process, VariableId};
 

@@ -4,9 +4,9 @@ use crate::case::{Play, identity};
 use crate::outside::{OWN, Outside};
 use crate::play::{Subject, finish, play};
 use inbox::{Alone, Fuse};
-use port_model::{Item, Ticks};
+use port_values::{Item, Ticks};
 use sdl_interp::{Instance, Stepped};
-use sdl_report::Record;
+use sdl_record::Record;
 use std::alloc::Global;
 use std::process::Abort;
 

@@ -4,7 +4,7 @@ ghost use Rattle.std.specs.Prelude.{◌≡◌, ℕ, true};
 
 use inbox::Fuse;
 use input_port::{Desk, Port, Sender};
-use port_model::{SignalId, Ticks, Values};
+use port_values::{SignalId, Ticks, Values};
 use sdl_members::Outside;
 use sdl_peers::Run;
 use sdl_system::{Dest, ProcessId, Source, System, Target};

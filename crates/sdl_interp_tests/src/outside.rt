@@ -3,7 +3,7 @@
 ghost use Rattle.std.specs.Prelude.{None, Some, true};
 
 use inbox::Fuse;
-use port_model::{Item, SignalId, Ticks, Values};
+use port_values::{Item, SignalId, Ticks, Values};
 use sdl_runs::World;
 use sdl_system::{Dest, ProcessId, Source, System, Target};
 use std::alloc::{AllocError, Global};

@@ -5,9 +5,9 @@ ghost use Rattle.std.specs.Prelude.{◌≤◌};
 
 use crate::outside::Outside;
 use inbox::{Fuse, Inbox};
-use port_model::{Item, Ticks};
+use port_values::{Item, Ticks};
 use sdl_interp::{Instance, Stepped};
-use sdl_report::Record;
+use sdl_record::Record;
 use sdl_script::{Script, ScriptLine};
 use std::alloc::Global;
 use std::process::Abort;

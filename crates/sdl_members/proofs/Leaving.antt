@@ -2,15 +2,15 @@
 use Rattle.std.proofs.Common.{◌≡◌, ◌∙◌, ◌==◌, ap, append-nil, cond, refl, sym, subst, ℕ, Bool, true, false, List, [], ◌∷◌, ◌++◌, All}
 use Rattle.std.proofs.lemmas.Grind.{flat_map-append}
 use Rattle.std.proofs.lemmas.List.Elements.{All-append, All-cons, All-nil}
-use Rattle.port_model.specs.declared.item.Item.{Item}
-use Rattle.port_model.specs.declared.pid.Pid.TheVariants.{Of}
+use Rattle.port_values.specs.declared.item.Item.{Item}
+use Rattle.port_values.specs.declared.pid.Pid.TheVariants.{Of}
 use Rattle.sdl_interp.specs.Instance.{InstanceValue, IsClosed, IsRunAs, closing}
 use Rattle.sdl_members.specs.Member.{ArePut, HasPut}
 use Rattle.sdl_peers.proofs.Kept.{last_none}
 use Rattle.sdl_peers.specs.Peers.{AreLast, ArePeers, PeersState}
-use Rattle.sdl_report.specs.Event as event
-use Rattle.sdl_report.specs.Event.{Event}
-use Rattle.sdl_report.specs.Record.{RecordValue}
+use Rattle.sdl_record.specs.Event as event
+use Rattle.sdl_record.specs.Event.{Event}
+use Rattle.sdl_record.specs.Record.{RecordValue}
 use Rattle.sdl_runs.specs.Place.{Definition}
 use Rattle.sdl_runs.specs.Sent.{sent_by_one, sent_to}
 use Rattle.sdl_runs.specs.World.{has_port}

@@ -5,7 +5,7 @@ use Rattle.inbox.specs.Calls.{ComesBack}
 use Rattle.inbox.specs.declared.entry.Entry.TheVariants.{Signal, Timer}
 use Rattle.inbox.specs.declared.entry.Fuse.{Fuse}
 use Rattle.input_port.specs.Ends.{SenderState}
-use Rattle.port_model.specs.declared.item.Item.{Item}
+use Rattle.port_values.specs.declared.item.Item.{Item}
 use Rattle.port_model.specs.declared.refused.Refused.{Refused}
 use Rattle.sdl_peers.proofs.SenderLemmas.{put_in, put_to-puts}
 use Rattle.sdl_peers.specs.Peers.{PeersState, PutsTo, put_by, put_to, sender_to}

@@ -2,7 +2,7 @@
 use Rattle.std.proofs.Common.{◌≡◌, ◌∙◌, ap, cond, refl, sym, subst, inl, inr, Bool, true, false, List, [], ◌∷◌, ◌++◌, Some}
 use Rattle.std.proofs.lemmas.Grind.{flat_map-append}
 use Rattle.std.proofs.lemmas.Option.{same_Some}
-use Rattle.port_model.specs.declared.item.Item.{Item}
+use Rattle.port_values.specs.declared.item.Item.{Item}
 use Rattle.sdl_evaluation.specs.declared.identity.Identity.{Identity}
 use Rattle.sdl_interp.specs.Instance.{EndsBy, InstanceValue, IsIdle, IsRunAs, Keeps, Moves, Steps, work_of}
 use Rattle.sdl_interp.specs.Stimulus.{WaitsAt}
@@ -11,7 +11,7 @@ use Rattle.sdl_interp.specs.declared.instance.Stepped.TheVariants as stepped
 use Rattle.sdl_members.specs.Around.{world_of}
 use Rattle.sdl_members.specs.Member.{HasPut}
 use Rattle.sdl_peers.specs.Peers.{PeersState, put_to}
-use Rattle.sdl_report.specs.Event.{Event}
+use Rattle.sdl_record.specs.Event.{Event}
 use Rattle.sdl_runs.proofs.Acting.{runs_acts}
 use Rattle.sdl_runs.proofs.Sent.{deeds_send}
 use Rattle.sdl_runs.specs.Act.{Act, Deed, events_of}

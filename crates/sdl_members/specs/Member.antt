@@ -2,7 +2,7 @@
 use Rattle.std.specs.Prelude.{◌≡◌, ℕ, List, [], if◌then◌else◌}
 use Rattle.sdl_interp.specs.Instance.{InstanceValue, IsRunAs}
 use Rattle.sdl_peers.specs.Peers.{PeersState, put_to}
-use Rattle.sdl_report.specs.Event.{Event}
+use Rattle.sdl_record.specs.Event.{Event}
 use Rattle.sdl_runs.specs.Place.{Definition}
 use Rattle.sdl_runs.specs.Sent.{sent_to}
 use Rattle.sdl_runs.specs.World.{has_port}

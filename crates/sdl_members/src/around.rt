@@ -7,7 +7,7 @@ ghost use Rattle.sdl_runs.specs.World.{has_port, sent_on};
 
 use crate::Outside;
 use inbox::{Fuse, Refused};
-use port_model::{Item, SignalId, Ticks, Values};
+use port_values::{Item, SignalId, Ticks, Values};
 use sdl_peers::{Peers, Run};
 use sdl_runs::World;
 use sdl_system::{Dest, ProcessId, System, Target};

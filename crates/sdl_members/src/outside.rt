@@ -6,7 +6,7 @@ ghost use Rattle.sdl_runs.specs.World.{IsRouteBy, has_port};
 
 use inbox::Fuse;
 use input_port::{Port, Sender};
-use port_model::{SignalId, Ticks, Values};
+use port_values::{SignalId, Ticks, Values};
 use sdl_peers::Run;
 use sdl_system::{Dest, ProcessId, System, Target};
 use std::alloc::AllocError;

@@ -9,7 +9,7 @@ ghost use Rattle.sdl_faults.specs.Faults.{least_of, told};
 ghost use Rattle.sdl_sorts.specs.Scope.{signal_meaning};
 
 use crate::declaration::{Declaration, add, declare_all};
-use port_model::SignalId;
+use port_values::SignalId;
 use sdl_declared::{SignalEntry, SignalKind, Tables, next_number};
 use sdl_faults::Faults;
 use sdl_sorts::SignalMeaning;

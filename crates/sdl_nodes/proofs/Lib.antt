@@ -5,10 +5,8 @@ pub mod CountLemmas
 pub mod LaterLemmas
 pub mod LinkLemmas
 pub mod ListedLaws
-pub mod ListLemmas
 pub mod MadeLemmas
 pub mod NamedLemmas
 pub mod PartLemmas
-pub mod StepLemmas
 pub mod TransitionLemmas
 pub mod TreeLemmas

@@ -1,8 +1,8 @@
 -- Each join of the body of a transition leads to a label that some name stands for.
 use Rattle.std.proofs.Common.{◌≡◌, ◌∙◌, inl, inr, ℕ, List, [], ◌∷◌, Option, None, Some, option_map, refl, ap, sym, subst}
-use Rattle.sdl_nodes.specs.Contexts.{Context, label_in, state_in}
+use Rattle.sdl_statements.specs.Contexts.{Context, label_in, state_in}
 use Rattle.sdl_nodes.specs.Labels.{gathered_in, joined, joins_of, no_label}
-use Rattle.sdl_nodes.specs.Statements.{answers_in, asked_in, create_in, kind_in, output_in, reset_in, set_in, task_in, terminator_in}
+use Rattle.sdl_statements.specs.Statements.{answers_in, asked_in, create_in, kind_in, output_in, reset_in, set_in, task_in, terminator_in}
 use Rattle.sdl_nodes.specs.Transitions.{Head, Piece, acts, asks, before, body_in, ending_in, head_in, labelled, other_in, parts_of, piece, pieces_in, steps_in}
 use Rattle.sdl_nodes.proofs.CountLemmas.{in-append}
 use Rattle.sdl_faults.specs.FaultLaws.{In}

@@ -1,7 +1,7 @@
 -- How a statement with its label is added to a table.
 use Rattle.std.proofs.Common.{◌≡◌, ◌∙◌, ◌⊎◌, inl, inr, ◌++◌, List, Option, None, Some, append-nil, option_and_then, option_map, refl, ap, sym, subst}
 use Rattle.sdl_nodes.specs.Built.{Built, BuiltIf, Table, end_of, mark_if, marks_for, place_of, placed}
-use Rattle.sdl_nodes.specs.Contexts.{Context, label_in}
+use Rattle.sdl_statements.specs.Contexts.{Context, label_in}
 use Rattle.sdl_nodes.specs.Decided.{Acts, Asks, BuiltOtherIf, BuiltParts, BuiltPieceIf, BuiltPiecesIf, HeadIf, IsDecision, IsDecisionOrNone}
 use Rattle.sdl_nodes.specs.Transitions.{Head, Piece, acts, asks, before, labelled, parts_of}
 use Rattle.sdl_nodes.specs.declared.table.Mark.{Mark}

@@ -1,6 +1,6 @@
 -- What the definitions make of transitions and decisions that keep lists.
 use Rattle.std.proofs.Common.{◌≡◌, ◌∙◌, ◌++◌, List, [], ◌∷◌, Option, flat_map, map, option_map, refl, ap, sym}
-use Rattle.sdl_nodes.specs.Contexts.{Context}
+use Rattle.sdl_statements.specs.Contexts.{Context}
 use Rattle.sdl_nodes.specs.Transitions.{part_faults, parts_faults, piece_in, pieces_in}
 use Rattle.sdl_sorts.specs.Partial.{all_some, both}
 use Rattle.sdl_kinds.specs.declared.kind.Kind.{Kind}

@@ -1,11 +1,11 @@
 -- When a rule is broken in a transition, and at which word: said of the statements that stand in it, and not of what is
 -- noted (Z.102: task, output, set, reset, create, decision, join, nextstate).
 use Rattle.std.specs.Prelude.{◌≡◌, Bool, false, List, Option, None, Some}
-use Rattle.port_model.specs.declared.item.SignalId.{SignalId}
+use Rattle.port_values.specs.declared.item.SignalId.{SignalId}
 use Rattle.sdl_nodes.specs.BrokenAnswers.{BreaksAnswer}
-use Rattle.sdl_nodes.specs.Contexts.{Context, is_reaching, label_in, state_in}
+use Rattle.sdl_statements.specs.Contexts.{Context, is_reaching, label_in, state_in}
 use Rattle.sdl_nodes.specs.Standing.{EndsIn, IsAskedBy, IsPidPlace, StandsIn}
-use Rattle.sdl_nodes.specs.Statements.{asked_in, kind_in}
+use Rattle.sdl_statements.specs.Statements.{asked_in, kind_in}
 use Rattle.sdl_nodes.specs.Transitions.{transition_faults}
 use Rattle.sdl_faults.specs.FaultLaws.{Each, In}
 use Rattle.sdl_faults.specs.Faults.{Told, told_at}

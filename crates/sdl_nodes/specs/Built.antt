@@ -1,7 +1,7 @@
 -- What it means that a body was added to a table of nodes. A table grows, and its joins are linked last: so a body
 -- stands in a table where it does in each that the table can become.
 use Rattle.std.specs.Prelude.{◌≡◌, ◌⊎◌, ◌+◌, ◌++◌, List, [], ◌∷◌, Option, None, Some, flat_map, length, map, slice_get}
-use Rattle.sdl_nodes.specs.Contexts.{Context, label_in}
+use Rattle.sdl_statements.specs.Contexts.{Context, label_in}
 use Rattle.sdl_nodes.specs.Labels.{joins_of, labels_of, times}
 use Rattle.sdl_nodes.specs.declared.table.Mark.{Mark}
 use Rattle.sdl_nodes.specs.declared.table.NodeTable.{NodeTable}

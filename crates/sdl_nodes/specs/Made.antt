@@ -1,7 +1,7 @@
 -- The table of all bodies of a process.
 use Rattle.std.specs.Prelude.{◌≡◌, ◌≤◌, ◌++◌, ℕ, List, [], ◌∷◌, None, Some, flat_map, length, slice_get}
 use Rattle.sdl_nodes.specs.Built.{Built, Lasts, Table, joined_labels, marked_labels}
-use Rattle.sdl_nodes.specs.Contexts.{Context, label_in}
+use Rattle.sdl_statements.specs.Contexts.{Context, label_in}
 use Rattle.sdl_nodes.specs.Labels.{joins_of, labels_of, times}
 use Rattle.sdl_nodes.specs.Transitions.{body_in}
 use Rattle.sdl_nodes.specs.declared.table.Mark.{Mark}

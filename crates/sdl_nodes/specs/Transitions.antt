@@ -1,8 +1,8 @@
 -- What a transition does, and the rules that it breaks (Z.102: transition, decision).
 use Rattle.std.specs.Prelude.{◌++◌, List, [], ◌∷◌, Option, None, Some, option_map}
-use Rattle.sdl_nodes.specs.Contexts.{Context, label_in}
-use Rattle.sdl_nodes.specs.Faulty.{answers_faults, asked_faults, assignment_faults, create_faults, output_faults, setting_faults, terminator_faults, timing_faults}
-use Rattle.sdl_nodes.specs.Statements.{answers_in, asked_in, create_in, kind_in, output_in, reset_in, set_in, task_in, terminator_in}
+use Rattle.sdl_statements.specs.Contexts.{Context, label_in}
+use Rattle.sdl_statements.specs.Faulty.{answers_faults, asked_faults, assignment_faults, create_faults, output_faults, setting_faults, terminator_faults, timing_faults}
+use Rattle.sdl_statements.specs.Statements.{answers_in, asked_in, create_in, kind_in, output_in, reset_in, set_in, task_in, terminator_in}
 use Rattle.sdl_faults.specs.Faults.{Told}
 use Rattle.sdl_sorts.specs.Partial.{both}
 use Rattle.sdl_sorts.specs.Typing.{Typed, term_in}

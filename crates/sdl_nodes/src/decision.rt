@@ -1,21 +1,21 @@
 //! Questions and their answers (Z.102: decision).
 
 ghost use Rattle.std.specs.Prelude.{◌≡◌, flat_map, map, option_map, IfOk, OnOk};
-ghost use Rattle.sdl_nodes.specs.Contexts.{context_of};
+ghost use Rattle.sdl_statements.specs.Contexts.{context_of};
 ghost use Rattle.sdl_nodes.specs.Decided.{IsDecisionOrNone, branch_of};
-ghost use Rattle.sdl_nodes.specs.Faulty.{answers_faults};
-ghost use Rattle.sdl_nodes.specs.Statements.{answers_in, kind_in};
+ghost use Rattle.sdl_statements.specs.Faulty.{answers_faults};
+ghost use Rattle.sdl_statements.specs.Statements.{answers_in, kind_in};
 ghost use Rattle.sdl_faults.specs.Faults.{least_of, told};
 ghost use Rattle.sdl_sorts.specs.Resolved.{typed_of};
 ghost use Rattle.sdl_sorts.specs.Typing.{term_in};
 ghost use Rattle.sdl_system.specs.Term.{term_of};
 ghost use Rattle.sdl_tree.specs.Views.{answer_value};
 
-use crate::context::Context;
-use crate::list::all_there;
 use sdl_faults::Faults;
 use sdl_kinds::Kind;
 use sdl_sorts::{Typed, resolve_answer};
+use sdl_statements::Context;
+use sdl_statements::list::all_there;
 use sdl_system::{Branch, Decision, Expression, Statement, Way};
 use sdl_tree::Answer;
 use std::alloc::{AllocError, Global};

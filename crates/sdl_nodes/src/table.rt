@@ -2,10 +2,10 @@
 
 ghost use Rattle.std.specs.Prelude.{◌≡◌, [], IfOk, OnOk, option_map};
 ghost use Rattle.sdl_nodes.specs.Built.{place_of, placed, table_of};
-ghost use Rattle.sdl_nodes.specs.Contexts.{context_of};
+ghost use Rattle.sdl_statements.specs.Contexts.{context_of};
 ghost use Rattle.sdl_tree.specs.Views.{name_value};
 
-use crate::context::Context;
+use sdl_statements::Context;
 use sdl_system::{LabelId, Node, NodeId, Statement};
 use sdl_tree::Name;
 use std::alloc::{AllocError, Global};

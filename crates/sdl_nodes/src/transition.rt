@@ -3,7 +3,7 @@
 
 ghost use Rattle.std.specs.Prelude.{◌≡◌, ◌++◌, Option, Some, flat_map, map, option_map, IfOk, OnOk};
 ghost use Rattle.sdl_nodes.specs.Built.{BuiltIf, Table, table_of};
-ghost use Rattle.sdl_nodes.specs.Contexts.{context_of};
+ghost use Rattle.sdl_statements.specs.Contexts.{context_of};
 ghost use Rattle.sdl_nodes.specs.Decided.{BuiltOtherIf, BuiltPieceIf, BuiltPiecesIf, HeadIf};
 ghost use Rattle.sdl_nodes.specs.Transitions.{action_faults, before, body_in, ending_faults, ending_in, head_in, labelled, other_faults, other_in, part_faults, piece_in, steps_faults, steps_in, transition_faults};
 ghost use Rattle.sdl_faults.specs.Faults.{least_of, told};
@@ -13,19 +13,17 @@ ghost use Rattle.sdl_system.specs.declared.id.NodeId as ids;
 ghost use Rattle.sdl_tree.specs.Tree.{actions_of, else_of};
 ghost use Rattle.sdl_tree.specs.Views.{action_value, answer_part_value, ending_value, statement_value, transition_value};
 
-use crate::context::Context;
-use crate::create::resolve_create;
 use crate::decision::{branch, decision, kind_of, question_of, resolve_answers};
 use crate::later::note_later;
-use crate::list::and_last;
-use crate::output::resolve_output;
 use crate::table::NodeTable;
-use crate::task::resolve_task;
-use crate::terminator::resolve_terminator;
-use crate::timer::{resolve_reset, resolve_set};
 use sdl_faults::Faults;
 use sdl_kinds::Kind;
 use sdl_sorts::resolve;
+use sdl_statements::list::and_last;
+use sdl_statements::{
+    Context, resolve_create, resolve_output, resolve_reset, resolve_set, resolve_task,
+    resolve_terminator,
+};
 use sdl_system::{Branch, NodeId, Statement, Way};
 use sdl_tree::{Action, ActionStatement, AnswerPart, TerminatorStatement, Transition};
 use std::alloc::{AllocError, Global};

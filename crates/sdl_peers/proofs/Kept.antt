@@ -6,10 +6,10 @@ use Rattle.inbox.specs.Calls.{ComesBack}
 use Rattle.inbox.specs.declared.entry.Entry.TheVariants.{Signal, Timer}
 use Rattle.inbox.specs.declared.entry.Fuse.{Fuse}
 use Rattle.input_port.specs.Ends.{SenderState}
-use Rattle.port_model.specs.declared.item.Item.{Item}
-use Rattle.port_model.specs.declared.pid.Pid.TheVariants.{Of}
+use Rattle.port_values.specs.declared.item.Item.{Item}
+use Rattle.port_values.specs.declared.pid.Pid.TheVariants.{Of}
 use Rattle.port_model.specs.declared.refused.Refused.{Refused}
-use Rattle.sdl_report.specs.Event.{Event}
+use Rattle.sdl_record.specs.Event.{Event}
 use Rattle.sdl_system.specs.declared.route.Dest.{Dest}
 use Rattle.sdl_peers.proofs.SenderLemmas.{IsSet, put_in, put_to-puts, put_to-set, sender_to-last}
 use Rattle.sdl_peers.proofs.SentLemmas.{sent_by_one-output, sent_to-append}

@@ -4,8 +4,8 @@ use Rattle.std.proofs.lemmas.List.Elements.{All-nil}
 use Rattle.inbox.specs.Put.{of}
 use Rattle.input_port.proofs.PutLists.{of-append}
 use Rattle.input_port.specs.Counts.{signals_in}
-use Rattle.port_model.specs.declared.item.Item.{Item}
-use Rattle.port_model.specs.declared.pid.Pid.TheVariants.{Of}
+use Rattle.port_values.specs.declared.item.Item.{Item}
+use Rattle.port_values.specs.declared.pid.Pid.TheVariants.{Of}
 use Rattle.sdl_counts.proofs.Signals.{signals_in-append}
 use Rattle.sdl_peers.proofs.Kept.{last_more, last_none}
 use Rattle.sdl_peers.specs.Laws.{NobodyPuts, OthersPutNothing, SendersFillRows}

@@ -14,7 +14,7 @@ use Rattle.input_port.proofs.PutLists.{of_none, of_same}
 use Rattle.input_port.specs.Calls.{PutIs, Puts}
 use Rattle.input_port.specs.Counts.{signal_before, signals_in}
 use Rattle.input_port.specs.Ends.{SenderState, sent_by}
-use Rattle.port_model.specs.declared.item.Item.{Item}
+use Rattle.port_values.specs.declared.item.Item.{Item}
 use Rattle.port_model.specs.declared.refused.Refused.{Refused}
 use Rattle.sdl_counts.proofs.Signals.{signals_in-append}
 use Rattle.sdl_peers.specs.Peers.{PeersState, PutsTo, put_by, put_to, sender_to}

@@ -1,10 +1,10 @@
 -- What a record sends, once one event more is noted.
 use Rattle.std.proofs.Common.{◌≡◌, ◌∙◌, ap, append-nil, cond, nat_eq, sym, ℕ, List, [], ◌∷◌, ◌++◌}
 use Rattle.std.proofs.lemmas.Grind.{flat_map-append}
-use Rattle.port_model.specs.declared.item.Item.{Item}
-use Rattle.port_model.specs.declared.pid.Pid.{Pid}
-use Rattle.port_model.specs.declared.pid.Pid.TheVariants.{Of}
-use Rattle.sdl_report.specs.Event.{Event}
+use Rattle.port_values.specs.declared.item.Item.{Item}
+use Rattle.port_values.specs.declared.pid.Pid.{Pid}
+use Rattle.port_values.specs.declared.pid.Pid.TheVariants.{Of}
+use Rattle.sdl_record.specs.Event.{Event}
 use Rattle.sdl_system.specs.declared.route.Dest.{Dest}
 use Rattle.sdl_runs.specs.Sent.{output_of, sent_by_one, sent_to}
 

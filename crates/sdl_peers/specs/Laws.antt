@@ -3,11 +3,11 @@ use Rattle.std.specs.Prelude.{◌≡◌, ◌⊎◌, ℕ, List, [], ◌∷◌, �
 use Rattle.inbox.specs.Put.{StartsWith}
 use Rattle.inbox.specs.declared.placed.Placed.{Placed}
 use Rattle.input_port.specs.Ends.{SenderState}
-use Rattle.port_model.specs.declared.item.Item.{Item}
-use Rattle.port_model.specs.declared.pid.Pid.{Pid}
-use Rattle.port_model.specs.declared.pid.Pid.TheVariants.{Of}
+use Rattle.port_values.specs.declared.item.Item.{Item}
+use Rattle.port_values.specs.declared.pid.Pid.{Pid}
+use Rattle.port_values.specs.declared.pid.Pid.TheVariants.{Of}
 use Rattle.sdl_counts.specs.Rows.{Holds}
-use Rattle.sdl_report.specs.Event.{Event}
+use Rattle.sdl_record.specs.Event.{Event}
 use Rattle.sdl_peers.specs.Peers.{AreLast, ArePeers, PeersState, put_by, put_to}
 use Rattle.sdl_runs.specs.Sent.{sent_by_one, sent_to}
 

@@ -9,10 +9,10 @@ use Rattle.inbox.specs.Put.{of}
 use Rattle.input_port.specs.Calls.{Puts}
 use Rattle.input_port.specs.Counts.{signals_in}
 use Rattle.input_port.specs.Ends.{SenderState}
-use Rattle.port_model.specs.declared.item.Item.{Item}
-use Rattle.port_model.specs.declared.pid.Pid.TheVariants.{Of}
+use Rattle.port_values.specs.declared.item.Item.{Item}
+use Rattle.port_values.specs.declared.pid.Pid.TheVariants.{Of}
 use Rattle.sdl_counts.specs.Rows.{EndsWith}
-use Rattle.sdl_report.specs.Event.{Event}
+use Rattle.sdl_record.specs.Event.{Event}
 use Rattle.sdl_runs.specs.Sent.{sent_to}
 
 -- ---- the senders

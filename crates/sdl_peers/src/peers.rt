@@ -3,17 +3,18 @@
 ghost use Rattle.std.specs.Prelude.{◌≡◌, ◌≤◌, ◌++◌, ◌∷◌, [], ℕ, List, false, length, true, IfSome, MatchOption, MatchResult, OnOk};
 ghost use Rattle.inbox.specs.Calls.{ComesBack};
 ghost use Rattle.inbox.specs.declared.entry.Entry.TheVariants.{Signal, Timer};
-ghost use Rattle.port_model.specs.declared.pid.Pid.TheVariants.{Of};
+ghost use Rattle.port_values.specs.declared.pid.Pid.TheVariants.{Of};
 ghost use Rattle.sdl_peers.specs.Peers.{is_known, put_by, put_to, AreLast, ArePeers, PutsTo};
 ghost use Rattle.sdl_runs.specs.Sent.{output_of};
-ghost use Rattle.sdl_report.specs.Event.{Event};
+ghost use Rattle.sdl_record.specs.Event.{Event};
 ghost use Rattle.sdl_system.specs.declared.route.Dest.{Dest};
 
 use crate::{Peer, Run};
 use inbox::{Fuse, Refused};
 use indexmap::IndexMap;
 use input_port::{Port, Sender};
-use port_model::{Item, PortError, Ticks};
+use port_model::PortError;
+use port_values::{Item, Ticks};
 use std::alloc::{AllocFailed, Global};
 use std::marker::{Model, PhantomData};
 use std::sync::Wait;

@@ -4,7 +4,7 @@ use Rattle.std.proofs.lemmas.List.{length-map}
 use Rattle.sdl_bodies.specs.Bodies.{beginning_body}
 use Rattle.sdl_bodies.specs.Sound.{AreTransitionsOf}
 use Rattle.sdl_bodies.specs.declared.transitions.Transitions.{Transitions}
-use Rattle.sdl_ends.specs.Beginnings.{beginnings}
+use Rattle.sdl_paths.specs.Beginnings.{beginnings}
 use Rattle.sdl_states.specs.States.{states_of}
 use Rattle.sdl_states.specs.Tabled.{meanings_at}
 use Rattle.sdl_stimuli.specs.Listed.{conditions_listed}

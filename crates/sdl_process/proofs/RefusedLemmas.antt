@@ -2,7 +2,7 @@
 use Rattle.std.proofs.Common.{◌≡◌, ℕ, suc, true, false, All, Contains, IfNone, List, [], ◌∷◌, Option, None, Some, ap, arith, is_some, length, option_map, slice_get, subst}
 use Rattle.sdl_bodies.specs.Sound.{AreTransitionsOf}
 use Rattle.sdl_bodies.specs.declared.transitions.Transitions.{Transitions}
-use Rattle.sdl_ends.specs.Beginnings.{beginnings}
+use Rattle.sdl_paths.specs.Beginnings.{beginnings}
 use Rattle.sdl_states.specs.Shared.{IsOfName}
 use Rattle.sdl_stimuli.specs.Listed.{conditions_listed}
 use Rattle.sdl_stimuli.specs.Reading.{process_read}

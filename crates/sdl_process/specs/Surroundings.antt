@@ -1,7 +1,7 @@
 -- What the names in a process stand for.
 use Rattle.std.specs.Prelude.{ℕ, ℤ, Bool, List, Option}
-use Rattle.port_model.specs.declared.item.SignalId.{SignalId}
-use Rattle.sdl_nodes.specs.Contexts as nodes
+use Rattle.port_values.specs.declared.item.SignalId.{SignalId}
+use Rattle.sdl_statements.specs.Contexts as nodes
 use Rattle.sdl_sorts.specs.Scope.{Scope, meaning, scope_of, visible}
 use Rattle.sdl_stimuli.specs.Context as stimuli
 use Rattle.sdl_stimuli.specs.Context.{listed_members, members_of}

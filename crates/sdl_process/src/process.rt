@@ -3,7 +3,7 @@
 ghost use Rattle.std.specs.Prelude.{◌≡◌, ◌≤◌, ◌++◌, ℕ, All, List, IfNone, IfOk, IfSome, OnOk, flat_map, length};
 ghost use Rattle.sdl_bodies.specs.Added.{HasEach};
 ghost use Rattle.sdl_bodies.specs.Sound.{AreTransitionsOf};
-ghost use Rattle.sdl_ends.specs.Beginnings.{beginnings};
+ghost use Rattle.sdl_paths.specs.Beginnings.{beginnings};
 ghost use Rattle.sdl_faults.specs.Faults.{least_of, told};
 ghost use Rattle.sdl_scope.specs.Limits.{different};
 ghost use Rattle.sdl_states.specs.States.{is_named, left_out_faults, names_in};

@@ -2,7 +2,7 @@
 
 ghost use Rattle.std.specs.Prelude.{◌≡◌};
 
-use port_model::SignalId;
+use port_values::SignalId;
 use sdl_declared::SignalListId;
 use sdl_scope::{Names, Outward};
 use sdl_sorts::Scope;
@@ -29,7 +29,7 @@ pub struct Surroundings<'a, 's, 't> {
 }
 
 impl<'a, 's, 't> Surroundings<'a, 's, 't> {
-    ghost use Rattle.sdl_nodes.specs.Contexts as nodes;
+    ghost use Rattle.sdl_statements.specs.Contexts as nodes;
     ghost use Rattle.sdl_stimuli.specs.Context as stimuli;
     ghost use Rattle.sdl_process.specs.Surroundings.{for_stimuli, for_transitions, surroundings_of};
 
@@ -45,10 +45,10 @@ impl<'a, 's, 't> Surroundings<'a, 's, 't> {
     }
 
     /// What transitions can name.
-    pub(crate) fn for_transitions(&self) -> sdl_nodes::Context<'a, 's, 't>
+    pub(crate) fn for_transitions(&self) -> sdl_statements::Context<'a, 's, 't>
         ensures { nodes.context_of result ≡ for_transitions (surroundings_of self.now) }
     {
-        sdl_nodes::Context {
+        sdl_statements::Context {
             scope: self.scope,
             states: self.states.table,
             labels: self.labels,

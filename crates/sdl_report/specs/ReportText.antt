@@ -3,22 +3,21 @@ use Rattle.std.specs.Prelude.{ℕ, List, [], ◌∷◌, ◌++◌, Option, Some, 
 use Rattle.std.specs.List.{flat_map}
 use Rattle.std.specs.Fmt.{decimal}
 use Rattle.port_model.specs.Take.{name_of}
-use Rattle.port_model.specs.Text.{pid_text, value_text, values_text}
+use Rattle.port_values.specs.Text.{pid_text, value_text, values_text}
 use Rattle.port_model.specs.declared.got.Got as got
-use Rattle.port_model.specs.declared.got.Got.TheVariants as came
-use Rattle.port_model.specs.declared.item.SignalId.{SignalId}
-use Rattle.port_model.specs.declared.pid.Pid as pid
-use Rattle.port_model.specs.declared.pid.Pid.TheVariants as who
-use Rattle.port_model.specs.declared.value.Value.{Value}
+use Rattle.port_values.specs.declared.item.SignalId.{SignalId}
+use Rattle.port_values.specs.declared.pid.Pid as pid
+use Rattle.port_values.specs.declared.value.Value.{Value}
 use Rattle.sdl_system.specs.System.{SystemValue}
 use Rattle.sdl_system.specs.declared.route.Target as target
 use Rattle.sdl_system.specs.declared.route.Target.TheVariants as reached
-use Rattle.sdl_report.specs.Event as event
-use Rattle.sdl_report.specs.Event.{values_got}
-use Rattle.sdl_report.specs.Failure.{failure_text}
+use Rattle.sdl_record.specs.Event as event
+use Rattle.sdl_record.specs.Entry.{sender_of}
+use Rattle.sdl_record.specs.Event.{values_got}
+use Rattle.sdl_record.specs.Failure.{failure_text}
 use Rattle.sdl_report.specs.Name.{signal_name, process_name, state_name, variable_name}
-use Rattle.sdl_report.specs.Record.{RecordValue}
-use Rattle.sdl_report.specs.declared.record.Report.{Report}
+use Rattle.sdl_record.specs.Record.{RecordValue}
+use Rattle.sdl_record.specs.declared.record.Report.{Report}
 
 -- whom an output reached
 abbrev pub target_text : target.Target → List ℕ
@@ -30,11 +29,6 @@ target_text reached.Nobody = codes "nobody"
 -- a signal or a timer with its values
 abbrev pub signal_text : SystemValue → SignalId → List Value → List ℕ
 signal_text system signal values = signal_name system signal ++ values_text values
-
--- who sent what the instance of this number got: a timer's signal comes from the instance itself
-abbrev pub sender_of : ℕ → got.Got → pid.Pid
-sender_of own (came.Signal item) = item.sender
-sender_of own (came.Timer key) = who.Of own
 
 -- what was got, and who sent it
 abbrev pub stimulus_text : SystemValue → RecordValue → got.Got → List ℕ

@@ -3,16 +3,15 @@
 ghost use Rattle.std.specs.Fmt.{decimal};
 ghost use Rattle.std.specs.Prelude.{◌≡◌, ◌++◌, codes, OnOk};
 ghost use Rattle.std.specs.String.{string_bytes};
-ghost use Rattle.port_model.specs.Text.{value_text, values_text};
-ghost use Rattle.sdl_report.specs.Entry.{event_of, got_of};
+ghost use Rattle.port_values.specs.Text.{value_text, values_text};
+ghost use Rattle.sdl_record.specs.Entry.{event_of, got_of};
 ghost use Rattle.sdl_report.specs.Name.{process_name, variable_name};
 ghost use Rattle.sdl_report.specs.ReportText.{created_text, event_line, line, signal_text, stimulus_text, target_text};
 
-use crate::Record;
-use crate::entry::{Entry, Stimulus};
 use crate::names::{process_name, signal_name, state_name, variable_name};
 use crate::pieces::{push_number, push_pid, push_target, push_value};
-use port_model::{SignalId, Value};
+use port_values::{SignalId, Value};
+use sdl_record::{Entry, Record, Stimulus};
 use sdl_system::{ProcessId, System, Target, VariableId};
 use std::alloc::AllocError;
 
@@ -80,6 +79,7 @@ fn push_name(text: &mut String, beginning: &str, name: &str) -> Result<(), Alloc
 }
 
 // Appends the line of a signal or a timer that was taken: when, the word for what was done with it, and what it was.
+#[inline(always)]
 fn push_reception(
     text: &mut String,
     at: u64,
@@ -98,6 +98,7 @@ fn push_reception(
 }
 
 // Appends the line of a task.
+#[inline(always)]
 fn push_task(
     text: &mut String,
     variable: VariableId,
@@ -116,6 +117,7 @@ fn push_task(
 }
 
 // Appends the line of a set.
+#[inline(always)]
 fn push_set(
     text: &mut String,
     timer: SignalId,
@@ -134,6 +136,7 @@ fn push_set(
 }
 
 // Appends the line of a reset.
+#[inline(always)]
 fn push_reset(
     text: &mut String,
     timer: SignalId,

@@ -4,7 +4,7 @@ ghost use Rattle.std.specs.Prelude.{◌≡◌};
 ghost use Rattle.sdl_report.specs.Name.{name_of_state, name_of_variable};
 ghost use Rattle.sdl_report.specs.Name.{process_name, signal_name, state_name, variable_name};
 
-use port_model::SignalId;
+use port_values::SignalId;
 use sdl_system::{Process, ProcessId, StateId, System, VariableId};
 
 pub fn signal_name(system: &System, signal: SignalId) -> &str

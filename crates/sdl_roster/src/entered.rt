@@ -1,6 +1,6 @@
 //! What is entered for an instance.
 
-use port_model::Pid;
+use port_values::Pid;
 use sdl_system::ProcessId;
 
 /// What there is to know of an instance, from its create on.

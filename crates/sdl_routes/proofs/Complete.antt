@@ -1,16 +1,16 @@
 -- Where a path leads, its signal flows.
 use Rattle.std.proofs.Common.{◌≡◌, ◌≢◌, ℕ, ◌⊎◌, ◌&&◌, not, Bool, true, false, List, Option, None, Some, slice_get, get_or, ap, ◌∙◌, sym, subst, refl, inl, inr}
-use Rattle.port_model.specs.declared.item.SignalId.{SignalId}
+use Rattle.port_values.specs.declared.item.SignalId.{SignalId}
 use Rattle.std.specs.Prelude.{if◌then◌else◌}
 use Rattle.sdl_system.specs.declared.id.ProcessId.{ProcessId}
 use Rattle.std.proofs.lemmas.Option.{slice_get-get_or}
-use Rattle.sdl_routes.specs.Nodes.{number}
+use Rattle.sdl_links.specs.Nodes.{number}
 use Rattle.sdl_routes.specs.Paths.{Accepts, By, Carries, Goes, Implied, IsImplied, IsSender, IsSource, Joined, StandsIn, Way}
 use Rattle.sdl_routes.specs.Reached.{AreFlags, IsFree, Passes, Reached}
 use Rattle.sdl_channels.specs.SignalLists.{StandsFor}
-use Rattle.sdl_routes.specs.Steps.{AllSteps, Link, begin_of, end_of, first_of, from_block, is_implied, is_implied_block, node_if, on_first, on_implied, option_if, same_end, same_scope, touches}
+use Rattle.sdl_links.specs.Steps.{AllSteps, Link, begin_of, end_of, first_of, from_block, is_implied, is_implied_block, node_if, on_first, on_implied, option_if, same_end, same_scope, touches}
 use Rattle.sdl_channels.specs.declared.graph.Step.{Step}
-use Rattle.sdl_routes.specs.declared.joint.Side.TheVariants as which
+use Rattle.sdl_links.specs.declared.joint.Side.TheVariants as which
 use Rattle.sdl_channels.specs.declared.list.ListId.{ListId}
 use Rattle.sdl_system.specs.declared.id.BlockId.{BlockId}
 use Rattle.sdl_channels.specs.declared.network.ChannelPath.{ChannelPath}
@@ -22,8 +22,8 @@ use Rattle.sdl_channels.specs.declared.network.PathId.{PathId}
 use Rattle.sdl_channels.specs.declared.network.Scope as scope
 use Rattle.sdl_channels.specs.declared.network.Scope.TheVariants as its
 use Rattle.sdl_channels.specs.declared.network.Source.{Source}
-use Rattle.sdl_routes.specs.declared.node.Node as node
-use Rattle.sdl_routes.specs.declared.node.Node.TheVariants as nodes
+use Rattle.sdl_links.specs.declared.node.Node as node
+use Rattle.sdl_links.specs.declared.node.Node.TheVariants as nodes
 use Rattle.sdl_channels.proofs.EachLemmas.{same_element}
 use Rattle.std.proofs.lemmas.Bool.{and_from, cases_Bool}
 use Rattle.sdl_routes.proofs.Sound.{same_end-true, same_scope-refl, same_end-refl, same_scope-true, sender_in_block}

@@ -1,8 +1,6 @@
 pub mod Complete
 pub mod KnownLemmas
-pub mod LinkLemmas
 pub mod NamedLemmas
-pub mod NodeLemmas
 pub mod PathLemmas
 pub mod ReceiverLemmas
 pub mod ReturnLemmas

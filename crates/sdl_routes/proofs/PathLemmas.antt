@@ -1,15 +1,15 @@
 -- What flows from a source, and to whom paths lead.
 use Rattle.std.proofs.Common.{◌≡◌, ℕ, zero, suc, ◌<◌, ◌-◌, ◌^◌, ◌/◌, ◌%◌, ◌↔◌, Bool, List, [], ◌∷◌, Option, None, Some, refl, sym, subst}
-use Rattle.port_model.specs.declared.item.SignalId.{SignalId}
+use Rattle.port_values.specs.declared.item.SignalId.{SignalId}
 use Rattle.sdl_system.specs.declared.id.ProcessId.{ProcessId}
 use Rattle.std.proofs.lemmas.Nat.Bits.{bit_at_ones}
 use Rattle.sdl_channels.specs.Graph.{Flows, Leads}
 use Rattle.sdl_channels.specs.Mask.{Has, Lets}
-use Rattle.sdl_routes.specs.Nodes.{number}
+use Rattle.sdl_links.specs.Nodes.{number}
 use Rattle.sdl_routes.specs.Paths.{IsSource, Path}
 use Rattle.sdl_routes.specs.Reached.{AreFlags, Passes}
 use Rattle.sdl_channels.specs.SignalLists.{HasSignal, StandsFor, column_of}
-use Rattle.sdl_routes.specs.Steps.{AllSteps}
+use Rattle.sdl_links.specs.Steps.{AllSteps}
 use Rattle.sdl_channels.specs.declared.signal_sets.SignalSets.{SignalSets}
 use Rattle.sdl_channels.specs.declared.graph.Row.{Row}
 use Rattle.sdl_channels.specs.declared.graph.Step.{Step}
@@ -17,7 +17,7 @@ use Rattle.sdl_channels.specs.declared.list.ListId.{ListId}
 use Rattle.sdl_channels.specs.declared.network.End.TheVariants as at
 use Rattle.sdl_channels.specs.declared.network.Network.{Network}
 use Rattle.sdl_channels.specs.declared.network.Source.{Source}
-use Rattle.sdl_routes.specs.declared.node.Node.TheVariants as nodes
+use Rattle.sdl_links.specs.declared.node.Node.TheVariants as nodes
 use Rattle.sdl_channels.proofs.Bits.{no_bit}
 use Rattle.sdl_routes.proofs.Complete.{HasSteps, env_complete, process_complete}
 use Rattle.sdl_routes.proofs.Sound.{flow_sound}

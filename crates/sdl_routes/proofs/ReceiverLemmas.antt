@@ -3,7 +3,7 @@ use Rattle.std.proofs.Common.{◌≡◌, ◌||◌, ◌⊎◌, ◌↔◌, ◌<◌
 use Rattle.std.proofs.lemmas.Bool.{cases_eq, eq-eqb, false≢true, ne_eqb}
 use Rattle.std.proofs.lemmas.Option.{same_Some}
 use Rattle.std.proofs.lemmas.List.Elements.{Contains-append_cases, Contains-append_left, Contains-append_right, Contains-push, Contains-push_cases}
-use Rattle.port_model.specs.declared.item.SignalId.{SignalId}
+use Rattle.port_values.specs.declared.item.SignalId.{SignalId}
 use Rattle.sdl_system.specs.Route.{is_receiver}
 use Rattle.sdl_system.specs.declared.id.ProcessId.{ProcessId}
 use Rattle.sdl_system.specs.declared.route.Reach.{Reach}

@@ -1,19 +1,19 @@
 -- A signal comes to a node only as the node says.
 use Rattle.std.proofs.Common.{◌≡◌, ◌≢◌, ℕ, ◌<◌, ◌&&◌, not, Bool, true, false, List, Option, None, Some, slice_get, get_or, length, ap, ◌∙◌, sym, subst, refl, inl, inr}
-use Rattle.port_model.specs.declared.item.SignalId.{SignalId}
+use Rattle.port_values.specs.declared.item.SignalId.{SignalId}
 use Rattle.std.proofs.lemmas.Bool.{and_parts, cases_eq, eqb-true, eq-eqb, false≢true, not-true}
 use Rattle.std.specs.Prelude.{if◌then◌else◌}
 use Rattle.sdl_system.specs.declared.id.ProcessId.{ProcessId}
 use Rattle.std.proofs.lemmas.Option.{slice_get_within}
 use Rattle.sdl_channels.specs.Graph.{Flows, Leads}
 use Rattle.sdl_channels.specs.Mask.{Has, Lets}
-use Rattle.sdl_routes.specs.Nodes.{number}
+use Rattle.sdl_links.specs.Nodes.{number}
 use Rattle.sdl_channels.specs.declared.graph.Row.{Row}
 use Rattle.sdl_routes.specs.Paths.{Accepts, By, Carries, Goes, Implied, IsImplied, IsNamed, IsSender, IsSource, Joined, StandsIn, Way}
 use Rattle.sdl_routes.specs.Reached.{AreFlags, ComesOut, IsFree, Passes, Reached}
-use Rattle.sdl_routes.specs.Steps.{AllSteps, BlockSteps, JointSteps, Link, PathSteps, ProcessSteps, ScopeSteps, begin_of, departs, end_of, first_of, from_block, is_implied, is_implied_block, node_if, on_first, on_implied, option_if, same_end, same_scope, touches}
+use Rattle.sdl_links.specs.Steps.{AllSteps, BlockSteps, JointSteps, Link, PathSteps, ProcessSteps, ScopeSteps, begin_of, departs, end_of, first_of, from_block, is_implied, is_implied_block, node_if, on_first, on_implied, option_if, same_end, same_scope, touches}
 use Rattle.sdl_channels.specs.declared.graph.Step.{Step}
-use Rattle.sdl_routes.specs.declared.joint.Side.TheVariants as which
+use Rattle.sdl_links.specs.declared.joint.Side.TheVariants as which
 use Rattle.sdl_channels.specs.declared.list.ListId.{ListId}
 use Rattle.sdl_channels.specs.declared.network.Block.{Block}
 use Rattle.sdl_system.specs.declared.id.BlockId.{BlockId}
@@ -27,10 +27,10 @@ use Rattle.sdl_channels.specs.declared.network.Process.{Process}
 use Rattle.sdl_channels.specs.declared.network.Scope as scope
 use Rattle.sdl_channels.specs.declared.network.Scope.TheVariants as its
 use Rattle.sdl_channels.specs.declared.network.Source.{Source}
-use Rattle.sdl_routes.specs.declared.node.Node as node
-use Rattle.sdl_routes.specs.declared.node.Node.TheVariants as nodes
+use Rattle.sdl_links.specs.declared.node.Node as node
+use Rattle.sdl_links.specs.declared.node.Node.TheVariants as nodes
 use Rattle.sdl_channels.proofs.EachLemmas.{same_element}
-use Rattle.sdl_routes.proofs.NodeLemmas.{number-same}
+use Rattle.sdl_links.proofs.NodeLemmas.{number-same}
 
 block_same : (a b : BlockId) → a.0 ≡ b.0 → a ≡ b
 block_same a b same = let f : ℕ → BlockId = λ n. record { 0 = n } in ap f same

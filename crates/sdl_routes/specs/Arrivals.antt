@@ -1,20 +1,20 @@
 -- Whom 64 signals from a source reach, as the masks of nodes tell it.
 use Rattle.std.specs.Prelude.{◌≡◌, ◌<◌, ◌/◌, ◌%◌, ◌↔◌, ℕ, Bool, List}
-use Rattle.port_model.specs.declared.item.SignalId.{SignalId}
+use Rattle.port_values.specs.declared.item.SignalId.{SignalId}
 use Rattle.sdl_system.specs.declared.id.ProcessId.{ProcessId}
 use Rattle.sdl_channels.specs.Graph.{Leads}
 use Rattle.sdl_channels.specs.Mask.{Has}
-use Rattle.sdl_routes.specs.Nodes.{number}
+use Rattle.sdl_links.specs.Nodes.{number}
 use Rattle.sdl_routes.specs.Paths.{Path}
 use Rattle.sdl_routes.specs.Reached.{AreFlags}
-use Rattle.sdl_routes.specs.Steps.{AllSteps}
+use Rattle.sdl_links.specs.Steps.{AllSteps}
 use Rattle.sdl_routes.specs.declared.arrivals.Arrivals.{Arrivals}
 use Rattle.sdl_channels.specs.declared.graph.Row.{Row}
 use Rattle.sdl_channels.specs.declared.graph.Step.{Step}
 use Rattle.sdl_channels.specs.declared.network.End.TheVariants as at
 use Rattle.sdl_channels.specs.declared.network.Network.{Network}
 use Rattle.sdl_channels.specs.declared.network.Source.{Source}
-use Rattle.sdl_routes.specs.declared.node.Node.TheVariants as nodes
+use Rattle.sdl_links.specs.declared.node.Node.TheVariants as nodes
 
 -- the signal at this place of the 64 reaches the process
 abbrev pub ArrivesAt : Arrivals → ℕ → ProcessId → Type 0

@@ -1,9 +1,7 @@
 pub mod Arrivals
 pub mod Entries
 pub mod Laws
-pub mod Nodes
 pub mod Paths
 pub mod Reached
-pub mod Steps
 pub mod Table
 pub mod Valid

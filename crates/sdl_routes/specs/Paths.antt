@@ -1,6 +1,6 @@
 -- On which ways a signal goes from whom to whom (Z.101: channel, connection; for implied channels see below).
 use Rattle.std.specs.Prelude.{◌≡◌, ◌≢◌, ℕ, ◌<◌, true, Some, slice_get, length}
-use Rattle.port_model.specs.declared.item.SignalId.{SignalId}
+use Rattle.port_values.specs.declared.item.SignalId.{SignalId}
 use Rattle.sdl_channels.specs.Each.{ForSome}
 use Rattle.sdl_channels.specs.SignalLists.{StandsFor}
 use Rattle.sdl_channels.specs.declared.network.Block.{Block}

@@ -1,6 +1,6 @@
 -- What it means that a signal has come to a node.
 use Rattle.std.specs.Prelude.{◌≡◌, ◌≢◌, ◌⊎◌, ℕ, List, None, Some, Option, slice_get, get_or, false, Bool}
-use Rattle.port_model.specs.declared.item.SignalId.{SignalId}
+use Rattle.port_values.specs.declared.item.SignalId.{SignalId}
 use Rattle.sdl_routes.specs.Paths.{By, Goes, Implied, IsNamed, StandsIn, Way}
 use Rattle.sdl_channels.specs.SignalLists.{StandsFor}
 use Rattle.sdl_channels.specs.declared.list.ListId.{ListId}
@@ -13,8 +13,8 @@ use Rattle.sdl_channels.specs.declared.network.PathId.{PathId}
 use Rattle.sdl_channels.specs.declared.network.Scope as scope
 use Rattle.sdl_channels.specs.declared.network.Scope.TheVariants as its
 use Rattle.sdl_channels.specs.declared.network.Source.{Source}
-use Rattle.sdl_routes.specs.declared.node.Node as node
-use Rattle.sdl_routes.specs.declared.node.Node.TheVariants as to
+use Rattle.sdl_links.specs.declared.node.Node as node
+use Rattle.sdl_links.specs.declared.node.Node.TheVariants as to
 
 -- no connect names the way
 abbrev pub IsFree : Network → Way → Type 0

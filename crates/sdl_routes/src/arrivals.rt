@@ -6,10 +6,10 @@
 ghost use Rattle.std.specs.Prelude.{◌≡◌, ◌↔◌, ℕ, IfOk, IsTrue};
 ghost use Rattle.sdl_channels.specs.SignalLists.{AreSets};
 
-use crate::node::Node;
-use port_model::SignalId;
+use port_values::SignalId;
 use sdl_channels::mask::{has_bit, mask_at};
 use sdl_channels::{Graph, Network, SignalSets, Source};
+use sdl_links::Node;
 use sdl_system::ProcessId;
 use std::alloc::{AllocError, Global};
 

@@ -9,15 +9,11 @@
 #![tactic(auto)]
 
 mod arrivals;
-mod joint;
 mod known;
 pub mod laws;
 mod lists;
 mod named;
-mod node;
-mod place;
 mod receiver;
-mod steps;
 mod table;
 mod valid;
 mod word;

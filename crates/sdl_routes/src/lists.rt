@@ -4,8 +4,8 @@ ghost use Rattle.std.specs.Prelude.{◌≡◌, [], map, slice_get, IfOk};
 ghost use Rattle.sdl_routes.specs.Entries.{Keeps};
 ghost use Rattle.sdl_routes.specs.Table.{AreDistinct};
 
-use crate::steps::counted;
 use indexmap::IndexSet;
+use sdl_links::counted;
 use sdl_system::{ProcessId, ReceiversId};
 use std::alloc::{AllocError, Global};
 use std::marker::Model;

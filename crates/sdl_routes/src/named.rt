@@ -5,8 +5,8 @@ ghost use Rattle.sdl_channels.specs.Each.{ForSome};
 ghost use Rattle.sdl_routes.specs.Paths.{IsNamed};
 ghost use Rattle.sdl_routes.specs.Reached.{AreFlags};
 
-use crate::steps::counted;
 use sdl_channels::{Connect, Network, PathId};
+use sdl_links::counted;
 use std::alloc::{AllocError, Global};
 
 /// For each path whether a connect names it among those in its block. The cost is that of the names in all connects for each path.

@@ -7,10 +7,9 @@ ghost use Rattle.sdl_channels.specs.Mask.{Bit};
 ghost use Rattle.sdl_channels.specs.declared.network.End.TheVariants as at;
 
 use crate::arrivals::Arrivals;
-use crate::place::{is_implied, same_end};
-use crate::steps::counted;
 use sdl_channels::mask::{has_bit, joined, mask_at};
 use sdl_channels::{End, Network, Process, SignalSets, Source};
+use sdl_links::{counted, is_implied, same_end};
 use sdl_system::ProcessId;
 use std::alloc::{AllocError, Global};
 

@@ -14,10 +14,10 @@ use crate::known::{Known, numbers_of};
 use crate::lists::Lists;
 use crate::named::named_flags;
 use crate::receiver::receivers_of;
-use crate::steps::{counted, graph_from};
 use crate::word::Word;
-use port_model::SignalId;
+use port_values::SignalId;
 use sdl_channels::{End, Graph, Network, Scope, SignalSets, Source};
+use sdl_links::{counted, graph_from};
 use sdl_system::{ProcessId, Reach, Routes};
 use std::alloc::{AllocError, Global};
 

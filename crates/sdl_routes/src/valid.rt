@@ -2,7 +2,7 @@
 
 ghost use Rattle.std.specs.Prelude.{◌≡◌, ◌<◌, ◌↔◌, ◌⊎◌, true, length, IfOk, IsTrue};
 ghost use Rattle.std.specs.List.{Contains};
-ghost use Rattle.port_model.specs.declared.item.SignalId.{SignalId};
+ghost use Rattle.port_values.specs.declared.item.SignalId.{SignalId};
 ghost use Rattle.sdl_system.specs.Signal.{is_member};
 ghost use Rattle.sdl_channels.specs.Each.{ForSome};
 ghost use Rattle.sdl_channels.specs.SignalLists.{AreSets, HasSignal};
@@ -10,10 +10,9 @@ ghost use Rattle.sdl_routes.specs.Valid.{AreValid, IsHeard, IsHeardFrom, IsValid
 ghost use Rattle.sdl_channels.specs.declared.list.ListId.{ListId};
 ghost use Rattle.sdl_channels.specs.declared.network.End.TheVariants as at;
 
-use crate::place::{same_end, same_scope};
-use crate::steps::counted;
-use port_model::SignalId;
+use port_values::SignalId;
 use sdl_channels::{ChannelPath, End, ListId, Network, Process, SignalSets};
+use sdl_links::{counted, same_end, same_scope};
 use sdl_system::{ProcessId, SignalSet};
 use std::alloc::{AllocError, Global};
 

@@ -6,7 +6,7 @@ ghost use Rattle.sdl_routes.specs.Arrivals.{ReachesEnv, ReachesProcess};
 ghost use Rattle.sdl_channels.specs.declared.network.End.TheVariants as at;
 
 use crate::arrivals::Arrivals;
-use port_model::SignalId;
+use port_values::SignalId;
 use sdl_channels::{End, Source};
 use sdl_system::{Reach, ReceiversId};
 use std::alloc::Global;

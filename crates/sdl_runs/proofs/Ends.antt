@@ -4,8 +4,8 @@ use Rattle.port_model.specs.History.{PortEvent}
 use Rattle.port_model.specs.Port.{PortState}
 use Rattle.sdl_evaluation.specs.declared.identity.Identity.{Identity}
 use Rattle.sdl_evaluation.specs.declared.store.Store.{Store}
-use Rattle.sdl_report.specs.Event.{Event}
-use Rattle.sdl_report.specs.Event as event
+use Rattle.sdl_record.specs.Event.{Event}
+use Rattle.sdl_record.specs.Event as event
 use Rattle.sdl_runs.specs.Act.{Act, Deed}
 use Rattle.sdl_runs.specs.Leads.{Happens, Leads, Turns}
 use Rattle.sdl_runs.specs.Place.{Closed, Definition, Ended, Place}

@@ -4,8 +4,8 @@ use Rattle.port_model.specs.History.{Stop}
 use Rattle.port_model.specs.Port.{PortState}
 use Rattle.sdl_evaluation.specs.declared.identity.Identity.{Identity}
 use Rattle.sdl_evaluation.specs.declared.store.Store.{Store}
-use Rattle.sdl_report.specs.Event as event
-use Rattle.sdl_report.specs.declared.failure.Failure.{Failure}
+use Rattle.sdl_record.specs.Event as event
+use Rattle.sdl_record.specs.declared.failure.Failure.{Failure}
 use Rattle.sdl_runs.specs.Fails.{Fails}
 use Rattle.sdl_runs.specs.Leads.{Leads}
 use Rattle.sdl_runs.specs.Place.{Amid, AtStart, Closed, Definition, Doing, Ended, In, Place, Receiving}

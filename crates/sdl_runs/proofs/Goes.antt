@@ -13,9 +13,9 @@ use Rattle.port_model.specs.declared.taken.Taken.{Taken}
 use Rattle.port_model.specs.declared.taken.Taken.TheVariants.{Consumed, Discarded, Nothing}
 use Rattle.sdl_evaluation.specs.Environment.{environment}
 use Rattle.sdl_evaluation.specs.declared.identity.Identity.{Identity}
-use Rattle.sdl_report.specs.Event.{Event, is_beginning}
-use Rattle.sdl_report.specs.Event as event
-use Rattle.sdl_report.specs.declared.failure.Failure.{Failure}
+use Rattle.sdl_record.specs.Event.{Event, is_beginning}
+use Rattle.sdl_record.specs.Event as event
+use Rattle.sdl_record.specs.declared.failure.Failure.{Failure}
 use Rattle.sdl_runs.proofs.Deeds.{IsTrueOf-append, IsTrueOf-same, after_deeds-append, calls_of-append, events_of-append, time_after-append}
 use Rattle.sdl_runs.proofs.Failing.{leads_failed}
 use Rattle.sdl_runs.proofs.Outside.{Runs-drawn, drawn_as-append, outside_of-append, outside_of-drawn_calls, outside_of-drawn, own_of-append, own_of-drawn_calls, own_of-drawn}

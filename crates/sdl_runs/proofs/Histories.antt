@@ -6,14 +6,14 @@ use Rattle.inbox.specs.declared.placed.Placed.{Placed}
 use Rattle.port_model.specs.History.{Expire, PortEvent, PortStep, Put}
 use Rattle.port_model.specs.Laws.{IsFromOutside}
 use Rattle.port_model.specs.Port.{PortState, empty_port, expire_in, put_into}
-use Rattle.port_model.specs.declared.item.Item.{Item}
+use Rattle.port_values.specs.declared.item.Item.{Item}
 use Rattle.port_model.specs.declared.selection.Class.{Class}
-use Rattle.port_model.specs.declared.timer_key.TimerKey.{TimerKey}
-use Rattle.port_model.specs.declared.value.Value.{Value}
+use Rattle.port_values.specs.declared.timer_key.TimerKey.{TimerKey}
+use Rattle.port_values.specs.declared.value.Value.{Value}
 use Rattle.sdl_evaluation.specs.declared.identity.Identity.{Identity}
 use Rattle.sdl_evaluation.specs.declared.store.Store.{Store}
-use Rattle.sdl_report.specs.Event.{Event}
-use Rattle.sdl_report.specs.Event as event
+use Rattle.sdl_record.specs.Event.{Event}
+use Rattle.sdl_record.specs.Event as event
 use Rattle.sdl_runs.proofs.Deeds.{events_of-append}
 use Rattle.sdl_runs.proofs.Outside.{drawn_as-append, outside_of-append}
 use Rattle.sdl_runs.proofs.Runs.{Runs-append}

@@ -10,15 +10,15 @@ use Rattle.port_model.specs.Timers.{is_active, same_key, with_waiting}
 use Rattle.port_model.specs.declared.got.Got.TheVariants as got
 use Rattle.port_model.specs.declared.timer.ActiveTimer.{ActiveTimer}
 use Rattle.port_model.specs.declared.timer.Phase.TheVariants.{Waiting}
-use Rattle.port_model.specs.declared.timer_key.TimerKey.{TimerKey}
+use Rattle.port_values.specs.declared.timer_key.TimerKey.{TimerKey}
 use Rattle.port_model.specs.History.{PortEvent}
-use Rattle.port_model.specs.declared.pid.Pid.TheVariants.{Of}
+use Rattle.port_values.specs.declared.pid.Pid.TheVariants.{Of}
 use Rattle.port_model.specs.declared.selection.Class.{Class}
 use Rattle.sdl_evaluation.specs.Environment.{Environment, environment, sorts_of}
 use Rattle.sdl_evaluation.specs.Value.{truth_at, value_of}
 use Rattle.sdl_evaluation.specs.declared.identity.Identity.{Identity}
 use Rattle.sdl_evaluation.specs.declared.store.Store.{Store}
-use Rattle.sdl_report.specs.declared.failure.Failure.{Failure}
+use Rattle.sdl_record.specs.declared.failure.Failure.{Failure}
 use Rattle.sdl_runs.specs.Fails.{FailsIn}
 use Rattle.sdl_runs.specs.Leads.{Selecting}
 use Rattle.sdl_runs.specs.Place.{Definition}

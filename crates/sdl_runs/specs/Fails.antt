@@ -8,15 +8,15 @@ use Rattle.port_model.specs.declared.plain_port.TheConstants.{MOST_SETS}
 use Rattle.port_model.specs.declared.selection.Class.{Class}
 use Rattle.port_model.specs.declared.taken.Taken.{Taken}
 use Rattle.port_model.specs.declared.taken.Taken.TheVariants.{Consumed, Discarded, Nothing}
-use Rattle.port_model.specs.declared.timer_key.TimerKey.{TimerKey}
-use Rattle.port_model.specs.declared.value.Value.{Value}
+use Rattle.port_values.specs.declared.timer_key.TimerKey.{TimerKey}
+use Rattle.port_values.specs.declared.value.Value.{Value}
 use Rattle.sdl_evaluation.specs.Environment.{Environment, environment, sorts_of}
 use Rattle.sdl_evaluation.specs.Memory.{wants_memory}
 use Rattle.sdl_evaluation.specs.Value.{at_place, key_at, placed, value_at, value_of, values_at}
 use Rattle.sdl_evaluation.specs.declared.identity.Identity.{Identity}
 use Rattle.sdl_evaluation.specs.declared.store.Store.{Store}
-use Rattle.sdl_report.specs.declared.failure.Failure.{Failure}
-use Rattle.sdl_report.specs.declared.failure.Failure.TheVariants.{Memory, NoAnswer, Overflow, SetsSpent, TooLong, Undefined}
+use Rattle.sdl_record.specs.declared.failure.Failure.{Failure}
+use Rattle.sdl_record.specs.declared.failure.Failure.TheVariants.{Memory, NoAnswer, Overflow, SetsSpent, TooLong, Undefined}
 use Rattle.sdl_runs.specs.Place.{Amid, Definition, Doing, IsState, Place, Receiving}
 use Rattle.sdl_runs.specs.Reception.{sort_in}
 use Rattle.sdl_runs.specs.Selection.{Selects, fails, first_failure, tried}

@@ -3,12 +3,12 @@ use Rattle.std.specs.Prelude.{◌≡◌, ℕ, zero, suc, Bool, true, List, [], �
 use Rattle.inbox.specs.Ends.{OwnerState}
 use Rattle.port_model.specs.History.{PortEvent}
 use Rattle.port_model.specs.Port.{empty_port}
-use Rattle.port_model.specs.declared.value.Value.{Value}
+use Rattle.port_values.specs.declared.value.Value.{Value}
 use Rattle.sdl_evaluation.specs.Environment.{initial_store}
 use Rattle.sdl_evaluation.specs.Variables.{VariableList}
 use Rattle.sdl_evaluation.specs.declared.identity.Identity.{Identity}
 use Rattle.sdl_evaluation.specs.declared.store.Store.{Store}
-use Rattle.sdl_report.specs.Event.{Event}
+use Rattle.sdl_record.specs.Event.{Event}
 use Rattle.sdl_runs.specs.Act.{Deed, events_of}
 use Rattle.sdl_runs.specs.Goes.{drawn_as}
 use Rattle.sdl_runs.specs.Place.{AtStart, Definition, Place}

@@ -2,12 +2,12 @@
 -- condition, continuous signal).
 use Rattle.std.specs.Prelude.{◌≡◌, ℕ, Bool, true, false, List, [], ◌∷◌, Option, None, Some, Result, Ok, Err}
 use Rattle.port_model.specs.Selection as selection
-use Rattle.port_model.specs.declared.item.SignalId.{SignalId}
+use Rattle.port_values.specs.declared.item.SignalId.{SignalId}
 use Rattle.port_model.specs.declared.selection.Class.{Class}
 use Rattle.port_model.specs.declared.selection.Class.TheVariants as class
 use Rattle.sdl_evaluation.specs.Environment.{Environment}
 use Rattle.sdl_evaluation.specs.Value.{truth_at}
-use Rattle.sdl_report.specs.declared.failure.Failure.{Failure}
+use Rattle.sdl_record.specs.declared.failure.Failure.{Failure}
 use Rattle.sdl_system.specs.Behaviour.{Behaviour, ContinuousSignal, Response, StateMeaning, input, priority_input, response_to, save}
 use Rattle.sdl_system.specs.Term.{Term}
 

@@ -1,10 +1,10 @@
 -- What the record of an instance says that it sends to another (Z.102: output).
 use Rattle.std.specs.Prelude.{◌==◌, ℕ, List, [], ◌∷◌, ◌++◌, if◌then◌else◌}
 use Rattle.std.specs.List.{flat_map}
-use Rattle.port_model.specs.declared.item.Item.{Item}
-use Rattle.port_model.specs.declared.pid.Pid.TheVariants.{Of}
-use Rattle.sdl_report.specs.Event.{Event}
-use Rattle.sdl_report.specs.Event as event
+use Rattle.port_values.specs.declared.item.Item.{Item}
+use Rattle.port_values.specs.declared.pid.Pid.TheVariants.{Of}
+use Rattle.sdl_record.specs.Event.{Event}
+use Rattle.sdl_record.specs.Event as event
 use Rattle.sdl_runs.specs.World.{Sent, has_port}
 use Rattle.sdl_system.specs.declared.route.Dest.{Dest}
 use Rattle.sdl_system.specs.declared.route.Target.TheVariants.{Instance}

@@ -3,7 +3,7 @@
 ghost use Rattle.std.specs.Prelude.{◌≡◌, true, Bool, IfOk, OnOk, OnErr};
 
 use inbox::Fuse;
-use port_model::{Item, SignalId, Ticks, Values};
+use port_values::{Item, SignalId, Ticks, Values};
 use sdl_system::{Dest, ProcessId, Target};
 use std::alloc::AllocError;
 

@@ -12,7 +12,7 @@ use Rattle.inbox.specs.Calls.{ComesBack}
 use Rattle.inbox.specs.declared.entry.Fuse.{Fuse}
 use Rattle.port_model.specs.declared.refused.Refused.{Refused}
 use Rattle.port_model.specs.Port.{PortState}
-use Rattle.port_model.specs.declared.item.Item.{Item}
+use Rattle.port_values.specs.declared.item.Item.{Item}
 use Rattle.sdl_courses.specs.Global.{census_of, change_at, changed_at, count_living, instance_at, is_ended}
 use Rattle.sdl_courses.specs.Global.{least_living, lives_of, with_expiry, with_put}
 use Rattle.sdl_interp.specs.Instance.{InstanceValue}

@@ -6,8 +6,8 @@ use Rattle.sdl_courses.specs.Course.{AreBehaviours, Course, EndsInTransition, Ha
 use Rattle.sdl_courses.specs.Global.{beginning}
 use Rattle.sdl_courses.specs.Report.{Closes, Ends, IsSerialReport}
 use Rattle.sdl_interp.specs.Instance.{InstanceValue, IsAtRest, IsClosed}
-use Rattle.sdl_report.specs.Record.{RecordValue}
-use Rattle.sdl_report.specs.declared.record.Report.{Report}
+use Rattle.sdl_record.specs.Record.{RecordValue}
+use Rattle.sdl_record.specs.declared.record.Report.{Report}
 use Rattle.sdl_script.specs.Script.{end_of}
 use Rattle.sdl_script.specs.declared.script.ScriptLine.{ScriptLine}
 use Rattle.sdl_serial.specs.Meanings.{all_rest, meaning}

@@ -8,8 +8,8 @@ use Rattle.std.proofs.lemmas.List.Elements.{All-append, All-cons, All-nil}
 use Rattle.std.proofs.lemmas.List.Sums.{sum_by_push}
 use Rattle.std.proofs.lemmas.Option.{slice_get_within}
 use Rattle.inbox.specs.Ends.{OwnerState}
-use Rattle.port_model.specs.declared.pid.Pid.{Pid}
-use Rattle.port_model.specs.declared.value.Value.{Value}
+use Rattle.port_values.specs.declared.pid.Pid.{Pid}
+use Rattle.port_values.specs.declared.value.Value.{Value}
 use Rattle.sdl_courses.specs.Global.{census_of, count_living, instance_at, is_ended, least_living, lives_of}
 use Rattle.sdl_interp.specs.Instance.{InstanceValue, created}
 use Rattle.sdl_runs.specs.World.{Census, count_in, with_one_more}

@@ -5,9 +5,9 @@ use Rattle.port_model.specs.Port.{PortState}
 use Rattle.sdl_courses.specs.Course.{is_transition}
 use Rattle.sdl_evaluation.specs.declared.identity.Identity.{Identity}
 use Rattle.sdl_evaluation.specs.declared.store.Store.{Store}
-use Rattle.sdl_report.specs.Event as event
-use Rattle.sdl_report.specs.Event.{Event, is_beginning}
-use Rattle.sdl_report.specs.declared.failure.Failure.{Failure}
+use Rattle.sdl_record.specs.Event as event
+use Rattle.sdl_record.specs.Event.{Event, is_beginning}
+use Rattle.sdl_record.specs.declared.failure.Failure.{Failure}
 use Rattle.sdl_runs.proofs.Ends.{ends_for_good}
 use Rattle.sdl_runs.specs.Act.{Act, Deed, acts_of}
 use Rattle.sdl_runs.specs.Goes.{IsFirst, IsOneStep}

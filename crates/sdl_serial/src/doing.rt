@@ -12,7 +12,7 @@ ghost use Rattle.sdl_sweeps.specs.Sweeps.{Moment, at_board};
 use crate::error::RunError;
 use crate::instances::Instances;
 use inbox::{Alone, Fuse};
-use port_model::{Item, Pid, Values};
+use port_values::{Item, Pid, Values};
 use sdl_around::{Act, ActParts, Acts};
 use sdl_evaluation::Identity;
 use sdl_interp::Instance;

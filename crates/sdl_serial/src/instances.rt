@@ -8,10 +8,10 @@ ghost use Rattle.sdl_serial.specs.Serial.{IsSerial};
 
 use crate::error::RunError;
 use inbox::Alone;
-use port_model::{Pid, Values};
+use port_values::{Pid, Values};
 use sdl_around::Census;
 use sdl_interp::Instance;
-use sdl_report::Record;
+use sdl_record::Record;
 use sdl_sweeps::Board;
 use sdl_system::{Process, ProcessId, System};
 use std::alloc::Global;

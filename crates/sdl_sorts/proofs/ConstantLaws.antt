@@ -1,6 +1,6 @@
 -- What is noted of a constant expression is broken in it, and the other way round.
 use Rattle.std.proofs.Common.{◌≡◌, ◌&&◌, ℕ, ℤ, pos, negsuc, Bool, true, false, List, [], ◌∷◌, Option, None, Some, is_none, option_and_then, if◌then◌else◌, refl, sym, ap, subst}
-use Rattle.port_model.specs.declared.value.Value.{Value}
+use Rattle.port_values.specs.declared.value.Value.{Value}
 use Rattle.sdl_faults.proofs.FaultLemmas.{each-both, each-if, in-if, in-left, in-right}
 use Rattle.sdl_faults.specs.FaultLaws.{Each, In}
 use Rattle.sdl_faults.specs.Faults.{Told, fault_if, told_at}

@@ -3,8 +3,8 @@ use Rattle.std.specs.Prelude.{◌≡◌, ◌++◌, ℕ, negsuc, Bool, true, fals
 use Rattle.sdl_faults.specs.FaultLaws.{Each, In}
 use Rattle.sdl_faults.specs.Faults.{Told, told_at, mark_word}
 use Rattle.sdl_faults.specs.declared.fault.Kind.TheVariants.{Unknown, Sort, BadCount}
-use Rattle.port_model.specs.declared.item.SignalId.{SignalId}
-use Rattle.port_model.specs.declared.value.Value.{Value}
+use Rattle.port_values.specs.declared.item.SignalId.{SignalId}
+use Rattle.port_values.specs.declared.value.Value.{Value}
 use Rattle.sdl_sorts.specs.Constants.{constant_faults, value_of}
 use Rattle.sdl_sorts.specs.Contexts.{allows_instance, allows_word}
 use Rattle.sdl_kinds.specs.Kinds.{fits, result_of, unary_result_of}

@@ -1,7 +1,7 @@
 -- What a constant expression comes to, and when it is none (Z.104: expressions).
 use Rattle.std.specs.Prelude.{◌++◌, Bool, true, false, List, [], Option, None, Some, Result, Ok, Err, is_none, option_and_then, if◌then◌else◌}
 use Rattle.std.specs.Option.{unwrap_or}
-use Rattle.port_model.specs.declared.value.Value.{Value}
+use Rattle.port_values.specs.declared.value.Value.{Value}
 use Rattle.sdl_faults.specs.Faults.{Told, fault_if}
 use Rattle.sdl_faults.specs.declared.fault.Kind.TheVariants.{BadCount}
 use Rattle.sdl_sorts.specs.Misused.{place_faults}

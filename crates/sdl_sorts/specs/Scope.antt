@@ -2,7 +2,7 @@
 -- name stands for is the first entry of its text.
 use Rattle.std.specs.Prelude.{◌++◌, ℕ, Bool, List, Option, map, slice_get}
 use Rattle.std.specs.Option.{unwrap_or}
-use Rattle.port_model.specs.declared.item.SignalId.{SignalId}
+use Rattle.port_values.specs.declared.item.SignalId.{SignalId}
 use Rattle.sdl_scope.specs.Names.{first_of, names_in}
 use Rattle.sdl_scope.specs.declared.names.Outward.{Outward}
 use Rattle.sdl_sorts.specs.declared.scope.AgentMeaning as agents

@@ -14,7 +14,7 @@ use crate::context::Context;
 use crate::scope::{Constant, Scope};
 use crate::typed::Typed;
 use crate::typing::{first_token, resolve_in};
-use port_model::Value;
+use port_values::Value;
 use sdl_faults::{Faults, Token};
 use sdl_kinds::{Kind, result_of};
 use sdl_system::Comparison;

@@ -3,7 +3,7 @@
 ghost use Rattle.std.specs.Prelude.{◌≡◌, option_map};
 ghost use Rattle.sdl_sorts.specs.Scope.{constant_at, value_meaning};
 
-use port_model::{SignalId, Value};
+use port_values::{SignalId, Value};
 use sdl_scope::Outward;
 use sdl_system::{ProcessId, Sort, VariableId};
 

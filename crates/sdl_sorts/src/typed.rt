@@ -5,7 +5,7 @@ ghost use Rattle.sdl_system.specs.Term.{term_of, unary};
 
 use crate::context::Context;
 use crate::scope::{Constant, ValueMeaning};
-use port_model::{Pid, Value};
+use port_values::{Pid, Value};
 use sdl_kinds::{Kind, TypedUnaryOperation};
 use sdl_system::{Expression, PidExpression, Sort, UnaryOperation};
 use sdl_tree::KeywordValue;

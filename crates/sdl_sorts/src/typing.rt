@@ -15,7 +15,7 @@ use crate::context::Context;
 use crate::left::Left;
 use crate::scope::{Scope, SignalMeaning, ValueMeaning};
 use crate::typed::Typed;
-use port_model::{SignalId, Value};
+use port_values::{SignalId, Value};
 use sdl_faults::{Faults, Token};
 use sdl_kinds::{Kind, result_of, unary_result_of};
 use sdl_tree::{

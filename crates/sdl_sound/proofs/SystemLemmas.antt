@@ -6,7 +6,7 @@ use Rattle.std.proofs.lemmas.List.Elements.{All-cons, All-nil, Contains-get_or}
 use Rattle.std.proofs.lemmas.Option.{slice_get_within}
 use Rattle.std.proofs.lemmas.Slice.Zip.{AllZip-long}
 use Rattle.std.specs.Str.{bytes_eq}
-use Rattle.port_model.specs.declared.item.SignalId.{SignalId}
+use Rattle.port_values.specs.declared.item.SignalId.{SignalId}
 use Rattle.sdl_build.proofs.MadeLemmas.{same-one}
 use Rattle.sdl_build.proofs.WholeLemmas.{faultless, told-none}
 use Rattle.sdl_build.specs.Built.{IsBuilt, IsSystem, named_processes, own_from}
@@ -25,8 +25,8 @@ use Rattle.sdl_complete.specs.Names.{rows_of_tree}
 use Rattle.sdl_declared.specs.Parts.{parts_in}
 use Rattle.sdl_declared.specs.Rows.{OrdinarySignal, OrdinaryTimer, ProcessRow, SignalKind, SignalRow, ValueRow}
 use Rattle.sdl_declared.specs.Tables.{Rows}
-use Rattle.sdl_ends.specs.Beginnings.{beginnings}
-use Rattle.sdl_ends.specs.Reach.{AreReached}
+use Rattle.sdl_paths.specs.Beginnings.{beginnings}
+use Rattle.sdl_paths.specs.Reach.{AreReached}
 use Rattle.sdl_figures.specs.Figures.{all_durations, all_initials, counts_at, duration_at, initial_at, sort_of_entry}
 use Rattle.sdl_figures.specs.Scopes.{scope_in}
 use Rattle.sdl_names.specs.declared.declared.Declared.{Declared}

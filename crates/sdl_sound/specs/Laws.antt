@@ -2,8 +2,8 @@
 use Rattle.std.specs.Prelude.{◌≡◌, ◌<◌, ◌≤◌, ℕ, All, IfSome, List, Some, length, slice_get}
 use Rattle.port_model.specs.History.{PortEvent}
 use Rattle.port_model.specs.Port.{PortState}
-use Rattle.port_model.specs.declared.item.SignalId.{SignalId}
-use Rattle.port_model.specs.declared.value.Value.{Value}
+use Rattle.port_values.specs.declared.item.SignalId.{SignalId}
+use Rattle.port_values.specs.declared.value.Value.{Value}
 use Rattle.sdl_build.specs.Built.{IsBuilt}
 use Rattle.sdl_build.specs.Laws.{CanRun}
 use Rattle.sdl_survey.specs.Surroundings.{surroundings}
@@ -11,7 +11,7 @@ use Rattle.sdl_channels.specs.declared.network.Source.{Source}
 use Rattle.sdl_evaluation.specs.declared.identity.Identity.{Identity}
 use Rattle.sdl_evaluation.specs.declared.store.Store.{Store}
 use Rattle.sdl_process.specs.Meant.{IsBehaviour}
-use Rattle.sdl_report.specs.declared.failure.Failure.TheVariants.{Undefined}
+use Rattle.sdl_record.specs.declared.failure.Failure.TheVariants.{Undefined}
 use Rattle.sdl_routes.specs.Table.{SendsFrom}
 use Rattle.sdl_runs.specs.Act.{Deed}
 use Rattle.sdl_runs.specs.Fails.{HasCause}

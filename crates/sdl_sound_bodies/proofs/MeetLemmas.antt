@@ -1,10 +1,10 @@
 -- Each path through the body of a transition is one through the transition.
 use Rattle.std.proofs.Common.{◌≡◌, ◌∙◌, ◌⊎◌, inl, inr, List, [], ◌∷◌, Option, None, Some, option_map, refl, ap, sym, subst}
 use Rattle.sdl_bodies.proofs.EndLemmas.{Labelled, both-some, labelled-some, map-some, opened, some-same, without}
-use Rattle.sdl_ends.specs.Paths as way
-use Rattle.sdl_ends.specs.Paths.{Answered, AtFirst, ComesInto, ComesTo, Crosses, GoesBehind, IsPart, IsSimple, Origin, RunsOff}
-use Rattle.sdl_nodes.specs.Contexts.{Context}
-use Rattle.sdl_nodes.specs.Statements.{answers_in, asked_in, create_in, kind_in, output_in, reset_in, set_in, task_in, terminator_in}
+use Rattle.sdl_paths.specs.Paths as way
+use Rattle.sdl_paths.specs.Paths.{Answered, AtFirst, ComesInto, ComesTo, Crosses, GoesBehind, IsPart, IsSimple, Origin, RunsOff}
+use Rattle.sdl_statements.specs.Contexts.{Context}
+use Rattle.sdl_statements.specs.Statements.{answers_in, asked_in, create_in, kind_in, output_in, reset_in, set_in, task_in, terminator_in}
 use Rattle.sdl_nodes.specs.Transitions.{Head, Piece, acts, asks, before, body_in, ending_in, head_in, other_in, parts_of, piece, pieces_in, steps_in}
 use Rattle.sdl_sorts.specs.Partial.{both}
 use Rattle.sdl_sorts.specs.Typing.{term_in}

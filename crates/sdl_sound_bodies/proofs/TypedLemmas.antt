@@ -3,11 +3,11 @@ use Rattle.std.proofs.Common.{◌≡◌, ◌++◌, ℕ, All, IfSome, List, [], �
 use Rattle.std.proofs.lemmas.List.Elements.{All-cons, All-nil}
 use Rattle.std.proofs.lemmas.Option.{slice_get_within}
 use Rattle.sdl_bodies.specs.Bodies.{beginning_body, bodies_among}
-use Rattle.sdl_ends.specs.Beginnings.{Beginning, beginnings}
-use Rattle.sdl_nodes.specs.Contexts.{Context, label_in, state_in}
-use Rattle.sdl_nodes.specs.Statements.{agent_name, answers_in, asked_in, assigned, assigning_in, create_in, created_as, default_of, kind_in, output_in, process_of, reset_in, sending_in, sent, sent_as, sent_to, set_for, set_in, setting_in, sort_of, target_of, task_in, terminator_in, timed, timed_as, timing_in, value_for, values_for, when_in, whither_in, whither_of}
+use Rattle.sdl_paths.specs.Beginnings.{Beginning, beginnings}
+use Rattle.sdl_statements.specs.Contexts.{Context, label_in, state_in}
+use Rattle.sdl_statements.specs.Statements.{agent_name, answers_in, asked_in, assigned, assigning_in, create_in, created_as, default_of, kind_in, output_in, process_of, reset_in, sending_in, sent, sent_as, sent_to, set_for, set_in, setting_in, sort_of, target_of, task_in, terminator_in, timed, timed_as, timing_in, value_for, values_for, when_in, whither_in, whither_of}
 use Rattle.sdl_nodes.specs.Transitions.{Head, Piece, acts, asks, before, body_in, ending_in, head_in, labelled, other_in, parts_of, piece, pieces_in, steps_in}
-use Rattle.sdl_nodes.specs.declared.task.Target.{Target}
+use Rattle.sdl_statements.specs.declared.task.Target.{Target}
 use Rattle.sdl_sorts.specs.Partial.{all_some, both}
 use Rattle.sdl_sorts.specs.Scope as names
 use Rattle.sdl_sorts.specs.Scope.{AgentMeaning, SignalMeaning, agent_in, signal_in, value_in}

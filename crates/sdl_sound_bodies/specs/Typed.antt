@@ -1,7 +1,7 @@
 -- Statements whose values fit their places, and that name what is there (Z.102: task, output, set, reset, create,
 -- decision, nextstate).
 use Rattle.std.specs.Prelude.{◌≡◌, ℕ, All, IfSome, List, None, Some, length, slice_get}
-use Rattle.sdl_nodes.specs.Contexts.{Context, state_in}
+use Rattle.sdl_statements.specs.Contexts.{Context, state_in}
 use Rattle.sdl_kinds.specs.declared.kind.Kind.{Kind}
 use Rattle.sdl_sound_runs.specs.Paths.{Every}
 use Rattle.sdl_sound_terms.specs.Kinds.{FitPlaces, FitsPlace, HasKind}

@@ -2,15 +2,15 @@
 use Rattle.std.proofs.Common.{◌≡◌, ◌∙◌, ◌⊎◌, ap, ℤ, ◌+ℤ◌, pos, true, false, Bool, List, [], ◌∷◌, Option, None, Some, Result, Ok, Err, if◌then◌else◌, inl, inr, refl}
 use Rattle.port_model.specs.History.{PortEvent}
 use Rattle.port_model.specs.Port.{PortState}
-use Rattle.port_model.specs.declared.item.SignalId.{SignalId}
-use Rattle.port_model.specs.declared.value.Value.{Value}
+use Rattle.port_values.specs.declared.item.SignalId.{SignalId}
+use Rattle.port_values.specs.declared.value.Value.{Value}
 use Rattle.sdl_evaluation.specs.Environment.{Environment, environment, sorts_of}
 use Rattle.sdl_evaluation.specs.Value.{accessed, asked, at_place, first_sort, followed, given, keyed, later_sorts, narrowed, operated, operated_on, placed, truth_in, value_at, value_of, values_of}
 use Rattle.sdl_evaluation.specs.Variables.{VariableList, value_in}
 use Rattle.sdl_evaluation.specs.declared.identity.Identity.{Identity}
 use Rattle.sdl_evaluation.specs.declared.store.Store.{Store}
-use Rattle.sdl_report.specs.declared.failure.Failure.{Failure}
-use Rattle.sdl_report.specs.declared.failure.Failure.TheVariants.{NoAnswer, Overflow, SetsSpent, TooLong, Undefined}
+use Rattle.sdl_record.specs.declared.failure.Failure.{Failure}
+use Rattle.sdl_record.specs.declared.failure.Failure.TheVariants.{NoAnswer, Overflow, SetsSpent, TooLong, Undefined}
 use Rattle.sdl_runs.specs.Fails.{FailsIn, HasCause, both, conditions_of, due_by, later, named_by, parameters_of, pid_named, sent_by, set_by, ticks_later, ticks_of}
 use Rattle.sdl_runs.specs.Fails.{of_condition, of_continuous, of_event, of_take, of_trying}
 use Rattle.sdl_runs.specs.Place.{Amid, AtStart, Closed, Definition, Doing, Ended, In, Place, Receiving}

@@ -6,15 +6,15 @@ use Rattle.std.proofs.lemmas.Option.{unwrap_or-slice_get}
 use Rattle.std.specs.Option.{unwrap_or}
 use Rattle.port_model.specs.History.{PortEvent}
 use Rattle.port_model.specs.Port.{PortState}
-use Rattle.port_model.specs.declared.value.Value.{Value}
+use Rattle.port_values.specs.declared.value.Value.{Value}
 use Rattle.sdl_evaluation.specs.Environment.{Environment, environment}
 use Rattle.sdl_evaluation.specs.Value.{at_place, followed, narrowed, placed, value_of, values_of}
 use Rattle.sdl_evaluation.specs.Variables.{VariableList}
 use Rattle.sdl_evaluation.specs.declared.identity.Identity.{Identity}
 use Rattle.sdl_evaluation.specs.declared.store.Store.{Store}
-use Rattle.sdl_report.specs.Event as event
-use Rattle.sdl_report.specs.Event.{Event}
-use Rattle.sdl_report.specs.declared.failure.Failure.{Failure}
+use Rattle.sdl_record.specs.Event as event
+use Rattle.sdl_record.specs.Event.{Event}
+use Rattle.sdl_record.specs.declared.failure.Failure.{Failure}
 use Rattle.sdl_runs.specs.Act.{Act, Deed}
 use Rattle.sdl_runs.specs.Instance.{parameters_from}
 use Rattle.sdl_runs.specs.Leads.{Happens, Turns}

@@ -5,7 +5,7 @@ use Rattle.port_model.specs.Port.{PortState}
 use Rattle.sdl_evaluation.specs.Environment.{Environment}
 use Rattle.sdl_evaluation.specs.declared.identity.Identity.{Identity}
 use Rattle.sdl_evaluation.specs.declared.store.Store.{Store}
-use Rattle.sdl_report.specs.declared.failure.Failure.TheVariants.{Undefined}
+use Rattle.sdl_record.specs.declared.failure.Failure.TheVariants.{Undefined}
 use Rattle.sdl_runs.specs.Act.{Deed}
 use Rattle.sdl_runs.specs.Fails.{FailsIn, HasCause}
 use Rattle.sdl_runs.specs.Place.{AtStart, Definition, Place}

@@ -5,9 +5,9 @@ use Rattle.std.proofs.lemmas.Slice.Zip.{AllZip-long}
 use Rattle.sdl_bodies.specs.Bodies.{beginning_body, bodies_faults}
 use Rattle.sdl_complete.proofs.RangeLemmas.{anything, each-anything}
 use Rattle.sdl_complete.proofs.ReadLemmas.{bounds_of, process-table}
-use Rattle.sdl_ends.specs.Beginnings.{beginnings, beginnings_behind}
+use Rattle.sdl_paths.specs.Beginnings.{beginnings, beginnings_behind}
 use Rattle.sdl_ends.specs.Ends.{ends_faults}
-use Rattle.sdl_ends.specs.Reach.{AreReached}
+use Rattle.sdl_paths.specs.Reach.{AreReached}
 use Rattle.sdl_ends.specs.Stays.{stay_faults}
 use Rattle.sdl_process.specs.Faulty.{body_faults, flow_faults}
 use Rattle.sdl_process.specs.Meant.{IsBehaviour}

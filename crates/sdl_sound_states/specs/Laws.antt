@@ -3,9 +3,9 @@
 use Rattle.std.specs.Prelude.{◌≡◌, ℕ, true, List, [], Ok}
 use Rattle.port_model.specs.History.{PortEvent}
 use Rattle.port_model.specs.Port.{PortState}
-use Rattle.port_model.specs.declared.value.Value.{Value}
-use Rattle.sdl_ends.specs.Beginnings.{beginnings}
-use Rattle.sdl_ends.specs.Reach.{AreReached}
+use Rattle.port_values.specs.declared.value.Value.{Value}
+use Rattle.sdl_paths.specs.Beginnings.{beginnings}
+use Rattle.sdl_paths.specs.Reach.{AreReached}
 use Rattle.sdl_evaluation.specs.Environment.{environment}
 use Rattle.sdl_evaluation.specs.Value.{value_of}
 use Rattle.sdl_evaluation.specs.declared.identity.Identity.{Identity}

@@ -1,12 +1,12 @@
 -- What terms of a kind come to.
 use Rattle.std.proofs.Common.{◌≡◌, ℤ, pos, negsuc, neg_ℤ, Bool, true, Option, None, Some, Result, Ok, Err, refl, subst}
-use Rattle.port_model.specs.declared.timer_key.TimerKey.{TimerKey}
-use Rattle.port_model.specs.declared.value.Value.{Value}
-use Rattle.port_model.specs.declared.value.Value.TheVariants as value
+use Rattle.port_values.specs.declared.timer_key.TimerKey.{TimerKey}
+use Rattle.port_values.specs.declared.value.Value.{Value}
+use Rattle.port_values.specs.declared.value.Value.TheVariants as value
 use Rattle.sdl_evaluation.specs.Environment.{Environment}
 use Rattle.sdl_evaluation.specs.Value.{accessed, asked, given, keyed, operated, operated_on, value_of, values_of}
 use Rattle.sdl_evaluation.specs.Variables.{value_in}
-use Rattle.sdl_report.specs.declared.failure.Failure.{Failure}
+use Rattle.sdl_record.specs.declared.failure.Failure.{Failure}
 use Rattle.sdl_kinds.specs.Kinds.{added, compared, fits, joined, kind_of, ordered, result_of, scaled, subtracted, unary_result_of}
 use Rattle.sdl_kinds.specs.declared.kind.Kind.{Kind}
 use Rattle.sdl_kinds.specs.declared.kind.Kind.TheVariants.{Free, Integer, Time, Duration, Boolean, Pid}

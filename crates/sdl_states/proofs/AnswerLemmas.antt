@@ -4,7 +4,7 @@ use Rattle.std.specs.Borrow.{Bor}
 use Rattle.std.specs.Map.{lookup}
 use Rattle.std.proofs.lemmas.List.{append_assoc, map-append, take_more}
 use Rattle.std.proofs.lemmas.List.Sums.{fold-append}
-use Rattle.port_model.specs.declared.item.SignalId.{SignalId}
+use Rattle.port_values.specs.declared.item.SignalId.{SignalId}
 use Rattle.sdl_faults.proofs.FaultLemmas.{both_noted}
 use Rattle.sdl_faults.specs.Faults.{Told, fault_if, least_of}
 use Rattle.sdl_faults.specs.declared.fault.Kind.TheVariants.{TwiceInState}

@@ -4,7 +4,7 @@ use Rattle.std.specs.List.{list_any}
 use Rattle.std.specs.Map.{lookup}
 use Rattle.std.specs.Option.{option_or}
 use Rattle.std.specs.Str.{bytes_eq}
-use Rattle.port_model.specs.declared.item.SignalId.{SignalId}
+use Rattle.port_values.specs.declared.item.SignalId.{SignalId}
 use Rattle.sdl_faults.specs.Faults.{Told, fault_if}
 use Rattle.sdl_scope.specs.Limits.{different, part_states}
 use Rattle.sdl_faults.specs.declared.fault.Kind.TheVariants.{NoState, TwiceInState}

@@ -5,7 +5,7 @@ ghost use Rattle.sdl_stimuli.specs.Listed.{response_value, rest_value};
 ghost use Rattle.sdl_states.specs.States.{named_in, with_signal};
 
 use indexmap::IndexMap;
-use port_model::SignalId;
+use port_values::SignalId;
 use sdl_stimuli::Response;
 use std::alloc::{AllocError, Global};
 use std::marker::Model;
@@ -18,7 +18,7 @@ pub struct Named<'m> {
 
 impl<'m> Model for Named<'m> {
     ghost use Rattle.std.specs.Prelude.{List, map};
-    ghost use Rattle.port_model.specs.declared.item.SignalId.{SignalId};
+    ghost use Rattle.port_values.specs.declared.item.SignalId.{SignalId};
     ghost use Rattle.sdl_stimuli.specs.Listed.{named_value};
     ghost use Rattle.sdl_stimuli.specs.Mentions as plain;
 

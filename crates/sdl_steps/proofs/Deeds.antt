@@ -5,13 +5,13 @@ use Rattle.port_model.specs.History.{Reset, Set, Stop}
 use Rattle.port_model.specs.Port.{remove_from, set_in}
 use Rattle.port_model.specs.declared.error.PortError.{PortError}
 use Rattle.port_model.specs.declared.error.PortError.TheVariants.{SetsSpent}
-use Rattle.port_model.specs.declared.pid.Pid.TheVariants.{Of}
+use Rattle.port_values.specs.declared.pid.Pid.TheVariants.{Of}
 use Rattle.port_model.specs.declared.plain_port.TheConstants.{MOST_SETS}
-use Rattle.port_model.specs.declared.timer_key.TimerKey.{TimerKey}
-use Rattle.port_model.specs.declared.value.Value.{Value}
+use Rattle.port_values.specs.declared.timer_key.TimerKey.{TimerKey}
+use Rattle.port_values.specs.declared.value.Value.{Value}
 use Rattle.sdl_evaluation.specs.Environment.{Environment, environment}
 use Rattle.sdl_evaluation.specs.Value.{at_place, key_at, value_of, values_at}
-use Rattle.sdl_report.specs.Event as event
+use Rattle.sdl_record.specs.Event as event
 use Rattle.sdl_runs.proofs.Goes.{All-one, goes_deed, goes_stopped, goes_until}
 use Rattle.sdl_runs.specs.Act.{Act, Arm, Deed, Send}
 use Rattle.sdl_runs.specs.Fails.{parameters_of, sent_by, set_by}

@@ -2,11 +2,11 @@
 use Rattle.std.proofs.Common.{◌≡◌, ◌∙◌, ◌<◌, sym, ap, subst, inl, inr, refl, ℕ, List, Option, None, Some, length}
 use Rattle.std.proofs.lemmas.Slice.Zip.{AllZip-long}
 use Rattle.port_model.specs.Port.{PortState}
-use Rattle.port_model.specs.declared.value.Value.{Value}
+use Rattle.port_values.specs.declared.value.Value.{Value}
 use Rattle.sdl_evaluation.specs.Environment.{environment}
 use Rattle.sdl_evaluation.specs.declared.identity.Identity.{Identity}
 use Rattle.sdl_evaluation.specs.declared.store.Store.{Store}
-use Rattle.sdl_report.specs.declared.failure.Failure.{Failure}
+use Rattle.sdl_record.specs.declared.failure.Failure.{Failure}
 use Rattle.sdl_runs.specs.Fails.{Fails}
 use Rattle.sdl_runs.specs.Place.{Definition, Doing, IsState}
 use Rattle.sdl_steps.specs.Walk.{CantChoose, EntersNone, IsPlain}

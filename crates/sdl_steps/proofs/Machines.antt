@@ -3,10 +3,10 @@ use Rattle.std.proofs.Common.{◌≡◌, ◌∙◌, ◌<◌, ap, refl, subst, sy
 use Rattle.inbox.specs.Calls.{after_stop}
 use Rattle.inbox.specs.Ends.{OwnerState}
 use Rattle.sdl_evaluation.specs.declared.store.Store.{Store}
-use Rattle.sdl_report.specs.Event.{Event}
-use Rattle.sdl_report.specs.Event as event
-use Rattle.sdl_report.specs.Record.{RecordValue, noted, with_room}
-use Rattle.sdl_report.specs.declared.failure.Failure.{Failure}
+use Rattle.sdl_record.specs.Event.{Event}
+use Rattle.sdl_record.specs.Event as event
+use Rattle.sdl_record.specs.Record.{RecordValue, noted, with_room}
+use Rattle.sdl_record.specs.declared.failure.Failure.{Failure}
 use Rattle.sdl_runs.specs.Goes.{MachineValue, with_event}
 use Rattle.sdl_steps.specs.Machine.{IsGoing, IsSameInstance, identity_of, value_of}
 use Rattle.sdl_steps.specs.declared.machine.Machine.{Machine}

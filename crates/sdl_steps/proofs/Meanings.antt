@@ -3,14 +3,14 @@ use Rattle.std.proofs.Common.{◌≡◌, ◌∙◌, sym, ap, refl, ℕ, List, Op
 use Rattle.std.proofs.lemmas.Option.{slice_get-map}
 use Rattle.std.specs.Option.{option_map}
 use Rattle.port_model.specs.Port.{PortState}
-use Rattle.port_model.specs.declared.item.SignalId.{SignalId}
-use Rattle.port_model.specs.declared.timer_key.TimerKey.{TimerKey}
-use Rattle.port_model.specs.declared.value.Value.{Value}
+use Rattle.port_values.specs.declared.item.SignalId.{SignalId}
+use Rattle.port_values.specs.declared.timer_key.TimerKey.{TimerKey}
+use Rattle.port_values.specs.declared.value.Value.{Value}
 use Rattle.sdl_evaluation.specs.Environment.{Environment, environment, sorts_of}
 use Rattle.sdl_evaluation.specs.Value.{at_place, key_at, value_of, values_at}
 use Rattle.sdl_evaluation.specs.declared.identity.Identity.{Identity}
 use Rattle.sdl_evaluation.specs.declared.store.Store.{Store}
-use Rattle.sdl_report.specs.declared.failure.Failure.{Failure}
+use Rattle.sdl_record.specs.declared.failure.Failure.{Failure}
 use Rattle.sdl_runs.specs.Fails.{both, due_by, named_by, sent_by, set_by}
 use Rattle.sdl_runs.specs.Place.{Definition}
 use Rattle.sdl_runs.specs.Reception.{sort_in}

@@ -1,7 +1,7 @@
 -- The list of an action, done entry by entry.
 use Rattle.std.proofs.Common.{◌≡◌, ◌∙◌, ◌<◌, ◌≤◌, ◌+◌, sym, ap, subst, ℕ, List, [], ◌∷◌, length, get_or, drop, map, Option}
 use Rattle.std.proofs.lemmas.List.{at_drop_all, at_drop_more}
-use Rattle.sdl_report.specs.declared.failure.Failure.{Failure}
+use Rattle.sdl_record.specs.declared.failure.Failure.{Failure}
 use Rattle.sdl_runs.proofs.Goes.{goes_on, goes_still, wrong_here, wrong_on}
 use Rattle.sdl_runs.specs.Goes.{AreInner, Goes, GoesWrong, MachineValue}
 use Rattle.sdl_runs.specs.Place.{Definition}

@@ -1,13 +1,13 @@
 -- What a node does, whatever stands where it begins.
 use Rattle.inbox.specs.Calls.{after_stop}
 use Rattle.inbox.specs.Ends.{OwnerState}
-use Rattle.port_model.specs.declared.value.Value.{Value}
+use Rattle.port_values.specs.declared.value.Value.{Value}
 use Rattle.sdl_evaluation.specs.Environment.{environment}
 use Rattle.sdl_evaluation.specs.Value as evaluated
 use Rattle.sdl_evaluation.specs.declared.store.Store.{Store}
-use Rattle.sdl_report.specs.Event as event
-use Rattle.sdl_report.specs.declared.failure.Failure.TheVariants.{Memory}
-use Rattle.sdl_report.specs.declared.failure.Failure.{Failure}
+use Rattle.sdl_record.specs.Event as event
+use Rattle.sdl_record.specs.declared.failure.Failure.TheVariants.{Memory}
+use Rattle.sdl_record.specs.declared.failure.Failure.{Failure}
 use Rattle.sdl_runs.proofs.Goes.{goes_on, goes_turn, wrong_here, wrong_on}
 use Rattle.sdl_runs.specs.Fails.{Fails, IsTooLong}
 use Rattle.sdl_runs.specs.Goes.{AreInner, Goes, GoesWrong, MachineValue, with_event}

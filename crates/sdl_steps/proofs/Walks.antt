@@ -1,6 +1,6 @@
 -- From node to node.
 use Rattle.std.proofs.Common.{◌≡◌, ◌∙◌, ap, refl, List, Option, None, Some, slice_get}
-use Rattle.sdl_report.specs.declared.failure.Failure.{Failure}
+use Rattle.sdl_record.specs.declared.failure.Failure.{Failure}
 use Rattle.sdl_runs.proofs.Goes.{goes_on, goes_still, goes_turn, wrong_on}
 use Rattle.sdl_runs.specs.Goes.{AreInner, Goes, MachineValue}
 use Rattle.sdl_runs.specs.Place.{Definition, Doing}

@@ -2,7 +2,7 @@
 use Rattle.std.specs.Prelude.{◌≡◌, ◌<◌, ◌≤◌, length, true}
 use Rattle.inbox.specs.Ends.{OwnerState}
 use Rattle.sdl_evaluation.specs.declared.identity.Identity.{Identity}
-use Rattle.sdl_report.specs.Record.{RecordValue}
+use Rattle.sdl_record.specs.Record.{RecordValue}
 use Rattle.sdl_runs.specs.Goes.{MachineValue}
 use Rattle.sdl_runs.specs.Place.{AtStart, Ended, In, Place}
 use Rattle.sdl_steps.specs.declared.machine.Machine.{Machine}

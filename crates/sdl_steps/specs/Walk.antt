@@ -1,14 +1,14 @@
 -- How a transition is walked over the nodes of its process.
 use Rattle.std.specs.Prelude.{◌≡◌, ◌≢◌, ◌⊎◌, ◌+◌, ◌<◌, ℕ, List, Option, None, Some, Ok, length, slice_get}
 use Rattle.inbox.specs.Ends.{OwnerState}
-use Rattle.port_model.specs.declared.value.Value.{Value}
+use Rattle.port_values.specs.declared.value.Value.{Value}
 use Rattle.sdl_evaluation.specs.Environment.{Environment}
 use Rattle.sdl_evaluation.specs.Memory.{FailsAs, wants_memory}
 use Rattle.sdl_evaluation.specs.Value as evaluated
 use Rattle.sdl_evaluation.specs.declared.store.Store.{Store}
-use Rattle.sdl_report.specs.Event as event
-use Rattle.sdl_report.specs.declared.failure.Failure.{Failure}
-use Rattle.sdl_report.specs.declared.failure.Failure.TheVariants.{Memory, NoAnswer, Undefined}
+use Rattle.sdl_record.specs.Event as event
+use Rattle.sdl_record.specs.declared.failure.Failure.{Failure}
+use Rattle.sdl_record.specs.declared.failure.Failure.TheVariants.{Memory, NoAnswer, Undefined}
 use Rattle.sdl_runs.specs.Fails.{IsTooLong, most_statements}
 use Rattle.sdl_runs.specs.Goes.{AreInner, Goes, GoesWrong, MachineValue, with_event}
 use Rattle.sdl_runs.specs.Place.{Definition, Doing}

@@ -1,6 +1,6 @@
 -- What a piece of a transition does, wherever it stands.
 use Rattle.std.specs.Prelude.{◌≡◌, Option}
-use Rattle.sdl_report.specs.declared.failure.Failure.{Failure}
+use Rattle.sdl_record.specs.declared.failure.Failure.{Failure}
 use Rattle.sdl_runs.specs.Behaves.{Behaves}
 use Rattle.sdl_runs.specs.Fails.{Fails}
 use Rattle.sdl_runs.specs.Goes.{AreInner, Goes, GoesWrong, MachineValue}

@@ -5,7 +5,7 @@ ghost use Rattle.sdl_runs.specs.Fails.{IsTooLong};
 ghost use Rattle.sdl_runs.specs.Leads.{Counts};
 
 use crate::machine::Machine;
-use sdl_report::Failure;
+use sdl_record::Failure;
 
 /// The statements that a transition may have.
 const MOST_STATEMENTS: u32 = 10_000;

@@ -13,7 +13,7 @@ use crate::count::with_one_more;
 use crate::machine::Machine;
 use inbox::Inbox;
 use sdl_evaluation::evaluate;
-use sdl_report::Failure;
+use sdl_record::Failure;
 use sdl_system::{Decision, System, Way};
 use std::alloc::Global;
 

@@ -2,13 +2,13 @@
 
 ghost use Rattle.std.specs.Prelude.{◌≡◌, ◌<◌, ◌≤◌, IfErr, OnOk};
 ghost use Rattle.inbox.specs.Calls.{after_stop};
-ghost use Rattle.sdl_report.specs.Event as event;
-ghost use Rattle.sdl_report.specs.Record.{noted, with_room};
+ghost use Rattle.sdl_record.specs.Event as event;
+ghost use Rattle.sdl_record.specs.Record.{noted, with_room};
 ghost use Rattle.sdl_steps.specs.Machine.{IsGoing, identity_of};
 
 use inbox::Inbox;
 use sdl_evaluation::{Identity, Store};
-use sdl_report::{Failure, Record};
+use sdl_record::{Failure, Record};
 use sdl_system::StateId;
 
 /// Where an instance is between two steps.

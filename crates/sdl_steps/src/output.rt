@@ -3,12 +3,12 @@
 ghost use Rattle.std.specs.Prelude.{◌≡◌, ◌⊎◌, ◌<◌, ◌≤◌, ◌∷◌, [], IfErr, IfOk, IfSome, List, length, OnErr, OnOk, Ok, Err, map, option_copied, true};
 ghost use Rattle.std.specs.Option.{option_map};
 ghost use Rattle.inbox.specs.Ends.{OwnerState};
-ghost use Rattle.port_model.specs.declared.pid.Pid.TheVariants.{Of};
+ghost use Rattle.port_values.specs.declared.pid.Pid.TheVariants.{Of};
 ghost use Rattle.sdl_evaluation.specs.Environment.{environment};
 ghost use Rattle.sdl_evaluation.specs.Memory.{FailsAs, list_wants_memory};
 ghost use Rattle.sdl_evaluation.specs.Value.{values_at};
-ghost use Rattle.sdl_report.specs.Event as event;
-ghost use Rattle.sdl_report.specs.Record.{noted};
+ghost use Rattle.sdl_record.specs.Event as event;
+ghost use Rattle.sdl_record.specs.Record.{noted};
 ghost use Rattle.sdl_runs.specs.Act.{Send};
 ghost use Rattle.sdl_runs.specs.Fails.{named_by};
 ghost use Rattle.sdl_runs.specs.World.{IsRoute, after_act};
@@ -21,9 +21,9 @@ ghost use Rattle.sdl_system.specs.Term.{term_of};
 
 use crate::machine::{Machine, make_room};
 use inbox::Inbox;
-use port_model::{Item, Pid, SignalId, Value, Values};
+use port_values::{Item, Pid, SignalId, Value, Values};
 use sdl_evaluation::{Identity, Store, evaluate_all, evaluate_at, sorts_of};
-use sdl_report::Failure;
+use sdl_record::Failure;
 use sdl_runs::World;
 use sdl_system::{Dest, Destination, Expression, Output, Sending, Sort, System, Target};
 use std::alloc::Global;

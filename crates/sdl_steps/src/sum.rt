@@ -10,7 +10,7 @@ ghost use Rattle.sdl_system.specs.System.{SystemValue};
 ghost use Rattle.sdl_system.specs.Term.{term_of, term_of_chain};
 ghost use Rattle.sdl_system.specs.declared.sort.Sort.TheVariants.{Integer};
 
-use port_model::Value;
+use port_values::Value;
 use sdl_evaluation::Store;
 use sdl_system::{Arithmetic, Chain, Expression, NumberSort, Operation, Sort};
 

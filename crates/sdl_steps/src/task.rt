@@ -2,7 +2,7 @@
 
 ghost use Rattle.std.specs.Prelude.{◌≡◌, ◌∷◌, [], IfErr, List, OnErr, OnOk, map};
 ghost use Rattle.inbox.specs.Ends.{OwnerState};
-ghost use Rattle.sdl_report.specs.Event as event;
+ghost use Rattle.sdl_record.specs.Event as event;
 ghost use Rattle.sdl_runs.specs.Goes.{with_event};
 ghost use Rattle.sdl_runs.specs.Reception.{assigned};
 ghost use Rattle.sdl_runs.specs.World.{WorldValue};
@@ -16,9 +16,9 @@ use crate::machine::{Machine, make_room};
 use crate::sum::sum_at;
 use crate::variable::sort_of;
 use inbox::Inbox;
-use port_model::Value;
+use port_values::Value;
 use sdl_evaluation::evaluate_at;
-use sdl_report::Failure;
+use sdl_record::Failure;
 use sdl_system::{Assignment, Process, System, VariableId};
 use std::alloc::Global;
 

@@ -12,9 +12,10 @@ ghost use Rattle.sdl_system.specs.Table.{setting, timing, when_due};
 
 use crate::machine::{Machine, make_room};
 use inbox::Inbox;
-use port_model::{PortError, Ticks};
+use port_model::PortError;
+use port_values::Ticks;
 use sdl_evaluation::{Identity, Store, evaluate_at, evaluate_key};
-use sdl_report::Failure;
+use sdl_record::Failure;
 use sdl_runs::World;
 use sdl_system::{Due, Setting, Sort, System, TimerUse, number_of};
 use std::alloc::Global;

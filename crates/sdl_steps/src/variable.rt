@@ -4,7 +4,7 @@ ghost use Rattle.std.specs.Prelude.{◌≡◌, IfErr, IfOk, map, slice_get, take
 ghost use Rattle.std.specs.Option.{option_map};
 ghost use Rattle.sdl_runs.specs.Fails.{parameters_of};
 
-use sdl_report::Failure;
+use sdl_record::Failure;
 use sdl_system::{Process, ProcessId, Sort, System, VariableId};
 use std::alloc::{AllocError, Global};
 

@@ -3,7 +3,7 @@
 ghost use Rattle.std.specs.Prelude.{◌≡◌, ◌≢◌, IfErr, IfOk, OnOk, Option, Some};
 ghost use Rattle.inbox.specs.Calls.{after_stop};
 ghost use Rattle.inbox.specs.Ends.{OwnerState};
-ghost use Rattle.sdl_report.specs.Event as event;
+ghost use Rattle.sdl_record.specs.Event as event;
 ghost use Rattle.sdl_runs.specs.Goes.{with_event};
 ghost use Rattle.sdl_steps.specs.Machine.{IsGoing, IsPositionIn, IsReady, IsSameInstance, value_of};
 ghost use Rattle.sdl_steps.specs.Walk.{ActsAs, CountsOnward, Enters, EntersNone, FailsToAct, HasStarted, IsOnwardIn, IsPlain, IsReadyOnward, Visits, VisitsWrong, Walks, WalksWrong};
@@ -18,7 +18,7 @@ use crate::output::send_all;
 use crate::task::assign_all;
 use crate::timer::{reset_all, set_all};
 use inbox::Inbox;
-use sdl_report::Failure;
+use sdl_record::Failure;
 use sdl_runs::World;
 use sdl_system::{Node, NodeId, Process, StateId, Statement, System};
 use std::alloc::Global;

@@ -1,7 +1,7 @@
 -- The signals of a list by its name.
 use Rattle.std.proofs.Common.{◌≡◌, ◌∙◌, ◌++◌, ℕ, List, Option, ap, option_map, sym}
 use Rattle.sdl_declared.specs.declared.entries.SignalListId.{SignalListId}
-use Rattle.port_model.specs.declared.item.SignalId.{SignalId}
+use Rattle.port_values.specs.declared.item.SignalId.{SignalId}
 use Rattle.sdl_scope.specs.Names.{first_of, first_outward}
 use Rattle.sdl_sorts.proofs.ScopeLemmas.{meaning-first, outward-first}
 use Rattle.sdl_sorts.specs.Scope.{meaning}

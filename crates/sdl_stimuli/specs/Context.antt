@@ -2,7 +2,7 @@
 use Rattle.std.specs.Prelude.{ℕ, List, [], Option, map, slice_get, unwrap_or}
 use Rattle.std.specs.Borrow.{Bor}
 use Rattle.std.specs.Global.{Vec}
-use Rattle.port_model.specs.declared.item.SignalId.{SignalId}
+use Rattle.port_values.specs.declared.item.SignalId.{SignalId}
 use Rattle.sdl_declared.specs.declared.entries.SignalListId.{SignalListId}
 use Rattle.sdl_scope.specs.Names.{first_of}
 use Rattle.sdl_sorts.specs.Scope.{Scope, meaning, scope_of, visible}

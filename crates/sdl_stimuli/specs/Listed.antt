@@ -1,7 +1,7 @@
 -- What the lists stand for that the code makes.
 use Rattle.std.specs.Prelude.{List, Option, map, option_map}
 use Rattle.std.specs.Borrow.{Bor}
-use Rattle.port_model.specs.declared.item.SignalId.{SignalId}
+use Rattle.port_values.specs.declared.item.SignalId.{SignalId}
 use Rattle.sdl_faults.specs.Faults.{token_word}
 use Rattle.sdl_stimuli.specs.Mentions as plain
 use Rattle.sdl_stimuli.specs.Reading as read

@@ -3,7 +3,7 @@
 ghost use Rattle.std.specs.Prelude.{◌≡◌, option_map};
 ghost use Rattle.sdl_stimuli.specs.Context.{listed_members, members_of};
 
-use port_model::SignalId;
+use port_values::SignalId;
 use sdl_declared::SignalListId;
 use sdl_scope::Outward;
 use sdl_sorts::Scope;

@@ -7,7 +7,7 @@ ghost use Rattle.sdl_stimuli.specs.Mentions.{parameters_of, subjects_in, subject
 ghost use Rattle.sdl_stimuli.specs.declared.subject.Subject.TheVariants.{Signal};
 
 use crate::subject::Subject;
-use port_model::SignalId;
+use port_values::SignalId;
 use sdl_sorts::SignalMeaning;
 use sdl_system::Sort;
 use std::alloc::{AllocError, Global};

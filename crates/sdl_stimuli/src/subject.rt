@@ -1,6 +1,6 @@
 //! Of what a state speaks.
 
-use port_model::SignalId;
+use port_values::SignalId;
 
 /// Of what a state speaks.
 #[derive(Clone, Copy, Debug, PartialEq, Eq, Hash)]

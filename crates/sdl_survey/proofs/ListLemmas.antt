@@ -4,7 +4,7 @@ use Rattle.std.proofs.lemmas.Bool.{eqb-true, eqb-false}
 use Rattle.std.proofs.lemmas.List.{length-append}
 use Rattle.std.proofs.lemmas.List.Elements.{Contains-append_left, Contains-push, Contains-push_cases}
 use Rattle.std.specs.Global.{Vec}
-use Rattle.port_model.specs.declared.item.SignalId.{SignalId}
+use Rattle.port_values.specs.declared.item.SignalId.{SignalId}
 use Rattle.sdl_stimuli.specs.Context.{items_of, listed_members}
 use Rattle.sdl_survey.specs.Lists.{AreMembers, AreSignalsOf}
 use Rattle.sdl_channels.specs.declared.network.Network.{Network}

@@ -1,6 +1,6 @@
 -- What stands around each process of a specification: what the names in it stand for.
 use Rattle.std.specs.Prelude.{◌||◌, ℕ, zero, suc, ◌+◌, ◌++◌, Bool, List, [], ◌∷◌, length}
-use Rattle.port_model.specs.declared.item.SignalId.{SignalId}
+use Rattle.port_values.specs.declared.item.SignalId.{SignalId}
 use Rattle.sdl_bodies.specs.Numbered.{numbered}
 use Rattle.sdl_survey.specs.Survey.{Survey}
 use Rattle.sdl_declared.specs.Tables.{path_of}

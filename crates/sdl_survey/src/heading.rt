@@ -7,7 +7,7 @@ ghost use Rattle.sdl_spaces.specs.Spaces.{is_same_scope};
 ghost use Rattle.sdl_spaces.specs.declared.scope.ScopeId.TheVariants as scopes;
 ghost use Rattle.sdl_system.specs.Behaviour.{variable_meaning};
 
-use port_model::Value;
+use port_values::Value;
 use sdl_declared::ValueName;
 use sdl_sorts::{Constant, ValueEntry};
 use sdl_spaces::ScopeId;

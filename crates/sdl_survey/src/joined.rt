@@ -11,7 +11,7 @@ ghost use Rattle.sdl_faults.specs.Faults.{least_of, told};
 ghost use Rattle.sdl_stimuli.specs.Context.{listed_members};
 
 use crate::lists::members;
-use port_model::SignalId;
+use port_values::SignalId;
 use sdl_channels::{Network, SignalSets};
 use sdl_declared::Tables;
 use sdl_faults::Faults;

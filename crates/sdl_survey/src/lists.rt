@@ -5,7 +5,7 @@ ghost use Rattle.sdl_survey.specs.Lists.{AreMembers, AreSignalsOf};
 ghost use Rattle.sdl_channels.specs.SignalLists.{AreSets};
 ghost use Rattle.sdl_stimuli.specs.Context.{listed_members};
 
-use port_model::SignalId;
+use port_values::SignalId;
 use sdl_channels::{ListId, Network, SignalSets};
 use sdl_declared::SignalListEntry;
 use std::alloc::{AllocError, Global};

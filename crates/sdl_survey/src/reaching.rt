@@ -3,7 +3,7 @@
 ghost use Rattle.std.specs.Prelude.{◌≡◌, IfOk};
 ghost use Rattle.sdl_survey.specs.Surroundings.{is_reaching, reaching};
 
-use port_model::SignalId;
+use port_values::SignalId;
 use sdl_system::{ProcessId, Routes, Source};
 use std::alloc::{AllocError, Global};
 

@@ -3,7 +3,7 @@
 ghost use Rattle.std.specs.Prelude.{◌≡◌, []};
 
 use crate::awake::Awake;
-use port_model::Ticks;
+use port_values::Ticks;
 use sdl_timers::Wheel;
 use std::alloc::Global;
 

@@ -5,7 +5,7 @@ ghost use Rattle.sdl_sweeps.specs.Sweeps.{IsNextTime, IsNoFuseBefore, IsNoLineBe
 
 use crate::agents::Agents;
 use crate::sweeps::Sweeps;
-use port_model::Ticks;
+use port_values::Ticks;
 use std::alloc::Global;
 
 impl<'s> Sweeps<'s> {

@@ -4,7 +4,7 @@ ghost use Rattle.std.specs.Prelude.{◌≡◌};
 ghost use Rattle.sdl_system.specs.Answer.{is_met};
 
 use crate::operation::{Comparison, compare};
-use port_model::Value;
+use port_values::Value;
 
 /// What the value of a question is compared with.
 #[derive(Clone, Copy, Debug, PartialEq, Eq)]

@@ -9,7 +9,7 @@ use crate::signal::SignalSet;
 use crate::sort::Sort;
 use crate::state::{Reaction, StateTable};
 use crate::statement::Node;
-use port_model::{SignalId, Value};
+use port_values::{SignalId, Value};
 
 /// What the instances of a process are made of.
 #[derive(Debug)]

@@ -5,7 +5,8 @@ ghost use Rattle.sdl_system.specs.State.{choice_of, named_reaction};
 
 use crate::id::{ConditionId, NodeId, VariableId};
 use indexmap::IndexMap;
-use port_model::{Class, Selection, SignalId};
+use port_model::{Class, Selection};
+use port_values::SignalId;
 use std::marker::Model;
 
 /// What the states of one table do: states whose parts are the same share it.
@@ -34,7 +35,7 @@ pub struct Reactions {
 
 impl Model for Reactions {
     ghost use Rattle.std.specs.Prelude.{List};
-    ghost use Rattle.port_model.specs.declared.item.SignalId.{SignalId};
+    ghost use Rattle.port_values.specs.declared.item.SignalId.{SignalId};
     ghost use Rattle.sdl_system.specs.declared.state.Reaction.{Reaction};
 
     ghost Value = { List (SignalId × Reaction) };

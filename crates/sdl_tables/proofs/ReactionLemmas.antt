@@ -1,6 +1,6 @@
 -- Reactions to signals, one signal after another.
 use Rattle.std.proofs.Common.{◌≡◌, ◌∙◌, ◌==◌, ◌+◌, ◌<◌, ◌≤◌, ℕ, Bool, true, false, List, None, Some, ap, arith, if◌then◌else◌, refl, subst, sym}
-use Rattle.port_model.specs.declared.item.SignalId.{SignalId}
+use Rattle.port_values.specs.declared.item.SignalId.{SignalId}
 use Rattle.sdl_stimuli.specs.Mentions.{Response}
 use Rattle.sdl_states.specs.States.{named_in}
 use Rattle.sdl_system.specs.State.{named_reaction, same_signal}

@@ -1,7 +1,7 @@
 //! What is done with the signals that a state names.
 
 ghost use Rattle.std.specs.Prelude.{◌≡◌, Some, IfOk, OnOk, if◌then◌else◌, option_map};
-ghost use Rattle.port_model.specs.declared.item.SignalId.{SignalId};
+ghost use Rattle.port_values.specs.declared.item.SignalId.{SignalId};
 ghost use Rattle.sdl_stimuli.specs.Listed.{rest_value};
 ghost use Rattle.sdl_system.specs.State.{named_reaction, same_signal};
 ghost use Rattle.sdl_tables.specs.Linked.{ReactionsOf, RestOf};
@@ -9,7 +9,7 @@ ghost use Rattle.sdl_tables.specs.Linked.{ReactionsOf, RestOf};
 use crate::basis::Basis;
 use crate::reaction::reaction_of;
 use indexmap::IndexMap;
-use port_model::SignalId;
+use port_values::SignalId;
 use sdl_states::Named;
 use sdl_stimuli::Response;
 use sdl_system::{NodeId, Reaction, Reactions};

@@ -4,7 +4,8 @@ ghost use Rattle.std.specs.Prelude.{◌≡◌, IfOk, option_copied};
 ghost use Rattle.sdl_tables.specs.Linked.{AreClasses, choice_by};
 
 use crate::basis::Basis;
-use port_model::{Selection, SignalId};
+use port_model::Selection;
+use port_values::SignalId;
 use sdl_system::{Choice, Reaction, Reactions, SignalSet};
 use std::alloc::{AllocError, Global};
 

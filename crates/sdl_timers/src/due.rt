@@ -4,7 +4,7 @@ ghost use Rattle.std.specs.Prelude.{◌≡◌, ◌%◌};
 ghost use Rattle.sdl_timers.specs.DueOrder.{due_of, earlier};
 
 use inbox::Fuse;
-use port_model::{Arm, Ticks};
+use port_values::{Arm, Ticks};
 
 /// Where a fuse stands in due order: by its time, then by the number of its port, then by that of its set.
 #[derive(Clone, Copy, Debug, PartialEq, Eq, PartialOrd, Ord)]

@@ -1,13 +1,13 @@
 -- What an instance did stays in its record: nothing lacks before where nothing lacks behind.
 use Rattle.std.proofs.Common.{◌≡◌, ◌⊎◌, ◌∙◌, ◌++◌, ap, append_assoc, append-nil, if◌then◌else◌, inl, inr, nat_le, refl, set, slice_get, subst, sym, ℕ, zero, suc, Bool, true, false, List, [], ◌∷◌, Option, None, Some}
 use Rattle.std.proofs.lemmas.Option.{none-some, same_Some}
-use Rattle.port_model.specs.declared.pid.Pid.TheVariants.{Of}
-use Rattle.port_model.specs.declared.value.Value.{Value}
+use Rattle.port_values.specs.declared.pid.Pid.TheVariants.{Of}
+use Rattle.port_values.specs.declared.value.Value.{Value}
 use Rattle.sdl_courses.specs.Course.{Expired, Follows, Happening, Heard, Moved, Steps, Ticked}
 use Rattle.sdl_courses.specs.Global.{Global, after_act, after_acts, change_at, changed_at, instance_at, instance_of, with_created, with_expiry, with_instance, with_put}
 use Rattle.sdl_evaluation.specs.declared.identity.Identity.{Identity}
 use Rattle.sdl_interp.specs.Instance.{InstanceValue}
-use Rattle.sdl_report.specs.Event.{Event}
+use Rattle.sdl_record.specs.Event.{Event}
 use Rattle.sdl_runs.specs.Act.{Act, Arm, Create, Deed, Send, acts_of, events_of}
 use Rattle.sdl_system.specs.Behaviour.{Behaviour}
 use Rattle.sdl_system.specs.declared.process.Process.{Process}

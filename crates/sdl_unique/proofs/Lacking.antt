@@ -6,7 +6,7 @@ use Rattle.sdl_courses.specs.Course.{Course, Follows, Happening, Steps, begins, 
 use Rattle.sdl_courses.specs.Global.{Global, after_acts, instance_at, with_instance}
 use Rattle.sdl_evaluation.specs.declared.identity.Identity.{Identity}
 use Rattle.sdl_interp.specs.Instance.{InstanceValue}
-use Rattle.sdl_report.specs.Event.{Event}
+use Rattle.sdl_record.specs.Event.{Event}
 use Rattle.sdl_runs.specs.Act.{Deed, acts_of, events_of}
 use Rattle.sdl_system.specs.Behaviour.{Behaviour}
 use Rattle.sdl_unique.proofs.Grown.{Grown, Kept, grown_acts, grown_next, step_events, stepped}

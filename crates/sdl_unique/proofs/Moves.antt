@@ -8,7 +8,7 @@ use Rattle.sdl_courses.specs.Global.{Global, after_acts, around, instance_at, wi
 use Rattle.sdl_evaluation.specs.declared.identity.Identity.{Identity}
 use Rattle.sdl_evaluation.specs.declared.store.Store.{Store}
 use Rattle.sdl_interp.specs.Instance.{InstanceValue}
-use Rattle.sdl_report.specs.Event.{Event}
+use Rattle.sdl_record.specs.Event.{Event}
 use Rattle.sdl_runs.specs.Act.{Deed, acts_of, events_of}
 use Rattle.sdl_runs.specs.Place.{AtStart, In, Place}
 use Rattle.sdl_steps.specs.Machine.{place_of}

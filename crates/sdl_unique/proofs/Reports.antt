@@ -6,11 +6,11 @@ use Rattle.sdl_courses.specs.Course.{Happening, transitions_of}
 use Rattle.sdl_courses.specs.Global.{Global, beginning}
 use Rattle.sdl_courses.specs.Report.{Closes, Ends, IsSerialReport}
 use Rattle.sdl_interp.specs.Instance.{InstanceValue, closing}
-use Rattle.sdl_report.specs.Event as event
-use Rattle.sdl_report.specs.Event.{Event}
-use Rattle.sdl_report.specs.Record.{RecordValue}
+use Rattle.sdl_record.specs.Event as event
+use Rattle.sdl_record.specs.Event.{Event}
+use Rattle.sdl_record.specs.Record.{RecordValue}
 use Rattle.sdl_report.specs.ReportText.{end_text, event_line, event_text, heading_text, line, record_text, report_text}
-use Rattle.sdl_report.specs.declared.record.Report.{Report}
+use Rattle.sdl_record.specs.declared.record.Report.{Report}
 use Rattle.sdl_script.specs.Script.{end_of}
 use Rattle.sdl_script.specs.declared.script.ScriptLine.{ScriptLine}
 use Rattle.sdl_system.specs.Behaviour.{Behaviour}

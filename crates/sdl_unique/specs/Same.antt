@@ -5,9 +5,9 @@ use Rattle.sdl_courses.specs.Course.{AreBehaviours, Course, Expired, Happening, 
 use Rattle.sdl_courses.specs.Global.{Global}
 use Rattle.sdl_courses.specs.Report.{IsSerialReport}
 use Rattle.sdl_interp.specs.Instance.{InstanceValue}
-use Rattle.sdl_report.specs.Record.{RecordValue, with_room}
+use Rattle.sdl_record.specs.Record.{RecordValue, with_room}
 use Rattle.sdl_report.specs.ReportText.{report_text}
-use Rattle.sdl_report.specs.declared.record.Report.{Report}
+use Rattle.sdl_record.specs.declared.record.Report.{Report}
 use Rattle.sdl_runs.specs.Act.{Deed}
 use Rattle.sdl_script.specs.Script.{IsScript}
 use Rattle.sdl_script.specs.declared.script.ScriptLine.{ScriptLine}

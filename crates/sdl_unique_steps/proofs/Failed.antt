@@ -4,14 +4,14 @@ use Rattle.std.proofs.lemmas.Bool.{lt-ltb}
 use Rattle.port_model.specs.History.{IsLegal, PortEvent, PortStep, Stop}
 use Rattle.port_model.specs.Port.{PortState, remove_from, stopped}
 use Rattle.port_model.specs.declared.plain_port.TheConstants.{MOST_SETS}
-use Rattle.port_model.specs.declared.value.Value.{Value}
+use Rattle.port_values.specs.declared.value.Value.{Value}
 use Rattle.sdl_evaluation.specs.Environment.{environment}
 use Rattle.sdl_evaluation.specs.Value.{at_place, key_at, placed, value_of, values_at}
 use Rattle.sdl_evaluation.specs.declared.identity.Identity.{Identity}
 use Rattle.sdl_evaluation.specs.declared.store.Store.{Store}
-use Rattle.sdl_report.specs.Event as event
-use Rattle.sdl_report.specs.declared.failure.Failure.{Failure}
-use Rattle.sdl_report.specs.declared.failure.Failure.TheVariants.{NoAnswer, SetsSpent, TooLong, Undefined}
+use Rattle.sdl_record.specs.Event as event
+use Rattle.sdl_record.specs.declared.failure.Failure.{Failure}
+use Rattle.sdl_record.specs.declared.failure.Failure.TheVariants.{NoAnswer, SetsSpent, TooLong, Undefined}
 use Rattle.sdl_runs.specs.Act.{Act}
 use Rattle.sdl_runs.specs.Fails.{Fails, HasCause, HasNoAnswer, IsSpent, IsTooLong, most_statements, parameters_of, sent_by, set_by}
 use Rattle.sdl_runs.specs.Leads.{Happens}

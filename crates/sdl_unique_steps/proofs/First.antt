@@ -5,16 +5,16 @@ use Rattle.port_model.specs.History.{IsLegal, PortEvent, PortStep, Take}
 use Rattle.port_model.specs.Port.{PortState, stopped}
 use Rattle.port_model.specs.Take.{Takes, name_of}
 use Rattle.port_model.specs.declared.got.Got.{Got}
-use Rattle.port_model.specs.declared.item.SignalId.{SignalId}
+use Rattle.port_values.specs.declared.item.SignalId.{SignalId}
 use Rattle.port_model.specs.declared.selection.Class.{Class}
 use Rattle.port_model.specs.declared.taken.Taken.{Taken}
 use Rattle.port_model.specs.declared.taken.Taken.TheVariants.{Consumed, Discarded, Nothing}
 use Rattle.port_model.specs.Selection.{class_of}
 use Rattle.sdl_evaluation.specs.Environment.{environment}
 use Rattle.sdl_evaluation.specs.declared.store.Store.{Store}
-use Rattle.sdl_report.specs.Event as event
-use Rattle.sdl_report.specs.Event.{Event, values_got}
-use Rattle.sdl_report.specs.declared.failure.Failure.{Failure}
+use Rattle.sdl_record.specs.Event as event
+use Rattle.sdl_record.specs.Event.{Event, values_got}
+use Rattle.sdl_record.specs.declared.failure.Failure.{Failure}
 use Rattle.sdl_runs.specs.Act.{Act}
 use Rattle.sdl_runs.specs.Fails.{FailsIn, of_condition, of_continuous, of_event, of_take, of_trying}
 use Rattle.sdl_runs.specs.Goes.{IsFirst}

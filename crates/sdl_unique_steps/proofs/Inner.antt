@@ -3,18 +3,18 @@ use Rattle.std.proofs.Common.{◌≡◌, ◌∙◌, ◌+◌, ℕ, Bool, true, fa
 use Rattle.std.proofs.lemmas.Bool.{lt-ltb}
 use Rattle.port_model.specs.History.{IsLegal, PortEvent, PortStep, Reset, Set, Stop}
 use Rattle.port_model.specs.Port.{PortState, remove_from, set_in, stopped}
-use Rattle.port_model.specs.declared.pid.Pid.TheVariants.{Of}
+use Rattle.port_values.specs.declared.pid.Pid.TheVariants.{Of}
 use Rattle.port_model.specs.declared.plain_port.TheConstants.{MOST_SETS}
-use Rattle.port_model.specs.declared.item.SignalId.{SignalId}
-use Rattle.port_model.specs.declared.timer_key.TimerKey.{TimerKey}
-use Rattle.port_model.specs.declared.value.Value.{Value}
+use Rattle.port_values.specs.declared.item.SignalId.{SignalId}
+use Rattle.port_values.specs.declared.timer_key.TimerKey.{TimerKey}
+use Rattle.port_values.specs.declared.value.Value.{Value}
 use Rattle.sdl_evaluation.specs.Environment.{environment}
 use Rattle.sdl_evaluation.specs.Value.{at_place, key_at, value_of, values_at}
 use Rattle.sdl_evaluation.specs.declared.store.Store.{Store}
-use Rattle.sdl_report.specs.Event as event
-use Rattle.sdl_report.specs.Event.{Event}
-use Rattle.sdl_report.specs.declared.failure.Failure.{Failure}
-use Rattle.sdl_report.specs.declared.failure.Failure.TheVariants.{SetsSpent, Undefined}
+use Rattle.sdl_record.specs.Event as event
+use Rattle.sdl_record.specs.Event.{Event}
+use Rattle.sdl_record.specs.declared.failure.Failure.{Failure}
+use Rattle.sdl_record.specs.declared.failure.Failure.TheVariants.{SetsSpent, Undefined}
 use Rattle.sdl_runs.specs.Act.{Act, Arm, Send}
 use Rattle.sdl_runs.specs.Fails.{parameters_of, sent_by, set_by}
 use Rattle.sdl_runs.specs.Leads.{Assigns, Creates, Happens, Sends, Sets, created, offspring_of}

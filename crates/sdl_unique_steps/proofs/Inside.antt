@@ -2,15 +2,15 @@
 use Rattle.std.proofs.Common.{◌≡◌, ◌⊎◌, ◌∙◌, ℕ, List, [], ◌∷◌, None, Some, Option, ap, inl, inr, refl, subst, sym}
 use Rattle.port_model.specs.History.{IsLegal, PortEvent}
 use Rattle.port_model.specs.Port.{PortState}
-use Rattle.port_model.specs.declared.item.SignalId.{SignalId}
-use Rattle.port_model.specs.declared.timer_key.TimerKey.{TimerKey}
-use Rattle.port_model.specs.declared.value.Value.{Value}
+use Rattle.port_values.specs.declared.item.SignalId.{SignalId}
+use Rattle.port_values.specs.declared.timer_key.TimerKey.{TimerKey}
+use Rattle.port_values.specs.declared.value.Value.{Value}
 use Rattle.sdl_evaluation.specs.Environment.{environment}
 use Rattle.sdl_evaluation.specs.Value.{placed}
 use Rattle.sdl_evaluation.specs.declared.store.Store.{Store}
-use Rattle.sdl_report.specs.Event as event
-use Rattle.sdl_report.specs.Event.{Event}
-use Rattle.sdl_report.specs.declared.failure.Failure.TheVariants.{NoAnswer}
+use Rattle.sdl_record.specs.Event as event
+use Rattle.sdl_record.specs.Event.{Event}
+use Rattle.sdl_record.specs.declared.failure.Failure.TheVariants.{NoAnswer}
 use Rattle.sdl_runs.specs.Act.{Act}
 use Rattle.sdl_runs.specs.Goes.{IsInner}
 use Rattle.sdl_runs.specs.Leads.{Chooses, Counts, Happens, Turns}

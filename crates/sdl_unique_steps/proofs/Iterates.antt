@@ -5,7 +5,7 @@ use Rattle.std.specs.List.{flat_map}
 use Rattle.std.specs.Option.{option_map}
 use Rattle.port_model.specs.Port.{PortState}
 use Rattle.sdl_evaluation.specs.declared.store.Store.{Store}
-use Rattle.sdl_report.specs.Event.{Event}
+use Rattle.sdl_record.specs.Event.{Event}
 use Rattle.sdl_runs.specs.Act.{Act, Deed, acts_of, events_of}
 use Rattle.sdl_runs.specs.Goes.{AreInner, IsInner}
 use Rattle.sdl_runs.specs.Place as place

@@ -9,8 +9,8 @@ use Rattle.port_model.specs.declared.selection.Class.{Class}
 use Rattle.port_model.specs.declared.taken.Taken.TheVariants.{Nothing}
 use Rattle.sdl_evaluation.specs.declared.identity.Identity.{Identity}
 use Rattle.sdl_evaluation.specs.declared.store.Store.{Store}
-use Rattle.sdl_report.specs.Event as event
-use Rattle.sdl_report.specs.Event.{Event, is_beginning}
+use Rattle.sdl_record.specs.Event as event
+use Rattle.sdl_record.specs.Event.{Event, is_beginning}
 use Rattle.sdl_runs.specs.Act.{Deed, acts_of, events_of}
 use Rattle.sdl_runs.specs.Behaves.{Behaves}
 use Rattle.sdl_runs.specs.Goes.{Goes, IsOneStep, MachineValue, drawn_as}

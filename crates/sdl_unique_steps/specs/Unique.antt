@@ -1,10 +1,10 @@
 -- What two steps of an instance have in common that begin alike (Z.101: agent, transition).
 use Rattle.std.specs.Prelude.{◌≡◌, ℕ, Bool, true, false, List, [], All, Some}
 use Rattle.port_model.specs.declared.selection.Class.{Class}
-use Rattle.sdl_report.specs.Event as event
-use Rattle.sdl_report.specs.Event.{Event}
-use Rattle.sdl_report.specs.declared.failure.Failure.{Failure}
-use Rattle.sdl_report.specs.declared.failure.Failure.TheVariants.{Memory}
+use Rattle.sdl_record.specs.Event as event
+use Rattle.sdl_record.specs.Event.{Event}
+use Rattle.sdl_record.specs.declared.failure.Failure.{Failure}
+use Rattle.sdl_record.specs.declared.failure.Failure.TheVariants.{Memory}
 use Rattle.sdl_runs.specs.Act.{Deed, acts_of, events_of}
 use Rattle.sdl_runs.specs.Behaves.{Behaves}
 use Rattle.sdl_runs.specs.Goes.{Goes, IsOneStep, MachineValue}

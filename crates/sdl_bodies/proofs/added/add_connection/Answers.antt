@@ -1,7 +1,7 @@
 use Rattle.std.proofs.Common.{Some}
 use Rattle.std.proofs.lemmas.Result.{on_ok_weaker}
 use Rattle.sdl_nodes.specs.Built.{table_of}
-use Rattle.sdl_nodes.specs.Contexts.{context_of}
+use Rattle.sdl_statements.specs.Contexts.{context_of}
 use Rattle.sdl_nodes.specs.Transitions.{body_in, labelled}
 use Rattle.sdl_tree.specs.Views.{name_value, transition_value}
 use Rattle.sdl_bodies.proofs.added.add_connection.Goals as goal

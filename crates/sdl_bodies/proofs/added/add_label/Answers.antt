@@ -3,7 +3,7 @@ use Rattle.std.proofs.lemmas.Result.{on_ok_weaker}
 use Rattle.sdl_bodies.proofs.AddedLemmas.{label-enters, no-place}
 use Rattle.sdl_bodies.specs.Added.{Enters}
 use Rattle.sdl_nodes.specs.Built.{BuiltIf, table_of}
-use Rattle.sdl_nodes.specs.Contexts.{context_of, label_in}
+use Rattle.sdl_statements.specs.Contexts.{context_of, label_in}
 use Rattle.sdl_nodes.specs.Transitions.{labelled}
 use Rattle.sdl_system.specs.declared.id.NodeId.{NodeId}
 use Rattle.sdl_tree.specs.Views.{name_value}

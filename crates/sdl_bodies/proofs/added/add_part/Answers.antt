@@ -2,8 +2,8 @@ use Rattle.std.proofs.Common.{◌++◌, List, flat_map, map, subst}
 use Rattle.std.proofs.lemmas.Result.{on_ok_weaker}
 use Rattle.sdl_bodies.specs.Added.{Holds}
 use Rattle.sdl_bodies.specs.Bodies.{bodies_among}
-use Rattle.sdl_ends.specs.Beginnings.{stimulus_beginnings}
-use Rattle.sdl_nodes.specs.Contexts.{context_of}
+use Rattle.sdl_paths.specs.Beginnings.{stimulus_beginnings}
+use Rattle.sdl_statements.specs.Contexts.{context_of}
 use Rattle.sdl_tree.specs.Views.{stimulus_value}
 use Rattle.sdl_tree.specs.declared.behaviour.Stimulus.{Stimulus}
 use Rattle.sdl_bodies.proofs.added.add_part.Goals as goal

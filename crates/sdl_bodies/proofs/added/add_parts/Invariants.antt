@@ -1,8 +1,8 @@
 use Rattle.std.proofs.Common.{◌≡◌, ◌++◌, List, Option, flat_map, map, take}
 use Rattle.sdl_bodies.specs.Added.{Holds}
 use Rattle.sdl_bodies.specs.Bodies.{bodies_among, faults_among}
-use Rattle.sdl_ends.specs.Beginnings.{part_beginnings}
-use Rattle.sdl_nodes.specs.Contexts.{context_of}
+use Rattle.sdl_paths.specs.Beginnings.{part_beginnings}
+use Rattle.sdl_statements.specs.Contexts.{context_of}
 use Rattle.sdl_faults.specs.Faults.{least_of, told}
 use Rattle.sdl_system.specs.Body.{Body}
 use Rattle.sdl_tree.specs.Views.{body_part_value}

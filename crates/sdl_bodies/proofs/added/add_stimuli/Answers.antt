@@ -4,8 +4,8 @@ use Rattle.std.proofs.lemmas.List.{map-append, take_all}
 use Rattle.sdl_bodies.proofs.ListLemmas.{bodies-more, faults-more}
 use Rattle.sdl_bodies.specs.Added.{Holds}
 use Rattle.sdl_bodies.specs.Bodies.{bodies_among, faults_among}
-use Rattle.sdl_ends.specs.Beginnings.{stimulus_beginnings}
-use Rattle.sdl_nodes.specs.Contexts.{context_of}
+use Rattle.sdl_paths.specs.Beginnings.{stimulus_beginnings}
+use Rattle.sdl_statements.specs.Contexts.{context_of}
 use Rattle.sdl_faults.proofs.FaultLemmas.{both_noted}
 use Rattle.sdl_faults.specs.Faults.{least_of, told}
 use Rattle.sdl_tree.specs.Views.{stimulus_value}

@@ -1,8 +1,8 @@
 use Rattle.std.proofs.Common.{[], ◌∷◌, List, flat_map, map, subst}
 use Rattle.sdl_bodies.specs.Added.{Holds}
 use Rattle.sdl_bodies.specs.Bodies.{bodies_among}
-use Rattle.sdl_ends.specs.Beginnings.{part_beginnings}
-use Rattle.sdl_nodes.specs.Contexts.{context_of}
+use Rattle.sdl_paths.specs.Beginnings.{part_beginnings}
+use Rattle.sdl_statements.specs.Contexts.{context_of}
 use Rattle.sdl_nodes.specs.Transitions.{body_in}
 use Rattle.sdl_tree.specs.Views.{body_part_value, transition_value}
 use Rattle.sdl_tree.specs.declared.behaviour.BodyPart.{BodyPart}

@@ -5,9 +5,9 @@ use Rattle.sdl_bodies.proofs.AddedLemmas.{each-entry}
 use Rattle.sdl_bodies.proofs.CloseLemmas.{bodies-closed}
 use Rattle.sdl_bodies.specs.Added.{HasEach}
 use Rattle.sdl_bodies.specs.Bodies.{beginning_body, bodies_of}
-use Rattle.sdl_ends.specs.Beginnings.{beginnings}
+use Rattle.sdl_paths.specs.Beginnings.{beginnings}
 use Rattle.sdl_nodes.specs.Built.{table_of}
-use Rattle.sdl_nodes.specs.Contexts.{context_of}
+use Rattle.sdl_statements.specs.Contexts.{context_of}
 use Rattle.sdl_tree.specs.Views.{process_value}
 use Rattle.sdl_bodies.proofs.transitions.transitions_of.Goals as goal
 

@@ -1,7 +1,7 @@
 use Rattle.std.proofs.Common.{◌≡◌, flat_map, take}
 use Rattle.sdl_faults.specs.Faults.{least_of, told}
 use Rattle.sdl_ends.specs.Ends.{beginning_faults}
-use Rattle.sdl_ends.specs.Listed.{beginnings_listed, texts}
+use Rattle.sdl_paths.specs.Listed.{beginnings_listed, texts}
 use Rattle.sdl_ends.proofs.ends.note_all.Given as goal
 
 abbrev pub invariant-loop-beginning : goal.invariant-loop-beginning

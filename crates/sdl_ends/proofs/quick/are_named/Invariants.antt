@@ -1,5 +1,5 @@
 use Rattle.std.proofs.Common.{◌≡◌, drop}
-use Rattle.sdl_ends.specs.Listed.{texts}
+use Rattle.sdl_paths.specs.Listed.{texts}
 use Rattle.sdl_ends.specs.Quick.{all_named, name_texts}
 use Rattle.sdl_ends.proofs.quick.are_named.Given as goal
 

@@ -1,5 +1,5 @@
 use Rattle.std.proofs.Common.{◌≡◌, take}
-use Rattle.sdl_ends.specs.Listed.{found_listed, texts}
+use Rattle.sdl_paths.specs.Listed.{found_listed, texts}
 use Rattle.sdl_ends.specs.Quick.{all_confirmed}
 use Rattle.sdl_ends.proofs.quick.confirmed.Given as goal
 

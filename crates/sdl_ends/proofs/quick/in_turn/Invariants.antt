@@ -1,5 +1,5 @@
 use Rattle.std.proofs.Common.{◌≡◌, take}
-use Rattle.sdl_ends.specs.Listed.{texts}
+use Rattle.sdl_paths.specs.Listed.{texts}
 use Rattle.sdl_ends.specs.Quick.{name_texts}
 use Rattle.sdl_ends.proofs.quick.in_turn.Given as goal
 

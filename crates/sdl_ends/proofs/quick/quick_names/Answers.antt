@@ -1,9 +1,9 @@
 use Rattle.std.proofs.Common.{◌∙◌, ℕ, List, ap, refl, sym}
 use Rattle.sdl_lex.specs.declared.place.Place.{Place}
-use Rattle.sdl_ends.specs.Listed.{beginnings_listed, led_turn, texts}
+use Rattle.sdl_paths.specs.Listed.{beginnings_listed, led_turn, texts}
 use Rattle.sdl_ends.specs.Quick.{all_confirmed, all_named, name_texts}
-use Rattle.sdl_ends.specs.Reach.{labels_in}
-use Rattle.sdl_ends.specs.Turns.{found_from}
+use Rattle.sdl_paths.specs.Reach.{labels_in}
+use Rattle.sdl_paths.specs.Turns.{found_from}
 use Rattle.sdl_ends.proofs.QuickLemmas.{quick-reached}
 use Rattle.sdl_ends.proofs.quick.quick_names.Goals as goal
 

@@ -1,6 +1,6 @@
 use Rattle.std.proofs.Common.{◌≡◌, ◌||◌, drop}
-use Rattle.sdl_ends.specs.Joins.{any_new, with_joins}
-use Rattle.sdl_ends.specs.Listed.{terminators_listed, texts}
+use Rattle.sdl_paths.specs.Joins.{any_new, with_joins}
+use Rattle.sdl_paths.specs.Listed.{terminators_listed, texts}
 use Rattle.sdl_ends.proofs.reach.add_joins.Given as goal
 
 abbrev pub invariant-loop-one : goal.invariant-loop-one

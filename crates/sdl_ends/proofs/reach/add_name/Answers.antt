@@ -1,6 +1,6 @@
 use Rattle.std.proofs.Common.{◌∙◌, true, false, not, ap, sym}
-use Rattle.sdl_ends.specs.Listed.{texts}
-use Rattle.sdl_ends.specs.Mentions.{is_named}
+use Rattle.sdl_paths.specs.Listed.{texts}
+use Rattle.sdl_paths.specs.Mentions.{is_named}
 use Rattle.sdl_ends.proofs.RoundLemmas.{known-name, name-added, name-known}
 use Rattle.sdl_ends.proofs.reach.add_name.Goals as goal
 

@@ -1,7 +1,7 @@
 use Rattle.std.proofs.Common.{◌∙◌, ◌<◌, ap, sym, subst}
-use Rattle.sdl_ends.specs.Joins.{any_new, count_open, joins_in, with_joins}
-use Rattle.sdl_ends.specs.Listed.{beginnings_listed, terminators_listed, texts}
-use Rattle.sdl_ends.specs.Reach.{EachReached}
+use Rattle.sdl_paths.specs.Joins.{any_new, count_open, joins_in, with_joins}
+use Rattle.sdl_paths.specs.Listed.{beginnings_listed, terminators_listed, texts}
+use Rattle.sdl_paths.specs.Reach.{EachReached}
 use Rattle.sdl_ends.proofs.PassingLemmas.{found-met}
 use Rattle.sdl_ends.proofs.RoundLemmas.{round-closed, round-each, round-fewer}
 use Rattle.sdl_ends.proofs.reach.reach.Goals as goal

@@ -1,6 +1,6 @@
-use Rattle.sdl_ends.specs.Joins.{count_open, joins_in}
-use Rattle.sdl_ends.specs.Listed.{beginnings_listed, texts}
-use Rattle.sdl_ends.specs.Reach.{EachReached}
+use Rattle.sdl_paths.specs.Joins.{count_open, joins_in}
+use Rattle.sdl_paths.specs.Listed.{beginnings_listed, texts}
+use Rattle.sdl_paths.specs.Reach.{EachReached}
 use Rattle.sdl_ends.proofs.reach.reach.Given as goal
 
 abbrev pub invariant-rounds : goal.invariant-rounds

@@ -1,6 +1,6 @@
 use Rattle.std.proofs.Common.{◌≡◌, flat_map, take}
 use Rattle.sdl_faults.specs.Faults.{least_of, told}
-use Rattle.sdl_ends.specs.Listed.{terminators_listed}
+use Rattle.sdl_paths.specs.Listed.{terminators_listed}
 use Rattle.sdl_ends.specs.Stays.{stay_fault}
 use Rattle.sdl_ends.proofs.stays.note_found.Given as goal
 

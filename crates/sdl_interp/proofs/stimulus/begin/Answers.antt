@@ -1,11 +1,11 @@
 use Rattle.std.proofs.Common.{◌∙◌, ap, subst, refl, Some, List, Option}
 use Rattle.inbox.specs.Calls.{after_stop}
 use Rattle.inbox.specs.Ends.{OwnerState}
-use Rattle.port_model.specs.declared.value.Value.{Value}
+use Rattle.port_values.specs.declared.value.Value.{Value}
 use Rattle.sdl_interp.proofs.Recorded.{same_on, same_stopped, same_trace}
-use Rattle.sdl_report.specs.Event as event
-use Rattle.sdl_report.specs.Event.{values_got}
-use Rattle.sdl_report.specs.Record.{noted}
+use Rattle.sdl_record.specs.Event as event
+use Rattle.sdl_record.specs.Event.{values_got}
+use Rattle.sdl_record.specs.Record.{noted}
 use Rattle.sdl_runs.proofs.Goes.{goes_failed, goes_on, goes_until}
 use Rattle.sdl_runs.specs.Goes.{AreInner, Goes, GoesWrong, MachineValue, with_event}
 use Rattle.sdl_runs.specs.Place.{Doing, Ended, Receiving}

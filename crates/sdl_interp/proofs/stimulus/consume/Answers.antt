@@ -1,14 +1,14 @@
 use Rattle.std.proofs.Common.{◌≡◌, ◌∙◌, sym, ap, subst, refl, Some, ℕ}
 use Rattle.inbox.specs.Ends.{OwnerState}
 use Rattle.port_model.specs.Take as port
-use Rattle.port_model.specs.declared.item.SignalId.{SignalId}
+use Rattle.port_values.specs.declared.item.SignalId.{SignalId}
 use Rattle.port_model.specs.declared.taken.Taken.TheVariants.{Consumed}
 use Rattle.sdl_interp.proofs.First.{fails_recorded}
 use Rattle.sdl_interp.proofs.Reacting.{answers_input, answers_priority}
 use Rattle.sdl_interp.proofs.Recorded.{received_is, roomy_is, same_equal, same_failed, same_on, same_recorded}
 use Rattle.sdl_interp.specs.Stimulus.{Took}
-use Rattle.sdl_report.specs.Event as event
-use Rattle.sdl_report.specs.declared.failure.Failure.TheVariants.{Memory}
+use Rattle.sdl_record.specs.Event as event
+use Rattle.sdl_record.specs.declared.failure.Failure.TheVariants.{Memory}
 use Rattle.sdl_runs.specs.Goes.{MachineValue}
 use Rattle.sdl_runs.specs.Reception.{receiving}
 use Rattle.sdl_steps.specs.Machine.{identity_of, value_of}

@@ -4,7 +4,7 @@ use Rattle.port_model.specs.declared.taken.Taken.TheVariants.{Discarded}
 use Rattle.sdl_interp.proofs.First.{discards, fails_recorded}
 use Rattle.sdl_interp.proofs.Recorded.{discarded_is, roomy_is, same_equal, same_failed, same_on, same_recorded}
 use Rattle.sdl_interp.specs.Stimulus.{Took}
-use Rattle.sdl_report.specs.Event as event
+use Rattle.sdl_record.specs.Event as event
 use Rattle.sdl_runs.specs.Goes.{MachineValue}
 use Rattle.sdl_runs.specs.Reception.{taking}
 use Rattle.sdl_steps.specs.Machine.{identity_of, value_of}

@@ -1,11 +1,11 @@
 use Rattle.std.proofs.Common.{ℕ, true}
 use Rattle.inbox.specs.Ends.{OwnerState}
-use Rattle.port_model.specs.declared.pid.Pid.TheVariants.{Of}
+use Rattle.port_values.specs.declared.pid.Pid.TheVariants.{Of}
 use Rattle.sdl_evaluation.specs.Environment.{environment}
 use Rattle.sdl_interp.proofs.Bodies.{found_begins}
 use Rattle.sdl_interp.proofs.First.{provides}
 use Rattle.sdl_interp.proofs.Recorded.{provided_is, same_on, same_recorded}
-use Rattle.sdl_report.specs.Event as event
+use Rattle.sdl_record.specs.Event as event
 use Rattle.sdl_runs.proofs.Goes.{step_on}
 use Rattle.sdl_runs.specs.Goes.{MachineValue}
 use Rattle.sdl_runs.specs.Place.{Doing, In}

@@ -3,7 +3,7 @@ use Rattle.inbox.specs.Ends.{OwnerState}
 use Rattle.sdl_interp.proofs.Bodies.{start_begins}
 use Rattle.sdl_interp.proofs.First.{starts}
 use Rattle.sdl_interp.proofs.Recorded.{same_on, same_recorded, started_is}
-use Rattle.sdl_report.specs.Event as event
+use Rattle.sdl_record.specs.Event as event
 use Rattle.sdl_runs.proofs.Goes.{step_on}
 use Rattle.sdl_runs.specs.Goes.{MachineValue}
 use Rattle.sdl_runs.specs.Place.{AtStart, Doing}

@@ -5,7 +5,7 @@ use Rattle.sdl_interp.proofs.First.{cannot_take, fails_refused, fails_unselected
 use Rattle.sdl_interp.proofs.Recorded.{roomy_is}
 use Rattle.sdl_interp.specs.Selected.{CannotSelect}
 use Rattle.sdl_interp.specs.Stimulus.{FailsThen, Took}
-use Rattle.sdl_report.specs.declared.failure.Failure.{Failure}
+use Rattle.sdl_record.specs.declared.failure.Failure.{Failure}
 use Rattle.sdl_runs.specs.Goes.{MachineValue}
 use Rattle.sdl_runs.specs.Leads.{Selecting}
 use Rattle.sdl_steps.specs.Machine.{identity_of, value_of}

@@ -1,8 +1,8 @@
-use Rattle.sdl_nodes.specs.Contexts.{context_of}
+use Rattle.sdl_statements.specs.Contexts.{context_of}
 use Rattle.sdl_faults.specs.Faults.{told}
 use Rattle.sdl_sorts.specs.Answers.{answer_faults, answer_in}
 use Rattle.sdl_tree.specs.Views.{answer_value}
-use Rattle.sdl_nodes.proofs.StepLemmas.{added-next, noted-next}
+use Rattle.sdl_statements.proofs.StepLemmas.{added-next, noted-next}
 use Rattle.sdl_nodes.proofs.decision.resolve_answers.Goals as goal
 
 pub loop-answer-preserved : goal.loop-answer-preserved

@@ -1,5 +1,5 @@
 use Rattle.std.proofs.Common.{◌≡◌, flat_map, map, take}
-use Rattle.sdl_nodes.specs.Contexts.{context_of}
+use Rattle.sdl_statements.specs.Contexts.{context_of}
 use Rattle.sdl_sorts.specs.Answers.{answer_faults, answer_in}
 use Rattle.sdl_faults.specs.Faults.{least_of, told}
 use Rattle.sdl_tree.specs.Views.{answer_value}

@@ -3,14 +3,14 @@ use Rattle.std.proofs.lemmas.Grind.{take_at_read}
 use Rattle.std.proofs.lemmas.List.{drop_more, map-append}
 use Rattle.std.proofs.lemmas.Result.{IfOk-weaker, on_ok_weaker}
 use Rattle.sdl_nodes.specs.Built.{BuiltIf, table_of}
-use Rattle.sdl_nodes.specs.Contexts.{context_of}
+use Rattle.sdl_statements.specs.Contexts.{context_of}
 use Rattle.sdl_nodes.specs.Decided.{BuiltPiecesIf, HeadIf, IsDecisionOrNone}
-use Rattle.sdl_nodes.specs.Faulty.{asked_faults}
+use Rattle.sdl_statements.specs.Faulty.{asked_faults}
 use Rattle.sdl_nodes.specs.Later.{with_later}
-use Rattle.sdl_nodes.specs.Statements.{asked_in, kind_in}
+use Rattle.sdl_statements.specs.Statements.{asked_in, kind_in}
 use Rattle.sdl_nodes.specs.Transitions.{Head, Piece, action_faults, asks_in, body_in, ending_faults, ending_in, head_in, other_faults, other_in, part_faults, piece_in, steps_faults, steps_in, transition_faults}
 use Rattle.sdl_nodes.proofs.LaterLemmas.{later-noted}
-use Rattle.sdl_nodes.proofs.ListLemmas.{flat_map-last, if_on}
+use Rattle.sdl_statements.proofs.ListLemmas.{flat_map-last, if_on}
 use Rattle.sdl_nodes.proofs.TransitionLemmas.{decision-built, pieces-more, placed-built, step-built}
 use Rattle.sdl_nodes.proofs.TreeLemmas.{part_faults-list, pieces-list, transition-tree}
 use Rattle.sdl_faults.proofs.FaultLemmas.{both_noted}

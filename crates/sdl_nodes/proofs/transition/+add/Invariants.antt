@@ -1,6 +1,6 @@
 use Rattle.std.proofs.Common.{◌≡◌, ◌≤◌, ◌++◌, None, drop, flat_map, length, map, option_map, take}
 use Rattle.sdl_nodes.specs.Built.{BuiltIf, table_of}
-use Rattle.sdl_nodes.specs.Contexts.{context_of}
+use Rattle.sdl_statements.specs.Contexts.{context_of}
 use Rattle.sdl_nodes.specs.Decided.{BuiltPiecesIf}
 use Rattle.sdl_nodes.specs.Transitions.{ending_faults, ending_in, part_faults, piece_in, steps_faults, steps_in}
 use Rattle.sdl_faults.specs.Faults.{least_of, told}

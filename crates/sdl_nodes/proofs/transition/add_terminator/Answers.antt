@@ -1,7 +1,7 @@
 use Rattle.std.proofs.Common.{None, option_map}
 use Rattle.sdl_nodes.specs.Built.{table_of}
-use Rattle.sdl_nodes.specs.Contexts.{context_of}
-use Rattle.sdl_nodes.proofs.ListLemmas.{if_on}
+use Rattle.sdl_statements.specs.Contexts.{context_of}
+use Rattle.sdl_statements.proofs.ListLemmas.{if_on}
 use Rattle.sdl_nodes.proofs.TransitionLemmas.{ending-built, placed-built}
 use Rattle.sdl_tree.specs.Views.{name_value}
 use Rattle.sdl_nodes.proofs.transition.add_terminator.Goals as goal

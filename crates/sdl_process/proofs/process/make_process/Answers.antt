@@ -1,7 +1,7 @@
 use Rattle.std.proofs.Common.{All, length, ◌≡◌, ◌∙◌, Some, ap, map, subst}
 use Rattle.std.proofs.lemmas.Result.{IfOk-weaker}
 use Rattle.sdl_bodies.specs.Added.{HasEach}
-use Rattle.sdl_ends.specs.Beginnings.{beginnings}
+use Rattle.sdl_paths.specs.Beginnings.{beginnings}
 use Rattle.sdl_states.specs.Shared.{IsOfName}
 use Rattle.sdl_bodies.specs.Sound.{AreTransitionsOf}
 use Rattle.sdl_faults.specs.Faults.{told}

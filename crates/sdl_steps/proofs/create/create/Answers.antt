@@ -1,8 +1,8 @@
 use Rattle.std.proofs.Common.{◌∙◌, ap, map, sym}
-use Rattle.port_model.specs.declared.pid.Pid.{Pid}
+use Rattle.port_values.specs.declared.pid.Pid.{Pid}
 use Rattle.sdl_evaluation.specs.declared.identity.Identity.{Identity}
 use Rattle.sdl_evaluation.specs.declared.store.Store.{Store}
-use Rattle.sdl_report.specs.Event as event
+use Rattle.sdl_record.specs.Event as event
 use Rattle.sdl_runs.specs.Fails.{parameters_of}
 use Rattle.sdl_runs.specs.Leads.{created, offspring_of}
 use Rattle.sdl_runs.specs.World.{after_acts}

@@ -1,6 +1,6 @@
 use Rattle.std.proofs.Common.{◌∙◌, ap}
 use Rattle.sdl_evaluation.specs.Variables.{VariableList}
-use Rattle.sdl_report.specs.Event as event
+use Rattle.sdl_record.specs.Event as event
 use Rattle.sdl_runs.specs.Reception.{assigned}
 use Rattle.sdl_steps.proofs.Machines.{value_noted}
 use Rattle.sdl_steps.specs.declared.machine.Machine.{Machine}

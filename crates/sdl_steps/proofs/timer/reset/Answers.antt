@@ -1,6 +1,6 @@
 use Rattle.std.proofs.Common.{◌∙◌, ap}
 use Rattle.inbox.specs.Ends.{OwnerState}
-use Rattle.sdl_report.specs.Event as event
+use Rattle.sdl_record.specs.Event as event
 use Rattle.sdl_runs.specs.Goes.{with_event}
 use Rattle.sdl_steps.proofs.Deeds.{goes_reset}
 use Rattle.sdl_steps.proofs.Machines.{store_kept, value_noted}

@@ -2,9 +2,9 @@ use Rattle.std.proofs.Common.{◌∙◌, ◌+◌, ap, inl, inr, refl, ℕ, Err}
 use Rattle.std.proofs.lemmas.Result.{err_from_is_err_and}
 use Rattle.inbox.specs.Ends.{OwnerState}
 use Rattle.inbox.specs.declared.entry.Fuse.{Fuse}
-use Rattle.port_model.specs.declared.timer_key.TimerKey.{TimerKey}
-use Rattle.sdl_report.specs.Event as event
-use Rattle.sdl_report.specs.Record.{noted}
+use Rattle.port_values.specs.declared.timer_key.TimerKey.{TimerKey}
+use Rattle.sdl_record.specs.Event as event
+use Rattle.sdl_record.specs.Record.{noted}
 use Rattle.sdl_runs.specs.Act.{Arm}
 use Rattle.sdl_runs.specs.Goes.{with_event}
 use Rattle.sdl_runs.specs.World.{WorldValue, after_act}
@@ -38,7 +38,7 @@ returns-clause-ok g c = λ more d is origin rest.
     (value_noted old mid _ _ c.make_room.ensures.same c.set-2.new.self mid.store old.store (event.Set key due) o after
     (c.set-2.ensures
     ∙ ap (λ (x : TimerKey). noted mid.trace (event.Set x due))
-    (c.key-2.ensures ∙ ap (λ (x : Fuse). x.key) c.in-Ok.ensures.set.fuse_is))
+    (c.key.ensures ∙ ap (λ (x : Fuse). x.key) c.in-Ok.ensures.set.fuse_is))
     (store_kept old mid _ _ c.make_room.ensures.same)
     ∙ ap (λ (x : OwnerState). with_event (record (value_of old o) { owner = x }) (event.Set key due))
     c.in-Ok.ensures.set.owner)

@@ -2,7 +2,7 @@ use Rattle.std.proofs.Common.{refl}
 use Rattle.sdl_runs.proofs.Goes.{goes_failed, goes_until}
 use Rattle.sdl_runs.specs.Goes.{AreInner, with_event}
 use Rattle.sdl_runs.specs.Place.{Doing, Ended}
-use Rattle.sdl_report.specs.Event as event
+use Rattle.sdl_record.specs.Event as event
 use Rattle.inbox.specs.Calls.{after_stop}
 use Rattle.sdl_steps.proofs.Machines.{instance_failed, instance_on, value_failed}
 use Rattle.sdl_steps.specs.Machine.{value_of}

@@ -2,8 +2,8 @@ use Rattle.std.proofs.Common.{◌≡◌, ap, refl, Option, Some}
 use Rattle.std.proofs.lemmas.Result.{IfErr-weaker, IfOk-weaker, err_from_is_err_and}
 use Rattle.inbox.specs.Calls.{after_stop}
 use Rattle.inbox.specs.Ends.{OwnerState}
-use Rattle.sdl_report.specs.Event as event
-use Rattle.sdl_report.specs.declared.failure.Failure.TheVariants.{Memory}
+use Rattle.sdl_record.specs.Event as event
+use Rattle.sdl_record.specs.declared.failure.Failure.TheVariants.{Memory}
 use Rattle.sdl_runs.specs.Goes.{with_event}
 use Rattle.sdl_steps.proofs.Heads.{plain_else}
 use Rattle.sdl_steps.proofs.Machines.{going_counted, instance_counted, value_counted}

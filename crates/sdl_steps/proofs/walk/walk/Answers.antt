@@ -1,6 +1,6 @@
 use Rattle.std.proofs.Common.{◌≡◌, ◌∙◌, ◌+◌, ◌<◌, arith, refl, subst, sym, Option}
 use Rattle.std.proofs.lemmas.Result.{err_from_is_err_and}
-use Rattle.sdl_report.specs.declared.failure.Failure.TheVariants.{TooLong}
+use Rattle.sdl_record.specs.declared.failure.Failure.TheVariants.{TooLong}
 use Rattle.sdl_steps.proofs.Machines.{instance_on, same_instance}
 use Rattle.sdl_steps.proofs.Walks.{WalkedTo, walk_begins, walked_off, walked_on, walked_over, walked_past, walked_wrong}
 use Rattle.sdl_steps.specs.Machine.{value_of}

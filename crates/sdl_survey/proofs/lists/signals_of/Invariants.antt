@@ -1,5 +1,5 @@
 use Rattle.std.proofs.Common.{◌<◌, ◌↔◌, Contains}
-use Rattle.port_model.specs.declared.item.SignalId.{SignalId}
+use Rattle.port_values.specs.declared.item.SignalId.{SignalId}
 use Rattle.sdl_channels.specs.SignalLists.{StandsFor}
 use Rattle.sdl_survey.proofs.lists.signals_of.Given as goal
 

@@ -3,7 +3,7 @@ use Rattle.port_model.specs.Port.{PortState}
 use Rattle.sdl_evaluation.specs.Environment.{initial_store}
 use Rattle.sdl_evaluation.specs.Variables.{VariableList}
 use Rattle.sdl_interp.proofs.Instances.{holds_ok, variables_mean}
-use Rattle.sdl_report.specs.Record.{RecordValue}
+use Rattle.sdl_record.specs.Record.{RecordValue}
 use Rattle.sdl_runs.proofs.Histories.{run_begins}
 use Rattle.sdl_steps.specs.Machine.{identity_of}
 use Rattle.sdl_interp.proofs.instance.Instance.new.Goals as goal

@@ -1,5 +1,5 @@
 use Rattle.std.proofs.Common.{◌≡◌, ◌+◌, ◌++◌, ◌∷◌, [], ap, ◌∙◌, arith}
-use Rattle.port_model.specs.declared.pid.Pid.TheVariants.{Null}
+use Rattle.port_values.specs.declared.pid.Pid.TheVariants.{Null}
 use Rattle.sdl_courses.specs.Global.{instance_of}
 use Rattle.sdl_serial.proofs.Beginning.{begun-more}
 use Rattle.sdl_serial.proofs.instances.Instances.begin_all.Goals as goal

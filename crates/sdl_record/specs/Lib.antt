@@ -1,0 +1,4 @@
+pub mod Entry
+pub mod Event
+pub mod Failure
+pub mod Record
