@@ -9,7 +9,7 @@ use Rattle.sdl_bodies.specs.Bodies.{beginning_body, bodies_among, bodies_of}
 use Rattle.sdl_bodies.specs.Numbered.{AreNumbered}
 use Rattle.sdl_bodies.specs.Sound.{BodiesClosed}
 use Rattle.sdl_paths.specs.Beginnings.{Beginning, beginnings}
-use Rattle.sdl_ends.specs.Ends.{beginning_faults, ends_faults, enters_named}
+use Rattle.sdl_reach.specs.Ends.{beginning_faults, ends_faults, enters_named}
 use Rattle.sdl_paths.specs.Mentions as mention
 use Rattle.sdl_paths.specs.Mentions.{Mention, is_named, join_names, process_joins, process_mentions}
 use Rattle.sdl_paths.specs.Passing.{transition_passed}

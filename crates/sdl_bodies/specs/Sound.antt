@@ -4,7 +4,7 @@ use Rattle.sdl_bodies.specs.Added.{IsTableIf}
 use Rattle.sdl_bodies.specs.Bodies.{bodies_of}
 use Rattle.sdl_bodies.specs.Numbered.{AreNumbered}
 use Rattle.sdl_bodies.specs.declared.transitions.Transitions.{Transitions}
-use Rattle.sdl_ends.specs.Ends.{ends_faults}
+use Rattle.sdl_reach.specs.Ends.{ends_faults}
 use Rattle.sdl_statements.specs.Contexts.{Context}
 use Rattle.sdl_nodes.specs.Made.{Closed}
 use Rattle.sdl_system.specs.Body.{Body}

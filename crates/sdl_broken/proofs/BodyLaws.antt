@@ -6,10 +6,10 @@ use Rattle.sdl_broken.specs.Bodies.{BrokenBody, BrokenListed, ListedBroken}
 use Rattle.sdl_ends.proofs.EndlessLaws.{endless-listed, listed-endless}
 use Rattle.sdl_ends.proofs.StayLaws.{listed-stays, stays-listed}
 use Rattle.sdl_paths.specs.Beginnings.{beginnings}
-use Rattle.sdl_ends.specs.Broken.{IsEndless, IsStay}
-use Rattle.sdl_ends.specs.Ends.{ends_faults}
+use Rattle.sdl_reach.specs.Broken.{IsEndless, IsStay}
+use Rattle.sdl_reach.specs.Ends.{ends_faults}
 use Rattle.sdl_paths.specs.Reach.{AreReached}
-use Rattle.sdl_ends.specs.Stays.{stay_faults}
+use Rattle.sdl_reach.specs.Stays.{stay_faults}
 use Rattle.sdl_nodes.proofs.BrokenLaws as node_laws
 use Rattle.sdl_nodes.proofs.ListedLaws as node_listed
 use Rattle.sdl_nodes.specs.Broken as transitions

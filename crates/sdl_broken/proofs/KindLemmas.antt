@@ -6,10 +6,10 @@ use Rattle.sdl_broken.specs.Limits.{IsNoLimit, NoLimitInBodies, NoLimitInNetwork
 use Rattle.sdl_declared.specs.Tables.{Rows}
 use Rattle.sdl_ends.proofs.EndlessLaws.{listed-endless}
 use Rattle.sdl_paths.specs.Beginnings.{beginnings}
-use Rattle.sdl_ends.specs.Broken.{IsEndless}
-use Rattle.sdl_ends.specs.Ends.{ends_faults}
+use Rattle.sdl_reach.specs.Broken.{IsEndless}
+use Rattle.sdl_reach.specs.Ends.{ends_faults}
 use Rattle.sdl_paths.specs.Reach.{met_from}
-use Rattle.sdl_ends.specs.Stays.{stay_fault, stay_faults}
+use Rattle.sdl_reach.specs.Stays.{stay_fault, stay_faults}
 use Rattle.sdl_names.specs.declared.declared.Declared.{Declared}
 use Rattle.sdl_network.proofs.ListedLaws as network_laws
 use Rattle.sdl_network.specs.Broken as network

@@ -2,7 +2,7 @@
 -- names stand for around it, and not of what is noted.
 use Rattle.std.specs.Prelude.{ℕ, List}
 use Rattle.sdl_paths.specs.Beginnings.{Beginning, beginnings}
-use Rattle.sdl_ends.specs.Broken.{IsEndless, IsStay}
+use Rattle.sdl_reach.specs.Broken.{IsEndless, IsStay}
 use Rattle.sdl_paths.specs.Reach.{AreReached}
 use Rattle.sdl_nodes.specs.Broken as transitions
 use Rattle.sdl_process.specs.Faulty.{body_faults}

@@ -59,7 +59,7 @@ pub struct Block {
 }
 
 /// All that joins the agents of a system.
-#[derive(Debug, Drop)]
+#[derive(Debug)]
 pub struct Network {
     /// How many signals and timers there are.
     pub signals: u32,
@@ -75,6 +75,21 @@ pub struct Network {
     pub paths: Vec<ChannelPath>,
     /// The connects of all blocks.
     pub connects: Vec<Connect>,
+}
+
+/// Written out, so that it is proved here, and not anew in each crate that drops one.
+impl Drop for Network {
+    fn drop(self) {
+        let Network {
+            signals: _,
+            lists: _,
+            is_implied: _,
+            processes: _,
+            blocks: _,
+            paths: _,
+            connects: _,
+        } = self;
+    }
 }
 
 /// Who sends a signal: the environment of the system, or a process in its scope.

@@ -9,8 +9,8 @@ use Rattle.sdl_complete.proofs.ReadLemmas.{process-table}
 use Rattle.sdl_complete.proofs.TransitionLemmas.{bodies-given}
 use Rattle.sdl_complete.specs.Processes.{BehaviourGiven, IsGiven, ProcessGiven}
 use Rattle.sdl_paths.specs.Beginnings.{beginnings}
-use Rattle.sdl_ends.specs.Ends.{ends_faults}
-use Rattle.sdl_ends.specs.Stays.{stay_faults}
+use Rattle.sdl_reach.specs.Ends.{ends_faults}
+use Rattle.sdl_reach.specs.Stays.{stay_faults}
 use Rattle.sdl_process.specs.Faulty.{flow_faults}
 use Rattle.sdl_process.specs.Refused.{no_condition, no_entry, no_flow}
 use Rattle.sdl_process.specs.Surroundings.{Surroundings, for_stimuli, for_transitions}

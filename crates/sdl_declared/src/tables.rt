@@ -24,7 +24,6 @@ use std::alloc::{AllocError, Global};
 
 /// All that a specification defines: a table for each kind, in the order of the text, each entry with the scope that it
 /// stands in and with the part of the tree that defines it.
-#[derive(Drop)]
 pub struct Tables<'t> {
     pub blocks: Vec<BlockEntry<'t>>,
     pub processes: Vec<ProcessEntry<'t>>,
@@ -41,6 +40,26 @@ pub struct Tables<'t> {
     pub values: Vec<ValueName<'t>>,
     pub labels: Vec<LabelEntry<'t>>,
     pub states: Vec<StateEntry<'t>>,
+}
+
+/// Written out, so that it is proved here, and not anew in each crate that drops one.
+impl<'t> Drop for Tables<'t> {
+    fn drop(self) {
+        let Tables {
+            blocks: _,
+            processes: _,
+            agents: _,
+            signals: _,
+            lists: _,
+            channels: _,
+            connections: _,
+            signal_sets: _,
+            synonyms: _,
+            values: _,
+            labels: _,
+            states: _,
+        } = self;
+    }
 }
 
 impl<'t> Tables<'t> {

@@ -9,14 +9,14 @@ use Rattle.sdl_faults.specs.declared.fault.Kind.TheVariants.{NoEnd}
 use Rattle.sdl_tree.specs.Tree.{ProcessDefinition}
 use Rattle.sdl_tree.specs.Words.{Spot}
 use Rattle.sdl_paths.specs.Beginnings.{Beginning, beginnings}
-use Rattle.sdl_ends.specs.Broken.{Begins, IsEndless}
-use Rattle.sdl_ends.specs.Broken as broken
-use Rattle.sdl_ends.specs.Ends.{beginning_faults, ends_faults, enters_named}
-use Rattle.sdl_ends.specs.Laws.{begins}
+use Rattle.sdl_reach.specs.Broken.{Begins, IsEndless}
+use Rattle.sdl_reach.specs.Broken as broken
+use Rattle.sdl_reach.specs.Ends.{beginning_faults, ends_faults, enters_named}
+use Rattle.sdl_reach.specs.Laws.{begins}
 use Rattle.sdl_paths.specs.Mentions.{Joined, Mention, Standing, is_named, join_names, process_joins, process_mentions}
 use Rattle.sdl_paths.specs.Passing.{transition_passed}
 use Rattle.sdl_paths.specs.Paths.{AtFirst, AtLabel, Origin}
-use Rattle.sdl_ends.proofs.PathLaws.{or-cases, or-left, or-right, passed, runs}
+use Rattle.sdl_reach.proofs.PathLaws.{or-cases, or-left, or-right, passed, runs}
 
 pub joined-by : (mentions : List Mention) (text : List ℕ) → is_named (flat_map join_names mentions) text ≡ true →
     (name : Spot) × In (Joined name) mentions × (name.text ≡ text)

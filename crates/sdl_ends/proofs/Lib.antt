@@ -1,9 +1,3 @@
 pub mod EndlessLaws
-pub mod JoinLemmas
-pub mod PassingLemmas
-pub mod PathLaws
 pub mod QuickLemmas
-pub mod ReachLaws
-pub mod RoundLemmas
 pub mod StayLaws
-pub mod TurnLemmas

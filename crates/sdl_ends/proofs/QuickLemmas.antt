@@ -17,10 +17,10 @@ use Rattle.sdl_paths.specs.Met.{met_if}
 use Rattle.sdl_ends.specs.Quick.{all_confirmed, all_named, confirmed_by, confirmed_in, is_sooner}
 use Rattle.sdl_paths.specs.Reach.{EachReached, StartReaches, is_first, labels_in}
 use Rattle.sdl_paths.specs.Turns.{Found, found_from, sooner}
-use Rattle.sdl_ends.proofs.PassingLemmas.{found-named}
-use Rattle.sdl_ends.proofs.PathLaws.{never, or-cases}
-use Rattle.sdl_ends.proofs.ReachLaws.{IsLed, and-left, and-right, entered-reached}
-use Rattle.sdl_ends.proofs.TurnLemmas.{kept, kept-from}
+use Rattle.sdl_reach.proofs.PassingLemmas.{found-named}
+use Rattle.sdl_reach.proofs.PathLaws.{never, or-cases}
+use Rattle.sdl_reach.proofs.ReachLaws.{IsLed, and-left, and-right, entered-reached}
+use Rattle.sdl_reach.proofs.TurnLemmas.{kept, kept-from}
 
 -- ---- what comes before a turn
 

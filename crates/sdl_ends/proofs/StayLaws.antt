@@ -5,10 +5,10 @@ use Rattle.sdl_faults.specs.FaultLaws.{Each, In}
 use Rattle.sdl_faults.specs.Faults.{Told}
 use Rattle.sdl_tree.specs.Tree.{Join, Next, ProcessDefinition, Same, Stop, Terminator, To}
 use Rattle.sdl_paths.specs.Beginnings.{beginnings}
-use Rattle.sdl_ends.specs.Broken.{IsStay}
+use Rattle.sdl_reach.specs.Broken.{IsStay}
 use Rattle.sdl_paths.specs.Reach.{AreReached, StartReaches, met_from}
-use Rattle.sdl_ends.specs.Stays.{stay_fault, stay_faults}
-use Rattle.sdl_ends.proofs.ReachLaws.{met-reached, reached-listed}
+use Rattle.sdl_reach.specs.Stays.{stay_fault, stay_faults}
+use Rattle.sdl_reach.proofs.ReachLaws.{met-reached, reached-listed}
 
 each-stay : (process : ProcessDefinition) (terminator : Terminator) → StartReaches (beginnings process) terminator →
     Each (IsStay process) (stay_fault terminator)

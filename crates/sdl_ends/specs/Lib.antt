@@ -1,5 +1,1 @@
-pub mod Broken
-pub mod Ends
-pub mod Laws
 pub mod Quick
-pub mod Stays

@@ -1,7 +1,7 @@
 //! Transitions with a path to their end without a terminator.
 
 ghost use Rattle.std.specs.Prelude.{◌≡◌, flat_map, true, IfOk, OnOk};
-ghost use Rattle.sdl_ends.specs.Ends.{beginning_faults, ends_faults, enters_named};
+ghost use Rattle.sdl_reach.specs.Ends.{beginning_faults, ends_faults, enters_named};
 ghost use Rattle.sdl_paths.specs.Listed.{beginning_value, beginnings_listed, texts};
 ghost use Rattle.sdl_paths.specs.Passing.{transition_passed};
 ghost use Rattle.sdl_faults.specs.Faults.{least_of, told};

@@ -1,6 +1,6 @@
 //! What holds of the definitions, as functions that do nothing.
 
-ghost use Rattle.sdl_ends.specs.Laws.{ComesMet, EndlessListed, ListedEndless, ListedStays, MetComes, MetReached, PassedRuns, ReachedMet, RunsPassed, StaysListed};
+ghost use Rattle.sdl_reach.specs.Laws.{ComesMet, EndlessListed, ListedEndless, ListedStays, MetComes, MetReached, PassedRuns, ReachedMet, RunsPassed, StaysListed};
 
 /// Where a transition is said to be passed, a path through it runs off its end.
 pub fn passed_runs_off()

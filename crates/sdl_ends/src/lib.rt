@@ -9,7 +9,6 @@ mod ends;
 pub mod laws;
 mod order;
 mod quick;
-mod reach;
 mod stays;
 
 pub use ends::note_ends;

@@ -9,10 +9,10 @@ ghost use Rattle.sdl_paths.specs.Turns.{found_from};
 ghost use Rattle.sdl_tree.specs.Views.{name_value};
 
 use crate::order::order;
-use crate::reach::found_from;
 use sdl_faults::Faults;
 use sdl_lex::Place;
 use sdl_paths::{Beginning, Entries, Found};
+use sdl_reach::found_from;
 use sdl_scope::Names;
 use sdl_tree::{Name, Terminator};
 use std::alloc::{AllocError, Global};

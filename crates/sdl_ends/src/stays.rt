@@ -3,14 +3,14 @@
 ghost use Rattle.std.specs.Prelude.{◌≡◌, flat_map, IfOk, OnOk};
 ghost use Rattle.sdl_paths.specs.Joins.{AreAllMet};
 ghost use Rattle.sdl_paths.specs.Listed.{beginnings_listed, terminators_listed};
-ghost use Rattle.sdl_ends.specs.Stays.{NotesStays, stay_fault};
+ghost use Rattle.sdl_reach.specs.Stays.{NotesStays, stay_fault};
 ghost use Rattle.sdl_faults.specs.Faults.{least_of, told};
 ghost use Rattle.sdl_tree.specs.Views.{process_value, terminator_value};
 
 use crate::quick::quick_names;
-use crate::reach::reach;
 use sdl_faults::{Faults, Kind, Token};
 use sdl_paths::{Beginning, Found, beginnings_of, labels_in};
+use sdl_reach::reach;
 use sdl_tree::{Mark, NextState, ProcessDefinition, Terminator};
 use std::alloc::{AllocError, Global};
 

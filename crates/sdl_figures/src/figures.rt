@@ -19,7 +19,6 @@ use sdl_sorts::Constant;
 use std::alloc::{AllocError, Global};
 
 /// What the constant expressions of a specification come to.
-#[derive(Drop)]
 pub struct Figures {
     /// What each synonym comes to, by its number.
     pub constants: Vec<Constant>,
@@ -29,6 +28,18 @@ pub struct Figures {
     pub initials: Vec<Option<Constant>>,
     /// The default duration of each timer in ticks, by its number among signals and timers.
     pub durations: Vec<Option<i64>>,
+}
+
+/// Written out, so that it is proved here, and not anew in each crate that drops one.
+impl Drop for Figures {
+    fn drop(self) {
+        let Figures {
+            constants: _,
+            counts: _,
+            initials: _,
+            durations: _,
+        } = self;
+    }
 }
 
 impl Figures {

@@ -15,7 +15,6 @@ use sdl_system::{LabelId, StateId};
 use std::alloc::{AllocError, Global};
 
 /// The names of a specification, by their name spaces, each with what it stands for in its scope.
-#[derive(Drop)]
 pub struct Declared<'s, 't> {
     /// Signals and timers.
     pub signals: Spaces<'t, SignalMeaning<'s>>,
@@ -28,6 +27,21 @@ pub struct Declared<'s, 't> {
     pub values: Spaces<'t, ValueEntry>,
     pub labels: Spaces<'t, LabelId>,
     pub states: Spaces<'t, StateId>,
+}
+
+/// Written out, so that it is proved here, and not anew in each crate that drops one.
+impl<'s, 't> Drop for Declared<'s, 't> {
+    fn drop(self) {
+        let Declared {
+            signals: _,
+            lists: _,
+            channels: _,
+            agents: _,
+            values: _,
+            labels: _,
+            states: _,
+        } = self;
+    }
 }
 
 impl<'s, 't> Declared<'s, 't> {

@@ -2,9 +2,9 @@
 use Rattle.std.specs.Prelude.{◌≡◌, ◌++◌, ℕ, List, Option}
 use Rattle.sdl_bodies.specs.Bodies.{bodies_faults}
 use Rattle.sdl_paths.specs.Beginnings.{beginnings}
-use Rattle.sdl_ends.specs.Ends.{ends_faults}
+use Rattle.sdl_reach.specs.Ends.{ends_faults}
 use Rattle.sdl_paths.specs.Reach.{AreReached}
-use Rattle.sdl_ends.specs.Stays.{stay_faults}
+use Rattle.sdl_reach.specs.Stays.{stay_faults}
 use Rattle.sdl_faults.specs.Faults.{Told, least_of}
 use Rattle.sdl_states.specs.States.{process_faults}
 use Rattle.sdl_tree.specs.Tree.{ProcessDefinition}

@@ -4,7 +4,7 @@ use Rattle.std.specs.List.{AllZip}
 use Rattle.port_values.specs.declared.item.SignalId.{SignalId}
 use Rattle.sdl_bodies.specs.Bodies.{bodies_of}
 use Rattle.sdl_bodies.specs.Numbered.{AreNumbered}
-use Rattle.sdl_ends.specs.Ends.{ends_faults}
+use Rattle.sdl_reach.specs.Ends.{ends_faults}
 use Rattle.sdl_states.specs.States.{StateMeaning, states_of}
 use Rattle.sdl_stimuli.specs.Reading.{process_read}
 use Rattle.sdl_system.specs.Behaviour.{Behaviour, variable_meaning}

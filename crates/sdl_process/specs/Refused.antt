@@ -3,7 +3,7 @@ use Rattle.std.specs.Prelude.{◌≡◌, List, [], None, Some, Contains, length,
 use Rattle.sdl_bodies.specs.Bodies.{bodies_of}
 use Rattle.sdl_bodies.specs.Numbered.{AreNumbered}
 use Rattle.sdl_paths.specs.Beginnings.{beginnings}
-use Rattle.sdl_ends.specs.Ends.{ends_faults}
+use Rattle.sdl_reach.specs.Ends.{ends_faults}
 use Rattle.sdl_states.specs.States.{table_named}
 use Rattle.sdl_stimuli.specs.Reading.{process_read}
 use Rattle.sdl_system.specs.Body.{Body}

@@ -21,7 +21,7 @@ const LEAST_VALUES: usize = 32;
 
 /// What one instance did, one event after the other. It takes an event into room that `reserve` made, and needs no
 /// memory for it then.
-#[derive(Debug, Drop)]
+#[derive(Debug)]
 pub struct Record {
     process: ProcessId,
     pid: u32,
@@ -31,6 +31,20 @@ pub struct Record {
     values: Vec<Value>,
     // so many values may come without memory
     values_room: u16,
+}
+
+/// Written out, so that it is proved here, and not anew in each crate that drops one.
+impl Drop for Record {
+    fn drop(self) {
+        let Record {
+            process: _,
+            pid: _,
+            parent: _,
+            entries: _,
+            values: _,
+            values_room: _,
+        } = self;
+    }
 }
 
 impl Model for Record {
@@ -54,11 +68,22 @@ impl Model for Record {
 
 /// What a run did: the records by ascending number, the time at its end, and whether it is whole or was cut at
 /// the limit of transitions.
-#[derive(Debug, Drop)]
+#[derive(Debug)]
 pub struct Report {
     pub records: Vec<Record>,
     pub end: Ticks,
     pub whole: bool,
+}
+
+/// Written out, so that it is proved here, and not anew in each crate that drops one.
+impl Drop for Report {
+    fn drop(self) {
+        let Report {
+            records: _,
+            end: _,
+            whole: _,
+        } = self;
+    }
 }
 
 impl Record {

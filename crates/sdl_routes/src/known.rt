@@ -10,10 +10,20 @@ use sdl_system::ReceiversId;
 use std::alloc::{AllocError, Global};
 
 /// Receivers of 64 signals, and for each of the signals the number of the list of those to which it goes.
-#[derive(Debug, Drop)]
+#[derive(Debug)]
 pub(crate) struct Known {
     pub(crate) receivers: Vec<Receiver>,
     pub(crate) numbers: Vec<ReceiversId>,
+}
+
+/// Written out, so that it is proved here, and not anew in each crate that drops one.
+impl Drop for Known {
+    fn drop(self) {
+        let Known {
+            receivers: _,
+            numbers: _,
+        } = self;
+    }
 }
 
 /// The numbers of the lists of these receivers. Those of the receivers that were looked at last, for the same 64 signals, are

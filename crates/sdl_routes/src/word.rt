@@ -12,10 +12,20 @@ use sdl_system::{Reach, ReceiversId};
 use std::alloc::Global;
 
 /// Whom 64 signals reach from a source, and for each of them the number of the list of its receivers.
-#[derive(Debug, Drop)]
+#[derive(Debug)]
 pub(crate) struct Word {
     pub(crate) arrivals: Arrivals,
     pub(crate) numbers: Vec<ReceiversId>,
+}
+
+/// Written out, so that it is proved here, and not anew in each crate that drops one.
+impl Drop for Word {
+    fn drop(self) {
+        let Word {
+            arrivals: _,
+            numbers: _,
+        } = self;
+    }
 }
 
 impl Word {

@@ -14,10 +14,19 @@ use std::marker::Model;
 
 /// The names of one name space in one scope, in the order of the text, each with what it stands for. Where a name is
 /// declared twice, its first declaration counts.
-#[derive(Drop)]
 pub struct Names<'t, T: Copy> {
     entries: Vec<(&'t str, T)>,
     first: IndexMap<&'t str, T>,
+}
+
+/// Written out, so that it is proved here, and not anew in each crate that drops names.
+impl<'t, T: Copy> Drop for Names<'t, T> {
+    fn drop(self) {
+        let Names {
+            entries: _,
+            first: _,
+        } = self;
+    }
 }
 
 impl<'t, T: Copy> Model for Names<'t, T> {
@@ -109,13 +118,19 @@ impl<'t, T: Copy> Names<'t, T> {
 }
 
 /// The scopes round a place in the text, each with its names of one name space.
-#[derive(Clone, Copy)]
+#[derive(Copy)]
 pub struct Outward<'a, 't, T: Copy> {
     /// The process, in one.
     pub process: Option<&'a Names<'t, T>>,
     /// The block, in one.
     pub block: Option<&'a Names<'t, T>>,
     pub system: &'a Names<'t, T>,
+}
+
+impl<'a, 't, T: Copy> Clone for Outward<'a, 't, T> {
+    fn clone(&self) -> Result<Self, AllocError> {
+        Ok(*self)
+    }
 }
 
 impl<'a, 't, T: Copy> Outward<'a, 't, T> {

@@ -8,14 +8,14 @@ use Rattle.sdl_bodies.proofs.MentionLemmas.{process-spots}
 use Rattle.sdl_bodies.proofs.NumberLemmas.{same-text}
 use Rattle.sdl_bodies.specs.Bodies.{beginning_body, bodies_among, bodies_of}
 use Rattle.sdl_bodies.specs.Numbered.{AreDifferent, AreNumbered}
-use Rattle.sdl_ends.proofs.ReachLaws.{reached-listed}
+use Rattle.sdl_reach.proofs.ReachLaws.{reached-listed}
 use Rattle.sdl_paths.specs.Beginnings.{Beginning, beginnings, beginnings_behind, start_beginning}
 use Rattle.sdl_paths.specs.Mentions as mention
 use Rattle.sdl_paths.specs.Mentions.{Mention, beginning_mentions, label_entries, label_mentions, process_mentions, transition_mentions}
 use Rattle.sdl_paths.specs.Paths.{AtFirst, AtLabel}
 use Rattle.sdl_paths.specs.Reach as reach
 use Rattle.sdl_paths.specs.Reach.{AreReached, LeadsOn, StartReaches, is_first, is_place, labels_in, met_from}
-use Rattle.sdl_ends.specs.Stays.{stay_fault, stay_faults}
+use Rattle.sdl_reach.specs.Stays.{stay_fault, stay_faults}
 use Rattle.sdl_lex.specs.declared.place.Place.{Place}
 use Rattle.sdl_statements.specs.Contexts.{Context, label_in, state_in}
 use Rattle.sdl_statements.specs.Statements.{terminator_in}

@@ -5,7 +5,7 @@ use Rattle.sdl_bodies.specs.Bodies.{bodies_of}
 use Rattle.sdl_bodies.specs.Numbered.{AreNumbered}
 use Rattle.sdl_paths.specs.Beginnings.{beginnings}
 use Rattle.sdl_paths.specs.Reach.{AreReached}
-use Rattle.sdl_ends.specs.Stays.{stay_faults}
+use Rattle.sdl_reach.specs.Stays.{stay_faults}
 use Rattle.sdl_statements.specs.Contexts.{Context}
 use Rattle.sdl_nodes.specs.Transitions.{body_in}
 use Rattle.sdl_sound_bodies.specs.Typed.{IsSoundContext, IsTypedAction, IsTypedBody}

@@ -6,9 +6,9 @@ use Rattle.sdl_bodies.specs.Bodies.{beginning_body, bodies_faults}
 use Rattle.sdl_complete.proofs.RangeLemmas.{anything, each-anything}
 use Rattle.sdl_complete.proofs.ReadLemmas.{bounds_of, process-table}
 use Rattle.sdl_paths.specs.Beginnings.{beginnings, beginnings_behind}
-use Rattle.sdl_ends.specs.Ends.{ends_faults}
+use Rattle.sdl_reach.specs.Ends.{ends_faults}
 use Rattle.sdl_paths.specs.Reach.{AreReached}
-use Rattle.sdl_ends.specs.Stays.{stay_faults}
+use Rattle.sdl_reach.specs.Stays.{stay_faults}
 use Rattle.sdl_process.specs.Faulty.{body_faults, flow_faults}
 use Rattle.sdl_process.specs.Meant.{IsBehaviour}
 use Rattle.sdl_process.specs.Surroundings.{Surroundings, for_stimuli, for_transitions}

@@ -18,11 +18,21 @@ use sdl_tree::Name;
 use std::alloc::{AllocError, Global};
 
 /// The names of one name space over all scopes of a specification, each with what it stands for.
-#[derive(Drop)]
 pub struct Spaces<'t, T: Copy> {
     system: Names<'t, T>,
     blocks: Row<'t, T>,
     processes: Row<'t, T>,
+}
+
+/// Written out, so that it is proved here, and not anew in each crate that drops one.
+impl<'t, T: Copy> Drop for Spaces<'t, T> {
+    fn drop(self) {
+        let Spaces {
+            system: _,
+            blocks: _,
+            processes: _,
+        } = self;
+    }
 }
 
 impl<'t, T: Copy> Spaces<'t, T> {

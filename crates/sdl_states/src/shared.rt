@@ -20,11 +20,20 @@ use std::alloc::{AllocError, Global};
 
 /// What the states of a process say. States whose names stand in the same state lists have the same parts, and share a
 /// table.
-#[derive(Drop)]
 pub struct StateTables<'m> {
     pub tables: Vec<Table<'m>>,
     /// The table of each state.
     pub of_states: Vec<TableId>,
+}
+
+/// Written out, so that it is proved here, and not anew in each crate that drops one.
+impl<'m> Drop for StateTables<'m> {
+    fn drop(self) {
+        let StateTables {
+            tables: _,
+            of_states: _,
+        } = self;
+    }
 }
 
 /// What each state of these names says, by those of the parts that belong to it. Noted is `TwiceInState` at each

@@ -10,7 +10,7 @@ use port_values::SignalId;
 use std::marker::Model;
 
 /// What the states of one table do: states whose parts are the same share it.
-#[derive(Debug, Drop)]
+#[derive(Debug)]
 pub struct StateTable {
     /// The class of each signal where every condition is true.
     pub selection: Selection,
@@ -24,13 +24,33 @@ pub struct StateTable {
     pub continuous: Vec<Continuous>,
 }
 
+/// Written out, so that it is proved here, and not anew in each crate that drops one.
+impl Drop for StateTable {
+    fn drop(self) {
+        let StateTable {
+            selection: _,
+            reactions: _,
+            rest: _,
+            conditions: _,
+            continuous: _,
+        } = self;
+    }
+}
+
 // So few signals are compared one by one, which is sooner done than to look for one by its hash.
 const FEW: usize = 8;
 
 /// What is done with each signal that a state names.
-#[derive(Debug, Drop)]
+#[derive(Debug)]
 pub struct Reactions {
     by_signal: IndexMap<SignalId, Reaction>,
+}
+
+/// Written out, so that it is proved here, and not anew in each crate that drops one.
+impl Drop for Reactions {
+    fn drop(self) {
+        let Reactions { by_signal: _ } = self;
+    }
 }
 
 impl Model for Reactions {

@@ -1,6 +1,6 @@
 use Rattle.std.proofs.Common.{◌≡◌, flat_map, take}
 use Rattle.sdl_faults.specs.Faults.{least_of, told}
-use Rattle.sdl_ends.specs.Ends.{beginning_faults}
+use Rattle.sdl_reach.specs.Ends.{beginning_faults}
 use Rattle.sdl_paths.specs.Listed.{beginnings_listed, texts}
 use Rattle.sdl_ends.proofs.ends.note_all.Given as goal
 

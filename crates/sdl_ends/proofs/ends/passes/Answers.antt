@@ -1,6 +1,6 @@
 use Rattle.std.proofs.Common.{◌∙◌, ap, is_some}
 use Rattle.sdl_tree.specs.Views.{transition_value}
-use Rattle.sdl_ends.proofs.PassingLemmas.{named-passed}
+use Rattle.sdl_reach.proofs.PassingLemmas.{named-passed}
 use Rattle.sdl_ends.proofs.ends.passes.Goals as goal
 
 pub returns : goal.returns

@@ -1,4 +1,4 @@
-use Rattle.sdl_ends.proofs.PathLaws.{met}
+use Rattle.sdl_reach.proofs.PathLaws.{met}
 use Rattle.sdl_ends.proofs.laws.come_to_is_met.Goals as goal
 
 pub returns : goal.returns

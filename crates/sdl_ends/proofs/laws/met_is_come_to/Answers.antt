@@ -1,4 +1,4 @@
-use Rattle.sdl_ends.proofs.PathLaws.{comes-to}
+use Rattle.sdl_reach.proofs.PathLaws.{comes-to}
 use Rattle.sdl_ends.proofs.laws.met_is_come_to.Goals as goal
 
 pub returns : goal.returns

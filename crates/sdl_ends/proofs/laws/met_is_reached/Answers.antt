@@ -1,4 +1,4 @@
-use Rattle.sdl_ends.proofs.ReachLaws.{met-reached}
+use Rattle.sdl_reach.proofs.ReachLaws.{met-reached}
 use Rattle.sdl_ends.proofs.laws.met_is_reached.Goals as goal
 
 pub returns : goal.returns

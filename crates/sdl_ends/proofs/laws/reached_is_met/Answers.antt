@@ -1,4 +1,4 @@
-use Rattle.sdl_ends.proofs.ReachLaws.{reached-listed}
+use Rattle.sdl_reach.proofs.ReachLaws.{reached-listed}
 use Rattle.sdl_ends.proofs.laws.reached_is_met.Goals as goal
 
 pub returns : goal.returns

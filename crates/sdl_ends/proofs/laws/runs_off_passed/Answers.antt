@@ -1,4 +1,4 @@
-use Rattle.sdl_ends.proofs.PathLaws.{passed}
+use Rattle.sdl_reach.proofs.PathLaws.{passed}
 use Rattle.sdl_ends.proofs.laws.runs_off_passed.Goals as goal
 
 pub returns : goal.returns

@@ -1,7 +1,7 @@
 use Rattle.std.proofs.Common.{◌≡◌, flat_map, take}
 use Rattle.sdl_faults.specs.Faults.{least_of, told}
 use Rattle.sdl_paths.specs.Listed.{terminators_listed}
-use Rattle.sdl_ends.specs.Stays.{stay_fault}
+use Rattle.sdl_reach.specs.Stays.{stay_fault}
 use Rattle.sdl_ends.proofs.stays.note_found.Given as goal
 
 abbrev pub invariant-loop-one : goal.invariant-loop-one

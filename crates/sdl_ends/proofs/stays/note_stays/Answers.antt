@@ -2,8 +2,8 @@ use Rattle.std.proofs.Common.{◌∙◌, ap, flat_map}
 use Rattle.sdl_faults.specs.Faults.{least_of, told}
 use Rattle.sdl_tree.specs.Views.{process_value}
 use Rattle.sdl_paths.specs.Listed.{beginnings_listed, terminators_listed}
-use Rattle.sdl_ends.specs.Stays.{stay_fault}
-use Rattle.sdl_ends.proofs.RoundLemmas.{stays-noted}
+use Rattle.sdl_reach.specs.Stays.{stay_fault}
+use Rattle.sdl_reach.proofs.RoundLemmas.{stays-noted}
 use Rattle.sdl_ends.proofs.stays.note_stays.Goals as goal
 
 pub returns : goal.returns

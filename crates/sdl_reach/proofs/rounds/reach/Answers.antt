@@ -2,9 +2,9 @@ use Rattle.std.proofs.Common.{◌∙◌, ◌<◌, ap, sym, subst}
 use Rattle.sdl_paths.specs.Joins.{any_new, count_open, joins_in, with_joins}
 use Rattle.sdl_paths.specs.Listed.{beginnings_listed, terminators_listed, texts}
 use Rattle.sdl_paths.specs.Reach.{EachReached}
-use Rattle.sdl_ends.proofs.PassingLemmas.{found-met}
-use Rattle.sdl_ends.proofs.RoundLemmas.{round-closed, round-each, round-fewer}
-use Rattle.sdl_ends.proofs.reach.reach.Goals as goal
+use Rattle.sdl_reach.proofs.PassingLemmas.{found-met}
+use Rattle.sdl_reach.proofs.RoundLemmas.{round-closed, round-each, round-fewer}
+use Rattle.sdl_reach.proofs.rounds.reach.Goals as goal
 
 pub returns-then-not-any : goal.returns-then-not-any
 returns-then-not-any c =

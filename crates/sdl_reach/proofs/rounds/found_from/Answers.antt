@@ -2,7 +2,7 @@ use Rattle.std.proofs.Common.{◌∙◌, ◌++◌, ap}
 use Rattle.sdl_paths.specs.Listed.{beginning_value, turns_of}
 use Rattle.sdl_paths.specs.Turns.{beginning_found}
 use Rattle.sdl_paths.proofs.StepLemmas.{taken-more}
-use Rattle.sdl_ends.proofs.reach.found_from.Goals as goal
+use Rattle.sdl_reach.proofs.rounds.found_from.Goals as goal
 
 pub loop-beginning-preserved : goal.loop-beginning-preserved
 loop-beginning-preserved c =

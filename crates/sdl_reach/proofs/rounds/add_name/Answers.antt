@@ -1,8 +1,8 @@
 use Rattle.std.proofs.Common.{◌∙◌, true, false, not, ap, sym}
 use Rattle.sdl_paths.specs.Listed.{texts}
 use Rattle.sdl_paths.specs.Mentions.{is_named}
-use Rattle.sdl_ends.proofs.RoundLemmas.{known-name, name-added, name-known}
-use Rattle.sdl_ends.proofs.reach.add_name.Goals as goal
+use Rattle.sdl_reach.proofs.RoundLemmas.{known-name, name-added, name-known}
+use Rattle.sdl_reach.proofs.rounds.add_name.Goals as goal
 
 pub returns-then-is_some-clause-names : goal.returns-then-is_some-clause-names
 returns-then-is_some-clause-names c =

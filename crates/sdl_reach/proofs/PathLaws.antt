@@ -4,7 +4,7 @@ use Rattle.sdl_faults.proofs.FaultLemmas.{in-left, in-right}
 use Rattle.sdl_faults.specs.FaultLaws.{In}
 use Rattle.sdl_tree.specs.Tree.{Ending, Terminator, Transition, Steps, Actions, NoAction, AndAction, Action, Task, Output, Set, Reset, Create, Decision, Parts, NoPart, AndPart, Otherwise, NoElse, Else}
 use Rattle.sdl_tree.specs.Words.{Spot}
-use Rattle.sdl_ends.specs.Laws.{begins}
+use Rattle.sdl_reach.specs.Laws.{begins}
 use Rattle.sdl_paths.specs.Met.{action_met, actions_met, ending_met, met_if, otherwise_met, parts_met, transition_met}
 use Rattle.sdl_paths.specs.Passing.{action_passed, actions_passed, is_entered, otherwise_passed, parts_passed, transition_passed}
 use Rattle.sdl_paths.specs.Paths.{Answered, AtFirst, AtLabel, ComesInto, ComesTo, Crosses, GoesBehind, IsPart, IsSimple, Origin, RunsOff}

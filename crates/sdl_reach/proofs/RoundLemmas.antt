@@ -10,10 +10,10 @@ use Rattle.sdl_paths.specs.Joins.{AreAllMet, any_new, count_open, joins_in, with
 use Rattle.sdl_paths.specs.Listed.{texts}
 use Rattle.sdl_paths.specs.Mentions.{is_named}
 use Rattle.sdl_paths.specs.Reach.{AreReached, EachReached, met_from}
-use Rattle.sdl_ends.specs.Stays.{NotesStays, stay_fault}
-use Rattle.sdl_ends.proofs.JoinLemmas.{comes-from, fewer-open, kept-named, none-new, one-new}
-use Rattle.sdl_ends.proofs.PassingLemmas.{found-named}
-use Rattle.sdl_ends.proofs.ReachLaws.{all-reached, met-joins, met-reached}
+use Rattle.sdl_reach.specs.Stays.{NotesStays, stay_fault}
+use Rattle.sdl_reach.proofs.JoinLemmas.{comes-from, fewer-open, kept-named, none-new, one-new}
+use Rattle.sdl_reach.proofs.PassingLemmas.{found-named}
+use Rattle.sdl_reach.proofs.ReachLaws.{all-reached, met-joins, met-reached}
 
 module _ (all : List Beginning) (names : List (List ℕ)) (terminators : List Terminator)
     (are : terminators ≡ met_from all names) where

@@ -9,7 +9,7 @@ use Rattle.sdl_tree.specs.Words.{Spot}
 use Rattle.sdl_tree.specs.declared.name.Spelling.{Spelling}
 use Rattle.sdl_paths.specs.Joins.{any_new, count_open, one_if, with_join, with_joins, with_name}
 use Rattle.sdl_paths.specs.Mentions.{is_named}
-use Rattle.sdl_ends.proofs.PathLaws.{never, or-cases, or-left, or-right}
+use Rattle.sdl_reach.proofs.PathLaws.{never, or-cases, or-left, or-right}
 
 -- ---- names behind others
 

@@ -8,14 +8,14 @@ use Rattle.sdl_tree.specs.Words.{Spot}
 use Rattle.sdl_tree.specs.declared.name.Spelling.{Spelling}
 use Rattle.sdl_paths.specs.Beginnings.{Beginning}
 use Rattle.sdl_paths.specs.Joins.{joins_in}
-use Rattle.sdl_ends.specs.Laws.{begins}
+use Rattle.sdl_reach.specs.Laws.{begins}
 use Rattle.sdl_paths.specs.Mentions.{Joined, Mention, action_mentions, actions_mentions, beginning_mentions, ending_mentions, is_named, join_names, label_mentions, otherwise_mentions, parts_mentions, terminator_mentions, transition_mentions}
 use Rattle.sdl_paths.specs.Passing.{is_entered}
 use Rattle.sdl_paths.specs.Paths.{Answered, AtFirst, AtLabel, ComesInto, ComesTo, IsPart, Origin}
 use Rattle.sdl_paths.specs.Paths as way
 use Rattle.sdl_paths.specs.Reach.{AreReached, EachReached, LeadsOn, StartReaches, beginning_met, is_first, labels_in, leads, met_from}
 use Rattle.sdl_paths.specs.Reach as reach
-use Rattle.sdl_ends.proofs.PathLaws.{comes-to, in-either, met, never, or-cases, or-left, or-right}
+use Rattle.sdl_reach.proofs.PathLaws.{comes-to, in-either, met, never, or-cases, or-left, or-right}
 
 -- ---- booleans and lists
 

@@ -5,13 +5,13 @@ use Rattle.sdl_faults.specs.Faults.{Told}
 use Rattle.sdl_tree.specs.Tree.{ProcessDefinition, Terminator, Transition}
 use Rattle.sdl_tree.specs.Words.{Spot}
 use Rattle.sdl_paths.specs.Beginnings.{Beginning, beginnings}
-use Rattle.sdl_ends.specs.Broken.{IsEndless, IsStay}
-use Rattle.sdl_ends.specs.Ends.{ends_faults}
+use Rattle.sdl_reach.specs.Broken.{IsEndless, IsStay}
+use Rattle.sdl_reach.specs.Ends.{ends_faults}
 use Rattle.sdl_paths.specs.Met.{transition_met}
 use Rattle.sdl_paths.specs.Passing.{transition_passed}
 use Rattle.sdl_paths.specs.Paths.{ComesTo, Origin, AtFirst, AtLabel, RunsOff}
 use Rattle.sdl_paths.specs.Reach.{AreReached, StartReaches, met_from}
-use Rattle.sdl_ends.specs.Stays.{stay_faults}
+use Rattle.sdl_reach.specs.Stays.{stay_faults}
 
 -- whether paths begin there, where `enters` says which labels are entered, and `comes` whether one comes to the first
 -- statement

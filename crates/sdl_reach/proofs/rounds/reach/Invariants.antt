@@ -1,7 +1,7 @@
 use Rattle.sdl_paths.specs.Joins.{count_open, joins_in}
 use Rattle.sdl_paths.specs.Listed.{beginnings_listed, texts}
 use Rattle.sdl_paths.specs.Reach.{EachReached}
-use Rattle.sdl_ends.proofs.reach.reach.Given as goal
+use Rattle.sdl_reach.proofs.rounds.reach.Given as goal
 
 abbrev pub invariant-rounds : goal.invariant-rounds
 invariant-rounds l = EachReached (beginnings_listed l.beginnings) (texts l.names)

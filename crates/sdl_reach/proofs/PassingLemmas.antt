@@ -8,14 +8,14 @@ use Rattle.sdl_tree.specs.Tree.{Transition}
 use Rattle.sdl_tree.specs.Views.{terminator_value}
 use Rattle.sdl_tree.specs.Words.{Spot}
 use Rattle.sdl_paths.specs.Beginnings.{Beginning}
-use Rattle.sdl_ends.specs.Ends.{enters_named}
+use Rattle.sdl_reach.specs.Ends.{enters_named}
 use Rattle.sdl_paths.specs.Listed.{found_listed, led_turn, terminators_listed, texts}
 use Rattle.sdl_paths.specs.Mentions.{is_named}
 use Rattle.sdl_paths.specs.Passing.{transition_passed}
 use Rattle.sdl_paths.specs.Reach.{beginning_met, is_first, labels_in, leads, met_from}
 use Rattle.sdl_paths.specs.Turns.{found_from, transition_turn}
 use Rattle.sdl_paths.specs.declared.walk.Found.{Found}
-use Rattle.sdl_ends.proofs.TurnLemmas.{kept, kept-from, same-transition, some-either}
+use Rattle.sdl_reach.proofs.TurnLemmas.{kept, kept-from, same-transition, some-either}
 
 some-or : {A : Type 0} (same : Bool) (what : A) (rest : Option A) (named : Bool) → is_some rest ≡ named →
     is_some (cond same (Some what) rest) ≡ (same || named)

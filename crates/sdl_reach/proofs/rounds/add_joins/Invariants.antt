@@ -1,7 +1,7 @@
 use Rattle.std.proofs.Common.{◌≡◌, ◌||◌, drop}
 use Rattle.sdl_paths.specs.Joins.{any_new, with_joins}
 use Rattle.sdl_paths.specs.Listed.{terminators_listed, texts}
-use Rattle.sdl_ends.proofs.reach.add_joins.Given as goal
+use Rattle.sdl_reach.proofs.rounds.add_joins.Given as goal
 
 abbrev pub invariant-loop-one : goal.invariant-loop-one
 invariant-loop-one l = record {

@@ -17,7 +17,7 @@ use std::alloc::{AllocError, Global};
 
 /// The terminators to which paths from the start come, over any joins. The names are of joins that it reaches: the
 /// search begins with them, and adds each further name that it meets, until there is none.
-pub(crate) fn reach<'t>(
+pub fn reach<'t>(
     alloc: Global,
     beginnings: &[Beginning<'t>],
     labels: &Names<'t, Place>,
@@ -42,7 +42,7 @@ pub(crate) fn reach<'t>(
 }
 
 /// The terminators to which paths from the start and from the entered labels come.
-pub(crate) fn found_from<'t>(
+pub fn found_from<'t>(
     alloc: Global,
     entries: Entries<'_, 't>,
     beginnings: &[Beginning<'t>],

@@ -1,0 +1,4 @@
+pub mod Broken
+pub mod Ends
+pub mod Laws
+pub mod Stays
