@@ -5,9 +5,9 @@ ghost use Rattle.sdl_around.specs.Around.{census_now};
 
 use crate::act::Act;
 use crate::acts::Acts;
-use crate::census::Census;
 use inbox::Fuse;
 use port_values::{Item, SignalId, Ticks, Values};
+use sdl_census::Census;
 use sdl_runs::World;
 use sdl_system::{Dest, ProcessId, Source, System, Target};
 use std::alloc::AllocError;

@@ -15,7 +15,7 @@ use Rattle.sdl_stimuli.specs.Reading.{Part, process_read}
 use Rattle.sdl_stimuli.specs.declared.transition.TransitionId.{TransitionId}
 use Rattle.sdl_system.specs.State.{same_signal}
 use Rattle.sdl_system.specs.declared.id.NodeId.{NodeId}
-use Rattle.sdl_tables.specs.Linked.{Lacks, continuous_linked, entry_of, in_order, linked, of_continuous, of_rest, of_signal}
+use Rattle.sdl_classes.specs.Linked.{Lacks, continuous_linked, entry_of, in_order, linked, of_continuous, of_rest, of_signal}
 use Rattle.sdl_tree.specs.Words.{Spot}
 
 -- ---- lists

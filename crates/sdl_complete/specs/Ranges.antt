@@ -10,7 +10,7 @@ use Rattle.sdl_stimuli.specs.Context.{Context, list_in}
 use Rattle.sdl_stimuli.specs.Mentions.{number_of}
 use Rattle.sdl_stimuli.specs.Reading.{process_read}
 use Rattle.sdl_system.specs.declared.id.NodeId.{NodeId}
-use Rattle.sdl_tables.specs.Linked.{Lacks}
+use Rattle.sdl_classes.specs.Linked.{Lacks}
 use Rattle.sdl_tree.specs.Tree.{ProcessDefinition}
 use Rattle.sdl_tree.specs.Words.{Spot}
 

@@ -12,7 +12,7 @@ use Rattle.sdl_system.specs.declared.id.NodeId.{NodeId}
 use Rattle.sdl_system.specs.declared.process.Process.{Process}
 use Rattle.sdl_system.specs.declared.state.StateTable.{StateTable}
 use Rattle.sdl_tables.specs.Agreeing.{AreEnabling}
-use Rattle.sdl_tables.specs.Linked.{IsTable}
+use Rattle.sdl_classes.specs.Linked.{IsTable}
 use Rattle.sdl_tables.proofs.AgreeingLemmas.{table-agrees}
 use Rattle.sdl_tables.proofs.EnablingLemmas.{are-enabling}
 use Rattle.sdl_tree.specs.Tree.{BodyPart}

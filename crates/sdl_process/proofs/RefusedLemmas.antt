@@ -10,8 +10,8 @@ use Rattle.sdl_system.specs.Term.{term_of}
 use Rattle.sdl_system.specs.declared.expression.Expression.{Expression}
 use Rattle.sdl_system.specs.declared.id.NodeId.{NodeId}
 use Rattle.sdl_system.specs.declared.process.Process.{Process}
-use Rattle.sdl_tables.specs.Linked.{Lacks}
-use Rattle.sdl_tables.proofs.ListLemmas.{contains-at}
+use Rattle.sdl_classes.specs.Linked.{Lacks}
+use Rattle.sdl_classes.proofs.ListLemmas.{contains-at}
 use Rattle.sdl_tree.specs.Tree.{ProcessDefinition}
 use Rattle.sdl_process.specs.Made.{IsMissing, MadeOf, Said, no_condition, no_entry, no_start}
 use Rattle.sdl_process.specs.Refused as refused

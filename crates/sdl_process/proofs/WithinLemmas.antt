@@ -11,7 +11,7 @@ use Rattle.sdl_system.specs.State.{named_reaction, same_signal}
 use Rattle.sdl_system.specs.declared.id.NodeId.{NodeId}
 use Rattle.sdl_system.specs.declared.id.TableId.{TableId}
 use Rattle.sdl_system.specs.declared.state.StateTable.{StateTable}
-use Rattle.sdl_tables.specs.Linked.{IsLinked, IsTable}
+use Rattle.sdl_classes.specs.Linked.{IsLinked, IsTable}
 use Rattle.sdl_tables.specs.Meant.{NamesWithin, tables_at}
 use Rattle.sdl_tables.proofs.MeaningLemmas.{below-or-not, head-same, some-same, tail-same}
 use Rattle.sdl_tree.specs.Words.{Spot}

@@ -7,7 +7,7 @@ use Rattle.sdl_system.specs.declared.expression.Expression.{Expression}
 use Rattle.sdl_system.specs.declared.id.NodeId.{NodeId}
 use Rattle.sdl_system.specs.declared.id.TableId.{TableId}
 use Rattle.sdl_system.specs.declared.process.Process.{Process}
-use Rattle.sdl_tables.specs.Linked.{IsTable}
+use Rattle.sdl_classes.specs.Linked.{IsTable}
 use Rattle.sdl_tables.specs.Stated.{SomeLacks, state_value, states_listed}
 use Rattle.sdl_tree.specs.Words.{Spot}
 use Rattle.sdl_process.specs.declared.heading.Heading.{Heading}

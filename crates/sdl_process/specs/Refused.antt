@@ -8,7 +8,7 @@ use Rattle.sdl_states.specs.States.{table_named}
 use Rattle.sdl_stimuli.specs.Reading.{process_read}
 use Rattle.sdl_system.specs.Body.{Body}
 use Rattle.sdl_system.specs.declared.id.NodeId.{NodeId}
-use Rattle.sdl_tables.specs.Linked.{Lacks}
+use Rattle.sdl_classes.specs.Linked.{Lacks}
 use Rattle.sdl_tree.specs.Tree.{ProcessDefinition}
 use Rattle.sdl_tree.specs.Words.{Spot}
 use Rattle.sdl_process.specs.Surroundings.{Surroundings, for_stimuli, for_transitions}

@@ -8,10 +8,11 @@ use crate::condition::whole;
 use crate::heading::Heading;
 use crate::surroundings::Surroundings;
 use sdl_bodies::Transitions;
+use sdl_classes::Basis;
 use sdl_states::StateTables;
 use sdl_stimuli::TransitionId;
 use sdl_system::{Expression, Process};
-use sdl_tables::{Basis, make_tables};
+use sdl_tables::make_tables;
 use std::alloc::{AllocError, Global};
 
 /// The process with this heading, these conditions and transitions, whose states say this. None where a rule is broken

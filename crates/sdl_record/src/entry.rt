@@ -13,7 +13,7 @@ use port_values::{Pid, SignalId, Value};
 use sdl_system::{Dest, ProcessId, StateId, Target, VariableId};
 
 /// An event without its values. `count` is how many values it has; `at` and `due` are in ticks.
-#[derive(Clone, Copy, Debug)]
+#[derive(Clone, Copy)]
 pub enum Entry {
     Start {
         at: u64,
@@ -92,7 +92,7 @@ pub enum Entry {
 const _: () = prove!(size_of::<Entry>() == 32);
 
 /// What was got from the port, without its values.
-#[derive(Clone, Copy, Debug)]
+#[derive(Clone, Copy)]
 pub struct Stimulus {
     pub name: SignalId,
     pub origin: Origin,
@@ -100,7 +100,7 @@ pub struct Stimulus {
 }
 
 /// Where it came from: a timer of the instance itself, or the sender of a signal.
-#[derive(Clone, Copy, Debug)]
+#[derive(Clone, Copy)]
 pub enum Origin {
     Timer,
     Null,

@@ -12,6 +12,7 @@ use port_model::Got;
 use port_values::{Pid, SignalId, Ticks, TimerKey, Value};
 use sdl_system::{Dest, ProcessId, StateId, Target, VariableId};
 use std::alloc::{AllocError, Global};
+use std::fmt;
 use std::marker::Model;
 
 // A record that has no room gets room for at least so many entries and values, since most records soon have more.
@@ -21,7 +22,6 @@ const LEAST_VALUES: usize = 32;
 
 /// What one instance did, one event after the other. It takes an event into room that `reserve` made, and needs no
 /// memory for it then.
-#[derive(Debug)]
 pub struct Record {
     process: ProcessId,
     pid: u32,
@@ -44,6 +44,13 @@ impl Drop for Record {
             values: _,
             values_room: _,
         } = self;
+    }
+}
+
+/// Whose record it is, and how much is in it: its events are told in a report.
+impl fmt::Debug for Record {
+    fn fmt<W: fmt::Write>(&self, f: &mut fmt::Formatter<W>) -> fmt::Result {
+        write!(f, "Record of #{}, {} events", self.pid, self.entries.len())
     }
 }
 

@@ -9,7 +9,7 @@ ghost use Rattle.sdl_serial.specs.Serial.{IsSerial};
 use crate::error::RunError;
 use inbox::Alone;
 use port_values::{Pid, Values};
-use sdl_around::Census;
+use sdl_census::Census;
 use sdl_interp::Instance;
 use sdl_record::Record;
 use sdl_sweeps::Board;

@@ -20,7 +20,7 @@ use Rattle.sdl_system.specs.declared.state.Reaction.{Reaction}
 use Rattle.sdl_system.specs.declared.state.Reaction.TheVariants as react
 use Rattle.sdl_system.specs.declared.state.StateTable.{StateTable}
 use Rattle.sdl_tables.specs.Agreeing.{Agrees, AreEnabling, TablesAgree, said_condition}
-use Rattle.sdl_tables.specs.Linked.{IsLinked, IsTable, Waiting, Waits, choice_by, condition_of, enabled_value, enabling_value, is_for, linked, others, preferred, reaction_value, received, these, waiting_for, waits_for}
+use Rattle.sdl_classes.specs.Linked.{IsLinked, IsTable, Waiting, Waits, choice_by, condition_of, enabled_value, enabling_value, is_for, linked, others, preferred, reaction_value, received, these, waiting_for, waits_for}
 use Rattle.sdl_tables.proofs.MeaningLemmas.{below-or-not, condition_in_doing, head-same, some-same, tail-same}
 
 -- ---- classes

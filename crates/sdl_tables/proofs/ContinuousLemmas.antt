@@ -3,8 +3,8 @@ use Rattle.std.proofs.Common.{◌≡◌, ◌<◌, ℕ, List, None, get_or, lengt
 use Rattle.sdl_states.specs.Ordered.{numbered_value}
 use Rattle.sdl_states.specs.declared.order.NumberedSignal.{NumberedSignal}
 use Rattle.sdl_system.specs.declared.id.NodeId.{NodeId}
-use Rattle.sdl_tables.specs.Linked.{OneUnlinked, continuous_linked}
-use Rattle.sdl_tables.proofs.ListLemmas.{contains-at}
+use Rattle.sdl_classes.specs.Linked.{OneUnlinked, continuous_linked}
+use Rattle.sdl_classes.proofs.ListLemmas.{contains-at}
 
 -- the transition of the signal at this place
 pub unlinked-here : (entries : List NodeId) (list : List NumberedSignal) (i : ℕ) (d : NumberedSignal) →

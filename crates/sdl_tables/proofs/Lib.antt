@@ -1,7 +1,6 @@
 pub mod AgreeingLemmas
 pub mod ContinuousLemmas
 pub mod EnablingLemmas
-pub mod ListLemmas
 pub mod MeaningLemmas
 pub mod ReactionLemmas
 pub mod StateLemmas

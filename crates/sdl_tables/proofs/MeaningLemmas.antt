@@ -26,7 +26,7 @@ use Rattle.sdl_system.specs.declared.state.Reaction.TheVariants as react
 use Rattle.sdl_system.specs.declared.state.Reception.{Reception}
 use Rattle.sdl_system.specs.declared.state.StateTable.{StateTable}
 use Rattle.sdl_tree.specs.Words.{Spot}
-use Rattle.sdl_tables.specs.Linked.{Doing, IsLinked, IsTable, continuous_linked, enabling_value, kept, linked, preferred, reaction_value, received, waits_for}
+use Rattle.sdl_classes.specs.Linked.{Doing, IsLinked, IsTable, continuous_linked, enabling_value, kept, linked, preferred, reaction_value, received, waits_for}
 use Rattle.sdl_tables.specs.Meant.{HasConditions, IsMeaning, NamesWithin, StatesMean, come_to, condition_at, continuous_meaning, input_meaning, response_meaning, tables_at}
 use Rattle.sdl_tables.specs.Stated.{state_value, states_listed}
 

@@ -6,7 +6,7 @@ use Rattle.sdl_states.specs.States.{named_in}
 use Rattle.sdl_system.specs.State.{named_reaction, same_signal}
 use Rattle.sdl_system.specs.declared.id.NodeId.{NodeId}
 use Rattle.sdl_system.specs.declared.state.Reaction.{Reaction}
-use Rattle.sdl_tables.specs.Linked.{AreLinked, IsLinked}
+use Rattle.sdl_classes.specs.Linked.{AreLinked, IsLinked}
 
 signal-is : (n : ℕ) (signal : SignalId) → (n == signal.0) ≡ true → record { 0 = n } ≡ signal
 signal-is n signal same =

@@ -4,7 +4,7 @@ use Rattle.std.specs.Global.{Vec}
 use Rattle.std.specs.Map.{lookup}
 use Rattle.port_values.specs.declared.item.SignalId.{SignalId}
 use Rattle.sdl_system.specs.declared.id.ConditionId.{ConditionId}
-use Rattle.sdl_tables.specs.Linked.{Waiting, Waits, is_for, others, these}
+use Rattle.sdl_classes.specs.Linked.{Waiting, Waits, is_for, others, these}
 
 abbrev pub group_value : ConditionId × Vec SignalId → ConditionId × List SignalId
 group_value entry = (entry.0, entry.1.items)

@@ -1,5 +1,4 @@
 pub mod Agreeing
 pub mod Grouped
-pub mod Linked
 pub mod Meant
 pub mod Stated

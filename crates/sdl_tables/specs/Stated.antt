@@ -7,7 +7,7 @@ use Rattle.sdl_system.specs.declared.id.TableId.{TableId}
 use Rattle.sdl_system.specs.declared.process.State.{State}
 use Rattle.sdl_system.specs.declared.state.StateTable.{StateTable}
 use Rattle.sdl_tree.specs.Words.{Spot}
-use Rattle.sdl_tables.specs.Linked.{IsTable, Lacks}
+use Rattle.sdl_classes.specs.Linked.{IsTable, Lacks}
 
 -- a transition of one of these tables has no entry
 pub record SomeLacks (entries : List NodeId) (said : List Table) : Type 0 where

@@ -2,7 +2,7 @@
 
 ghost use Rattle.std.specs.Prelude.{◌≡◌, IfOk, map, option_copied};
 ghost use Rattle.sdl_tables.specs.Grouped.{waiting_by, waits_by};
-ghost use Rattle.sdl_tables.specs.Linked.{enabled_value, enabling_value, is_for, waits_for};
+ghost use Rattle.sdl_classes.specs.Linked.{enabled_value, enabling_value, is_for, waits_for};
 
 use crate::waiting::{Waiting, condition_of, waiting_of};
 use sdl_system::{ConditionId, Enabled, Enabling, Reaction, Reactions};

@@ -4,7 +4,7 @@ ghost use Rattle.std.specs.Prelude.{◌≡◌, IfOk, map, option_map};
 ghost use Rattle.sdl_stimuli.specs.Listed.{continuous_value};
 ghost use Rattle.sdl_states.specs.Ordered.{numbered_value};
 ghost use Rattle.sdl_states.specs.States.{numbered_from, tried};
-ghost use Rattle.sdl_tables.specs.Linked.{ContinuousOf, continuous_linked};
+ghost use Rattle.sdl_classes.specs.Linked.{ContinuousOf, continuous_linked};
 
 use crate::reaction::entry_of;
 use sdl_states::{NumberedSignal, tried};

@@ -3,20 +3,17 @@
 //!
 //! What a state says of each signal stands in `sdl_states`, with transitions by their numbers. Here each transition gets
 //! the node at which it begins, each signal its class, and each enabling condition the signals that wait for it.
-//! `specs/Linked` has what a table holds, and `specs/Meant` what it means.
+//! `specs/Linked` of `sdl_classes` has what a table holds, and `specs/Meant` what it means.
 #![tactic(auto)]
 
-mod basis;
 mod condition;
 mod continuous;
 pub mod laws;
 mod reaction;
 mod reactions;
-mod selection;
 mod state;
 mod table;
 mod waiting;
 
-pub use basis::Basis;
 pub use state::{Tables, make_tables};
 pub use table::make_table;

@@ -2,7 +2,7 @@
 
 ghost use Rattle.std.specs.Prelude.{◌≡◌, IfOk, option_map, slice_get};
 ghost use Rattle.sdl_stimuli.specs.Listed.{response_value};
-ghost use Rattle.sdl_tables.specs.Linked.{entry_of, linked, reaction_value};
+ghost use Rattle.sdl_classes.specs.Linked.{entry_of, linked, reaction_value};
 
 use sdl_stimuli::{Response, TransitionId};
 use sdl_system::{NodeId, Reaction, Reception, VariableId};

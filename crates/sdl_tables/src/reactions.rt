@@ -4,12 +4,12 @@ ghost use Rattle.std.specs.Prelude.{◌≡◌, Some, IfOk, OnOk, if◌then◌els
 ghost use Rattle.port_values.specs.declared.item.SignalId.{SignalId};
 ghost use Rattle.sdl_stimuli.specs.Listed.{rest_value};
 ghost use Rattle.sdl_system.specs.State.{named_reaction, same_signal};
-ghost use Rattle.sdl_tables.specs.Linked.{ReactionsOf, RestOf};
+ghost use Rattle.sdl_classes.specs.Linked.{ReactionsOf, RestOf};
 
-use crate::basis::Basis;
 use crate::reaction::reaction_of;
 use indexmap::IndexMap;
 use port_values::SignalId;
+use sdl_classes::Basis;
 use sdl_states::Named;
 use sdl_stimuli::Response;
 use sdl_system::{NodeId, Reaction, Reactions};

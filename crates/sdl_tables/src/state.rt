@@ -6,8 +6,8 @@ ghost use Rattle.sdl_tables.specs.Agreeing.{TablesAgree};
 ghost use Rattle.sdl_tables.specs.Meant.{StatesMean};
 ghost use Rattle.sdl_tables.specs.Stated.{TablesOf, state_value, states_listed};
 
-use crate::basis::Basis;
 use crate::table::make_table;
+use sdl_classes::Basis;
 use sdl_states::{StateTables, Table};
 use sdl_system::{State, StateTable, TableId};
 use sdl_tree::Name;

@@ -3,7 +3,7 @@
 ghost use Rattle.std.specs.Prelude.{◌≡◌, ◌++◌, ◌∷◌, [], Some, IfOk, OnOk, if◌then◌else◌, option_copied};
 ghost use Rattle.sdl_system.specs.declared.id.ConditionId.{ConditionId};
 ghost use Rattle.sdl_tables.specs.Grouped.{group_of};
-ghost use Rattle.sdl_tables.specs.Linked.{condition_of, is_for, waiting_for};
+ghost use Rattle.sdl_classes.specs.Linked.{condition_of, is_for, waiting_for};
 
 use indexmap::IndexMap;
 use port_values::SignalId;

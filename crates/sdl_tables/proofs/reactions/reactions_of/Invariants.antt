@@ -1,4 +1,4 @@
-use Rattle.sdl_tables.specs.Linked.{AreLinked}
+use Rattle.sdl_classes.specs.Linked.{AreLinked}
 use Rattle.sdl_tables.proofs.reactions.reactions_of.Given as goal
 
 abbrev pub invariant-loop-number : goal.invariant-loop-number

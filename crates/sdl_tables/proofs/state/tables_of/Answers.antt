@@ -2,7 +2,7 @@ use Rattle.std.proofs.Common.{subst}
 use Rattle.std.proofs.lemmas.Slice.Zip.{all_zipped_more}
 use Rattle.sdl_states.specs.Tabled.{table_value}
 use Rattle.sdl_states.proofs.AnswerLemmas.{taken-more}
-use Rattle.sdl_tables.specs.Linked.{IsTable, TableOf}
+use Rattle.sdl_classes.specs.Linked.{IsTable, TableOf}
 use Rattle.sdl_tables.proofs.state.tables_of.Goals as goal
 
 pub loop-one-preserved : goal.loop-one-preserved

@@ -1,7 +1,7 @@
 use Rattle.std.proofs.Common.{map, take}
 use Rattle.std.specs.List.{AllZip}
 use Rattle.sdl_states.specs.Tabled.{table_value}
-use Rattle.sdl_tables.specs.Linked.{IsTable}
+use Rattle.sdl_classes.specs.Linked.{IsTable}
 use Rattle.sdl_tables.proofs.state.tables_of.Given as goal
 
 abbrev pub invariant-loop-one : goal.invariant-loop-one

@@ -20,7 +20,7 @@ pub struct Census {
 }
 
 impl Model for Census {
-    ghost use Rattle.sdl_around.specs.Counts.{AreUpTo};
+    ghost use Rattle.sdl_census.specs.Counts.{AreUpTo};
     ghost use Rattle.sdl_runs.specs.World as runs;
 
     ghost Value = { runs.Census };

@@ -1,7 +1,7 @@
 //! The class of each signal in a state.
 
 ghost use Rattle.std.specs.Prelude.{◌≡◌, IfOk, option_copied};
-ghost use Rattle.sdl_tables.specs.Linked.{AreClasses, choice_by};
+ghost use Rattle.sdl_classes.specs.Linked.{AreClasses, choice_by};
 
 use crate::basis::Basis;
 use port_model::Selection;

@@ -1,8 +1,8 @@
 use Rattle.std.proofs.Common.{◌∙◌, ◌+◌, ap, option_copied, sym}
 use Rattle.port_model.specs.declared.selection.Class.TheVariants.{Discard}
-use Rattle.sdl_tables.specs.Linked.{choice_by}
-use Rattle.sdl_tables.proofs.ListLemmas.{each-more}
-use Rattle.sdl_tables.proofs.selection.selection_of.Goals as goal
+use Rattle.sdl_classes.specs.Linked.{choice_by}
+use Rattle.sdl_classes.proofs.ListLemmas.{each-more}
+use Rattle.sdl_classes.proofs.selection.selection_of.Goals as goal
 
 pub loop-number-preserved : goal.loop-number-preserved
 loop-number-preserved c =

@@ -1,7 +1,7 @@
 use Rattle.std.proofs.Common.{◌≡◌, ◌<◌, ℕ, get_or, vec_len, option_copied}
 use Rattle.port_model.specs.declared.selection.Class.TheVariants.{Discard}
-use Rattle.sdl_tables.specs.Linked.{choice_by}
-use Rattle.sdl_tables.proofs.selection.selection_of.Given as goal
+use Rattle.sdl_classes.specs.Linked.{choice_by}
+use Rattle.sdl_classes.proofs.selection.selection_of.Given as goal
 
 abbrev pub invariant-loop-number : goal.invariant-loop-number
 invariant-loop-number l = record {

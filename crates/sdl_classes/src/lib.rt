@@ -1,0 +1,9 @@
+//! What a table of a process holds (`specs/Linked`), and the class of each signal in a state where every condition is
+//! true (Z.101: input, save; Z.102: priority input, enabling condition).
+#![tactic(auto)]
+
+mod basis;
+mod selection;
+
+pub use basis::Basis;
+pub use selection::selection_of;
