@@ -54,20 +54,30 @@ fn puts_and_takes(
     Some(consumed)
 }
 
+/// Takes among so many signals of another name: how many consume one, where one is put before each.
+fn takes_among(
+    alloc: Global,
+    port: &mut PlainPort,
+    classes: &Selection,
+    others: u64,
+    times: u64,
+) -> Option<u64> {
+    fill(alloc, port, 0, others)?;
+    puts_and_takes(alloc, port, 1, classes, times)
+}
+
 /// Ten takes behind each of so many saved signals.
 pub fn takes_past_saved(alloc: Global, times: u64) -> Option<u64> {
     let classes = selection(alloc, &[Class::Saved, Class::Input, Class::Input])?;
     let mut port = PlainPort::new(alloc);
-    fill(alloc, &mut port, 0, times)?;
-    puts_and_takes(alloc, &mut port, 1, &classes, times.saturating_mul(10))
+    takes_among(alloc, &mut port, &classes, times, times.saturating_mul(10))
 }
 
 /// Takes in a state with a priority input, among so many ordinary signals.
 pub fn takes_of_urgent(alloc: Global, times: u64) -> Option<u64> {
     let classes = selection(alloc, &[Class::Input, Class::Priority, Class::Input])?;
     let mut port = PlainPort::new(alloc);
-    fill(alloc, &mut port, 0, times)?;
-    puts_and_takes(alloc, &mut port, 1, &classes, times)
+    takes_among(alloc, &mut port, &classes, times, times)
 }
 
 /// Ten sets and resets of a timer beside each of so many waiting signals.
@@ -93,9 +103,14 @@ fn sets_and_resets(alloc: Global, port: &mut PlainPort, times: u64) -> Option<u6
 pub fn timers(alloc: Global, times: u64) -> Option<u64> {
     let classes = selection(alloc, &[Class::Input, Class::Input, Class::Input])?;
     let mut port = PlainPort::new(alloc);
-    set_each(alloc, &mut port, times)?;
-    let active = expire_each(alloc, &mut port, times)?;
-    Some(active.wrapping_add(take_each(&mut port, &classes, times)))
+    timers_in(alloc, &mut port, &classes, times)
+}
+
+/// The same in a port.
+fn timers_in(alloc: Global, port: &mut PlainPort, classes: &Selection, times: u64) -> Option<u64> {
+    set_each(alloc, port, times)?;
+    let active = expire_each(alloc, port, times)?;
+    Some(active.wrapping_add(take_each(port, classes, times)))
 }
 
 /// Sets so many timers.

@@ -2,8 +2,8 @@
 
 use clap::builder::ValueParser;
 use clap::error::ErrorKind;
-use clap::{Arg, ArgAction, Error};
-use std::alloc::Global;
+use clap::{Arg, ArgAction, ArgMatches, Command, Error};
+use std::alloc::{AllocError, Global};
 use std::env;
 use std::rt::Env;
 
@@ -96,41 +96,54 @@ pub fn read_command_line<R: Env + AllocGlobal + Print + Eprint>(rt: &R) -> Reque
 
 /// What the words of the command line ask for, the program's name first; none where nothing of that name is measured.
 fn asked(alloc: Global, words: &[String]) -> Result<Option<Request>, Error> {
-    let command = command(alloc)?;
-    let matches = command.try_get_matches_from(words)?;
-    let Some(what) = matches.get_str("WHAT") else {
-        return Ok(None);
-    };
-    let (Some(measure), Some(times)) = (Measure::of_name(what), matches.get_one::<u64>("N")) else {
-        return Ok(None);
-    };
-    Ok(Some(Request::Measure {
+    let matches = command(alloc)?.try_get_matches_from(words)?;
+    Ok(requested(&matches))
+}
+
+/// What is asked for; none where nothing of that name is measured.
+fn requested(matches: &ArgMatches<'_>) -> Option<Request> {
+    let measure = Measure::of_name(matches.get_str("WHAT")?)?;
+    let times = matches.get_one::<u64>("N")?;
+    Some(Request::Measure {
         measure,
         times,
         is_timed: matches.get_flag("time"),
-    }))
+    })
 }
 
-fn command<'a>(alloc: Global) -> Result<clap::Command<'a>, Error> {
-    let what = Arg::new(alloc, "WHAT")
+/// The program with its arguments.
+fn command<'a>(alloc: Global) -> Result<Command<'a>, AllocError> {
+    let command = Command::new(alloc, "bench")
+        .about("Does one thing with N of something in an input port, and prints what was done")
+        .after_help(HELP);
+    command
+        .arg(what(alloc))?
+        .arg(times(alloc))?
+        .arg(time(alloc))
+}
+
+/// What is measured.
+fn what<'a>(alloc: Global) -> Arg<'a> {
+    Arg::new(alloc, "WHAT")
         .required(true)
         .help("What is done")
-        .value_parser(ValueParser::string());
-    let times = Arg::new(alloc, "N")
+        .value_parser(ValueParser::string())
+}
+
+/// With how much.
+fn times<'a>(alloc: Global) -> Arg<'a> {
+    Arg::new(alloc, "N")
         .required(true)
         .help("With how much")
-        .value_parser(ValueParser::unsigned(1, 1_000_000_000));
-    let time = Arg::new(alloc, "time")
+        .value_parser(ValueParser::unsigned(1, 1_000_000_000))
+}
+
+/// Whether the time is told.
+fn time<'a>(alloc: Global) -> Arg<'a> {
+    Arg::new(alloc, "time")
         .long("time")
         .help("Prints how long it took, too")
-        .action(ArgAction::SetTrue);
-    let command = clap::Command::new(alloc, "bench")
-        .about("Does one thing with N of something in an input port, and prints what was done")
-        .after_help(HELP)
-        .arg(what)?
-        .arg(times)?
-        .arg(time)?;
-    Ok(command)
+        .action(ArgAction::SetTrue)
 }
 
 /// Prints what clap has to say.

@@ -55,9 +55,25 @@ pub fn puts<R: Wait>(rt: &R, alloc: Global, times: u64) -> Option<u64> {
         mut owner,
         mut desk,
     } = port(alloc, 1).ok()?;
-    let sender = desk.sender(&port).ok()?;
-    let sent = put_many(rt, alloc, &port, sender, times);
-    Some(take_many(rt, &port, &mut owner, &classes, sent))
+    puts_by_one(rt, alloc, &port, &mut owner, &mut desk, &classes, times)
+}
+
+/// The same at a port.
+fn puts_by_one<R: Wait>(
+    rt: &R,
+    alloc: Global,
+    port: &Port,
+    owner: &mut Owner,
+    desk: &mut Desk,
+    classes: &Selection,
+    times: u64,
+) -> Option<u64>
+    requires owner { owner.old.port ≡ port.now.queue }
+    requires desk { desk.old.port ≡ port.now.queue }
+{
+    let sender = desk.sender(port).ok()?;
+    let sent = put_many(rt, alloc, port, sender, times);
+    Some(take_many(rt, port, owner, classes, sent))
 }
 
 /// The next two senders of a port.
@@ -144,19 +160,26 @@ fn raced<R: Threads + Wait + Sync>(
     taken
 }
 
+/// The next four senders of a port, in pairs.
+fn four_senders(desk: &mut Desk, port: &Port) -> Option<((Sender, Sender), (Sender, Sender))>
+    requires { desk.old.port ≡ port.now.queue }
+    ensures early { MatchOption result (Unit {0}) (λ pairs. (pairs.0.0.port ≡ port.now.queue) × (pairs.0.1.port ≡ port.now.queue)) }
+    ensures late { MatchOption result (Unit {0}) (λ pairs. (pairs.1.0.port ≡ port.now.queue) × (pairs.1.1.port ≡ port.now.queue)) }
+{
+    let early = two_senders(desk, port)?;
+    let late = two_senders(desk, port)?;
+    Some((early, late))
+}
+
 /// Puts by four threads, a quarter each, and takes by the owner in a fifth.
 pub fn puts_by_four<R: Threads + Wait + Sync>(rt: &R, alloc: Global, times: u64) -> Option<u64> {
     let classes = selection(alloc, &[Class::Input])?;
-    let Ok(made) = port(alloc, 1) else {
-        return None;
-    };
     let NewPort {
         port,
         owner,
         mut desk,
-    } = made;
-    let early = two_senders(&mut desk, &port)?;
-    let late = two_senders(&mut desk, &port)?;
+    } = port(alloc, 1).ok()?;
+    let (early, late) = four_senders(&mut desk, &port)?;
     Some(raced(rt, alloc, &port, owner, early, late, &classes, times / 4))
 }
 
@@ -167,10 +190,33 @@ pub fn finishes<R: Wait>(rt: &R, alloc: Global, times: u64) -> Option<u64> {
         mut owner,
         mut desk,
     } = port(alloc, 1).ok()?;
-    let sender = desk.sender(&port).ok()?;
-    expire_each(rt, alloc, &port, &mut owner, sender, times)?;
-    let end = owner.finish(rt, &port).ok()?;
+    expire_by_one(rt, alloc, &port, &mut owner, &mut desk, times)?;
+    entries_left(rt, &port, owner)
+}
+
+/// How many entries are left at the end of a port.
+fn entries_left<R: Wait>(rt: &R, port: &Port, owner: Owner) -> Option<u64>
+    requires { owner.port ≡ port.now.queue }
+{
+    let end = owner.finish(rt, port).ok()?;
     Some(end.entries().len() as u64)
+}
+
+/// Sets so many timers, and lets each expire at once, by one sender.
+fn expire_by_one<R: Wait>(
+    rt: &R,
+    alloc: Global,
+    port: &Port,
+    owner: &mut Owner,
+    desk: &mut Desk,
+    times: u64,
+) -> Option<()>
+    requires owner { owner.old.port ≡ port.now.queue }
+    requires desk { desk.old.port ≡ port.now.queue }
+    ensures { owner.new.port ≡ owner.old.port }
+{
+    let sender = desk.sender(port).ok()?;
+    expire_each(rt, alloc, port, owner, sender, times)
 }
 
 /// Sets so many timers, and lets each expire at once.

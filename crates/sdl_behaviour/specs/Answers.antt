@@ -6,7 +6,7 @@ use Rattle.sdl_tree.specs.declared.name.Spelling.{Spelling}
 use Rattle.sdl_tree.specs.Spells.Expressions.{operator_mark}
 use Rattle.sdl_tree.specs.Tree.{Expr, Answer, Value, Range, Compared}
 use Rattle.sdl_read.specs.Expressions.{expr, operator_at, marked, sees_operator}
-use Rattle.sdl_read.specs.Reading.{Parser, ◌⊗◌, behind, made, either, maybe, sees}
+use Rattle.sdl_cursor.specs.Reading.{Parser, ◌⊗◌, behind, made, either, maybe, sees}
 
 -- [":" expr]
 unfoldable pub range_end : ℕ → Parser (Option Expr)

@@ -10,7 +10,7 @@ use Rattle.sdl_behaviour.specs.declared.clauses.Look.TheVariants as looks
 use Rattle.sdl_behaviour.specs.Actions.{applied}
 use Rattle.sdl_read.specs.Expressions.{expr}
 use Rattle.sdl_read.specs.Parts.{ended}
-use Rattle.sdl_read.specs.Reading.{Parser, ◌⊗◌, behind, before, made, either, mark_by, same_mark, expect, separated}
+use Rattle.sdl_cursor.specs.Reading.{Parser, ◌⊗◌, behind, before, made, either, mark_by, same_mark, expect, separated}
 
 abbrev pub look_comma : ℕ → Look
 look_comma zero = looks.Comma

@@ -11,7 +11,7 @@ use Rattle.sdl_tree.specs.Words as word
 use Rattle.sdl_behaviour.specs.Stimuli.{stimulus}
 use Rattle.sdl_behaviour.specs.Transitions.{trans}
 use Rattle.sdl_read.specs.Parts.{followed_by, ended, named, end_name, closed, sees_one}
-use Rattle.sdl_read.specs.Reading.{Parser, pure, ◌⊗◌, behind, before, made, either, maybe, sees, expect, name, separated, repeated, in_parentheses}
+use Rattle.sdl_cursor.specs.Reading.{Parser, pure, ◌⊗◌, behind, before, made, either, maybe, sees, expect, name, separated, repeated, in_parentheses}
 
 abbrev pub start_with : Spelling × Transition → Start
 start_with p = record { word = p.0; transition = p.1 }

@@ -8,7 +8,7 @@ use Rattle.sdl_tree.specs.Words.{Words, Spot}
 use Rattle.sdl_behaviour.specs.Transitions.{trans}
 use Rattle.sdl_read.specs.Expressions.{expr}
 use Rattle.sdl_read.specs.Parts.{ended, sees_one, sig}
-use Rattle.sdl_read.specs.Reading.{Parser, Refusal, Refused, Barred, ◌⊗◌, behind, made, either, maybe, sees, sees_name, expect, name, number, separated, in_parentheses}
+use Rattle.sdl_cursor.specs.Reading.{Parser, Refusal, Refused, Barred, ◌⊗◌, behind, made, either, maybe, sees, sees_name, expect, name, number, separated, in_parentheses}
 
 -- [NAME]
 unfoldable pub variable : Parser (Option Spot)

@@ -10,7 +10,7 @@ use Rattle.sdl_behaviour.specs.Answers.{answer}
 use Rattle.sdl_behaviour.specs.Clauses.{set}
 use Rattle.sdl_read.specs.Expressions.{expr}
 use Rattle.sdl_read.specs.Parts.{ended, sees_one}
-use Rattle.sdl_read.specs.Reading.{Parser, ◌>>=◌, pure, too_deep, refuse, ◌⊗◌, behind, before, made, either, maybe, sees, sees_name, expect, name, repeated, enclosed}
+use Rattle.sdl_cursor.specs.Reading.{Parser, ◌>>=◌, pure, too_deep, refuse, ◌⊗◌, behind, before, made, either, maybe, sees, sees_name, expect, name, repeated, enclosed}
 
 -- ---- labels and terminators
 

@@ -3,14 +3,12 @@
 ghost use Rattle.std.specs.Prelude.{◌≡◌, ◌≤◌, map, option_map};
 ghost use Rattle.sdl_tree.specs.Views.{action_value, applied_value, assignment_value, destination_value, group_value};
 ghost use Rattle.sdl_behaviour.specs.Actions as spec;
-ghost use Rattle.sdl_read.specs.Reads.{Reads};
+ghost use Rattle.sdl_cursor.specs.Reads.{Reads};
 
 use crate::optional::taken;
 use crate::place::Inside;
-use sdl_read::cursor::Cursor;
+use sdl_cursor::{Cursor, Fault, Production, enclosed, separated};
 use sdl_read::expressions::{arguments, expression};
-use sdl_read::fault::Fault;
-use sdl_read::lists::{Production, enclosed, separated};
 use sdl_read::parts::end;
 use sdl_tree::{Action, Applied, Assignment, Destination, Mark, ResetGroup};
 use std::alloc::Global;

@@ -3,14 +3,12 @@
 ghost use Rattle.std.specs.Prelude.{◌≡◌, ◌≤◌, option_map};
 ghost use Rattle.sdl_tree.specs.Views.{answer_value, expr_value};
 ghost use Rattle.sdl_behaviour.specs.Answers as spec;
-ghost use Rattle.sdl_read.specs.Reads.{Reads};
+ghost use Rattle.sdl_cursor.specs.Reads.{Reads};
 
 use crate::optional::taken;
 use crate::place::Inside;
-use sdl_read::cursor::Cursor;
+use sdl_cursor::{Cursor, Fault, Production};
 use sdl_read::expressions::{expression, operator_at};
-use sdl_read::fault::Fault;
-use sdl_read::lists::Production;
 use sdl_tree::{Answer, Expression, Mark};
 use std::alloc::Global;
 

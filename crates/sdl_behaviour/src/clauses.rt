@@ -3,14 +3,12 @@
 ghost use Rattle.std.specs.Prelude.{◌≡◌, ◌+◌, ◌<◌, ◌≤◌};
 ghost use Rattle.sdl_tree.specs.Views.{action_value, clause_value};
 ghost use Rattle.sdl_behaviour.specs.Clauses as spec;
-ghost use Rattle.sdl_read.specs.Reads.{Reads};
+ghost use Rattle.sdl_cursor.specs.Reads.{Reads};
 
 use crate::actions::applied;
 use crate::place::Inside;
-use sdl_read::cursor::Cursor;
+use sdl_cursor::{Cursor, Fault, Production, separated};
 use sdl_read::expressions::expression;
-use sdl_read::fault::Fault;
-use sdl_read::lists::{Production, separated};
 use sdl_read::parts::end;
 use sdl_tree::{Action, Mark, SetClause};
 use std::alloc::Global;

@@ -2,8 +2,7 @@
 
 ghost use Rattle.sdl_behaviour.specs.Taken.{Taken};
 
-use sdl_read::cursor::Cursor;
-use sdl_read::word::{PlacedWord, Word};
+use sdl_cursor::{Cursor, PlacedWord, Word};
 use sdl_tree::{Mark, Spelling};
 
 /// Passes this mark, if it stands next.

@@ -4,18 +4,16 @@ ghost use Rattle.std.specs.Prelude.{◌≡◌, ◌≤◌, map, option_map, strin
 ghost use Rattle.std.specs.List.{list_any};
 ghost use Rattle.std.specs.Str.{bytes_eq};
 ghost use Rattle.sdl_tree.specs.Views.{body_part_value, name_value, start_value, states_value};
-ghost use Rattle.sdl_read.specs.Reads.{Reads};
+ghost use Rattle.sdl_cursor.specs.Reads.{Reads};
 ghost use Rattle.sdl_behaviour.specs.States as spec;
 
 use crate::optional::taken;
 use crate::place::Inside;
 use crate::stimuli::stimulus;
 use crate::transitions::transition;
-use sdl_read::cursor::Cursor;
-use sdl_read::fault::{Fault, Wanted};
-use sdl_read::lists::{At, Perhaps, in_parentheses, repeated};
+use sdl_cursor::{Cursor, Fault, Perhaps, PlacedWord, Wanted, Word, in_parentheses, repeated};
 use sdl_read::parts::{end, end_name, name, names};
-use sdl_read::word::{PlacedWord, Word};
+use sdl_read::place::At;
 use sdl_tree::{BodyPart, FreeAction, Mark, Name, Start, StatePart, States};
 use std::alloc::Global;
 

@@ -3,15 +3,13 @@
 ghost use Rattle.std.specs.Prelude.{◌≡◌, ◌≤◌, option_map};
 ghost use Rattle.sdl_tree.specs.Views.{condition_value, input_value, inputs_value, name_value, number_value, saved_value, stimulus_value};
 ghost use Rattle.sdl_behaviour.specs.Stimuli as spec;
-ghost use Rattle.sdl_read.specs.Reads.{Reads};
+ghost use Rattle.sdl_cursor.specs.Reads.{Reads};
 
 use crate::optional::taken;
 use crate::place::Inside;
 use crate::transitions::transition;
-use sdl_read::cursor::Cursor;
+use sdl_cursor::{Cursor, Fault, Perhaps, Production, in_parentheses, separated};
 use sdl_read::expressions::expression;
-use sdl_read::fault::Fault;
-use sdl_read::lists::{Perhaps, Production, in_parentheses, separated};
 use sdl_read::parts::end;
 use sdl_read::signals::sigs;
 use sdl_tree::{

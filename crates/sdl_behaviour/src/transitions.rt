@@ -3,17 +3,15 @@
 ghost use Rattle.std.specs.Prelude.{◌≡◌, ◌≤◌, map, option_map};
 ghost use Rattle.sdl_tree.specs.Views.{action_value, answer_value, answer_part_value, ending_value, expr_value, name_value, next_state_value, statement_value, terminator_value, transition_value};
 ghost use Rattle.sdl_behaviour.specs.Transitions as spec;
-ghost use Rattle.sdl_read.specs.Reads.{Reads};
+ghost use Rattle.sdl_cursor.specs.Reads.{Reads};
 
 use crate::actions::{create, output, reset, task};
 use crate::answers::answer;
 use crate::clauses::set;
 use crate::optional::taken;
 use crate::place::Inside;
-use sdl_read::cursor::Cursor;
+use sdl_cursor::{Cursor, Fault, Perhaps, Wanted, enclosed, repeated};
 use sdl_read::expressions::expression;
-use sdl_read::fault::{Fault, Wanted};
-use sdl_read::lists::{Perhaps, enclosed, repeated};
 use sdl_read::parts::end;
 use sdl_tree::{
     Action, ActionStatement, Answer, AnswerPart, Expression, Mark, Name, NextState, Spelling,

@@ -9,9 +9,9 @@ use crate::excerpt::Excerpt;
 use crate::explanation::{Explanation, Other, Source};
 use crate::opening::opening_of;
 use crate::sentence::parse_advice;
+use sdl_cursor::Wanted;
 use sdl_lex::{LexError, Place};
 use sdl_parse::ParseError;
-use sdl_read::fault::Wanted;
 use std::alloc::{AllocError, Global};
 
 /// Explains why a text is no specification. Where a name has to be repeated behind an `end..` word, the other place is

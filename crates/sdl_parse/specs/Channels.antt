@@ -6,7 +6,7 @@ use Rattle.sdl_tree.specs.declared.name.Spelling.{Spelling}
 use Rattle.sdl_tree.specs.Tree.{SignalListItem, ChannelEnd, Env, Agent, ChannelPath, ChannelDefinition, Connection}
 use Rattle.sdl_tree.specs.Words.{Spot}
 use Rattle.sdl_read.specs.Parts.{followed, ended, closing, tied, sig}
-use Rattle.sdl_read.specs.Reading.{Parser, ◌⊗◌, behind, made, either, maybe, pure, sees, expect, name, separated}
+use Rattle.sdl_cursor.specs.Reading.{Parser, ◌⊗◌, behind, made, either, maybe, pure, sees, expect, name, separated}
 
 -- point = "env" | NAME
 unfoldable pub point : Parser ChannelEnd

@@ -7,7 +7,7 @@ use Rattle.sdl_tree.specs.Tree.{Expr, ParameterGroup, FormalParameters, Variable
 use Rattle.sdl_tree.specs.Words.{Spot}
 use Rattle.sdl_read.specs.Expressions.{expr}
 use Rattle.sdl_read.specs.Parts.{ended}
-use Rattle.sdl_read.specs.Reading.{Parser, ◌⊗◌, behind, made, maybe, sees, expect, name, separated, in_parentheses}
+use Rattle.sdl_cursor.specs.Reading.{Parser, ◌⊗◌, behind, made, maybe, sees, expect, name, separated, in_parentheses}
 
 abbrev pub parameters_with : List Spot × Spot → ParameterGroup
 parameters_with p = record { names = p.0; sort = p.1 }

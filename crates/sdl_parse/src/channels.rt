@@ -3,10 +3,9 @@
 ghost use Rattle.std.specs.Prelude.{◌≡◌, option_map};
 ghost use Rattle.sdl_tree.specs.Views.{channel_value, connection_value, end_value, path_value};
 ghost use Rattle.sdl_parse.specs.Channels as spec;
-ghost use Rattle.sdl_read.specs.Reads.{Reads};
+ghost use Rattle.sdl_cursor.specs.Reads.{Reads};
 
-use sdl_read::cursor::Cursor;
-use sdl_read::fault::{Fault, Wanted};
+use sdl_cursor::{Cursor, Fault, Wanted};
 use sdl_read::parts::{closing, end, names};
 use sdl_read::signals::sigs;
 use sdl_tree::{ChannelConnection, ChannelDefinition, ChannelEnd, ChannelPath, Mark};

@@ -3,14 +3,13 @@
 ghost use Rattle.std.specs.Prelude.{◌≡◌, ◌≤◌, map, option_map};
 ghost use Rattle.sdl_tree.specs.Views.{expr_value, fpar_value, parameters_value, variables_value};
 ghost use Rattle.sdl_parse.specs.Declarations as spec;
-ghost use Rattle.sdl_read.specs.Reads.{Reads};
+ghost use Rattle.sdl_cursor.specs.Reads.{Reads};
 
 use crate::place::Defining;
-use sdl_read::cursor::Cursor;
+use sdl_cursor::{Cursor, Fault, Production, separated};
 use sdl_read::expressions::expression;
-use sdl_read::fault::Fault;
-use sdl_read::lists::{At, Production, separated};
 use sdl_read::parts::{end, names, sort};
+use sdl_read::place::At;
 use sdl_tree::{Expression, FormalParameters, Mark, ParameterGroup, VariableGroup};
 use std::alloc::Global;
 

@@ -1,7 +1,7 @@
 //! Refusals of a text that is no specification.
 
+use sdl_cursor::Wanted;
 use sdl_lex::{LexError, Place};
-use sdl_read::fault::Wanted;
 use std::error::Error;
 use std::fmt;
 

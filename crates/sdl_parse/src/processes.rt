@@ -4,7 +4,7 @@ ghost use Rattle.std.specs.Prelude.{◌≡◌, ◌≤◌, option_map};
 ghost use Rattle.sdl_tree.specs.Views.{bound_value, counts_value, expr_value, local_value, process_value};
 ghost use Rattle.sdl_parse.specs.Processes as spec;
 ghost use Rattle.sdl_read.specs.Parts.{sees_one};
-ghost use Rattle.sdl_read.specs.Reads.{Reads};
+ghost use Rattle.sdl_cursor.specs.Reads.{Reads};
 
 use crate::declarations::{dcl, fpar};
 use crate::place::Defining;
@@ -12,13 +12,10 @@ use crate::synonyms::synonym;
 use crate::timers::timer;
 use sdl_behaviour::place::Inside;
 use sdl_behaviour::states::{body_part, start};
-use sdl_read::cursor::Cursor;
+use sdl_cursor::{Cursor, Fault, Perhaps, PlacedWord, Word, repeated};
 use sdl_read::expressions::expression;
-use sdl_read::fault::Fault;
-use sdl_read::lists::{Perhaps, repeated};
 use sdl_read::parts::{closing, end};
 use sdl_read::signals::{signal, signal_list, signal_set};
-use sdl_read::word::{PlacedWord, Word};
 use sdl_tree::{Bound, Counts, Expression, LocalDefinition, Mark, ProcessDefinition};
 use std::alloc::Global;
 

@@ -3,14 +3,13 @@
 ghost use Rattle.std.specs.Prelude.{◌≡◌, ◌≤◌};
 ghost use Rattle.sdl_tree.specs.Views.{synonym_value, synonyms_value};
 ghost use Rattle.sdl_parse.specs.Synonyms as spec;
-ghost use Rattle.sdl_read.specs.Reads.{Reads};
+ghost use Rattle.sdl_cursor.specs.Reads.{Reads};
 
 use crate::place::Defining;
-use sdl_read::cursor::Cursor;
+use sdl_cursor::{Cursor, Fault, Production, separated};
 use sdl_read::expressions::expression;
-use sdl_read::fault::Fault;
-use sdl_read::lists::{At, Production, separated};
 use sdl_read::parts::{end, sort};
+use sdl_read::place::At;
 use sdl_tree::{Mark, SynonymDefinition, SynonymDefinitions};
 use std::alloc::Global;
 

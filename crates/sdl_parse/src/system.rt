@@ -5,15 +5,13 @@ ghost use Rattle.sdl_tree.specs.declared.mark.Mark.TheVariants as mark;
 ghost use Rattle.sdl_tree.specs.Views.{block_part_value, block_value, definition_value, system_definition_value, tree_value};
 ghost use Rattle.sdl_parse.specs.Systems as spec;
 ghost use Rattle.sdl_read.specs.Parts.{sees_one};
-ghost use Rattle.sdl_read.specs.Reads.{Reads};
+ghost use Rattle.sdl_cursor.specs.Reads.{Reads};
 
 use crate::channels::{channel, connect};
 use crate::place::Defining;
 use crate::processes::process;
 use crate::synonyms::synonym;
-use sdl_read::cursor::Cursor;
-use sdl_read::fault::{Fault, Wanted};
-use sdl_read::lists::{Perhaps, repeated};
+use sdl_cursor::{Cursor, Fault, Perhaps, Wanted, repeated};
 use sdl_read::parts::{closing, end};
 use sdl_read::signals::{signal, signal_list};
 use sdl_tree::{BlockDefinition, BlockPart, Definition, Mark, SystemDefinition, Tree};

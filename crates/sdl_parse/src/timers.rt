@@ -3,13 +3,11 @@
 ghost use Rattle.std.specs.Prelude.{◌≡◌, ◌≤◌};
 ghost use Rattle.sdl_tree.specs.Views.{timer_value, timers_value};
 ghost use Rattle.sdl_parse.specs.Declarations as spec;
-ghost use Rattle.sdl_read.specs.Reads.{Reads};
+ghost use Rattle.sdl_cursor.specs.Reads.{Reads};
 
 use crate::declarations::initial;
 use crate::place::Defining;
-use sdl_read::cursor::Cursor;
-use sdl_read::fault::Fault;
-use sdl_read::lists::{Production, separated};
+use sdl_cursor::{Cursor, Fault, Production, separated};
 use sdl_read::parts::{end, sorts};
 use sdl_tree::{Mark, TimerDefinition, TimerDefinitions};
 use std::alloc::Global;

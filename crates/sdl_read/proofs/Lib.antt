@@ -4,10 +4,9 @@ pub mod Depth
 pub mod ExpressionLaws
 pub mod Grammar
 pub mod Laws
+pub mod LevelLemmas
 pub mod ListLaws
 pub mod OperatorLaws
 pub mod PartLaws
 pub mod SignalLaws
 pub mod Steps
-pub mod TurnLemmas
-pub mod WordLemmas

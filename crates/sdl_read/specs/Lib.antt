@@ -1,7 +1,2 @@
 pub mod Expressions
 pub mod Parts
-pub mod PlacedWord
-pub mod Reader
-pub mod Reading
-pub mod Reads
-pub mod Wanted

@@ -4,12 +4,11 @@ ghost use Rattle.std.specs.Prelude.{◌≡◌, ◌-◌, ◌≤◌, map, option_m
 ghost use Rattle.sdl_tree.specs.Spells.Expressions as grammar;
 ghost use Rattle.sdl_tree.specs.Views.{expr_value, link_value, name_value};
 ghost use Rattle.sdl_read.specs.Expressions as spec;
-ghost use Rattle.sdl_read.specs.Reading.{in_parentheses};
-ghost use Rattle.sdl_read.specs.Reads.{Reads};
+ghost use Rattle.sdl_cursor.specs.Reading.{in_parentheses};
+ghost use Rattle.sdl_cursor.specs.Reads.{Reads};
 
-use crate::cursor::Cursor;
-use crate::fault::{Fault, Wanted};
-use crate::lists::{At, LOOSEST, Perhaps, Production, in_parentheses, repeated};
+use crate::place::{At, LOOSEST};
+use sdl_cursor::{Cursor, Fault, Perhaps, Production, Wanted, in_parentheses, repeated};
 use sdl_tree::{
     Chain, Expression, KeywordValue, Link, Mark, Name, Operator, Spelling, UnaryOperator,
 };
@@ -55,7 +54,7 @@ pub fn expression(
 
 /// An expression whose operators have at most the looseness of the place.
 #[cycle(nesting)]
-#[tactic(auto, using(crate::proofs::TurnLemmas::level_zero, crate::proofs::TurnLemmas::level_one, crate::proofs::TurnLemmas::level_up))]
+#[tactic(auto, using(crate::proofs::LevelLemmas::level_zero, crate::proofs::LevelLemmas::level_one, crate::proofs::LevelLemmas::level_up))]
 pub fn level(alloc: Global, cursor: &mut Cursor<'_, '_>, at: At) -> Result<Expression, Fault>
     requires shallow { at.depth ≤ 64 }
     requires loosest { at.loose ≤ 7 }
@@ -98,7 +97,7 @@ pub fn link(alloc: Global, cursor: &mut Cursor<'_, '_>, at: At) -> Result<Option
 }
 
 /// Operands with the operators between them, or one operand alone.
-#[tactic(auto, using(crate::proofs::TurnLemmas::alone, crate::proofs::TurnLemmas::chained))]
+#[tactic(auto, using(crate::proofs::LevelLemmas::alone, crate::proofs::LevelLemmas::chained))]
 fn chain(alloc: Global, first: Expression, rest: Vec<Link>) -> Result<Expression, AllocError>
     ensures { IfOk result (λ e. expr_value e ≡ spec.chain_with (expr_value first) (map link_value rest.items)) }
 {
@@ -156,7 +155,7 @@ fn primary(alloc: Global, cursor: &mut Cursor<'_, '_>, depth: usize) -> Result<E
 
 /// `"(" expr ")"`, where as many parentheses may stand inside each other.
 #[cycle(nesting)]
-#[tactic(auto, using(crate::proofs::TurnLemmas::nesting))]
+#[tactic(auto, using(crate::proofs::LevelLemmas::nesting))]
 fn parenthesized(
     alloc: Global,
     cursor: &mut Cursor<'_, '_>,
@@ -194,7 +193,7 @@ fn between_parentheses(
 
 /// `"active" "(" NAME [args] ")"`, where as many parentheses may stand inside each other.
 #[cycle(nesting)]
-#[tactic(auto, using(crate::proofs::TurnLemmas::nesting))]
+#[tactic(auto, using(crate::proofs::LevelLemmas::nesting))]
 fn active(alloc: Global, cursor: &mut Cursor<'_, '_>, depth: usize) -> Result<Expression, Fault>
     requires { depth ≤ 64 }
     ensures { Reads expr_value ((spec.readers depth).active cursor.old) result cursor.new }
@@ -250,7 +249,7 @@ fn active_with(word: Spelling, timer: Name, values: Vec<Expression>) -> Expressi
 
 /// `[args]` inside `active`, where the parentheses count.
 #[cycle(nesting)]
-#[tactic(auto, using(crate::proofs::TurnLemmas::nesting))]
+#[tactic(auto, using(crate::proofs::LevelLemmas::nesting))]
 fn inner_arguments(
     alloc: Global,
     cursor: &mut Cursor<'_, '_>,

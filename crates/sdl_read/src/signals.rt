@@ -3,13 +3,12 @@
 ghost use Rattle.std.specs.Prelude.{◌≡◌, map};
 ghost use Rattle.sdl_tree.specs.Views.{item_value, signal_list_value, signal_set_value, signal_value};
 ghost use Rattle.sdl_read.specs.Parts as spec;
-ghost use Rattle.sdl_read.specs.Reading.{separated};
-ghost use Rattle.sdl_read.specs.Reads.{Reads};
+ghost use Rattle.sdl_cursor.specs.Reading.{separated};
+ghost use Rattle.sdl_cursor.specs.Reads.{Reads};
 
-use crate::cursor::Cursor;
-use crate::fault::Fault;
-use crate::lists::{At, Production, separated};
 use crate::parts::{end, sorts};
+use crate::place::At;
+use sdl_cursor::{Cursor, Fault, Production, separated};
 use sdl_tree::{Mark, SignalDefinition, SignalListDefinition, SignalListItem, SignalSet};
 use std::alloc::Global;
 

@@ -3,9 +3,9 @@
 use crate::advice::Advice;
 use crate::excerpt::Excerpt;
 use crate::sentence::left_out::left_out_sentence;
+use sdl_cursor::Wanted;
 use sdl_lex::LexError;
 use sdl_parse::ParseError;
-use sdl_read::fault::Wanted;
 
 /// What is said of a text that is no specification, where this is shown of it.
 pub fn parse_advice<'t>(error: &'t ParseError, shown: &Option<Excerpt<'t>>) -> Advice<'t> {

@@ -1,7 +1,7 @@
 use Rattle.std.proofs.Common.{arith, ◌<◌, ◌≤◌, length}
-use Rattle.sdl_read.proofs.Grammar.{words_of}
-use Rattle.sdl_read.proofs.WordLemmas.{opened, read_on, slices_after}
-use Rattle.sdl_read.proofs.word.placed_words.Goals as goal
+use Rattle.sdl_tree.specs.Words.{words_of}
+use Rattle.sdl_cursor.proofs.WordLemmas.{opened, read_on, slices_after}
+use Rattle.sdl_cursor.proofs.word.placed_words.Goals as goal
 
 pub moved-place-requires-clause-within : goal.moved-place-requires-clause-within
 moved-place-requires-clause-within c =

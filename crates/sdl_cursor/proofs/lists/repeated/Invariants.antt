@@ -1,6 +1,6 @@
 use Rattle.std.proofs.Common.{◌≡◌, ◌-◌, map}
-use Rattle.sdl_read.proofs.Grammar.{repeated, repeated_from}
-use Rattle.sdl_read.proofs.lists.repeated.Given as goal
+use Rattle.sdl_cursor.specs.Reading.{repeated, repeated_from}
+use Rattle.sdl_cursor.proofs.lists.repeated.Given as goal
 
 abbrev pub invariant-loop-turn : goal.invariant-loop-turn
 invariant-loop-turn g l =

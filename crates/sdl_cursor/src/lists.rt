@@ -1,43 +1,20 @@
 //! Lists of anything that can be read.
 
 ghost use Rattle.std.specs.Prelude.{◌≡◌, map, option_map};
-ghost use Rattle.sdl_read.specs.Reader.{IsReader};
-ghost use Rattle.sdl_read.specs.Reading as spec;
-ghost use Rattle.sdl_read.specs.Reads.{Reads};
+ghost use Rattle.sdl_cursor.specs.Reader.{IsReader};
+ghost use Rattle.sdl_cursor.specs.Reading as spec;
+ghost use Rattle.sdl_cursor.specs.Reads.{Reads};
 
 use crate::cursor::Cursor;
 use crate::fault::Fault;
 use sdl_tree::Mark;
 use std::alloc::Global;
 
-/// A place in the grammar: all that the reading of an item depends on besides the words.
-#[derive(Clone, Copy, Debug)]
-pub struct At {
-    /// How many parentheses and decisions may stand inside each other.
-    pub depth: usize,
-    /// The looseness of the weakest operators that may stand in an expression.
-    pub loose: usize,
-}
-
-/// How many parentheses and decisions may stand inside each other, which bounds the stack.
-pub const LIMIT: usize = 64;
-
-/// The looseness of the weakest operators. A primary has 0, and a unary operator 1.
-pub const LOOSEST: usize = 7;
-
-impl At {
-    /// Inside nothing.
-    pub const OUTERMOST: At = At {
-        depth: LIMIT,
-        loose: LOOSEST,
-    };
-}
-
 /// What a value of type `P` is read from at a place of this type. It has no functions, so that it stands in no cycle of
-/// calls: a list is given the function that reads its items. A crate that reads types of another crate has a type of
-/// places of its own.
+/// calls: a list is given the function that reads its items. Each crate that reads values has a type of places of its
+/// own.
 pub trait Production<P> {
-    ghost use Rattle.sdl_read.specs.Reading.{Parser};
+    ghost use Rattle.sdl_cursor.specs.Reading.{Parser};
 
     ghost Node: { Type 0 };
 
@@ -49,7 +26,7 @@ pub trait Production<P> {
 /// What a value of type `P` is read from at a place of this type, if it begins where it is asked for.
 pub trait Perhaps<P> {
     ghost use Rattle.std.specs.Prelude.{Option};
-    ghost use Rattle.sdl_read.specs.Reading.{Parser};
+    ghost use Rattle.sdl_cursor.specs.Reading.{Parser};
 
     ghost Node: { Type 0 };
 

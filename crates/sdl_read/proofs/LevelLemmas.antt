@@ -1,23 +1,10 @@
--- How loops, levels and chains of the code go on as those of the reading do.
+-- How levels and chains of the code go on as those of the reading do.
 use Rattle.std.proofs.lemmas.Grind.{common_steps}
-use Rattle.sdl_read.proofs.Grammar.{Parser, Words, repeated_from, ◌≡◌, ℕ, suc, ◌+◌, ◌-◌, ◌<◌, ◌≤◌, List, [], ◌∷◌, ◌++◌, map, Option, Ok, ap, refl, arith, Deep, in_parentheses, Readers, readers, level, primary, signed, chain, paren_of, active_of, deep_active, no_args, expr, Err, sym, ◌∙◌, Expr, Chain, links_of, expr_value, chain_value, link_value, chain_with, length, Vec, Global}
+use Rattle.sdl_read.proofs.Grammar.{Words, ◌≡◌, ℕ, suc, ◌-◌, ◌<◌, ◌≤◌, List, [], ◌∷◌, map, ap, refl, arith, Deep, in_parentheses, Readers, readers, level, primary, signed, chain, paren_of, active_of, deep_active, no_args, expr, Err, sym, ◌∙◌, Expr, Chain, links_of, expr_value, chain_value, link_value, chain_with, length, Vec, Global}
 use Rattle.sdl_tree.specs.declared.expressions.Chain.{roll-Chain}
 use Rattle.sdl_tree.specs.declared.expressions.Expression.{Expression}
 use Rattle.sdl_tree.specs.declared.expressions.Link.{Link}
 use Rattle.sdl_tree.proofs.ViewLemmas.{chained_value}
-
-pub map_push : {A B : Type 0} (f : A → B) (xs : List A) (x : A) → map f (xs ++ x ∷ []) ≡ map f xs ++ f x ∷ []
-map_push f [] x = refl
-map_push f (y ∷ ys) x = ap (λ zs. f y ∷ zs) (map_push f ys x)
-
-pub repeated_on : {A : Type 0} (p : Parser (Option A)) (found : List A) (i : Words) (n at : ℕ) → at < n → repeated_from p (n - at) found i ≡ repeated_from p (suc (n - (at + 1))) found i
-repeated_on p found i n at below = let turn : n - at ≡ suc (n - (at + 1)) = omega arith in ap (λ k. repeated_from p k found i) turn
-
-pub repeated_off : {A : Type 0} (p : Parser (Option A)) (found : List A) (i : Words) (n at : ℕ) → n ≤ at → repeated_from p (n - at) found i ≡ Ok (found, i)
-unfolding repeated_from
-repeated_off p found i n at done = let none : n - at ≡ 0 = omega arith in ap (λ k. repeated_from p k found i) none
-
-pub ruleset turning = (common_steps, repeated_on, repeated_off, map_push)
 
 -- ---- levels, where the code counts down to the one below
 

@@ -4,7 +4,7 @@ ghost use Rattle.std.specs.Prelude.{◌≡◌, ◌≤◌, ◌++◌, All, IfOk, l
 ghost use Rattle.std.specs.Str.{IsAscii};
 ghost use Rattle.sdl_lex.specs.Place.{place_after};
 ghost use Rattle.sdl_lex.specs.Token.{InOrder, IsSlice};
-ghost use Rattle.sdl_read.specs.PlacedWord.{word_of_placed};
+ghost use Rattle.sdl_cursor.specs.PlacedWord.{word_of_placed};
 ghost use Rattle.sdl_tree.specs.Words as words;
 
 use sdl_lex::{Kind, Place, Token};

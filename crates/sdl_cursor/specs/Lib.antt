@@ -1,0 +1,5 @@
+pub mod PlacedWord
+pub mod Reader
+pub mod Reading
+pub mod Reads
+pub mod Wanted
