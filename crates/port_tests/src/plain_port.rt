@@ -8,7 +8,7 @@ use std::process::Abort;
 const INPUTS: [Class; 2] = [Class::Input, Class::Input];
 
 /// What a take gave, by the name and the one value of the signal or timer.
-#[derive(Clone, Copy, Debug, PartialEq)]
+#[derive(Clone, Copy, PartialEq)]
 enum Told {
     Consumed(u32, Option<Value>),
     Discarded(u32, Option<Value>),
@@ -74,7 +74,7 @@ fn expect_takes(
     let selection = Selection::new(classes.to_vec(alloc).expect(rt, "memory"));
     for told_there in expected {
         let taken = port.take(&selection);
-        assert_eq!(rt; summary(&taken), *told_there);
+        assert!(rt; summary(&taken) == *told_there);
     }
 }
 

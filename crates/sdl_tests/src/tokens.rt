@@ -28,10 +28,10 @@ static TOKENS: [(Kind, usize, usize); 15] = [
 #[test]
 fn finds_each_kind_of_token(rt: HostRuntime) -> Result<(), Fail> {
     let tokens = lex(rt.alloc(), TEXT)?;
-    assert_eq!(rt; tokens.len(), TOKENS.len());
+    assert!(rt; tokens.len() == TOKENS.len());
     for (token, (kind, start, end)) in tokens.iter().zip(&TOKENS) {
-        assert_eq!(rt; token.kind, *kind, "at {start}");
-        assert_eq!(rt; (token.start, token.end), (*start, *end));
+        assert!(rt; token.kind == *kind, "at {start}");
+        assert!(rt; token.start == *start && token.end == *end, "at {start}");
     }
     Ok(())
 }
@@ -55,7 +55,7 @@ static FAULTS: [(&[u8], &str); 8] = [
 fn tells_the_first_fault_and_its_place(rt: HostRuntime) -> Result<(), Fail> {
     for (text, line) in &FAULTS {
         let told = told(rt.alloc(), text)?;
-        assert_eq!(rt; told.as_str(), *line);
+        assert!(rt; told.as_str() == *line, "{line}");
     }
     Ok(())
 }
@@ -64,7 +64,7 @@ fn tells_the_first_fault_and_its_place(rt: HostRuntime) -> Result<(), Fail> {
 fn reads_names_of_255_bytes(rt: HostRuntime) -> Result<(), Fail> {
     let name = [b'a'; 256];
     let told = told(rt.alloc(), &name)?;
-    assert_eq!(rt; told.as_str(), "lex 1:1 NameTooLong");
+    assert!(rt; told.as_str() == "lex 1:1 NameTooLong");
     assert!(rt; lex(rt.alloc(), &name[1..]).is_ok());
     Ok(())
 }
@@ -80,9 +80,9 @@ fn told(alloc: Global, text: &[u8]) -> Result<String, AllocError> {
 #[test]
 fn reads_a_mebibyte_and_no_more(rt: HostRuntime) -> Result<(), Fail> {
     let mut text = vec![in rt.alloc(); b' '; 1_048_576]?;
-    assert_eq!(rt; lex(rt.alloc(), &text)?.len(), 0);
+    assert!(rt; lex(rt.alloc(), &text)?.is_empty());
     text.push(b'#')?;
-    assert_eq!(rt; lex(rt.alloc(), &text).err(), Some(LexError::TooLong));
+    assert!(rt; lex(rt.alloc(), &text).err() == Some(LexError::TooLong));
     Ok(())
 }
 
@@ -91,11 +91,8 @@ fn counts_lines_by_lf_alone(rt: HostRuntime) -> Result<(), Fail> {
     let text = b"a\r\n\nbc";
     let places = [(0, 1, 1), (2, 1, 3), (3, 2, 1), (4, 3, 1), (6, 3, 3)];
     for (offset, line, column) in places {
-        assert_eq!(rt;
-            place_of(text, offset),
-            Place { line, column },
-            "at {offset}"
-        );
+        let place = Place { line, column };
+        assert!(rt; place_of(text, offset) == place, "at {offset}");
     }
     Ok(())
 }
@@ -120,7 +117,7 @@ static LINES: [(LexError, &str); 7] = [
 fn writes_the_line_of_a_refusal(rt: HostRuntime) -> Result<(), Fail> {
     for (error, line) in &LINES {
         let written = format!(in rt.alloc(); "{error}")?;
-        assert_eq!(rt; written.as_str(), *line);
+        assert!(rt; written.as_str() == *line, "{line}");
     }
     Ok(())
 }
@@ -128,10 +125,7 @@ fn writes_the_line_of_a_refusal(rt: HostRuntime) -> Result<(), Fail> {
 #[test]
 fn has_a_place_but_for_want_of_memory(rt: HostRuntime) {
     for (error, line) in &LINES {
-        assert_eq!(rt;
-            error.place().is_none(),
-            *error == LexError::Memory,
-            "{line}"
-        );
+        let is_placed = error.place().is_some();
+        assert!(rt; is_placed == (*error != LexError::Memory), "{line}");
     }
 }
