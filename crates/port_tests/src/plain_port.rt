@@ -155,62 +155,83 @@ fn expire(
         .expect(rt, "memory")
 }
 
+/// Compares when the next timer is due.
+fn expect_due(rt: &impl Abort, port: &PlainPort, expected: Option<u64>) {
+    let due = port.next_due().map(|due| due.get());
+    assert!(rt; due == expected);
+}
+
+/// A port in which a timer is set for the time 10, for the first time.
+fn one_set(rt: &impl Abort, alloc: Global, timer: &TimerKey) -> PlainPort {
+    let mut port = PlainPort::new(alloc);
+    assert!(rt; set(rt, &mut port, timer, 10) == 1);
+    expect_due(rt, &port, Some(10));
+    port
+}
+
+/// Lets the timer of `one_set` expire too early, in time and once more. It is active all the while.
+fn expire_once(rt: &impl Abort, port: &mut PlainPort, timer: &TimerKey) {
+    for (at, expires) in [(9, false), (10, true), (11, false)] {
+        assert!(rt; expire(rt, port, timer, 1, 10, at) == expires);
+        assert!(rt; port.active(timer));
+    }
+}
+
 #[test]
 fn a_timer_is_active_until_its_signal_is_taken(rt: HostRuntime) {
-    let alloc = rt.alloc();
-    let mut port = PlainPort::new(alloc);
-    let timer = key(&rt, alloc, 1);
-    let arm = set(&rt, &mut port, &timer, 10);
-    assert!(rt; arm == 1 && port.next_due() == Some(Ticks::new(10)));
-    for (at, expires) in [(9, false), (10, true), (11, false)] {
-        assert!(rt; expire(&rt, &mut port, &timer, 1, 10, at) == expires);
-        assert!(rt; port.active(&timer));
-    }
-    assert!(rt; port.next_due().is_none());
+    let timer = key(&rt, rt.alloc(), 1);
+    let mut port = one_set(&rt, rt.alloc(), &timer);
+    expire_once(&rt, &mut port, &timer);
+    expect_due(&rt, &port, None);
     let expected = [consumed(0, 1), Told::Nothing];
-    expect_takes(&rt, alloc, &mut port, INPUTS, &expected);
+    expect_takes(&rt, rt.alloc(), &mut port, INPUTS, &expected);
     assert!(rt; !port.active(&timer));
 }
 
 #[test]
 fn a_reset_takes_the_waiting_signal_too(rt: HostRuntime) {
-    let alloc = rt.alloc();
-    let mut port = PlainPort::new(alloc);
-    let timer = key(&rt, alloc, 1);
-    let arm = set(&rt, &mut port, &timer, 10);
-    assert!(rt; expire(&rt, &mut port, &timer, arm, 10, 10));
-    put(&rt, alloc, &mut port, 1, 2);
+    let timer = key(&rt, rt.alloc(), 1);
+    let mut port = one_set(&rt, rt.alloc(), &timer);
+    assert!(rt; expire(&rt, &mut port, &timer, 1, 10, 10));
+    put(&rt, rt.alloc(), &mut port, 1, 2);
     port.reset(&timer);
     assert!(rt; !port.active(&timer));
     let expected = [consumed(1, 2), Told::Nothing];
-    expect_takes(&rt, alloc, &mut port, INPUTS, &expected);
+    expect_takes(&rt, rt.alloc(), &mut port, INPUTS, &expected);
+}
+
+/// Sets a timer three times, of which the second set's fuse alone expires, as long as it is the last one.
+fn set_thrice(rt: &impl Abort, port: &mut PlainPort, timer: &TimerKey) {
+    for (arm, due) in [(1, 10), (2, 20), (3, 20)] {
+        assert!(rt; set(rt, port, timer, due) == arm);
+        assert!(rt; !expire(rt, port, timer, 1, 10, 9));
+        assert!(rt; expire(rt, port, timer, 2, 20, 30) == (arm == 2));
+    }
 }
 
 #[test]
 fn a_set_ends_the_one_before(rt: HostRuntime) {
-    let alloc = rt.alloc();
-    let mut port = PlainPort::new(alloc);
-    let timer = key(&rt, alloc, 1);
-    for (arm, due) in [(1, 10), (2, 20), (3, 20)] {
-        assert!(rt; set(&rt, &mut port, &timer, due) == arm);
-        assert!(rt; !expire(&rt, &mut port, &timer, 1, 10, 9));
-        assert!(rt; expire(&rt, &mut port, &timer, 2, 20, 30) == (arm == 2));
-    }
-    expect_takes(&rt, alloc, &mut port, INPUTS, &[Told::Nothing]);
-    assert!(rt; port.next_due() == Some(Ticks::new(20)));
+    let timer = key(&rt, rt.alloc(), 1);
+    let mut port = PlainPort::new(rt.alloc());
+    set_thrice(&rt, &mut port, &timer);
+    expect_takes(&rt, rt.alloc(), &mut port, INPUTS, &[Told::Nothing]);
+    expect_due(&rt, &port, Some(20));
+}
+
+/// Resets the second of two timers, which is due first.
+fn reset_second(rt: &impl Abort, port: &mut PlainPort, first: &TimerKey, second: &TimerKey) {
+    expect_due(rt, port, Some(5));
+    port.reset(second);
+    assert!(rt; port.active(first) && !port.active(second));
+    expect_due(rt, port, Some(10));
 }
 
 #[test]
 fn keys_of_one_name_are_told_apart(rt: HostRuntime) {
-    let alloc = rt.alloc();
-    let mut port = PlainPort::new(alloc);
-    let (first, second) = (key(&rt, alloc, 1), key(&rt, alloc, 2));
-    set(&rt, &mut port, &first, 10);
+    let (first, second) = (key(&rt, rt.alloc(), 1), key(&rt, rt.alloc(), 2));
+    let mut port = one_set(&rt, rt.alloc(), &first);
     set(&rt, &mut port, &second, 5);
-    assert!(rt; port.next_due() == Some(Ticks::new(5)));
-    port.reset(&second);
-    assert!(rt; port.active(&first) && !port.active(&second));
-    assert!(rt; port.next_due() == Some(Ticks::new(10)));
+    reset_second(&rt, &mut port, &first, &second);
 }
 
 #[test]
