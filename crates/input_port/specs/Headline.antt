@@ -12,9 +12,9 @@ use Rattle.inbox.specs.declared.entry.Entry.TheVariants.{Signal, Timer}
 use Rattle.inbox.specs.declared.entry.Fuse.{Fuse}
 use Rattle.inbox.specs.declared.placed.Placed.{Placed}
 use Rattle.inbox.specs.Calls.{after_reset, after_stop, IsDrawn, Sets, TakesHere}
-use Rattle.input_port.specs.Calls.{Gathers, IsGathered, Meets}
+use Rattle.port_queue.specs.Calls.{Gathers, IsGathered, Meets}
 use Rattle.inbox.specs.Ends.{OwnerState}
-use Rattle.input_port.specs.Ends.{SenderState, IsKnowing}
+use Rattle.port_queue.specs.Ends.{SenderState, IsKnowing}
 use Rattle.inbox.specs.Put.{of, IsTimely}
 
 -- The headline, from the public contracts alone: each owner has a legal history of the standard's port of one thread, with just

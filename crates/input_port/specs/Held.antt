@@ -2,9 +2,11 @@
 use Rattle.std.specs.Prelude.{◌≡◌, true, false, Result, MatchResult}
 use Rattle.port_model.specs.declared.error.PortError.TheVariants.{Memory}
 use Rattle.port_model.specs.declared.refused.Refused.{Refused}
-use Rattle.input_port.specs.Ends.{FinishedState, RetiredState, SenderState}
+use Rattle.port_queue.specs.Ends.{FinishedState, SenderState}
+use Rattle.input_port.specs.Ends.{RetiredState}
 use Rattle.inbox.specs.Calls.{ComesBack, HasDrawn}
-use Rattle.input_port.specs.Calls.{Finishes, FinishesSince, Gathers, GathersSince, HasDrawnSince}
+use Rattle.port_queue.specs.Calls.{Gathers}
+use Rattle.input_port.specs.Calls.{Finishes, FinishesSince, GathersSince, HasDrawnSince}
 
 -- It leaves what waits in the port of an owner that was not stopped, or the entries drawn since the stop.
 pub record Leaves (old : RetiredState) (end : FinishedState) : Type 0 where

@@ -4,10 +4,11 @@
 ghost use Rattle.std.specs.Prelude.{◌≡◌, [], true, length};
 ghost use Rattle.input_port.specs.Words.{signals_drawn, DrainIs, GatherHereIs, HasDrawnHere, IsKnowing, LeaveIs};
 
-use crate::drawer::{Drawer, refused};
-use crate::{Finished, Owner, Port, Sender, since};
+use crate::{Owner, since};
 use inbox::{Entry, Fuse, Inbox, Refused};
 use port_model::{PortError, Selection, Taken};
+use port_queue::refused::refused;
+use port_queue::{Drawer, Finished, Port, Sender};
 use port_values::{Ticks, TimerKey};
 use std::marker::Model;
 use std::sync::Wait;

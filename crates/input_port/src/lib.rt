@@ -4,30 +4,20 @@
 //! A port is a queue that all threads share and a plain port that its owner alone has. Senders push signals and
 //! expiries into the queue; the owner draws them, puts each into its plain port in turn, and takes from there. At the
 //! end what is left comes back just as it was put. `laws` has what follows from the contracts of an owner's calls for
-//! its whole life. `specs/Rule.antt` has the rule over what the queue holds and over what each sender, the owner and
-//! the desk know. It stands at every moment, and each call is an atomic step that keeps it. `Owner::stop` consumes the
-//! owner: a take, set or reset after it is a use of a moved value, and does not compile.
+//! its whole life. The queue with its rule, those who put into it and what draws from it stand in `port_queue`; here
+//! stand the owner over these, as long as it lives and after its stop, and the making of a port. `Owner::stop` consumes
+//! the owner: a take, set or reset after it is a use of a moved value, and does not compile.
 #![tactic(auto)]
 
 pub mod birth;
-mod desk;
-mod drawer;
-mod finished;
 mod held;
 pub mod laws;
 mod owner;
 mod retired;
-mod rule;
-mod sender;
-mod shared;
 mod since;
-mod steps;
 
 pub use birth::NewPort;
-pub use desk::Desk;
-pub use finished::Finished;
 pub use held::Held;
 pub use owner::Owner;
+pub use port_queue::{Desk, Finished, Port, Sender};
 pub use retired::Retired;
-pub use sender::Sender;
-pub use shared::Port;

@@ -4,11 +4,11 @@
 ghost use Rattle.std.specs.Prelude.{◌≡◌, ◌↔◌, [], true, None, length, IfErr, IfOk, IsErrOf};
 ghost use Rattle.input_port.specs.Words.{after_reset, after_stop, due_times, is_active, left_with, newborn, owner, signals_drawn, AreWaiting, ComesBack, DrainIs, FinishIs, GatherIs, HasDrawn, IsKnowing, IsLeast, MeetIs, MOST_SETS, SetIs, TakeIs};
 
-use crate::drawer::{Drawer, refused};
-use crate::rule::Pass;
-use crate::{Finished, Port, Retired, Sender};
+use crate::Retired;
 use inbox::{Entry, Fuse, Refused};
 use port_model::{PortError, Selection, Taken};
+use port_queue::refused::refused;
+use port_queue::{Drawer, Finished, Pass, Port, Sender};
 use port_values::{Ticks, TimerKey};
 use std::alloc::Global;
 use std::marker::Model;

@@ -2,10 +2,10 @@
 ghost use Rattle.std.specs.Prelude.{◌≡◌, ◌<◌, ◌-◌, ◌++◌, map, vec_len, vec_capacity};
 ghost use Rattle.input_port.specs.Words.{entry_of, popped_list, DrainIs, GatherSinceIs, HasDrawnSince, Placed, PullSinceIs};
 
-use crate::drawer::{Drawer, refused};
-use crate::{Port, Sender};
 use inbox::{Entry, Placed, Refused};
 use port_model::PortError;
+use port_queue::refused::refused;
+use port_queue::{Drawer, Port, Sender};
 use std::sync::Wait;
 
 // Takes a sender in. For want of memory it comes back, and nothing changes.

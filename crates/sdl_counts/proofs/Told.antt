@@ -7,7 +7,7 @@ use Rattle.inbox.specs.Ends.{is_signal}
 use Rattle.inbox.specs.Put.{of}
 use Rattle.inbox.specs.declared.placed.Placed.{Placed}
 use Rattle.input_port.proofs.Counting.{counts_tell, no_fewer}
-use Rattle.input_port.proofs.PutLists.{of-append}
+use Rattle.port_queue.proofs.PutLists.{of-append}
 use Rattle.input_port.specs.Counts as counts
 use Rattle.input_port.specs.Counts.{AllIsDrawn as AreDrawn, Flow, FlowsInto, IsOfOne, put_by_all, sent_by, signals_in}
 use Rattle.port_values.specs.Same.{same_pid, same_pid-Decides}

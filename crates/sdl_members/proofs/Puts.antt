@@ -4,7 +4,7 @@ use Rattle.std.proofs.Common.{Result, Ok, Err, MatchResult}
 use Rattle.inbox.specs.Calls.{ComesBack}
 use Rattle.inbox.specs.declared.entry.Entry.TheVariants.{Signal, Timer}
 use Rattle.inbox.specs.declared.entry.Fuse.{Fuse}
-use Rattle.input_port.specs.Ends.{SenderState}
+use Rattle.port_queue.specs.Ends.{SenderState}
 use Rattle.port_values.specs.declared.item.Item.{Item}
 use Rattle.port_model.specs.declared.refused.Refused.{Refused}
 use Rattle.sdl_peers.proofs.SenderLemmas.{put_in, put_to-puts}

@@ -2,7 +2,7 @@
 use Rattle.std.proofs.Common.{◌≡◌, ◌∙◌, ap, append-nil, refl, sym, subst, ⊎_elim, [], ◌∷◌, ◌++◌}
 use Rattle.std.proofs.lemmas.List.Elements.{All-nil}
 use Rattle.inbox.specs.Put.{of}
-use Rattle.input_port.proofs.PutLists.{of-append}
+use Rattle.port_queue.proofs.PutLists.{of-append}
 use Rattle.input_port.specs.Counts.{signals_in}
 use Rattle.port_values.specs.declared.item.Item.{Item}
 use Rattle.port_values.specs.declared.pid.Pid.TheVariants.{Of}

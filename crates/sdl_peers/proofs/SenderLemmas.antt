@@ -10,10 +10,10 @@ use Rattle.inbox.specs.Calls.{ComesBack}
 use Rattle.inbox.specs.Put.{of}
 use Rattle.inbox.specs.declared.entry.Entry.{Entry}
 use Rattle.inbox.specs.declared.placed.Placed.{Placed}
-use Rattle.input_port.proofs.PutLists.{of_none, of_same}
-use Rattle.input_port.specs.Calls.{PutIs, Puts}
+use Rattle.port_queue.proofs.PutLists.{of_none, of_same}
+use Rattle.port_queue.specs.Calls.{PutIs, Puts}
 use Rattle.input_port.specs.Counts.{signal_before, signals_in}
-use Rattle.input_port.specs.Ends.{SenderState, sent_by}
+use Rattle.port_queue.specs.Ends.{SenderState, sent_by}
 use Rattle.port_values.specs.declared.item.Item.{Item}
 use Rattle.port_model.specs.declared.refused.Refused.{Refused}
 use Rattle.sdl_counts.proofs.Signals.{signals_in-append}

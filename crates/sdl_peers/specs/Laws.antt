@@ -2,7 +2,7 @@
 use Rattle.std.specs.Prelude.{◌≡◌, ◌⊎◌, ℕ, List, [], ◌∷◌, ◌++◌, length}
 use Rattle.inbox.specs.Put.{StartsWith}
 use Rattle.inbox.specs.declared.placed.Placed.{Placed}
-use Rattle.input_port.specs.Ends.{SenderState}
+use Rattle.port_queue.specs.Ends.{SenderState}
 use Rattle.port_values.specs.declared.item.Item.{Item}
 use Rattle.port_values.specs.declared.pid.Pid.{Pid}
 use Rattle.port_values.specs.declared.pid.Pid.TheVariants.{Of}

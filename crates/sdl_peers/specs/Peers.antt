@@ -6,9 +6,9 @@ use Rattle.std.specs.Option.{option_map_or}
 use Rattle.crossbeam_queue.specs.SegTies.{SegId}
 use Rattle.inbox.specs.declared.entry.Entry.{Entry}
 use Rattle.inbox.specs.Put.{of}
-use Rattle.input_port.specs.Calls.{Puts}
+use Rattle.port_queue.specs.Calls.{Puts}
 use Rattle.input_port.specs.Counts.{signals_in}
-use Rattle.input_port.specs.Ends.{SenderState}
+use Rattle.port_queue.specs.Ends.{SenderState}
 use Rattle.port_values.specs.declared.item.Item.{Item}
 use Rattle.port_values.specs.declared.pid.Pid.TheVariants.{Of}
 use Rattle.sdl_counts.specs.Rows.{EndsWith}

@@ -1,7 +1,7 @@
 -- The signals that are counted are those that are listed.
 use Rattle.std.proofs.Common.{◌∙◌, ap, length, Option}
 use Rattle.inbox.specs.Put.{of}
-use Rattle.input_port.specs.Ends.{SenderState}
+use Rattle.port_queue.specs.Ends.{SenderState}
 use Rattle.sdl_counts.proofs.Signals.{count_by-signals}
 use Rattle.sdl_peers.proofs.SenderLemmas.{put_in}
 use Rattle.sdl_peers.specs.Peers.{PeersState, put_to}

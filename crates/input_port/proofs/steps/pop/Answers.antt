@@ -1,5 +1,0 @@
-use Rattle.input_port.proofs.Moves.{pops, learns}
-use Rattle.input_port.proofs.steps.pop.Goals as goal
-
-pub pop_as-requires-clause-rule : goal.pop_as-requires-clause-rule
-pop_as-requires-clause-rule g c = (pops _ _ c.requires.rights, learns _ _ c.requires.rights)

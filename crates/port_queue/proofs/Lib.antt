@@ -1,0 +1,5 @@
+pub mod Drawing
+pub mod Meeting
+pub mod Moves
+pub mod Passes
+pub mod PutLists

@@ -1,0 +1,6 @@
+pub mod Calls
+pub mod Ends
+pub mod Rule
+pub mod Steps
+pub mod Views
+pub mod Words

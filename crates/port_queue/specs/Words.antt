@@ -1,0 +1,20 @@
+-- The words of the contracts and the proofs of a port's queue, from here and from the crates below.
+pub use Rattle.crossbeam_queue.specs.SegTies.{IsSegPassOf}
+pub use Rattle.inbox.specs.Calls.{after_draw, after_draws, after_reset, after_stop, known_after, AreNext, ComesBack, HasDrawn, IsDrawn, SetIs, TakeIs, TakesHere}
+pub use Rattle.inbox.specs.Ends.{is_signal, signals_drawn, OwnerState}
+pub use Rattle.inbox.specs.Left.{AreWaiting}
+pub use Rattle.inbox.specs.Put.{longer, of, one_to, shorter, AllThere, Apart, IsDueBy, IsTimely, StartsWith}
+pub use Rattle.inbox.specs.declared.entry.Entry.{Entry}
+pub use Rattle.inbox.specs.declared.entry.Entry.TheVariants.{Signal, Timer}
+pub use Rattle.inbox.specs.declared.placed.Gone.{Gone}
+pub use Rattle.inbox.specs.declared.placed.Placed.{Placed}
+pub use Rattle.port_queue.specs.Calls.{popped_list, DrainIs, GatherIs, IsGathered, MeetIs, PullIs, PutIs, Puts, TakesIn}
+pub use Rattle.port_queue.specs.Ends.{left_with, newborn, sent_by, signals_by, FinishedState, IsKnowing, IsOfOwner, IsOfSender, SenderState}
+pub use Rattle.port_queue.specs.Rule.{Book, EachView, Fits, FitsDesk, FitsOwner, FitsSender, IsGiven, IsGone, Kept}
+pub use Rattle.port_queue.specs.Steps.{Adds, Draws, IsFresh}
+pub use Rattle.port_queue.specs.Views.{desk, gathers, last_gathered, owner, owner_of, sender, sender_again, spent, whole, without_first, without_last, HasGathered}
+pub use Rattle.port_queue.specs.declared.rule.View.{View}
+pub use Rattle.port_model.specs.PlainPort.{armed_left}
+pub use Rattle.port_model.specs.Port.{PortState}
+pub use Rattle.port_model.specs.Timers.{armed_after, due_times, is_active, Armed, IsLeast}
+pub use Rattle.port_model.specs.declared.plain_port.TheConstants.{MOST_SETS}
