@@ -1,10 +1,5 @@
-pub mod Arming
-pub mod Beginning
-pub mod Census
-pub mod Changes
-pub mod Closing
-pub mod Entering
-pub mod Performing
+pub mod Places
 pub mod Refusals
+pub mod Report
 pub mod Steps
 pub mod Timing

@@ -12,6 +12,9 @@ use Rattle.sdl_courses.proofs.Made.{MakeNext, deeds_make}
 use Rattle.sdl_courses.proofs.Own.{later_none}
 use Rattle.sdl_courses.specs.Course.{AreBehaviours, Moved, Steps, is_transition}
 use Rattle.sdl_courses.specs.Global.{Global, after_acts, around, census_of, instance_at, with_instance}
+use Rattle.sdl_delivery.proofs.Census.{in_place}
+use Rattle.sdl_delivery.specs.Serial.{IsSerial, state_of}
+use Rattle.sdl_delivery.specs.declared.instances.Instances.{Instances}
 use Rattle.sdl_evaluation.specs.declared.identity.Identity.{Identity}
 use Rattle.sdl_evaluation.specs.declared.store.Store.{Store}
 use Rattle.sdl_interp.specs.Instance.{InstanceValue, IsAtRest, IsIdle, IsQuietAt, IsRunAs, Keeps, Moves, work_of}
@@ -27,11 +30,10 @@ use Rattle.sdl_runs.specs.Runs.{Runs, acts, hears, outside_of, still, turns, wai
 use Rattle.sdl_runs.specs.World as world
 use Rattle.sdl_runs.specs.World.{WorldValue}
 use Rattle.sdl_serial.specs.CourseLaws.{advances_one, stays}
-use Rattle.sdl_serial.proofs.Census.{in_place, set_there}
+use Rattle.sdl_serial.proofs.Places.{set_there}
 use Rattle.sdl_serial.specs.Meanings.{Meaning, meaning_at, nothing_due, turn_by}
 use Rattle.sdl_serial.proofs.Refusals.{counts_is, refused_acts}
-use Rattle.sdl_serial.specs.Serial.{Advances, IsSerial, Reaches, state_of}
-use Rattle.sdl_serial.specs.declared.instances.Instances.{Instances}
+use Rattle.sdl_serial.specs.Advances.{Advances, Reaches}
 use Rattle.sdl_steps.specs.Machine.{place_of}
 use Rattle.sdl_steps.specs.Work.{IsOf}
 use Rattle.sdl_steps.specs.declared.machine.Position.{Position}

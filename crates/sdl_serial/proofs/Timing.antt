@@ -3,10 +3,11 @@ use Rattle.std.proofs.Common.{◌≡◌, ◌+◌, ◌<◌, ◌≤◌, Bool, true
 use Rattle.inbox.specs.declared.entry.Fuse.{Fuse}
 use Rattle.sdl_courses.specs.Course.{Expired, Expires, Heard, Hears, IsNoFuseBefore}
 use Rattle.sdl_courses.specs.Global.{after_acts, expired, heard_acts}
+use Rattle.sdl_delivery.specs.Serial.{state_of}
+use Rattle.sdl_delivery.specs.declared.instances.Instances.{Instances}
 use Rattle.sdl_script.specs.declared.script.ScriptLine.{ScriptLine}
 use Rattle.sdl_serial.specs.CourseLaws.{advances_one}
-use Rattle.sdl_serial.specs.Serial.{Reaches, state_of}
-use Rattle.sdl_serial.specs.declared.instances.Instances.{Instances}
+use Rattle.sdl_serial.specs.Advances.{Reaches}
 use Rattle.sdl_sweeps.specs.Sweeps.{Moment, until_of}
 
 until_is : (begun : Bool) (clock : ℕ) → begun ≡ true → until_of begun clock ≡ clock + 1

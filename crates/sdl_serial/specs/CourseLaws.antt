@@ -2,8 +2,9 @@
 use Rattle.std.proofs.Common.{◌≡◌, ◌+◌, ℕ, List, [], ◌∷◌, ◌++◌, refl, inl, inr, ap, ◌∙◌, sym, subst, append_assoc, append-nil, arith}
 use Rattle.sdl_courses.specs.Course.{AreBehaviours, Course, EndsInTransition, Follows, Happening, IsTransition, begins, goes, transitions_of, transitions_of_one}
 use Rattle.sdl_courses.specs.Global.{Global}
-use Rattle.sdl_serial.specs.Serial.{Advances, Reaches, state_of}
-use Rattle.sdl_serial.specs.declared.instances.Instances.{Instances}
+use Rattle.sdl_delivery.specs.Serial.{state_of}
+use Rattle.sdl_delivery.specs.declared.instances.Instances.{Instances}
+use Rattle.sdl_serial.specs.Advances.{Advances, Reaches}
 use Rattle.sdl_sweeps.specs.Sweeps.{Moment}
 use Rattle.sdl_system.specs.Behaviour.{Behaviour}
 

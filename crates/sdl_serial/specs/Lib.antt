@@ -1,5 +1,4 @@
+pub mod Advances
 pub mod CourseLaws
-pub mod ErrorText
 pub mod Meanings
-pub mod Serial
 pub mod Ticks

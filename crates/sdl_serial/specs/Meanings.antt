@@ -6,11 +6,11 @@ use Rattle.std.proofs.lemmas.List.Elements.{All-get_or}
 use Rattle.std.proofs.lemmas.Option.{get_or_from_slice_get, slice_get_within}
 use Rattle.sdl_courses.specs.Course.{AreBehaviours, IsMeant, IsNoLineBefore, IsNothingDue, IsTurn, RestBetween, Rests, begins_anew, goes_on, next_line}
 use Rattle.sdl_courses.specs.Global.{instance_at}
+use Rattle.sdl_delivery.specs.Serial.{IsOfSystem, IsSerial, state_of}
+use Rattle.sdl_delivery.specs.declared.instances.Instances.{Instances}
 use Rattle.sdl_interp.specs.Instance.{InstanceValue, IsAtRest}
 use Rattle.sdl_runs.specs.Behaves.{Behaves}
 use Rattle.sdl_script.specs.declared.script.ScriptLine.{ScriptLine}
-use Rattle.sdl_serial.specs.Serial.{IsOfSystem, IsSerial, state_of}
-use Rattle.sdl_serial.specs.declared.instances.Instances.{Instances}
 use Rattle.sdl_sweeps.specs.Sweeps as sweeps
 use Rattle.sdl_sweeps.specs.Sweeps.{IsTurnBy, Moment, NoneBetween, until}
 use Rattle.sdl_system.specs.Behaviour.{Behaviour}

@@ -2,11 +2,12 @@
 use Rattle.std.proofs.Common.{◌∙◌, ℕ, List, All, ap, arith, refl}
 use Rattle.port_model.specs.Timers.{earlier}
 use Rattle.sdl_courses.specs.Course.{Ticked, Ticks}
+use Rattle.sdl_delivery.specs.Serial.{IsSerial, state_of}
+use Rattle.sdl_delivery.specs.declared.instances.Instances.{Instances}
 use Rattle.sdl_interp.specs.Instance.{IsAtRest}
 use Rattle.sdl_serial.specs.CourseLaws.{advances_one}
 use Rattle.sdl_serial.specs.Meanings.{all_rest, next_same, nothing_due}
-use Rattle.sdl_serial.specs.Serial.{IsSerial, Reaches, state_of}
-use Rattle.sdl_serial.specs.declared.instances.Instances.{Instances}
+use Rattle.sdl_serial.specs.Advances.{Reaches}
 use Rattle.sdl_sweeps.specs.Sweeps.{IsTick, Moment, ticked}
 
 pub tick_reaches : (last time : ℕ) (awake : List ℕ) (m : Moment) (a : Instances) → IsSerial awake a

@@ -5,10 +5,9 @@ ghost use Rattle.sdl_courses.specs.Course.{AreBehaviours};
 ghost use Rattle.sdl_courses.specs.Report.{IsSerialReport};
 ghost use Rattle.sdl_system.specs.Behaviour.{Behaviour};
 
-use crate::error::RunError;
-use crate::instances::Instances;
 use crate::stepping::Stepping;
 use port_values::Ticks;
+use sdl_delivery::{Instances, RunError};
 use sdl_record::Report;
 use sdl_script::Script;
 use sdl_sweeps::{Agents, Board, Sweeps};

@@ -1,9 +1,9 @@
 //! What the sweeps of a run ask of its instances.
 
-use crate::error::RunError;
-use crate::instances::Instances;
+use crate::step::step;
 use inbox::Fuse;
 use sdl_around::Act;
+use sdl_delivery::{Instances, RunError};
 use sdl_script::ScriptLine;
 use sdl_sweeps::{Agents, Board, Made};
 use std::alloc::Global;
@@ -18,8 +18,9 @@ pub struct Stepping<'s> {
 
 impl<'s> Agents for Stepping<'s> {
     ghost use Rattle.std.specs.Prelude.{All};
+    ghost use Rattle.sdl_delivery.specs.Serial.{IsSerial};
     ghost use Rattle.sdl_interp.specs.Instance.{IsAtRest};
-    ghost use Rattle.sdl_serial.specs.Serial.{IsSerial, Reaches};
+    ghost use Rattle.sdl_serial.specs.Advances.{Reaches};
     ghost use Rattle.sdl_serial.specs.CourseLaws.{reaches_on, reaches_same};
     ghost use Rattle.sdl_serial.specs.Meanings.{none_awake};
     ghost use Rattle.sdl_serial.specs.Ticks.{tick_reaches};
@@ -39,7 +40,7 @@ impl<'s> Agents for Stepping<'s> {
     }
 
     fn step(&mut self, alloc: Global, board: &mut Board, number: u32) -> Result<Made, RunError> {
-        self.instances.step(alloc, board, number, &mut self.spare)
+        step(&mut self.instances, alloc, board, number, &mut self.spare)
     }
 
     fn expire(&mut self, board: &mut Board, fuse: Fuse) -> Result<(), RunError> {

@@ -1,8 +1,8 @@
 use Rattle.std.proofs.Common.{◌≡◌, ◌∙◌, ap, inl, inr, subst, sym, List, ℕ}
 use Rattle.sdl_courses.specs.Global.{beginning}
-use Rattle.sdl_serial.proofs.Beginning.{begins_so}
-use Rattle.sdl_serial.proofs.Closing.{IsWhole, report}
-use Rattle.sdl_serial.specs.Serial.{IsSerial, Reaches, state_of}
+use Rattle.sdl_delivery.specs.Serial.{IsSerial, state_of}
+use Rattle.sdl_serial.proofs.Report.{IsWhole, begins_so, report}
+use Rattle.sdl_serial.specs.Advances.{Reaches}
 use Rattle.sdl_serial.proofs.run.run_serial.Goals as goal
 use Rattle.sdl_serial.proofs.run.run_serial.Goals.{else-whole, then-whole}
 use Rattle.sdl_sweeps.specs.Sweeps.{Moment, moment_of}
