@@ -107,7 +107,7 @@ enum Look {
 }
 
 /// What the mark of a word says, if it is one, inside this many parentheses of the clause.
-#[tactic(auto, unfolding(crate::specs::Clauses::look_at, sdl_read::specs::Reading::same_mark))]
+#[tactic(auto, unfolding(crate::specs::Clauses::look_at, sdl_cursor::specs::Reading::same_mark))]
 fn look_at(inside: usize, mark: Option<Mark>) -> Look
     requires { inside < usize.MAX }
     ensures found { result ≡ spec.look_at inside mark }

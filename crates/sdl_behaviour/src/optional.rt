@@ -6,7 +6,7 @@ use sdl_cursor::{Cursor, PlacedWord, Word};
 use sdl_tree::{Mark, Spelling};
 
 /// Passes this mark, if it stands next.
-#[tactic(auto, unfolding(sdl_read::specs::Reading::expect, sdl_read::specs::Reading::same_mark, sdl_read::specs::Reading::sees))]
+#[tactic(auto, unfolding(sdl_cursor::specs::Reading::expect, sdl_cursor::specs::Reading::same_mark, sdl_cursor::specs::Reading::sees))]
 pub(crate) fn taken(cursor: &mut Cursor<'_, '_>, mark: Mark) -> Option<Spelling>
     ensures { Taken mark cursor.old result cursor.new }
 {

@@ -68,7 +68,7 @@ fn path(alloc: Global, cursor: &mut Cursor<'_, '_>) -> Result<ChannelPath, Fault
 }
 
 /// `point = "env" | NAME`
-#[tactic(auto, unfolding(crate::specs::Channels::point, sdl_read::specs::Reading::name, sdl_read::specs::Reading::sees_name))]
+#[tactic(auto, unfolding(crate::specs::Channels::point, sdl_cursor::specs::Reading::name, sdl_cursor::specs::Reading::sees_name))]
 fn point(alloc: Global, cursor: &mut Cursor<'_, '_>) -> Result<ChannelEnd, Fault>
     ensures { Reads end_value (spec.point cursor.old) result cursor.new }
 {

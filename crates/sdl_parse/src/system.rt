@@ -61,7 +61,7 @@ pub fn specification(
 }
 
 /// The end of the text.
-#[tactic(auto, unfolding(crate::specs::Systems::at_end, sdl_read::specs::Reading::front))]
+#[tactic(auto, unfolding(crate::specs::Systems::at_end, sdl_cursor::specs::Reading::front))]
 fn at_end(cursor: &mut Cursor<'_, '_>) -> Result<(), Fault>
     ensures { Reads (λ _. tt) (spec.at_end cursor.old) result cursor.new }
 {
