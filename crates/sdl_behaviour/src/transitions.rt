@@ -1,9 +1,13 @@
 //! Transitions: actions with their labels, decisions, and what ends them.
 
-ghost use Rattle.std.specs.Prelude.{◌≡◌, ◌≤◌, map, option_map};
+ghost use Rattle.std.specs.Prelude.{◌≡◌, ◌≤◌, Some, map, option_map};
 ghost use Rattle.sdl_tree.specs.Views.{action_value, answer_value, answer_part_value, ending_value, expr_value, name_value, next_state_value, statement_value, terminator_value, transition_value};
 ghost use Rattle.sdl_behaviour.specs.Transitions as spec;
+ghost use Rattle.sdl_cursor.specs.Reading.{◌⊗◌, behind, expect, made};
 ghost use Rattle.sdl_cursor.specs.Reads.{Reads};
+ghost use Rattle.sdl_read.specs.Expressions.{expr};
+ghost use Rattle.sdl_read.specs.Parts as part_readings;
+ghost use Rattle.sdl_tree.specs.declared.mark.Mark.TheVariants as mark;
 
 use crate::actions::{create, output, reset, task};
 use crate::answers::answer;
@@ -50,14 +54,28 @@ pub fn transition(
         }
         let label = label(alloc, cursor)?;
         if begins_terminator(cursor) {
-            let terminator = terminator(alloc, cursor)?;
-            let ending = TerminatorStatement { label, terminator };
-            return Ok(transition_with(actions, Some(ending)));
+            return ended(alloc, cursor, actions, label);
         }
         let action = action(alloc, cursor, depth)?;
         actions.push(ActionStatement { label, action })?;
     }
     Ok(transition_with(actions, None))
+}
+
+/// A terminator behind its label and the actions.
+pub fn ended(
+    alloc: Global,
+    cursor: &mut Cursor<'_, '_>,
+    actions: Vec<ActionStatement>,
+    label: Option<Name>,
+) -> Result<Transition, Fault>
+    ensures { let done = map statement_value actions.items in
+        let named = option_map name_value label in
+        Reads transition_value (made (λ last. spec.steps_with (done, Some (spec.ending_with named last))) spec.terminator cursor.old) result cursor.new }
+{
+    let terminator = terminator(alloc, cursor)?;
+    let ending = TerminatorStatement { label, terminator };
+    Ok(transition_with(actions, Some(ending)))
 }
 
 /// The node, made apart so that its view stands in a contract.
@@ -127,11 +145,39 @@ pub fn decision_around(
     requires { depth ≤ 64 }
     ensures { Reads action_value (spec.decision_of depth (spec.trans depth) cursor.old) result cursor.new }
 {
+    let (word, question) = asked(alloc, cursor, depth)?;
+    let parts = repeated(alloc, cursor, Inside { depth }, part)?;
+    let otherwise = otherwise(alloc, cursor, depth)?;
+    decision_closed(cursor, word, question, parts, otherwise)
+}
+
+/// `"decision" expr end`
+pub fn asked(
+    alloc: Global,
+    cursor: &mut Cursor<'_, '_>,
+    depth: usize,
+) -> Result<(Spelling, Expression), Fault>
+    requires { depth ≤ 64 }
+    ensures { Reads (λ asked. (asked.0, expr_value asked.1)) ((expect mark.Decision ⊗ part_readings.ended (expr depth)) cursor.old) result cursor.new }
+{
     let word = cursor.expect(Mark::Decision)?;
     let question = expression(alloc, cursor, depth)?;
     end(cursor)?;
-    let parts = repeated(alloc, cursor, Inside { depth }, part)?;
-    let otherwise = otherwise(alloc, cursor, depth)?;
+    Ok((word, question))
+}
+
+/// `"enddecision" end` behind all else of a decision.
+pub fn decision_closed(
+    cursor: &mut Cursor<'_, '_>,
+    word: Spelling,
+    question: Expression,
+    parts: Vec<AnswerPart>,
+    otherwise: Option<Transition>,
+) -> Result<Action, Fault>
+    ensures { Reads action_value (made
+        (λ _. spec.decision_with (word, (expr_value question, (map answer_part_value parts.items, option_map transition_value otherwise))))
+        (behind mark.EndDecision part_readings.end) cursor.old) result cursor.new }
+{
     cursor.expect(Mark::EndDecision)?;
     end(cursor)?;
     Ok(decision_with(word, question, parts, otherwise))
