@@ -3,7 +3,7 @@
 //! It has a node for each path of a channel, two for each block and each connect, and one for each process, so that it grows with
 //! the text and not with the pairs of joined channels. What is joined without a connect meets at the nodes of its block.
 
-ghost use Rattle.std.specs.Prelude.{◌≡◌, ◌↔◌, ℕ, get_or, IfOk, OnOk, false, not, ◌&&◌};
+ghost use Rattle.std.specs.Prelude.{◌≡◌, ◌<◌, ◌↔◌, ◌^◌, ℕ, get_or, IfOk, IsOk, OnOk, false, not, ◌&&◌};
 ghost use Rattle.sdl_channels.specs.Each.{ForSome};
 ghost use Rattle.sdl_channels.specs.Graph.{Adds, Leads};
 ghost use Rattle.sdl_channels.specs.Rows.{rows_of};
@@ -23,7 +23,7 @@ use sdl_system::{BlockId, ProcessId};
 use std::alloc::{AllocError, Global};
 
 /// A connect by its number, and its block.
-#[derive(Clone, Copy, Debug, PartialEq, Eq)]
+#[derive(Clone, Copy)]
 struct Joint {
     connect: u32,
     block: BlockId,
@@ -313,7 +313,8 @@ fn option_if(is: bool, node: Option<Node>) -> Option<Node>
 
 /// The number as one of 32 bits. There is no memory for more.
 pub fn counted(number: usize) -> Result<u32, AllocError>
-    ensures { IfOk result (λ counted. counted ≡ number) }
+    ensures same { IfOk result (λ counted. counted ≡ number) }
+    ensures fits { number < 2 ^ 32 → IsOk result }
 {
     match u32::try_from(number) {
         Ok(counted) => Ok(counted),

@@ -1,6 +1,6 @@
 //! The table of the nodes of a process, as far as it is made.
 
-ghost use Rattle.std.specs.Prelude.{◌≡◌, [], IfOk, OnOk, option_map};
+ghost use Rattle.std.specs.Prelude.{◌≡◌, ◌<◌, ◌^◌, [], IfOk, IsOk, OnOk, option_map};
 ghost use Rattle.sdl_nodes.specs.Built.{place_of, placed, table_of};
 ghost use Rattle.sdl_statements.specs.Contexts.{context_of};
 ghost use Rattle.sdl_tree.specs.Views.{name_value};
@@ -115,7 +115,8 @@ impl NodeTable {
 
 /// The number of the node behind so many.
 fn numbered(count: usize) -> Result<NodeId, AllocError>
-    ensures { IfOk result (λ number. number ≡ record { 0 = count }) }
+    ensures same { IfOk result (λ number. number ≡ record { 0 = count }) }
+    ensures fits { count < 2 ^ 32 → IsOk result }
 {
     match u32::try_from(count) {
         Ok(number) => Ok(NodeId(number)),

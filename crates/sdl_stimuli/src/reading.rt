@@ -1,6 +1,6 @@
 //! The parts of a process, in the order of the text.
 
-ghost use Rattle.std.specs.Prelude.{◌≡◌, ◌∷◌, ◌++◌, [], IfOk, OnOk, map, option_map};
+ghost use Rattle.std.specs.Prelude.{◌≡◌, ◌<◌, ◌∷◌, ◌++◌, ◌^◌, [], IfOk, IsOk, OnOk, length, map, option_map};
 ghost use Rattle.sdl_faults.specs.Faults.{least_of, told};
 ghost use Rattle.sdl_stimuli.specs.Context.{context_of};
 ghost use Rattle.sdl_stimuli.specs.Faulty.{condition_faults, expression_faults, inputs_faults, list_faults, stimulus_faults};
@@ -208,7 +208,8 @@ fn number_of_condition(
 
 /// The number of the condition that comes next. More than have numbers take more memory than there is.
 fn next_condition(conditions: &[Option<Expression>]) -> Result<ConditionId, AllocError>
-    ensures { IfOk result (λ number. number ≡ next_condition (conditions_listed conditions.now)) }
+    ensures same { IfOk result (λ number. number ≡ next_condition (conditions_listed conditions.now)) }
+    ensures fits { length conditions.now < 2 ^ 32 → IsOk result }
 {
     if conditions.len() > u32::MAX as usize {
         return Err(AllocError);

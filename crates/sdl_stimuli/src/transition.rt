@@ -1,6 +1,6 @@
 //! The numbers of transitions.
 
-ghost use Rattle.std.specs.Prelude.{◌≡◌, ◌+◌, IfOk};
+ghost use Rattle.std.specs.Prelude.{◌≡◌, ◌<◌, ◌+◌, ◌^◌, IfOk, IsOk};
 
 use std::alloc::AllocError;
 
@@ -12,7 +12,8 @@ pub struct TransitionId(pub u32);
 impl TransitionId {
     /// The next transition. More transitions than have numbers take more memory than there is.
     pub(crate) fn next(self) -> Result<TransitionId, AllocError>
-        ensures { IfOk result (λ next. next ≡ record { 0 = self.0 + 1 }) }
+        ensures same { IfOk result (λ next. next ≡ record { 0 = self.0 + 1 }) }
+        ensures fits { self.0 + 1 < 2 ^ 32 → IsOk result }
     {
         let number = self.0.checked_add(1).ok_or(AllocError)?;
         Ok(TransitionId(number))

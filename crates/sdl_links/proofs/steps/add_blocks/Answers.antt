@@ -18,7 +18,7 @@ loop-number-preserved c =
     (slice_get-get_or blocks n none within)
     c.loop-number.invariant
     (subst (λ k. Adds (BlockSteps c.args.network.now.is_implied c.args.source k) (rows_of c.loop-number.graph) (rows_of c.add_block.new.graph))
-    c.in_ok-counted.ensures c.in_ok-add_block.ensures)
+    c.in_ok-counted.ensures.same c.in_ok-add_block.ensures)
 
 pub returns : goal.returns
 returns c =

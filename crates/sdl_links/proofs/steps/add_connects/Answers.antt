@@ -15,7 +15,7 @@ loop-number-preserved c =
     (slice_get_read c.args.connects.now (length c.args.connects.now) n item refl c.loop-number-test.true c.index-connects-number.is)
     c.loop-number.invariant
     (subst (λ k. Adds (ConnectSteps c.args.paths.now k item) (rows_of c.loop-number.graph) (rows_of c.add_connect.new.graph))
-    c.in_ok-counted.ensures c.in_ok-add_connect.ensures)
+    c.in_ok-counted.ensures.same c.in_ok-add_connect.ensures)
 
 pub returns : goal.returns
 returns c =

@@ -19,7 +19,7 @@ loop-number-preserved c =
     (rows_of c.args.graph.now) (rows_of c.loop-number.graph) (rows_of c.add_path.new.graph)
     (slice_get-get_or c.args.paths.now n none c.loop-number-test.true)
     c.loop-number.invariant
-    (subst (λ k. Adds (PathSteps c.args.source (get_or named n false) k item) (rows_of c.loop-number.graph) (rows_of c.add_path.new.graph)) c.in_ok-counted.ensures
+    (subst (λ k. Adds (PathSteps c.args.source (get_or named n false) k item) (rows_of c.loop-number.graph) (rows_of c.add_path.new.graph)) c.in_ok-counted.ensures.same
     (subst (λ flag. Adds (PathSteps c.args.source flag c.in_ok-counted.field-0 item) (rows_of c.loop-number.graph) (rows_of c.add_path.new.graph)) c.flag_at.ensures
     c.in_ok-add_path.ensures))
 

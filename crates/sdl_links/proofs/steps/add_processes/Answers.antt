@@ -18,7 +18,7 @@ loop-number-preserved c =
     (slice_get-get_or c.args.processes.now n none c.loop-number-test.true)
     c.loop-number.invariant
     (subst (λ k. Adds (ProcessSteps c.args.network.now c.args.source k item) (rows_of c.loop-number.graph) (rows_of c.add_process.new.graph))
-    c.in_ok-counted.ensures c.in_ok-add_process.ensures)
+    c.in_ok-counted.ensures.same c.in_ok-add_process.ensures)
 
 pub returns : goal.returns
 returns c =

@@ -8,7 +8,7 @@ loop-number-preserved c = record {
   size = omega (arith, c.in_ok-push.ensures.len, c.loop-number.invariant.size);
   each = flags_more c.args.network.now c.loop-number.flags.items c.push.new.self.items c.loop-number.number c.is_named-is_named.result
       c.loop-number.invariant.size
-      (subst (λ m. (c.is_named-is_named.result ≡ true) ↔ ForSome c.args.network.now.connects.items (λ k connect. ForSome connect.inner.items (λ j path. path.0 ≡ m))) c.in_ok-counted.ensures
+      (subst (λ m. (c.is_named-is_named.result ≡ true) ↔ ForSome c.args.network.now.connects.items (λ k connect. ForSome connect.inner.items (λ j path. path.0 ≡ m))) c.in_ok-counted.ensures.same
       (subst (λ x. (c.is_named-is_named.result ≡ true) ↔ ForSome x (λ k connect. ForSome connect.inner.items (λ j path. path.0 ≡ c.in_ok-counted.field-0))) c.deref.ensures.value
       c.is_named-is_named.ensures))
       c.loop-number.invariant.each c.in_ok-push.ensures.items;

@@ -26,10 +26,10 @@ loop-number-preserved c = λ place.
     elim c.if-signals-ne0.branch [
       | then-signals-ne0+in_ok-push w ↦
           receiver_more c.args.arrivals.now place c.args.source c.loop-number.number c.loop-number.receivers.items c.if-signals-ne0.receivers.items one
-          (c.loop-number.invariant place) c.in_ok-counted.ensures just made (ap (λ x. x.items) w.receivers-is ∙ w.in_ok-push.ensures.items)
+          (c.loop-number.invariant place) c.in_ok-counted.ensures.same just made (ap (λ x. x.items) w.receivers-is ∙ w.in_ok-push.ensures.items)
       | else-signals-ne0 w ↦
           subst (λ x. IsListed c.args.arrivals.now place c.args.source (c.loop-number.number + 1) (listed_at place x.items)) (sym w.receivers-is)
           (listed_without c.args.arrivals.now place c.args.source c.loop-number.number (listed_at place c.loop-number.receivers.items) id
-          (c.loop-number.invariant place) c.in_ok-counted.ensures
+          (c.loop-number.invariant place) c.in_ok-counted.ensures.same
           (λ reaches. no_bit place (subst (λ mask. Bit mask place) w.if-signals-ne0.false (made reaches))))
     ]

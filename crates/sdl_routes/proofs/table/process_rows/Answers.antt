@@ -26,7 +26,7 @@ loop-number-preserved c =
           here
           (subst (λ items. IsRow network (record { end = at.Process (record { 0 = n }); scope = (get_or items n none).scope }) lists network.signals row) c.deref-process-items.ensures.value
           (subst (λ k. IsRow network (record { end = at.Process (record { 0 = k }); scope = (get_or c.deref-process-items.result.now n none).scope }) lists network.signals row)
-          c.in_ok-counted.ensures c.in_ok-row_from.ensures.row))
+          c.in_ok-counted.ensures.same c.in_ok-row_from.ensures.row))
           (ap (λ rows. map (λ row. row.items) rows) c.in_ok-push.ensures.items ∙ map-append (λ row. row.items) c.loop-number.rows.items (c.in_ok-row_from.field-0 ∷ []))
           (simp length-map (omega (arith, c.in_ok-push.ensures.len, simp length-map at c.loop-number.invariant.rows.size)));
     }

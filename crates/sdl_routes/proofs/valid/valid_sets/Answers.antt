@@ -18,7 +18,7 @@ loop-number-preserved c =
     let here : slice_get network.processes.items n ≡ Some (get_or network.processes.items n none) =
     slice_get-get_or network.processes.items n none (omega (arith, c.loop-number-test.true, ap length c.deref-process-items.ensures.value)) in
     valid_more network c.loop-number.valid.items c.push.new.self.items n id (get_or network.processes.items n none) c.in_ok-set.set c.loop-number.invariant
-    c.in_ok-counted.ensures here c.in_ok-set.ensures.places
+    c.in_ok-counted.ensures.same here c.in_ok-set.ensures.places
     (subst (λ items. (signal : SignalId) → signal.0 < network.signals → (is_member c.in_ok-set.set signal ≡ true) ↔ IsValid network id (get_or items n none) signal)
     c.deref-process-items.ensures.value c.in_ok-set.ensures.members)
     c.in_ok-push.ensures.items (omega (arith, c.in_ok-push.ensures.len, c.loop-number.invariant.size))

@@ -18,5 +18,5 @@ pub returns-clause-stands : goal.returns-clause-stands
 returns-clause-stands c =
     let stored = c.in_ok-number.ensures.stored in
     stands_at c.insert_full.new.self.keys c.in_ok-counted.field-0 stored.0 (λ l. l.items) c.args.list.items
-    (ap (λ n. slice_get c.insert_full.new.self.keys n) c.in_ok-counted.ensures ∙ stored.1)
+    (ap (λ n. slice_get c.insert_full.new.self.keys n) c.in_ok-counted.ensures.same ∙ stored.1)
     (pointwise_same _ (λ x y e. same_process x y (eqb-true x.0 y.0 e)) c.args.list.items stored.0.items stored.2)
