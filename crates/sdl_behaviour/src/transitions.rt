@@ -54,7 +54,7 @@ pub fn transition(
         }
         let label = label(alloc, cursor)?;
         if begins_terminator(cursor) {
-            return ended(alloc, cursor, actions, label);
+            return terminated(alloc, cursor, actions, label);
         }
         let action = action(alloc, cursor, depth)?;
         actions.push(ActionStatement { label, action })?;
@@ -63,7 +63,7 @@ pub fn transition(
 }
 
 /// A terminator behind its label and the actions.
-pub fn ended(
+pub fn terminated(
     alloc: Global,
     cursor: &mut Cursor<'_, '_>,
     actions: Vec<ActionStatement>,
