@@ -18,7 +18,7 @@ const HELP: &str = "What there is:
   finish  N timers expire, and the port ends";
 
 /// What is measured.
-#[derive(Clone, Copy, Debug, PartialEq, Eq)]
+#[derive(Clone, Copy)]
 pub enum Measure {
     Puts,
     Four,
@@ -62,7 +62,7 @@ impl Measure {
 }
 
 /// What the command line asks for.
-#[derive(Debug, Drop)]
+#[derive(Drop)]
 pub enum Request {
     Measure {
         measure: Measure,

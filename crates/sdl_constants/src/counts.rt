@@ -22,7 +22,7 @@ pub struct InstanceCounts {
 }
 
 /// What a part of the counts comes to.
-#[derive(Clone, Copy, Debug, PartialEq, Eq)]
+#[derive(Clone, Copy)]
 enum Part {
     LeftOut,
     /// A rule is broken in it, or it rests on a synonym in which one is.

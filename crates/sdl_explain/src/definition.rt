@@ -11,7 +11,7 @@ use sdl_tree::{Name, Tree};
 use std::alloc::{AllocError, Global};
 
 /// A name space.
-#[derive(Clone, Copy, Debug, PartialEq, Eq)]
+#[derive(Clone, Copy, PartialEq, Eq)]
 enum Space {
     Signals,
     SignalLists,

@@ -26,7 +26,7 @@ use sdl_system::{Continuous, Process, Reaction, Reception, StateId, StateTable, 
 use std::alloc::Global;
 
 /// Where a step has led, and whether it was a transition: the failure of a condition or a take is none.
-#[derive(Clone, Copy, Debug, PartialEq, Eq)]
+#[derive(Clone, Copy)]
 pub struct Led {
     pub to: Position,
     pub counts: bool,

@@ -27,7 +27,7 @@ pub struct PathEntry<'t> {
 }
 
 /// The numbers of the paths of a channel.
-#[derive(Clone, Copy, Debug, PartialEq, Eq)]
+#[derive(Clone, Copy)]
 pub struct ChannelPaths {
     pub first: PathId,
     pub second: Option<PathId>,

@@ -3,7 +3,7 @@
 use sdl_read::place::LIMIT;
 
 /// A place in a definition, inside of no parentheses and no decision.
-#[derive(Clone, Copy, Debug)]
+#[derive(Clone, Copy)]
 pub struct Defining {
     /// How many parentheses and decisions may stand inside each other there.
     pub depth: usize,

@@ -14,7 +14,7 @@ use sdl_system::ProcessId;
 use std::alloc::{AllocError, Global};
 
 /// Whom 64 signals from a source reach.
-#[derive(Debug, Drop)]
+#[derive(Drop)]
 pub(crate) struct Arrivals {
     masks: Vec<u64>,
 }

@@ -10,7 +10,6 @@ use sdl_system::ReceiversId;
 use std::alloc::{AllocError, Global};
 
 /// Receivers of 64 signals, and for each of the signals the number of the list of those to which it goes.
-#[derive(Debug)]
 pub(crate) struct Known {
     pub(crate) receivers: Vec<Receiver>,
     pub(crate) numbers: Vec<ReceiversId>,

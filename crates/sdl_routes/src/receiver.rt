@@ -14,7 +14,7 @@ use sdl_system::ProcessId;
 use std::alloc::{AllocError, Global};
 
 /// A process, and which of 64 signals go to it.
-#[derive(Clone, Copy, Debug, PartialEq, Eq)]
+#[derive(Clone, Copy, PartialEq, Eq)]
 pub(crate) struct Receiver {
     pub(crate) process: ProcessId,
     pub(crate) signals: u64,

@@ -12,7 +12,6 @@ use sdl_system::{Reach, ReceiversId};
 use std::alloc::Global;
 
 /// Whom 64 signals reach from a source, and for each of them the number of the list of its receivers.
-#[derive(Debug)]
 pub(crate) struct Word {
     pub(crate) arrivals: Arrivals,
     pub(crate) numbers: Vec<ReceiversId>,

@@ -7,7 +7,7 @@ use crate::ScriptError;
 use std::alloc::{AllocError, AllocFailed};
 
 /// The fault of a line whose number isn't known yet.
-#[derive(Clone, Copy, Debug, PartialEq, Eq)]
+#[derive(Clone, Copy)]
 pub enum Fault {
     Syntax,
     BackInTime,

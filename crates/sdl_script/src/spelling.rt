@@ -16,14 +16,14 @@ use std::alloc::Global;
 pub const LATEST_TIME: u64 = 1_000_000_000_000_000;
 
 /// A line that is no comment and not blank: `TIME [NAME [ "(" value {"," value} ")" ] [ "to" ("#" NUMBER | NAME) ]]`.
-#[derive(Debug, Drop)]
+#[derive(Drop)]
 pub struct Spelling<'a> {
     pub at: Ticks,
     pub signal: Option<SpelledSignal<'a>>,
 }
 
 /// The name of a signal, its values, and the receiver behind `to`, if one stands there.
-#[derive(Debug, Drop)]
+#[derive(Drop)]
 pub struct SpelledSignal<'a> {
     pub name: &'a str,
     pub values: Vec<SpelledValue>,
@@ -31,7 +31,7 @@ pub struct SpelledSignal<'a> {
 }
 
 /// A process by its name, or an instance by its number: None where 32 bits don't hold it.
-#[derive(Clone, Copy, Debug)]
+#[derive(Clone, Copy)]
 pub enum SpelledReceiver<'a> {
     Process(&'a str),
     Instance(Option<u32>),

@@ -7,7 +7,7 @@ use port_values::{Pid, Value};
 use sdl_system::Sort;
 
 /// A value as it is spelled. The sort of its place decides what it is there.
-#[derive(Clone, Copy, Debug)]
+#[derive(Clone, Copy)]
 pub enum SpelledValue {
     /// A number, None where 64 bits signed don't hold it.
     Number(Option<i64>),

@@ -56,7 +56,7 @@ pub fn make<P: Inbox, W: World>(
 }
 
 /// Where the flow goes on, or where the transition has ended.
-#[derive(Clone, Copy, Debug, PartialEq, Eq)]
+#[derive(Clone, Copy)]
 pub enum Onward {
     At(Option<NodeId>),
     Over(Position),

@@ -8,7 +8,7 @@ use crate::sweeps::Sweeps;
 use std::alloc::Global;
 
 /// Whose turn it is: the number of an instance, and how far the sweep goes in which it steps.
-#[derive(Clone, Copy, Debug)]
+#[derive(Clone, Copy)]
 pub struct Turn {
     pub number: u32,
     pub bound: u32,

@@ -7,7 +7,7 @@ use inbox::Fuse;
 use port_values::{Arm, Ticks};
 
 /// Where a fuse stands in due order: by its time, then by the number of its port, then by that of its set.
-#[derive(Clone, Copy, Debug, PartialEq, Eq, PartialOrd, Ord)]
+#[derive(Clone, Copy, PartialEq, Eq, PartialOrd, Ord)]
 pub struct Due {
     pub time: Ticks,
     pub pid: u32,
