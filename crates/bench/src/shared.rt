@@ -80,7 +80,8 @@ fn puts_by_one<R: Wait>(
 fn two_senders(desk: &mut Desk, port: &Port) -> Option<(Sender, Sender)>
     requires { desk.old.port ≡ port.now.queue }
     ensures desk { desk.new.port ≡ desk.old.port }
-    ensures senders { MatchOption result (Unit {0}) (λ pair. (pair.0.port ≡ port.now.queue) × (pair.1.port ≡ port.now.queue)) }
+    ensures senders { MatchOption result (Unit {0})
+        (λ pair. (pair.0.port ≡ port.now.queue) × (pair.1.port ≡ port.now.queue)) }
 {
     let first = desk.sender(port).ok()?;
     let second = desk.sender(port).ok()?;
@@ -163,8 +164,10 @@ fn raced<R: Threads + Wait + Sync>(
 /// The next four senders of a port, in pairs.
 fn four_senders(desk: &mut Desk, port: &Port) -> Option<((Sender, Sender), (Sender, Sender))>
     requires { desk.old.port ≡ port.now.queue }
-    ensures early { MatchOption result (Unit {0}) (λ pairs. (pairs.0.0.port ≡ port.now.queue) × (pairs.0.1.port ≡ port.now.queue)) }
-    ensures late { MatchOption result (Unit {0}) (λ pairs. (pairs.1.0.port ≡ port.now.queue) × (pairs.1.1.port ≡ port.now.queue)) }
+    ensures early { MatchOption result (Unit {0}) (λ pairs. (pairs.0.0.port ≡ port.now.queue)
+        × (pairs.0.1.port ≡ port.now.queue)) }
+    ensures late { MatchOption result (Unit {0}) (λ pairs. (pairs.1.0.port ≡ port.now.queue)
+        × (pairs.1.1.port ≡ port.now.queue)) }
 {
     let early = two_senders(desk, port)?;
     let late = two_senders(desk, port)?;

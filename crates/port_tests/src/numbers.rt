@@ -74,8 +74,10 @@ fn draw_by_four<R: Threads + Sync>(
     second: (Hand, Hand),
     times: u32,
 ) -> ((Hand, Hand), (Hand, Hand))
-    requires { (first.0.seat.table ≡ table.now.id) × (first.1.seat.table ≡ table.now.id) × (second.0.seat.table ≡ table.now.id) × (second.1.seat.table ≡ table.now.id) }
-    ensures { (result.0.0.seat.table ≡ table.now.id) × (result.0.1.seat.table ≡ table.now.id) × (result.1.0.seat.table ≡ table.now.id) × (result.1.1.seat.table ≡ table.now.id) }
+    requires { (first.0.seat.table ≡ table.now.id) × (first.1.seat.table ≡ table.now.id)
+        × (second.0.seat.table ≡ table.now.id) × (second.1.seat.table ≡ table.now.id) }
+    ensures { (result.0.0.seat.table ≡ table.now.id) × (result.0.1.seat.table ≡ table.now.id)
+        × (result.1.0.seat.table ≡ table.now.id) × (result.1.1.seat.table ≡ table.now.id) }
 {
     thread::join(
         rt,

@@ -69,8 +69,8 @@ pub fn processes_in<'t>(
     requires sets { AreSets joined.now.network.lists.items joined.now.network.signals
         joined.now.sets }
     ensures made { IfOk result (AreProcessesOr (survey_of tables.now declared.now figures.now joined.now)) }
-    ensures noted { OnOk result (NotesBodies (survey_of tables.now declared.now figures.now joined.now) (told faults.old)
-        (length (rows_of tables.now).processes) (told faults.new)) }
+    ensures noted { OnOk result (NotesBodies (survey_of tables.now declared.now figures.now joined.now)
+        (told faults.old) (length (rows_of tables.now).processes) (told faults.new)) }
 {
     let valid = valid_sets(alloc, &joined.network, &joined.sets)?;
     let made = each_process(alloc, tables, declared, figures, joined, valid, faults)?;
@@ -92,8 +92,8 @@ fn each_process<'t>(
         (length joined.now.network.processes.items) valid.items }
     ensures size { IfOk result (λ made. length made.items ≡ length (rows_of tables.now).processes) }
     ensures made { IfOk result (λ made. AreMade (survey_of tables.now declared.now figures.now joined.now) made.items) }
-    ensures noted { OnOk result (NotesBodies (survey_of tables.now declared.now figures.now joined.now) (told faults.old)
-        (length (rows_of tables.now).processes) (told faults.new)) }
+    ensures noted { OnOk result (NotesBodies (survey_of tables.now declared.now figures.now joined.now)
+        (told faults.old) (length (rows_of tables.now).processes) (told faults.new)) }
 {
     let mut made = Vec::new(alloc);
     for set in valid {
@@ -117,7 +117,8 @@ fn process_in<'t>(
 ) -> Result<Option<Process>, AllocError>
     requires known { AreKnown tables.now declared.now figures.now joined.now }
     requires within { place < length (rows_of tables.now).processes }
-    requires valid { IsValidSet (survey_of tables.now declared.now figures.now joined.now) (record { 0 = place }) valid }
+    requires valid { IsValidSet (survey_of tables.now declared.now figures.now joined.now)
+        (record { 0 = place }) valid }
     ensures made { IfOk result (IsMadeAt (survey_of tables.now declared.now figures.now joined.now) place) }
     ensures noted { OnOk result (NotesAt (survey_of tables.now declared.now figures.now joined.now) place
         (told faults.old) (told faults.new)) }

@@ -41,7 +41,8 @@ pub fn instance_counts<'t>(
     counts: &'t Option<Counts>,
     faults: &mut Faults<'t>,
 ) -> Result<Option<InstanceCounts>, AllocError>
-    ensures counts { IfOk result (λ found. found ≡ counts_in (scope_of scope.now) (option_map counts_value counts.now)) }
+    ensures counts { IfOk result (λ found. found ≡ counts_in (scope_of scope.now)
+        (option_map counts_value counts.now)) }
     ensures noted { OnOk result (told faults.new ≡ least_of (told faults.old)
         (counts_faults (scope_of scope.now) (option_map counts_value counts.now))) }
 {

@@ -17,8 +17,10 @@ use std::io::Write;
 /// Writes the report of a run.
 pub fn report<W: Write>(alloc: Global, run: &Run, writer: &mut W) -> Result<Outcome, TextFault>
     ensures how { IfOk result (λ how. how ≡ outcome_by run.now.report.whole) }
-    ensures ok { OnOk result (Appends (W.contents writer.old) (W.contents writer.new) (report_text run.now.system run.now.report)) }
-    ensures err { IfErr result (λ fault. BreaksOff fault (report_text run.now.system run.now.report) (W.contents writer.old) (W.contents writer.new)) }
+    ensures ok { OnOk result (Appends (W.contents writer.old) (W.contents writer.new)
+        (report_text run.now.system run.now.report)) }
+    ensures err { IfErr result (λ fault. BreaksOff fault (report_text run.now.system run.now.report)
+        (W.contents writer.old) (W.contents writer.new)) }
 {
     match write_report(alloc, &run.report, &run.system, writer) {
         Ok(()) if run.report.whole => Ok(Outcome::Whole),
@@ -45,7 +47,8 @@ pub fn refuse<W: Write>(
 ) -> Result<Outcome, TextFault>
     ensures how { IfOk result (λ how. how ≡ outcome_of refusal.now) }
     ensures ok { OnOk result (Appends (W.contents writer.old) (W.contents writer.new) (refusal_line refusal.now)) }
-    ensures err { IfErr result (λ fault. FailsToTell fault (refusal_line refusal.now) (W.contents writer.old) (W.contents writer.new)) }
+    ensures err { IfErr result (λ fault. FailsToTell fault (refusal_line refusal.now)
+        (W.contents writer.old) (W.contents writer.new)) }
 {
     if let Some(line) = fixed_line(refusal) {
         return write_as(refusal.outcome(), line, writer);

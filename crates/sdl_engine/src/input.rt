@@ -79,7 +79,8 @@ pub fn parts(input: &[u8]) -> (&[u8], &[u8])
 
 /// The first line with its end, and what follows it.
 fn first_line(text: &[u8]) -> Option<(&[u8], &[u8])>
-    ensures { MatchOption result (All (λ b. b ≢ 10) text.now) (λ split. IsLine split.0.now × (text.now ≡ split.0.now ++ split.1.now)) }
+    ensures { MatchOption result (All (λ b. b ≢ 10) text.now)
+        (λ split. IsLine split.0.now × (text.now ≡ split.0.now ++ split.1.now)) }
 {
     for (at, byte) in text.iter().enumerate() {
         if *byte == b'\n' {

@@ -21,8 +21,10 @@ pub fn run_text<R: Read, W: Write>(
     writer: &mut W,
     options: &Options,
 ) -> Result<Outcome, TextFault>
-    ensures ok { IfOk result (λ how. Written (R.remaining reader.old) options.now how (W.contents writer.old) (W.contents writer.new)) }
-    ensures err { IfErr result (λ fault. Faulted fault (R.remaining reader.old) options.now (W.contents writer.old) (W.contents writer.new)) }
+    ensures ok { IfOk result (λ how. Written (R.remaining reader.old) options.now how
+        (W.contents writer.old) (W.contents writer.new)) }
+    ensures err { IfErr result (λ fault. Faulted fault (R.remaining reader.old) options.now
+        (W.contents writer.old) (W.contents writer.new)) }
 {
     let input = read_input(alloc, reader)?;
     tell(alloc, &input, writer, options)
@@ -37,8 +39,10 @@ pub fn run_and_explain<R: Read, W: Write, N: Write>(
     notes: &mut N,
     options: &Options,
 ) -> Result<Outcome, TextFault>
-    ensures ok { IfOk result (λ how. Written (R.remaining reader.old) options.now how (W.contents writer.old) (W.contents writer.new)) }
-    ensures err { IfErr result (λ fault. Faulted fault (R.remaining reader.old) options.now (W.contents writer.old) (W.contents writer.new)) }
+    ensures ok { IfOk result (λ how. Written (R.remaining reader.old) options.now how
+        (W.contents writer.old) (W.contents writer.new)) }
+    ensures err { IfErr result (λ fault. Faulted fault (R.remaining reader.old) options.now
+        (W.contents writer.old) (W.contents writer.new)) }
     ensures quiet { result ≢ Ok Outcome.TextRefused → Keeps (N.contents notes.old) (N.contents notes.new) }
 {
     let input = read_input(alloc, reader)?;
@@ -57,7 +61,8 @@ fn tell<W: Write>(
     options: &Options,
 ) -> Result<Outcome, TextFault>
     ensures ok { IfOk result (λ how. Tells input.now options.now how (W.contents writer.old) (W.contents writer.new)) }
-    ensures err { IfErr result (λ fault. Fails fault input.now options.now (W.contents writer.old) (W.contents writer.new)) }
+    ensures err { IfErr result (λ fault. Fails fault input.now options.now
+        (W.contents writer.old) (W.contents writer.new)) }
 {
     match options.command {
         Command::Check => tell_check(alloc, input, writer, options),
@@ -74,7 +79,8 @@ fn tell_check<W: Write>(
 ) -> Result<Outcome, TextFault>
     requires { options.now.command ≡ Command.Check }
     ensures ok { IfOk result (λ how. Tells input.now options.now how (W.contents writer.old) (W.contents writer.new)) }
-    ensures err { IfErr result (λ fault. Fails fault input.now options.now (W.contents writer.old) (W.contents writer.new)) }
+    ensures err { IfErr result (λ fault. Fails fault input.now options.now
+        (W.contents writer.old) (W.contents writer.new)) }
 {
     match check_input(alloc, input) {
         Ok(text) => canonical(text.as_str(), writer),
@@ -91,7 +97,8 @@ fn tell_run<W: Write>(
 ) -> Result<Outcome, TextFault>
     requires { options.now.command ≡ Command.Run }
     ensures ok { IfOk result (λ how. Tells input.now options.now how (W.contents writer.old) (W.contents writer.new)) }
-    ensures err { IfErr result (λ fault. Fails fault input.now options.now (W.contents writer.old) (W.contents writer.new)) }
+    ensures err { IfErr result (λ fault. Fails fault input.now options.now
+        (W.contents writer.old) (W.contents writer.new)) }
 {
     match run_input(alloc, input, options.limit) {
         Ok(run) => report(alloc, &run, writer),

@@ -24,7 +24,8 @@ pub fn initials_of<'t>(
     constants: &[Constant],
     faults: &mut Faults<'t>,
 ) -> Result<Vec<Option<Constant>>, AllocError>
-    ensures values { IfOk result (λ values. values.items ≡ all_initials (rows_of tables.now) declared.now constants.now) }
+    ensures values { IfOk result (λ values. values.items
+        ≡ all_initials (rows_of tables.now) declared.now constants.now) }
     ensures noted { IfOk result (λ values. told faults.new ≡ least_of (told faults.old)
         (flat_map (initial_faults_at (rows_of tables.now) declared.now constants.now) (rows_of tables.now).values)) }
 {

@@ -36,7 +36,8 @@ pub fn graph_from(
     named: &[bool],
     source: Source,
 ) -> Result<Graph, AllocError>
-    ensures { IfOk result (λ graph. (n : ℕ) (step : Step) → Leads (rows_of graph) n step ↔ AllSteps network.now named.now source n step) }
+    ensures { IfOk result (λ graph. (n : ℕ) (step : Step) → Leads (rows_of graph) n step
+        ↔ AllSteps network.now named.now source n step) }
 {
     let mut graph = Graph::new(alloc);
     add_paths(alloc, &mut graph, &network.paths, named, source)?;
@@ -54,7 +55,8 @@ fn add_paths(
     named: &[bool],
     source: Source,
 ) -> Result<(), AllocError>
-    ensures { OnOk result (Adds (λ from step. ForSome paths.now (λ n path. PathSteps source (get_or named.now n false) n path from step))
+    ensures { OnOk result (Adds (λ from step. ForSome paths.now
+        (λ n path. PathSteps source (get_or named.now n false) n path from step))
         (rows_of graph.old) (rows_of graph.new)) }
 {
     for (number, path) in paths.iter().enumerate() {
@@ -100,8 +102,8 @@ fn add_connects(
     paths: &[ChannelPath],
     connects: &[Connect],
 ) -> Result<(), AllocError>
-    ensures { OnOk result (Adds (λ from step. ForSome connects.now (λ k connect. ConnectSteps paths.now k connect from step))
-        (rows_of graph.old) (rows_of graph.new)) }
+    ensures { OnOk result (Adds (λ from step. ForSome connects.now
+        (λ k connect. ConnectSteps paths.now k connect from step)) (rows_of graph.old) (rows_of graph.new)) }
 {
     for (number, connect) in connects.iter().enumerate() {
         add_connect(alloc, graph, paths, counted(number)?, connect)?;
@@ -135,7 +137,8 @@ fn add_side(
     side: Side,
     ids: &[PathId],
 ) -> Result<(), AllocError>
-    ensures { OnOk result (Adds (SideSteps paths.now side joint.connect joint.block ids.now) (rows_of graph.old) (rows_of graph.new)) }
+    ensures { OnOk result (Adds (SideSteps paths.now side joint.connect joint.block ids.now)
+        (rows_of graph.old) (rows_of graph.new)) }
 {
     for id in ids {
         add_at(alloc, graph, paths, joint, side, *id)?;
@@ -151,7 +154,8 @@ fn add_at(
     side: Side,
     id: PathId,
 ) -> Result<(), AllocError>
-    ensures { OnOk result (Adds (AtPath paths.now side joint.connect joint.block id) (rows_of graph.old) (rows_of graph.new)) }
+    ensures { OnOk result (Adds (AtPath paths.now side joint.connect joint.block id)
+        (rows_of graph.old) (rows_of graph.new)) }
 {
     let number = id.0 as usize;
     if number < paths.len() {
@@ -168,7 +172,8 @@ fn add_joint(
     id: PathId,
     path: ChannelPath,
 ) -> Result<(), AllocError>
-    ensures { OnOk result (Adds (JointSteps side joint.connect joint.block id path) (rows_of graph.old) (rows_of graph.new)) }
+    ensures { OnOk result (Adds (JointSteps side joint.connect joint.block id path)
+        (rows_of graph.old) (rows_of graph.new)) }
 {
     let node = Some(Node::Path(id));
     let comes = node_if(
@@ -191,8 +196,8 @@ fn add_processes(
     processes: &[Process],
     source: Source,
 ) -> Result<(), AllocError>
-    ensures { OnOk result (Adds (λ from step. ForSome processes.now (λ q process. ProcessSteps network.now source q process from step))
-        (rows_of graph.old) (rows_of graph.new)) }
+    ensures { OnOk result (Adds (λ from step. ForSome processes.now
+        (λ q process. ProcessSteps network.now source q process from step)) (rows_of graph.old) (rows_of graph.new)) }
 {
     for (number, process) in processes.iter().enumerate() {
         let id = ProcessId(counted(number)?);
@@ -209,7 +214,8 @@ fn add_process(
     id: ProcessId,
     process: Process,
 ) -> Result<(), AllocError>
-    ensures { OnOk result (Adds (ProcessSteps network.now source id.0 process) (rows_of graph.old) (rows_of graph.new)) }
+    ensures { OnOk result (Adds (ProcessSteps network.now source id.0 process)
+        (rows_of graph.old) (rows_of graph.new)) }
 {
     let node = Some(Node::Process(id));
     let only = Some(process.named);
@@ -228,8 +234,8 @@ fn add_blocks(
     network: &Network,
     source: Source,
 ) -> Result<(), AllocError>
-    ensures { OnOk result (Adds (λ from step. ForSome network.now.blocks.items (λ b block. BlockSteps network.now.is_implied source b from step))
-        (rows_of graph.old) (rows_of graph.new)) }
+    ensures { OnOk result (Adds (λ from step. ForSome network.now.blocks.items
+        (λ b block. BlockSteps network.now.is_implied source b from step)) (rows_of graph.old) (rows_of graph.new)) }
 {
     for number in 0..network.blocks.len() {
         let id = BlockId(counted(number)?);

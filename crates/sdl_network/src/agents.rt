@@ -99,7 +99,8 @@ pub fn note_end<'t>(
     end: &'t ChannelEnd,
     faults: &mut Faults<'t>,
 )
-    ensures { told faults.new ≡ least_of (told faults.old) (end_faults blocks.now (names_of agents.now scope) (end_value end.now)) }
+    ensures { told faults.new ≡ least_of (told faults.old)
+        (end_faults blocks.now (names_of agents.now scope) (end_value end.now)) }
 {
     if let ChannelEnd::Agent(name) = end {
         let found = agent_end(blocks.get(&name.text), get_at(agents, scope, &name.text));

@@ -42,7 +42,8 @@ pub fn note_connects<'t>(
     entries: &[ConnectionEntry<'t>],
     faults: &mut Faults<'t>,
 )
-    ensures { told faults.new ≡ least_of (told faults.old) (flat_map (connect_faults declared.now) (map connection_seen entries.now)) }
+    ensures { told faults.new ≡ least_of (told faults.old)
+        (flat_map (connect_faults declared.now) (map connection_seen entries.now)) }
 {
     for entry in entries {
         note_connect(declared, entry, faults);
@@ -172,7 +173,8 @@ fn note_channel<'t>(
     name: &'t Name,
     faults: &mut Faults<'t>,
 )
-    ensures { told faults.new ≡ least_of (told faults.old) (channel_faults (names_of channels.now scope) (name_value name.now)) }
+    ensures { told faults.new ≡ least_of (told faults.old)
+        (channel_faults (names_of channels.now scope) (name_value name.now)) }
 {
     let found = get_at(channels, scope, &name.text);
     note_unknown(found.is_none(), Token::of_name(name), faults);

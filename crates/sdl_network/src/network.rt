@@ -43,10 +43,12 @@ pub fn network_of<'t>(
     declared: &Declared<'_, 't>,
 ) -> Result<Network, AllocError>
     ensures signals { IfOk result (λ network. network.signals ≡ length (rows_of tables.now).signals) }
-    ensures lists { IfOk result (λ network. map list_items network.lists.items ≡ network_lists (rows_of tables.now) declared.now) }
+    ensures lists { IfOk result (λ network. map list_items network.lists.items
+        ≡ network_lists (rows_of tables.now) declared.now) }
     ensures is_implied { IfOk result (λ network. network.is_implied ≡ has_no_channel declared.now scope.System) }
     ensures processes { IfOk result (λ network. network.processes.items ≡ network_processes (rows_of tables.now)) }
-    ensures blocks { IfOk result (λ network. network.blocks.items ≡ blocks_in declared.now (rows_of tables.now).blocks) }
+    ensures blocks { IfOk result (λ network. network.blocks.items
+        ≡ blocks_in declared.now (rows_of tables.now).blocks) }
     ensures paths { IfOk result (λ network. network.paths.items ≡ network_paths (rows_of tables.now) declared.now) }
     ensures connects { IfOk result (λ network. map connect_value network.connects.items
         ≡ network_connects (rows_of tables.now) declared.now) }
@@ -77,7 +79,8 @@ fn connects_in<'t>(
     tables: &Tables<'t>,
     declared: &Declared<'_, 't>,
 ) -> Result<Vec<Connect>, AllocError>
-    ensures { IfOk result (λ connects. map connect_value connects.items ≡ network_connects (rows_of tables.now) declared.now) }
+    ensures { IfOk result (λ connects. map connect_value connects.items
+        ≡ network_connects (rows_of tables.now) declared.now) }
 {
     let paths = all_paths(alloc, &tables.channels)?;
     all_connects(alloc, declared, &paths.numbers, &tables.connections)
@@ -89,7 +92,8 @@ fn listed_in<'t>(
     tables: &Tables<'t>,
     declared: &Declared<'_, 't>,
 ) -> Result<Listed, AllocError>
-    ensures lists { IfOk result (λ listed. map list_items listed.lists.items ≡ network_lists (rows_of tables.now) declared.now) }
+    ensures lists { IfOk result (λ listed. map list_items listed.lists.items
+        ≡ network_lists (rows_of tables.now) declared.now) }
     ensures paths { IfOk result (λ listed. listed.paths.items ≡ network_paths (rows_of tables.now) declared.now) }
     ensures processes { IfOk result (λ listed. listed.processes.items ≡ network_processes (rows_of tables.now)) }
 {
@@ -114,7 +118,8 @@ fn paths_in<'t>(
         ≡ paths_from declared.now (block_names (rows_of tables.now).blocks) (length lists.old.items) (all_paths (rows_of tables.now))) }
     ensures lists { OnOk result (map list_items lists.new.items ≡ map list_items lists.old.items
         ++ map (carried declared.now (block_names (rows_of tables.now).blocks)) (all_paths (rows_of tables.now))) }
-    ensures count { OnOk result (length lists.new.items ≡ length lists.old.items + length (all_paths (rows_of tables.now))) }
+    ensures count { OnOk result (length lists.new.items
+        ≡ length lists.old.items + length (all_paths (rows_of tables.now))) }
 {
     let names = block_names(alloc, &tables.blocks)?;
     paths_of(alloc, declared, &names, &tables.channels, lists)
@@ -163,7 +168,8 @@ pub fn note_network<'t>(
     declared: &Declared<'_, 't>,
     faults: &mut Faults<'t>,
 ) -> Result<(), AllocError>
-    ensures { OnOk result (told faults.new ≡ least_of (told faults.old) (network_faults (rows_of tables.now) declared.now)) }
+    ensures { OnOk result (told faults.new ≡ least_of (told faults.old)
+        (network_faults (rows_of tables.now) declared.now)) }
 {
     note_lists(declared, tables, faults);
     note_channels(alloc, tables, declared, faults)?;

@@ -41,7 +41,8 @@ pub struct Paths<'t> {
 }
 
 pub fn all_paths<'t>(alloc: Global, channels: &[ChannelEntry<'t>]) -> Result<Paths<'t>, AllocError>
-    ensures entries { IfOk result (λ paths. map placed_value paths.entries.items ≡ flat_map channel_paths (map channel_seen channels.now)) }
+    ensures entries { IfOk result (λ paths. map placed_value paths.entries.items
+        ≡ flat_map channel_paths (map channel_seen channels.now)) }
     ensures numbers { IfOk result (λ paths. paths.numbers.items ≡ numbers_from 0 (map channel_seen channels.now)) }
 {
     let mut paths = Paths {
@@ -190,7 +191,8 @@ fn note_path<'t>(
     entry: &PathEntry<'t>,
     faults: &mut Faults<'t>,
 )
-    ensures { told faults.new ≡ least_of (told faults.old) (path_faults declared.now blocks.now (placed_value entry.now)) }
+    ensures { told faults.new ≡ least_of (told faults.old)
+        (path_faults declared.now blocks.now (placed_value entry.now)) }
 {
     let path = entry.path;
     note_end(blocks, &declared.agents, entry.scope, &path.from, faults);

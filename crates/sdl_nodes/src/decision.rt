@@ -73,7 +73,8 @@ pub fn decision(
     branches: Option<Vec<Branch>>,
     otherwise: Option<Way>,
 ) -> Option<Statement>
-    ensures { IsDecisionOrNone (option_map term_of question) (option_map (λ list. list.items) branches) otherwise result }
+    ensures { IsDecisionOrNone (option_map term_of question)
+        (option_map (λ list. list.items) branches) otherwise result }
 {
     match (question, branches) {
         (Some(question), Some(branches)) => Some(Statement::Decision(Decision {

@@ -79,7 +79,8 @@ fn system_definition(
     at: Defining,
 ) -> Result<Option<SystemDefinition>, Fault>
     requires { at.depth ≤ 64 }
-    ensures { Reads (option_map system_definition_value) (spec.system_definition at.depth cursor.old) result cursor.new }
+    ensures { Reads (option_map system_definition_value)
+        (spec.system_definition at.depth cursor.old) result cursor.new }
 {
     if cursor.sees(Mark::Block) {
         let block = block(alloc, cursor, at.depth)?;

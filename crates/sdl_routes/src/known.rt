@@ -55,7 +55,8 @@ pub(crate) fn numbers_of(
 
 /// Whether these receivers were looked at last for these 64 signals.
 fn is_known(known: &[Known], word: usize, receivers: &[Receiver]) -> bool
-    ensures { IsTrue result → (one : Known) × (slice_get known.now word ≡ Some one) × (one.receivers.items ≡ receivers.now) }
+    ensures { IsTrue result → (one : Known) × (slice_get known.now word ≡ Some one)
+        × (one.receivers.items ≡ receivers.now) }
 {
     if word < known.len() {
         let last = &known[word].receivers;
@@ -70,7 +71,8 @@ fn known_numbers(
     word: usize,
 ) -> Result<Vec<ReceiversId>, AllocError>
     requires { word < length known.now }
-    ensures { IfOk result (λ numbers. (one : Known) → slice_get known.now word ≡ Some one → numbers.items ≡ one.numbers.items) }
+    ensures { IfOk result (λ numbers. (one : Known) → slice_get known.now word ≡ Some one
+        → numbers.items ≡ one.numbers.items) }
 {
     let last = &known[word].numbers;
     let numbers = Vec::from_slice(alloc, last)?;
@@ -79,7 +81,8 @@ fn known_numbers(
 
 /// Keeps what was looked at last for these 64 signals.
 fn remember(known: &mut Vec<Known>, word: usize, now: Known) -> Result<(), AllocError>
-    ensures { (n : ℕ) (one : Known) → slice_get known.new.items n ≡ Some one → (slice_get known.old.items n ≡ Some one) ⊎ (one ≡ now) }
+    ensures { (n : ℕ) (one : Known) → slice_get known.new.items n ≡ Some one
+        → (slice_get known.old.items n ≡ Some one) ⊎ (one ≡ now) }
 {
     if word < known.len() {
         known[word] = now;

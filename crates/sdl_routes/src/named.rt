@@ -22,7 +22,8 @@ pub(crate) fn named_flags(alloc: Global, network: &Network) -> Result<Vec<bool>,
 }
 
 fn is_named(connects: &[Connect], number: u32) -> bool
-    ensures { IsTrue result ↔ ForSome connects.now (λ k connect. ForSome connect.inner.items (λ j path. path.0 ≡ number)) }
+    ensures { IsTrue result ↔ ForSome connects.now
+        (λ k connect. ForSome connect.inner.items (λ j path. path.0 ≡ number)) }
 {
     for connect in connects {
         if is_among(&connect.inner, number) {

@@ -40,7 +40,8 @@ impl Word {
     pub(crate) fn entry(&self, source: Source, signal: SignalId) -> Reach
         requires { signal.0 % 64 < vec_len self.now.numbers }
         ensures receivers { slice_get self.now.numbers.items (signal.0 % 64) ≡ Some result.receivers }
-        ensures itself { (p : ProcessId) → source.end ≡ at.Process p → IsTrue result.itself ↔ ReachesProcess self.now.arrivals p signal }
+        ensures itself { (p : ProcessId) → source.end ≡ at.Process p → IsTrue result.itself
+            ↔ ReachesProcess self.now.arrivals p signal }
         ensures env { IsTrue result.env ↔ ReachesEnv self.now.arrivals signal }
     {
         let receivers = self.numbers[signal.0 as usize % 64];

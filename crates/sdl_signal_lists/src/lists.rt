@@ -50,7 +50,8 @@ fn items_of<'t>(
     tables: &Tables<'t>,
     entry: &SignalListEntry<'t>,
 ) -> Result<Vec<Item>, AllocError>
-    ensures { IfOk result (λ items. items.items ≡ list_at declared.now (rows_of tables.now).processes (signal_list_seen entry.now)) }
+    ensures { IfOk result (λ items. items.items ≡ list_at declared.now (rows_of tables.now).processes
+        (signal_list_seen entry.now)) }
 {
     let mut items = Vec::new(alloc);
     let seen = seen_at(declared, tables.path_of(entry.scope));
@@ -60,7 +61,8 @@ fn items_of<'t>(
 
 /// Notes the names in these lists that stand for nothing.
 pub fn note_lists<'t>(declared: &Declared<'_, 't>, tables: &Tables<'t>, faults: &mut Faults<'t>)
-    ensures { told faults.new ≡ least_of (told faults.old) (flat_map (list_faults declared.now (rows_of tables.now).processes) (rows_of tables.now).lists) }
+    ensures { told faults.new ≡ least_of (told faults.old)
+        (flat_map (list_faults declared.now (rows_of tables.now).processes) (rows_of tables.now).lists) }
 {
     for entry in &tables.lists {
         note_list(declared, tables, entry, faults);
@@ -73,7 +75,8 @@ fn note_list<'t>(
     entry: &SignalListEntry<'t>,
     faults: &mut Faults<'t>,
 )
-    ensures { told faults.new ≡ least_of (told faults.old) (list_faults declared.now (rows_of tables.now).processes (signal_list_seen entry.now)) }
+    ensures { told faults.new ≡ least_of (told faults.old)
+        (list_faults declared.now (rows_of tables.now).processes (signal_list_seen entry.now)) }
 {
     let definition = entry.definition;
     let seen = seen_at(declared, tables.path_of(entry.scope));

@@ -21,7 +21,8 @@ pub fn add_named(
     process: &ProcessDefinition,
     list: &mut Vec<Item>,
 ) -> Result<(), AllocError>
-    ensures { OnOk result (list.new.items ≡ list.old.items ++ named_items (seen_of seen.now) (process_value process.now)) }
+    ensures { OnOk result (list.new.items ≡ list.old.items
+        ++ named_items (seen_of seen.now) (process_value process.now)) }
 {
     add_body(seen, &process.body, list)?;
     add_sets(seen, &process.definitions, list)
@@ -46,7 +47,8 @@ fn add_part(
     part: &BodyPart,
     list: &mut Vec<Item>,
 ) -> Result<(), AllocError>
-    ensures { OnOk result (list.new.items ≡ list.old.items ++ part_items (seen_of seen.now) (body_part_value part.now)) }
+    ensures { OnOk result (list.new.items ≡ list.old.items
+        ++ part_items (seen_of seen.now) (body_part_value part.now)) }
 {
     match part {
         BodyPart::State(StatePart { stimuli, .. }) => add_stimuli(seen, stimuli, list),
@@ -89,7 +91,8 @@ fn add_inputs(
     inputs: &Inputs,
     list: &mut Vec<Item>,
 ) -> Result<(), AllocError>
-    ensures { OnOk result (list.new.items ≡ list.old.items ++ inputs_items (seen_of seen.now) (inputs_value inputs.now)) }
+    ensures { OnOk result (list.new.items ≡ list.old.items
+        ++ inputs_items (seen_of seen.now) (inputs_value inputs.now)) }
 {
     match inputs {
         Inputs::Listed(inputs) => add_each(seen, inputs, list),
@@ -145,7 +148,8 @@ fn add_set(
     definition: &LocalDefinition,
     list: &mut Vec<Item>,
 ) -> Result<(), AllocError>
-    ensures { OnOk result (list.new.items ≡ list.old.items ++ set_items (seen_of seen.now) (local_value definition.now)) }
+    ensures { OnOk result (list.new.items ≡ list.old.items
+        ++ set_items (seen_of seen.now) (local_value definition.now)) }
 {
     match definition {
         LocalDefinition::SignalSet(signals) => seen.add_items(&signals.items, list),
@@ -159,7 +163,8 @@ pub fn note_sets<'t>(
     process: &'t ProcessDefinition,
     faults: &mut Faults<'t>,
 )
-    ensures { told faults.new ≡ least_of (told faults.old) (process_faults (seen_of seen.now) (process_value process.now)) }
+    ensures { told faults.new ≡ least_of (told faults.old)
+        (process_faults (seen_of seen.now) (process_value process.now)) }
 {
     for definition in &process.definitions {
         note_set(seen, definition, faults);
@@ -167,7 +172,8 @@ pub fn note_sets<'t>(
 }
 
 fn note_set<'t>(seen: &Seen<'_, '_, 't>, definition: &'t LocalDefinition, faults: &mut Faults<'t>)
-    ensures { told faults.new ≡ least_of (told faults.old) (set_faults (seen_of seen.now) (local_value definition.now)) }
+    ensures { told faults.new ≡ least_of (told faults.old)
+        (set_faults (seen_of seen.now) (local_value definition.now)) }
 {
     if let LocalDefinition::SignalSet(signals) = definition {
         seen.note_items(&signals.items, faults);
@@ -180,7 +186,8 @@ pub fn add_timers(
     process: &ProcessDefinition,
     list: &mut Vec<Item>,
 ) -> Result<(), AllocError>
-    ensures { OnOk result (list.new.items ≡ list.old.items ++ timers_items (seen_of seen.now) (process_value process.now)) }
+    ensures { OnOk result (list.new.items ≡ list.old.items
+        ++ timers_items (seen_of seen.now) (process_value process.now)) }
 {
     for definition in &process.definitions {
         add_local(seen, definition, list)?;
@@ -193,7 +200,8 @@ fn add_local(
     definition: &LocalDefinition,
     list: &mut Vec<Item>,
 ) -> Result<(), AllocError>
-    ensures { OnOk result (list.new.items ≡ list.old.items ++ local_timers (seen_of seen.now) (local_value definition.now)) }
+    ensures { OnOk result (list.new.items ≡ list.old.items
+        ++ local_timers (seen_of seen.now) (local_value definition.now)) }
 {
     match definition {
         LocalDefinition::Timers(timers) => add_all(seen, &timers.timers, list),

@@ -108,7 +108,8 @@ pub fn note_processes<'t>(
     entries: &[ProcessEntry<'t>],
     faults: &mut Faults<'t>,
 ) -> Result<(), AllocError>
-    ensures noted { OnOk result (told faults.new ≡ least_of (told faults.old) (processes_faults declared.now (map process_seen entries.now))) }
+    ensures noted { OnOk result (told faults.new ≡ least_of (told faults.old)
+        (processes_faults declared.now (map process_seen entries.now))) }
     ensures few { length entries.now ≤ 2 ^ 32 → IsOk result }
 {
     for (index, entry) in entries.iter().enumerate() {
@@ -123,7 +124,8 @@ fn note_process<'t>(
     entry: &ProcessEntry<'t>,
     faults: &mut Faults<'t>,
 ) -> Result<(), AllocError>
-    ensures noted { OnOk result (told faults.new ≡ least_of (told faults.old) (faults_of declared.now index (process_seen entry.now))) }
+    ensures noted { OnOk result (told faults.new ≡ least_of (told faults.old)
+        (faults_of declared.now index (process_seen entry.now))) }
     ensures few { index < 2 ^ 32 → IsOk result }
 {
     let number = counted(index)?;

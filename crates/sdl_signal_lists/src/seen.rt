@@ -141,7 +141,8 @@ impl<'a, 's, 't> Seen<'a, 's, 't> {
 
     /// Notes the names that stand for nothing.
     pub fn note_items(&self, items: &'t [SignalListItem], faults: &mut Faults<'t>)
-        ensures { told faults.new ≡ least_of (told faults.old) (items_faults (seen_of self.now) (items_value items.now)) }
+        ensures { told faults.new ≡ least_of (told faults.old)
+            (items_faults (seen_of self.now) (items_value items.now)) }
     {
         for item in items {
             self.note_item(item, faults);

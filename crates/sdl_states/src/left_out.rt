@@ -51,7 +51,8 @@ fn note_names<'t>(states: &Names<'t, StateId>, names: &'t [Name], faults: &mut F
 }
 
 fn note_name<'t>(states: &Names<'t, StateId>, name: &'t Name, faults: &mut Faults<'t>)
-    ensures { told faults.new ≡ least_of (told faults.old) (unnamed_faults (is_state states.now) (name_value name.now)) }
+    ensures { told faults.new ≡ least_of (told faults.old)
+        (unnamed_faults (is_state states.now) (name_value name.now)) }
 {
     if states.get(&name.text).is_none() {
         faults.note(Kind::NoState, Token::of_name(name));

@@ -39,9 +39,11 @@ pub fn process_at<'t>(
     faults: &mut Faults<'t>,
 ) -> Result<Option<Process>, AllocError>
     requires known { AreKnown tables.now declared.now figures.now joined.now }
-    requires listed { slice_get (survey_of tables.now declared.now figures.now joined.now).rows.processes number.0 ≡ Some (process_seen entry.now) }
+    requires listed { slice_get (survey_of tables.now declared.now figures.now joined.now).rows.processes number.0
+        ≡ Some (process_seen entry.now) }
     requires valid { IsValidSet (survey_of tables.now declared.now figures.now joined.now) number valid }
-    ensures made { IfOk result (IsMadeFrom (survey_of tables.now declared.now figures.now joined.now) number (process_seen entry.now)) }
+    ensures made { IfOk result (IsMadeFrom (survey_of tables.now declared.now figures.now joined.now) number
+        (process_seen entry.now)) }
     ensures noted { OnOk result (NotesBody
         (surroundings (survey_of tables.now declared.now figures.now joined.now) number (process_seen entry.now).definition)
         (process_seen entry.now).definition (told faults.old) (told faults.new)) }
@@ -66,9 +68,11 @@ fn heading_of<'t>(
     valid: SignalSet,
 ) -> Result<Heading, AllocError>
     requires known { AreKnown tables.now declared.now figures.now joined.now }
-    requires listed { slice_get (survey_of tables.now declared.now figures.now joined.now).rows.processes number.0 ≡ Some (process_seen entry.now) }
+    requires listed { slice_get (survey_of tables.now declared.now figures.now joined.now).rows.processes number.0
+        ≡ Some (process_seen entry.now) }
     requires valid { IsValidSet (survey_of tables.now declared.now figures.now joined.now) number valid }
-    ensures { IfOk result (IsHeading (survey_of tables.now declared.now figures.now joined.now) number (process_seen entry.now)) }
+    ensures { IfOk result (IsHeading (survey_of tables.now declared.now figures.now joined.now) number
+        (process_seen entry.now)) }
 {
     let counts = figures.counts.get(number.0 as usize).copied().flatten();
     let parameters = counted(entry.sorts.len())?;
@@ -94,8 +98,9 @@ fn surroundings<'x, 's, 't>(
     inside: &'x Inside<'t>,
 ) -> Surroundings<'x, 's, 't>
     requires known { AreKnown tables.now declared.now figures.now joined.now }
-    ensures around { surroundings_of result ≡ surroundings_with (survey_of tables.now declared.now figures.now joined.now)
-        number inside.now.states inside.now.labels inside.now.reaches.items }
+    ensures around { surroundings_of result ≡ surroundings_with
+        (survey_of tables.now declared.now figures.now joined.now) number inside.now.states inside.now.labels
+        inside.now.reaches.items }
     ensures names { names_listed result.states.names.now ≡ names_listed inside.now.names.items }
 {
     let path = tables.path_of(ScopeId::Process(number));

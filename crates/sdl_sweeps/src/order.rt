@@ -22,7 +22,8 @@ impl<'s> Sweeps<'s> {
         ensures fits { OnOk result (A.Fits self.new.board.awake agents.new) }
         ensures same { KeepsTime self.old self.new }
         ensures due { OnOk result (IsNothingDue (moment_of self.new)) }
-        ensures runs { (last : ℕ) → OnOk result (A.Reaches last (moment_of self.old) agents.old (moment_of self.new) agents.new) }
+        ensures runs { (last : ℕ) → OnOk result (A.Reaches last (moment_of self.old) agents.old
+            (moment_of self.new) agents.new) }
         ensures rest { IfOk result (λ rest. IsTrue rest → A.AllRest agents.new × (0 < self.new.left)) }
         ensures cut { IfOk result (λ rest. IsTrue rest ⊎ (self.new.left ≡ 0)) }
     {
@@ -46,7 +47,8 @@ impl<'s> Sweeps<'s> {
         ensures fits { OnOk result (A.Fits self.new.board.awake agents.new) }
         ensures same { KeepsTime self.old self.new }
         ensures due { OnOk result (IsNothingDue (moment_of self.new)) }
-        ensures runs { (last : ℕ) → OnOk result (A.Reaches last (moment_of self.old) agents.old (moment_of self.new) agents.new) }
+        ensures runs { (last : ℕ) → OnOk result (A.Reaches last (moment_of self.old) agents.old
+            (moment_of self.new) agents.new) }
         ensures moved { IfOk result (λ moved. IsTrue moved → self.new.left < self.old.left) }
         ensures still { IfOk result (λ moved. IsTrue moved ⊎ (A.AllRest agents.new × (self.new.left ≡ self.old.left))) }
     {
@@ -107,7 +109,8 @@ impl<'s> Sweeps<'s> {
         ensures fits { OnOk result (A.Fits self.new.board.awake agents.new) }
         ensures same { KeepsTime self.old self.new }
         ensures due { OnOk result (IsNothingDue (moment_of self.new)) }
-        ensures runs { (last : ℕ) → OnOk result (A.Reaches last (moment_of self.old) agents.old (moment_of self.new) agents.new) }
+        ensures runs { (last : ℕ) → OnOk result (A.Reaches last (moment_of self.old) agents.old
+            (moment_of self.new) agents.new) }
         ensures moved { IfOk result (λ moved. IsTrue moved → self.new.left < self.old.left) }
         ensures still { IfOk result (λ moved. IsTrue moved ⊎ ((self.new.left ≡ self.old.left)
             × (length self.new.board.awake < length self.old.board.awake))) }

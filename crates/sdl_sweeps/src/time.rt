@@ -82,7 +82,8 @@ impl<'s> Sweeps<'s> {
         requires left { 0 < self.old.left }
         ensures fits { OnOk result (A.Fits self.new.board.awake agents.new) }
         ensures due { OnOk result (IsNothingDue (moment_of self.new)) }
-        ensures runs { (last : ℕ) → OnOk result (A.Reaches last (moment_of self.old) agents.old (moment_of self.new) agents.new) }
+        ensures runs { (last : ℕ) → OnOk result (A.Reaches last (moment_of self.old) agents.old
+            (moment_of self.new) agents.new) }
         ensures clock { self.new.board.clock ≡ self.old.board.clock }
         ensures begun { self.new.begun ≡ self.old.begun }
     {
@@ -100,7 +101,8 @@ impl<'s> Sweeps<'s> {
         ensures clock { self.new.board.clock ≡ self.old.board.clock }
         ensures begun { self.new.begun ≡ self.old.begun }
         ensures left { self.new.left ≡ self.old.left }
-        ensures runs { (last : ℕ) → OnOk result (A.Reaches last (moment_of self.old) agents.old (moment_of self.new) agents.new) }
+        ensures runs { (last : ℕ) → OnOk result (A.Reaches last (moment_of self.old) agents.old
+            (moment_of self.new) agents.new) }
         ensures done { OnOk result (IsNoFuseBefore (self.new.board.clock + 1) self.new.board.fuses) }
     {
         while let Some(fuse) = self.board.fuses.fire(self.board.clock) {
@@ -119,7 +121,8 @@ impl<'s> Sweeps<'s> {
         ensures clock { self.new.board.clock ≡ self.old.board.clock }
         ensures begun { self.new.begun ≡ self.old.begun }
         ensures fuses { self.new.board.fuses ≡ self.old.board.fuses }
-        ensures runs { (last : ℕ) → OnOk result (A.Reaches last (moment_of self.old) agents.old (moment_of self.new) agents.new) }
+        ensures runs { (last : ℕ) → OnOk result (A.Reaches last (moment_of self.old) agents.old
+            (moment_of self.new) agents.new) }
         ensures done { OnOk result (IsNoLineBefore (self.new.board.clock + 1) self.new.script.now) }
     {
         while let Some((line, later)) = self.script.split_first() {

@@ -19,7 +19,8 @@ pub fn add_named(
     expression: &Expression,
     numbers: &mut Vec<usize>,
 ) -> Result<(), AllocError>
-    ensures { OnOk result (numbers.new.items ≡ numbers.old.items ++ named_in (visible values.now) (expr_value expression.now)) }
+    ensures { OnOk result (numbers.new.items ≡ numbers.old.items
+        ++ named_in (visible values.now) (expr_value expression.now)) }
 {
     match expression {
         Expression::Number(_) | Expression::Keyword { .. } => Ok(()),
@@ -52,7 +53,8 @@ fn add_chain(
     chain: &Chain,
     numbers: &mut Vec<usize>,
 ) -> Result<(), AllocError>
-    ensures { OnOk result (numbers.new.items ≡ numbers.old.items ++ named_in (visible values.now) (chain_value chain.now)) }
+    ensures { OnOk result (numbers.new.items ≡ numbers.old.items
+        ++ named_in (visible values.now) (chain_value chain.now)) }
 {
     add_named(values, &chain.first, numbers)?;
     for link in &chain.rest {

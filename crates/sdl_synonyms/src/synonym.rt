@@ -35,7 +35,8 @@ impl<'a, 's, 't> Synonym<'a, 's, 't> {
         faults: &mut Faults<'t>,
     ) -> Result<Constant, AllocError>
         ensures constant { IfOk result (λ constant. constant ≡ constant_with constants.now self.now) }
-        ensures noted { OnOk result (told faults.new ≡ least_of (told faults.old) (synonym_faults constants.now self.now)) }
+        ensures noted { OnOk result (told faults.new
+            ≡ least_of (told faults.old) (synonym_faults constants.now self.now)) }
     {
         let scope = Scope {
             values: self.values,

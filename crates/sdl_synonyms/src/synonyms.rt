@@ -47,7 +47,8 @@ fn note_faults<'t>(
     constants: &[Constant],
     faults: &mut Faults<'t>,
 ) -> Result<(), AllocError>
-    ensures { OnOk result (told faults.new ≡ least_of (told faults.old) (flat_map (synonym_faults constants.now) synonyms.now)) }
+    ensures { OnOk result (told faults.new ≡ least_of (told faults.old)
+        (flat_map (synonym_faults constants.now) synonyms.now)) }
 {
     for synonym in synonyms {
         synonym.constant(alloc, constants, faults)?;
