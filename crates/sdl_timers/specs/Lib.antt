@@ -3,3 +3,4 @@ pub mod DueOrder
 pub mod Fuses
 pub mod Slots
 pub mod Tournament
+pub mod Turns

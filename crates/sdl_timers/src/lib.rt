@@ -12,6 +12,7 @@ mod rule;
 mod slot;
 mod ticker;
 mod tournament;
+mod turn;
 mod wheel;
 
 pub use reader::Reader;

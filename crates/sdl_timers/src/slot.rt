@@ -1,27 +1,34 @@
 //! The fuses of one slot of a wheel.
 
 ghost use Rattle.std.specs.Prelude.{◌≡◌, [], ◌∷◌, length, IfErr, MatchOption, OnErr, OnOk};
-ghost use Rattle.sdl_timers.specs.DueOrder.{first_of, with_fuse, IsInOrder};
+ghost use Rattle.sdl_timers.specs.DueOrder.{first_of, with_fuse};
 
 use crate::due::Due;
+use crate::turn::Turn;
 use inbox::Fuse;
 use port_model::{PortError, Refused};
 use std::alloc::Global;
-use std::collections::VecDeque;
+use std::collections::BTreeMap;
 use std::marker::Model;
 
-/// The fuses of one slot, in due order.
+/// The fuses of one slot, in due order. Arming a fuse and taking the first cost the logarithm of their number.
 #[derive(Drop)]
 pub struct Slot {
-    fuses: VecDeque<Fuse>,
+    fuses: BTreeMap<Turn, Fuse>,
+    /// How many fuses were armed here, which is the number of the next one's turn.
+    armed: u64,
 }
 
 impl Model for Slot {
+    ghost use Rattle.std.specs.BTreeMap.{values};
     ghost use Rattle.sdl_timers.specs.Fuses.{FuseList};
+    ghost use Rattle.sdl_timers.specs.Turns.{HaveTheirTurns};
 
     ghost Value = { FuseList };
 
-    ghost view = { λ slot. slot.fuses.items };
+    ghost view = { λ slot. values slot.fuses };
+
+    ghost invariant = { λ slot. HaveTheirTurns slot.armed slot.fuses.entries };
 }
 
 impl Slot {
@@ -29,7 +36,8 @@ impl Slot {
         ensures { result ≡ [] }
     {
         Slot {
-            fuses: VecDeque::new(alloc),
+            fuses: BTreeMap::new(alloc),
+            armed: 0,
         }
     }
 
@@ -43,28 +51,31 @@ impl Slot {
     pub fn first(&self) -> Option<Due>
         ensures { result ≡ first_of self.now }
     {
-        match self.fuses.front() {
-            Some(fuse) => Some(Due::of(fuse)),
+        match self.fuses.first_key_value() {
+            Some((turn, _)) => Some(turn.due),
             None => None,
         }
     }
 
-    /// Puts a fuse behind all that it isn't due before. For want of memory it comes back.
+    /// Puts a fuse behind all that it isn't due before. For want of memory it comes back, and so it does where 2^64 - 1
+    /// fuses were armed here before it; nothing changes then.
     pub fn arm(&mut self, fuse: Fuse) -> Result<(), Refused<Fuse>>
-        requires { IsInOrder self.old }
         ensures ok { OnOk result (self.new ≡ with_fuse fuse self.old) }
         ensures err { OnErr result (self.new ≡ self.old) }
         ensures handed_back { IfErr result (λ refused. refused.value ≡ fuse) }
         ensures memory { IfErr result (λ refused. refused.error ≡ PortError.Memory) }
     {
-        let due = Due::of(&fuse);
-        let place = self.fuses.partition_point(|other| Due::of(other) <= due);
-        if let Err(refused) = self.fuses.insert(place, fuse) {
-            return Err(Refused {
-                error: PortError::Memory,
-                value: refused.value,
-            });
+        let Some(armed) = self.armed.checked_add(1) else {
+            return Err(out_of_memory(fuse));
+        };
+        let turn = Turn {
+            due: Due::of(&fuse),
+            number: self.armed,
+        };
+        if let Err(refused) = self.fuses.insert(turn, fuse) {
+            return Err(out_of_memory(refused.value.1));
         }
+        self.armed = armed;
         Ok(())
     }
 
@@ -72,6 +83,18 @@ impl Slot {
     pub fn take_first(&mut self) -> Option<Fuse>
         ensures { MatchOption result ((self.old ≡ []) × (self.new ≡ [])) (λ fuse. self.old ≡ fuse ∷ self.new) }
     {
-        self.fuses.pop_front()
+        match self.fuses.pop_first() {
+            Some((_, fuse)) => Some(fuse),
+            None => None,
+        }
+    }
+}
+
+fn out_of_memory(fuse: Fuse) -> Refused<Fuse>
+    ensures { result ≡ record { error = PortError.Memory; value = fuse } }
+{
+    Refused {
+        error: PortError::Memory,
+        value: fuse,
     }
 }
