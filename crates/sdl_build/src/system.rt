@@ -11,12 +11,12 @@ ghost use Rattle.sdl_routes.specs.Valid.{AreValid};
 ghost use Rattle.sdl_faults.specs.Faults.{told};
 
 use crate::defined::Defined;
+use sdl_channels::counted;
 use sdl_declared::Tables;
 use sdl_faults::Faults;
 use sdl_figures::Figures;
 use sdl_names::Declared;
 use sdl_routes::valid_sets;
-use sdl_signal_lists::counted;
 use sdl_survey::{Joined, process_at};
 use sdl_system::{Process, ProcessId, Routes, SignalSet, System};
 use std::alloc::{AllocError, Global};

@@ -1,7 +1,7 @@
 //! A graph whose steps are open to the signals of a list or to all, and which signals flow where in it.
 //!
-//! Signals are looked at 64 at a time, as the bits of a mask. A node is looked at again only when a signal has come to it
-//! since, so that a flow costs a few steps for each step of the graph, and at most 64.
+//! Signals are looked at 64 at a time, as the bits of a mask. A node is looked at again only when a signal has come to
+//! it since, so that a flow costs a few steps for each step of the graph, and at most 64.
 
 ghost use Rattle.std.specs.Prelude.{◌≡◌, ℕ, ◌<◌, ◌≤◌, ◌↔◌, get_or, length, IfOk, OnOk};
 ghost use Rattle.std.specs.List.{Contains};

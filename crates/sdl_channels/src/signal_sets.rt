@@ -1,7 +1,7 @@
 //! For each list of signals the set of signals that it stands for.
 //!
-//! The signals of a list flow to each list that names it, 64 signals at a time. So the cost is that of the text of all lists
-//! for each 64 signals, and as many steps more as there are lists through which a signal comes to a list.
+//! The signals of a list flow to each list that names it, 64 signals at a time. So the cost is that of the text of all
+//! lists for each 64 signals, and as many steps more as there are lists through which a signal comes to a list.
 
 ghost use Rattle.std.specs.Prelude.{◌≡◌, ◌⊎◌, ℕ, ◌<◌, ◌/◌, ◌%◌, ◌↔◌, IfOk, IsTrue, OnOk};
 ghost use Rattle.port_values.specs.declared.item.SignalId.{SignalId};

@@ -11,8 +11,8 @@ use sdl_tree::{
 };
 use std::alloc::{AllocError, Global};
 
-/// The labels of a process in the order of the text, each as often as it stands: those of the start transition, then those
-/// behind it. The label of a connection comes before those of its transition.
+/// The labels of a process in the order of the text, each as often as it stands: those of the start transition, then
+/// those behind it. The label of a connection comes before those of its transition.
 pub fn labels_of<'t>(
     alloc: Global,
     process: &'t ProcessDefinition,

@@ -8,11 +8,12 @@ ghost use Rattle.sdl_tree.specs.Views.{body_part_value, name_value, names_value,
 
 use sdl_faults::Faults;
 use sdl_lex::Place;
-use sdl_scope::Names;
-use sdl_tree::{BodyPart, Name, ProcessDefinition, StatePart, States};
+use sdl_scope::{Names, named_states};
+use sdl_tree::{Name, ProcessDefinition};
 use std::alloc::{AllocError, Global};
 
-/// The different states of a process, in the order in which its state lists first name them, each by the word that does.
+/// The different states of a process, in the order in which its state lists first name them, each by the word that
+/// does.
 pub fn states_of<'t>(
     alloc: Global,
     process: &'t ProcessDefinition,
@@ -25,21 +26,6 @@ pub fn states_of<'t>(
         add_states(&mut seen, &mut states, named_states(part))?;
     }
     Ok(states)
-}
-
-/// The names of a state list.
-fn named_states(part: &BodyPart) -> &[Name]
-    ensures { names_value result.now ≡ part_states (body_part_value part.now) }
-{
-    match part {
-        BodyPart::State(
-            StatePart {
-                states: States::Named(names),
-                ..
-            },
-        ) => names,
-        _ => &[],
-    }
 }
 
 /// Adds those of these names that are new.

@@ -1,9 +1,10 @@
 //! The graph in which signals flow from a source.
 //!
-//! It has a node for each path of a channel, two for each block and each connect, and one for each process, so that it grows with
-//! the text and not with the pairs of joined channels. What is joined without a connect meets at the nodes of its block.
+//! It has a node for each path of a channel, two for each block and each connect, and one for each process, so that it
+//! grows with the text and not with the pairs of joined channels. What is joined without a connect meets at the nodes
+//! of its block.
 
-ghost use Rattle.std.specs.Prelude.{◌≡◌, ◌<◌, ◌↔◌, ◌^◌, ℕ, get_or, IfOk, IsOk, OnOk, false, not, ◌&&◌};
+ghost use Rattle.std.specs.Prelude.{◌≡◌, ◌<◌, ◌↔◌, ◌^◌, ℕ, get_or, IfOk, OnOk, false, not, ◌&&◌};
 ghost use Rattle.sdl_channels.specs.Each.{ForSome};
 ghost use Rattle.sdl_channels.specs.Graph.{Adds, Leads};
 ghost use Rattle.sdl_channels.specs.Rows.{rows_of};
@@ -18,6 +19,7 @@ use crate::place::{
 };
 use sdl_channels::{
     ChannelPath, Connect, End, Graph, ListId, Network, PathId, Process, Scope, Source, Step,
+    counted,
 };
 use sdl_system::{BlockId, ProcessId};
 use std::alloc::{AllocError, Global};
@@ -315,17 +317,6 @@ fn option_if(is: bool, node: Option<Node>) -> Option<Node>
     ensures { result ≡ option_if is node }
 {
     if is { node } else { None }
-}
-
-/// The number as one of 32 bits. There is no memory for more.
-pub fn counted(number: usize) -> Result<u32, AllocError>
-    ensures same { IfOk result (λ counted. counted ≡ number) }
-    ensures fits { number < 2 ^ 32 → IsOk result }
-{
-    match u32::try_from(number) {
-        Ok(counted) => Ok(counted),
-        Err(_) => Err(AllocError),
-    }
 }
 
 fn flag_at(flags: &[bool], number: usize) -> bool

@@ -8,11 +8,11 @@ ghost use Rattle.sdl_scope.specs.Names.{first_of, names_in};
 ghost use Rattle.sdl_spaces.specs.Spaces.{names_of};
 ghost use Rattle.sdl_tree.specs.Views.{end_value};
 
-use sdl_channels::End;
+use sdl_channels::{End, counted};
 use sdl_declared::BlockEntry;
 use sdl_faults::{Faults, Token};
 use sdl_scope::Names;
-use sdl_signal_lists::{counted, note_unknown, path_at};
+use sdl_signal_lists::{note_unknown, path_at};
 use sdl_sorts::AgentMeaning;
 use sdl_spaces::{ScopeId, Spaces};
 use sdl_system::BlockId;

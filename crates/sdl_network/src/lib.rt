@@ -1,5 +1,5 @@
-//! What joins the agents of a specification (Z.101: channel, connection): from its definitions to the network whose paths
-//! `sdl_routes` follows, and the names in it that stand for nothing. What its signal lists have is said by
+//! What joins the agents of a specification (Z.101: channel, connection): from its definitions to the network whose
+//! paths `sdl_routes` follows, and the names in it that stand for nothing. What its signal lists have is said by
 //! `sdl_signal_lists`.
 //!
 //! `specs/Network` says what the network of a specification is, by the tables of its definitions and by what each name

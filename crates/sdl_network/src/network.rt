@@ -14,12 +14,12 @@ ghost use Rattle.sdl_spaces.specs.declared.scope.ScopeId.TheVariants as scope;
 use crate::agents::{block_names, is_empty_at};
 use crate::connects::{all_connects, note_connects};
 use crate::paths::{add_paths, all_paths, note_paths};
-use sdl_channels::{Block, ChannelPath, Connect, Network, Process, SignalList};
+use sdl_channels::{Block, ChannelPath, Connect, Network, Process, SignalList, counted};
 use sdl_declared::{BlockEntry, ChannelEntry, Tables};
 use sdl_faults::Faults;
 use sdl_names::Declared;
 use sdl_scope::Names;
-use sdl_signal_lists::{add_processes, counted, named_lists, note_lists, note_processes};
+use sdl_signal_lists::{add_processes, named_lists, note_lists, note_processes};
 use sdl_spaces::ScopeId;
 use sdl_system::BlockId;
 use std::alloc::{AllocError, Global};
@@ -115,7 +115,8 @@ fn paths_in<'t>(
     lists: &mut Vec<SignalList>,
 ) -> Result<Vec<ChannelPath>, AllocError>
     ensures paths { IfOk result (λ paths. paths.items
-        ≡ paths_from declared.now (block_names (rows_of tables.now).blocks) (length lists.old.items) (all_paths (rows_of tables.now))) }
+        ≡ paths_from declared.now (block_names (rows_of tables.now).blocks) (length lists.old.items)
+        (all_paths (rows_of tables.now))) }
     ensures lists { OnOk result (map list_items lists.new.items ≡ map list_items lists.old.items
         ++ map (carried declared.now (block_names (rows_of tables.now).blocks)) (all_paths (rows_of tables.now))) }
     ensures count { OnOk result (length lists.new.items
@@ -134,7 +135,8 @@ fn paths_of<'t>(
     lists: &mut Vec<SignalList>,
 ) -> Result<Vec<ChannelPath>, AllocError>
     ensures paths { IfOk result (λ paths. paths.items
-        ≡ paths_from declared.now blocks.now (length lists.old.items) (flat_map channel_paths (map channel_seen channels.now))) }
+        ≡ paths_from declared.now blocks.now (length lists.old.items)
+        (flat_map channel_paths (map channel_seen channels.now))) }
     ensures lists { OnOk result (map list_items lists.new.items ≡ map list_items lists.old.items
         ++ map (carried declared.now blocks.now) (flat_map channel_paths (map channel_seen channels.now))) }
     ensures count { OnOk result (length lists.new.items
@@ -186,7 +188,8 @@ fn note_channels<'t>(
     faults: &mut Faults<'t>,
 ) -> Result<(), AllocError>
     ensures { OnOk result (told faults.new ≡ least_of (told faults.old)
-        (flat_map (path_faults declared.now (block_names (rows_of tables.now).blocks)) (all_paths (rows_of tables.now)))) }
+        (flat_map (path_faults declared.now (block_names (rows_of tables.now).blocks))
+        (all_paths (rows_of tables.now)))) }
 {
     let names = block_names(alloc, &tables.blocks)?;
     let paths = all_paths(alloc, &tables.channels)?;

@@ -8,12 +8,12 @@ ghost use Rattle.sdl_faults.specs.Faults.{least_of, told};
 ghost use Rattle.sdl_tree.specs.Views.{path_value};
 
 use crate::agents::{end_in, note_end};
-use sdl_channels::{ChannelPath, End, Item, ListId, PathId, SignalList};
+use sdl_channels::{ChannelPath, End, Item, ListId, PathId, SignalList, counted};
 use sdl_declared::ChannelEntry;
 use sdl_faults::Faults;
 use sdl_names::Declared;
 use sdl_scope::Names;
-use sdl_signal_lists::{counted, path_at, scope_of, seen_at};
+use sdl_signal_lists::{path_at, scope_of, seen_at};
 use sdl_spaces::ScopeId;
 use sdl_system::BlockId;
 use sdl_tree::ChannelPath as PathDefinition;

@@ -25,8 +25,8 @@ impl Drop for Known {
     }
 }
 
-/// The numbers of the lists of these receivers. Those of the receivers that were looked at last, for the same 64 signals, are
-/// known, so that sources with the same receivers cost no more than to compare them.
+/// The numbers of the lists of these receivers. Those of the receivers that were looked at last, for the same 64
+/// signals, are known, so that sources with the same receivers cost no more than to compare them.
 pub(crate) fn numbers_of(
     alloc: Global,
     word: usize,

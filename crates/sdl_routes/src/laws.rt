@@ -2,8 +2,8 @@
 
 ghost use Rattle.sdl_routes.specs.Laws.{NoneReceivesItsOwn, ReturnsByChannels};
 
-/// A signal comes back to its sender only where a channel of the text carries it: implied channels alone lead from no agent
-/// back to itself.
+/// A signal comes back to its sender only where a channel of the text carries it: implied channels alone lead from no
+/// agent back to itself.
 pub fn returns_by_channels()
     ensures { ReturnsByChannels }
 {}

@@ -5,7 +5,7 @@ ghost use Rattle.sdl_routes.specs.Entries.{Keeps};
 ghost use Rattle.sdl_routes.specs.Table.{AreDistinct};
 
 use indexmap::IndexSet;
-use sdl_links::counted;
+use sdl_channels::counted;
 use sdl_system::{ProcessId, ReceiversId};
 use std::alloc::{AllocError, Global};
 use std::marker::Model;

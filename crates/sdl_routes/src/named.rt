@@ -5,11 +5,11 @@ ghost use Rattle.sdl_channels.specs.Each.{ForSome};
 ghost use Rattle.sdl_routes.specs.Paths.{IsNamed};
 ghost use Rattle.sdl_routes.specs.Reached.{AreFlags};
 
-use sdl_channels::{Connect, Network, PathId};
-use sdl_links::counted;
+use sdl_channels::{Connect, Network, PathId, counted};
 use std::alloc::{AllocError, Global};
 
-/// For each path whether a connect names it among those in its block. The cost is that of the names in all connects for each path.
+/// For each path whether a connect names it among those in its block. The cost is that of the names in all connects for
+/// each path.
 pub(crate) fn named_flags(alloc: Global, network: &Network) -> Result<Vec<bool>, AllocError>
     ensures { IfOk result (λ flags. AreFlags network.now flags.items) }
 {

@@ -8,8 +8,8 @@ ghost use Rattle.sdl_channels.specs.declared.network.End.TheVariants as at;
 
 use crate::arrivals::Arrivals;
 use sdl_channels::mask::{has_bit, joined, mask_at};
-use sdl_channels::{End, Network, Process, SignalSets, Source};
-use sdl_links::{counted, is_implied, same_end};
+use sdl_channels::{End, Network, Process, SignalSets, Source, counted};
+use sdl_links::{is_implied, same_end};
 use sdl_system::ProcessId;
 use std::alloc::{AllocError, Global};
 
@@ -20,8 +20,8 @@ pub(crate) struct Receiver {
     pub(crate) signals: u64,
 }
 
-/// The processes that the 64 signals of this number reach, and the source with what implied channels lead to it from the
-/// others, so that these all share one list.
+/// The processes that the 64 signals of this number reach, and the source with what implied channels lead to it from
+/// the others, so that these all share one list.
 pub(crate) fn receivers_of(
     alloc: Global,
     network: &Network,

@@ -16,16 +16,16 @@ use crate::named::named_flags;
 use crate::receiver::receivers_of;
 use crate::word::Word;
 use port_values::SignalId;
-use sdl_channels::{End, Graph, Network, Scope, SignalSets, Source};
-use sdl_links::{counted, graph_from};
+use sdl_channels::{End, Graph, Network, Scope, SignalSets, Source, counted};
+use sdl_links::graph_from;
 use sdl_system::{ProcessId, Reach, Routes};
 use std::alloc::{AllocError, Global};
 
-/// The routes of a network: for the environment and each process, and for each signal, the processes to which paths lead the
-/// signal, and whether one leads to the environment. `sets` are the sets of the network's lists.
+/// The routes of a network: for the environment and each process, and for each signal, the processes to which paths
+/// lead the signal, and whether one leads to the environment. `sets` are the sets of the network's lists.
 ///
-/// The cost is that of the flow of 64 signals at a time from each source, a step for each source and signal, and, where a source
-/// has other receivers than the one before it, a step for each of them and each signal.
+/// The cost is that of the flow of 64 signals at a time from each source, a step for each source and signal, and, where
+/// a source has other receivers than the one before it, a step for each of them and each signal.
 pub fn routes_of(alloc: Global, network: &Network, sets: &SignalSets) -> Result<Routes, AllocError>
     requires { AreSets network.now.lists.items network.now.signals sets.now }
     ensures { IfOk result (AreRoutes network.now) }
@@ -107,7 +107,8 @@ fn row_from(
     Ok(row)
 }
 
-/// Where paths lead the 64 signals among which the signal of this number is. What is known of the signal before it is passed on.
+/// Where paths lead the 64 signals among which the signal of this number is. What is known of the signal before it is
+/// passed on.
 fn word_at(
     alloc: Global,
     network: &Network,

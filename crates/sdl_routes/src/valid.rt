@@ -11,13 +11,14 @@ ghost use Rattle.sdl_channels.specs.declared.list.ListId.{ListId};
 ghost use Rattle.sdl_channels.specs.declared.network.End.TheVariants as at;
 
 use port_values::SignalId;
-use sdl_channels::{ChannelPath, End, ListId, Network, Process, SignalSets};
-use sdl_links::{counted, same_end, same_scope};
+use sdl_channels::{ChannelPath, End, ListId, Network, Process, SignalSets, counted};
+use sdl_links::{same_end, same_scope};
 use sdl_system::{ProcessId, SignalSet};
 use std::alloc::{AllocError, Global};
 
-/// The valid input set of each process, by its number: the signals that channels of its scope carry to it, those that it
-/// names, and its timers. Implied channels carry to it only what it names. `sets` are the sets of the network's lists.
+/// The valid input set of each process, by its number: the signals that channels of its scope carry to it, those that
+/// it names, and its timers. Implied channels carry to it only what it names. `sets` are the sets of the network's
+/// lists.
 pub fn valid_sets(
     alloc: Global,
     network: &Network,

@@ -164,8 +164,8 @@ fn note_past<'t>(past: Option<&(&'t str, Place)>, faults: &mut Faults<'t>)
     }
 }
 
-/// The names of a state list.
-fn named_states(part: &BodyPart) -> &[Name]
+/// The names of the state list of a part of a process; none of `state *`, and of what is no state.
+pub fn named_states(part: &BodyPart) -> &[Name]
     ensures { names_value result.now ≡ part_states (body_part_value part.now) }
 {
     match part {

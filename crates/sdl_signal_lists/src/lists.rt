@@ -7,9 +7,8 @@ ghost use Rattle.sdl_signal_lists.specs.Lists.{list_at, list_faults};
 ghost use Rattle.sdl_signal_lists.specs.Seen.{list_items};
 ghost use Rattle.sdl_faults.specs.Faults.{least_of, told};
 
-use crate::number::counted;
 use crate::seen::seen_at;
-use sdl_channels::{Item, ListId, SignalList};
+use sdl_channels::{Item, ListId, SignalList, counted};
 use sdl_declared::{SignalListEntry, Tables};
 use sdl_faults::Faults;
 use sdl_names::Declared;

@@ -9,9 +9,8 @@ ghost use Rattle.sdl_tree.specs.Views.{process_value};
 
 use crate::lists::add_list;
 use crate::mentions::{add_named, add_timers, note_sets};
-use crate::number::counted;
 use crate::seen::{Seen, path_within, seen_at};
-use sdl_channels::{Item, Process, Scope, SignalList};
+use sdl_channels::{Item, Process, Scope, SignalList, counted};
 use sdl_declared::ProcessEntry;
 use sdl_faults::Faults;
 use sdl_names::Declared;

@@ -15,7 +15,6 @@ ghost use Rattle.sdl_runs.specs.World.{IsRoute, after_act};
 ghost use Rattle.sdl_steps.specs.Machine.{IsGoing, IsSameInstance, value_of};
 ghost use Rattle.sdl_steps.specs.Work.{Does, DoesWrong, FailsAt, IsIn, amid};
 ghost use Rattle.sdl_system.specs.Body as body;
-ghost use Rattle.sdl_system.specs.Sort.{pid_of};
 ghost use Rattle.sdl_system.specs.Table.{sending, whither_of};
 ghost use Rattle.sdl_system.specs.Term.{term_of};
 
@@ -25,7 +24,7 @@ use port_values::{Item, Pid, SignalId, Value, Values};
 use sdl_evaluation::{Identity, Store, evaluate_all, evaluate_at, sorts_of};
 use sdl_record::Failure;
 use sdl_runs::World;
-use sdl_system::{Dest, Destination, Expression, Output, Sending, Sort, System, Target};
+use sdl_system::{Dest, Destination, Expression, Output, Sending, Sort, System, Target, pid_of};
 use std::alloc::Global;
 
 /// Sends each signal, one after the other.
@@ -263,15 +262,5 @@ fn named_by<P: Inbox>(
             let value = evaluate_at(alloc, expression, sort, system, who, store, inbox)?;
             Ok(Dest::Pid(pid_of(value)))
         }
-    }
-}
-
-// The Pid of a value; null for what is no Pid.
-fn pid_of(value: Value) -> Pid
-    ensures { result ≡ pid_of value }
-{
-    match value {
-        Value::Pid(pid) => pid,
-        _ => Pid::Null,
     }
 }

@@ -59,7 +59,8 @@ fn sum_in(chain: &Chain, store: &Store) -> Option<Value>
 #[inline(always)]
 fn known(expression: &Expression, store: &Store) -> Option<Value>
     ensures { (system : SystemValue) (who : identity.Identity) (port : PortState)
-        → IfSome result (λ value. value_of (environment system who store.now port) (term_of expression.now) ≡ Ok value) }
+        → IfSome result
+        (λ value. value_of (environment system who store.now port) (term_of expression.now) ≡ Ok value) }
 {
     match expression {
         Expression::Variable(variable) => store.variables.get(*variable),

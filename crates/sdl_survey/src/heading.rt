@@ -14,8 +14,8 @@ use sdl_spaces::ScopeId;
 use sdl_system::{ProcessId, Sort, Variable};
 use std::alloc::{AllocError, Global};
 
-/// The variables of a process with the values that they begin with, formal parameters first. One whose sort is none's is
-/// left out.
+/// The variables of a process with the values that they begin with, formal parameters first. One whose sort is none's
+/// is left out.
 pub fn variables_of(
     alloc: Global,
     process: ProcessId,

@@ -12,13 +12,12 @@ ghost use Rattle.sdl_stimuli.specs.Context.{listed_members};
 
 use crate::lists::members;
 use port_values::SignalId;
-use sdl_channels::{Network, SignalSets};
+use sdl_channels::{Network, SignalSets, counted};
 use sdl_declared::Tables;
 use sdl_faults::Faults;
 use sdl_names::Declared;
 use sdl_network::{network_of, note_network};
 use sdl_routes::routes_of;
-use sdl_signal_lists::counted;
 use sdl_system::Routes;
 use std::alloc::{AllocError, Global};
 

@@ -15,12 +15,12 @@ use crate::heading::variables_of;
 use crate::inside::Inside;
 use crate::joined::Joined;
 use crate::narrow::{initial_of, maximum_of};
+use sdl_channels::counted;
 use sdl_declared::{ProcessEntry, Tables};
 use sdl_faults::Faults;
 use sdl_figures::{Figures, scope_at};
 use sdl_names::Declared;
 use sdl_process::{Heading, Surroundings, make_process};
-use sdl_signal_lists::counted;
 use sdl_spaces::ScopeId;
 use sdl_states::NamedStates;
 use sdl_system::{Process, ProcessId, SignalSet};
@@ -45,7 +45,8 @@ pub fn process_at<'t>(
     ensures made { IfOk result (IsMadeFrom (survey_of tables.now declared.now figures.now joined.now) number
         (process_seen entry.now)) }
     ensures noted { OnOk result (NotesBody
-        (surroundings (survey_of tables.now declared.now figures.now joined.now) number (process_seen entry.now).definition)
+        (surroundings (survey_of tables.now declared.now figures.now joined.now) number
+        (process_seen entry.now).definition)
         (process_seen entry.now).definition (told faults.old) (told faults.new)) }
 {
     let heading = heading_of(

@@ -28,7 +28,7 @@ pub use operation::{
 pub use process::{Process, State, Variable};
 pub use route::{Dest, Reach, ReceiversId, Routes, Source, Target};
 pub use signal::{Signal, SignalSet, Timer};
-pub use sort::{Sort, in_sort};
+pub use sort::{Sort, in_sort, pid_of};
 pub use state::{
     Choice, Continuous, Enabled, Enabling, Reaction, Reactions, Reception, StateTable,
 };

@@ -39,7 +39,8 @@ pub fn in_sort(value: Value, sort: Sort) -> Option<Value>
     })
 }
 
-fn pid_of(value: Value) -> Pid
+/// The Pid of a value; null for what is no Pid.
+pub fn pid_of(value: Value) -> Pid
     ensures { result ≡ pid_of value }
 {
     match value {

@@ -26,7 +26,8 @@ pub struct System {
     process_names: IndexMap<String, ProcessId>,
 }
 
-/// Written out, so that the drop of all that a system may hold is proved here, and not anew in each crate that drops one.
+/// Written out, so that the drop of all that a system may hold is proved here, and not anew in each crate that drops
+/// one.
 impl Drop for System {
     fn drop(self) {
         let System {
