@@ -1,5 +1,7 @@
 //! The command line: what is measured, and with how much.
 
+use crate::measure::Measure;
+use bench_texts::{Shape, Way};
 use clap::builder::ValueParser;
 use clap::error::ErrorKind;
 use clap::{Arg, ArgAction, ArgMatches, Command, Error};
@@ -8,67 +10,36 @@ use std::env;
 use std::rt::Env;
 
 /// What follows the help.
-const HELP: &str = "What there is:
-  puts    one sender puts N signals into a shared port, and its owner takes them
-  four    four senders put N signals together, each in a thread of its own, and a fifth thread takes them
-  saved   10 N takes behind N saved signals
-  urgent  N takes of a priority input among N ordinary signals
-  sets    10 N sets and resets of a timer beside N waiting signals
-  timers  N timers are set, set again, asked for, expire and are taken
-  finish  N timers expire, and the port ends";
+const HELP: &str = "Calls of a port:
+  puts N       one sender puts N signals into a shared port, and its owner takes them
+  four N       four senders put N signals together, each in a thread of its own, and a fifth thread takes them
+  saved N      10 N takes behind N saved signals
+  urgent N     N takes of a priority input among N ordinary signals
+  sets N       10 N sets and resets of a timer beside N waiting signals
+  timers N     N timers are set, set again, asked for, expire and are taken
+  finish N     N timers expire, and the port ends
 
-/// What is measured.
-#[derive(Clone, Copy)]
-pub enum Measure {
-    Puts,
-    Four,
-    Saved,
-    Urgent,
-    Sets,
-    Timers,
-    Finish,
-}
+Whole runs of texts that are made for it:
+  ring N H     N instances hand a token on H times, up their numbers or --down; N is 999 at most
+  save N H     an instance that saves N signals takes H others
+  flood N      N signals that one instance sends to another's port
+  busy N H     N instances make H transitions each; N is 1000 at most
+  fuses N H    an instance sets and resets a timer H times while N others wait
 
-impl Measure {
-    /// All of them.
-    const ALL: [Measure; 7] = [
-        Measure::Puts,
-        Measure::Four,
-        Measure::Saved,
-        Measure::Urgent,
-        Measure::Sets,
-        Measure::Timers,
-        Measure::Finish,
-    ];
+Checks of texts of one shape, in N bytes:
+  states N, tasks N, processes N, decisions N
 
-    /// Its name on the command line.
-    pub fn name(self) -> &'static str {
-        match self {
-            Measure::Puts => "puts",
-            Measure::Four => "four",
-            Measure::Saved => "saved",
-            Measure::Urgent => "urgent",
-            Measure::Sets => "sets",
-            Measure::Timers => "timers",
-            Measure::Finish => "finish",
-        }
-    }
-
-    fn of_name(name: &str) -> Option<Measure> {
-        Measure::ALL
-            .into_iter()
-            .find(|measure| measure.name() == name)
-    }
-}
+  all N        each of them, with N for all numbers and 10000 N bytes";
 
 /// What the command line asks for.
 #[derive(Drop)]
 pub enum Request {
-    Measure {
-        measure: Measure,
-        times: u64,
-        is_timed: bool,
-    },
+    /// To measure this.
+    Measure { measure: Measure, is_timed: bool },
+    /// To measure everything, with this number.
+    All { number: u64, is_timed: bool },
+    /// To print this text.
+    Print(Shape),
     /// It asked for help, which was printed.
     Answered,
     /// It has a mistake, which was told, or could not be read.
@@ -87,39 +58,63 @@ pub fn read_command_line<R: Env + AllocGlobal + Print + Eprint>(rt: &R) -> Reque
     match asked(rt.alloc(), words.as_slice()) {
         Ok(Some(request)) => request,
         Ok(None) => {
-            let _ = eprintln!(rt; "bench: nothing of that name is measured; --help has what is");
+            let _ = eprintln!(rt;
+                "bench: there is nothing of that name with such numbers, or no text of it; --help has what there is"
+            );
             Request::Misused
         }
         Err(error) => told(rt, &error),
     }
 }
 
-/// What the words of the command line ask for, the program's name first; none where nothing of that name is measured.
+/// What the words of the command line ask for, the program's name first; none where there is no such thing.
 fn asked(alloc: Global, words: &[String]) -> Result<Option<Request>, Error> {
     let matches = command(alloc)?.try_get_matches_from(words)?;
     Ok(requested(&matches))
 }
 
-/// What is asked for; none where nothing of that name is measured.
+/// What is asked for; none where there is no such thing.
 fn requested(matches: &ArgMatches<'_>) -> Option<Request> {
-    let measure = Measure::of_name(matches.get_str("WHAT")?)?;
-    let times = matches.get_one::<u64>("N")?;
-    Some(Request::Measure {
-        measure,
-        times,
-        is_timed: matches.get_flag("time"),
-    })
+    let name = matches.get_str("WHAT")?;
+    let number = matches.get_one::<u64>("N")?;
+    let times = matches.get_one::<u64>("H")?;
+    let is_timed = matches.get_flag("time");
+    let is_printed = matches.get_flag("print");
+    if name == "all" {
+        return (!is_printed).then_some(Request::All { number, is_timed });
+    }
+    match Measure::named(name, number, times, way(matches))? {
+        Measure::Text(shape) if is_printed => Some(Request::Print(shape)),
+        Measure::Calls(..) if is_printed => None,
+        measure => Some(Request::Measure { measure, is_timed }),
+    }
+}
+
+/// Which way round a ring.
+fn way(matches: &ArgMatches<'_>) -> Way {
+    if matches.get_flag("down") {
+        Way::Down
+    } else {
+        Way::Up
+    }
 }
 
 /// The program with its arguments.
 fn command<'a>(alloc: Global) -> Result<Command<'a>, AllocError> {
     let command = Command::new(alloc, "bench")
-        .about("Does one thing with N of something in an input port, and prints what was done")
+        .about("Does one thing with much of something, and prints how much was done")
         .after_help(HELP);
     command
         .arg(what(alloc))?
-        .arg(times(alloc))?
-        .arg(time(alloc))
+        .arg(number(alloc, "N", "With how much").required(true))?
+        .arg(number(alloc, "H", "How often").default_value("1000"))?
+        .arg(flag(alloc, "down", "Hands the token of a ring down the numbers"))?
+        .arg(flag(
+            alloc,
+            "print",
+            "Prints the text, in place of what was done with it",
+        ))?
+        .arg(flag(alloc, "time", "Prints how long it took, too"))
 }
 
 /// What is measured.
@@ -130,19 +125,18 @@ fn what<'a>(alloc: Global) -> Arg<'a> {
         .value_parser(ValueParser::string())
 }
 
-/// With how much.
-fn times<'a>(alloc: Global) -> Arg<'a> {
-    Arg::new(alloc, "N")
-        .required(true)
-        .help("With how much")
+/// A number.
+fn number<'a>(alloc: Global, name: &'a str, help: &'a str) -> Arg<'a> {
+    Arg::new(alloc, name)
+        .help(help)
         .value_parser(ValueParser::unsigned(1, 1_000_000_000))
 }
 
-/// Whether the time is told.
-fn time<'a>(alloc: Global) -> Arg<'a> {
-    Arg::new(alloc, "time")
-        .long("time")
-        .help("Prints how long it took, too")
+/// An option without a value.
+fn flag<'a>(alloc: Global, name: &'a str, help: &'a str) -> Arg<'a> {
+    Arg::new(alloc, name)
+        .long(name)
+        .help(help)
         .action(ArgAction::SetTrue)
 }
 

@@ -1,14 +1,20 @@
-//! Measures the port: what calls cost with much in it. `bench WHAT N` does one thing with N of something, and prints what was
-//! done; with `--time` it prints how long that took, too. `bench --help` lists what there is.
+//! Measures the port and whole runs: what calls cost with much in a port, and what runs and checks of great texts cost.
+//! `bench WHAT N` does one thing with N of something, and prints how much was done; with `--time` it prints how long that
+//! took, too. `bench --help` lists what there is.
 //!
-//! `docs/PERFORMANCE.md` has the method and the figures. The gate runs it with a small number.
+//! `docs/PERFORMANCE.md` has the method and the figures. The gate runs all of it with a small number.
 #![tactic(auto)]
 
 mod alone;
+mod calls;
 mod command_line;
+mod measure;
 mod shared;
+mod whole;
 
-use command_line::{Measure, Request};
+use bench_texts::Shape;
+use command_line::Request;
+use measure::Measure;
 use std::alloc::Global;
 use std::io;
 use std::process::ExitCode;
@@ -18,55 +24,55 @@ use std::thread::Threads;
 use std::time::{Clock, Instant};
 
 fn main(rt: HostRuntime) -> ExitCode {
-    match command_line::read_command_line(&rt) {
-        Request::Answered => ExitCode::SUCCESS,
-        Request::Misused => ExitCode::from(2),
-        Request::Measure {
-            measure,
-            times,
-            is_timed,
-        } => match measured(&rt, measure, times, is_timed) {
-            Ok(true) => ExitCode::SUCCESS,
-            _ => ExitCode::from(1),
-        },
+    let is_done = match command_line::read_command_line(&rt) {
+        Request::Answered => return ExitCode::SUCCESS,
+        Request::Misused => return ExitCode::from(2),
+        Request::Measure { measure, is_timed } => measured(&rt, measure, is_timed),
+        Request::All { number, is_timed } => all_measured(&rt, number, is_timed),
+        Request::Print(shape) => printed(&rt, shape),
+    };
+    match is_done {
+        Ok(true) => ExitCode::SUCCESS,
+        _ => ExitCode::from(1),
     }
 }
 
-/// Measures, and tells what was done. False where memory failed.
-fn measured<R: AllocGlobal + Print + Clock + Threads + Wait + Sync>(
+/// Measures everything, up to what fails. False where something did.
+fn all_measured<R: AllocGlobal + Print + Clock + Threads + Wait + Sync>(
     rt: &R,
-    measure: Measure,
-    times: u64,
+    number: u64,
     is_timed: bool,
 ) -> io::Result<bool> {
-    let what = measure.name();
-    let start = Instant::now(rt)?;
-    let Some(done) = done(rt, rt.alloc(), measure, times) else {
-        return Ok(false);
-    };
-    let took = start.elapsed(rt)?;
-    if is_timed {
-        println!(rt; "{what} {times}: {done}, {} us", took.as_micros())?;
-    } else {
-        println!(rt; "{what} {times}: {done}")?;
+    for measure in &Measure::all(rt.alloc(), number)? {
+        if !measured(rt, *measure, is_timed)? {
+            return Ok(false);
+        }
     }
     Ok(true)
 }
 
-/// How much was done, or none where memory failed.
-fn done<R: Threads + Wait + Sync>(
+/// Measures, and tells how much was done. False where it failed.
+fn measured<R: AllocGlobal + Print + Clock + Threads + Wait + Sync>(
     rt: &R,
-    alloc: Global,
     measure: Measure,
-    times: u64,
-) -> Option<u64> {
-    match measure {
-        Measure::Puts => shared::puts(rt, alloc, times),
-        Measure::Four => shared::puts_by_four(rt, alloc, times),
-        Measure::Saved => alone::takes_past_saved(alloc, times),
-        Measure::Urgent => alone::takes_of_urgent(alloc, times),
-        Measure::Sets => alone::sets_beside_waiting(alloc, times),
-        Measure::Timers => alone::timers(alloc, times),
-        Measure::Finish => shared::finishes(rt, alloc, times),
+    is_timed: bool,
+) -> io::Result<bool> {
+    let start = Instant::now(rt)?;
+    let Some(done) = measure.done(rt, rt.alloc()) else {
+        return Ok(false);
+    };
+    let took = start.elapsed(rt)?;
+    if is_timed {
+        println!(rt; "{measure}: {done}, {} us", took.as_micros())?;
+    } else {
+        println!(rt; "{measure}: {done}")?;
     }
+    Ok(true)
+}
+
+/// Prints the text of a shape.
+fn printed<R: AllocGlobal + Print>(rt: &R, shape: Shape) -> io::Result<bool> {
+    let text = shape.text(rt.alloc())?;
+    print!(rt; "{text}")?;
+    Ok(true)
 }

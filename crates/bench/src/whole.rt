@@ -1,0 +1,42 @@
+//! Whole runs and checks, through the function that `sdlrun` is over.
+
+use bench_texts::Shape;
+use sdl_engine::{Command, Options, Outcome, run_text};
+use std::alloc::Global;
+use std::io::{self, Write};
+
+/// A writer that counts the bytes that it is given, and keeps none.
+#[derive(Drop)]
+struct Counter {
+    bytes: u64,
+}
+
+impl Write for Counter {
+    fn write(&mut self, bytes: &[u8]) -> io::Result<usize> {
+        self.bytes = self.bytes.wrapping_add(bytes.len() as u64);
+        Ok(bytes.len())
+    }
+
+    fn flush(&mut self) -> io::Result<()> {
+        Ok(())
+    }
+}
+
+/// Runs the text of a shape, or checks it where it has no script, and tells how many bytes were written. None where
+/// memory failed, or the text was refused or the run cut.
+pub fn written(alloc: Global, shape: Shape) -> Option<u64> {
+    let text = shape.text(alloc).ok()?;
+    let options = Options {
+        command: if shape.is_run() {
+            Command::Run
+        } else {
+            Command::Check
+        },
+        limit: Options::MOST_LIMIT,
+    };
+    let mut counter = Counter { bytes: 0 };
+    match run_text(alloc, &mut text.as_bytes(), &mut counter, &options) {
+        Ok(Outcome::Whole) => Some(counter.bytes),
+        _ => None,
+    }
+}
