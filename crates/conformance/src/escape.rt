@@ -72,7 +72,8 @@ fn expand_first<'a>(
 ) -> Result<&'a [u8], EscapeError>
     requires { 0 < length text.now }
     ensures shorter { IfOk result (λ rest. length rest.now < length text.now) }
-    ensures plain { IsPlain text.now → IfOk result (λ rest. IsPlain rest.now × (out.new.items ++ rest.now ≡ out.old.items ++ text.now)) }
+    ensures plain { IsPlain text.now → IfOk result
+        (λ rest. IsPlain rest.now × (out.new.items ++ rest.now ≡ out.old.items ++ text.now)) }
 {
     let (piece, rest) = first_piece(text)?;
     expand_piece(piece, side, out)?;

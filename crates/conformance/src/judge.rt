@@ -107,7 +107,8 @@ fn difference_again(
     answer: &Answer,
     options: &Options,
 ) -> Result<Option<LinePair>, AllocError>
-    ensures { IfOk result (λ found. MatchOption found (IsCanonical options.now answer.now) (λ _. IsUnstable options.now answer.now)) }
+    ensures { IfOk result (λ found. MatchOption found
+        (IsCanonical options.now answer.now) (λ _. IsUnstable options.now answer.now)) }
 {
     if options.command != Command::Check || answer.status != 0 {
         return Ok(None);

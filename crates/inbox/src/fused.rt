@@ -23,7 +23,8 @@ pub fn set(plain: &mut PlainPort, pid: u32, key: TimerKey, due: Ticks) -> Result
         × (fuse ≡ record { pid = pid; key = key; arm = plain.old.state.sets + 1; due = due }))
         (λ error. (plain.new.state ≡ plain.old.state)
         × ((error ≡ PortError.SetsSpent) ⊎ (error ≡ PortError.Memory))) }
-    ensures armed { MatchResult result (λ fuse. plain.new.armed ≡ with_armed key (plain.old.state.sets + 1) due plain.old.armed)
+    ensures armed { MatchResult result
+        (λ fuse. plain.new.armed ≡ with_armed key (plain.old.state.sets + 1) due plain.old.armed)
         (λ _. plain.new.armed ≡ plain.old.armed) }
     ensures spent { IsErrOf result PortError.SetsSpent ↔ (plain.old.state.sets ≡ MOST_SETS) }
 {

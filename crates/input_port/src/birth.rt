@@ -21,7 +21,8 @@ pub fn port(alloc: Global, pid: u32) -> Result<NewPort, PortError>
     ensures error { MatchResult result (λ _. Unit {0}) (λ error. error ≡ PortError.Memory) }
     ensures port { MatchResult result (λ made. made.port.pid ≡ pid) (λ _. Unit {0}) }
     ensures owner { MatchResult result (λ made. made.owner ≡ newborn made.port.queue pid) (λ _. Unit {0}) }
-    ensures desk { MatchResult result (λ made. made.desk ≡ record { port = made.port.queue; given = 0 }) (λ _. Unit {0}) }
+    ensures desk { MatchResult result (λ made. made.desk ≡ record { port = made.port.queue; given = 0 })
+        (λ _. Unit {0}) }
 {
     let Ok((queue, mut pass)) = steps::open(alloc) else {
         return Err(PortError::Memory);

@@ -22,7 +22,8 @@ pub fn no_fewer_are_drawn()
     ensures { NoFewerAreDrawn }
 {}
 
-/// Where no more are drawn than they put, all of these are drawn, those of each origin in their order, and nothing else.
+/// Where no more are drawn than they put, all of these are drawn, those of each origin in their order, and nothing
+/// else.
 #[tactic(auto, using(crate::proofs::Counting::counts_tell))]
 pub fn counts_tell()
     ensures { CountsTell }

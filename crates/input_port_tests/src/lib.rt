@@ -1,5 +1,5 @@
-//! Tests of the port of many senders and one owner: calls on their happy paths, whole rows of calls, and calls from several threads;
-//! and of the sending side of an instance: each call that can be refused, where memory is there.
+//! Tests of the port of many senders and one owner: calls on their happy paths, whole rows of calls, and calls from
+//! several threads; and of the sending side of an instance: each call that can be refused, where memory is there.
 //!
 //! They stand above `input_port` and `sdl_peers`, so that these aren't proved a second time for their tests.
 #![tactic(auto)]

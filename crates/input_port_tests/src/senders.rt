@@ -171,7 +171,8 @@ fn put_by_four<R: Threads + Wait + Abort + Sync>(
     [a.sent(), b.sent(), c.sent(), d.sent()]
 }
 
-/// Takes until the last value of each of four senders was consumed, and counts those that were not the next of their sender.
+/// Takes until the last value of each of four senders was consumed, and counts those that were not the next of their
+/// sender.
 fn take_all<R: Wait>(rt: &R, port: &Port, mut owner: Owner, inputs: &Selection) -> u32
     requires { owner.port ≡ port.now.queue }
 {

@@ -47,7 +47,8 @@ impl Model for Backlog {
       room = deque_capacity b.rest - (length b.passed.items + length b.rest.items);
     } };
 
-    ghost invariant = { λ b. IsBacklog b.passed.items b.rest.items b.saved.items b.looked b.ordinary.items (deque_capacity b.rest) };
+    ghost invariant = { λ b. IsBacklog
+        b.passed.items b.rest.items b.saved.items b.looked b.ordinary.items (deque_capacity b.rest) };
 }
 
 impl Backlog {
@@ -354,8 +355,8 @@ fn looked_after(looked: usize, place: usize) -> usize
     }
 }
 
-// Room for one entry more in a list, and for as many as there are beside it. Where there is none, twice the room is asked
-// for: a list itself grows by its length alone, and what lies beside it may be nearly all there is.
+// Room for one entry more in a list, and for as many as there are beside it. Where there is none, twice the room is
+// asked for: a list itself grows by its length alone, and what lies beside it may be nearly all there is.
 fn room_beside(list: &mut VecDeque<Got>, others: usize) -> Result<(), AllocError>
     requires { others + length list.old.items ≤ deque_capacity list.old }
     ensures ok { OnOk result (others + length list.new.items < deque_capacity list.new) }

@@ -44,7 +44,12 @@ impl Model for PlainPort {
     ghost Value = { PlainPortValue };
 
     ghost view = { λ port. record {
-      state = record { waiting = waiting_in port.waiting; timers = port.timers.timers; sets = port.sets; alive = port.alive };
+      state = record {
+        waiting = waiting_in port.waiting;
+        timers = port.timers.timers;
+        sets = port.sets;
+        alive = port.alive;
+      };
       armed = port.timers.armed;
       room = port.waiting.room;
     } };

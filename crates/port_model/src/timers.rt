@@ -220,7 +220,8 @@ impl Timers {
 
 // Takes the deadline of a timer out, if it runs.
 fn unschedule(deadlines: &mut BTreeSet<Deadline>, timer: &Timer)
-    ensures { (d : Deadline) → contains deadline_order deadlines.new d ≡ (if is_until timer.now d then false else contains deadline_order deadlines.old d) }
+    ensures { (d : Deadline) → contains deadline_order deadlines.new d
+        ≡ (if is_until timer.now d then false else contains deadline_order deadlines.old d) }
 {
     if !timer.waits {
         let Timer { arm, due, .. } = *timer;

@@ -295,7 +295,8 @@ impl Drawer {
         ensures port { self.new.port ≡ self.old.port }
         ensures state { self.new.state ≡ self.old.state }
         ensures popped { MatchOption result ((self.new ≡ self.old) × (self.new.known ≡ self.new.drawn))
-            (λ placed. IsDrawn self.old (record self.new { state = after_draw self.old.pid self.old.state placed }) (placed ∷ [])) }
+            (λ placed. IsDrawn self.old
+            (record self.new { state = after_draw self.old.pid self.old.state placed }) (placed ∷ [])) }
     {
         let popped = steps::pop(rt, &port.queue, &mut self.pass);
         self.signals += signals_in(&popped);
@@ -311,7 +312,9 @@ impl Drawer {
         requires few { signals_drawn self.old < 2 ^ 64 - 1 }
         ensures port { self.new.port ≡ self.old.port }
         ensures state { self.new.state ≡ self.old.state }
-        ensures gather { IsGathered self.old (record self.new { state = after_draws self.old.pid self.old.state (popped_list result) }) sender (popped_list result) }
+        ensures gather { IsGathered self.old
+            (record self.new { state = after_draws self.old.pid self.old.state (popped_list result) })
+            sender (popped_list result) }
     {
         let popped = take_in(rt, &port.queue, &mut self.pass, sender.into_pass());
         self.gathered += 1;

@@ -9,7 +9,8 @@ use std::alloc::Global;
 use std::process::Abort;
 use std::thread;
 
-/// What a reader made after `advance(5)`, and one made of that reader, read: never a time before 5, by the contracts alone.
+/// What a reader made after `advance(5)`, and one made of that reader, read: never a time before 5, by the contracts
+/// alone.
 fn read_after_five(rt: &impl Abort, ticker: &mut Ticker) -> (Ticks, Ticks)
     requires { ticker.old ≤ 5 }
     ensures { (5 ≤ result.0) × (5 ≤ result.1) }

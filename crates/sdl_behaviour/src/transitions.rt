@@ -71,7 +71,8 @@ pub fn terminated(
 ) -> Result<Transition, Fault>
     ensures { let done = map statement_value actions.items in
         let named = option_map name_value label in
-        Reads transition_value (made (λ last. spec.steps_with (done, Some (spec.ending_with named last))) spec.terminator cursor.old) result cursor.new }
+        let ended = made (λ last. spec.steps_with (done, Some (spec.ending_with named last))) spec.terminator in
+        Reads transition_value (ended cursor.old) result cursor.new }
 {
     let terminator = terminator(alloc, cursor)?;
     let ending = TerminatorStatement { label, terminator };
@@ -84,7 +85,8 @@ pub fn transition_with(
     actions: Vec<ActionStatement>,
     terminator: Option<TerminatorStatement>,
 ) -> Transition
-    ensures { transition_value result ≡ spec.steps_with (map statement_value actions.items, option_map ending_value terminator) }
+    ensures { transition_value result ≡ spec.steps_with
+        (map statement_value actions.items, option_map ending_value terminator) }
 {
     Transition {
         actions,
@@ -158,7 +160,8 @@ pub fn asked(
     depth: usize,
 ) -> Result<(Spelling, Expression), Fault>
     requires { depth ≤ 64 }
-    ensures { Reads (λ asked. (asked.0, expr_value asked.1)) ((expect mark.Decision ⊗ part_readings.ended (expr depth)) cursor.old) result cursor.new }
+    ensures { Reads (λ asked. (asked.0, expr_value asked.1))
+        ((expect mark.Decision ⊗ part_readings.ended (expr depth)) cursor.old) result cursor.new }
 {
     let word = cursor.expect(Mark::Decision)?;
     let question = expression(alloc, cursor, depth)?;
@@ -174,8 +177,8 @@ pub fn decision_closed(
     parts: Vec<AnswerPart>,
     otherwise: Option<Transition>,
 ) -> Result<Action, Fault>
-    ensures { Reads action_value (made
-        (λ _. spec.decision_with (word, (expr_value question, (map answer_part_value parts.items, option_map transition_value otherwise))))
+    ensures { Reads action_value (made (λ _. spec.decision_with
+        (word, (expr_value question, (map answer_part_value parts.items, option_map transition_value otherwise))))
         (behind mark.EndDecision part_readings.end) cursor.old) result cursor.new }
 {
     cursor.expect(Mark::EndDecision)?;
@@ -190,7 +193,8 @@ pub fn decision_with(
     parts: Vec<AnswerPart>,
     otherwise: Option<Transition>,
 ) -> Action
-    ensures { action_value result ≡ spec.decision_with (word, (expr_value question, (map answer_part_value parts.items, option_map transition_value otherwise))) }
+    ensures { action_value result ≡ spec.decision_with
+        (word, (expr_value question, (map answer_part_value parts.items, option_map transition_value otherwise))) }
 {
     Action::Decision {
         word,
@@ -209,7 +213,8 @@ pub fn part(
     at: Inside,
 ) -> Result<Option<AnswerPart>, Fault>
     requires { at.depth ≤ 64 }
-    ensures { Reads (option_map answer_part_value) (spec.part at.depth (spec.trans at.depth) cursor.old) result cursor.new }
+    ensures { Reads (option_map answer_part_value)
+        (spec.part at.depth (spec.trans at.depth) cursor.old) result cursor.new }
 {
     if !cursor.sees(Mark::Open) {
         return Ok(None);

@@ -1,5 +1,5 @@
-//! What every production of SDL/PR is read with: the words of a text with their places, a cursor over them, and lists of
-//! anything that can be read.
+//! What every production of SDL/PR is read with: the words of a text with their places, a cursor over them, and lists
+//! of anything that can be read.
 //!
 //! A cursor stands before the words that are not read yet. A production is a function that reads it, or leaves the
 //! cursor where no reading goes on and tells the fault. `specs/Reading.antt` has the ways in which readings are put

@@ -62,7 +62,8 @@ fn placed<'t>(text: &'t [u8], token: Token, place: Place) -> PlacedWord<'t>
     requires ordered { token.start ≤ token.end }
     requires within { token.end ≤ length text.now }
     requires slice { IsSlice text.now token }
-    ensures { word_of_placed result ≡ words.word_of token.kind (record { text = slice_range text.now token.start token.end; place = place }) }
+    ensures { word_of_placed result ≡ words.word_of token.kind
+        (record { text = slice_range text.now token.start token.end; place = place }) }
 {
     let bytes = &text[token.start..token.end];
     let word = match token.kind {

@@ -1,8 +1,9 @@
 //! What the definitions of a specification declare (Z.101 to Z.104).
 //!
-//! `Tables` has all that is defined, a table for each kind in the order of the text, each entry with the scope that it stands
-//! in and with its part of the tree. `specs/Parts` has the definitions of a text in order, `specs/Rows` each kind of them, and
-//! `specs/Tables` all kinds together. A name that stands for a sort and is none's is noted as Unknown.
+//! `Tables` has all that is defined, a table for each kind in the order of the text, each entry with the scope that it
+//! stands in and with its part of the tree. `specs/Parts` has the definitions of a text in order, `specs/Rows` each
+//! kind of them, and `specs/Tables` all kinds together. A name that stands for a sort and is none's is noted as
+//! Unknown.
 #![tactic(auto)]
 
 mod agents;

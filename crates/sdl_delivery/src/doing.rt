@@ -85,7 +85,8 @@ impl<'s> Instances<'s> {
         ensures clock { board.new.clock ≡ board.old.clock }
         ensures given { OnOk result (self.new.census.given ≡ given_after_one self.old.census.given (act_of act)) }
         ensures state { (m : Moment) → OnOk result (AreNumbered self.old.census.given (act_of act ∷ [])
-            → state_of (at_board m board.new) self.new ≡ after_act (state_of (at_board m board.old) self.old) (act_of act)) }
+            → state_of (at_board m board.new) self.new
+            ≡ after_act (state_of (at_board m board.old) self.old) (act_of act)) }
         ensures fuses { (until : ℕ) → until ≤ board.old.clock + 1 → IsNoFuseBefore until board.old.fuses
             → OnOk result (IsNoFuseBefore until board.new.fuses) }
     {

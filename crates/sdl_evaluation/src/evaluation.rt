@@ -115,7 +115,8 @@ fn evaluate_chain<P: Inbox>(
 #[inline(always)]
 fn evaluate_pair(chain: &Chain, store: &Store) -> Option<Result<Value, Failure>>
     ensures { (system : SystemValue) (who : identity.Identity) (port : PortState)
-        → IfSome result (λ answer. value_of (environment system who store.now port) (term_of_chain chain.now) ≡ answer) }
+        → IfSome result
+        (λ answer. value_of (environment system who store.now port) (term_of_chain chain.now) ≡ answer) }
 {
     if chain.rest.len() != 1 {
         return None;
@@ -320,7 +321,8 @@ fn pid_of(word: PidExpression, who: &Identity, store: &Store) -> Pid
 #[inline(always)]
 fn known(expression: &Expression, store: &Store) -> Option<Value>
     ensures { (system : SystemValue) (who : identity.Identity) (port : PortState)
-        → IfSome result (λ value. value_of (environment system who store.now port) (term_of expression.now) ≡ Ok value) }
+        → IfSome result
+        (λ value. value_of (environment system who store.now port) (term_of expression.now) ≡ Ok value) }
 {
     match expression {
         Expression::Value(value) => Some(*value),

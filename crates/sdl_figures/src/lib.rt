@@ -2,8 +2,8 @@
 //! Z.104: synonyms).
 //!
 //! Synonyms first, since all others may name them: then the counts of each process, what each variable begins with, and
-//! the default duration of each timer, each in the names of the scope that it stands in. Together the processes may have
-//! 1,000 instances at the start. `specs/Figures` has what each comes to, and the rules that are broken in them.
+//! the default duration of each timer, each in the names of the scope that it stands in. Together the processes may
+//! have 1,000 instances at the start. `specs/Figures` has what each comes to, and the rules that are broken in them.
 #![tactic(auto)]
 
 mod counts;

@@ -83,7 +83,13 @@ fn name_of(system: &System, signal: SignalId) -> &str {
 }
 
 impl World for Outside<'_> {
-    ghost value = { λ w. record { system = w.system.now; clock = Some w.clock; census = None; acts = None; sent = None } };
+    ghost value = { λ w. record {
+      system = w.system.now;
+      clock = Some w.clock;
+      census = None;
+      acts = None;
+      sent = None;
+    } };
 
     ghost prepared = { λ w. true };
 

@@ -1,5 +1,5 @@
-//! How an instance is run: what the script says and what the instance sends to itself comes into its port, timers expire
-//! at their times, and it steps until it rests.
+//! How an instance is run: what the script says and what the instance sends to itself comes into its port, timers
+//! expire at their times, and it steps until it rests.
 
 ghost use Rattle.std.specs.Prelude.{◌≤◌};
 

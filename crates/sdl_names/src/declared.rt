@@ -45,8 +45,8 @@ impl<'s, 't> Drop for Declared<'s, 't> {
 }
 
 impl<'s, 't> Declared<'s, 't> {
-    /// The names of a specification with these tables. One that its scope has already is noted as a Duplicate; a state may
-    /// be named again.
+    /// The names of a specification with these tables. One that its scope has already is noted as a Duplicate; a state
+    /// may be named again.
     pub fn of(
         alloc: Global,
         tables: &'s Tables<'t>,

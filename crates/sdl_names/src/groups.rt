@@ -48,7 +48,8 @@ pub fn signal_names<'s, 't>(
     tables: &'s Tables<'t>,
     faults: &mut Faults<'t>,
 ) -> Result<SignalNames<'s, 't>, AllocError>
-    ensures signals { IfOk result (λ names. HasMeant signal_meaning names.signals (signal_entries (rows_of tables.now))) }
+    ensures signals { IfOk result (λ names. HasMeant signal_meaning names.signals
+        (signal_entries (rows_of tables.now))) }
     ensures lists { IfOk result (λ names. Has names.lists (list_entries (rows_of tables.now))) }
     ensures noted { IfOk result (λ names. told faults.new ≡ least_of (told faults.old)
         (duplicates (standings (signal_entries (rows_of tables.now)))

@@ -80,7 +80,8 @@ pub fn link(alloc: Global, cursor: &mut Cursor<'_, '_>, at: At) -> Result<Option
     requires shallow { at.depth ≤ 64 }
     requires binary { 2 ≤ at.loose }
     requires loosest { at.loose ≤ 7 }
-    ensures { Reads (option_map link_value) (spec.link (spec.level (spec.readers at.depth) (at.loose - 1)) at.loose cursor.old) result cursor.new }
+    ensures { Reads (option_map link_value)
+        (spec.link (spec.level (spec.readers at.depth) (at.loose - 1)) at.loose cursor.old) result cursor.new }
 {
     let depth = at.depth;
     let loose = at.loose - 1;

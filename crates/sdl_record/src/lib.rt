@@ -1,8 +1,8 @@
 //! What an instance did: a list of events, as `specs/Event.antt` has them.
 //!
-//! A record takes each event into room that was made before, so that noting what happened never fails. The values of all
-//! events stand in one table, in their order, and an event keeps how many of them are its own: it takes 32 bytes, and no
-//! memory apart from its record.
+//! A record takes each event into room that was made before, so that noting what happened never fails. The values of
+//! all events stand in one table, in their order, and an event keeps how many of them are its own: it takes 32 bytes,
+//! and no memory apart from its record.
 #![tactic(auto)]
 
 mod entry;

@@ -107,7 +107,8 @@ fn push_task(
     system: &System,
 ) -> Result<(), AllocError>
     ensures { OnOk result (string_bytes text.new ≡ string_bytes text.old
-        ++ line (codes "  task " ++ variable_name system.now «record».now.process variable ++ codes " := " ++ value_text value.now)) }
+        ++ line (codes "  task " ++ variable_name system.now «record».now.process variable
+        ++ codes " := " ++ value_text value.now)) }
 {
     text.push_str("  task ")?;
     text.push_str(variable_name(system, record.process(), variable))?;

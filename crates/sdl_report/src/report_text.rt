@@ -74,7 +74,8 @@ fn write_event<W: Write>(
     writer: &mut W,
 ) -> Result<(), WriteFault>
     ensures ok { OnOk result (Grows (W.contents writer.old) (string_bytes text.old)
-        (W.contents writer.new) (string_bytes text.new) (event_line system.now «record».now (event_of entry.now values.now))) }
+        (W.contents writer.new) (string_bytes text.new)
+        (event_line system.now «record».now (event_of entry.now values.now))) }
     ensures err { OnErr result (Breaks (W.contents writer.old) (string_bytes text.old)
         (W.contents writer.new) (event_line system.now «record».now (event_of entry.now values.now))) }
 {

@@ -53,6 +53,7 @@ pub trait World {
         values: Values,
     ) -> Result<Option<u32>, AllocError>
         ensures number { IfOk result (IsNumber (value self.old) process) }
-        ensures ok { IfOk result (λ number. value self.new ≡ after_acts (value self.old) (created process parent values number)) }
+        ensures ok { IfOk result (λ number. value self.new
+            ≡ after_acts (value self.old) (created process parent values number)) }
         ensures err { OnErr result (value self.new ≡ value self.old) };
 }

@@ -1,9 +1,10 @@
 //! A serial run of a system (Z.101: system, agent), on one thread.
 //!
-//! `run_serial` makes the steps of all instances in sweeps by ascending number, lets the clock move only where all rest,
-//! expires the timers that are due then in their order, and hears the script's lines of that time in theirs: so do the
-//! sweeps (`sdl_sweeps`), over instances with ports of their own (`sdl_delivery`). A step of one of them is made here, and
-//! what it does to others is done behind it. The report is that of one course of all that happens (`sdl_courses`).
+//! `run_serial` makes the steps of all instances in sweeps by ascending number, lets the clock move only where all
+//! rest, expires the timers that are due then in their order, and hears the script's lines of that time in theirs: so
+//! do the sweeps (`sdl_sweeps`), over instances with ports of their own (`sdl_delivery`). A step of one of them is made
+//! here, and what it does to others is done behind it. The report is that of one course of all that happens
+//! (`sdl_courses`).
 #![tactic(auto)]
 
 mod run;

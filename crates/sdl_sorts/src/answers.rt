@@ -21,12 +21,12 @@ use sdl_system::Comparison;
 use sdl_tree::{Answer, Expression, Operator};
 use std::alloc::{AllocError, Global};
 
-/// An answer of a decision whose question is of this kind; where the kind is unknown, each value can be compared with it.
-/// None where something is noted, or a synonym in it is refused.
+/// An answer of a decision whose question is of this kind; where the kind is unknown, each value can be compared with
+/// it. None where something is noted, or a synonym in it is refused.
 ///
-/// Noted are the faults of its values, which are constant expressions; `Sort` at the first token of a value that can't be
-/// compared with the question's by `=`, at an order operator where the question's values have no order, and there at the
-/// first token of a range; and `BadCount` at the first token of a value that there isn't.
+/// Noted are the faults of its values, which are constant expressions; `Sort` at the first token of a value that can't
+/// be compared with the question's by `=`, at an order operator where the question's values have no order, and there at
+/// the first token of a range; and `BadCount` at the first token of a value that there isn't.
 pub fn resolve_answer<'t>(
     alloc: Global,
     scope: &Scope<'_, '_, 't>,

@@ -22,8 +22,8 @@ pub struct Argument<'t> {
     pub typed: Option<Typed>,
 }
 
-/// Whether there are as many values as places, and each fits. What doesn't is noted: another number of values at the name
-/// before them, a value that doesn't fit at its first token.
+/// Whether there are as many values as places, and each fits. What doesn't is noted: another number of values at the
+/// name before them, a value that doesn't fit at its first token.
 pub fn place_all<'t>(
     name: &'t Name,
     places: &[Option<Sort>],

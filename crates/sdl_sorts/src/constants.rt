@@ -20,13 +20,13 @@ use sdl_system::{Chain, Failure, Link, Operation, Sort, UnaryOperation, in_sort}
 use sdl_tree::Expression;
 use std::alloc::{AllocError, Global};
 
-/// What a constant expression comes to at a place of a sort: numbers, literals, synonyms and operators. Where the place's
-/// sort is unknown, each kind fits and the value stays what it is.
+/// What a constant expression comes to at a place of a sort: numbers, literals, synonyms and operators. Where the
+/// place's sort is unknown, each kind fits and the value stays what it is.
 ///
-/// Noted are the faults of the expression, where a variable, a formal parameter, `now`, `active` and the Pids of an instance
-/// are `Sort` at that word; `Sort` at its first token where it doesn't fit the place; and `BadCount` there where it has no
-/// value, or a negative one for a Natural. Where a synonym in it is refused, it is refused too, and its value isn't
-/// asked for. A negative value for a Natural is answered as it stands.
+/// Noted are the faults of the expression, where a variable, a formal parameter, `now`, `active` and the Pids of an
+/// instance are `Sort` at that word; `Sort` at its first token where it doesn't fit the place; and `BadCount` there
+/// where it has no value, or a negative one for a Natural. Where a synonym in it is refused, it is refused too, and its
+/// value isn't asked for. A negative value for a Natural is answered as it stands.
 pub fn constant<'t>(
     alloc: Global,
     scope: &Scope<'_, '_, 't>,

@@ -24,9 +24,9 @@ use std::alloc::{AllocError, Global};
 /// An expression of a transition, with its kind. None where a rule is broken in it, which is noted, or where it names a
 /// variable or a synonym whose sort is unknown.
 ///
-/// Noted are, in the order of the text: `Unknown` at a name that stands for nothing, and at one behind `active` that is no
-/// timer's; `Sort` at an operator that is none for the kinds of its operands, at the name of a timer with another number
-/// of values, and at the first token of a value that doesn't fit the timer's.
+/// Noted are, in the order of the text: `Unknown` at a name that stands for nothing, and at one behind `active` that is
+/// no timer's; `Sort` at an operator that is none for the kinds of its operands, at the name of a timer with another
+/// number of values, and at the first token of a value that doesn't fit the timer's.
 pub fn resolve<'t>(
     alloc: Global,
     scope: &Scope<'_, '_, 't>,

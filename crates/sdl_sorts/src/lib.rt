@@ -2,8 +2,8 @@
 //! constant (Z.104).
 //!
 //! `specs/Scope` has what names stand for at a place of the text, and `specs/Typing` the kind and the term of an
-//! expression and the rules that it breaks, by the table of operators of `sdl_kinds`. Each function answers exactly what
-//! its definition says, and notes exactly the faults of its list.
+//! expression and the rules that it breaks, by the table of operators of `sdl_kinds`. Each function answers exactly
+//! what its definition says, and notes exactly the faults of its list.
 #![tactic(auto)]
 
 mod answers;

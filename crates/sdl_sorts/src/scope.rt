@@ -11,7 +11,8 @@ use sdl_system::{ProcessId, Sort, VariableId};
 #[derive(Clone, Copy, Debug, PartialEq, Eq)]
 pub enum Constant {
     Value(Value),
-    /// It has no value: an operation in it has none, or it rests on a synonym without a value, as on a circle of synonyms.
+    /// It has no value: an operation in it has none, or it rests on a synonym without a value, as on a circle of
+    /// synonyms.
     NoValue,
     /// It breaks a rule, or rests on a synonym that does.
     Refused,

@@ -114,7 +114,8 @@ fn unary(
     operation: UnaryOperation,
     operand: Option<Expression>,
 ) -> Result<Option<Expression>, AllocError>
-    ensures { IfOk result (λ found. option_map term_of found ≡ option_map (unary operation) (option_map term_of operand)) }
+    ensures { IfOk result (λ found. option_map term_of found
+        ≡ option_map (unary operation) (option_map term_of operand)) }
 {
     match operand {
         None => Ok(None),

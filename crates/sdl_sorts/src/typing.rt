@@ -206,7 +206,8 @@ fn resolve_unary<'t>(
     operand: Option<Typed>,
     faults: &mut Faults<'t>,
 ) -> Result<Option<Typed>, AllocError>
-    ensures typed { IfOk result (λ found. option_map typed_of found ≡ unary_typed operator (option_map typed_of operand)) }
+    ensures typed { IfOk result (λ found. option_map typed_of found
+        ≡ unary_typed operator (option_map typed_of operand)) }
     ensures noted { OnOk result (told faults.new ≡ least_of (told faults.old)
         (unary_faults operator word (option_map typed_of operand))) }
 {

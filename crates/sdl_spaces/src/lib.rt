@@ -1,8 +1,8 @@
 //! The names of one name space over all scopes of a specification (Z.101: scope units and visibility).
 //!
-//! The system, each block and each process is a scope with names of its own. At a place of the text those are seen of the
-//! scope round it, and of the scopes round that one; a name stands for what it does in the innermost. A name that its
-//! scope has already is a Duplicate, and its first declaration counts.
+//! The system, each block and each process is a scope with names of its own. At a place of the text those are seen of
+//! the scope round it, and of the scopes round that one; a name stands for what it does in the innermost. A name that
+//! its scope has already is a Duplicate, and its first declaration counts.
 #![tactic(auto)]
 
 mod row;

@@ -1,8 +1,8 @@
-//! The statements of a transition with their names resolved: tasks, outputs, timers, creates, and what ends it (Z.101 and
-//! Z.102: action, terminator).
+//! The statements of a transition with their names resolved: tasks, outputs, timers, creates, and what ends it (Z.101
+//! and Z.102: action, terminator).
 //!
-//! `specs/Statements` says what each statement does, and `specs/Faulty` which rules it breaks. Each function notes exactly
-//! the faults of its statement, and gives what it does where nothing in it is refused.
+//! `specs/Statements` says what each statement does, and `specs/Faulty` which rules it breaks. Each function notes
+//! exactly the faults of its statement, and gives what it does where nothing in it is refused.
 #![tactic(auto)]
 
 mod applied;

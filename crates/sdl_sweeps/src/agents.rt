@@ -69,8 +69,8 @@ pub trait Agents {
             → OnOk result (Reaches last (record (at_board m board.old) { fuses = fuse ∷ board.old.fuses }) self.old
             (at_board m board.new) self.new) };
 
-    /// Puts what the environment sends in a line of the script, whose time has come, into the port of its target. No fuse
-    /// is due any more.
+    /// Puts what the environment sends in a line of the script, whose time has come, into the port of its target. No
+    /// fuse is due any more.
     fn hear(&mut self, board: &mut Board, line: &ScriptLine) -> Result<(), Self::Error>
         requires fits { Fits board.old.awake self.old }
         requires due { line.now.at ≤ board.old.clock }

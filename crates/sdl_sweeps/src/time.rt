@@ -34,8 +34,8 @@ impl<'s> Sweeps<'s> {
         Ok(false)
     }
 
-    // The sooner of the least time of a fuse and the next line's. None where the script is at its end and no fuse is due
-    // by the time `last` of its last line.
+    // The sooner of the least time of a fuse and the next line's. None where the script is at its end and no fuse is
+    // due by the time `last` of its last line.
     fn next_time(&self, last: Ticks) -> Option<Ticks>
         ensures next { IfSome result (λ time. IsNextTime last (moment_of self.now) time) }
         ensures none { IfNone result ((self.now.script.now ≡ []) × IsNoFuseBefore (last + 1) self.now.board.fuses) }

@@ -37,8 +37,8 @@ pub fn broken_is_listed()
     ensures { BrokenListed }
 {}
 
-/// One that names a synonym that doesn't settle is `BadCount` at its first token, unless it breaks another rule or rests on
-/// a refused synonym.
+/// One that names a synonym that doesn't settle is `BadCount` at its first token, unless it breaks another rule or
+/// rests on a refused synonym.
 pub fn unvalued_is_noted()
     ensures { UnvaluedNoted }
 {}

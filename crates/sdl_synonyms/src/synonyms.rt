@@ -10,10 +10,11 @@ use sdl_faults::Faults;
 use sdl_sorts::Constant;
 use std::alloc::{AllocError, Global};
 
-/// What each synonym of a specification comes to, by its number: its place in this list, which has them in the order of the
-/// text. One that is defined by itself, directly or by others, or that rests on such a synonym, has no value.
+/// What each synonym of a specification comes to, by its number: its place in this list, which has them in the order of
+/// the text. One that is defined by itself, directly or by others, or that rests on such a synonym, has no value.
 ///
-/// Noted are the faults of each definition, as `constant` has them: so `BadCount` at the first token of one without a value.
+/// Noted are the faults of each definition, as `constant` has them: so `BadCount` at the first token of one without a
+/// value.
 pub fn synonym_constants<'t>(
     alloc: Global,
     synonyms: &[Synonym<'_, '_, 't>],
