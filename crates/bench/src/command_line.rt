@@ -99,15 +99,25 @@ fn way(matches: &ArgMatches<'_>) -> Way {
     }
 }
 
-/// The program with its arguments.
+/// The program with its arguments and options.
 fn command<'a>(alloc: Global) -> Result<Command<'a>, AllocError> {
     let command = Command::new(alloc, "bench")
         .about("Does one thing with much of something, and prints how much was done")
         .after_help(HELP);
+    with_options(alloc, with_numbers(alloc, command)?)
+}
+
+/// What is measured, and with how much.
+fn with_numbers<'a>(alloc: Global, command: Command<'a>) -> Result<Command<'a>, AllocError> {
     command
         .arg(what(alloc))?
         .arg(number(alloc, "N", "With how much").required(true))?
-        .arg(number(alloc, "H", "How often").default_value("1000"))?
+        .arg(number(alloc, "H", "How often").default_value("1000"))
+}
+
+/// In which way.
+fn with_options<'a>(alloc: Global, command: Command<'a>) -> Result<Command<'a>, AllocError> {
+    command
         .arg(flag(alloc, "down", "Hands the token of a ring down the numbers"))?
         .arg(flag(
             alloc,

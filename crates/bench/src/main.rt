@@ -5,11 +5,8 @@
 //! `docs/PERFORMANCE.md` has the method and the figures. The gate runs all of it with a small number.
 #![tactic(auto)]
 
-mod alone;
-mod calls;
 mod command_line;
 mod measure;
-mod shared;
 mod whole;
 
 use bench_texts::Shape;
@@ -38,7 +35,7 @@ fn main(rt: HostRuntime) -> ExitCode {
 }
 
 /// Measures everything, up to what fails. False where something did.
-fn all_measured<R: AllocGlobal + Print + Clock + Threads + Wait + Sync>(
+fn all_measured<R: AllocGlobal + Print + Eprint + Clock + Threads + Wait + Sync>(
     rt: &R,
     number: u64,
     is_timed: bool,
@@ -51,14 +48,15 @@ fn all_measured<R: AllocGlobal + Print + Clock + Threads + Wait + Sync>(
     Ok(true)
 }
 
-/// Measures, and tells how much was done. False where it failed.
-fn measured<R: AllocGlobal + Print + Clock + Threads + Wait + Sync>(
+/// Measures, and tells how much was done. False where it failed, which is told on standard error.
+fn measured<R: AllocGlobal + Print + Eprint + Clock + Threads + Wait + Sync>(
     rt: &R,
     measure: Measure,
     is_timed: bool,
 ) -> io::Result<bool> {
     let start = Instant::now(rt)?;
     let Some(done) = measure.done(rt, rt.alloc()) else {
+        eprintln!(rt; "bench: {measure}: out of memory, or the text is refused")?;
         return Ok(false);
     };
     let took = start.elapsed(rt)?;

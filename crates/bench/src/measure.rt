@@ -1,7 +1,7 @@
 //! What is measured.
 
-use crate::calls::Calls;
 use crate::whole;
+use bench_port::Calls;
 use bench_texts::{Shape, Way};
 use std::alloc::{AllocError, Global};
 use std::fmt;

@@ -15,7 +15,7 @@ const MOST_WORKERS: u64 = 1_000;
 const BYTES: u64 = 10_000;
 
 /// In which order the stations of a ring get the token.
-#[derive(Clone, Copy, Debug, PartialEq, Eq)]
+#[derive(Clone, Copy)]
 pub enum Way {
     /// By ascending number.
     Up,
@@ -24,7 +24,7 @@ pub enum Way {
 }
 
 /// What a text is like.
-#[derive(Clone, Copy, Debug, PartialEq, Eq)]
+#[derive(Clone, Copy)]
 pub enum Shape {
     /// Stations in a ring hand a token on so many times.
     Ring { stations: u64, hops: u64, way: Way },
