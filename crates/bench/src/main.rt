@@ -1,6 +1,6 @@
-//! Measures the port and whole runs: what calls cost with much in a port, and what runs and checks of great texts cost.
-//! `bench WHAT N` does one thing with N of something, and prints how much was done; with `--time` it prints how long that
-//! took, too. `bench --help` lists what there is.
+//! Measures the port and whole runs: what calls cost with much in a port, and what runs and checks of great texts
+//! cost. `bench WHAT N` does one thing with N of something, and prints how much was done; with `--time` it prints how
+//! long that took, too. `bench --help` lists what there is.
 //!
 //! `docs/PERFORMANCE.md` has the method and the figures. The gate runs all of it with a small number.
 #![tactic(auto)]
