@@ -1,6 +1,8 @@
 -- The variables of an instance (Z.102: variable).
-use Rattle.std.specs.Prelude.{List, Option, None, slice_get, unwrap_or}
+use Rattle.std.specs.Prelude.{List, Option, None, Some, slice_get, unwrap_or}
 use Rattle.port_values.specs.declared.value.Value.{Value}
+use Rattle.sdl_system.specs.declared.expression.Expression.{Expression}
+use Rattle.sdl_system.specs.declared.expression.Expression.TheVariants as expression
 use Rattle.sdl_system.specs.declared.id.VariableId.{VariableId}
 
 -- by number, each with its value once it has one
@@ -10,3 +12,9 @@ VariableList = List (Option Value)
 -- the value of a variable, where it has one
 abbrev pub value_in : VariableList → VariableId → Option Value
 value_in variables variable = unwrap_or (slice_get variables variable.0) None
+
+-- what an expression comes to that is a literal, or a variable with a value
+abbrev pub known_in : VariableList → Expression → Option Value
+known_in variables (expression.Value value) = Some value
+known_in variables (expression.Variable variable) = value_in variables variable
+known_in variables other = None

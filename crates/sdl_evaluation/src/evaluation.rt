@@ -42,7 +42,7 @@ pub fn evaluate<P: Inbox>(
         let term = term_of expression.now in
         IfErr result (λ why. FailsAs (wants_memory term) (value_of here term) why) }
 {
-    if let Some(value) = known(expression, store) {
+    if let Some(value) = store.known(expression) {
         return Ok(value);
     }
     match expression {
@@ -51,8 +51,8 @@ pub fn evaluate<P: Inbox>(
     }
 }
 
-// The same, in a frame that only some expressions need. Literals and variables, as most operands are, come to their
-// values without it.
+/// The same, in a frame that only some expressions need. Literals and variables, as most operands are, come to their
+/// values without it.
 #[cycle(evaluation)]
 #[inline(never)]
 fn evaluate_any<P: Inbox>(
@@ -87,7 +87,7 @@ fn evaluate_any<P: Inbox>(
     }
 }
 
-// The operands from left to right. Most chains are of two operands that are known.
+/// The operands from left to right. Most chains are of two operands that are known.
 #[cycle(evaluation)]
 #[inline(always)]
 fn evaluate_chain<P: Inbox>(
@@ -111,7 +111,7 @@ fn evaluate_chain<P: Inbox>(
     }
 }
 
-// What a chain of two operands that are known comes to. None: it is another one.
+/// What a chain of two operands that are known comes to. None: it is another one.
 #[inline(always)]
 fn evaluate_pair(chain: &Chain, store: &Store) -> Option<Result<Value, Failure>>
     ensures { (system : SystemValue) (who : identity.Identity) (port : PortState)
@@ -122,15 +122,15 @@ fn evaluate_pair(chain: &Chain, store: &Store) -> Option<Result<Value, Failure>>
         return None;
     }
     let link = &chain.rest[0];
-    let left = known(&chain.first, store)?;
-    let right = known(&link.operand, store)?;
+    let left = store.known(&chain.first)?;
+    let right = store.known(&link.operand)?;
     match link.operation.apply(left, right) {
         Ok(value) => Some(Ok(value)),
         Err(why) => Some(Err(Failure::from(why))),
     }
 }
 
-// The operands one after the other.
+/// The operands one after the other.
 #[cycle(evaluation)]
 #[inline(never)]
 fn evaluate_links<P: Inbox>(
@@ -155,7 +155,7 @@ fn evaluate_links<P: Inbox>(
     Ok(value)
 }
 
-// One more operation on the value of what stands before it.
+/// One more operation on the value of what stands before it.
 #[cycle(evaluation)]
 #[inline(always)]
 fn evaluate_link<P: Inbox>(
@@ -294,7 +294,7 @@ pub fn place(value: Value, sort: Option<Sort>) -> Result<Value, Failure>
     }
 }
 
-// A time as a value.
+/// A time as a value.
 fn time_value(time: Ticks) -> Result<Value, Failure>
     ensures { result ≡ time_value time }
 {
@@ -304,7 +304,7 @@ fn time_value(time: Ticks) -> Result<Value, Failure>
     }
 }
 
-// The Pid for which a word stands.
+/// The Pid for which a word stands.
 fn pid_of(word: PidExpression, who: &Identity, store: &Store) -> Pid
     ensures { (system : SystemValue) (port : PortState)
         → result ≡ pid_in (environment system who.now store.now port) word }
@@ -317,21 +317,7 @@ fn pid_of(word: PidExpression, who: &Identity, store: &Store) -> Pid
     }
 }
 
-// What a literal, or a variable that has a value, comes to. None: it is another expression.
-#[inline(always)]
-fn known(expression: &Expression, store: &Store) -> Option<Value>
-    ensures { (system : SystemValue) (who : identity.Identity) (port : PortState)
-        → IfSome result
-        (λ value. value_of (environment system who store.now port) (term_of expression.now) ≡ Ok value) }
-{
-    match expression {
-        Expression::Value(value) => Some(*value),
-        Expression::Variable(variable) => store.variables.get(*variable),
-        _ => None,
-    }
-}
-
-// The value of a variable; one that was never assigned has none.
+/// The value of a variable; one that was never assigned has none.
 fn read(store: &Store, variable: VariableId) -> Result<Value, Failure>
     ensures { result ≡ accessed (value_in store.now.variables variable) }
 {

@@ -1,10 +1,17 @@
 //! What an instance knows.
 
-ghost use Rattle.std.specs.Prelude.{◌≡◌};
-ghost use Rattle.sdl_evaluation.specs.Environment.{initial_store};
+ghost use Rattle.std.specs.Prelude.{◌≡◌, IfSome, Ok};
+ghost use Rattle.port_model.specs.Port.{PortState};
+ghost use Rattle.sdl_evaluation.specs.Environment.{environment, initial_store};
+ghost use Rattle.sdl_evaluation.specs.Value.{value_of};
+ghost use Rattle.sdl_evaluation.specs.Variables.{known_in};
+ghost use Rattle.sdl_evaluation.specs.declared.identity.Identity as identity;
+ghost use Rattle.sdl_system.specs.System.{SystemValue};
+ghost use Rattle.sdl_system.specs.Term.{term_of};
 
 use crate::variables::Variables;
-use port_values::{Pid, Ticks};
+use port_values::{Pid, Ticks, Value};
+use sdl_system::Expression;
 
 /// What an instance knows besides who it is and what its port has.
 #[derive(Debug, Drop)]
@@ -31,6 +38,21 @@ impl Store {
             sender: Pid::Null,
             time: Ticks::new(0),
             done: 0,
+        }
+    }
+    /// What a literal, or a variable that has a value, comes to, as most operands are. None: it is another expression,
+    /// or a variable that was never assigned.
+    #[inline(always)]
+    pub fn known(&self, expression: &Expression) -> Option<Value>
+        ensures known { result ≡ known_in self.now.variables expression.now }
+        ensures value { (system : SystemValue) (who : identity.Identity) (port : PortState)
+            → IfSome result
+            (λ value. value_of (environment system who self.now port) (term_of expression.now) ≡ Ok value) }
+    {
+        match expression {
+            Expression::Value(value) => Some(*value),
+            Expression::Variable(variable) => self.variables.get(*variable),
+            _ => None,
         }
     }
 }

@@ -50,27 +50,13 @@ fn sum_in(chain: &Chain, store: &Store) -> Option<Value>
         return None;
     }
     let link = &chain.rest[0];
-    let left = known(&chain.first, store)?;
-    let right = known(&link.operand, store)?;
+    let left = store.known(&chain.first)?;
+    let right = store.known(&link.operand)?;
     sum(link.operation, left, right)
 }
 
-// A literal, or the value of a variable. None: it is another expression.
-#[inline(always)]
-fn known(expression: &Expression, store: &Store) -> Option<Value>
-    ensures { (system : SystemValue) (who : identity.Identity) (port : PortState)
-        → IfSome result
-        (λ value. value_of (environment system who store.now port) (term_of expression.now) ≡ Ok value) }
-{
-    match expression {
-        Expression::Variable(variable) => store.variables.get(*variable),
-        Expression::Value(value) => Some(*value),
-        _ => None,
-    }
-}
-
-// What a sum or a difference of two integers comes to. None: it is another operation, they are other values, or the
-// number is past 64 bits.
+/// What a sum or a difference of two integers comes to. None: it is another operation, they are other values, or the
+/// number is past 64 bits.
 #[inline(always)]
 fn sum(operation: Operation, left: Value, right: Value) -> Option<Value>
     ensures { IfSome result (λ value. at_place (Some Integer) (given (applied operation left right)) ≡ Ok value) }

@@ -10,6 +10,6 @@ returns-in-Err c = λ system who port.
     let one : c.len.result ≡ 1 = search (rules, tests) in
     pair_value (environment system who c.args.store.now port) c.args.chain.now
     (out-Chain c.args.chain.now).rest.items c.index-link.result.now c.in_ok-left.left c.in_ok-right.right refl
-    (sym (c.len.ensures ∙ (out-Chain c.args.chain.now).rest.ok.0) ∙ one) c.index-link.ensures (c.in_ok-left.ensures system who port)
-    (c.in_ok-right.ensures system who port)
+    (sym (c.len.ensures ∙ (out-Chain c.args.chain.now).rest.ok.0) ∙ one) c.index-link.ensures
+    (c.in_ok-left.ensures.value system who port) (c.in_ok-right.ensures.value system who port)
     ∙ ap given (sym c.apply.ensures ∙ c.in-Err.is) ∙ ap Err (sym c.from.ensures)

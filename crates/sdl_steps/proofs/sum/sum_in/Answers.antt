@@ -16,5 +16,5 @@ returns c = λ system who port.
     IfSome_then c.sum.result c.sum.ensures (λ value comes.
     ap (at_place (Some Integer)) (pair_value here chain links.items c.index-link.result.now c.in_ok-left.left
     c.in_ok-right.right refl (sym (c.len.ensures ∙ links.ok.0) ∙ one) c.index-link.ensures
-    (c.in_ok-left.ensures system who port) (c.in_ok-right.ensures system who port))
+    (c.in_ok-left.ensures.value system who port) (c.in_ok-right.ensures.value system who port))
     ∙ comes)
