@@ -38,17 +38,14 @@ pub fn canonicalize(alloc: Global, text: &[u8]) -> Result<String, ParseError>
     ensures readable { (source : List ℕ) → IsCanonicalOf text.now source → IfErr result IsWantOfRoom }
 {
     reads_again();
-    let tree = match parse(alloc, text) {
-        Ok(tree) => tree,
-        Err(error) => return Err(error),
-    };
+    let tree = parse(alloc, text)?;
     match print(alloc, &tree) {
         Ok(again) => Ok(again),
         Err(_) => Err(ParseError::Memory),
     }
 }
 
-// The words of the tree, with none behind them.
+/// The words of the tree, with none behind them.
 fn system(text: &mut Text, tree: &Tree) -> Result<(), AllocError>
     ensures { OnOk result (followed_by text.new []
         ≡ followed_by text.old (canonical (erased (tree_value tree.now)))) }

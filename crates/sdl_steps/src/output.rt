@@ -1,6 +1,6 @@
 //! Outputs (Z.102: output).
 
-ghost use Rattle.std.specs.Prelude.{◌≡◌, ◌⊎◌, ◌<◌, ◌≤◌, ◌∷◌, [], IfErr, IfOk, IfSome, List, length, OnErr, OnOk, Ok, Err, map, option_copied, true};
+ghost use Rattle.std.specs.Prelude.{◌≡◌, ◌⊎◌, ◌<◌, ◌≤◌, ◌∷◌, [], IfErr, IfOk, List, length, OnErr, OnOk, Ok, Err, map, option_copied, true};
 ghost use Rattle.std.specs.Option.{option_map};
 ghost use Rattle.inbox.specs.Ends.{OwnerState};
 ghost use Rattle.port_values.specs.declared.pid.Pid.TheVariants.{Of};
@@ -61,7 +61,7 @@ pub fn send_all<P: Inbox, W: World>(
     Ok(())
 }
 
-// Whom the output names is evaluated first, then the values, and then it is asked whom the signal reaches.
+/// Whom the output names is evaluated first, then the values, and then it is asked whom the signal reaches.
 fn send<P: Inbox, W: World>(
     alloc: Global,
     one: &Sending,
@@ -120,7 +120,7 @@ fn send<P: Inbox, W: World>(
     Ok(())
 }
 
-// What the one value of a signal comes to at its place.
+/// What the one value of a signal comes to at its place.
 #[inline(always)]
 fn only_value<P: Inbox>(
     alloc: Global,
@@ -142,7 +142,7 @@ fn only_value<P: Inbox>(
     evaluate_at(alloc, expression, sort, system, who, store, inbox)
 }
 
-// Sends a signal of one value, and answers whom it reaches. What was sent is recorded.
+/// Sends a signal of one value, and answers whom it reaches. What was sent is recorded.
 #[inline(always)]
 fn send_value<W: World>(
     alloc: Global,
@@ -166,13 +166,11 @@ fn send_value<W: World>(
     ensures quiet { OnErr result (W.value world.new ≡ W.value world.old) }
 {
     let told = [value];
-    let Ok(values) = Values::from_slice(alloc, &told) else {
-        return Err(Failure::Memory);
-    };
+    let values = Values::from_slice(alloc, &told).map_err(|_| Failure::Memory)?;
     deliver(signal, who, named, values, &told, machine, world)
 }
 
-// Sends a signal with its values, and answers whom it reaches. What was sent is recorded.
+/// Sends a signal with its values, and answers whom it reaches. What was sent is recorded.
 #[inline(always)]
 fn send_values<W: World>(
     signal: SignalId,
@@ -194,13 +192,11 @@ fn send_values<W: World>(
     ensures same { OnErr result (machine.new ≡ machine.old) }
     ensures quiet { OnErr result (W.value world.new ≡ W.value world.old) }
 {
-    let Ok(copy) = values.copied() else {
-        return Err(Failure::Memory);
-    };
+    let copy = values.copied().map_err(|_| Failure::Memory)?;
     deliver(signal, who, named, copy, values.as_slice(), machine, world)
 }
 
-// Sends a signal to whom it reaches, and records it with these values, which are its own.
+/// Sends a signal to whom it reaches, and records it with these values, which are its own.
 #[inline(always)]
 fn deliver<W: World>(
     signal: SignalId,
@@ -230,14 +226,12 @@ fn deliver<W: World>(
         values,
         sender: Pid::Of(who.pid),
     };
-    if let Err(_) = world.send(target, item) {
-        return Err(Failure::Memory);
-    }
+    world.send(target, item).map_err(|_| Failure::Memory)?;
     machine.trace.output(signal, named, told, target);
     Ok(target)
 }
 
-// Whom an output names.
+/// Whom an output names.
 fn named_by<P: Inbox>(
     alloc: Global,
     to: Option<&Destination>,
