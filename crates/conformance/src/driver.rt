@@ -1,6 +1,6 @@
 //! The way from the files to the last line.
 
-ghost use Rattle.std.specs.Prelude.{◌≡◌, OnOk, IfOk, length};
+ghost use Rattle.std.specs.Prelude.{◌≡◌, IfOk, length};
 ghost use Rattle.conformance.specs.Tally.{AddsUp, IsTally};
 
 use crate::case::Case;

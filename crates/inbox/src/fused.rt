@@ -1,9 +1,8 @@
 //! What fuses are to the port of one thread: a set makes one, an expiry spends one, and at the end each timer's signal
 //! that waits gets its own back.
-ghost use Rattle.std.specs.Prelude.{◌≡◌, ◌↔◌, ◌⊎◌, ◌+◌, ◌<◌, ◌≤◌, [], length, All, vec_capacity, IsErrOf, MatchResult};
+ghost use Rattle.std.specs.Prelude.{◌≡◌, ◌↔◌, ◌⊎◌, ◌+◌, ◌<◌, ◌≤◌, [], length, vec_capacity, IsErrOf, MatchResult};
 ghost use Rattle.port_model.specs.Coherence.{IsCoherent};
 ghost use Rattle.port_model.specs.Port.{set_in};
-ghost use Rattle.port_model.specs.Table.{TimersValue};
 ghost use Rattle.port_model.specs.Timers.{with_armed};
 ghost use Rattle.port_model.specs.declared.plain_port.TheConstants.{MOST_SETS};
 ghost use Rattle.inbox.specs.Calls.{after_draw};

@@ -1,5 +1,5 @@
 //! The owner's calls, whatever stands behind the port.
-ghost use Rattle.std.specs.Prelude.{◌≡◌, ◌↔◌, Bool, false, true, List, IsErrOf, IsOk, MatchResult};
+ghost use Rattle.std.specs.Prelude.{◌≡◌, ◌↔◌, Bool, false, true, List, IsErrOf, IsOk};
 ghost use Rattle.port_model.specs.Timers.{due_times, is_active, IsLeast};
 ghost use Rattle.port_model.specs.declared.plain_port.TheConstants.{MOST_SETS};
 ghost use Rattle.inbox.specs.Calls.{after_reset, after_stop, SetIs, TakeIs};

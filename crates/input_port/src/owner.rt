@@ -42,7 +42,7 @@ impl Owner {
         }
     }
 
-    // What it has, where it lives on in an inbox.
+    /// What it has, where it lives on in an inbox.
     pub(crate) fn into_drawer(self) -> Drawer
         ensures owner { result ≡ self }
         ensures alive { result.state.alive ≡ true }
@@ -194,7 +194,7 @@ impl Owner {
         Ok(self.leave_waiting()?.into_entries())
     }
 
-    // The end, with what waits in the port of the standard.
+    /// The end, with what waits in the port of the standard.
     fn leave_waiting(self) -> Result<Finished, Refused<Owner>>
         ensures left { IfOk result (λ end. end ≡ left_with self end.entries) }
         ensures waiting { IfOk result (λ end. AreWaiting self.state.waiting self.pid self.armed end.entries) }

@@ -8,7 +8,7 @@ use port_queue::refused::refused;
 use port_queue::{Drawer, Port, Sender};
 use std::sync::Wait;
 
-// Takes a sender in. For want of memory it comes back, and nothing changes.
+/// Takes a sender in. For want of memory it comes back, and nothing changes.
 pub fn gather<R: Wait>(
     drawer: &mut Drawer,
     since: &mut Vec<Entry>,
@@ -29,7 +29,7 @@ pub fn gather<R: Wait>(
     Ok(())
 }
 
-// Draws all that the queue holds, up to a fresh point.
+/// Draws all that the queue holds, up to a fresh point.
 pub fn drain<R: Wait>(
     drawer: &mut Drawer,
     since: &mut Vec<Entry>,
@@ -49,7 +49,7 @@ pub fn drain<R: Wait>(
     unreachable!()
 }
 
-// Draws one entry, if the queue has one.
+/// Draws one entry, if the queue has one.
 fn pull<R: Wait>(
     drawer: &mut Drawer,
     since: &mut Vec<Entry>,
@@ -72,7 +72,7 @@ fn pull<R: Wait>(
     }
 }
 
-// Puts what was popped into the list, into the room that was made.
+/// Puts what was popped into the list, into the room that was made.
 fn keep(since: &mut Vec<Entry>, popped: Option<Placed>)
     requires { vec_len since.old < vec_capacity since.old }
     ensures { since.new.items ≡ since.old.items ++ map entry_of (popped_list popped) }

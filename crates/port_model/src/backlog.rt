@@ -3,7 +3,6 @@
 ghost use Rattle.std.specs.Prelude.{◌≡◌, ◌⊎◌, ◌==◌, ◌+◌, ◌<◌, ◌≤◌, [], ◌∷◌, ◌++◌, length, remove, slice_index_or, All, Contains, MatchOption, IfSome, IsTrue, OnOk, OnErr};
 ghost use Rattle.std.specs.VecDeque.{deque_capacity};
 ghost use Rattle.port_model.specs.Backlog.{looked_after, waiting_in, IsHead, IsOrdinaryName, IsSavedName, Leaves};
-ghost use Rattle.port_model.specs.Search.{IsFirstUnsaved};
 ghost use Rattle.port_model.specs.Take.{HasClass, IsOrdinary, IsSaved};
 ghost use Rattle.port_model.specs.Timers.{without_signal};
 ghost use Rattle.port_model.specs.declared.selection.Class.TheVariants as class;
@@ -111,7 +110,7 @@ impl Backlog {
         self.look_for_priority(selection)
     }
 
-    // Takes the first entry of a priority input out, if there is one.
+    /// Takes the first entry of a priority input out, if there is one.
     #[inline(never)]
     fn look_for_priority(&mut self, selection: &Selection) -> Option<Got>
         ensures { MatchOption result ((waiting_in self.new ≡ waiting_in self.old)
@@ -203,7 +202,7 @@ impl Backlog {
         rest
     }
 
-    // Forgets what was passed over, unless all its names are saved.
+    /// Forgets what was passed over, unless all its names are saved.
     fn recall_saved(&mut self, selection: &Selection)
         ensures same { waiting_in self.new ≡ waiting_in self.old }
         ensures agreed { All (IsSavedName selection.now) self.new.saved }
@@ -213,7 +212,7 @@ impl Backlog {
         }
     }
 
-    // Passes over the first entries of the rest that are saved, as far as there is memory to note their names.
+    /// Passes over the first entries of the rest that are saved, as far as there is memory to note their names.
     fn pass_saved(&mut self, selection: &Selection)
         ensures same { waiting_in self.new ≡ waiting_in self.old }
         ensures agreed { All (IsSavedName selection.now) self.new.saved }
@@ -226,7 +225,7 @@ impl Backlog {
         }
     }
 
-    // Passes over the next entry of the rest, if it is saved, and notes its name. The reply is whether it did.
+    /// Passes over the next entry of the rest, if it is saved, and notes its name. The reply is whether it did.
     fn pass_next(&mut self, selection: &Selection) -> bool
         requires { All (IsSavedName selection.now) self.old.saved }
         ensures same { waiting_in self.new ≡ waiting_in self.old }
@@ -251,7 +250,7 @@ impl Backlog {
         true
     }
 
-    // Nothing is passed over any more.
+    /// Nothing is passed over any more.
     fn pass_back(&mut self)
         ensures passed { self.new.passed ≡ [] }
         ensures rest { self.new.rest ≡ waiting_in self.old }
@@ -264,7 +263,7 @@ impl Backlog {
         self.looked = 0;
     }
 
-    // Forgets what was looked at, unless none of its names is that of a priority input.
+    /// Forgets what was looked at, unless none of its names is that of a priority input.
     fn recall_ordinary(&mut self, selection: &Selection)
         ensures passed { self.new.passed ≡ self.old.passed }
         ensures rest { self.new.rest ≡ self.old.rest }
@@ -277,8 +276,8 @@ impl Backlog {
         }
     }
 
-    // Looks at the entries of the rest up to the first of a priority input, as far as there is memory to note their
-    // names.
+    /// Looks at the entries of the rest up to the first of a priority input, as far as there is memory to note their
+    /// names.
     fn look_on(&mut self, selection: &Selection)
         ensures passed { self.new.passed ≡ self.old.passed }
         ensures rest { self.new.rest ≡ self.old.rest }
@@ -293,7 +292,7 @@ impl Backlog {
         }
     }
 
-    // Looks at the next entry, and notes its name if it isn't that of a priority input. The reply is whether it did.
+    /// Looks at the next entry, and notes its name if it isn't that of a priority input. The reply is whether it did.
     fn look_at_next(&mut self, selection: &Selection) -> bool
         requires { All (IsOrdinaryName selection.now) self.old.ordinary }
         ensures passed { self.new.passed ≡ self.old.passed }
@@ -315,7 +314,7 @@ impl Backlog {
         true
     }
 
-    // Takes the entry at `place` of the rest out.
+    /// Takes the entry at `place` of the rest out.
     #[inline(always)]
     fn take_out(&mut self, place: usize) -> Got
         requires { place < length self.old.rest }
@@ -330,7 +329,7 @@ impl Backlog {
     }
 }
 
-// Takes the entry at `place` out. The first one leaves without moving the others.
+/// Takes the entry at `place` out. The first one leaves without moving the others.
 #[inline(always)]
 fn take_at(list: &mut VecDeque<Got>, place: usize) -> Got
     requires { place < length list.old.items }
@@ -355,8 +354,8 @@ fn looked_after(looked: usize, place: usize) -> usize
     }
 }
 
-// Room for one entry more in a list, and for as many as there are beside it. Where there is none, twice the room is
-// asked for: a list itself grows by its length alone, and what lies beside it may be nearly all there is.
+/// Room for one entry more in a list, and for as many as there are beside it. Where there is none, twice the room is
+/// asked for: a list itself grows by its length alone, and what lies beside it may be nearly all there is.
 fn room_beside(list: &mut VecDeque<Got>, others: usize) -> Result<(), AllocError>
     requires { others + length list.old.items ≤ deque_capacity list.old }
     ensures ok { OnOk result (others + length list.new.items < deque_capacity list.new) }
@@ -374,7 +373,7 @@ fn room_beside(list: &mut VecDeque<Got>, others: usize) -> Result<(), AllocError
     list.reserve(more.saturating_add(capacity))
 }
 
-// Notes a name, if there is memory for it. The reply is whether it is noted now.
+/// Notes a name, if there is memory for it. The reply is whether it is noted now.
 fn note(names: &mut Vec<SignalId>, name: SignalId) -> bool
     ensures noted { IsTrue result → Contains names.new.items name }
     ensures grown { (names.new.items ≡ names.old.items) ⊎ (names.new.items ≡ names.old.items ++ name ∷ []) }

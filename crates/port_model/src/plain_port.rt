@@ -246,7 +246,7 @@ impl PlainPort {
         }
     }
 
-    // Takes the first entry of a priority input, else the first that isn't saved.
+    /// Takes the first entry of a priority input, else the first that isn't saved.
     #[inline(never)]
     fn look(&mut self, selection: &Selection) -> Taken
         ensures take { Takes selection.now self.old.state result self.new.state }
@@ -319,7 +319,7 @@ impl PlainPort {
     }
 }
 
-// What a take gives of an entry that was taken out, by its class.
+/// What a take gives of an entry that was taken out, by its class.
 fn taken_as(class: Class, got: Got) -> Taken
     ensures { result ≡ taken_as class got }
 {
@@ -329,7 +329,7 @@ fn taken_as(class: Class, got: Got) -> Taken
     }
 }
 
-// Takes the signal of this timer out, if there is one.
+/// Takes the signal of this timer out, if there is one.
 fn forget_signal(waiting: &mut Backlog, waited: Option<TimerKey>)
     ensures { MatchOption waited (waiting_in waiting.new ≡ waiting_in waiting.old)
         (λ key. waiting_in waiting.new ≡ without_signal key (waiting_in waiting.old)) }
@@ -339,7 +339,7 @@ fn forget_signal(waiting: &mut Backlog, waited: Option<TimerKey>)
     }
 }
 
-// A timer whose signal is taken is active no longer.
+/// A timer whose signal is taken is active no longer.
 fn end_timer(timers: &mut Timers, got: &Got)
     ensures timers { timers.new.timers ≡ after_taking got.now timers.old.timers }
     ensures armed { timers.new.armed ≡ armed_after got.now timers.old.armed }

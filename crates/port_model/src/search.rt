@@ -9,7 +9,7 @@ use crate::{Class, Got, Selection};
 use port_values::TimerKey;
 use std::collections::VecDeque;
 
-// The place of the first entry of a priority input, where none of those before `from` is one.
+/// The place of the first entry of a priority input, where none of those before `from` is one.
 pub fn first_priority(waiting: &VecDeque<Got>, from: usize, selection: &Selection) -> Option<usize>
     requires within { from ≤ length waiting.now.items }
     requires looked { All (IsOrdinary selection.now) (take from waiting.now.items) }
@@ -30,7 +30,7 @@ pub struct FirstUnsaved {
     pub class: Class,
 }
 
-// The first entry that isn't saved.
+/// The first entry that isn't saved.
 pub fn first_unsaved(waiting: &VecDeque<Got>, selection: &Selection) -> Option<FirstUnsaved>
     ensures { FindsUnsaved selection.now waiting.now.items result }
 {
@@ -43,7 +43,7 @@ pub fn first_unsaved(waiting: &VecDeque<Got>, selection: &Selection) -> Option<F
     None
 }
 
-// Takes the signal of the timer with this key out of the list.
+/// Takes the signal of the timer with this key out of the list.
 pub fn forget(waiting: &mut VecDeque<Got>, key: &TimerKey)
     ensures items { waiting.new.items ≡ without_signal key.now waiting.old.items }
     ensures shorter { length waiting.new.items ≤ length waiting.old.items }

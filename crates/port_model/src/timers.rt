@@ -130,7 +130,7 @@ impl Timers {
         Ok(None)
     }
 
-    // A set of a timer that isn't active.
+    /// A set of a timer that isn't active.
     fn add(&mut self, key: TimerKey, arm: Arm, due: Ticks) -> Result<(), AllocError>
         requires inactive { is_active key self.old.timers ≡ false }
         requires later { All (λ (armed : Armed). armed.arm < arm) self.old.armed }
@@ -154,7 +154,7 @@ impl Timers {
         Ok(())
     }
 
-    // A set of one that is. The reply is whether its signal waits.
+    /// A set of one that is. The reply is whether its signal waits.
     fn renew(&mut self, key: &TimerKey, arm: Arm, due: Ticks) -> Result<bool, AllocError>
         requires active { is_active key.now self.old.timers ≡ true }
         requires later { All (λ (armed : Armed). armed.arm < arm) self.old.armed }
@@ -218,7 +218,7 @@ impl Timers {
     }
 }
 
-// Takes the deadline of a timer out, if it runs.
+/// Takes the deadline of a timer out, if it runs.
 fn unschedule(deadlines: &mut BTreeSet<Deadline>, timer: &Timer)
     ensures { (d : Deadline) → contains deadline_order deadlines.new d
         ≡ (if is_until timer.now d then false else contains deadline_order deadlines.old d) }

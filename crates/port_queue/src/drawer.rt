@@ -1,6 +1,6 @@
 //! What draws from a port, for an owner that lives and for one that has stopped. The atomic steps are those of `steps`.
 ghost use Rattle.std.specs.Prelude.{◌≡◌, ◌↔◌, ◌<◌, ◌+◌, ◌-◌, ◌^◌, [], ◌∷◌, ◌≤◌, true, None, length, count_by, IfErr, IfOk, IsErrOf, MatchOption};
-ghost use Rattle.port_queue.specs.Words.{after_draw, after_draws, after_reset, after_stop, armed_left, due_times, is_active, is_signal, left_with, newborn, owner, popped_list, signals_drawn, AreWaiting, ComesBack, DrainIs, GatherIs, HasDrawn, IsDrawn, IsGathered, IsKnowing, IsLeast, IsSegPassOf, MeetIs, MOST_SETS, Placed, PullIs, SetIs, TakeIs, TakesIn};
+ghost use Rattle.port_queue.specs.Words.{after_draw, after_draws, after_reset, after_stop, armed_left, due_times, is_active, is_signal, left_with, newborn, owner, popped_list, signals_drawn, AreWaiting, DrainIs, GatherIs, HasDrawn, IsDrawn, IsGathered, IsKnowing, IsLeast, IsSegPassOf, MeetIs, MOST_SETS, Placed, PullIs, SetIs, TakeIs, TakesIn};
 ghost use Rattle.port_model.specs.Take.{Takes};
 
 use crate::refused::refused;
@@ -113,8 +113,8 @@ impl Drawer {
         unreachable!()
     }
 
-    // In a state with a priority input: where an entry of one is drawn already, takes it. Else draws all that the
-    // queue holds first.
+    /// In a state with a priority input: where an entry of one is drawn already, takes it. Else draws all that the
+    /// queue holds first.
     fn take_urgent<R: Wait>(
         &mut self,
         rt: &R,
@@ -131,7 +131,7 @@ impl Drawer {
         }
     }
 
-    // Draws all that the queue holds, and takes then.
+    /// Draws all that the queue holds, and takes then.
     fn take_fresh<R: Wait>(
         &mut self,
         rt: &R,
@@ -162,7 +162,7 @@ impl Drawer {
         unreachable!()
     }
 
-    // Takes from what is drawn.
+    /// Takes from what is drawn.
     fn choose(&mut self, selection: &Selection) -> Taken
         ensures take { Takes selection.now self.old.state result self.new.state }
         ensures same { self.new ≡ record self.old { state = self.new.state; armed = armed_left result self.old.armed } }
@@ -170,8 +170,8 @@ impl Drawer {
         self.plain.take(selection)
     }
 
-    // Draws one entry, if the queue has one. The room for it is made first, so that no entry is lost for want of
-    // memory.
+    /// Draws one entry, if the queue has one. The room for it is made first, so that no entry is lost for want of
+    /// memory.
     fn pull<R: Wait>(&mut self, rt: &R, port: &Port) -> Result<bool, PortError>
         requires { self.old.port ≡ port.now.queue }
         ensures port { self.new.port ≡ self.old.port }
@@ -346,7 +346,7 @@ impl Drawer {
     }
 }
 
-// How many signals were popped.
+/// How many signals were popped.
 fn signals_in(popped: &Option<Placed>) -> u64
     ensures few { result ≤ 1 }
     ensures count { result ≡ count_by is_signal (popped_list popped.now) }
@@ -357,8 +357,8 @@ fn signals_in(popped: &Option<Placed>) -> u64
     }
 }
 
-// Takes a sender's pass in, and pops one entry, if the queue has one: this pop tells that what the two had seen are
-// both beginnings of the put list.
+/// Takes a sender's pass in, and pops one entry, if the queue has one: this pop tells that what the two had seen are
+/// both beginnings of the put list.
 fn take_in<R: Wait>(rt: &R, queue: &Queue, pass: &mut Pass, other: Pass) -> Option<Placed>
     requires queue { IsSegPassOf queue.now pass.old × IsSegPassOf queue.now other }
     requires rights { (pass.old.me.view.client.takes ≡ true) × (other.me.view.client.sends ≡ true) }
@@ -369,7 +369,7 @@ fn take_in<R: Wait>(rt: &R, queue: &Queue, pass: &mut Pass, other: Pass) -> Opti
     steps::pop(rt, queue, pass)
 }
 
-// Puts what was popped into the owner's port, into the room that was made.
+/// Puts what was popped into the owner's port, into the room that was made.
 fn draw_popped(plain: &mut PlainPort, pid: u32, popped: Option<Placed>)
     requires { 0 < plain.old.room }
     ensures state { plain.new.state ≡ after_draws pid plain.old.state (popped_list popped) }

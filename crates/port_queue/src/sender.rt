@@ -110,7 +110,7 @@ impl Sender {
         }
     }
 
-    // What `again` needs beside the pass.
+    /// What `again` needs beside the pass.
     pub(crate) fn tally(&self) -> Tally
         ensures number { result.number ≡ self.now.number }
         ensures count { result.count ≡ sent_by self.now }
@@ -125,7 +125,7 @@ impl Sender {
         }
     }
 
-    // The pass alone, which the owner takes in.
+    /// The pass alone, which the owner takes in.
     pub(crate) fn into_pass(self) -> Pass
         ensures pass { IsSegPassOf self.port result }
         ensures view { (result.me.view.client.sends ≡ true) × (result.me.view.client.number ≡ self.number)
@@ -135,7 +135,7 @@ impl Sender {
         pass
     }
 
-    // A sender that the owner gives back.
+    /// A sender that the owner gives back.
     pub(crate) fn again(pass: Pass, tally: Tally) -> Self
         requires view { IsOfSender pass.me.view.client tally.number tally.count tally.signals }
         requires free { (pass.me.hand ≡ None) × (pass.me.spare ≡ None) }

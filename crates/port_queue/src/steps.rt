@@ -29,8 +29,8 @@ pub fn split_ends(queue: &Queue, pass: &mut Pass) -> Pass
     queue.another::<Ends>(pass)
 }
 
-// Split of the desk's pass. Before: the desk has given the numbers up to some n. After: n + 1 is given too, and the
-// new pass puts under it and has put nothing.
+/// Split of the desk's pass. Before: the desk has given the numbers up to some n. After: n + 1 is given too, and the
+/// new pass puts under it and has put nothing.
 #[tactic(auto, using(crate::proofs::Moves::forks_next))]
 pub(crate) fn split_sender(queue: &Queue, pass: &mut Pass) -> Pass
     requires queue { IsSegPassOf queue.now pass.old }
@@ -42,9 +42,9 @@ pub(crate) fn split_sender(queue: &Queue, pass: &mut Pass) -> Pass
     queue.another::<NewSender>(pass)
 }
 
-// Push, by a sender's pass: the core's put or expiry. Before: the sender has seen a beginning of the put list, in
-// which all its entries stand. After: the entry stands behind all that it had seen, and is the next of its number.
-// Where the push is refused, nothing has changed.
+/// Push, by a sender's pass: the core's put or expiry. Before: the sender has seen a beginning of the put list, in
+/// which all its entries stand. After: the entry stands behind all that it had seen, and is the next of its number.
+/// Where the push is refused, nothing has changed.
 pub(crate) fn push<R: Wait>(
     rt: &R,
     queue: &Queue,
@@ -63,9 +63,9 @@ pub(crate) fn push<R: Wait>(
     queue.push_as::<Pushed, R>(rt, pass, placed)
 }
 
-// Pop, by the owner's pass. Before: the drawn entries begin the put list, and the known list. With an entry: it is the
-// next of the put list, and is drawn. With none, a fresh point: the drawn entries are the whole put list, and so all
-// of the known list; no pass has changed.
+/// Pop, by the owner's pass. Before: the drawn entries begin the put list, and the known list. With an entry: it is the
+/// next of the put list, and is drawn. With none, a fresh point: the drawn entries are the whole put list, and so all
+/// of the known list; no pass has changed.
 pub(crate) fn pop<R: Wait>(rt: &R, queue: &Queue, pass: &mut Pass) -> Option<Placed>
     requires queue { IsSegPassOf queue.now pass.old }
     requires rights { pass.old.me.view.client.takes ≡ true }
@@ -77,8 +77,8 @@ pub(crate) fn pop<R: Wait>(rt: &R, queue: &Queue, pass: &mut Pass) -> Option<Pla
     queue.pop_as::<Popped, R>(rt, pass)
 }
 
-// Taking a sender's pass back, by the owner's. Before: each has seen a beginning of the put list. After: the owner
-// knows the longer of the two, and the sender's number and count stand among the gathered; its pass is spent.
+/// Taking a sender's pass back, by the owner's. Before: each has seen a beginning of the put list. After: the owner
+/// knows the longer of the two, and the sender's number and count stand among the gathered; its pass is spent.
 #[tactic(auto, using(crate::proofs::Moves::merges))]
 pub(crate) fn take_back(queue: &Queue, pass: &mut Pass, other: Pass)
     requires queue { IsSegPassOf queue.now pass.old × IsSegPassOf queue.now other }
@@ -89,8 +89,8 @@ pub(crate) fn take_back(queue: &Queue, pass: &mut Pass, other: Pass)
     queue.absorb::<Gathers>(pass, other);
 }
 
-// Split of the owner's pass. Before: a sender has been gathered. After: it is gathered no more, and the new pass puts
-// under its number, with its count, and has seen all that the owner knows.
+/// Split of the owner's pass. Before: a sender has been gathered. After: it is gathered no more, and the new pass puts
+/// under its number, with its count, and has seen all that the owner knows.
 #[tactic(auto, using(crate::proofs::Moves::forks_again))]
 pub(crate) fn split_again(queue: &Queue, pass: &mut Pass) -> Pass
     requires queue { IsSegPassOf queue.now pass.old }

@@ -2,7 +2,7 @@
 
 ghost use Rattle.std.specs.Prelude.{◌≡◌, ◌≤◌, true};
 
-use inbox::{Alone, Fuse, Inbox};
+use inbox::{Alone, Inbox};
 use port_values::{SignalId, Ticks, TimerKey, Values};
 use sdl_timers::{NewClock, Reader, Ticker, Wheel, clock};
 use std::alloc::Global;

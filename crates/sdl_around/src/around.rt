@@ -1,6 +1,6 @@
 //! What lies around an instance that makes a step.
 
-ghost use Rattle.std.specs.Prelude.{◌≡◌, []};
+ghost use Rattle.std.specs.Prelude.{◌≡◌};
 ghost use Rattle.sdl_around.specs.Around.{census_now};
 
 use crate::act::Act;
@@ -42,7 +42,7 @@ impl<'a, 'r> Around<'a, 'r> {
         }
     }
 
-    // Who lives now.
+    /// Who lives now.
     fn census(&self) -> &Census
         ensures { result.now ≡ census_now self.now.changed self.now.begun.now }
     {

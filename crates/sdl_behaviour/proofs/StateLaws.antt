@@ -13,7 +13,6 @@ use Rattle.sdl_behaviour.proofs.StepLaws.{NoStatement, no_statement}
 use Rattle.sdl_behaviour.proofs.TransitionLaws.{trans_law}
 use Rattle.sdl_behaviour.proofs.TurnLemmas.{any_map}
 use Rattle.sdl_tree.specs.declared.mark.Mark.TheVariants as mark
-use Rattle.sdl_tree.specs.Words as word
 
 -- ---- states = "*" ["(" NAME {"," NAME} ")"] | NAME {"," NAME}
 

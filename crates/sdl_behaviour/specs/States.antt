@@ -7,7 +7,6 @@ use Rattle.sdl_tree.specs.declared.mark.Mark.TheVariants as mark
 use Rattle.sdl_tree.specs.declared.name.Spelling.{Spelling}
 use Rattle.sdl_tree.specs.Tree.{Transition, Start, Stimulus, States, StateList, StateAll, BodyPart, StatePart, FreeAction}
 use Rattle.sdl_tree.specs.Words.{Words, Spot}
-use Rattle.sdl_tree.specs.Words as word
 use Rattle.sdl_behaviour.specs.Stimuli.{stimulus}
 use Rattle.sdl_behaviour.specs.Transitions.{trans}
 use Rattle.sdl_read.specs.Parts.{followed_by, ended, named, end_name, closed, sees_one}

@@ -1,6 +1,6 @@
 //! Actions but decisions.
 
-ghost use Rattle.std.specs.Prelude.{◌≡◌, ◌≤◌, map, option_map};
+ghost use Rattle.std.specs.Prelude.{◌≤◌, option_map};
 ghost use Rattle.sdl_tree.specs.Views.{action_value, applied_value, assignment_value, destination_value, group_value};
 ghost use Rattle.sdl_behaviour.specs.Actions as spec;
 ghost use Rattle.sdl_cursor.specs.Reads.{Reads};

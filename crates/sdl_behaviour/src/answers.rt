@@ -1,6 +1,6 @@
 //! The answers of a decision.
 
-ghost use Rattle.std.specs.Prelude.{◌≡◌, ◌≤◌, option_map};
+ghost use Rattle.std.specs.Prelude.{◌≤◌, option_map};
 ghost use Rattle.sdl_tree.specs.Views.{answer_value, expr_value};
 ghost use Rattle.sdl_behaviour.specs.Answers as spec;
 ghost use Rattle.sdl_cursor.specs.Reads.{Reads};

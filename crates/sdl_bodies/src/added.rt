@@ -1,6 +1,6 @@
 //! Transitions that were added to a table of nodes.
 
-ghost use Rattle.std.specs.Prelude.{◌≡◌, ◌++◌, ◌∷◌, [], List, Option, None, Some, flat_map, map, IfOk, OnOk};
+ghost use Rattle.std.specs.Prelude.{◌≡◌, ◌++◌, ◌∷◌, [], List, Option, None, Some, flat_map, map, OnOk};
 ghost use Rattle.sdl_bodies.specs.Added.{Enters, Holds, Stand};
 ghost use Rattle.sdl_bodies.specs.Bodies.{bodies_among, faults_among};
 ghost use Rattle.sdl_paths.specs.Beginnings.{part_beginnings, stimulus_beginnings};

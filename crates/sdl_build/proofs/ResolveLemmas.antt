@@ -1,7 +1,7 @@
 -- From what is noted and made to what is answered.
 use Rattle.std.proofs.Common.{◌≡◌, ◌∙◌, ◌++◌, ℤ, Bool, true, false, List, Option, None, Some, IfOk, Result, Ok, Err, ap, refl, subst, sym, true≢false}
 use Rattle.std.specs.Global.{Vec}
-use Rattle.sdl_build.specs.Built.{AreProcesses, IsBroken, IsBuilt, IsSystem, IsSystemOr}
+use Rattle.sdl_build.specs.Built.{AreProcesses, IsBroken, IsBuilt, IsSystemOr}
 use Rattle.sdl_build.specs.Built as is_broken
 use Rattle.sdl_build.specs.Faulty.{NotesRest}
 use Rattle.sdl_build.specs.Made.{AreProcessesOr, IsComposedIf}

@@ -1,6 +1,6 @@
 //! Who lives (Z.101: agent instance set).
 
-ghost use Rattle.std.specs.Prelude.{◌≡◌, ◌+◌, ◌-◌, ◌^◌, ◌<◌, [], IfOk, replicate, slice_set};
+ghost use Rattle.std.specs.Prelude.{◌≡◌, ◌+◌, ◌-◌, ◌^◌, ◌<◌, IfOk, replicate, slice_set};
 ghost use Rattle.sdl_runs.specs.World.{count_in, is_full, number_for, with_one_more};
 ghost use Rattle.sdl_system.specs.Route.{living_in};
 
@@ -136,7 +136,7 @@ impl Census {
     }
 }
 
-// Writes a value at a place, where there is one.
+/// Writes a value at a place, where there is one.
 fn put<T: Drop>(list: &mut [T], place: usize, value: T)
     ensures { list.new ≡ slice_set list.old place value }
 {

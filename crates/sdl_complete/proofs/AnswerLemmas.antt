@@ -20,7 +20,7 @@ use Rattle.sdl_sorts.specs.declared.scope.Constant.TheVariants as constants
 use Rattle.sdl_system.specs.declared.answer.Answer.TheVariants as answers
 use Rattle.sdl_system.specs.declared.sort.Sort.{Sort}
 use Rattle.sdl_tree.specs.Spells.Expressions.{operator_mark}
-use Rattle.sdl_tree.specs.Tree.{Expr, Exprs, Links, Numeral, Named, Keyword, Active, Paren, Unary, Chain, NoExpr, AndExpr, NoLink, AndLink}
+use Rattle.sdl_tree.specs.Tree.{Expr}
 use Rattle.sdl_tree.specs.Tree as tree
 use Rattle.sdl_tree.specs.Words.{Spot}
 use Rattle.sdl_tree.specs.declared.expressions.Operator.TheVariants as operator

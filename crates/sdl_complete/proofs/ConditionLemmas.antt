@@ -7,7 +7,7 @@ use Rattle.sdl_stimuli.specs.Faulty as faulty
 use Rattle.sdl_stimuli.specs.Reading.{Begun, Reading, body_faults, body_read, condition_term, first_reading, no_stimuli, part_faults, stimuli_faults, with_condition, with_part, with_stimuli, with_stimulus}
 use Rattle.sdl_system.specs.Term.{Term}
 use Rattle.sdl_system.specs.declared.sort.Sort.TheVariants.{Boolean}
-use Rattle.sdl_tree.specs.Tree.{Expr, Exprs, Links, Numeral, Named, Keyword, Active, Paren, Unary, Chain, NoExpr, AndExpr, NoLink, AndLink}
+use Rattle.sdl_tree.specs.Tree.{Expr}
 use Rattle.sdl_tree.specs.Tree as tree
 use Rattle.sdl_complete.proofs.ExpressionLemmas.{empty-left, empty-right, placed-given}
 

@@ -4,7 +4,7 @@ use Rattle.sdl_stimuli.specs.Context.{Context}
 use Rattle.sdl_stimuli.specs.Reading.{Begun, Reading, condition_term, no_stimuli, number_of_condition, with_condition, with_part, with_stimulus}
 use Rattle.sdl_system.specs.Term.{Term}
 use Rattle.sdl_tree.specs.Tree as tree
-use Rattle.sdl_tree.specs.Tree.{BodyPart, Condition, FreeAction, InputPart, PriorityInput, SavePart, StatePart, States, Stimulus}
+use Rattle.sdl_tree.specs.Tree.{BodyPart, Condition, FreeAction, InputPart, PriorityInput, SavePart, StatePart, Stimulus}
 
 same : (n : ℕ) → n ≤ n
 same n = omega arith

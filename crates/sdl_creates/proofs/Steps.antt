@@ -18,7 +18,7 @@ use Rattle.sdl_interp.specs.Instance.{InstanceValue}
 use Rattle.sdl_record.specs.Event as event
 use Rattle.sdl_record.specs.Event.{Event}
 use Rattle.sdl_runs.specs.Act.{Act, Deed, Send, acts_of}
-use Rattle.sdl_runs.specs.World.{Census, IsRoute, IsRouteBy, IsTrueOf, IsTrueOfOne, WorldValue, count_in, is_full, is_reached, most_instances, number_for, time_after_one}
+use Rattle.sdl_runs.specs.World.{Census, IsRouteBy, IsTrueOf, IsTrueOfOne, WorldValue, count_in, is_full, is_reached, most_instances, number_for, time_after_one}
 use Rattle.sdl_runs.specs.World as world
 use Rattle.sdl_script.specs.declared.script.ScriptSignal.{ScriptSignal}
 use Rattle.sdl_steps.specs.declared.machine.Position.{Position}

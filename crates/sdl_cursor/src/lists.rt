@@ -1,6 +1,6 @@
 //! Lists of anything that can be read.
 
-ghost use Rattle.std.specs.Prelude.{◌≡◌, map, option_map};
+ghost use Rattle.std.specs.Prelude.{map, option_map};
 ghost use Rattle.sdl_cursor.specs.Reader.{IsReader};
 ghost use Rattle.sdl_cursor.specs.Reading as spec;
 ghost use Rattle.sdl_cursor.specs.Reads.{Reads};

@@ -1,6 +1,6 @@
 //! What the tokens of a text mean to the grammar.
 
-ghost use Rattle.std.specs.Prelude.{◌≡◌, ◌≤◌, ◌++◌, All, IfOk, length, map, slice_range, take};
+ghost use Rattle.std.specs.Prelude.{◌≡◌, ◌≤◌, All, IfOk, length, map, slice_range, take};
 ghost use Rattle.std.specs.Str.{IsAscii};
 ghost use Rattle.sdl_lex.specs.Place.{place_after};
 ghost use Rattle.sdl_lex.specs.Token.{InOrder, IsSlice};

@@ -1,6 +1,6 @@
 //! The entries of the tables: what one definition of a specification is, with the scope that it stands in.
 
-use sdl_sorts::{SynonymId, ValueEntry};
+use sdl_sorts::ValueEntry;
 use sdl_spaces::ScopeId;
 use sdl_system::{BlockId, LabelId, ProcessId, Sort, StateId};
 use sdl_tree::{

@@ -5,7 +5,7 @@ ghost use Rattle.sdl_declared.specs.Rows.{after_synonyms, after_variables, place
 ghost use Rattle.sdl_declared.specs.Seen.{synonym_seen, value_seen};
 ghost use Rattle.sdl_declared.specs.Sorts.{sort_at};
 ghost use Rattle.sdl_declared.specs.Views.{part_value, parts_listed, placed_value};
-ghost use Rattle.sdl_tree.specs.Views.{expr_value, names_value, sort_value, synonym_value};
+ghost use Rattle.sdl_tree.specs.Views.{expr_value, names_value, synonym_value};
 
 use crate::enter::enter;
 use crate::entries::{SynonymEntry, ValueName};

@@ -1,9 +1,8 @@
 //! The walk through a specification that finds its definitions.
 
 ghost use Rattle.std.specs.Prelude.{◌≡◌, ◌++◌, ◌∷◌, [], flat_map, map, option_map, IfOk, OnOk};
-ghost use Rattle.sdl_declared.specs.Parts.{after_block_part, after_block_parts, after_definition, all_parts, block_part_parts, block_parts, blocks_after, definition_parts, groups_of, local_parts, own_parts, parameter_part, parts_in, placed, process_parts, processes_after, system_parts, variable_part};
+ghost use Rattle.sdl_declared.specs.Parts.{after_block_part, after_block_parts, after_definition, block_part_parts, block_parts, blocks_after, definition_parts, groups_of, local_parts, own_parts, parameter_part, parts_in, placed, processes_after, system_parts, variable_part};
 ghost use Rattle.sdl_declared.specs.Views.{part_value, parts_listed};
-ghost use Rattle.sdl_spaces.specs.declared.scope.ScopeId.TheVariants as scopes;
 ghost use Rattle.sdl_tree.specs.Tree as tree;
 ghost use Rattle.sdl_tree.specs.Views.{block_part_value, block_value, definition_value, fpar_value, local_value, parameters_value, process_value, system_definition_value, tree_value, variables_value};
 

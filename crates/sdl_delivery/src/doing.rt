@@ -52,7 +52,7 @@ impl<'s> Instances<'s> {
         self.perform_rest(alloc, board, rest)
     }
 
-    // Does what comes behind the first act.
+    /// Does what comes behind the first act.
     #[inline(never)]
     fn perform_rest(
         &mut self,
@@ -76,7 +76,7 @@ impl<'s> Instances<'s> {
         Ok(())
     }
 
-    // An act. An instance is made only of a process of the system.
+    /// An act. An instance is made only of a process of the system.
     #[inline(always)]
     fn perform(&mut self, alloc: Global, board: &mut Board, act: Act) -> Result<(), RunError>
         requires { IsSerial board.old.awake self.old }
@@ -146,8 +146,8 @@ impl<'s> Instances<'s> {
         Ok(())
     }
 
-    // Puts a signal into the port of its target. What goes to the environment, to null, to nobody or to a number that
-    // nobody has is gone.
+    /// Puts a signal into the port of its target. What goes to the environment, to null, to nobody or to a number that
+    /// nobody has is gone.
     #[inline(always)]
     fn send(&mut self, board: &mut Board, target: Target, item: Item) -> Result<(), RunError>
         requires { IsSerial board.old.awake self.old }
@@ -172,7 +172,7 @@ impl<'s> Instances<'s> {
         Ok(())
     }
 
-    // A fuse whose time has come expires at once, another waits.
+    /// A fuse whose time has come expires at once, another waits.
     fn arm(&mut self, board: &mut Board, fuse: Fuse) -> Result<(), RunError>
         requires { IsSerial board.old.awake self.old }
         ensures kept { OnOk result (IsSerial board.new.awake self.new) }

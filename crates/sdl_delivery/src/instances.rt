@@ -51,7 +51,7 @@ impl<'s> Instances<'s> {
         Ok(run)
     }
 
-    // The instances of one process.
+    /// The instances of one process.
     fn begin_all(
         &mut self,
         alloc: Global,

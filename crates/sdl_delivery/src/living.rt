@@ -21,8 +21,8 @@ impl<'s> Instances<'s> {
         self.census.remove(who.process, least);
     }
 
-    // The least number of a living instance of the process of the one at a place, which has ended: that of one with a
-    // lesser number, or of one behind it.
+    /// The least number of a living instance of the process of the one at a place, which has ended: that of one with a
+    /// lesser number, or of one behind it.
     fn least_left(&self, who: Identity, place: usize) -> Option<u32>
         requires ended { HasEnded self.now place }
         requires who { IsSomeAnd (slice_get self.now.instances.items place) (λ i. i.who ≡ who) }
@@ -37,7 +37,7 @@ impl<'s> Instances<'s> {
         self.next_living(who.process, place)
     }
 
-    // The least number of a living instance of a process at this place or behind it.
+    /// The least number of a living instance of a process at this place or behind it.
     fn next_living(&self, process: ProcessId, place: usize) -> Option<u32>
         requires { place ≤ length self.now.instances.items }
         ensures { result ≡ least_living (drop place self.now.instances.items) process.0 }

@@ -14,7 +14,7 @@ use Rattle.sdl_process.specs.Meant.{IsBehaviour}
 use Rattle.sdl_process.specs.Surroundings.{Surroundings}
 use Rattle.sdl_process.specs.declared.heading.Heading.{Heading}
 use Rattle.sdl_runs.specs.Behaves.{Behaves}
-use Rattle.sdl_system.specs.Behaviour.{Behaviour, Means, variable_meaning}
+use Rattle.sdl_system.specs.Behaviour.{Behaviour, variable_meaning}
 use Rattle.sdl_system.specs.Signal.{is_member}
 use Rattle.sdl_system.specs.System.{SystemValue}
 use Rattle.sdl_system.specs.declared.id.ProcessId.{ProcessId}

@@ -1,8 +1,7 @@
 //! What the synonyms come to.
 
-ghost use Rattle.std.specs.Prelude.{◌≡◌, flat_map, map, IfOk};
-ghost use Rattle.std.specs.List.{AllZip};
-ghost use Rattle.sdl_declared.specs.Seen.{process_seen, synonym_seen};
+ghost use Rattle.std.specs.Prelude.{◌≡◌, flat_map, IfOk};
+ghost use Rattle.sdl_declared.specs.Seen.{synonym_seen};
 ghost use Rattle.sdl_declared.specs.Tables.{rows_of};
 ghost use Rattle.sdl_figures.specs.Synonyms.{AreSynonymConstants, AreSynonyms, IsSynonym, faults_in_row};
 ghost use Rattle.sdl_faults.specs.Faults.{least_of, told};

@@ -39,7 +39,7 @@ impl Seat {
         Seat { place, left, seen }
     }
 
-    // Whether the seat has seen all numbers drawn.
+    /// Whether the seat has seen all numbers drawn.
     pub(crate) fn is_full(&self) -> bool
         ensures full { result ≡ nat_le 1000 self.now.seen }
         ensures once { EachOnce self.now.drawn }

@@ -1,17 +1,14 @@
 -- Which bodies begin, and where they stand: at the start, by an input, and by a continuous signal.
-use Rattle.std.proofs.Common.{◌≡◌, ◌∙◌, sym, ap, subst, refl, ℕ, ◌<◌, Bool, true, false, All, IfSome, IsSomeAnd, List, [], ◌∷◌, MatchOption, Option, None, Some, Result, Ok, Err, get_or, length, slice_get, arith}
-use Rattle.std.proofs.lemmas.List.Elements.{All-head, All-tail}
-use Rattle.std.proofs.lemmas.Option.{same_Some, slice_get-get_or, slice_get_within, get_or_from_slice_get}
+use Rattle.std.proofs.Common.{◌≡◌, ◌∙◌, sym, ap, subst, refl, ℕ, ◌<◌, IsSomeAnd, List, [], ◌∷◌, MatchOption, Option, None, Some, get_or, length, slice_get, arith}
+use Rattle.std.proofs.lemmas.Option.{same_Some, slice_get-get_or, slice_get_within}
 use Rattle.std.proofs.lemmas.Slice.Zip.{AllZip-left, AllZip-right}
 use Rattle.port_values.specs.declared.item.SignalId.{SignalId}
 use Rattle.sdl_evaluation.specs.Environment.{Environment}
-use Rattle.sdl_evaluation.specs.Value.{truth_at}
 use Rattle.sdl_interp.specs.Selected.{IsTried}
-use Rattle.sdl_record.specs.declared.failure.Failure.{Failure}
 use Rattle.sdl_runs.specs.Reception.{Inputs, InputsFirst}
-use Rattle.sdl_runs.specs.Selection.{Tried, begins, fails, none_true, tried, tried_or}
+use Rattle.sdl_runs.specs.Selection.{Tried, begins, fails, none_true, tried}
 use Rattle.sdl_system.proofs.BehaviourLemmas.{reacts_as_meant}
-use Rattle.sdl_system.specs.Behaviour.{Behaviour, ContinuousSignal, Means, MeansResponse, MeansState, MeansTable, Response, StateMeaning, input, priority_input, response_to, save}
+use Rattle.sdl_system.specs.Behaviour.{Behaviour, Means, MeansResponse, MeansState, MeansTable, Response, StateMeaning, input, priority_input, response_to, save}
 use Rattle.sdl_system.specs.Body.{Body}
 use Rattle.sdl_system.specs.Process.{reaction_in, table_in, table_of}
 use Rattle.sdl_system.specs.Table.{Stands}

@@ -1,5 +1,5 @@
 -- What a step of an instance comes to, by what it was led to.
-use Rattle.std.proofs.Common.{◌≡◌, ◌≢◌, Bool, false, inr, refl, subst, sym, true}
+use Rattle.std.proofs.Common.{◌≡◌, ◌≢◌, Bool, inr, refl, subst, sym, true}
 use Rattle.sdl_interp.specs.Instance.{InstanceValue, Keeps, Moves, Steps, work_of}
 use Rattle.sdl_interp.specs.Stimulus.{LeadsFrom}
 use Rattle.sdl_interp.specs.declared.instance.Stepped.{Stepped}

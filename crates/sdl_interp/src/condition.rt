@@ -1,6 +1,6 @@
 //! Conditions of a process: those of its inputs and of its continuous signals (Z.102: enabling condition).
 
-ghost use Rattle.std.specs.Prelude.{◌≡◌, ◌⊎◌, IfErr, IfOk, List, Ok, None, Some, map, true};
+ghost use Rattle.std.specs.Prelude.{◌≡◌, ◌⊎◌, IfErr, IfOk, List, Ok, Some, map, true};
 ghost use Rattle.sdl_evaluation.specs.Environment.{environment};
 ghost use Rattle.sdl_evaluation.specs.Memory.{FailsAs, wants_memory};
 ghost use Rattle.sdl_evaluation.specs.Value.{truth_at};

@@ -211,7 +211,7 @@ impl<'s> Instance<'s, Alone> {
     }
 }
 
-// The variables before the start: formal parameters have the values that there are, the others their initial values.
+/// The variables before the start: formal parameters have the values that there are, the others their initial values.
 fn variables_from(
     alloc: Global,
     process: &Process,
@@ -226,7 +226,7 @@ fn variables_from(
     Ok(Variables::new(list))
 }
 
-// So many formal parameters, with the values that there are.
+/// So many formal parameters, with the values that there are.
 fn parameters_from(
     alloc: Global,
     count: u32,

@@ -1,9 +1,7 @@
 //! The values of a signal on their way to the variables of its input (Z.102: input).
 
-ghost use Rattle.std.specs.Prelude.{◌≡◌, IfErr, OnOk, length};
-ghost use Rattle.inbox.specs.Ends.{OwnerState};
+ghost use Rattle.std.specs.Prelude.{◌≡◌, IfErr, OnOk};
 ghost use Rattle.sdl_interp.specs.Stimulus.{Receives, ReceivesWrong};
-ghost use Rattle.sdl_steps.specs.Machine.{IsGoing, value_of};
 
 use port_values::Value;
 use sdl_evaluation::place;

@@ -41,7 +41,7 @@ pub fn select<P: Inbox>(
     Ok(Selection::new(classes))
 }
 
-// The classes of the signals of a system, of which there are so many, where the conditions have these truths.
+/// The classes of the signals of a system, of which there are so many, where the conditions have these truths.
 fn classes(
     alloc: Global,
     table: &StateTable,
@@ -67,7 +67,7 @@ fn classes(
     Ok(classes)
 }
 
-// Signals wait whose condition is false.
+/// Signals wait whose condition is false.
 fn shut(
     classes: &mut Vec<Class>,
     count: u32,

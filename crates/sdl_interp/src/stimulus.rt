@@ -60,7 +60,7 @@ pub fn step_from<P: Inbox, W: World>(
     }
 }
 
-// Makes the start transition.
+/// Makes the start transition.
 #[inline(never)]
 fn start<P: Inbox, W: World>(
     alloc: Global,
@@ -95,8 +95,8 @@ fn start<P: Inbox, W: World>(
     Led { to, counts: true }
 }
 
-// What an instance does in a state: it takes something from its port, or where nothing can be taken it tries the
-// continuous signals. None: there is nothing to do.
+/// What an instance does in a state: it takes something from its port, or where nothing can be taken it tries the
+/// continuous signals. None: there is nothing to do.
 fn respond<P: Inbox, W: World>(
     alloc: Global,
     system: &System,
@@ -136,7 +136,7 @@ fn respond<P: Inbox, W: World>(
     )
 }
 
-// The enabling conditions of the state tell what is taken.
+/// The enabling conditions of the state tell what is taken.
 #[inline(never)]
 fn select_and_take<P: Inbox, W: World>(
     alloc: Global,
@@ -166,7 +166,7 @@ fn select_and_take<P: Inbox, W: World>(
     }
 }
 
-// Takes from the port what the state selects.
+/// Takes from the port what the state selects.
 #[inline(always)]
 fn take_by<P: Inbox, W: World>(
     alloc: Global,
@@ -202,7 +202,7 @@ fn take_by<P: Inbox, W: World>(
     }
 }
 
-// A condition or a take fails.
+/// A condition or a take fails.
 #[inline(never)]
 fn fail_at<P: Inbox, W: World>(
     machine: &mut Machine,
@@ -225,7 +225,7 @@ fn fail_at<P: Inbox, W: World>(
     }
 }
 
-// What is done with what the port gave.
+/// What is done with what the port gave.
 fn react<P: Inbox, W: World>(
     alloc: Global,
     system: &System,
@@ -266,7 +266,7 @@ fn react<P: Inbox, W: World>(
     }
 }
 
-// The state has no input of the signal, and doesn't save it.
+/// The state has no input of the signal, and doesn't save it.
 #[inline(never)]
 fn discard<P: Inbox, W: World>(
     state: StateId,
@@ -299,7 +299,7 @@ fn discard<P: Inbox, W: World>(
     }
 }
 
-// An input or a priority input takes the signal.
+/// An input or a priority input takes the signal.
 fn consume<P: Inbox, W: World>(
     alloc: Global,
     system: &System,
@@ -343,7 +343,7 @@ fn consume<P: Inbox, W: World>(
     }
 }
 
-// The values go to the variables of the input, and its transition is made.
+/// The values go to the variables of the input, and its transition is made.
 #[inline(always)]
 fn begin<P: Inbox, W: World>(
     alloc: Global,
@@ -387,7 +387,7 @@ fn begin<P: Inbox, W: World>(
     Led { to, counts: true }
 }
 
-// The port gave nothing.
+/// The port gave nothing.
 #[inline(never)]
 fn try_continuous<P: Inbox, W: World>(
     alloc: Global,
@@ -418,7 +418,7 @@ fn try_continuous<P: Inbox, W: World>(
     }
 }
 
-// The transition of a continuous signal is made, whose condition is true.
+/// The transition of a continuous signal is made, whose condition is true.
 fn provide<P: Inbox, W: World>(
     alloc: Global,
     system: &System,

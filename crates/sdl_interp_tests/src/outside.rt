@@ -56,7 +56,7 @@ impl<'s> Outside<'s> {
         Some(self.fuses.remove(place))
     }
 
-    // The number of one instance more, where one may be made.
+    /// The number of one instance more, where one may be made.
     fn next_number(&self, process: ProcessId) -> Option<u32> {
         let most = self.system.process(process)?.maximum;
         match most {

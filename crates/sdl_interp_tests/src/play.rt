@@ -48,7 +48,7 @@ pub fn play<S: Subject>(
     settle(rt, alloc, subject, outside);
 }
 
-// Lets time pass up to this one.
+/// Lets time pass up to this one.
 fn pass<S: Subject>(
     rt: &impl Abort,
     alloc: Global,
@@ -66,7 +66,7 @@ fn pass<S: Subject>(
     outside.clock = to;
 }
 
-// Steps until the instance rests or ends.
+/// Steps until the instance rests or ends.
 fn settle<S: Subject>(rt: &impl Abort, alloc: Global, subject: &mut S, outside: &mut Outside<'_>) {
     for _ in 0..MOST {
         expire(rt, subject, outside);
@@ -77,14 +77,14 @@ fn settle<S: Subject>(rt: &impl Abort, alloc: Global, subject: &mut S, outside: 
     }
 }
 
-// What the instance has sent to itself comes into its port.
+/// What the instance has sent to itself comes into its port.
 fn hear_own<S: Subject>(rt: &impl Abort, subject: &mut S, outside: &mut Outside<'_>) {
     for item in outside.own.drain(..) {
         assert!(rt; subject.hear(item));
     }
 }
 
-// The timers that are due by now expire.
+/// The timers that are due by now expire.
 fn expire<S: Subject>(rt: &impl Abort, subject: &mut S, outside: &mut Outside<'_>) {
     for _ in 0..MOST {
         let Some(fuse) = outside.take_due() else {

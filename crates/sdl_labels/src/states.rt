@@ -1,10 +1,10 @@
 //! The states of a process.
 
-ghost use Rattle.std.specs.Prelude.{◌≡◌, flat_map, fold, map, IfOk, OnOk};
+ghost use Rattle.std.specs.Prelude.{◌≡◌, fold, IfOk, OnOk};
 ghost use Rattle.sdl_labels.specs.Labels.{names_listed};
-ghost use Rattle.sdl_scope.specs.Limits.{different, part_states, state_names, with_new};
+ghost use Rattle.sdl_scope.specs.Limits.{different, state_names, with_new};
 ghost use Rattle.sdl_scope.specs.Listed.{words_listed};
-ghost use Rattle.sdl_tree.specs.Views.{body_part_value, name_value, names_value, process_value};
+ghost use Rattle.sdl_tree.specs.Views.{name_value, names_value, process_value};
 
 use sdl_faults::Faults;
 use sdl_lex::Place;

@@ -1,6 +1,6 @@
 //! Which node of the graph stands for which end of a channel.
 
-ghost use Rattle.std.specs.Prelude.{◌≡◌, ◌&&◌, slice_get};
+ghost use Rattle.std.specs.Prelude.{◌≡◌, ◌&&◌};
 ghost use Rattle.sdl_links.specs.Steps.{begin_of, end_of, first_of, from_block, is_implied, node_if, on_first, on_implied, same_end, same_scope};
 ghost use Rattle.sdl_links.specs.declared.node.Node.TheVariants.{Source as AtSource};
 

@@ -4,7 +4,7 @@
 //! grows with the text and not with the pairs of joined channels. What is joined without a connect meets at the nodes
 //! of its block.
 
-ghost use Rattle.std.specs.Prelude.{◌≡◌, ◌<◌, ◌↔◌, ◌^◌, ℕ, get_or, IfOk, OnOk, false, not, ◌&&◌};
+ghost use Rattle.std.specs.Prelude.{◌≡◌, ◌<◌, ◌↔◌, ℕ, get_or, IfOk, OnOk, false, not, ◌&&◌};
 ghost use Rattle.sdl_channels.specs.Each.{ForSome};
 ghost use Rattle.sdl_channels.specs.Graph.{Adds, Leads};
 ghost use Rattle.sdl_channels.specs.Rows.{rows_of};

@@ -49,7 +49,7 @@ impl<'a, J: Run, R: Wait, O: Outside<J>> World for Around<'a, J, R, O> {
         put(self.rt, self.outside, &mut self.peers, number, item)
     }
 
-    // A timer that is due when it's set is put into the own port.
+    /// A timer that is due when it's set is put into the own port.
     fn prepare(&mut self) -> Result<(), AllocError> {
         if self.outside.port(self.own).is_some() {
             open(self.outside, &mut self.peers, self.own)?;
@@ -73,7 +73,7 @@ impl<'a, J: Run, R: Wait, O: Outside<J>> World for Around<'a, J, R, O> {
     }
 }
 
-// Sees to it that there is a sender into the port of this instance.
+/// Sees to it that there is a sender into the port of this instance.
 fn open<J: Run, O: Outside<J>>(
     outside: &mut O,
     peers: &mut Peers<J>,
@@ -93,7 +93,7 @@ fn open<J: Run, O: Outside<J>>(
     Ok(())
 }
 
-// Puts a signal into the port of this instance.
+/// Puts a signal into the port of this instance.
 fn put<J: Run, R: Wait, O: Outside<J>>(
     rt: &R,
     outside: &O,
@@ -115,8 +115,8 @@ fn put<J: Run, R: Wait, O: Outside<J>>(
     Ok(())
 }
 
-// Puts the expiry of a timer into the port of its instance, where its time has come. Else, and for want of memory, the
-// fuse comes back.
+/// Puts the expiry of a timer into the port of its instance, where its time has come. Else, and for want of memory, the
+/// fuse comes back.
 fn expire<J: Run, R: Wait, O: Outside<J>>(
     rt: &R,
     outside: &O,

@@ -1,7 +1,6 @@
 //! An instance with its senders.
 
 ghost use Rattle.std.specs.Prelude.{◌≡◌, [], IsTrue, MatchResult};
-ghost use Rattle.inbox.specs.Ends.{OwnerState};
 ghost use Rattle.port_model.specs.Port.{empty_port};
 ghost use Rattle.sdl_interp.specs.Instance.{HasRunOf, IsAtRest, IsClosed, IsRunAs, Keeps, Steps, created};
 ghost use Rattle.sdl_members.specs.Around.{world_of};

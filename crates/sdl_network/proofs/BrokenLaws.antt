@@ -1,7 +1,7 @@
 -- Each rule that is broken in what joins the agents is among its faults.
-use Rattle.std.proofs.Common.{◌≡◌, ◌∙◌, ◌++◌, ℕ, ◌+◌, true, List, [], ◌∷◌, Option, None, Some, flat_map, is_none, inl, inr, refl, sym, ap, subst}
+use Rattle.std.proofs.Common.{◌≡◌, ◌∙◌, ◌++◌, ℕ, ◌+◌, true, List, [], ◌∷◌, Option, None, Some, flat_map, is_none, inl, inr, sym, ap, subst}
 use Rattle.std.proofs.lemmas.List.Concat.{flat_map-append}
-use Rattle.sdl_declared.specs.Rows.{ChannelRow, ConnectionRow, ProcessRow, SignalListRow}
+use Rattle.sdl_declared.specs.Rows.{ChannelRow, ConnectionRow}
 use Rattle.sdl_declared.specs.Tables.{Rows, path_of}
 use Rattle.sdl_names.specs.declared.declared.Declared.{Declared}
 use Rattle.sdl_network.specs.Agents.{agent_end, block_names, end_faults}
@@ -16,14 +16,14 @@ use Rattle.sdl_signal_lists.specs.Processes.{faults_of, processes_faults, seen_w
 use Rattle.sdl_signal_lists.specs.Seen.{Seen, item_faults, item_in, item_name, items_faults, list_item, seen_at, signal_item}
 use Rattle.sdl_faults.proofs.FaultLemmas.{in-each, in-if, in-left, in-right}
 use Rattle.sdl_faults.specs.FaultLaws.{In}
-use Rattle.sdl_faults.specs.Faults.{Told, fault_if, told_at}
+use Rattle.sdl_faults.specs.Faults.{Told, told_at}
 use Rattle.sdl_scope.specs.Names.{first_of}
 use Rattle.sdl_faults.specs.declared.fault.Kind.TheVariants.{Unknown}
 use Rattle.sdl_sorts.specs.declared.scope.AgentMeaning.TheVariants as agent
 use Rattle.sdl_spaces.specs.Spaces.{names_of}
 use Rattle.sdl_spaces.specs.declared.scope.ScopeId.{ScopeId}
 use Rattle.sdl_spaces.specs.declared.scope.ScopeId.TheVariants as scope
-use Rattle.sdl_tree.specs.Tree.{Agent, ChannelEnd, ChannelPath, ListItem, LocalSignalSet, SignalItem, SignalListItem}
+use Rattle.sdl_tree.specs.Tree.{Agent, ChannelEnd, ChannelPath, LocalSignalSet, SignalListItem}
 use Rattle.sdl_tree.specs.Words.{Spot}
 
 -- ---- lists

@@ -1,5 +1,5 @@
 -- Each fault of what joins the agents is a rule that is broken in it.
-use Rattle.std.proofs.Common.{◌≡◌, ◌++◌, ℕ, ◌+◌, true, List, [], ◌∷◌, Option, None, Some, flat_map, is_none, inl, inr, refl, sym, ap, subst}
+use Rattle.std.proofs.Common.{◌≡◌, ◌++◌, ℕ, ◌+◌, true, List, [], ◌∷◌, Option, None, Some, flat_map, is_none, inl, inr, refl, sym, subst}
 use Rattle.std.proofs.lemmas.List.Concat.{flat_map-append}
 use Rattle.sdl_declared.specs.Rows.{ChannelRow, ConnectionRow, ProcessRow, SignalListRow}
 use Rattle.sdl_declared.specs.Tables.{Rows, path_of}
@@ -11,12 +11,12 @@ use Rattle.sdl_network.specs.Connects.{channel_faults, connect_faults}
 use Rattle.sdl_network.specs.Network.{all_paths, network_faults}
 use Rattle.sdl_signal_lists.specs.Lists.{list_faults}
 use Rattle.sdl_signal_lists.specs.Numbered.{joined, numbered}
-use Rattle.sdl_network.specs.Paths.{Placed, channel_paths, path_faults, second_path, seen_from}
+use Rattle.sdl_network.specs.Paths.{channel_paths, path_faults, second_path, seen_from}
 use Rattle.sdl_signal_lists.specs.Processes.{faults_of, processes_faults, seen_within, set_faults}
 use Rattle.sdl_signal_lists.specs.Seen.{Seen, item_faults, item_in, item_name, items_faults, list_item, seen_at, signal_item}
 use Rattle.sdl_faults.proofs.FaultLemmas.{each-both, each-if, each-of}
 use Rattle.sdl_faults.specs.FaultLaws.{Each, In}
-use Rattle.sdl_faults.specs.Faults.{Told, fault_if, told_at}
+use Rattle.sdl_faults.specs.Faults.{Told, told_at}
 use Rattle.sdl_scope.specs.Names.{first_of}
 use Rattle.sdl_faults.specs.declared.fault.Kind.TheVariants.{Unknown}
 use Rattle.sdl_declared.specs.declared.entries.SignalListId.{SignalListId}
@@ -28,7 +28,7 @@ use Rattle.sdl_spaces.specs.Spaces.{names_of}
 use Rattle.sdl_spaces.specs.declared.scope.ScopeId.{ScopeId}
 use Rattle.sdl_spaces.specs.declared.scope.ScopeId.TheVariants as scope
 use Rattle.sdl_system.specs.declared.id.BlockId.{BlockId}
-use Rattle.sdl_tree.specs.Tree.{Agent, ChannelDefinition, ChannelEnd, ChannelPath, Env, ListItem, LocalDefinition, LocalSignalList, LocalSignals, LocalSignalSet, LocalSynonyms, SignalItem, SignalListItem, SignalSet, Timers, Variables}
+use Rattle.sdl_tree.specs.Tree.{Agent, ChannelEnd, ChannelPath, Env, ListItem, LocalDefinition, LocalSignalList, LocalSignals, LocalSignalSet, LocalSynonyms, SignalItem, SignalListItem, Timers, Variables}
 use Rattle.sdl_tree.specs.Words.{Spot}
 
 -- ---- lists

@@ -1,6 +1,6 @@
 -- When a rule is broken in what joins the agents, and at which word: said of the definitions that stand in the text, and
 -- not of what is noted (Z.101: signal list, channel, channel connection, valid input signal set).
-use Rattle.std.specs.Prelude.{◌≡◌, ◌⊎◌, ℕ, ◌+◌, List, [], ◌∷◌, Option, None, Some}
+use Rattle.std.specs.Prelude.{◌≡◌, ◌⊎◌, ℕ, ◌+◌, List, [], ◌∷◌, None, Some}
 use Rattle.sdl_declared.specs.Rows.{ChannelRow, ConnectionRow, ProcessRow, SignalListRow}
 use Rattle.sdl_declared.specs.Tables.{Rows, path_of}
 use Rattle.sdl_names.specs.declared.declared.Declared.{Declared}

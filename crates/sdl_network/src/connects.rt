@@ -2,7 +2,7 @@
 
 ghost use Rattle.std.specs.Prelude.{◌≡◌, ◌++◌, flat_map, map, IfOk, OnOk};
 ghost use Rattle.sdl_declared.specs.Seen.{connection_seen};
-ghost use Rattle.sdl_network.specs.Connects.{channel_faults, connect_faults, connect_in, connect_value, connects_at, connects_of, ids_of, named_paths, numbers_at};
+ghost use Rattle.sdl_network.specs.Connects.{channel_faults, connect_faults, connect_in, connect_value, connects_of, ids_of, named_paths, numbers_at};
 ghost use Rattle.sdl_faults.specs.Faults.{least_of, told};
 ghost use Rattle.sdl_spaces.specs.Spaces.{names_of};
 ghost use Rattle.sdl_tree.specs.Views.{connection_value, name_value, names_value};

@@ -1,7 +1,7 @@
 -- The faults of an answer are the rules that are broken in it.
 use Rattle.std.proofs.Common.{◌≡◌, ◌∙◌, ◌++◌, not, Bool, true, false, [], Option, None, Some, option_and_then, is_none, is_some, if◌then◌else◌, refl, sym, ap, subst}
 use Rattle.port_values.specs.declared.value.Value as values
-use Rattle.sdl_nodes.specs.BrokenAnswers.{operator_word, BreaksAnswer, BreaksValue, IsComparable, IsComparison, IsOrdering, IsUnordered, IsValueOf, IsWithoutValue}
+use Rattle.sdl_nodes.specs.BrokenAnswers.{operator_word, BreaksAnswer, BreaksValue, IsComparable, IsComparison, IsOrdering, IsUnordered, IsValueOf}
 use Rattle.sdl_nodes.specs.BrokenAnswers as broken
 use Rattle.sdl_faults.proofs.FaultLemmas.{each-both, each-if, in-if, in-left, in-right}
 use Rattle.sdl_faults.specs.FaultLaws.{Each, In}

@@ -1,11 +1,11 @@
 -- Each rule that is broken in a transition is among its faults.
 use Rattle.std.proofs.Common.{◌≡◌, ◌∙◌, ◌++◌, not, Bool, true, false, List, Option, None, Some, flat_map, is_none, if◌then◌else◌, inl, inr, refl, sym, ap, subst}
 use Rattle.sdl_nodes.proofs.AnswerLaws.{answer-listed}
-use Rattle.sdl_nodes.specs.Broken.{BreaksAction, BreaksTerminator, BreaksValues, IsBroken, IsNoProcess, IsNoSignal, IsNoVariable, IsProcess, IsSignal, IsVariable}
+use Rattle.sdl_nodes.specs.Broken.{BreaksAction, BreaksTerminator, BreaksValues, IsBroken, IsNoProcess, IsNoSignal, IsNoVariable}
 use Rattle.sdl_nodes.specs.Broken as broken
 use Rattle.sdl_statements.specs.Contexts.{Context, label_in, state_in}
 use Rattle.sdl_statements.specs.Faulty.{answers_faults, asked_faults, assignment_faults, create_faults, created_faults, default_faults, destination_faults, has_destination, is_lost, lacks_default, output_faults, process_faults, sending_faults, sent_faults, setting_faults, terminator_faults, time_faults, timed_faults, timing_faults, unknown_faults, value_faults, values_faults, whither_faults}
-use Rattle.sdl_nodes.specs.Standing.{EndsIn, IsAskedBy, IsPart, IsPidPlace, StandsIn, Within}
+use Rattle.sdl_nodes.specs.Standing.{IsAskedBy, IsPart, IsPidPlace, Within}
 use Rattle.sdl_nodes.specs.Standing as stands
 use Rattle.sdl_statements.specs.Statements.{agent_name, asked_in, kind_in, sort_of, target_in, target_of}
 use Rattle.sdl_nodes.specs.Transitions.{action_faults, ending_faults, other_faults, parts_faults, steps_faults, transition_faults}
@@ -16,7 +16,7 @@ use Rattle.sdl_faults.specs.declared.fault.Kind.TheVariants.{NoLabel, NoRoute, N
 use Rattle.sdl_sorts.proofs.BrokenLaws as expressions
 use Rattle.sdl_sorts.specs.Answers.{answer_faults}
 use Rattle.sdl_sorts.specs.Broken as sorted
-use Rattle.sdl_sorts.specs.Broken.{IsBrokenAt, IsBrokenIn, IsMisfit, IsNoTimer, TimerMeaning}
+use Rattle.sdl_sorts.specs.Broken.{IsMisfit, IsNoTimer, TimerMeaning}
 use Rattle.sdl_sorts.specs.Scope.{AgentMeaning, SignalMeaning, agent_in, block, process, signal, signal_in, timer, value_in}
 use Rattle.sdl_sorts.specs.Words.{first_word}
 use Rattle.sdl_sorts.specs.declared.context.Context.TheVariants as place

@@ -6,7 +6,7 @@ use Rattle.sdl_nodes.specs.Broken as broken
 use Rattle.sdl_nodes.specs.BrokenAnswers.{BreaksAnswer}
 use Rattle.sdl_statements.specs.Contexts.{Context, label_in, state_in}
 use Rattle.sdl_statements.specs.Faulty.{answers_faults, asked_faults, assignment_faults, create_faults, created_faults, default_faults, destination_faults, has_destination, is_lost, lacks_default, output_faults, process_faults, sending_faults, sent_faults, setting_faults, terminator_faults, time_faults, timed_faults, timing_faults, unknown_faults, value_faults, values_faults, whither_faults}
-use Rattle.sdl_nodes.specs.Standing.{EndsIn, IsAskedBy, IsPart, IsPidPlace, StandsIn, Within}
+use Rattle.sdl_nodes.specs.Standing.{IsAskedBy, IsPart, IsPidPlace, StandsIn, Within}
 use Rattle.sdl_nodes.specs.Standing as stands
 use Rattle.sdl_statements.specs.Statements.{agent_name, asked_in, kind_in, sort_of, target_of}
 use Rattle.sdl_nodes.specs.Transitions.{action_faults, ending_faults, other_faults, parts_faults, steps_faults, transition_faults}

@@ -1,6 +1,6 @@
 //! Questions and their answers (Z.102: decision).
 
-ghost use Rattle.std.specs.Prelude.{◌≡◌, flat_map, map, option_map, IfOk, OnOk};
+ghost use Rattle.std.specs.Prelude.{◌≡◌, map, option_map, IfOk, OnOk};
 ghost use Rattle.sdl_statements.specs.Contexts.{context_of};
 ghost use Rattle.sdl_nodes.specs.Decided.{IsDecisionOrNone, branch_of};
 ghost use Rattle.sdl_statements.specs.Faulty.{answers_faults};

@@ -1,6 +1,6 @@
 //! Channels and their connections.
 
-ghost use Rattle.std.specs.Prelude.{◌≡◌, option_map};
+ghost use Rattle.std.specs.Prelude.{option_map};
 ghost use Rattle.sdl_tree.specs.Views.{channel_value, connection_value, end_value, path_value};
 ghost use Rattle.sdl_parse.specs.Channels as spec;
 ghost use Rattle.sdl_cursor.specs.Reads.{Reads};

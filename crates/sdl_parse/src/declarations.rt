@@ -1,6 +1,6 @@
 //! Formal parameters and variables.
 
-ghost use Rattle.std.specs.Prelude.{◌≡◌, ◌≤◌, map, option_map};
+ghost use Rattle.std.specs.Prelude.{◌≤◌, map, option_map};
 ghost use Rattle.sdl_tree.specs.Views.{expr_value, fpar_value, parameters_value, variables_value};
 ghost use Rattle.sdl_parse.specs.Declarations as spec;
 ghost use Rattle.sdl_cursor.specs.Reads.{Reads};

@@ -1,6 +1,6 @@
 //! The tree of a text.
 
-ghost use Rattle.std.specs.Prelude.{◌≡◌, ◌<◌, ◌↔◌, Some, None, IfErr, IfOk, IsErrOf, length};
+ghost use Rattle.std.specs.Prelude.{◌<◌, ◌↔◌, Some, None, IfErr, IfOk, IsErrOf, length};
 ghost use Rattle.sdl_parse.specs.Parser.{Refuses, SpellsText, Tells, TellsLeftOut};
 ghost use Rattle.sdl_cursor.specs.PlacedWord.{word_of_placed};
 ghost use Rattle.sdl_cursor.specs.Reading.{front};

@@ -1,6 +1,6 @@
 //! Synonyms.
 
-ghost use Rattle.std.specs.Prelude.{◌≡◌, ◌≤◌};
+ghost use Rattle.std.specs.Prelude.{◌≤◌};
 ghost use Rattle.sdl_tree.specs.Views.{synonym_value, synonyms_value};
 ghost use Rattle.sdl_parse.specs.Synonyms as spec;
 ghost use Rattle.sdl_cursor.specs.Reads.{Reads};

@@ -1,7 +1,6 @@
 //! The system and its blocks.
 
-ghost use Rattle.std.specs.Prelude.{◌≡◌, ◌≤◌, ◌∷◌, option_map};
-ghost use Rattle.sdl_tree.specs.declared.mark.Mark.TheVariants as mark;
+ghost use Rattle.std.specs.Prelude.{◌≡◌, ◌≤◌, option_map};
 ghost use Rattle.sdl_tree.specs.Views.{block_part_value, block_value, definition_value, system_definition_value, tree_value};
 ghost use Rattle.sdl_parse.specs.Systems as spec;
 ghost use Rattle.sdl_read.specs.Parts.{sees_one};

@@ -1,6 +1,6 @@
 //! Timers.
 
-ghost use Rattle.std.specs.Prelude.{◌≡◌, ◌≤◌};
+ghost use Rattle.std.specs.Prelude.{◌≤◌};
 ghost use Rattle.sdl_tree.specs.Views.{timer_value, timers_value};
 ghost use Rattle.sdl_parse.specs.Declarations as spec;
 ghost use Rattle.sdl_cursor.specs.Reads.{Reads};

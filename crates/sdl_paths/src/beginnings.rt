@@ -2,7 +2,7 @@
 
 ghost use Rattle.std.specs.Prelude.{◌≡◌, ◌++◌, ◌∷◌, [], false, flat_map, map, option_map, IfOk, OnOk};
 ghost use Rattle.sdl_paths.specs.Beginnings.{beginning_of, beginnings, part_beginnings, stimulus_beginnings};
-ghost use Rattle.sdl_paths.specs.Listed.{beginning_value, beginnings_listed};
+ghost use Rattle.sdl_paths.specs.Listed.{beginnings_listed};
 ghost use Rattle.sdl_faults.specs.Faults.{token_word};
 ghost use Rattle.sdl_tree.specs.Views.{body_part_value, name_value, process_value, stimulus_value, transition_value};
 

@@ -1,6 +1,6 @@
 //! Where a process mentions its labels.
 
-ghost use Rattle.std.specs.Prelude.{◌≡◌, ◌++◌, ◌∷◌, [], flat_map, map, option_map, IfOk, OnOk};
+ghost use Rattle.std.specs.Prelude.{◌≡◌, ◌++◌, flat_map, map, option_map, IfOk, OnOk};
 ghost use Rattle.sdl_paths.specs.Beginnings.{beginnings};
 ghost use Rattle.sdl_paths.specs.Joins.{joins_in};
 ghost use Rattle.sdl_paths.specs.Listed.{beginning_value, beginnings_listed, mention_value, mentions_listed, texts};

@@ -1,6 +1,6 @@
 //! Paths through transitions: which terminators they come to, and whether one runs off the end.
 
-ghost use Rattle.std.specs.Prelude.{◌≡◌, ◌++◌, ◌∷◌, [], Option, map, option_map, IfOk, OnOk};
+ghost use Rattle.std.specs.Prelude.{◌≡◌, ◌++◌, Option, map, option_map, IfOk, OnOk};
 ghost use Rattle.sdl_paths.specs.Listed.{found_listed, turns_of};
 ghost use Rattle.sdl_paths.specs.Reach.{is_place};
 ghost use Rattle.sdl_paths.specs.Turns.{action_found, action_turn, actions_found, actions_turn, ending_found, ending_turn, entry_turn, found_in, otherwise_found, otherwise_turn, parts_found, parts_turn, sooner, statement_found, statement_turn, transition_found, transition_turn};

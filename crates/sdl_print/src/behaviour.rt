@@ -98,7 +98,7 @@ fn action(text: &mut Text, action: &Action) -> Result<(), AllocError>
     }
 }
 
-// The answers of a decision with their transitions.
+/// The answers of a decision with their transitions.
 #[cycle(transition)]
 fn answer_parts(text: &mut Text, parts: &[AnswerPart]) -> Result<(), AllocError>
     ensures { OnOk result (Wrote text.old text.new

@@ -31,7 +31,7 @@ pub fn repeated<T: Canonical>(text: &mut Text, items: &[T]) -> Result<(), AllocE
     Ok(())
 }
 
-// Each item with a comma before it.
+/// Each item with a comma before it.
 fn after_commas<T: Canonical>(text: &mut Text, items: &[T]) -> Result<(), AllocError>
     ensures { OnOk result (Wrote text.old text.new
         (spec.repeated (after_comma T.form.words) (nodes T.form items.now))) }

@@ -84,7 +84,7 @@ impl Canonical for Definition {
     }
 }
 
-// The signals that one `signal` defines, for which the tree has no node of their own.
+/// The signals that one `signal` defines, for which the tree has no node of their own.
 fn signals(text: &mut Text, signals: &[SignalDefinition]) -> Result<(), AllocError>
     ensures { OnOk result (Wrote text.old text.new
         (signals_words (map erased_signal (map signal_value signals.now)))) }
@@ -156,7 +156,7 @@ impl Canonical for ChannelDefinition {
     }
 }
 
-// `["nodelay"]`
+/// `["nodelay"]`
 fn nodelay(text: &mut Text, is_nodelay: bool) -> Result<(), AllocError>
     ensures { OnOk result (Wrote text.old text.new (no_delay_words is_nodelay)) }
 {

@@ -58,7 +58,7 @@ fn expression(text: &mut Text, expression: &Expression) -> Result<(), AllocError
     }
 }
 
-// The operands of a chain with the operators between them.
+/// The operands of a chain with the operators between them.
 #[cycle(expression)]
 fn chain(text: &mut Text, chain: &Chain) -> Result<(), AllocError>
     ensures { OnOk result (Wrote text.old text.new (expr_words (erased_expr (chain_value chain.now)))) }
@@ -71,7 +71,7 @@ fn chain(text: &mut Text, chain: &Chain) -> Result<(), AllocError>
     Ok(())
 }
 
-// The values of a timer in parentheses, and nothing where there are none.
+/// The values of a timer in parentheses, and nothing where there are none.
 #[cycle(expression)]
 fn values(text: &mut Text, values: &[Expression]) -> Result<(), AllocError>
     ensures { OnOk result (Wrote text.old text.new

@@ -39,7 +39,7 @@ impl Canonical for BodyPart {
     }
 }
 
-// `"state" states ";" {stimulus} "endstate" ";"`
+/// `"state" states ";" {stimulus} "endstate" ";"`
 fn state_part(text: &mut Text, part: &StatePart) -> Result<(), AllocError>
     ensures { OnOk result (Wrote text.old text.new
         (body_part_words (erased_body_part (body_part_value (BodyPart.State part.now))))) }
@@ -52,7 +52,7 @@ fn state_part(text: &mut Text, part: &StatePart) -> Result<(), AllocError>
     text.mark(Mark::Semicolon)
 }
 
-// `"connection" NAME ":" trans "endconnection" ";"`
+/// `"connection" NAME ":" trans "endconnection" ";"`
 fn free_action(text: &mut Text, action: &FreeAction) -> Result<(), AllocError>
     ensures { OnOk result (Wrote text.old text.new
         (body_part_words (erased_body_part (body_part_value (BodyPart.FreeAction action.now))))) }
@@ -95,7 +95,7 @@ impl Canonical for Stimulus {
     }
 }
 
-// `"input" ins ";" ["provided" expr ";"] trans`
+/// `"input" ins ";" ["provided" expr ";"] trans`
 fn input_part(text: &mut Text, part: &InputPart) -> Result<(), AllocError>
     ensures { OnOk result (Wrote text.old text.new
         (stimulus_words (erased_stimulus (stimulus_value (Stimulus.Input part.now))))) }
@@ -107,7 +107,7 @@ fn input_part(text: &mut Text, part: &InputPart) -> Result<(), AllocError>
     part.transition.write(text)
 }
 
-// `"priority" "input" in1 {"," in1} ";" trans`
+/// `"priority" "input" in1 {"," in1} ";" trans`
 fn priority_input(text: &mut Text, input: &PriorityInput) -> Result<(), AllocError>
     ensures { OnOk result (Wrote text.old text.new
         (stimulus_words (erased_stimulus (stimulus_value (Stimulus.Priority input.now))))) }
@@ -119,7 +119,7 @@ fn priority_input(text: &mut Text, input: &PriorityInput) -> Result<(), AllocErr
     input.transition.write(text)
 }
 
-// `"save" ("*" | sig {"," sig}) ";"`
+/// `"save" ("*" | sig {"," sig}) ";"`
 fn save_part(text: &mut Text, part: &SavePart) -> Result<(), AllocError>
     ensures { OnOk result (Wrote text.old text.new
         (stimulus_words (erased_stimulus (stimulus_value (Stimulus.Save part.now))))) }
@@ -129,7 +129,7 @@ fn save_part(text: &mut Text, part: &SavePart) -> Result<(), AllocError>
     text.mark(Mark::Semicolon)
 }
 
-// `"provided" expr ";" ["priority" NUMBER ";"] trans`
+/// `"provided" expr ";" ["priority" NUMBER ";"] trans`
 fn continuous_signal(text: &mut Text, signal: &ContinuousSignal) -> Result<(), AllocError>
     ensures { OnOk result (Wrote text.old text.new
         (stimulus_words (erased_stimulus (stimulus_value (Stimulus.Continuous signal.now))))) }
@@ -204,7 +204,7 @@ impl Canonical for EnablingCondition {
     }
 }
 
-// `["priority" NUMBER ";"]`
+/// `["priority" NUMBER ";"]`
 fn priority(text: &mut Text, priority: &Option<Number>) -> Result<(), AllocError>
     ensures { OnOk result (Wrote text.old text.new
         (canonical.optional priority_words (option_map erased_number (option_map number_value priority.now)))) }

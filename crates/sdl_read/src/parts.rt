@@ -1,6 +1,6 @@
 //! The productions that stand in many others: names, sorts, ends, and the names of what ends.
 
-ghost use Rattle.std.specs.Prelude.{◌≡◌, map, string_bytes};
+ghost use Rattle.std.specs.Prelude.{map, string_bytes};
 ghost use Rattle.sdl_tree.specs.Views.{name_value, sort_value};
 ghost use Rattle.sdl_read.specs.Parts as spec;
 ghost use Rattle.sdl_cursor.specs.Reading as reading;

@@ -1,6 +1,6 @@
 //! Signals and signal lists.
 
-ghost use Rattle.std.specs.Prelude.{◌≡◌, map};
+ghost use Rattle.std.specs.Prelude.{map};
 ghost use Rattle.sdl_tree.specs.Views.{item_value, signal_list_value, signal_set_value, signal_value};
 ghost use Rattle.sdl_read.specs.Parts as spec;
 ghost use Rattle.sdl_cursor.specs.Reading.{separated};

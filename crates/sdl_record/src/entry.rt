@@ -1,6 +1,6 @@
 //! Events as a record keeps them: without their values, which stand in the record's table.
 
-ghost use Rattle.std.specs.Prelude.{◌≡◌, length};
+ghost use Rattle.std.specs.Prelude.{◌≡◌};
 ghost use Rattle.port_values.specs.Value.{ValueList};
 ghost use Rattle.sdl_record.specs.Event.{values_got};
 ghost use Rattle.sdl_record.specs.Entry.{count_of, event_of, got_from, got_of, sender_of, signal_got};
@@ -87,8 +87,8 @@ pub enum Entry {
     },
 }
 
-// A record of a million events is to fit into memory, so an output's destination and a signal's sender are told apart
-// by variants that take no place of their own.
+/// A record of a million events is to fit into memory, so an output's destination and a signal's sender are told apart
+/// by variants that take no place of their own.
 const _: () = prove!(size_of::<Entry>() == 32);
 
 /// What was got from the port, without its values.
@@ -193,7 +193,7 @@ impl Origin {
         }
     }
 
-    // Where a signal of this sender came from.
+    /// Where a signal of this sender came from.
     fn of_sender(sender: Pid) -> Origin
         ensures { (name : SignalId) (values : ValueList) → got_from result name values ≡ signal_got name values sender }
     {

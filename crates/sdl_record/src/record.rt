@@ -15,7 +15,7 @@ use std::alloc::{AllocError, Global};
 use std::fmt;
 use std::marker::Model;
 
-// A record that has no room gets room for at least so many entries and values, since most records soon have more.
+/// A record that has no room gets room for at least so many entries and values, since most records soon have more.
 const LEAST_ENTRIES: usize = 32;
 
 const LEAST_VALUES: usize = 32;
@@ -163,7 +163,7 @@ impl Record {
         Ok(())
     }
 
-    // Makes room for so many values, where there is less.
+    /// Makes room for so many values, where there is less.
     #[inline(never)]
     fn reserve_values(&mut self, values: usize) -> Result<(), AllocError>
         requires { self.old.values_room < values }
@@ -342,7 +342,7 @@ impl Record {
         (&self.entries, &self.values)
     }
 
-    // How many values these are.
+    /// How many values these are.
     fn count(&self, values: &[Value]) -> u16
         requires { length values.now ≤ self.now.values_room }
         ensures { result ≡ length values.now }
@@ -351,7 +351,7 @@ impl Record {
         values.len() as u16
     }
 
-    // Puts an entry without values behind all others.
+    /// Puts an entry without values behind all others.
     fn note(&mut self, entry: Entry)
         requires room { 0 < self.old.room }
         requires counts { count_of entry ≡ 0 }
@@ -360,7 +360,7 @@ impl Record {
         self.note_with(entry, &[]);
     }
 
-    // Puts an entry with these values behind all others.
+    /// Puts an entry with these values behind all others.
     fn note_with(&mut self, entry: Entry, values: &[Value])
         requires room { 0 < self.old.room }
         requires values_room { length values.now ≤ self.old.values_room }
@@ -373,7 +373,7 @@ impl Record {
     }
 }
 
-// Puts the values behind those of the table.
+/// Puts the values behind those of the table.
 fn push_all(table: &mut Vec<Value>, values: &[Value])
     requires { vec_len table.old + length values.now ≤ vec_capacity table.old }
     ensures items { table.new.items ≡ table.old.items ++ values.now }

@@ -6,7 +6,6 @@ use Rattle.port_model.specs.Take.{name_of}
 use Rattle.port_values.specs.Text.{pid_text, value_text, values_text}
 use Rattle.port_model.specs.declared.got.Got as got
 use Rattle.port_values.specs.declared.item.SignalId.{SignalId}
-use Rattle.port_values.specs.declared.pid.Pid as pid
 use Rattle.port_values.specs.declared.value.Value.{Value}
 use Rattle.sdl_system.specs.System.{SystemValue}
 use Rattle.sdl_system.specs.declared.route.Target as target

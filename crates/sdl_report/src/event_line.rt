@@ -68,7 +68,7 @@ pub fn push_event(
     }
 }
 
-// Appends the line of a name.
+/// Appends the line of a name.
 fn push_name(text: &mut String, beginning: &str, name: &str) -> Result<(), AllocError>
     ensures { OnOk result (string_bytes text.new ≡ string_bytes text.old
         ++ line (beginning.now ++ name.now)) }
@@ -78,7 +78,7 @@ fn push_name(text: &mut String, beginning: &str, name: &str) -> Result<(), Alloc
     text.push('\n')
 }
 
-// Appends the line of a signal or a timer that was taken: when, the word for what was done with it, and what it was.
+/// Appends the line of a signal or a timer that was taken: when, the word for what was done with it, and what it was.
 #[inline(always)]
 fn push_reception(
     text: &mut String,
@@ -97,7 +97,7 @@ fn push_reception(
     push_stimulus(text, got, values, record, system)
 }
 
-// Appends the line of a task.
+/// Appends the line of a task.
 #[inline(always)]
 fn push_task(
     text: &mut String,
@@ -117,7 +117,7 @@ fn push_task(
     text.push('\n')
 }
 
-// Appends the line of a set.
+/// Appends the line of a set.
 #[inline(always)]
 fn push_set(
     text: &mut String,
@@ -136,7 +136,7 @@ fn push_set(
     text.push('\n')
 }
 
-// Appends the line of a reset.
+/// Appends the line of a reset.
 #[inline(always)]
 fn push_reset(
     text: &mut String,
@@ -152,7 +152,7 @@ fn push_reset(
     text.push('\n')
 }
 
-// Appends `S from X` and ends the line.
+/// Appends `S from X` and ends the line.
 fn push_stimulus(
     text: &mut String,
     got: Stimulus,
@@ -170,7 +170,7 @@ fn push_stimulus(
     text.push('\n')
 }
 
-// Appends the line of an output.
+/// Appends the line of an output.
 fn push_output(
     text: &mut String,
     signal: SignalId,
@@ -188,7 +188,7 @@ fn push_output(
     text.push('\n')
 }
 
-// Appends the line of a create.
+/// Appends the line of a create.
 fn push_create(
     text: &mut String,
     process: ProcessId,
@@ -205,7 +205,7 @@ fn push_create(
     }
 }
 
-// Appends a signal or a timer with its values.
+/// Appends a signal or a timer with its values.
 fn push_signal(
     text: &mut String,
     signal: SignalId,
@@ -219,7 +219,7 @@ fn push_signal(
     push_values(text, values)
 }
 
-// Appends values in parentheses, or nothing where there are none.
+/// Appends values in parentheses, or nothing where there are none.
 fn push_values(text: &mut String, values: &[Value]) -> Result<(), AllocError>
     ensures { OnOk result (string_bytes text.new ≡ string_bytes text.old ++ values_text values.now) }
 {

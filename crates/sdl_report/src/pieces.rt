@@ -31,7 +31,7 @@ fn push_long(text: &mut String, number: u64) -> Result<(), AllocError>
     text.push_str(buffer.format(number))
 }
 
-// Appends a number of up to three digits.
+/// Appends a number of up to three digits.
 #[tactic(auto, using(crate::proofs::PieceLemmas::decimal_parts))]
 fn push_short(text: &mut String, number: u64) -> Result<(), AllocError>
     requires { number < 1000 }
@@ -44,7 +44,7 @@ fn push_short(text: &mut String, number: u64) -> Result<(), AllocError>
     push_digit(text, number % 10)
 }
 
-// Appends a number of up to two digits.
+/// Appends a number of up to two digits.
 #[tactic(auto, using(crate::proofs::PieceLemmas::decimal_parts))]
 fn push_tens(text: &mut String, number: u64) -> Result<(), AllocError>
     requires { number < 100 }
@@ -65,7 +65,7 @@ fn push_digit(text: &mut String, digit: u64) -> Result<(), AllocError>
     text.push((b'0' + digit as u8) as char)
 }
 
-// Appends a number, with `-` before a negative one.
+/// Appends a number, with `-` before a negative one.
 fn push_signed(text: &mut String, number: i64) -> Result<(), AllocError>
     ensures { OnOk result (string_bytes text.new ≡ string_bytes text.old ++ signed_decimal number) }
 {
@@ -73,7 +73,7 @@ fn push_signed(text: &mut String, number: i64) -> Result<(), AllocError>
     text.push_str(buffer.format(number))
 }
 
-// Appends the number of an instance: `#7`.
+/// Appends the number of an instance: `#7`.
 fn push_instance(text: &mut String, number: u32) -> Result<(), AllocError>
     ensures { OnOk result (string_bytes text.new ≡ string_bytes text.old ++ codes "#" ++ decimal number) }
 {

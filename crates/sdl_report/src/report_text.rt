@@ -16,7 +16,7 @@ use sdl_system::System;
 use std::alloc::{AllocError, Global};
 use std::io::Write;
 
-// So much text is gathered, in bytes, before it goes out.
+/// So much text is gathered, in bytes, before it goes out.
 const PIECE: usize = 8192;
 
 /// Writes a report: for each record, in the order of the list, the line `instance #7 P parent null` and a line for each
@@ -41,7 +41,7 @@ pub fn write_report<W: Write>(
     send(&mut text, writer)
 }
 
-// Writes the lines of a record. The last of them may stay in the gathered text.
+/// Writes the lines of a record. The last of them may stay in the gathered text.
 fn write_record<W: Write>(
     text: &mut String,
     record: &Record,
@@ -64,7 +64,7 @@ fn write_record<W: Write>(
     Ok(())
 }
 
-// Appends the line of an event, an entry with its values, to the gathered text, which goes out where it is a piece.
+/// Appends the line of an event, an entry with its values, to the gathered text, which goes out where it is a piece.
 fn write_event<W: Write>(
     text: &mut String,
     entry: &Entry,
@@ -86,7 +86,7 @@ fn write_event<W: Write>(
     Ok(())
 }
 
-// `instance #7 P parent null`
+/// `instance #7 P parent null`
 fn push_heading(text: &mut String, record: &Record, system: &System) -> Result<(), AllocError>
     ensures { OnOk result (string_bytes text.new ≡ string_bytes text.old
         ++ line (heading_text system.now «record».now)) }
@@ -97,7 +97,7 @@ fn push_heading(text: &mut String, record: &Record, system: &System) -> Result<(
     writeln!(text, "instance #{number} {process} parent {parent}")
 }
 
-// `end 12 whole`
+/// `end 12 whole`
 fn push_end(text: &mut String, report: &Report) -> Result<(), AllocError>
     ensures { OnOk result (string_bytes text.new ≡ string_bytes text.old
         ++ line (end_text report.now)) }
@@ -110,7 +110,7 @@ fn push_end(text: &mut String, report: &Report) -> Result<(), AllocError>
     }
 }
 
-// Hands the gathered text to the writer.
+/// Hands the gathered text to the writer.
 fn send<W: Write>(text: &mut String, writer: &mut W) -> Result<(), WriteFault>
     ensures empty { OnOk result (string_bytes text.new ≡ []) }
     ensures sent { OnOk result (Appends (W.contents writer.old) (W.contents writer.new)

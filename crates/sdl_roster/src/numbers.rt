@@ -91,7 +91,7 @@ impl Numbers {
     }
 }
 
-// The place of the lowest bit that is set.
+/// The place of the lowest bit that is set.
 fn lowest(word: u64) -> u32
     requires { 0 < word }
     ensures { (result < 64) × (bit_at word result ≡ 1) × ((k : ℕ) → k < result → bit_at word k ≡ 0) }

@@ -1,6 +1,6 @@
 //! Who lives, and how many creates are under way (Z.101: agent instance set; create).
 
-ghost use Rattle.std.specs.Prelude.{◌≡◌, ◌<◌, ◌≤◌, All, IfOk, map, if◌then◌else◌};
+ghost use Rattle.std.specs.Prelude.{◌≡◌, ◌<◌, ◌≤◌, All, IfOk, if◌then◌else◌};
 ghost use Rattle.sdl_roster.specs.Instances.{AreAscending, AreWithinLimit, with_one, without_one, with_reservation, without_reservation};
 ghost use Rattle.sdl_roster.specs.Roster.{can_live_in, has_room_in, least_living, none_living, with_changed};
 ghost use Rattle.sdl_system.specs.Route.{living_in};

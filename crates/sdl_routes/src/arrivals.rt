@@ -3,7 +3,7 @@
 //! Signals are looked at 64 at a time. So the cost is a few steps for each path of a channel, each name in a connect,
 //! each process and each block, for each 64 signals, and at most 64 times as many.
 
-ghost use Rattle.std.specs.Prelude.{◌≡◌, ◌↔◌, ℕ, IfOk, IsTrue};
+ghost use Rattle.std.specs.Prelude.{◌↔◌, ℕ, IfOk, IsTrue};
 ghost use Rattle.sdl_channels.specs.SignalLists.{AreSets};
 
 use port_values::SignalId;

@@ -1,8 +1,7 @@
 //! Which paths of channels in blocks a connect names.
 
-ghost use Rattle.std.specs.Prelude.{◌≡◌, ◌↔◌, ℕ, IfOk, IsTrue};
+ghost use Rattle.std.specs.Prelude.{◌≡◌, ◌↔◌, IfOk, IsTrue};
 ghost use Rattle.sdl_channels.specs.Each.{ForSome};
-ghost use Rattle.sdl_routes.specs.Paths.{IsNamed};
 ghost use Rattle.sdl_routes.specs.Reached.{AreFlags};
 
 use sdl_channels::{Connect, Network, PathId, counted};

@@ -1,7 +1,6 @@
 //! To which processes 64 signals go.
 
-ghost use Rattle.std.specs.Prelude.{◌≡◌, ◌<◌, ◌⊎◌, ℕ, length, IfOk, IsTrue};
-ghost use Rattle.sdl_routes.specs.Arrivals.{ArrivesAt};
+ghost use Rattle.std.specs.Prelude.{◌≡◌, ◌<◌, ℕ, length, IfOk};
 ghost use Rattle.sdl_routes.specs.Entries.{IsListed, listed_at};
 ghost use Rattle.sdl_channels.specs.Mask.{Bit};
 ghost use Rattle.sdl_channels.specs.declared.network.End.TheVariants as at;

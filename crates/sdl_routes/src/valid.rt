@@ -8,7 +8,6 @@ ghost use Rattle.sdl_channels.specs.Each.{ForSome};
 ghost use Rattle.sdl_channels.specs.SignalLists.{AreSets, HasSignal};
 ghost use Rattle.sdl_routes.specs.Valid.{AreValid, IsHeard, IsHeardFrom, IsValid};
 ghost use Rattle.sdl_channels.specs.declared.list.ListId.{ListId};
-ghost use Rattle.sdl_channels.specs.declared.network.End.TheVariants as at;
 
 use port_values::SignalId;
 use sdl_channels::{ChannelPath, End, ListId, Network, Process, SignalSets, counted};

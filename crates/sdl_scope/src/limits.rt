@@ -3,7 +3,7 @@
 ghost use Rattle.std.specs.Prelude.{◌≡◌, ◌++◌, flat_map, fold, map, option_map, IfOk, OnOk};
 ghost use Rattle.sdl_tree.specs.Views.{block_part_value, body_part_value, definition_value, fpar_value, local_value, name_value, names_value, process_value, signal_value, sorts_value, system_definition_value, timer_value, tree_value};
 ghost use Rattle.sdl_faults.specs.Faults.{fault_at, least_of, limit_at, told};
-ghost use Rattle.sdl_scope.specs.Limits.{block_definitions, declared_faults, declared_name, declared_of, definitions_in, different, limit_faults, local_declared, of_signal, of_timer, parameter_names, part_states, process_faults, process_name, process_statements, processes_of, state_names, system_definitions, with_new};
+ghost use Rattle.sdl_scope.specs.Limits.{block_definitions, declared_faults, declared_name, declared_of, definitions_in, different, limit_faults, local_declared, of_signal, of_timer, parameter_names, part_states, process_faults, process_name, process_statements, processes_of, system_definitions, with_new};
 ghost use Rattle.sdl_scope.specs.Listed.{declared_listed, definitions_listed, entry_word, processes_listed, words_listed};
 
 mod count;

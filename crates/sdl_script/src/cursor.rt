@@ -86,7 +86,7 @@ impl<'a> Cursor<'a> {
         ascii_text(self.pass(len))
     }
 
-    // Steps over so many bytes and the spaces behind them.
+    /// Steps over so many bytes and the spaces behind them.
     fn pass(&mut self, len: usize) -> &'a [u8]
         requires { len ≤ length self.old }
         ensures run { result.now ≡ take len self.old }
@@ -118,7 +118,7 @@ fn ascii_text(bytes: &[u8]) -> Option<&str>
     }
 }
 
-// The value of some digits, at most `u64::MAX`.
+/// The value of some digits, at most `u64::MAX`.
 fn saturated(digits: &[u8]) -> u64
     ensures { result ≡ min (decimal digits.now) (2 ^ 64 - 1) }
 {

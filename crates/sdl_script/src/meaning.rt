@@ -1,6 +1,6 @@
 //! What a spelled signal means in a system.
 
-ghost use Rattle.std.specs.Prelude.{◌≡◌, IfErr, IfOk};
+ghost use Rattle.std.specs.Prelude.{IfErr, IfOk};
 ghost use Rattle.sdl_script.specs.Script.{IsFromEnv};
 ghost use Rattle.sdl_script.specs.ScriptText.{AreArguments, AreNoArguments, HasSignalFault, IsDestination, IsReached, IsSent};
 ghost use Rattle.sdl_script.specs.Spelled.{IsArgumentFault, HasNoWay, plain, plain_whither};
@@ -39,7 +39,7 @@ pub fn signal_of(
     Ok(ScriptSignal { item, to })
 }
 
-// Where the signal goes. No path is asked for where a receiver is named.
+/// Where the signal goes. No path is asked for where a receiver is named.
 fn destination(
     system: &System,
     signal: SignalId,
@@ -61,7 +61,7 @@ fn destination(
     }
 }
 
-// The values, where each fits its parameter's sort.
+/// The values, where each fits its parameter's sort.
 fn arguments(alloc: Global, spelled: &[SpelledValue], sorts: &[Sort]) -> Result<Values, Fault>
     ensures ok { IfOk result (λ values. AreArguments spelled.now sorts.now values) }
     ensures err { IfErr result (λ fault. IsArgumentFault fault (AreNoArguments spelled.now sorts.now)) }

@@ -1,10 +1,10 @@
 //! Scripts of timed signals from the environment.
 
-ghost use Rattle.std.specs.Prelude.{◌≡◌, ◌<◌, length, IfErr, IfOk, IfSome, OnOk};
+ghost use Rattle.std.specs.Prelude.{◌≡◌, ◌<◌, IfErr, IfOk, IfSome, OnOk};
 ghost use Rattle.std.specs.Bool.{OnFalse, OnTrue};
 ghost use Rattle.std.specs.List.{list_all};
 ghost use Rattle.sdl_script.specs.Part.{is_space};
-ghost use Rattle.sdl_script.specs.Script.{IsFromEnv, IsNext, IsScript, end_of};
+ghost use Rattle.sdl_script.specs.Script.{IsNext, IsScript, end_of};
 ghost use Rattle.sdl_script.specs.ScriptText.{Adds, HasFault, Refuses, Says, SaysNothing, SaysScript};
 
 use crate::byte::is_space;
@@ -111,7 +111,7 @@ pub fn read_script(alloc: Global, system: &System, text: &[u8]) -> Result<Script
     Ok(script)
 }
 
-// Adds what a line says behind the script.
+/// Adds what a line says behind the script.
 #[tactic(auto, using(crate::proofs::ScriptLemmas::script_grows))]
 fn add_line(alloc: Global, script: &mut Script, system: &System, line: &[u8]) -> Result<(), Fault>
     requires { IsScript system.now script.old.lines.items }
@@ -125,7 +125,7 @@ fn add_line(alloc: Global, script: &mut Script, system: &System, line: &[u8]) ->
     Ok(())
 }
 
-// What a line says, if it isn't read over. `earliest` is the time of the line before.
+/// What a line says, if it isn't read over. `earliest` is the time of the line before.
 fn read_line(
     alloc: Global,
     system: &System,

@@ -67,7 +67,7 @@ fn read_time(cursor: &mut Cursor<'_>) -> Result<Ticks, Fault>
     }
 }
 
-// `NAME [ "(" value {"," value} ")" ] [ "to" ("#" NUMBER | NAME) ]`, up to the end of the line.
+/// `NAME [ "(" value {"," value} ")" ] [ "to" ("#" NUMBER | NAME) ]`, up to the end of the line.
 fn read_signal<'a>(alloc: Global, cursor: &mut Cursor<'a>) -> Result<SpelledSignal<'a>, Fault>
     ensures ok { IfOk result (λ signal. SpellsSignal (Some (plain signal)) cursor.old) }
     ensures err { IfErr result (λ fault. IsSyntaxFault fault (reading.IsNoSignal cursor.old)) }
@@ -90,7 +90,7 @@ fn read_name<'a>(cursor: &mut Cursor<'a>) -> Result<&'a str, Fault>
     Ok(word)
 }
 
-// `[ "(" value {"," value} ")" ]`.
+/// `[ "(" value {"," value} ")" ]`.
 fn read_values(alloc: Global, cursor: &mut Cursor<'_>) -> Result<Vec<SpelledValue>, Fault>
     ensures ok { IfOk result (λ values. SpellsValues values.items cursor.old cursor.new) }
     ensures only { IfOk result (λ _. reading.IsTail cursor.old cursor.new) }
@@ -111,7 +111,7 @@ fn read_values(alloc: Global, cursor: &mut Cursor<'_>) -> Result<Vec<SpelledValu
     }
 }
 
-// `["-"] NUMBER | "true" | "false" | "null" | "env" | "#" NUMBER`.
+/// `["-"] NUMBER | "true" | "false" | "null" | "env" | "#" NUMBER`.
 fn read_value(cursor: &mut Cursor<'_>) -> Result<SpelledValue, Fault>
     ensures read { MatchResult result
         (λ value. reading.value cursor.old ≡ Some (value, cursor.new))
@@ -133,7 +133,7 @@ fn read_value(cursor: &mut Cursor<'_>) -> Result<SpelledValue, Fault>
     literal(word).ok_or(Fault::Syntax)
 }
 
-// `[ "to" ("#" NUMBER | NAME) ]`, up to the end of the line.
+/// `[ "to" ("#" NUMBER | NAME) ]`, up to the end of the line.
 fn read_whither<'a>(cursor: &mut Cursor<'a>) -> Result<Option<SpelledReceiver<'a>>, Fault>
     ensures ok { IfOk result (λ to. SpellsWhither (plain_whither to) cursor.old) }
     ensures err { IfErr result (λ fault. (fault ≡ Fault.Syntax) × reading.IsNoWhither cursor.old) }
@@ -155,7 +155,7 @@ fn read_whither<'a>(cursor: &mut Cursor<'a>) -> Result<Option<SpelledReceiver<'a
     }
 }
 
-// `"#" NUMBER | NAME`.
+/// `"#" NUMBER | NAME`.
 fn read_receiver<'a>(cursor: &mut Cursor<'a>) -> Result<SpelledReceiver<'a>, Fault>
     ensures read { MatchResult result
         (λ receiver. reading.receiver cursor.old ≡ Some (plain_receiver receiver, cursor.new))
@@ -169,21 +169,21 @@ fn read_receiver<'a>(cursor: &mut Cursor<'a>) -> Result<SpelledReceiver<'a>, Fau
     Ok(SpelledReceiver::Process(name))
 }
 
-// A number past 32 bits is no instance's.
+/// A number past 32 bits is no instance's.
 fn instance_number(number: u64) -> Option<u32>
     ensures { result ≡ instance_number number }
 {
     u32::try_from(number).ok()
 }
 
-// A number past 64 bits signed is no value.
+/// A number past 64 bits signed is no value.
 fn negative(number: u64) -> SpelledValue
     ensures { result ≡ negative number }
 {
     SpelledValue::Number(0i64.checked_sub_unsigned(number))
 }
 
-// As before.
+/// As before.
 fn positive(number: u64) -> SpelledValue
     ensures { result ≡ positive number }
 {

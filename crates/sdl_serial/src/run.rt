@@ -46,7 +46,7 @@ pub fn run_serial(
     })
 }
 
-// The time at which a run stands.
+/// The time at which a run stands.
 fn clock_of(sweeps: &Sweeps<'_>) -> Ticks
     ensures { result ≡ sweeps.now.board.clock }
 {

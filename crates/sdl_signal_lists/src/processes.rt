@@ -1,8 +1,8 @@
 //! Processes, as a network has them.
 
-ghost use Rattle.std.specs.Prelude.{◌≡◌, ◌++◌, ◌+◌, ◌^◌, ◌<◌, ◌≤◌, ◌∷◌, [], length, map, IfOk, IsOk, OnOk};
+ghost use Rattle.std.specs.Prelude.{◌≡◌, ◌++◌, ◌+◌, ◌^◌, ◌<◌, ◌≤◌, length, map, IfOk, IsOk, OnOk};
 ghost use Rattle.sdl_declared.specs.Seen.{process_seen};
-ghost use Rattle.sdl_signal_lists.specs.Processes.{faults_of, lists_of, named_items, process_at, process_lists, processes_faults, processes_from, scope_of, seen_within, timers_items, two_lists};
+ghost use Rattle.sdl_signal_lists.specs.Processes.{faults_of, lists_of, named_items, process_at, process_lists, processes_faults, processes_from, scope_of, timers_items, two_lists};
 ghost use Rattle.sdl_signal_lists.specs.Seen.{list_items, seen_of};
 ghost use Rattle.sdl_faults.specs.Faults.{least_of, told};
 ghost use Rattle.sdl_tree.specs.Views.{process_value};

@@ -3,7 +3,6 @@
 ghost use Rattle.std.specs.Prelude.{◌≡◌, ◌++◌, [], OnOk};
 ghost use Rattle.sdl_declared.specs.Tables.{block_of, path_of};
 ghost use Rattle.sdl_signal_lists.specs.Seen.{found_item, item_faults, item_in, item_name, items_faults, items_in, list_in, list_item, listed, path_within, seen_at, seen_of, signal_in, signal_item, timer_in, timer_item};
-ghost use Rattle.sdl_signal_lists.specs.declared.seen.Seen as the_seen;
 ghost use Rattle.sdl_faults.specs.Faults.{fault_if, least_of, told, token_word};
 ghost use Rattle.sdl_scope.specs.Names.{first_of};
 ghost use Rattle.sdl_faults.specs.declared.fault.Kind.TheVariants.{Unknown};

@@ -6,7 +6,7 @@ use Rattle.sdl_faults.proofs.FaultLemmas.{in-each, in-if, in-left, in-right}
 use Rattle.sdl_faults.specs.FaultLaws.{In}
 use Rattle.sdl_faults.specs.Faults.{Told, told_at, mark_word}
 use Rattle.sdl_faults.specs.declared.fault.Kind.TheVariants.{Unknown, Sort}
-use Rattle.sdl_sorts.specs.Broken.{BreaksPlaces, HasMisfit, InLinks, InValues, IsBroken, IsBrokenAt, IsBrokenIn, IsMisfit, IsNoTimer, IsOperation, TimerMeaning, Within, append_links}
+use Rattle.sdl_sorts.specs.Broken.{BreaksPlaces, InLinks, InValues, IsBroken, IsBrokenAt, IsBrokenIn, IsNoTimer, IsOperation, Within, append_links}
 use Rattle.sdl_sorts.specs.Broken as broken
 use Rattle.sdl_sorts.specs.Contexts.{allows_instance, allows_word}
 use Rattle.sdl_kinds.specs.Kinds.{fits, result_of, unary_result_of}

@@ -1,11 +1,11 @@
 -- What is noted of a constant expression is broken in it, and the other way round.
-use Rattle.std.proofs.Common.{◌≡◌, ◌&&◌, ℕ, ℤ, pos, negsuc, Bool, true, false, List, [], ◌∷◌, Option, None, Some, is_none, option_and_then, if◌then◌else◌, refl, sym, ap, subst}
+use Rattle.std.proofs.Common.{◌≡◌, ℤ, pos, negsuc, Bool, true, false, [], Option, None, Some, is_none, option_and_then, if◌then◌else◌, refl, sym, ap, subst}
 use Rattle.port_values.specs.declared.value.Value.{Value}
 use Rattle.sdl_faults.proofs.FaultLemmas.{each-both, each-if, in-if, in-left, in-right}
 use Rattle.sdl_faults.specs.FaultLaws.{Each, In}
 use Rattle.sdl_faults.specs.Faults.{Told, fault_if, told_at}
 use Rattle.sdl_faults.specs.declared.fault.Kind.TheVariants.{BadCount}
-use Rattle.sdl_sorts.specs.Broken.{IsBrokenAt, IsBrokenConstant, IsUncounted, LacksValue, TakesKind}
+use Rattle.sdl_sorts.specs.Broken.{IsBrokenAt, IsBrokenConstant, LacksValue, TakesKind}
 use Rattle.sdl_sorts.specs.Broken as broken
 use Rattle.sdl_sorts.specs.Constants.{constant_faults, counted_faults, is_miscounted, value_of}
 use Rattle.sdl_kinds.specs.Kinds.{fits}

@@ -3,7 +3,7 @@
 ghost use Rattle.std.specs.Prelude.{◌≡◌, ◌++◌, None, Some, flat_map, map, option_map, if◌then◌else◌, IfOk, OnOk};
 ghost use Rattle.sdl_sorts.specs.Contexts.{allows_word};
 ghost use Rattle.sdl_faults.specs.Faults.{least_of, told, token_word};
-ghost use Rattle.sdl_sorts.specs.Misused.{active_faults, binary_faults, expression_faults, links_faults, name_faults, timer_faults, unary_faults, word_faults};
+ghost use Rattle.sdl_sorts.specs.Misused.{active_faults, binary_faults, expression_faults, name_faults, timer_faults, unary_faults, word_faults};
 ghost use Rattle.sdl_sorts.specs.Resolved.{argument_of, left_of, typed_of};
 ghost use Rattle.sdl_sorts.specs.Scope.{scope_of, signal_in, value_in};
 ghost use Rattle.sdl_sorts.specs.Typing.{active_typed, activity, argument_in, binary_typed, name_typed, typed_in, unary_typed, word_typed};

@@ -8,7 +8,7 @@ use Rattle.sdl_build.specs.Signals as made
 use Rattle.sdl_complete.specs.Complete.{AreThere}
 use Rattle.sdl_declared.specs.Rows.{SignalKind, OrdinarySignal, OrdinaryTimer, SignalRow}
 use Rattle.sdl_names.specs.Entries.{Entry}
-use Rattle.sdl_names.specs.Meanings.{signal_entry, signal_means}
+use Rattle.sdl_names.specs.Meanings.{signal_means}
 use Rattle.sdl_names.specs.Meanings as names
 use Rattle.sdl_faults.specs.FaultLaws.{Each}
 use Rattle.sdl_sorts.specs.Scope.{SignalMeaning}

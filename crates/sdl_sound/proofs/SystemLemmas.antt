@@ -14,7 +14,7 @@ use Rattle.sdl_build.specs.Faulty.{NotesBodies}
 use Rattle.sdl_build.specs.Faulty as notes
 use Rattle.sdl_survey.specs.Headings.{IsInitial, IsMaximum, variables_in}
 use Rattle.sdl_build.specs.Laws.{CanRun}
-use Rattle.sdl_build.specs.Signals.{signal_from, signal_of, signals_from, timer_at, timer_of}
+use Rattle.sdl_build.specs.Signals.{signal_of, signals_from, timer_at, timer_of}
 use Rattle.sdl_build.specs.Signals as made
 use Rattle.sdl_survey.specs.Surroundings.{numbered_states, surroundings}
 use Rattle.sdl_survey.specs.Survey.{Survey}

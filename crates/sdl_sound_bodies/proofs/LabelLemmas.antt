@@ -2,9 +2,9 @@
 use Rattle.std.proofs.Common.{◌≡◌, ◌∙◌, ◌⊎◌, ◌++◌, inl, inr, List, [], ◌∷◌, Option, None, Some, option_map, refl, ap, sym, subst}
 use Rattle.sdl_bodies.proofs.EndLemmas.{both-some, map-some, some-same, standing}
 use Rattle.sdl_paths.specs.Mentions as mention
-use Rattle.sdl_paths.specs.Mentions.{Mention, action_mentions, actions_mentions, ending_mentions, label_mentions, otherwise_mentions, parts_mentions, terminator_mentions, transition_mentions}
+use Rattle.sdl_paths.specs.Mentions.{action_mentions, actions_mentions, ending_mentions, label_mentions, otherwise_mentions, parts_mentions, terminator_mentions, transition_mentions}
 use Rattle.sdl_paths.specs.Paths as way
-use Rattle.sdl_paths.specs.Paths.{Answered, AtFirst, AtLabel, IsPart, Origin}
+use Rattle.sdl_paths.specs.Paths.{Answered, AtFirst, AtLabel}
 use Rattle.sdl_statements.specs.Contexts.{Context, label_in}
 use Rattle.sdl_statements.specs.Statements.{answers_in, asked_in, create_in, kind_in, output_in, reset_in, set_in, task_in, terminator_in}
 use Rattle.sdl_nodes.specs.Transitions.{Head, Piece, acts, asks, before, body_in, ending_in, head_in, labelled, other_in, parts_of, piece, pieces_in, steps_in}

@@ -35,7 +35,7 @@ use Rattle.sdl_system.specs.Body.{Body, FromLabel, followed}
 use Rattle.sdl_system.specs.Table.{LabelOf}
 use Rattle.sdl_system.specs.declared.id.LabelId.{LabelId}
 use Rattle.sdl_tree.specs.Tree as tree
-use Rattle.sdl_tree.specs.Tree.{ProcessDefinition, Terminator, Transition}
+use Rattle.sdl_tree.specs.Tree.{ProcessDefinition, Terminator}
 use Rattle.sdl_tree.specs.Words.{Spot}
 use Rattle.sdl_tree.specs.declared.mark.Mark.TheVariants as mark
 use Rattle.sdl_tree.specs.declared.name.Spelling.{Spelling}

@@ -23,7 +23,7 @@ use Rattle.sdl_sound_terms.proofs.KindLemmas.{Kinded, TermOf, listed-terms-fit, 
 use Rattle.sdl_sound_terms.specs.Kinds.{FitPlaces, FitsPlace}
 use Rattle.sdl_sound_terms.specs.Scopes.{IsSoundAgent, IsSoundSignal, IsSoundValue, parameter_sorts}
 use Rattle.sdl_system.specs.Body as body
-use Rattle.sdl_system.specs.Body.{Action, Assigning, Body, Sending, Setting, Timing, When, Whither}
+use Rattle.sdl_system.specs.Body.{Action, Body}
 use Rattle.sdl_system.specs.Soundness.{IsState}
 use Rattle.sdl_system.specs.System.{SystemValue}
 use Rattle.sdl_system.specs.Term.{Term, terms_of}

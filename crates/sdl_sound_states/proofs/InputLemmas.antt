@@ -11,7 +11,7 @@ use Rattle.sdl_faults.specs.declared.fault.Kind as faults
 use Rattle.sdl_faults.specs.declared.fault.Kind.TheVariants as broken
 use Rattle.sdl_kinds.specs.Kinds.{fits, kind_of}
 use Rattle.sdl_sorts.specs.Scope as names
-use Rattle.sdl_sorts.specs.Scope.{Scope, SignalMeaning, signal_in, value_in}
+use Rattle.sdl_sorts.specs.Scope.{SignalMeaning, signal_in, value_in}
 use Rattle.sdl_sorts.specs.declared.scope.ValueMeaning.{ValueMeaning}
 use Rattle.sdl_sorts.specs.declared.scope.ValueMeaning.TheVariants as meant
 use Rattle.sdl_sound_states.specs.States.{IsSoundInput, TakeAll}

@@ -3,7 +3,7 @@
 ghost use Rattle.std.specs.Prelude.{◌≡◌, ◌++◌, flat_map, map, option_and_then, option_map, IfOk, OnOk};
 ghost use Rattle.sdl_statements.specs.Contexts.{context_of};
 ghost use Rattle.sdl_statements.specs.Faulty.{default_faults, lacks_default, setting_faults, time_faults, timing_faults};
-ghost use Rattle.sdl_statements.specs.Statements.{default_of, reset_in, set_for, set_in, setting_in, timed, timing_in, value_for, when_in};
+ghost use Rattle.sdl_statements.specs.Statements.{default_of, reset_in, set_for, set_in, setting_in, timed, timing_in, when_in};
 ghost use Rattle.sdl_faults.specs.Faults.{fault_if, least_of, told};
 ghost use Rattle.sdl_faults.specs.declared.fault.Kind.TheVariants.{Sort};
 ghost use Rattle.sdl_sorts.specs.Partial.{all_some, both};

@@ -1,19 +1,18 @@
 -- The faults of the states of a process are the rules that they break.
 use Rattle.std.proofs.Common.{◌≡◌, ◌∙◌, ◌⊎◌, inl, inr, ◌||◌, ◌++◌, ℕ, Bool, true, false, not, List, [], ◌∷◌, ap, flat_map, fold, if◌then◌else◌, refl, subst, sym}
 use Rattle.std.specs.List.{list_any}
-use Rattle.std.specs.Str.{bytes_eq}
 use Rattle.std.proofs.lemmas.Slice.Eq.{bytes_eq-Decides}
 use Rattle.sdl_faults.proofs.FaultLemmas.{each-both, each-if, each-of, in-each, in-if, in-left, in-right}
 use Rattle.sdl_faults.specs.FaultLaws.{Each, In}
 use Rattle.sdl_faults.specs.Faults.{Told, told_at}
 use Rattle.sdl_scope.specs.Limits.{different, is_same_text, with_new}
 use Rattle.sdl_faults.specs.declared.fault.Kind.TheVariants.{NoState, TwiceInState}
-use Rattle.sdl_tree.specs.Tree.{BodyPart, FreeAction, StateAll, StateList, StatePart, States, Stimulus}
+use Rattle.sdl_tree.specs.Tree.{BodyPart, FreeAction, StateAll, StateList, StatePart}
 use Rattle.sdl_tree.specs.Words.{Spot}
 use Rattle.sdl_stimuli.specs.Context.{Context}
 use Rattle.sdl_stimuli.specs.Reading.{Part, body_read}
 use Rattle.sdl_states.specs.Broken.{BrokenListed, IsBroken, ListedBroken, no_state, twice}
-use Rattle.sdl_states.specs.States.{except_faults, is_named, left_out_faults, mentions_in, named_faults, names_in, parts_of, states_faults, unnamed_faults}
+use Rattle.sdl_states.specs.States.{is_named, left_out_faults, mentions_in, named_faults, names_in, parts_of, states_faults, unnamed_faults}
 use Rattle.sdl_states.proofs.TwiceLemmas.{listed-twice, twice-listed}
 
 -- ---- different names

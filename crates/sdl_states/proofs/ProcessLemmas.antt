@@ -1,5 +1,5 @@
 -- The states of a process, whole.
-use Rattle.std.proofs.Common.{◌≡◌, ℕ, Bool, List, [], ◌∷◌, Option, Some, ap, flat_map, map, refl}
+use Rattle.std.proofs.Common.{◌≡◌, ℕ, Bool, List, [], ◌∷◌, Some, ap, flat_map, map, refl}
 use Rattle.sdl_tree.specs.Tree.{BodyPart}
 use Rattle.sdl_tree.specs.Words.{Spot}
 use Rattle.sdl_stimuli.specs.Reading.{Part}

@@ -44,7 +44,7 @@ pub fn choose<P: Inbox>(
     Ok(way)
 }
 
-// The way that the value of the question takes.
+/// The way that the value of the question takes.
 fn decide<P: Inbox>(
     alloc: Global,
     decision: &Decision,

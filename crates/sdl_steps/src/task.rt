@@ -96,7 +96,7 @@ fn assign<P: Inbox>(
     Ok(())
 }
 
-// The variable gets its value, which is recorded.
+/// The variable gets its value, which is recorded.
 #[inline(always)]
 fn assign_value(variable: VariableId, value: Value, machine: &mut Machine) -> Result<(), Failure>
     ensures instance { (owner : OwnerState) → IsSameInstance (value_of machine.old owner) (value_of machine.new owner) }

@@ -53,7 +53,7 @@ pub fn set_all<P: Inbox, W: World>(
     Ok(())
 }
 
-// When the timer is due is evaluated first, then its values. A time that has come expires at once, by its fuse.
+/// When the timer is due is evaluated first, then its values. A time that has come expires at once, by its fuse.
 fn set<P: Inbox, W: World>(
     alloc: Global,
     one: &Setting,
@@ -106,7 +106,7 @@ fn set<P: Inbox, W: World>(
     Ok(())
 }
 
-// When a timer is due.
+/// When a timer is due.
 fn due_by<P: Inbox>(
     alloc: Global,
     due: &Due,
@@ -131,14 +131,14 @@ fn due_by<P: Inbox>(
     }
 }
 
-// A time from the start on; a negative one counts as 0.
+/// A time from the start on; a negative one counts as 0.
 fn ticks(number: i64) -> Ticks
     ensures { result ≡ ticks number }
 {
     Ticks::new(u64::try_from(number).unwrap_or(0))
 }
 
-// A time so many ticks later, or earlier.
+/// A time so many ticks later, or earlier.
 fn later(now: Ticks, duration: i64) -> Result<i64, Failure>
     ensures { result ≡ later now duration }
 {

@@ -143,7 +143,7 @@ fn visit<P: Inbox, W: World>(
     }
 }
 
-// Counts a statement that is no decision and no end of a transition, and does its action.
+/// Counts a statement that is no decision and no end of a transition, and does its action.
 fn perform<P: Inbox, W: World>(
     alloc: Global,
     system: &System,
@@ -185,7 +185,7 @@ fn perform<P: Inbox, W: World>(
     Ok(Onward::At(node.next))
 }
 
-// What a statement does before the flow goes on behind it; a join does nothing.
+/// What a statement does before the flow goes on behind it; a join does nothing.
 fn act<P: Inbox, W: World>(
     alloc: Global,
     statement: &Statement,
@@ -222,7 +222,7 @@ fn act<P: Inbox, W: World>(
     }
 }
 
-// A state that isn't there leads nowhere.
+/// A state that isn't there leads nowhere.
 fn enter(
     state: Option<StateId>,
     process: &Process,
@@ -245,7 +245,7 @@ fn enter(
     Ok(Onward::Over(Position::In(state)))
 }
 
-// What stands in the port of the instance or comes into it is discarded from now on.
+/// What stands in the port of the instance or comes into it is discarded from now on.
 fn stop<P: Inbox>(machine: &mut Machine, inbox: &mut P) -> Result<Onward, Failure>
     requires { IsGoing machine.old (P.owning inbox.old) }
     ensures instance { let old = value_of machine.old (P.owning inbox.old) in

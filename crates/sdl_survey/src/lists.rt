@@ -7,7 +7,6 @@ ghost use Rattle.sdl_stimuli.specs.Context.{listed_members};
 
 use port_values::SignalId;
 use sdl_channels::{ListId, Network, SignalSets};
-use sdl_declared::SignalListEntry;
 use std::alloc::{AllocError, Global};
 
 /// The signals that each of the first so many lists stands for.

@@ -79,7 +79,7 @@ impl Awake {
     }
 }
 
-// The least number in the words from this place on.
+/// The least number in the words from this place on.
 fn first_from(words: &[u64], from: usize) -> Option<u32>
     requires { 64 * length words.now ≤ 2 ^ 32 }
     ensures next { IfSome result (λ next. IsTrue (is_marked words.now next) × (64 * from ≤ next)) }

@@ -35,7 +35,7 @@ impl<'s> Sweeps<'s> {
         Ok(false)
     }
 
-    // The instances step in their order until one of them makes a transition. Says whether one does: else all rest.
+    /// The instances step in their order until one of them makes a transition. Says whether one does: else all rest.
     fn make_transition<A: Agents>(
         &mut self,
         alloc: Global,
@@ -60,7 +60,7 @@ impl<'s> Sweeps<'s> {
         Ok(false)
     }
 
-    // The next one in this sweep of those that may have something to do, else the first in a new one.
+    /// The next one in this sweep of those that may have something to do, else the first in a new one.
     fn next_turn<A: Agents>(&self, agents: &A) -> Option<Turn>
         requires { A.Fits self.now.board.awake agents.now }
         ensures next { IfSome result (λ turn.
@@ -80,7 +80,7 @@ impl<'s> Sweeps<'s> {
         })
     }
 
-    // The next one in this sweep of those that may have something to do.
+    /// The next one in this sweep of those that may have something to do.
     fn next_in_sweep(&self) -> Option<u32>
         ensures next { IfSome result (λ number. Contains self.now.board.awake number × (self.now.turn < number)
             × (number ≤ self.now.bound) × NoneBetween self.now.board.awake self.now.turn number) }
@@ -94,8 +94,8 @@ impl<'s> Sweeps<'s> {
         }
     }
 
-    // One step of the instance whose turn it is. Says whether it was a transition, which is taken off the limit: else
-    // one fewer may have something to do.
+    /// One step of the instance whose turn it is. Says whether it was a transition, which is taken off the limit: else
+    /// one fewer may have something to do.
     fn step<A: Agents>(
         &mut self,
         alloc: Global,
@@ -129,7 +129,7 @@ impl<'s> Sweeps<'s> {
         }
     }
 
-    // The sweep goes on behind this turn.
+    /// The sweep goes on behind this turn.
     fn pass(&mut self, turn: Turn)
         ensures { self.new ≡ record self.old { turn = turn.number; bound = turn.bound } }
     {

@@ -34,8 +34,8 @@ impl<'s> Sweeps<'s> {
         Ok(false)
     }
 
-    // The sooner of the least time of a fuse and the next line's. None where the script is at its end and no fuse is
-    // due by the time `last` of its last line.
+    /// The sooner of the least time of a fuse and the next line's. None where the script is at its end and no fuse is
+    /// due by the time `last` of its last line.
     fn next_time(&self, last: Ticks) -> Option<Ticks>
         ensures next { IfSome result (λ time. IsNextTime last (moment_of self.now) time) }
         ensures none { IfNone result ((self.now.script.now ≡ []) × IsNoFuseBefore (last + 1) self.now.board.fuses) }
@@ -54,7 +54,7 @@ impl<'s> Sweeps<'s> {
         }
     }
 
-    // Moves the clock to the next time, and does what is due then. A new sweep begins behind it.
+    /// Moves the clock to the next time, and does what is due then. A new sweep begins behind it.
     fn advance<A: Agents>(&mut self, agents: &mut A, time: Ticks) -> Result<(), A::Error>
         requires fits { A.Fits self.old.board.awake agents.old }
         requires due { IsNothingDue (moment_of self.old) }
@@ -92,7 +92,7 @@ impl<'s> Sweeps<'s> {
         Ok(())
     }
 
-    // The fuses expire whose time has come, in due order.
+    /// The fuses expire whose time has come, in due order.
     fn expire_all<A: Agents>(&mut self, agents: &mut A) -> Result<(), A::Error>
         requires fits { A.Fits self.old.board.awake agents.old }
         requires begun { IsTrue self.old.begun }
@@ -111,7 +111,7 @@ impl<'s> Sweeps<'s> {
         Ok(())
     }
 
-    // The lines are heard whose time has come, in their order.
+    /// The lines are heard whose time has come, in their order.
     fn hear_all<A: Agents>(&mut self, agents: &mut A) -> Result<(), A::Error>
         requires fits { A.Fits self.old.board.awake agents.old }
         requires begun { IsTrue self.old.begun }

@@ -4,7 +4,6 @@ use Rattle.std.proofs.lemmas.Option.{unwrap_or-slice_get}
 use Rattle.std.specs.Option.{option_and_then}
 use Rattle.sdl_faults.specs.FaultLaws.{In}
 use Rattle.sdl_faults.specs.Faults.{told_at}
-use Rattle.sdl_scope.specs.Names.{first_of}
 use Rattle.sdl_faults.specs.declared.fault.Kind.TheVariants.{BadCount}
 use Rattle.sdl_sorts.proofs.ConstantLaws.{broken-listed-constant}
 use Rattle.sdl_sorts.proofs.ScopeLemmas.{meaning-first}

@@ -1,6 +1,6 @@
 //! Synonyms, settled one after the other.
 
-ghost use Rattle.std.specs.Prelude.{◌≡◌, ◌<◌, ◌||◌, true, false, Some, map, length, slice_get, slice_set, IfOk, OnOk, ℕ};
+ghost use Rattle.std.specs.Prelude.{◌≡◌, ◌<◌, ◌||◌, true, false, Some, map, length, slice_get, slice_set, IfOk, OnOk};
 ghost use Rattle.sdl_synonyms.specs.Known.{AreStuck, IsKnown, are_settled, count_open, is_settled_at};
 ghost use Rattle.sdl_synonyms.specs.Synonyms.{AreConstants, named_by};
 ghost use Rattle.sdl_synonyms.specs.declared.synonym.Synonym as the_synonym;

@@ -1,6 +1,6 @@
 //! The definition of a synonym.
 
-ghost use Rattle.std.specs.Prelude.{◌≡◌, ◌++◌, IfOk, OnOk};
+ghost use Rattle.std.specs.Prelude.{◌≡◌, IfOk, OnOk};
 ghost use Rattle.sdl_faults.specs.Faults.{least_of, told};
 ghost use Rattle.sdl_synonyms.specs.Synonyms.{constant_with, named_by, synonym_faults};
 

@@ -2,7 +2,7 @@
 use Rattle.std.specs.Prelude.{◌≡◌, ◌⊎◌, List, Option, None, Some, slice_get}
 use Rattle.port_values.specs.declared.value.Value.{Value}
 use Rattle.sdl_system.specs.Body as body
-use Rattle.sdl_system.specs.Body.{Body, Parts, Action, Terminator, AllEnd, Ends, chosen, followed}
+use Rattle.sdl_system.specs.Body.{Body, Parts, Action, AllEnd, Ends, chosen, followed}
 use Rattle.sdl_system.specs.Table.{Has, HasParts, Stands, action_of, terminator_of, way_among}
 use Rattle.sdl_system.specs.Term.{Term, term_of}
 use Rattle.sdl_system.specs.declared.id.NodeId.{NodeId}

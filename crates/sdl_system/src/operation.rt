@@ -198,7 +198,7 @@ fn divide(left: i64, right: i64) -> Result<i64, Failure>
     }
 }
 
-// All numbers are multiples of -1, and the least one by -1 has no quotient.
+/// All numbers are multiples of -1, and the least one by -1 has no quotient.
 #[inline(never)]
 fn modulo(left: i64, right: i64) -> Result<i64, Failure>
     ensures { result ≡ divided right (int_rem_euclid left right) }

@@ -37,7 +37,7 @@ impl Drop for StateTable {
     }
 }
 
-// So few signals are compared one by one, which is sooner done than to look for one by its hash.
+/// So few signals are compared one by one, which is sooner done than to look for one by its hash.
 const FEW: usize = 8;
 
 /// What is done with each signal that a state names.

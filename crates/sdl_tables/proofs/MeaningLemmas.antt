@@ -9,7 +9,7 @@ use Rattle.sdl_states.specs.States.{Numbered, Table, meaning_of, named_in}
 use Rattle.sdl_states.specs.Tabled.{meaning_at, meanings_at}
 use Rattle.sdl_states.proofs.ShareLemmas.{part-mapped}
 use Rattle.sdl_system.specs.Behaviour as behaviour
-use Rattle.sdl_system.specs.Behaviour.{ContinuousSignal, MeansCondition, MeansContinuous, MeansResponse, MeansState, MeansTable, Response, StateMeaning, condition_in}
+use Rattle.sdl_system.specs.Behaviour.{ContinuousSignal, MeansContinuous, MeansResponse, MeansState, MeansTable, Response, StateMeaning, condition_in}
 use Rattle.sdl_system.specs.Term.{Term, term_of}
 use Rattle.sdl_system.specs.State.{named_reaction}
 use Rattle.sdl_system.specs.declared.expression.Expression.{Expression}

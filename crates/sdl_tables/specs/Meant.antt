@@ -5,7 +5,7 @@ use Rattle.std.specs.List.{AllZip}
 use Rattle.port_values.specs.declared.item.SignalId.{SignalId}
 use Rattle.sdl_stimuli.specs.Mentions as said
 use Rattle.sdl_states.specs.States as said_of
-use Rattle.sdl_states.specs.States.{Numbered, Table, meaning_of, named_in}
+use Rattle.sdl_states.specs.States.{Numbered, Table, named_in}
 use Rattle.sdl_states.specs.Tabled.{meanings_at}
 use Rattle.sdl_system.specs.Behaviour.{ContinuousSignal, MeansState, Response, StateMeaning, input, priority_input, save}
 use Rattle.sdl_system.specs.Term.{Term, term_of}

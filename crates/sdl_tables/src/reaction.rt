@@ -1,6 +1,6 @@
 //! What is done with a signal, with the node at which its transition begins.
 
-ghost use Rattle.std.specs.Prelude.{◌≡◌, IfOk, option_map, slice_get};
+ghost use Rattle.std.specs.Prelude.{◌≡◌, IfOk, option_map};
 ghost use Rattle.sdl_stimuli.specs.Listed.{response_value};
 ghost use Rattle.sdl_classes.specs.Linked.{entry_of, linked, reaction_value};
 

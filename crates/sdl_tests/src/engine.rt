@@ -98,7 +98,7 @@ fn expect_torn(rt: &impl Abort, alloc: Global, options: &Options) {
     assert!(rt; written.is_empty());
 }
 
-// The text takes one read, and the end of the input another.
+/// The text takes one read, and the end of the input another.
 #[test]
 fn bounds_the_reads(rt: HostRuntime) {
     expect_restless(&rt, rt.alloc(), 4_194_302, Ok(Outcome::Whole));

@@ -50,7 +50,7 @@ fn expect_notes(rt: &impl Abort, alloc: Global, text: &str, explained: &str) {
     assert!(rt; notes.as_slice() == explained.as_bytes());
 }
 
-// The line of the refusal is told all the same.
+/// The line of the refusal is told all the same.
 #[test]
 fn goes_on_where_nothing_can_be_noted(rt: HostRuntime) {
     let mut reader = TWICE.as_bytes();

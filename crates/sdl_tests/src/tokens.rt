@@ -1,6 +1,6 @@
 //! Tokens and their places.
 
-use sdl_lex::{Kind, LexError, Place, Token, lex, place_of};
+use sdl_lex::{Kind, LexError, Place, lex, place_of};
 use std::alloc::{AllocError, Global};
 use std::test::Fail;
 

@@ -1,5 +1,5 @@
 -- The examples.
-use Rattle.std.proofs.Common.{◌≡◌, refl, inl, inr, ⊎_elim, arith, []}
+use Rattle.std.proofs.Common.{refl, inl, inr, ⊎_elim, arith, []}
 use Rattle.sdl_tree.specs.declared.expressions.Operator.TheVariants as operator
 use Rattle.sdl_tree.specs.Erased.{plain}
 use Rattle.sdl_tree.specs.Spells.Expressions.{limit, SpellsAt, SpellsInner, SpellsTimer}

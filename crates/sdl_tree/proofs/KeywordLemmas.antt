@@ -1,5 +1,5 @@
 -- Looking a word up in a table.
-use Rattle.std.proofs.Common.{◌≡◌, refl, map, List, [], ◌∷◌, ℕ, Bool, ◌||◌, ap, ◌∙◌, true, false, cond, Option, Some, None, option_map, is_some}
+use Rattle.std.proofs.Common.{◌≡◌, refl, map, List, [], ◌∷◌, ℕ, Bool, ◌||◌, ap, ◌∙◌, true, false, cond, Option, Some, None, option_map}
 use Rattle.std.specs.Borrow.{Bor}
 use Rattle.std.specs.List.{find}
 use Rattle.std.specs.Str.{bytes_eq}

@@ -1,5 +1,5 @@
 -- What holds of the grammar.
-use Rattle.std.proofs.Common.{◌≡◌, ◌∙◌}
+use Rattle.std.proofs.Common.{◌∙◌}
 use Rattle.sdl_tree.specs.Laws.{NoConditionOnPriority}
 
 pub none_after_priority : NoConditionOnPriority

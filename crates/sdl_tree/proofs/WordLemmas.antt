@@ -3,7 +3,6 @@ use Rattle.std.proofs.Common.{◌≡◌, refl, sym, subst, ℕ, Bool, true, fals
 use Rattle.std.proofs.lemmas.Bool.{eqb-true, or_cases}
 use Rattle.sdl_lex.specs.Byte.{is_among, is_mark_byte}
 use Rattle.sdl_lex.specs.Kind.{is_mark}
-use Rattle.sdl_lex.specs.declared.token.Kind.TheVariants as kind
 use Rattle.sdl_tree.specs.declared.mark.Mark.{Mark}
 use Rattle.sdl_tree.specs.declared.mark.Mark.TheVariants as mark
 use Rattle.sdl_tree.specs.Keyword.{keyword_found, sign_found, left_out_found}

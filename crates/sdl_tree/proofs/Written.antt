@@ -1,13 +1,12 @@
 -- What is written for the erasure of a node spells it, before whatever comes after it: the ways in which productions are put
 -- together.
-use Rattle.std.proofs.Common.{◌≡◌, refl, Option, Some, None, option_map, List, [], ◌∷◌, map, inl, inr}
+use Rattle.std.proofs.Common.{refl, Option, Some, None, option_map, List, [], ◌∷◌, map, inl, inr}
 use Rattle.sdl_tree.specs.declared.mark.Mark.{Mark}
 use Rattle.sdl_tree.specs.declared.mark.Mark.TheVariants as mark
-use Rattle.sdl_tree.specs.declared.name.Spelling.{Spelling}
 use Rattle.sdl_tree.specs.Canonical.{separated, repeated, optional, in_parentheses, fixed, name_words, number_words, end_words, sig_words}
 use Rattle.sdl_tree.specs.Erased.{plain, erased_word, erased_name, erased_sort, erased_number, erased_item}
 use Rattle.sdl_tree.specs.Spells.Parts.{IsMark, Both, Behind, Before, Followed, Optional, Separated, Repeated, Enclosed, InParentheses, SpellsName, SpellsNumber, SpellsEnd, Ended, SpellsClosing, SpellsSig, SpellsSigs}
-use Rattle.sdl_tree.specs.Tree.{Number, SignalListItem, SignalItem, ListItem}
+use Rattle.sdl_tree.specs.Tree.{SignalListItem, SignalItem, ListItem}
 use Rattle.sdl_tree.specs.Words.{Spot, Words, Fixed}
 use Rattle.sdl_tree.specs.Words as word
 

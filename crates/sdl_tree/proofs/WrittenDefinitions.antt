@@ -1,13 +1,12 @@
 -- What is written for the erasure of a definition, and of a tree, spells it.
-use Rattle.std.proofs.Common.{◌≡◌, refl, ℕ, Bool, true, false, Option, Some, None, option_map, List, [], ◌∷◌, map}
+use Rattle.std.proofs.Common.{refl, ℕ, Bool, true, false, option_map, [], map}
 use Rattle.sdl_tree.specs.declared.mark.Mark.TheVariants as mark
-use Rattle.sdl_tree.specs.Canonical.{fixed, separated, repeated, optional, in_parentheses, name_words, end_words, sig_words, expr_words, start_words, body_part_words, signal_words, signals_words, signal_list_words, synonym_words, synonyms_words, point_words, path_words, no_delay_words, channel_words, bound_words, counts_words, parameters_words, fpar_words, initial_words, variables_words, timer_words, timers_words, signal_set_words, local_words, process_words, connect_words, definition_words, block_part_words, block_words, system_definition_words, canonical}
-use Rattle.sdl_tree.specs.Erased.{plain, erased_name, erased_sort, erased_expr, erased_item, erased_signal, erased_signal_list, erased_synonym, erased_synonyms, erased_parameters, erased_fpar, erased_variables, erased_timer, erased_timers, erased_signal_set, erased_local, erased_bound, erased_counts, erased_start, erased_body_part, erased_process, erased_end, erased_path, erased_channel, erased_connection, erased_definition, erased_block_part, erased_block, erased_system_definition, erased}
-use Rattle.sdl_tree.specs.Spells.{SpellsSignalName, SpellsSignal, SpellsSignalList, SpellsSynonymName, SpellsSynonym, SpellsPoint, SpellsPath, SpellsNoDelay, SpellsPaths, SpellsChannel, SpellsBound, SpellsCounts, SpellsParameters, SpellsFpar, SpellsInitial, SpellsVariables, SpellsDcl, SpellsOne, SpellsTimer, SpellsSignalSet, SpellsPdef, SpellsBody, SpellsProcess, SpellsConnect, SpellsDef, SpellsBlockPart, SpellsBlockParts, SpellsBlock, SpellsSystemDef, SpellsSystemDefs, SpellsTree}
+use Rattle.sdl_tree.specs.Canonical.{optional, in_parentheses, name_words, signal_words, signals_words, signal_list_words, synonym_words, synonyms_words, point_words, path_words, no_delay_words, channel_words, bound_words, counts_words, parameters_words, fpar_words, initial_words, variables_words, timer_words, timers_words, signal_set_words, local_words, process_words, connect_words, definition_words, block_part_words, block_words, system_definition_words, canonical}
+use Rattle.sdl_tree.specs.Erased.{plain, erased_name, erased_sort, erased_expr, erased_signal, erased_signal_list, erased_synonym, erased_synonyms, erased_parameters, erased_fpar, erased_variables, erased_timer, erased_timers, erased_signal_set, erased_local, erased_bound, erased_counts, erased_process, erased_end, erased_path, erased_channel, erased_connection, erased_definition, erased_block_part, erased_block, erased_system_definition, erased}
+use Rattle.sdl_tree.specs.Spells.{SpellsSignalName, SpellsSignal, SpellsSignalList, SpellsSynonymName, SpellsSynonym, SpellsPoint, SpellsPath, SpellsNoDelay, SpellsChannel, SpellsBound, SpellsCounts, SpellsParameters, SpellsFpar, SpellsInitial, SpellsVariables, SpellsOne, SpellsTimer, SpellsSignalSet, SpellsPdef, SpellsProcess, SpellsConnect, SpellsDef, SpellsBlockPart, SpellsBlock, SpellsSystemDef, SpellsTree}
 use Rattle.sdl_tree.specs.Spells.Parts.{InParentheses, SpellsName, SpellsClosing}
-use Rattle.sdl_tree.specs.Tree.{SignalDefinition, SignalListDefinition, SynonymDefinition, SynonymDefinitions, ParameterGroup, FormalParameters, VariableGroup, TimerDefinition, TimerDefinitions, SignalSet, LocalDefinition, LocalSignals, LocalSignalList, LocalSynonyms, LocalSignalSet, Variables, Timers, Bound, Counts, ProcessDefinition, BodyPart, ChannelEnd, Env, Agent, ChannelPath, ChannelDefinition, Connection, Definition, Signals, SignalList, Synonyms, Channel, Process, BlockPart, InBlock, Connect, BlockDefinition, SystemDefinition, InSystem, Block, Tree}
-use Rattle.sdl_tree.specs.Words.{Words, Fixed}
-use Rattle.sdl_tree.specs.Words as word
+use Rattle.sdl_tree.specs.Tree.{SignalSet, LocalDefinition, LocalSignals, LocalSignalList, LocalSynonyms, LocalSignalSet, Variables, Timers, ChannelEnd, Env, Agent, Definition, Signals, SignalList, Synonyms, Channel, Process, BlockPart, InBlock, Connect, SystemDefinition, InSystem, Block, Tree}
+use Rattle.sdl_tree.specs.Words.{Words}
 use Rattle.sdl_tree.proofs.Written.{Writes, mark_written, name_written, sort_written, names_written, closing_words, closing_written, both_written, behind_written, before_written, followed_written, ended_written, optional_written, separated_written, repeated_written, in_parentheses_written, sigs_written}
 use Rattle.sdl_tree.proofs.WrittenExpressions.{expr_written}
 use Rattle.sdl_tree.proofs.WrittenTransitions.{start_written}

@@ -1,11 +1,11 @@
 -- What is written for the erasure of an expression spells it.
-use Rattle.std.proofs.Common.{◌≡◌, refl, ℕ, zero, suc, List, [], ◌∷◌, map, inl, inr}
+use Rattle.std.proofs.Common.{refl, ℕ, zero, suc, List, ◌∷◌, inl, inr}
 use Rattle.sdl_tree.specs.declared.mark.Mark.TheVariants as mark
-use Rattle.sdl_tree.specs.Canonical.{fixed, in_parentheses, name_words, expr_words, links_words, values_words, more_values_words, applied_words}
+use Rattle.sdl_tree.specs.Canonical.{fixed, expr_words, links_words, values_words, more_values_words, applied_words}
 use Rattle.sdl_tree.specs.Erased.{plain, erased_name, erased_expr, erased_exprs, erased_links, erased_applied}
-use Rattle.sdl_tree.specs.Spells.Expressions.{loosest, value_mark, unary_mark, operator_mark, SpellsPrimary, SpellsUnary, SpellsLink, SpellsChain, SpellsAt, SpellsInner, SpellsTimer, SpellsExpr, SpellsApplied}
-use Rattle.sdl_tree.specs.Spells.Parts.{Separated, Repeated, InParentheses, SpellsName}
-use Rattle.sdl_tree.specs.Tree.{Expr, Numeral, Named, Keyword, Active, Paren, Unary, Chain, Exprs, NoExpr, AndExpr, exprs_in, Links, NoLink, AndLink, links_in, Applied}
+use Rattle.sdl_tree.specs.Spells.Expressions.{loosest, unary_mark, operator_mark, SpellsPrimary, SpellsUnary, SpellsLink, SpellsChain, SpellsAt, SpellsInner, SpellsTimer, SpellsExpr, SpellsApplied}
+use Rattle.sdl_tree.specs.Spells.Parts.{Separated, Repeated, InParentheses}
+use Rattle.sdl_tree.specs.Tree.{Expr, Numeral, Named, Keyword, Active, Paren, Unary, Chain, Exprs, NoExpr, AndExpr, exprs_in, Links, NoLink, AndLink, links_in}
 use Rattle.sdl_tree.specs.Words.{Spot, Words, Fixed}
 use Rattle.sdl_tree.specs.Words as word
 use Rattle.sdl_tree.proofs.Written.{Writes, mark_written, name_written, both_written, before_written, in_parentheses_written}

@@ -1,15 +1,14 @@
 -- What is written for the erasure of a state spells it. A stimulus without a condition or priority stays one: what comes after it
 -- begins no more with `provided` or `priority` than it did.
 use Rattle.std.proofs.Common.{◌≡◌, ◌≢◌, refl, sym, ap, ◌∙◌, subst, ℕ, zero, suc, Bool, true, false, true≢false, Option, Some, None, option_map, List, [], ◌∷◌, map, inl, inr}
-use Rattle.sdl_lex.specs.declared.place.Place.{Place}
 use Rattle.sdl_tree.specs.declared.mark.Mark.{Mark}
 use Rattle.sdl_tree.specs.declared.mark.Mark.TheVariants as mark
 use Rattle.sdl_tree.specs.declared.name.Spelling.{Spelling}
-use Rattle.sdl_tree.specs.Canonical.{fixed, repeated, optional, in_parentheses, name_words, end_words, terminator_words, ending_words, transition_words, action_words, in1_words, ins_words, saved_words, condition_words, priority_words, stimulus_words, states_words, body_part_words}
+use Rattle.sdl_tree.specs.Canonical.{fixed, repeated, optional, end_words, terminator_words, ending_words, transition_words, action_words, in1_words, ins_words, saved_words, condition_words, priority_words, stimulus_words, states_words, body_part_words}
 use Rattle.sdl_tree.specs.Erased.{plain, erased_name, erased_number, erased_terminator, erased_ending, erased_action, erased_transition, erased_input, erased_inputs, erased_saved, erased_condition, erased_stimulus, erased_states, erased_body_part}
-use Rattle.sdl_tree.specs.Spells.Behaviour.{SpellsTerminator, SpellsEnding, SpellsTrans, SpellsAction, SpellsIn1, SpellsIns, SpellsSaved, SpellsCondition, SpellsPriority, SpellsStimulus, SpellsStates, SpellsEndStateName, SpellsEndState, SpellsEndConnection, SpellsBodyPart}
+use Rattle.sdl_tree.specs.Spells.Behaviour.{SpellsTerminator, SpellsEnding, SpellsTrans, SpellsAction, SpellsIn1, SpellsIns, SpellsSaved, SpellsCondition, SpellsPriority, SpellsStimulus, SpellsStates, SpellsEndStateName, SpellsEndConnection, SpellsBodyPart}
 use Rattle.sdl_tree.specs.Spells.Parts.{Repeated, Wherever, Begins}
-use Rattle.sdl_tree.specs.Tree.{Number, Condition, Terminator, Next, Stop, Join, Ending, Transition, Steps, NoAction, AndAction, Action, Task, Output, Set, Reset, Create, Decision, Input, Inputs, InputList, InputAll, Saved, SaveList, SaveAll, Stimulus, InputPart, PriorityInput, SavePart, ContinuousSignal, States, StateList, StateAll, BodyPart, StatePart, FreeAction}
+use Rattle.sdl_tree.specs.Tree.{Number, Terminator, Next, Stop, Join, Transition, Steps, NoAction, AndAction, Action, Task, Output, Set, Reset, Create, Decision, Input, Inputs, InputList, InputAll, Saved, SaveList, SaveAll, Stimulus, InputPart, PriorityInput, SavePart, ContinuousSignal, States, StateList, StateAll, BodyPart, StatePart, FreeAction}
 use Rattle.sdl_tree.specs.Words.{Spot, Word, Words, Fixed}
 use Rattle.sdl_tree.specs.Words as word
 use Rattle.sdl_tree.proofs.Written.{Writes, mark_written, name_written, names_written, number_written, both_written, behind_written, before_written, followed_written, ended_written, end_written, optional_written, separated_written, in_parentheses_written, sigs_written}

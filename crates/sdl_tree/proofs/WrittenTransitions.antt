@@ -1,13 +1,13 @@
 -- What is written for the erasure of a transition spells it.
-use Rattle.std.proofs.Common.{◌≡◌, refl, ℕ, zero, suc, Option, Some, None, option_map, List, [], ◌∷◌, map}
+use Rattle.std.proofs.Common.{refl, ℕ, zero, suc, Option, option_map, ◌∷◌, map}
 use Rattle.sdl_tree.specs.declared.mark.Mark.TheVariants as mark
-use Rattle.sdl_tree.specs.Canonical.{fixed, separated, optional, end_words, name_words, assignment_words, destination_words, clause_words, keys_words, answer_words, label_words, next_state_words, terminator_words, ending_words, transition_words, actions_words, action_words, parts_words, otherwise_words, start_words, expr_words}
-use Rattle.sdl_tree.specs.Erased.{plain, erased_name, erased_expr, erased_applied, erased_assignment, erased_destination, erased_clause, erased_answer, erased_next_state, erased_terminator, erased_ending, erased_transition, erased_actions, erased_action, erased_parts, erased_otherwise, erased_start}
+use Rattle.sdl_tree.specs.Canonical.{fixed, optional, end_words, assignment_words, destination_words, clause_words, keys_words, answer_words, label_words, next_state_words, terminator_words, ending_words, transition_words, actions_words, action_words, parts_words, otherwise_words, start_words}
+use Rattle.sdl_tree.specs.Erased.{plain, erased_name, erased_applied, erased_assignment, erased_destination, erased_clause, erased_answer, erased_next_state, erased_terminator, erased_ending, erased_transition, erased_actions, erased_action, erased_parts, erased_otherwise, erased_start}
 use Rattle.sdl_tree.specs.Spells.Behaviour.{SpellsAssignment, SpellsDestination, SpellsClause, SpellsKeys, SpellsAnswer, SpellsLabel, SpellsNextState, SpellsTerminator, SpellsEnding, SpellsStatement, SpellsTransBy, SpellsPart, SpellsElse, SpellsAction, SpellsTrans, SpellsStart}
 use Rattle.sdl_tree.specs.Spells.Expressions.{operator_mark}
 use Rattle.sdl_tree.specs.Spells.Parts.{Optional, Repeated}
-use Rattle.sdl_tree.specs.Tree.{Expr, Applied, Assignment, Destination, SetClause, Answer, Value, Range, Compared, NextState, Same, To, Terminator, Next, Stop, Join, Ending, Transition, Steps, Actions, NoAction, AndAction, Action, Task, Output, Set, Reset, Create, Decision, Parts, NoPart, AndPart, Otherwise, NoElse, Else, Start, statements_in, parts_in, else_in}
-use Rattle.sdl_tree.specs.Words.{Spot, Words, Fixed}
+use Rattle.sdl_tree.specs.Tree.{Expr, Applied, Answer, Value, Range, Compared, NextState, Same, To, Terminator, Next, Stop, Join, Transition, Steps, Actions, NoAction, AndAction, Action, Task, Output, Set, Reset, Create, Decision, Parts, NoPart, AndPart, Otherwise, NoElse, Else, Start, statements_in, parts_in, else_in}
+use Rattle.sdl_tree.specs.Words.{Words, Fixed}
 use Rattle.sdl_tree.proofs.Written.{Writes, mark_written, name_written, both_written, behind_written, before_written, ended_written, end_written, optional_written, separated_written, enclosed_written}
 use Rattle.sdl_tree.proofs.WrittenExpressions.{expr_written, applied_written}
 

@@ -1,5 +1,5 @@
 -- Which word of a text opens one too many inside each other. What counts, the grammar says: the depth of *Spells*.
-use Rattle.std.specs.Prelude.{◌≡◌, ℕ, ◌⊎◌, suc, List, [], ◌∷◌, ◌++◌}
+use Rattle.std.specs.Prelude.{◌≡◌, ℕ, ◌⊎◌, suc, [], ◌∷◌, ◌++◌}
 use Rattle.sdl_tree.specs.declared.mark.Mark.TheVariants as mark
 use Rattle.sdl_tree.specs.declared.name.Spelling.{Spelling}
 use Rattle.sdl_tree.specs.Spells.{SpellsTree}

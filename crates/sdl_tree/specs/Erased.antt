@@ -1,6 +1,6 @@
 -- A tree but for the places and the spellings of its text: each word in lower case, each number by its value, the sort `PId` as
 -- `Pid`, and all at the place where a text begins.
-use Rattle.std.specs.Prelude.{ℕ, List, map, option_map}
+use Rattle.std.specs.Prelude.{map, option_map}
 use Rattle.std.specs.Fmt.{signed_decimal}
 use Rattle.sdl_lex.specs.declared.place.Place.{Place}
 use Rattle.sdl_tree.specs.declared.mark.Case.TheVariants.{Lower}

@@ -5,7 +5,7 @@ use Rattle.sdl_tree.specs.declared.name.Spelling.{Spelling}
 use Rattle.sdl_tree.specs.Spells.Behaviour.{SpellsIn1}
 use Rattle.sdl_tree.specs.Spells.Parts.{IsMark, Both, Behind, Separated, Ended, Begins}
 use Rattle.sdl_tree.specs.Tree.{Input}
-use Rattle.sdl_tree.specs.Words.{Word, Words, Fixed}
+use Rattle.sdl_tree.specs.Words.{Words, Fixed}
 use Rattle.sdl_tree.specs.Words as word
 
 -- "priority" "input" in1 {"," in1} end

@@ -11,7 +11,7 @@ use Rattle.sdl_tree.specs.Spells.Behaviour.{SpellsStart, SpellsBodyPart}
 use Rattle.sdl_tree.specs.Spells.Expressions.{SpellsExpr}
 use Rattle.sdl_tree.specs.Spells.Parts.{IsMark, Both, Behind, Before, Followed, Optional, Separated, Repeated, InParentheses, SpellsName, Ended, SpellsClosing, SpellsSigs}
 use Rattle.sdl_tree.specs.Tree.{Expr, BodyPart, SignalDefinition, SignalListDefinition, SynonymDefinition, SynonymDefinitions, ParameterGroup, FormalParameters, VariableGroup, TimerDefinition, TimerDefinitions, SignalSet, LocalDefinition, LocalSignals, LocalSignalList, LocalSynonyms, LocalSignalSet, Variables, Timers, Bound, Counts, ProcessDefinition, ChannelEnd, Env, Agent, ChannelPath, ChannelDefinition, Connection, Definition, Signals, SignalList, Synonyms, Channel, Process, BlockPart, InBlock, Connect, BlockDefinition, SystemDefinition, InSystem, Block, Tree}
-use Rattle.sdl_tree.specs.Words.{Spot, Words, Fixed}
+use Rattle.sdl_tree.specs.Words.{Words, Fixed}
 
 -- NAME [sorts], where sorts = "(" NAME {"," NAME} ")"
 abbrev pub SpellsSignalName : SignalDefinition → Words → Words → Type 0

@@ -1,5 +1,5 @@
 -- The trees of the grammar that the public trees are, with their spellings and places.
-use Rattle.std.specs.Prelude.{Option, Some, None, List, [], ◌∷◌, map, option_map, string_bytes}
+use Rattle.std.specs.Prelude.{List, map, option_map, string_bytes}
 use Rattle.sdl_tree.specs.declared.behaviour.Action.{Decision', Row_of-AnswerPart, end_of-AnswerPart, more_of-AnswerPart, Held-Action-Decision-3, None', Some'}
 use Rattle.sdl_tree.specs.declared.behaviour.Action as action
 use Rattle.sdl_tree.specs.declared.behaviour.Answer.{Answer}

@@ -19,7 +19,7 @@ use Rattle.sdl_runs.specs.Place.{Amid, AtStart, Closed, Definition, Doing, Ended
 use Rattle.sdl_runs.specs.Reception.{assigned, sort_in}
 use Rattle.sdl_runs.specs.World.{WorldValue}
 use Rattle.sdl_system.specs.Body as body
-use Rattle.sdl_system.specs.Body.{Action, Assigning, Body, Parts, Sending, Setting, Terminator, Timing, Whither, chosen}
+use Rattle.sdl_system.specs.Body.{Action, Body, Parts, Setting, chosen}
 use Rattle.sdl_system.specs.Table.{ActsAt, AsksAt, Has, way_of}
 use Rattle.sdl_system.specs.Term.{Term, term_of}
 use Rattle.sdl_system.specs.declared.id.NodeId.{NodeId}
@@ -29,7 +29,7 @@ use Rattle.sdl_system.specs.declared.statement.Node.{Node}
 use Rattle.sdl_system.specs.declared.statement.Statement.TheVariants as kind
 use Rattle.sdl_system.specs.declared.statement.Way.{Way}
 use Rattle.sdl_unique_steps.proofs.Inner.{Comes, did_same, ends_next, head_acts, on_false, on_ok, on_some, on_true, one_call}
-use Rattle.sdl_unique_steps.proofs.Next.{Frame, Head, IsAt, Next, Site, amid, assigning_next, at_head, at_node, counting, deciding, did, doing, entering, failing, head_of, is_amid, is_doing, is_over, is_receiving, is_start, is_state, made, mark_of, next_of, node_at, nothing, on_option, on_result, on_test, over, receiving, sent, set_at, set_or_spent, turned}
+use Rattle.sdl_unique_steps.proofs.Next.{Frame, IsAt, Next, Site, amid, at_head, at_node, counting, deciding, did, doing, entering, failing, is_amid, is_doing, is_over, is_receiving, made, mark_of, next_of, node_at, nothing, on_option, on_result, over, receiving, sent, set_at, set_or_spent, turned}
 use Rattle.sdl_unique_steps.proofs.Next as next
 use Rattle.sdl_unique_steps.proofs.Ways.{GoesOn, at_is, decides}
 use Rattle.sdl_unique_steps.specs.Unique.{is_want}

@@ -1,5 +1,5 @@
 -- Which words spell which expression.
-use Rattle.std.specs.Prelude.{◌≡◌, ℕ, ◌⊎◌, zero, suc, List, ◌∷◌}
+use Rattle.std.specs.Prelude.{◌≡◌, ℕ, ◌⊎◌, zero, suc, List}
 use Rattle.sdl_tree.specs.declared.expressions.KeywordValue.{KeywordValue}
 use Rattle.sdl_tree.specs.declared.expressions.KeywordValue.TheVariants as value
 use Rattle.sdl_tree.specs.declared.expressions.UnaryOperator.{UnaryOperator}

@@ -1,4 +1,4 @@
-use Rattle.std.proofs.Common.{◌≡◌, ◌∙◌, Bool, List, Ok, ap, length, map, refl, subst, sym}
+use Rattle.std.proofs.Common.{◌∙◌, Bool, List, Ok, ap, length, map, refl, subst, sym}
 use Rattle.std.proofs.lemmas.Result.{err_from_is_err_and}
 use Rattle.port_model.specs.declared.selection.Class.{Class}
 use Rattle.sdl_interp.proofs.SelectionLemmas.{cannot_by_condition, cannot_for_memory, made_selects}

@@ -1,7 +1,6 @@
 use Rattle.std.proofs.Common.{◌≡◌, ◌∙◌, ◌++◌, ◌+◌, ap, flat_map, length, map}
 use Rattle.std.proofs.lemmas.Result.{IfOk-weaker, on_ok_weaker}
 use Rattle.sdl_declared.specs.Seen.{block_seen, channel_seen}
-use Rattle.sdl_declared.specs.Tables.{rows_of}
 use Rattle.sdl_network.specs.Agents.{block_names}
 use Rattle.sdl_network.specs.Paths.{carried, channel_paths, paths_from}
 use Rattle.sdl_signal_lists.specs.Seen.{list_items}
