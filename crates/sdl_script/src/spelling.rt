@@ -176,20 +176,21 @@ fn instance_number(number: u64) -> Option<u32>
     u32::try_from(number).ok()
 }
 
-/// A number past 64 bits signed is no value.
+/// A number with a `-` before it. Past 64 bits signed it is no value.
 fn negative(number: u64) -> SpelledValue
     ensures { result ≡ negative number }
 {
     SpelledValue::Number(0i64.checked_sub_unsigned(number))
 }
 
-/// As before.
+/// A number without a sign. Past 64 bits signed it is no value.
 fn positive(number: u64) -> SpelledValue
     ensures { result ≡ positive number }
 {
     SpelledValue::Number(i64::try_from(number).ok())
 }
 
+/// What a literal stands for, or `env`.
 fn literal(word: &str) -> Option<SpelledValue>
     ensures { result ≡ literal word.now }
 {
