@@ -40,8 +40,8 @@ impl Store {
             done: 0,
         }
     }
-    /// What a literal, or a variable that has a value, comes to, as most operands are. None: it is another expression,
-    /// or a variable that was never assigned.
+    /// What an expression comes to that is a literal, or a variable with a value; most operands are. None: it is
+    /// another expression, or a variable that was never assigned or isn't there.
     #[inline(always)]
     pub fn known(&self, expression: &Expression) -> Option<Value>
         ensures known { result ≡ known_in self.now.variables expression.now }
