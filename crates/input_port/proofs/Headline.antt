@@ -6,7 +6,7 @@ use Rattle.port_model.specs.History.{Put, Expire, Take, Set, Reset, Stop, IsLega
 use Rattle.input_port.specs.Words.{after_draw, after_draws, after_entry, expire_in, of, sent_by, AllThere, AreNext, Entry, Gone, IsDrawn, IsTimely, OwnerState, Placed, PortState, Signal, Timer}
 use Rattle.port_model.proofs.Histories.{IsLegal-one, IsLegal-append}
 use Rattle.input_port.specs.Headline.{OwnerCall, Taking, Draining, Gathering, Meeting, Setting, Resetting, Stopping, IsCall, Step, Drawn, Called, AreCalls, entry_events, call_events, step_events, history_of, drawn_in, called_in, OwnersHaveHistories, NothingIsLeft}
-use Rattle.inbox.proofs.Alive.{after_draws-alive}
+use Rattle.port_inbox.proofs.Alive.{after_draws-alive}
 use Rattle.port_queue.proofs.Meeting.{own_same}
 use Rattle.port_queue.proofs.PutLists.{starts_through}
 

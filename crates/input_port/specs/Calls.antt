@@ -2,13 +2,13 @@
 use Rattle.std.specs.Prelude.{◌≡◌, Bool, List, [], ◌∷◌, ◌++◌, map, Result, MatchBool, MatchResult}
 use Rattle.port_model.specs.declared.error.PortError.{PortError}
 use Rattle.port_model.specs.declared.error.PortError.TheVariants.{Memory}
-use Rattle.inbox.specs.declared.entry.Entry.{Entry}
+use Rattle.port_inbox.specs.declared.entry.Entry.{Entry}
 use Rattle.port_model.specs.declared.refused.Refused.{Refused}
-use Rattle.inbox.specs.declared.placed.Placed.{Placed}
-use Rattle.inbox.specs.Calls.{after_draws, AreNext, ComesBack, HasDrawn, IsDrawn}
-use Rattle.inbox.specs.Ends.{OwnerState}
-use Rattle.inbox.specs.Left.{AreWaiting}
-use Rattle.inbox.specs.Put.{StartsWith, AllThere}
+use Rattle.port_inbox.specs.declared.placed.Placed.{Placed}
+use Rattle.port_inbox.specs.Calls.{after_draws, AreNext, ComesBack, HasDrawn, IsDrawn}
+use Rattle.port_inbox.specs.Ends.{OwnerState}
+use Rattle.port_inbox.specs.Left.{AreWaiting}
+use Rattle.port_inbox.specs.Put.{StartsWith, AllThere}
 use Rattle.port_queue.specs.Calls.{IsGathered}
 use Rattle.port_queue.specs.Ends.{SenderState, FinishedState}
 

@@ -1,10 +1,10 @@
 -- The law of counts: numbers alone tell that nothing was lost between threads. It speaks of lists, and of no port.
 use Rattle.std.specs.Prelude.{◌≡◌, ◌≢◌, ◌≤◌, ◌+◌, ◌⊎◌, ℕ, List, [], ◌∷◌, ◌++◌, All, length, filter, count_by}
-use Rattle.inbox.specs.Ends.{is_signal}
-use Rattle.inbox.specs.Put.{of}
-use Rattle.inbox.specs.declared.entry.Entry.{Entry}
-use Rattle.inbox.specs.declared.entry.Entry.TheVariants.{Signal, Timer}
-use Rattle.inbox.specs.declared.placed.Placed.{Placed}
+use Rattle.port_inbox.specs.Ends.{is_signal}
+use Rattle.port_inbox.specs.Put.{of}
+use Rattle.port_inbox.specs.declared.entry.Entry.{Entry}
+use Rattle.port_inbox.specs.declared.entry.Entry.TheVariants.{Signal, Timer}
+use Rattle.port_inbox.specs.declared.placed.Placed.{Placed}
 use Rattle.port_values.specs.Same.{same_pid}
 use Rattle.port_values.specs.declared.item.Item.{Item}
 use Rattle.port_values.specs.declared.pid.Pid.{Pid}

@@ -7,15 +7,15 @@ use Rattle.port_model.specs.declared.taken.Taken.TheVariants.{Nothing}
 use Rattle.port_values.specs.declared.timer_key.TimerKey.{TimerKey}
 use Rattle.port_model.specs.History.{PortEvent, Put, Expire, Take, Set, Reset, Stop, IsLegal}
 use Rattle.port_model.specs.Port.{empty_port}
-use Rattle.inbox.specs.declared.entry.Entry.{Entry}
-use Rattle.inbox.specs.declared.entry.Entry.TheVariants.{Signal, Timer}
-use Rattle.inbox.specs.declared.entry.Fuse.{Fuse}
-use Rattle.inbox.specs.declared.placed.Placed.{Placed}
-use Rattle.inbox.specs.Calls.{after_reset, after_stop, IsDrawn, Sets, TakesHere}
+use Rattle.port_inbox.specs.declared.entry.Entry.{Entry}
+use Rattle.port_inbox.specs.declared.entry.Entry.TheVariants.{Signal, Timer}
+use Rattle.port_inbox.specs.declared.entry.Fuse.{Fuse}
+use Rattle.port_inbox.specs.declared.placed.Placed.{Placed}
+use Rattle.port_inbox.specs.Calls.{after_reset, after_stop, IsDrawn, Sets, TakesHere}
 use Rattle.port_queue.specs.Calls.{Gathers, IsGathered, Meets}
-use Rattle.inbox.specs.Ends.{OwnerState}
+use Rattle.port_inbox.specs.Ends.{OwnerState}
 use Rattle.port_queue.specs.Ends.{SenderState, IsKnowing}
-use Rattle.inbox.specs.Put.{of, IsTimely}
+use Rattle.port_inbox.specs.Put.{of, IsTimely}
 
 -- The headline, from the public contracts alone: each owner has a legal history of the standard's port of one thread, with just
 -- its own calls and what it drew.

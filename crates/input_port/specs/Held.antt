@@ -4,7 +4,7 @@ use Rattle.port_model.specs.declared.error.PortError.TheVariants.{Memory}
 use Rattle.port_model.specs.declared.refused.Refused.{Refused}
 use Rattle.port_queue.specs.Ends.{FinishedState, SenderState}
 use Rattle.input_port.specs.Ends.{RetiredState}
-use Rattle.inbox.specs.Calls.{ComesBack, HasDrawn}
+use Rattle.port_inbox.specs.Calls.{ComesBack, HasDrawn}
 use Rattle.port_queue.specs.Calls.{Gathers}
 use Rattle.input_port.specs.Calls.{Finishes, FinishesSince, GathersSince, HasDrawnSince}
 

@@ -1,6 +1,6 @@
 -- The words of the contracts and the proofs of an owner, from here and from the crates below.
-pub use Rattle.inbox.specs.Calls.{after_entry}
-pub use Rattle.inbox.specs.Ends.{is_signal_entry}
+pub use Rattle.port_inbox.specs.Calls.{after_entry}
+pub use Rattle.port_inbox.specs.Ends.{is_signal_entry}
 pub use Rattle.input_port.specs.Calls.{entry_of, DrewAll, Finishes, FinishesSince, FinishIs, GatherSinceIs, GathersSince, HasDrawnSince, PullSinceIs}
 pub use Rattle.input_port.specs.Ends.{RetiredState}
 pub use Rattle.input_port.specs.Held.{GatherHereIs, HasDrawnHere, LeaveIs, Leaves}

@@ -5,7 +5,7 @@ ghost use Rattle.std.specs.Prelude.{◌≡◌, [], true, length};
 ghost use Rattle.input_port.specs.Words.{signals_drawn, DrainIs, GatherHereIs, HasDrawnHere, IsKnowing, LeaveIs};
 
 use crate::{Owner, since};
-use inbox::{Entry, Fuse, Inbox, Refused};
+use port_inbox::{Entry, Fuse, Inbox, Refused};
 use port_model::{PortError, Selection, Taken};
 use port_queue::refused::refused;
 use port_queue::{Drawer, Finished, Port, Sender};

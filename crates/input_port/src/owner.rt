@@ -5,7 +5,7 @@ ghost use Rattle.std.specs.Prelude.{◌≡◌, ◌↔◌, [], true, None, length
 ghost use Rattle.input_port.specs.Words.{after_reset, after_stop, due_times, is_active, left_with, newborn, owner, signals_drawn, AreWaiting, ComesBack, DrainIs, FinishIs, GatherIs, HasDrawn, IsKnowing, IsLeast, MeetIs, MOST_SETS, SetIs, TakeIs};
 
 use crate::Retired;
-use inbox::{Entry, Fuse, Refused};
+use port_inbox::{Entry, Fuse, Refused};
 use port_model::{PortError, Selection, Taken};
 use port_queue::refused::refused;
 use port_queue::{Drawer, Finished, Pass, Port, Sender};
@@ -22,7 +22,7 @@ pub struct Owner {
 
 impl Model for Owner {
     ghost use Rattle.std.specs.Prelude.{◌≡◌, true};
-    ghost use Rattle.inbox.specs.Ends.{OwnerState};
+    ghost use Rattle.port_inbox.specs.Ends.{OwnerState};
 
     ghost Value = { OwnerState };
 

@@ -3,7 +3,7 @@ ghost use Rattle.std.specs.Prelude.{◌≡◌, length, IfErr, IfOk, MatchResult}
 ghost use Rattle.input_port.specs.Words.{signals_drawn, ComesBack, DrainIs, FinishesSince, GathersSince, HasDrawnSince, IsKnowing};
 
 use crate::since;
-use inbox::{Entry, Refused};
+use port_inbox::{Entry, Refused};
 use port_model::PortError;
 use port_queue::{Drawer, Finished, Port, Sender};
 use std::marker::Model;

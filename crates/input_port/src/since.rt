@@ -2,7 +2,7 @@
 ghost use Rattle.std.specs.Prelude.{◌≡◌, ◌<◌, ◌-◌, ◌++◌, map, vec_len, vec_capacity};
 ghost use Rattle.input_port.specs.Words.{entry_of, popped_list, DrainIs, GatherSinceIs, HasDrawnSince, Placed, PullSinceIs};
 
-use inbox::{Entry, Placed, Refused};
+use port_inbox::{Entry, Placed, Refused};
 use port_model::PortError;
 use port_queue::refused::refused;
 use port_queue::{Drawer, Port, Sender};

@@ -2,14 +2,14 @@
 use Rattle.std.specs.Prelude.{◌≡◌, ℕ, Bool, true, ◌+◌, List, [], ◌∷◌, ◌++◌, length, Option, None, Some, Result, MatchBool, MatchResult}
 use Rattle.port_model.specs.declared.error.PortError.{PortError}
 use Rattle.port_model.specs.declared.error.PortError.TheVariants.{Memory}
-use Rattle.inbox.specs.declared.entry.Entry.{Entry}
+use Rattle.port_inbox.specs.declared.entry.Entry.{Entry}
 use Rattle.port_model.specs.declared.refused.Refused.{Refused}
-use Rattle.inbox.specs.declared.placed.Placed.{Placed}
+use Rattle.port_inbox.specs.declared.placed.Placed.{Placed}
 use Rattle.port_queue.specs.declared.rule.View.{View}
-use Rattle.inbox.specs.Calls.{known_after, AreNext, ComesBack, IsDrawn}
-use Rattle.inbox.specs.Ends.{OwnerState}
+use Rattle.port_inbox.specs.Calls.{known_after, AreNext, ComesBack, IsDrawn}
+use Rattle.port_inbox.specs.Ends.{OwnerState}
 use Rattle.port_queue.specs.Ends.{SenderState, sent_by}
-use Rattle.inbox.specs.Put.{StartsWith, of, longer, AllThere, Apart}
+use Rattle.port_inbox.specs.Put.{StartsWith, of, longer, AllThere, Apart}
 
 -- A put or an expiry of a sender: behind all that it had seen came entries of others, and then just this one, as its next.
 pub record Puts (old new : SenderState) (at : ℕ) (entry : Entry) : Type 0 where

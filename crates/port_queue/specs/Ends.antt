@@ -3,12 +3,12 @@ use Rattle.std.specs.Prelude.{◌≡◌, ℕ, ◌≤◌, ◌^◌, true, List, []
 use Rattle.std.specs.declared.alloc.Global.{Global}
 use Rattle.crossbeam_queue.specs.SegTies.{SegId}
 use Rattle.port_model.specs.Port.{empty_port}
-use Rattle.inbox.specs.declared.entry.Entry.{Entry}
-use Rattle.inbox.specs.declared.placed.Placed.{Placed}
-use Rattle.inbox.specs.declared.placed.Gone.{Gone}
+use Rattle.port_inbox.specs.declared.entry.Entry.{Entry}
+use Rattle.port_inbox.specs.declared.placed.Placed.{Placed}
+use Rattle.port_inbox.specs.declared.placed.Gone.{Gone}
 use Rattle.port_queue.specs.declared.rule.View.{View}
-use Rattle.inbox.specs.Ends.{is_signal, OwnerState}
-use Rattle.inbox.specs.Put.{of, StartsWith, AllThere, Apart}
+use Rattle.port_inbox.specs.Ends.{is_signal, OwnerState}
+use Rattle.port_inbox.specs.Put.{of, StartsWith, AllThere, Apart}
 
 -- what a caller sees of the desk: which port it is of, and how many numbers it has given out
 pub record DeskState : Type 0 where

@@ -2,10 +2,10 @@
 use Rattle.std.specs.Prelude.{◌≡◌, ℕ, suc, ◌<◌, ◌≤◌, true, List, ◌++◌, length, map, All}
 use mathlib.Core.Option.{some}
 use lib.ListN.{get_elem?}
-use Rattle.inbox.specs.declared.placed.Placed.{Placed}
-use Rattle.inbox.specs.declared.placed.Gone.{Gone}
+use Rattle.port_inbox.specs.declared.placed.Placed.{Placed}
+use Rattle.port_inbox.specs.declared.placed.Gone.{Gone}
 use Rattle.port_queue.specs.declared.rule.View.{View}
-use Rattle.inbox.specs.Put.{StartsWith, of, one_to, Apart, IsTimely}
+use Rattle.port_inbox.specs.Put.{StartsWith, of, one_to, Apart, IsTimely}
 
 -- What the rule keeps of a port: its put list, what of it is drawn, how many numbers the desk has given out, which pass has
 -- which number (`seat n` is one more than the pass that puts under n, and 0 where none does), and which passes are the desk's

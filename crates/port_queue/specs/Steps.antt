@@ -1,8 +1,8 @@
 -- What each kind of atomic step tells the one that makes it.
 use Rattle.std.specs.Prelude.{◌≡◌, ◌+◌, ◌<◌, List, [], ◌∷◌, ◌++◌, length}
-use Rattle.inbox.specs.declared.placed.Placed.{Placed}
+use Rattle.port_inbox.specs.declared.placed.Placed.{Placed}
 use Rattle.port_queue.specs.declared.rule.View.{View}
-use Rattle.inbox.specs.Put.{StartsWith, of, longer, AllThere, Apart, IsTimely}
+use Rattle.port_inbox.specs.Put.{StartsWith, of, longer, AllThere, Apart, IsTimely}
 use Rattle.port_queue.specs.Views.{sender, owner}
 
 -- A push: behind what the sender had seen came entries of others, and then its own.

@@ -1,9 +1,9 @@
 -- What each pass knows as it is made, and as others come and go.
 use Rattle.std.specs.Prelude.{◌≡◌, ℕ, true, false, List, [], ◌∷◌}
-use Rattle.inbox.specs.declared.placed.Placed.{Placed}
-use Rattle.inbox.specs.declared.placed.Gone.{Gone}
+use Rattle.port_inbox.specs.declared.placed.Placed.{Placed}
+use Rattle.port_inbox.specs.declared.placed.Gone.{Gone}
 use Rattle.port_queue.specs.declared.rule.View.{View}
-use Rattle.inbox.specs.Put.{longer, shorter}
+use Rattle.port_inbox.specs.Put.{longer, shorter}
 
 -- the first pass, which the port splits into the owner's and the desk's
 abbrev pub whole : View

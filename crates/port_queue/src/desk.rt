@@ -5,7 +5,7 @@ ghost use Rattle.port_queue.specs.Views.{desk};
 
 use crate::rule::Pass;
 use crate::{Port, Sender, steps};
-use inbox::SenderNumber;
+use port_inbox::SenderNumber;
 use port_model::PortError;
 use std::marker::Model;
 

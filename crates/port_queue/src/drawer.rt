@@ -6,7 +6,7 @@ ghost use Rattle.port_model.specs.Take.{Takes};
 use crate::refused::refused;
 use crate::rule::{Pass, Queue};
 use crate::{Finished, Port, Sender, steps};
-use inbox::{Entry, Fuse, Placed, Refused, fused};
+use port_inbox::{Entry, Fuse, Placed, Refused, fused};
 use port_model::{PlainPort, PortError, Selection, Taken};
 use port_values::{Ticks, TimerKey};
 use std::alloc::Global;
@@ -27,7 +27,7 @@ pub struct Drawer {
 
 impl Model for Drawer {
     ghost use Rattle.std.specs.Prelude.{◌≡◌, None};
-    ghost use Rattle.inbox.specs.Ends.{OwnerState};
+    ghost use Rattle.port_inbox.specs.Ends.{OwnerState};
     ghost use Rattle.port_queue.specs.Ends.{IsOfOwner};
 
     ghost Value = { OwnerState };

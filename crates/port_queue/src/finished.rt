@@ -3,7 +3,7 @@
 ghost use Rattle.std.specs.Prelude.{◌≡◌};
 
 use crate::rule::Pass;
-use inbox::Entry;
+use port_inbox::Entry;
 use std::marker::Model;
 
 /// What an owner leaves at its end: the entries that are left, in order, and as a fact all that it had drawn by then.

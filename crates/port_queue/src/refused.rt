@@ -2,7 +2,7 @@
 
 ghost use Rattle.port_queue.specs.Words.{ComesBack};
 
-use inbox::Refused;
+use port_inbox::Refused;
 use port_model::PortError;
 
 /// The refusal of a call for want of memory, with the value that it was given.

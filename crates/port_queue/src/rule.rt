@@ -2,7 +2,7 @@
 
 use crossbeam_queue::protocol::{Join, Lesson, Outcome, Protocol, Split};
 use crossbeam_queue::{RuledSegQueue, SegPass};
-use inbox::{Gone, Placed, PutCount, SenderNumber};
+use port_inbox::{Gone, Placed, PutCount, SenderNumber};
 use std::collections::LinkedList;
 
 /// What a pass may do, and what it knows. No value of it is made.

@@ -4,7 +4,7 @@ ghost use Rattle.std.specs.Prelude.{◌≡◌, ◌+◌, [], true, MatchOption, M
 ghost use Rattle.port_queue.specs.Words.{desk, gathers, last_gathered, owner_of, sender, whole, without_last, Adds, Draws, HasGathered, IsFresh, IsSegPassOf, IsTimely};
 
 use crate::rule::{Ends, Gathers, NewSender, Pass, Popped, Pushed, Queue, SendsAgain};
-use inbox::Placed;
+use port_inbox::Placed;
 use std::alloc::{AllocError, Global};
 use std::sync::Wait;
 

@@ -7,27 +7,27 @@ use Rattle.port_values.specs.declared.item.SignalId.{SignalId}
 use Rattle.sdl_build.specs.Built.{IsSystem, IsTold}
 use Rattle.sdl_build.specs.Laws.{ProcessesCanRun}
 use Rattle.sdl_build.specs.Signals.{signal_of, signals_from}
-use Rattle.sdl_survey.specs.Lists.{AreMembers}
-use Rattle.sdl_survey.specs.Surroundings.{surroundings}
-use Rattle.sdl_survey.specs.Survey.{AreDefinitions, IsJoined, Survey, definitions_of}
+use Rattle.build_context.specs.Lists.{AreMembers}
+use Rattle.build_context.specs.Surroundings.{surroundings}
+use Rattle.build_context.specs.Survey.{AreDefinitions, IsJoined, Survey, definitions_of}
 use Rattle.sdl_build.proofs.MadeLemmas.{get-below, same-one}
 use Rattle.sdl_build.proofs.WholeLemmas.{faultless, is-given}
-use Rattle.sdl_channels.specs.declared.network.Network.{Network}
-use Rattle.sdl_complete.proofs.ProcessLemmas.{behaviour-given}
-use Rattle.sdl_complete.proofs.SeenLemmas.{signals-below}
-use Rattle.sdl_complete.specs.Names.{number_of_signal}
-use Rattle.sdl_complete.specs.Ranges.{AreBelow, IsBelow}
-use Rattle.sdl_declared.specs.Tables.{Rows}
-use Rattle.sdl_declared.specs.declared.entries.SignalListId.{SignalListId}
-use Rattle.sdl_declared.specs.Rows.{SignalRow}
-use Rattle.sdl_figures.specs.Figures.{all_durations, duration_at}
-use Rattle.sdl_figures.specs.Scopes.{scope_in}
-use Rattle.sdl_process.specs.Surroundings.{for_stimuli}
-use Rattle.sdl_scope.specs.Names.{first_of}
-use Rattle.sdl_sorts.specs.Scope.{SignalMeaning, meaning, signal, signal_in, timer}
-use Rattle.sdl_spaces.specs.declared.scope.ScopeId.TheVariants as scope
-use Rattle.sdl_stimuli.specs.Context.{members_of}
-use Rattle.sdl_stimuli.specs.Mentions.{number_of}
+use Rattle.route_network.specs.declared.network.Network.{Network}
+use Rattle.laws_complete.proofs.ProcessLemmas.{behaviour-given}
+use Rattle.laws_complete.proofs.SeenLemmas.{signals-below}
+use Rattle.laws_complete.specs.Names.{number_of_signal}
+use Rattle.laws_complete.specs.Ranges.{AreBelow, IsBelow}
+use Rattle.build_definitions.specs.Tables.{Rows}
+use Rattle.build_definitions.specs.declared.entries.SignalListId.{SignalListId}
+use Rattle.build_definitions.specs.Rows.{SignalRow}
+use Rattle.build_constants.specs.Figures.{all_durations, duration_at}
+use Rattle.build_constants.specs.Scopes.{scope_in}
+use Rattle.build_process.specs.Surroundings.{for_stimuli}
+use Rattle.build_limits.specs.Names.{first_of}
+use Rattle.build_expressions.specs.Scope.{SignalMeaning, meaning, signal, signal_in, timer}
+use Rattle.build_scopes.specs.declared.scope.ScopeId.TheVariants as scope
+use Rattle.build_stimuli.specs.Context.{members_of}
+use Rattle.build_stimuli.specs.Mentions.{number_of}
 use Rattle.sdl_system.specs.Soundness.{Keeps}
 use Rattle.sdl_system.specs.System.{SystemValue}
 use Rattle.sdl_tree.specs.Tree.{ProcessDefinition, Tree}

@@ -2,23 +2,23 @@
 use Rattle.std.proofs.Common.{◌≡◌, ◌∙◌, ◌+◌, ◌<◌, ◌++◌, ℕ, Bool, zero, suc, Contains, List, [], ◌∷◌, Option, None, Some, IfOk, OnOk, Result, Ok, Err, ap, arith, inl, inr, length, map, refl, slice_get, subst, sym}
 use Rattle.std.proofs.lemmas.Option.{slice_get-get_or}
 use Rattle.std.specs.Global.{Vec}
-use Rattle.sdl_survey.specs.Processes.{IsMadeFrom}
+use Rattle.build_context.specs.Processes.{IsMadeFrom}
 use Rattle.sdl_build.specs.Made.{AreMade, AreProcessesOr, IsMadeAt, WholeList}
 use Rattle.sdl_build.specs.Faulty.{NotesAt, NotesBodies}
 use Rattle.sdl_build.specs.Faulty as notes
-use Rattle.sdl_survey.proofs.ProcessLemmas.{length-map}
-use Rattle.sdl_survey.specs.Headings.{IsValidSet}
-use Rattle.sdl_survey.specs.Surroundings.{surroundings}
-use Rattle.sdl_survey.specs.Survey.{IsNetwork, Survey}
-use Rattle.sdl_declared.specs.Rows.{ProcessRow}
-use Rattle.sdl_declared.specs.Tables.{Rows}
-use Rattle.sdl_names.specs.declared.declared.Declared.{Declared}
-use Rattle.sdl_signal_lists.specs.Numbered.{numbered}
-use Rattle.sdl_process.specs.Faulty.{NotesBody}
-use Rattle.sdl_faults.specs.Faults.{Told}
-use Rattle.sdl_routes.proofs.TableLemmas.{get_push}
-use Rattle.sdl_routes.specs.Valid.{AreValid}
-use Rattle.sdl_channels.specs.declared.network.Network.{Network}
+use Rattle.build_context.proofs.ProcessLemmas.{length-map}
+use Rattle.build_context.specs.Headings.{IsValidSet}
+use Rattle.build_context.specs.Surroundings.{surroundings}
+use Rattle.build_context.specs.Survey.{IsNetwork, Survey}
+use Rattle.build_definitions.specs.Rows.{ProcessRow}
+use Rattle.build_definitions.specs.Tables.{Rows}
+use Rattle.build_names.specs.declared.declared.Declared.{Declared}
+use Rattle.build_network.specs.Numbered.{numbered}
+use Rattle.build_process.specs.Faulty.{NotesBody}
+use Rattle.build_faults.specs.Faults.{Told}
+use Rattle.route_table.proofs.TableLemmas.{get_push}
+use Rattle.route_table.specs.Valid.{AreValid}
+use Rattle.route_network.specs.declared.network.Network.{Network}
 use Rattle.std.proofs.lemmas.Option.{none-some}
 use Rattle.sdl_system.specs.declared.id.ProcessId.{ProcessId}
 use Rattle.sdl_system.specs.declared.process.Process.{Process}

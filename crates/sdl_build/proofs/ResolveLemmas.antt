@@ -8,22 +8,22 @@ use Rattle.sdl_build.specs.Made.{AreProcessesOr, IsComposedIf}
 use Rattle.sdl_build.specs.Outcome.{IsMadeBehind, IsMadeOf, IsMadeOn, IsMadeWith, IsRefusedAs, Tells, is_limit, is_past_limit}
 use Rattle.sdl_build.specs.Outcome as outcome
 use Rattle.sdl_build.specs.Signals.{signals_from}
-use Rattle.sdl_survey.specs.Survey.{Definitions, IsJoined, Survey, definitions_of}
+use Rattle.build_context.specs.Survey.{Definitions, IsJoined, Survey, definitions_of}
 use Rattle.sdl_build.specs.declared.error.BuildError.{BuildError}
 use Rattle.sdl_build.specs.declared.error.BuildError.TheVariants as error
 use Rattle.sdl_build.proofs.MadeLemmas.{same-one}
 use Rattle.sdl_build.proofs.WholeLemmas.{none-missing}
-use Rattle.sdl_declared.specs.Parts.{all_sort_faults, parts_in}
-use Rattle.sdl_declared.specs.Tables.{Rows, rows_in}
-use Rattle.sdl_figures.specs.Figures.{all_durations, figures_faults}
-use Rattle.sdl_figures.specs.Synonyms.{AreSynonymConstants}
-use Rattle.sdl_names.specs.Meanings.{duplicate_faults}
-use Rattle.sdl_names.specs.Spaces.{AreNamesOf}
-use Rattle.sdl_faults.proofs.FaultLemmas.{both_noted}
-use Rattle.sdl_faults.specs.Faults.{Told, least_of}
-use Rattle.sdl_scope.specs.Limits.{limit_faults}
-use Rattle.sdl_faults.specs.declared.fault.Kind.{Kind}
-use Rattle.sdl_faults.specs.declared.fault.Kind.TheVariants as kind
+use Rattle.build_definitions.specs.Parts.{all_sort_faults, parts_in}
+use Rattle.build_definitions.specs.Tables.{Rows, rows_in}
+use Rattle.build_constants.specs.Figures.{all_durations, figures_faults}
+use Rattle.build_constants.specs.Synonyms.{AreSynonymConstants}
+use Rattle.build_names.specs.Meanings.{duplicate_faults}
+use Rattle.build_names.specs.Spaces.{AreNamesOf}
+use Rattle.build_faults.proofs.FaultLemmas.{both_noted}
+use Rattle.build_faults.specs.Faults.{Told, least_of}
+use Rattle.build_limits.specs.Limits.{limit_faults}
+use Rattle.build_faults.specs.declared.fault.Kind.{Kind}
+use Rattle.build_faults.specs.declared.fault.Kind.TheVariants as kind
 use Rattle.sdl_system.specs.System.{SystemValue}
 use Rattle.sdl_system.specs.declared.process.Process.{Process}
 use Rattle.sdl_tree.specs.Tree.{Tree}

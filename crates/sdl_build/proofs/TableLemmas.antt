@@ -1,10 +1,10 @@
 -- Tables that are made entry by entry.
 use Rattle.std.proofs.Common.{◌≡◌, ◌∙◌, ◌++◌, ◌⊎◌, inl, inr, List, [], ◌∷◌, Option, ap, map, refl, sym, ℤ}
-use Rattle.sdl_states.proofs.AnswerLemmas.{append-nil}
+use Rattle.build_states.proofs.AnswerLemmas.{append-nil}
 use Rattle.sdl_build.specs.Signals.{Signal, signals_from}
-use Rattle.sdl_declared.specs.Rows.{SignalRow}
-use Rattle.sdl_declared.specs.Seen.{signal_seen}
-use Rattle.sdl_declared.specs.declared.entries.SignalEntry.{SignalEntry}
+use Rattle.build_definitions.specs.Rows.{SignalRow}
+use Rattle.build_definitions.specs.Seen.{signal_seen}
+use Rattle.build_definitions.specs.declared.entries.SignalEntry.{SignalEntry}
 
 no-durations : (rows : List SignalRow) → signals_from rows [] ≡ []
 no-durations [] = refl

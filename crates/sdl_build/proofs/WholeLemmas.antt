@@ -5,30 +5,30 @@ use Rattle.std.proofs.lemmas.Option.{slice_get_within}
 use Rattle.sdl_build.specs.Built.{IsMissing, IsTold}
 use Rattle.sdl_build.specs.Faulty.{NotesBodies, definition_faults}
 use Rattle.sdl_build.specs.Faulty as notes
-use Rattle.sdl_survey.specs.Surroundings.{surroundings}
-use Rattle.sdl_survey.specs.Survey.{AreDefinitions, Survey, definitions_of}
+use Rattle.build_context.specs.Surroundings.{surroundings}
+use Rattle.build_context.specs.Survey.{AreDefinitions, Survey, definitions_of}
 use Rattle.sdl_build.proofs.MadeLemmas.{same-one}
-use Rattle.sdl_complete.proofs.LabelLemmas.{labels-given}
-use Rattle.sdl_complete.proofs.ProcessLemmas.{process-given}
-use Rattle.sdl_complete.proofs.SeenLemmas.{durations-given, scopes-complete}
-use Rattle.sdl_complete.specs.Complete.{IsComplete}
-use Rattle.sdl_complete.specs.Names.{IsFaultless}
-use Rattle.sdl_complete.specs.Processes.{IsGiven}
-use Rattle.sdl_declared.specs.Parts.{all_sort_faults}
-use Rattle.sdl_declared.specs.Rows.{ProcessRow}
-use Rattle.sdl_declared.specs.Tables.{Rows}
-use Rattle.sdl_figures.specs.Figures.{all_durations, figures_faults}
-use Rattle.sdl_figures.specs.Scopes.{scope_in}
-use Rattle.sdl_figures.specs.Synonyms.{AreSynonymConstants}
-use Rattle.sdl_names.specs.Meanings.{duplicate_faults}
-use Rattle.sdl_names.specs.Spaces.{AreNamesOf}
-use Rattle.sdl_network.specs.Network.{network_faults}
-use Rattle.sdl_process.specs.Faulty.{body_faults}
-use Rattle.sdl_process.specs.Surroundings.{for_transitions}
-use Rattle.sdl_faults.proofs.FaultLemmas.{none_noted}
-use Rattle.sdl_faults.specs.Faults.{Told, least_of}
-use Rattle.sdl_scope.specs.Limits.{limit_faults}
-use Rattle.sdl_spaces.specs.declared.scope.ScopeId.TheVariants as scope
+use Rattle.laws_complete.proofs.LabelLemmas.{labels-given}
+use Rattle.laws_complete.proofs.ProcessLemmas.{process-given}
+use Rattle.laws_complete.proofs.SeenLemmas.{durations-given, scopes-complete}
+use Rattle.laws_complete.specs.Complete.{IsComplete}
+use Rattle.laws_complete.specs.Names.{IsFaultless}
+use Rattle.laws_complete.specs.Processes.{IsGiven}
+use Rattle.build_definitions.specs.Parts.{all_sort_faults}
+use Rattle.build_definitions.specs.Rows.{ProcessRow}
+use Rattle.build_definitions.specs.Tables.{Rows}
+use Rattle.build_constants.specs.Figures.{all_durations, figures_faults}
+use Rattle.build_constants.specs.Scopes.{scope_in}
+use Rattle.build_constants.specs.Synonyms.{AreSynonymConstants}
+use Rattle.build_names.specs.Meanings.{duplicate_faults}
+use Rattle.build_names.specs.Spaces.{AreNamesOf}
+use Rattle.build_network.specs.Network.{network_faults}
+use Rattle.build_process.specs.Faulty.{body_faults}
+use Rattle.build_process.specs.Surroundings.{for_transitions}
+use Rattle.build_faults.proofs.FaultLemmas.{none_noted}
+use Rattle.build_faults.specs.Faults.{Told, least_of}
+use Rattle.build_limits.specs.Limits.{limit_faults}
+use Rattle.build_scopes.specs.declared.scope.ScopeId.TheVariants as scope
 use Rattle.sdl_tree.specs.Tree.{Tree}
 
 -- ---- nothing is told

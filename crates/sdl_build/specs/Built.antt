@@ -3,17 +3,17 @@ use Rattle.std.specs.Prelude.{◌≡◌, ℕ, ◌+◌, ◌++◌, List, [], ◌�
 use Rattle.port_values.specs.declared.item.SignalId.{SignalId}
 use Rattle.sdl_build.specs.Faulty.{NotesRest, definition_faults}
 use Rattle.sdl_build.specs.Signals.{signal_of, signals_from}
-use Rattle.sdl_survey.specs.Processes.{IsProcess}
-use Rattle.sdl_survey.specs.Surroundings.{surroundings}
-use Rattle.sdl_survey.specs.Survey.{AreDefinitions, Definitions, IsJoined, Survey, definitions_of}
-use Rattle.sdl_declared.specs.Rows.{ProcessRow, SignalRow}
-use Rattle.sdl_figures.specs.Figures.{all_durations}
-use Rattle.sdl_process.specs.Refused.{IsRefused}
-use Rattle.sdl_faults.specs.Faults.{Told, least_of}
-use Rattle.sdl_scope.specs.Names.{first_of}
-use Rattle.sdl_faults.specs.declared.fault.Kind.TheVariants.{Limit}
-use Rattle.sdl_spaces.specs.Spaces.{entry_if, is_same_scope}
-use Rattle.sdl_spaces.specs.declared.scope.ScopeId.TheVariants as scope
+use Rattle.build_context.specs.Processes.{IsProcess}
+use Rattle.build_context.specs.Surroundings.{surroundings}
+use Rattle.build_context.specs.Survey.{AreDefinitions, Definitions, IsJoined, Survey, definitions_of}
+use Rattle.build_definitions.specs.Rows.{ProcessRow, SignalRow}
+use Rattle.build_constants.specs.Figures.{all_durations}
+use Rattle.build_process.specs.Refused.{IsRefused}
+use Rattle.build_faults.specs.Faults.{Told, least_of}
+use Rattle.build_limits.specs.Names.{first_of}
+use Rattle.build_faults.specs.declared.fault.Kind.TheVariants.{Limit}
+use Rattle.build_scopes.specs.Spaces.{entry_if, is_same_scope}
+use Rattle.build_scopes.specs.declared.scope.ScopeId.TheVariants as scope
 use Rattle.sdl_system.specs.System.{SystemValue, meaning_of}
 use Rattle.sdl_system.specs.declared.id.ProcessId.{ProcessId}
 use Rattle.sdl_system.specs.declared.process.Process.{Process}

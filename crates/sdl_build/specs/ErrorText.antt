@@ -4,8 +4,8 @@ use Rattle.std.specs.String.{string_bytes}
 use Rattle.sdl_build.specs.declared.error.BuildError.{BuildError}
 use Rattle.sdl_build.specs.declared.error.BuildError.TheVariants as error
 use Rattle.sdl_lex.specs.Place.{place_text}
-use Rattle.sdl_faults.specs.declared.fault.Kind.{Kind}
-use Rattle.sdl_faults.specs.declared.fault.Kind.TheVariants.{Unknown, Duplicate, Sort, TwiceInState, NoState, NoLabel, NoRoute, BadCount, NoEnd, Limit}
+use Rattle.build_faults.specs.declared.fault.Kind.{Kind}
+use Rattle.build_faults.specs.declared.fault.Kind.TheVariants.{Unknown, Duplicate, Sort, TwiceInState, NoState, NoLabel, NoRoute, BadCount, NoEnd, Limit}
 
 -- the name of the rule that is broken
 abbrev pub kind_text : Kind → List ℕ

@@ -1,15 +1,15 @@
 -- The rules that are broken in a specification, each with the word where it is.
 use Rattle.std.specs.Prelude.{◌≡◌, ℕ, suc, zero, ◌++◌, List, Option, Some, length, slice_get}
-use Rattle.sdl_survey.specs.Surroundings.{surroundings}
-use Rattle.sdl_survey.specs.Survey.{Definitions, Survey}
-use Rattle.sdl_declared.specs.Parts.{all_sort_faults}
-use Rattle.sdl_declared.specs.Rows.{ProcessRow}
-use Rattle.sdl_figures.specs.Figures.{figures_faults}
-use Rattle.sdl_names.specs.Meanings.{duplicate_faults}
-use Rattle.sdl_network.specs.Network.{network_faults}
-use Rattle.sdl_process.specs.Faulty.{NotesBody}
-use Rattle.sdl_faults.specs.Faults.{Told, least_of}
-use Rattle.sdl_scope.specs.Limits.{limit_faults}
+use Rattle.build_context.specs.Surroundings.{surroundings}
+use Rattle.build_context.specs.Survey.{Definitions, Survey}
+use Rattle.build_definitions.specs.Parts.{all_sort_faults}
+use Rattle.build_definitions.specs.Rows.{ProcessRow}
+use Rattle.build_constants.specs.Figures.{figures_faults}
+use Rattle.build_names.specs.Meanings.{duplicate_faults}
+use Rattle.build_network.specs.Network.{network_faults}
+use Rattle.build_process.specs.Faulty.{NotesBody}
+use Rattle.build_faults.specs.Faults.{Told, least_of}
+use Rattle.build_limits.specs.Limits.{limit_faults}
 use Rattle.sdl_tree.specs.Tree.{Tree}
 
 -- those of its definitions: limits that are passed, names of sorts that are none, names that are declared twice, and

@@ -1,13 +1,13 @@
 -- What holds of each process of a system that is what a specification says.
 use Rattle.std.specs.Prelude.{◌≡◌, All, Some, length, slice_get}
 use Rattle.sdl_build.specs.Built.{IsBuilt}
-use Rattle.sdl_survey.specs.Headings.{IsHeading}
-use Rattle.sdl_survey.specs.Surroundings.{surroundings}
-use Rattle.sdl_survey.specs.Survey.{Survey}
-use Rattle.sdl_declared.specs.Rows.{ProcessRow}
-use Rattle.sdl_process.specs.Made.{IsHeaded}
-use Rattle.sdl_process.specs.Meant.{IsBehaviour}
-use Rattle.sdl_process.specs.declared.heading.Heading.{Heading}
+use Rattle.build_context.specs.Headings.{IsHeading}
+use Rattle.build_context.specs.Surroundings.{surroundings}
+use Rattle.build_context.specs.Survey.{Survey}
+use Rattle.build_definitions.specs.Rows.{ProcessRow}
+use Rattle.build_process.specs.Made.{IsHeaded}
+use Rattle.build_process.specs.Meant.{IsBehaviour}
+use Rattle.build_process.specs.declared.heading.Heading.{Heading}
 use Rattle.sdl_system.specs.Behaviour.{Behaviour, Means}
 use Rattle.sdl_system.specs.Soundness.{Keeps}
 use Rattle.sdl_system.specs.System.{SystemValue}

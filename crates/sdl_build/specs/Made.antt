@@ -2,12 +2,12 @@
 use Rattle.std.specs.Prelude.{◌≡◌, ℕ, ℤ, List, Option, None, Some, Contains, map, slice_get}
 use Rattle.std.specs.Global.{Vec}
 use Rattle.sdl_build.specs.Built.{AreProcesses, IsMissing, named_processes, own_from}
-use Rattle.sdl_survey.specs.Processes.{IsMadeFrom}
+use Rattle.build_context.specs.Processes.{IsMadeFrom}
 use Rattle.sdl_build.specs.Signals.{signal_of, signals_from}
-use Rattle.sdl_survey.specs.Survey.{Survey}
-use Rattle.sdl_declared.specs.Rows.{ProcessRow}
-use Rattle.sdl_declared.specs.Tables.{Rows}
-use Rattle.sdl_scope.specs.Names.{first_of}
+use Rattle.build_context.specs.Survey.{Survey}
+use Rattle.build_definitions.specs.Rows.{ProcessRow}
+use Rattle.build_definitions.specs.Tables.{Rows}
+use Rattle.build_limits.specs.Names.{first_of}
 use Rattle.sdl_system.specs.System.{SystemValue, meaning_of}
 use Rattle.sdl_system.specs.declared.id.ProcessId.{ProcessId}
 use Rattle.sdl_system.specs.declared.process.Process.{Process}

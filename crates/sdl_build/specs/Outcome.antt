@@ -2,19 +2,19 @@
 use Rattle.std.specs.Prelude.{◌≡◌, Bool, true, false, List, Option, None, Some}
 use Rattle.sdl_build.specs.Built.{IsBroken, IsSystemOr, IsTold}
 use Rattle.sdl_build.specs.Faulty.{NotesRest}
-use Rattle.sdl_survey.specs.Survey.{AreDefinitions, Definitions, IsJoined, Survey, definitions_of}
+use Rattle.build_context.specs.Survey.{AreDefinitions, Definitions, IsJoined, Survey, definitions_of}
 use Rattle.sdl_build.specs.declared.error.BuildError.{BuildError}
 use Rattle.sdl_build.specs.declared.error.BuildError.TheVariants as error
-use Rattle.sdl_declared.specs.Tables.{Rows}
-use Rattle.sdl_figures.specs.Figures.{figures_faults}
-use Rattle.sdl_figures.specs.Synonyms.{AreSynonymConstants}
-use Rattle.sdl_names.specs.Meanings.{duplicate_faults}
-use Rattle.sdl_names.specs.Spaces.{AreNamesOf}
-use Rattle.sdl_names.specs.declared.declared.Declared.{Declared}
-use Rattle.sdl_faults.specs.Faults.{Told, least_of, told_at}
-use Rattle.sdl_faults.specs.declared.fault.Kind.{Kind}
-use Rattle.sdl_faults.specs.declared.fault.Kind.TheVariants.{Limit}
-use Rattle.sdl_sorts.specs.declared.scope.Constant.{Constant}
+use Rattle.build_definitions.specs.Tables.{Rows}
+use Rattle.build_constants.specs.Figures.{figures_faults}
+use Rattle.build_constants.specs.Synonyms.{AreSynonymConstants}
+use Rattle.build_names.specs.Meanings.{duplicate_faults}
+use Rattle.build_names.specs.Spaces.{AreNamesOf}
+use Rattle.build_names.specs.declared.declared.Declared.{Declared}
+use Rattle.build_faults.specs.Faults.{Told, least_of, told_at}
+use Rattle.build_faults.specs.declared.fault.Kind.{Kind}
+use Rattle.build_faults.specs.declared.fault.Kind.TheVariants.{Limit}
+use Rattle.build_expressions.specs.declared.scope.Constant.{Constant}
 use Rattle.sdl_system.specs.System.{SystemValue}
 use Rattle.sdl_tree.specs.Tree.{Tree}
 use Rattle.sdl_tree.specs.Views.{name_value}

@@ -3,16 +3,16 @@
 ghost use Rattle.std.specs.Prelude.{◌≡◌, ℕ, List, map, IfOk};
 ghost use Rattle.sdl_build.specs.Built.{named_processes, own_from};
 ghost use Rattle.sdl_build.specs.Signals.{signal_of, signals_from};
-ghost use Rattle.sdl_declared.specs.Tables.{rows_of};
-ghost use Rattle.sdl_scope.specs.Names.{first_of};
+ghost use Rattle.build_definitions.specs.Tables.{rows_of};
+ghost use Rattle.build_limits.specs.Names.{first_of};
 ghost use Rattle.sdl_system.specs.System.{meaning_of, named};
 
 use crate::own::{own_signals, process_names};
 use crate::signals::signals_of;
+use build_constants::Figures;
+use build_definitions::Tables;
 use indexmap::IndexMap;
 use port_values::SignalId;
-use sdl_declared::Tables;
-use sdl_figures::Figures;
 use sdl_system::{ProcessId, Signal};
 use std::alloc::{AllocError, Global};
 

@@ -3,9 +3,9 @@
 ghost use Rattle.std.specs.Prelude.{◌≡◌, IfOk};
 ghost use Rattle.sdl_build.specs.ErrorText.{kind_text};
 ghost use Rattle.sdl_build.specs.Outcome.{Tells};
-ghost use Rattle.sdl_faults.specs.Faults.{told_of};
+ghost use Rattle.build_faults.specs.Faults.{told_of};
 
-use sdl_faults::{Fault, Kind};
+use build_faults::{Fault, Kind};
 use sdl_tree::Name;
 use std::alloc::{AllocError, Global};
 use std::error::Error;

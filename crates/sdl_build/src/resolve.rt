@@ -1,22 +1,22 @@
 //! The system of a specification, or why there is none.
 
 ghost use Rattle.std.specs.Prelude.{◌≡◌, None, IfErr, IfOk};
-ghost use Rattle.sdl_survey.specs.Around.{AreFigures, definitions_with};
+ghost use Rattle.build_context.specs.Around.{AreFigures, definitions_with};
 ghost use Rattle.sdl_build.specs.Built.{IsBuilt};
 ghost use Rattle.sdl_build.specs.Outcome.{IsMadeBehind, IsMadeOf, IsMadeOn, IsMadeWith, IsRefusedAs, is_past_limit};
-ghost use Rattle.sdl_declared.specs.Tables.{rows_of};
-ghost use Rattle.sdl_names.specs.Spaces.{AreNamesOf};
-ghost use Rattle.sdl_faults.specs.Faults.{told};
+ghost use Rattle.build_definitions.specs.Tables.{rows_of};
+ghost use Rattle.build_names.specs.Spaces.{AreNamesOf};
+ghost use Rattle.build_faults.specs.Faults.{told};
 ghost use Rattle.sdl_tree.specs.Views.{tree_value};
 
 use crate::error::BuildError;
 use crate::system::{processes_in, system_with};
-use sdl_declared::Tables;
-use sdl_faults::{Faults, Kind};
-use sdl_figures::Figures;
-use sdl_names::Declared;
-use sdl_scope::note_limits;
-use sdl_survey::Joined;
+use build_constants::Figures;
+use build_context::Joined;
+use build_definitions::Tables;
+use build_faults::{Faults, Kind};
+use build_limits::note_limits;
+use build_names::Declared;
 use sdl_system::System;
 use sdl_tree::Tree;
 use std::alloc::{AllocError, Global};

@@ -2,10 +2,10 @@
 
 ghost use Rattle.std.specs.Prelude.{◌≡◌, flat_map, map, IfOk};
 ghost use Rattle.sdl_build.specs.Signals.{known_sort, signal_from, signal_of, signals_from, timer_at, timer_of};
-ghost use Rattle.sdl_declared.specs.Seen.{kind_seen, signal_seen};
+ghost use Rattle.build_definitions.specs.Seen.{kind_seen, signal_seen};
 
-use sdl_declared::{SignalEntry, SignalKind};
-use sdl_spaces::ScopeId;
+use build_definitions::{SignalEntry, SignalKind};
+use build_scopes::ScopeId;
 use sdl_system::{Signal, Sort, Timer};
 use std::alloc::{AllocError, Global};
 

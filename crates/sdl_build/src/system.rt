@@ -1,23 +1,23 @@
 //! The system of a specification, from its definitions on.
 
 ghost use Rattle.std.specs.Prelude.{◌≡◌, ◌<◌, length, IfOk, OnOk};
-ghost use Rattle.sdl_survey.specs.Around.{AreKnown, survey_of};
+ghost use Rattle.build_context.specs.Around.{AreKnown, survey_of};
 ghost use Rattle.sdl_build.specs.Faulty.{NotesAt, NotesBodies};
-ghost use Rattle.sdl_survey.specs.Headings.{IsValidSet};
+ghost use Rattle.build_context.specs.Headings.{IsValidSet};
 ghost use Rattle.sdl_build.specs.Made.{AreMade, AreProcessesOr, IsComposed, IsComposedIf, IsMadeAt, WholeList};
-ghost use Rattle.sdl_declared.specs.Tables.{rows_of};
-ghost use Rattle.sdl_channels.specs.SignalLists.{AreSets};
-ghost use Rattle.sdl_routes.specs.Valid.{AreValid};
-ghost use Rattle.sdl_faults.specs.Faults.{told};
+ghost use Rattle.build_definitions.specs.Tables.{rows_of};
+ghost use Rattle.route_network.specs.SignalLists.{AreSets};
+ghost use Rattle.route_table.specs.Valid.{AreValid};
+ghost use Rattle.build_faults.specs.Faults.{told};
 
 use crate::defined::Defined;
-use sdl_channels::counted;
-use sdl_declared::Tables;
-use sdl_faults::Faults;
-use sdl_figures::Figures;
-use sdl_names::Declared;
-use sdl_routes::valid_sets;
-use sdl_survey::{Joined, process_at};
+use build_constants::Figures;
+use build_context::{Joined, process_at};
+use build_definitions::Tables;
+use build_faults::Faults;
+use build_names::Declared;
+use route_network::counted;
+use route_table::valid_sets;
 use sdl_system::{Process, ProcessId, Routes, SignalSet, System};
 use std::alloc::{AllocError, Global};
 

@@ -2,7 +2,7 @@
 use Rattle.std.proofs.Common.{◌≡◌, sym, subst, refl, inl, inr, ℕ, List, Option, Bool, true, false, Result, Ok, Err, IfOk, IfErr, OnOk}
 use Rattle.std.specs.Io.KnownBytes.{Appends}
 use Rattle.sdl_report.specs.ReportText.{report_text}
-use Rattle.sdl_record.specs.declared.record.Report.{Report}
+use Rattle.run_record.specs.declared.record.Report.{Report}
 use Rattle.sdl_system.specs.System.{SystemValue}
 use Rattle.sdl_engine.specs.Answer.{Allows, BreaksOff, FailsToTell, Faulted, Fails, IsRunOfInput, PrintsInput, Refuses, Says, SaysCut, SaysWhole, Tells, Written, outcome_by, outcome_of}
 use Rattle.sdl_engine.specs.Input.{IsRead}

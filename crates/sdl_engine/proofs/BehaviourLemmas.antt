@@ -4,16 +4,16 @@ use Rattle.std.proofs.lemmas.Option.{none-some}
 use Rattle.std.specs.List.{AllZip}
 use Rattle.sdl_build.specs.Built.{IsBuilt}
 use Rattle.sdl_build.specs.Laws.{CanRun}
-use Rattle.sdl_survey.specs.Surroundings.{surroundings}
-use Rattle.sdl_survey.specs.Survey.{Survey}
+use Rattle.build_context.specs.Surroundings.{surroundings}
+use Rattle.build_context.specs.Survey.{Survey}
 use Rattle.sdl_build.proofs.LawLemmas.{processes-can-run}
-use Rattle.sdl_courses.specs.Course.{AreBehaviours}
-use Rattle.sdl_declared.specs.Rows.{ProcessRow}
-use Rattle.sdl_process.specs.Made.{IsHeaded}
-use Rattle.sdl_process.specs.Meant.{IsBehaviour}
-use Rattle.sdl_process.specs.Surroundings.{Surroundings}
-use Rattle.sdl_process.specs.declared.heading.Heading.{Heading}
-use Rattle.sdl_runs.specs.Behaves.{Behaves}
+use Rattle.serial_order.specs.Course.{AreBehaviours}
+use Rattle.build_definitions.specs.Rows.{ProcessRow}
+use Rattle.build_process.specs.Made.{IsHeaded}
+use Rattle.build_process.specs.Meant.{IsBehaviour}
+use Rattle.build_process.specs.Surroundings.{Surroundings}
+use Rattle.build_process.specs.declared.heading.Heading.{Heading}
+use Rattle.run_semantics.specs.Behaves.{Behaves}
 use Rattle.sdl_system.specs.Behaviour.{Behaviour, variable_meaning}
 use Rattle.sdl_system.specs.Signal.{is_member}
 use Rattle.sdl_system.specs.System.{SystemValue}

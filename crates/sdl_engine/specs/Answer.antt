@@ -4,7 +4,7 @@ use Rattle.std.specs.Io.KnownBytes.{Appends, Keeps}
 use Rattle.sdl_build.specs.Built.{IsBuilt}
 use Rattle.sdl_build.specs.Outcome.{IsRefusedAs}
 use Rattle.sdl_build.specs.declared.error.BuildError.{BuildError}
-use Rattle.sdl_courses.specs.Report.{IsSerialReport}
+use Rattle.serial_order.specs.Report.{IsSerialReport}
 use Rattle.sdl_lex.specs.declared.error.LexError.TheVariants as lex
 use Rattle.sdl_parse.specs.Parser.{SpellsText}
 use Rattle.sdl_parse.specs.Parser as parser
@@ -12,7 +12,7 @@ use Rattle.sdl_parse.specs.declared.error.ParseError.{ParseError}
 use Rattle.sdl_parse.specs.declared.error.ParseError.TheVariants as parse
 use Rattle.sdl_report.specs.Gathered as gathered
 use Rattle.sdl_report.specs.ReportText.{report_text}
-use Rattle.sdl_record.specs.declared.record.Report.{Report}
+use Rattle.run_record.specs.declared.record.Report.{Report}
 use Rattle.sdl_script.specs.Script.{IsScript}
 use Rattle.sdl_script.specs.ScriptText.{SaysScript}
 use Rattle.sdl_script.specs.ScriptText as faults

@@ -1,12 +1,12 @@
 -- The behaviours that the text of a specification gives its processes.
 use Rattle.std.specs.Prelude.{◌≡◌, List, Some, length, slice_get}
-use Rattle.sdl_survey.specs.Headings.{IsHeading}
-use Rattle.sdl_survey.specs.Surroundings.{surroundings}
-use Rattle.sdl_survey.specs.Survey.{Survey}
-use Rattle.sdl_declared.specs.Rows.{ProcessRow}
-use Rattle.sdl_process.specs.Made.{IsHeaded}
-use Rattle.sdl_process.specs.Meant.{IsBehaviour}
-use Rattle.sdl_process.specs.declared.heading.Heading.{Heading}
+use Rattle.build_context.specs.Headings.{IsHeading}
+use Rattle.build_context.specs.Surroundings.{surroundings}
+use Rattle.build_context.specs.Survey.{Survey}
+use Rattle.build_definitions.specs.Rows.{ProcessRow}
+use Rattle.build_process.specs.Made.{IsHeaded}
+use Rattle.build_process.specs.Meant.{IsBehaviour}
+use Rattle.build_process.specs.declared.heading.Heading.{Heading}
 use Rattle.sdl_system.specs.Behaviour.{Behaviour}
 use Rattle.sdl_system.specs.System.{SystemValue}
 use Rattle.sdl_system.specs.declared.id.ProcessId.{ProcessId}

@@ -8,15 +8,15 @@ ghost use Rattle.sdl_engine.specs.Answer.{Allows, AllowsOf, IsAccepted, IsRunOf,
 use crate::input::{Input, parts};
 use crate::options::Command;
 use crate::refusal::Refusal;
+use run_record::Report;
 use sdl_build::build;
 use sdl_lex::LexError;
 use sdl_parse::{ParseError, parse};
 use sdl_print::print;
-use sdl_record::Report;
 use sdl_script::{Script, read_script};
-use sdl_serial::run_serial;
 use sdl_system::System;
 use sdl_tree::Tree;
+use serial_run::run_serial;
 use std::alloc::Global;
 
 /// What an input says that is accepted: the tree of its specification, the system of the tree, and the script for it.

@@ -4,7 +4,7 @@ use crate::options::Outcome;
 use sdl_build::BuildError;
 use sdl_parse::ParseError;
 use sdl_script::ScriptError;
-use sdl_serial::RunError;
+use serial_run::RunError;
 use std::error::Error;
 use std::fmt;
 

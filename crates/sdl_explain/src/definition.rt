@@ -3,10 +3,10 @@
 //! The names of a specification stand in six spaces, as in the look-up of names: signals with timers; signal lists;
 //! channels; blocks with processes; variables, parameters and synonyms; labels.
 
-use sdl_declared::Tables;
-use sdl_faults::Faults;
+use build_definitions::Tables;
+use build_faults::Faults;
+use build_scopes::ScopeId;
 use sdl_lex::Place;
-use sdl_spaces::ScopeId;
 use sdl_tree::{Name, Tree};
 use std::alloc::{AllocError, Global};
 

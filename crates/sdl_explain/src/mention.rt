@@ -1,8 +1,8 @@
 //! The first mention of a signal that a state mentions twice.
 
-use sdl_declared::Tables;
-use sdl_faults::{Faults, Token};
-use sdl_labels::states_of;
+use build_definitions::Tables;
+use build_faults::{Faults, Token};
+use build_labels::states_of;
 use sdl_lex::Place;
 use sdl_tree::{
     BodyPart, Input, InputPart, Inputs, Mark, Name, ProcessDefinition, SavePart, Saved,

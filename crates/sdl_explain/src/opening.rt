@@ -1,6 +1,6 @@
 //! The name that stands behind the word that opens what an `end..` word ends.
 
-use sdl_cursor::{PlacedWord, Word, placed_words};
+use parse_cursor::{PlacedWord, Word, placed_words};
 use sdl_lex::{Place, lex};
 use sdl_tree::Mark;
 use std::alloc::{AllocError, Global};

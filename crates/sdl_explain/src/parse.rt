@@ -9,7 +9,7 @@ use crate::excerpt::Excerpt;
 use crate::explanation::{Explanation, Other, Source};
 use crate::opening::opening_of;
 use crate::sentence::parse_advice;
-use sdl_cursor::Wanted;
+use parse_cursor::Wanted;
 use sdl_lex::{LexError, Place};
 use sdl_parse::ParseError;
 use std::alloc::{AllocError, Global};

@@ -1,2 +1,9 @@
+pub mod Ascending
+pub mod Bits
+pub mod Kept
+pub mod Made
+pub mod Members
 pub mod Moves
+pub mod Ranges
 pub mod Sums
+pub mod Without

@@ -1,5 +1,9 @@
 pub mod Ends
+pub mod Instances
 pub mod Numbers
+pub mod NumberSets
+pub mod Roster
 pub mod Rule
 pub mod Steps
 pub mod Views
+pub mod Words

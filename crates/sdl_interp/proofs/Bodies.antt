@@ -3,10 +3,10 @@ use Rattle.std.proofs.Common.{◌≡◌, ◌∙◌, sym, ap, subst, refl, ℕ, �
 use Rattle.std.proofs.lemmas.Option.{same_Some, slice_get-get_or, slice_get_within}
 use Rattle.std.proofs.lemmas.Slice.Zip.{AllZip-left, AllZip-right}
 use Rattle.port_values.specs.declared.item.SignalId.{SignalId}
-use Rattle.sdl_evaluation.specs.Environment.{Environment}
+use Rattle.run_evaluation.specs.Environment.{Environment}
 use Rattle.sdl_interp.specs.Selected.{IsTried}
-use Rattle.sdl_runs.specs.Reception.{Inputs, InputsFirst}
-use Rattle.sdl_runs.specs.Selection.{Tried, begins, fails, none_true, tried}
+use Rattle.run_semantics.specs.Reception.{Inputs, InputsFirst}
+use Rattle.run_semantics.specs.Selection.{Tried, begins, fails, none_true, tried}
 use Rattle.sdl_system.proofs.BehaviourLemmas.{reacts_as_meant}
 use Rattle.sdl_system.specs.Behaviour.{Behaviour, Means, MeansResponse, MeansState, MeansTable, Response, StateMeaning, input, priority_input, response_to, save}
 use Rattle.sdl_system.specs.Body.{Body}

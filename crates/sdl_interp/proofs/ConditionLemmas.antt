@@ -7,14 +7,14 @@ use Rattle.std.proofs.Math.ListN.{drop_of_length-le}
 use Rattle.std.proofs.lemmas.Option.{same_Some, slice_get-get_or, slice_get-map}
 use Rattle.std.proofs.lemmas.Slice.Zip.{AllZip-long}
 use Rattle.std.specs.List.{AllZip, list_any}
-use Rattle.sdl_evaluation.specs.Environment.{Environment}
-use Rattle.sdl_evaluation.specs.Memory.{FailsAs, wants_memory}
-use Rattle.sdl_evaluation.specs.Value.{truth_at}
+use Rattle.run_evaluation.specs.Environment.{Environment}
+use Rattle.run_evaluation.specs.Memory.{FailsAs, wants_memory}
+use Rattle.run_evaluation.specs.Value.{truth_at}
 use Rattle.sdl_interp.specs.Condition.{are_conditions}
-use Rattle.sdl_record.specs.declared.failure.Failure.{Failure}
-use Rattle.sdl_record.specs.declared.failure.Failure.TheVariants.{Memory}
-use Rattle.sdl_runs.specs.Fails.{conditions_of}
-use Rattle.sdl_runs.specs.Selection.{begins, failing, fails, first_failure, none_true, tried, tried_or}
+use Rattle.run_record.specs.declared.failure.Failure.{Failure}
+use Rattle.run_record.specs.declared.failure.Failure.TheVariants.{Memory}
+use Rattle.run_semantics.specs.Fails.{conditions_of}
+use Rattle.run_semantics.specs.Selection.{begins, failing, fails, first_failure, none_true, tried, tried_or}
 use Rattle.sdl_system.specs.Behaviour.{ContinuousSignal, MeansContinuous, condition_in}
 use Rattle.sdl_system.specs.Term.{Term, term_of}
 use Rattle.sdl_system.specs.declared.expression.Expression.{Expression}

@@ -1,6 +1,6 @@
 -- The first deed of a step: the start, what a take gives, a continuous signal, or a failure in a state.
 use Rattle.std.proofs.Common.{◌≡◌, ◌∙◌, sym, ap, subst, refl, ℕ, ◌≤◌, true, false, List, [], ◌∷◌, Some, slice_get}
-use Rattle.inbox.specs.Calls.{HasDrawn, after_draws, after_stop}
+use Rattle.port_inbox.specs.Calls.{HasDrawn, after_draws, after_stop}
 use Rattle.port_model.specs.History.{PortEvent, Stop, Take}
 use Rattle.port_model.specs.Port.{PortState}
 use Rattle.port_model.specs.Take.{name_of}
@@ -8,26 +8,26 @@ use Rattle.port_model.specs.declared.got.Got.{Got}
 use Rattle.port_model.specs.declared.selection.Class.{Class}
 use Rattle.port_model.specs.declared.taken.Taken.{Taken}
 use Rattle.port_model.specs.declared.taken.Taken.TheVariants.{Consumed, Discarded, Nothing}
-use Rattle.sdl_evaluation.specs.Environment.{Environment, environment}
-use Rattle.sdl_evaluation.specs.declared.identity.Identity.{Identity}
-use Rattle.sdl_evaluation.specs.declared.store.Store.{Store}
+use Rattle.run_evaluation.specs.Environment.{Environment, environment}
+use Rattle.run_evaluation.specs.declared.identity.Identity.{Identity}
+use Rattle.run_evaluation.specs.declared.store.Store.{Store}
 use Rattle.sdl_interp.specs.Selected.{CannotSelect}
 use Rattle.sdl_interp.specs.Stimulus.{Answers, FailsThen, Took}
 use Rattle.sdl_interp.specs.declared.stimulus.Led.{Led}
-use Rattle.sdl_record.specs.Event as event
-use Rattle.sdl_record.specs.Event.{Event, is_beginning, values_got}
-use Rattle.sdl_record.specs.declared.failure.Failure.{Failure}
-use Rattle.sdl_record.specs.declared.failure.Failure.TheVariants.{Memory}
-use Rattle.sdl_runs.proofs.Goes.{IsOneStep-first, goes_deed, goes_drawn_stopped, goes_stopped, goes_taken, goes_taken_stopped, goes_until}
-use Rattle.sdl_runs.proofs.Same.{fails_drawn, selecting_drawn, tried_drawn}
-use Rattle.sdl_runs.specs.Act.{Deed}
-use Rattle.sdl_runs.specs.Fails.{FailsIn, HasGiven, of_event, of_take}
-use Rattle.sdl_runs.specs.Goes.{Goes, IsFirst, IsOneStep, MachineValue, with_event}
-use Rattle.sdl_runs.specs.Leads.{Consumes, ConsumesFirst, Discards, FailsHere, Happens, Provides, Selecting}
-use Rattle.sdl_runs.specs.Place.{AtStart, Definition, Doing, Ended, In, Place, Receiving}
-use Rattle.sdl_runs.specs.Reception.{Inputs, InputsFirst, provided, receiving, taking}
-use Rattle.sdl_runs.specs.Selection.{begins, tried}
-use Rattle.sdl_runs.specs.World.{IsReading, IsTrueOfOne, WorldValue, time_after_one}
+use Rattle.run_record.specs.Event as event
+use Rattle.run_record.specs.Event.{Event, is_beginning, values_got}
+use Rattle.run_record.specs.declared.failure.Failure.{Failure}
+use Rattle.run_record.specs.declared.failure.Failure.TheVariants.{Memory}
+use Rattle.run_semantics.proofs.Goes.{IsOneStep-first, goes_deed, goes_drawn_stopped, goes_stopped, goes_taken, goes_taken_stopped, goes_until}
+use Rattle.run_semantics.proofs.Same.{fails_drawn, selecting_drawn, tried_drawn}
+use Rattle.run_semantics.specs.Act.{Deed}
+use Rattle.run_semantics.specs.Fails.{FailsIn, HasGiven, of_event, of_take}
+use Rattle.run_semantics.specs.Goes.{Goes, IsFirst, IsOneStep, MachineValue, with_event}
+use Rattle.run_semantics.specs.Leads.{Consumes, ConsumesFirst, Discards, FailsHere, Happens, Provides, Selecting}
+use Rattle.run_semantics.specs.Place.{AtStart, Definition, Doing, Ended, In, Place, Receiving}
+use Rattle.run_semantics.specs.Reception.{Inputs, InputsFirst, provided, receiving, taking}
+use Rattle.run_semantics.specs.Selection.{begins, tried}
+use Rattle.run_semantics.specs.World.{IsReading, IsTrueOfOne, WorldValue, time_after_one}
 use Rattle.sdl_system.specs.Behaviour.{StateMeaning, response_to}
 use Rattle.sdl_system.specs.Body.{Body}
 use Rattle.sdl_system.specs.declared.id.StateId.{StateId}

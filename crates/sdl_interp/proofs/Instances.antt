@@ -1,9 +1,9 @@
 -- What holds of an instance: at its beginning, after a step, as something comes into its port, and as it is closed.
 use Rattle.std.proofs.Common.{◌≡◌, ◌∙◌, ◌==◌, if◌then◌else◌, zero, suc, sym, ap, subst, refl, ℕ, Bool, true, false, IsTrue, List, [], ◌∷◌, ◌++◌, append-nil, drop, map, None, Some, Result, Ok, Err, MatchResult}
-use Rattle.inbox.specs.Calls.{ComesBack, after_entry}
-use Rattle.inbox.specs.Ends.{AloneState, OwnerState, single}
-use Rattle.inbox.specs.declared.entry.Entry.TheVariants.{Timer}
-use Rattle.inbox.specs.declared.entry.Fuse.{Fuse}
+use Rattle.port_inbox.specs.Calls.{ComesBack, after_entry}
+use Rattle.port_inbox.specs.Ends.{AloneState, OwnerState, single}
+use Rattle.port_inbox.specs.declared.entry.Entry.TheVariants.{Timer}
+use Rattle.port_inbox.specs.declared.entry.Fuse.{Fuse}
 use Rattle.port_model.specs.declared.refused.Refused.{Refused}
 use Rattle.port_model.specs.Port.{PortState, expire_in, put_into}
 use Rattle.port_values.specs.declared.item.Item.{Item}
@@ -11,19 +11,19 @@ use Rattle.port_values.specs.declared.value.Value.{Value}
 use Rattle.sdl_interp.specs.Instance.{IsAtRest, IsClosed, IsInstance, closing, instance_of, variables_from}
 use Rattle.sdl_interp.specs.Stimulus.{IsAnswered, IsStepped, Responds, StepsFrom}
 use Rattle.sdl_interp.specs.declared.stimulus.Led.{Led}
-use Rattle.sdl_record.specs.Event as event
-use Rattle.sdl_record.specs.Event.{Event}
-use Rattle.sdl_record.specs.Record.{RecordValue, noted}
-use Rattle.sdl_runs.proofs.Histories.{run_cut, run_goes, run_hears_expiry, run_hears_put, run_rests, run_unstarted, run_waits}
-use Rattle.sdl_runs.specs.Goes.{IsOneStep, MachineValue}
-use Rattle.sdl_runs.specs.Instance.{HasRun, first_variables, parameters_from}
-use Rattle.sdl_runs.specs.Place.{Definition}
-use Rattle.sdl_runs.specs.World.{WorldValue}
-use Rattle.sdl_steps.specs.Machine.{IsReady, identity_of, place_of, value_of}
-use Rattle.sdl_steps.specs.Work.{IsOf}
-use Rattle.sdl_steps.specs.declared.machine.Machine.{Machine}
-use Rattle.sdl_steps.specs.declared.machine.Position.{Position}
-use Rattle.sdl_steps.specs.declared.machine.Position.TheVariants as at
+use Rattle.run_record.specs.Event as event
+use Rattle.run_record.specs.Event.{Event}
+use Rattle.run_record.specs.Record.{RecordValue, noted}
+use Rattle.run_semantics.proofs.Histories.{run_cut, run_goes, run_hears_expiry, run_hears_put, run_rests, run_unstarted, run_waits}
+use Rattle.run_semantics.specs.Goes.{IsOneStep, MachineValue}
+use Rattle.run_semantics.specs.Instance.{HasRun, first_variables, parameters_from}
+use Rattle.run_semantics.specs.Place.{Definition}
+use Rattle.run_semantics.specs.World.{WorldValue}
+use Rattle.run_transitions.specs.Machine.{IsReady, identity_of, place_of, value_of}
+use Rattle.run_transitions.specs.Work.{IsOf}
+use Rattle.run_transitions.specs.declared.machine.Machine.{Machine}
+use Rattle.run_transitions.specs.declared.machine.Position.{Position}
+use Rattle.run_transitions.specs.declared.machine.Position.TheVariants as at
 use Rattle.sdl_system.specs.Behaviour.{Behaviour, Means, VariableMeaning, variable_meaning}
 use Rattle.sdl_system.specs.System.{SystemValue}
 use Rattle.sdl_system.specs.declared.id.StateId.{StateId}

@@ -7,29 +7,29 @@ use Rattle.port_model.specs.Take.{name_of}
 use Rattle.port_model.specs.declared.got.Got.{Got}
 use Rattle.port_model.specs.declared.selection.Class.{Class}
 use Rattle.port_model.specs.declared.taken.Taken.TheVariants.{Consumed, Nothing}
-use Rattle.sdl_evaluation.specs.Environment.{Environment, environment}
-use Rattle.sdl_evaluation.specs.Memory.{wants_memory}
-use Rattle.sdl_evaluation.specs.declared.identity.Identity.{Identity}
-use Rattle.sdl_evaluation.specs.declared.store.Store.{Store}
+use Rattle.run_evaluation.specs.Environment.{Environment, environment}
+use Rattle.run_evaluation.specs.Memory.{wants_memory}
+use Rattle.run_evaluation.specs.declared.identity.Identity.{Identity}
+use Rattle.run_evaluation.specs.declared.store.Store.{Store}
 use Rattle.sdl_interp.proofs.Bodies.{input_begins, priority_begins, table_means, tried_none}
 use Rattle.sdl_interp.proofs.First.{consumes, consumes_first, fails_taken}
 use Rattle.sdl_interp.specs.Selected.{IsTried}
 use Rattle.sdl_interp.specs.Stimulus.{Answers, BeginsWith, FailsThen, Took}
 use Rattle.sdl_interp.specs.declared.stimulus.Led.{Led}
-use Rattle.sdl_record.specs.Event as event
-use Rattle.sdl_record.specs.Event.{values_got}
-use Rattle.sdl_record.specs.declared.failure.Failure.{Failure}
-use Rattle.sdl_record.specs.declared.failure.Failure.TheVariants.{Memory}
-use Rattle.sdl_runs.proofs.Goes.{step_on, waits_taken}
-use Rattle.sdl_runs.proofs.Same.{environment_drawn}
-use Rattle.sdl_runs.specs.Fails.{FailsIn, conditions_of, of_continuous, of_trying}
-use Rattle.sdl_runs.specs.Goes.{Goes, IsOneStep, MachineValue, Waits, with_event}
-use Rattle.sdl_runs.specs.Place.{Definition, In, Place, Receiving}
-use Rattle.sdl_runs.specs.Reception.{receiving}
-use Rattle.sdl_runs.specs.Selection.{fails, tried}
-use Rattle.sdl_runs.specs.World.{IsReading, WorldValue}
-use Rattle.sdl_steps.specs.Machine.{place_of}
-use Rattle.sdl_steps.specs.Work.{IsOf}
+use Rattle.run_record.specs.Event as event
+use Rattle.run_record.specs.Event.{values_got}
+use Rattle.run_record.specs.declared.failure.Failure.{Failure}
+use Rattle.run_record.specs.declared.failure.Failure.TheVariants.{Memory}
+use Rattle.run_semantics.proofs.Goes.{step_on, waits_taken}
+use Rattle.run_semantics.proofs.Same.{environment_drawn}
+use Rattle.run_semantics.specs.Fails.{FailsIn, conditions_of, of_continuous, of_trying}
+use Rattle.run_semantics.specs.Goes.{Goes, IsOneStep, MachineValue, Waits, with_event}
+use Rattle.run_semantics.specs.Place.{Definition, In, Place, Receiving}
+use Rattle.run_semantics.specs.Reception.{receiving}
+use Rattle.run_semantics.specs.Selection.{fails, tried}
+use Rattle.run_semantics.specs.World.{IsReading, WorldValue}
+use Rattle.run_transitions.specs.Machine.{place_of}
+use Rattle.run_transitions.specs.Work.{IsOf}
 use Rattle.sdl_system.specs.Behaviour.{ContinuousSignal, MeansContinuous}
 use Rattle.sdl_system.specs.Process.{reaction_in, table_of}
 use Rattle.sdl_system.specs.System.{SystemValue}

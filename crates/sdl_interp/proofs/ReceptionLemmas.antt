@@ -1,22 +1,22 @@
 -- The values of a signal go to the variables of its input, one after the other.
 use Rattle.std.proofs.Common.{◌≡◌, ◌⊎◌, ◌∙◌, inl, inr, sym, ap, subst, refl, List, [], ◌∷◌, Option, None, Some, Ok, Err, option_map, slice_get}
 use Rattle.std.proofs.lemmas.Option.{slice_get-map}
-use Rattle.inbox.specs.Ends.{OwnerState}
+use Rattle.port_inbox.specs.Ends.{OwnerState}
 use Rattle.port_model.specs.Port.{PortState}
 use Rattle.port_values.specs.declared.value.Value.{Value}
-use Rattle.sdl_evaluation.specs.Value.{placed}
-use Rattle.sdl_evaluation.specs.declared.store.Store.{Store}
+use Rattle.run_evaluation.specs.Value.{placed}
+use Rattle.run_evaluation.specs.declared.store.Store.{Store}
 use Rattle.sdl_interp.specs.Stimulus.{HasVariables}
-use Rattle.sdl_record.specs.Record.{RecordValue}
-use Rattle.sdl_record.specs.declared.failure.Failure.{Failure}
-use Rattle.sdl_runs.proofs.Goes.{goes_on, goes_turn, wrong_here, wrong_on}
-use Rattle.sdl_runs.specs.Goes.{AreInner, Goes, GoesWrong}
-use Rattle.sdl_runs.specs.Leads.{Turns}
-use Rattle.sdl_runs.specs.Place.{Definition, Doing, Receiving}
-use Rattle.sdl_runs.specs.Reception.{assigned, sort_in}
-use Rattle.sdl_runs.specs.World.{WorldValue}
-use Rattle.sdl_steps.specs.Machine.{identity_of, value_of}
-use Rattle.sdl_steps.specs.declared.machine.Machine.{Machine}
+use Rattle.run_record.specs.Record.{RecordValue}
+use Rattle.run_record.specs.declared.failure.Failure.{Failure}
+use Rattle.run_semantics.proofs.Goes.{goes_on, goes_turn, wrong_here, wrong_on}
+use Rattle.run_semantics.specs.Goes.{AreInner, Goes, GoesWrong}
+use Rattle.run_semantics.specs.Leads.{Turns}
+use Rattle.run_semantics.specs.Place.{Definition, Doing, Receiving}
+use Rattle.run_semantics.specs.Reception.{assigned, sort_in}
+use Rattle.run_semantics.specs.World.{WorldValue}
+use Rattle.run_transitions.specs.Machine.{identity_of, value_of}
+use Rattle.run_transitions.specs.declared.machine.Machine.{Machine}
 use Rattle.sdl_system.specs.Behaviour.{VariableMeaning, variable_meaning}
 use Rattle.sdl_system.specs.Body.{Body}
 use Rattle.sdl_system.specs.declared.id.StateId.{StateId}

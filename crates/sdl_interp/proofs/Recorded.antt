@@ -1,22 +1,22 @@
 -- What the work of an instance is once the first event of a step is recorded, and who it stays.
 use Rattle.std.proofs.Common.{◌≡◌, ◌∙◌, ap, refl, ℕ}
-use Rattle.inbox.specs.Calls.{after_stop}
-use Rattle.inbox.specs.Ends.{OwnerState}
+use Rattle.port_inbox.specs.Calls.{after_stop}
+use Rattle.port_inbox.specs.Ends.{OwnerState}
 use Rattle.port_model.specs.declared.got.Got.{Got}
 use Rattle.port_values.specs.declared.pid.Pid.{Pid}
 use Rattle.port_values.specs.declared.pid.Pid.TheVariants.{Of}
-use Rattle.sdl_evaluation.specs.declared.store.Store.{Store}
+use Rattle.run_evaluation.specs.declared.store.Store.{Store}
 use Rattle.sdl_interp.specs.Stimulus.{FailsThen}
 use Rattle.sdl_interp.specs.declared.stimulus.Led.{Led}
-use Rattle.sdl_record.specs.Event as event
-use Rattle.sdl_record.specs.Event.{Event}
-use Rattle.sdl_record.specs.Record.{RecordValue, noted, with_room}
-use Rattle.sdl_record.specs.declared.failure.Failure.{Failure}
-use Rattle.sdl_runs.specs.Goes.{MachineValue, with_event}
-use Rattle.sdl_runs.specs.Reception.{provided, sender_of, taking}
-use Rattle.sdl_runs.specs.World.{WorldValue}
-use Rattle.sdl_steps.specs.Machine.{IsSameInstance, identity_of, value_of}
-use Rattle.sdl_steps.specs.declared.machine.Machine.{Machine}
+use Rattle.run_record.specs.Event as event
+use Rattle.run_record.specs.Event.{Event}
+use Rattle.run_record.specs.Record.{RecordValue, noted, with_room}
+use Rattle.run_record.specs.declared.failure.Failure.{Failure}
+use Rattle.run_semantics.specs.Goes.{MachineValue, with_event}
+use Rattle.run_semantics.specs.Reception.{provided, sender_of, taking}
+use Rattle.run_semantics.specs.World.{WorldValue}
+use Rattle.run_transitions.specs.Machine.{IsSameInstance, identity_of, value_of}
+use Rattle.run_transitions.specs.declared.machine.Machine.{Machine}
 
 -- ---- the work
 

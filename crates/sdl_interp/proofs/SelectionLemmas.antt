@@ -12,19 +12,19 @@ use Rattle.port_model.specs.Selection as selection
 use Rattle.port_values.specs.declared.item.SignalId.{SignalId}
 use Rattle.port_model.specs.declared.selection.Class.{Class}
 use Rattle.port_model.specs.declared.selection.Class.TheVariants as class
-use Rattle.sdl_evaluation.specs.Environment.{Environment, environment}
-use Rattle.sdl_evaluation.specs.Value.{truth_at}
-use Rattle.sdl_evaluation.specs.declared.identity.Identity.{Identity}
-use Rattle.sdl_evaluation.specs.declared.store.Store.{Store}
+use Rattle.run_evaluation.specs.Environment.{Environment, environment}
+use Rattle.run_evaluation.specs.Value.{truth_at}
+use Rattle.run_evaluation.specs.declared.identity.Identity.{Identity}
+use Rattle.run_evaluation.specs.declared.store.Store.{Store}
 use Rattle.sdl_interp.proofs.ConditionLemmas.{condition_at, none_fails, none_to_fail, truth_of_place}
 use Rattle.sdl_interp.specs.Condition.{are_conditions}
 use Rattle.sdl_interp.specs.Selected.{AreShut, IsShut, SelectsBy, SelectsNone}
-use Rattle.sdl_record.specs.declared.failure.Failure.{Failure}
-use Rattle.sdl_record.specs.declared.failure.Failure.TheVariants.{Memory}
-use Rattle.sdl_runs.specs.Fails.{FailsIn, of_condition, of_take}
-use Rattle.sdl_runs.specs.Place.{Definition}
-use Rattle.sdl_runs.specs.Selection.{Selects, class_by, enabled, first_failure}
-use Rattle.sdl_steps.specs.Work.{IsOf}
+use Rattle.run_record.specs.declared.failure.Failure.{Failure}
+use Rattle.run_record.specs.declared.failure.Failure.TheVariants.{Memory}
+use Rattle.run_semantics.specs.Fails.{FailsIn, of_condition, of_take}
+use Rattle.run_semantics.specs.Place.{Definition}
+use Rattle.run_semantics.specs.Selection.{Selects, class_by, enabled, first_failure}
+use Rattle.run_transitions.specs.Work.{IsOf}
 use Rattle.sdl_system.proofs.BehaviourLemmas.{reacts_as_meant}
 use Rattle.sdl_system.specs.Behaviour.{Means, MeansResponse, MeansState, MeansTable, Response, StateMeaning, condition_in, input, priority_input, response_to, save}
 use Rattle.sdl_system.specs.Process.{choice_in, reaction_by, table_in, table_of}

@@ -5,11 +5,11 @@ use Rattle.sdl_interp.specs.Stimulus.{LeadsFrom}
 use Rattle.sdl_interp.specs.declared.instance.Stepped.{Stepped}
 use Rattle.sdl_interp.specs.declared.instance.Stepped.TheVariants as stepped
 use Rattle.sdl_interp.specs.declared.stimulus.Led.{Led}
-use Rattle.sdl_runs.specs.Goes.{Goes, IsOneStep}
-use Rattle.sdl_runs.specs.World.{WorldValue}
-use Rattle.sdl_steps.specs.Machine.{IsSameInstance, place_of}
-use Rattle.sdl_steps.specs.declared.machine.Position.{Position}
-use Rattle.sdl_steps.specs.declared.machine.Position.TheVariants.{Ended}
+use Rattle.run_semantics.specs.Goes.{Goes, IsOneStep}
+use Rattle.run_semantics.specs.World.{WorldValue}
+use Rattle.run_transitions.specs.Machine.{IsSameInstance, place_of}
+use Rattle.run_transitions.specs.declared.machine.Position.{Position}
+use Rattle.run_transitions.specs.declared.machine.Position.TheVariants.{Ended}
 
 -- who it is, and what it is of, stays
 pub keeps_by : (old new : InstanceValue) → new.system ≡ old.system → new.process ≡ old.process

@@ -1,29 +1,29 @@
 -- An instance of a process, as its callers see it (Z.101: agent).
 use Rattle.std.specs.Prelude.{◌≡◌, ◌≢◌, ◌⊎◌, Bool, true, false, List, [], ◌∷◌, ◌++◌, None, Some, drop, map}
-use Rattle.inbox.specs.Ends.{OwnerState}
+use Rattle.port_inbox.specs.Ends.{OwnerState}
 use Rattle.port_model.specs.declared.selection.Class.{Class}
 use Rattle.port_values.specs.declared.value.Value.{Value}
-use Rattle.sdl_evaluation.specs.Environment.{initial_store}
-use Rattle.sdl_evaluation.specs.Variables.{VariableList}
-use Rattle.sdl_evaluation.specs.declared.identity.Identity.{Identity}
-use Rattle.sdl_evaluation.specs.declared.store.Store.{Store}
-use Rattle.sdl_record.specs.Event.{Event}
-use Rattle.sdl_record.specs.Event as event
-use Rattle.sdl_record.specs.Record.{RecordValue}
-use Rattle.sdl_runs.specs.Goes.{Goes, IsOneStep, MachineValue}
-use Rattle.sdl_runs.specs.Instance.{HasRun, parameters_from}
-use Rattle.sdl_runs.specs.Leads.{IsQuiet}
-use Rattle.sdl_runs.specs.Place.{Closed, Definition, Place}
-use Rattle.sdl_runs.specs.Place as place
-use Rattle.sdl_runs.specs.World.{WorldValue}
+use Rattle.run_evaluation.specs.Environment.{initial_store}
+use Rattle.run_evaluation.specs.Variables.{VariableList}
+use Rattle.run_evaluation.specs.declared.identity.Identity.{Identity}
+use Rattle.run_evaluation.specs.declared.store.Store.{Store}
+use Rattle.run_record.specs.Event.{Event}
+use Rattle.run_record.specs.Event as event
+use Rattle.run_record.specs.Record.{RecordValue}
+use Rattle.run_semantics.specs.Goes.{Goes, IsOneStep, MachineValue}
+use Rattle.run_semantics.specs.Instance.{HasRun, parameters_from}
+use Rattle.run_semantics.specs.Leads.{IsQuiet}
+use Rattle.run_semantics.specs.Place.{Closed, Definition, Place}
+use Rattle.run_semantics.specs.Place as place
+use Rattle.run_semantics.specs.World.{WorldValue}
 use Rattle.sdl_interp.specs.Stimulus.{WaitsAt}
 use Rattle.sdl_interp.specs.declared.instance.Stepped.{Stepped}
 use Rattle.sdl_interp.specs.declared.instance.Stepped.TheVariants as stepped
-use Rattle.sdl_steps.specs.Machine.{IsPositionIn, IsReady, identity_of, place_of}
-use Rattle.sdl_steps.specs.Work.{IsOf}
-use Rattle.sdl_steps.specs.declared.machine.Machine.{Machine}
-use Rattle.sdl_steps.specs.declared.machine.Position.{Position}
-use Rattle.sdl_steps.specs.declared.machine.Position.TheVariants as at
+use Rattle.run_transitions.specs.Machine.{IsPositionIn, IsReady, identity_of, place_of}
+use Rattle.run_transitions.specs.Work.{IsOf}
+use Rattle.run_transitions.specs.declared.machine.Machine.{Machine}
+use Rattle.run_transitions.specs.declared.machine.Position.{Position}
+use Rattle.run_transitions.specs.declared.machine.Position.TheVariants as at
 use Rattle.sdl_system.specs.System.{SystemValue}
 use Rattle.sdl_system.specs.declared.process.Process.{Process}
 use Rattle.sdl_system.specs.declared.process.Variable.{Variable}

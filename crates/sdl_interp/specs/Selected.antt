@@ -6,15 +6,15 @@ use Rattle.port_model.specs.Selection as selection
 use Rattle.port_values.specs.declared.item.SignalId.{SignalId}
 use Rattle.port_model.specs.declared.selection.Class.{Class}
 use Rattle.port_model.specs.declared.selection.Class.TheVariants as class
-use Rattle.sdl_evaluation.specs.Environment.{environment}
-use Rattle.sdl_evaluation.specs.declared.identity.Identity.{Identity}
-use Rattle.sdl_evaluation.specs.declared.store.Store.{Store}
-use Rattle.sdl_record.specs.declared.failure.Failure.{Failure}
-use Rattle.sdl_runs.specs.Fails.{FailsIn}
-use Rattle.sdl_runs.specs.Leads.{Selecting}
-use Rattle.sdl_runs.specs.Place.{Definition}
-use Rattle.sdl_runs.specs.Selection.{Tried, begins, none_true}
-use Rattle.sdl_steps.specs.Work.{IsOf}
+use Rattle.run_evaluation.specs.Environment.{environment}
+use Rattle.run_evaluation.specs.declared.identity.Identity.{Identity}
+use Rattle.run_evaluation.specs.declared.store.Store.{Store}
+use Rattle.run_record.specs.declared.failure.Failure.{Failure}
+use Rattle.run_semantics.specs.Fails.{FailsIn}
+use Rattle.run_semantics.specs.Leads.{Selecting}
+use Rattle.run_semantics.specs.Place.{Definition}
+use Rattle.run_semantics.specs.Selection.{Tried, begins, none_true}
+use Rattle.run_transitions.specs.Work.{IsOf}
 use Rattle.sdl_system.specs.Behaviour.{StateMeaning}
 use Rattle.sdl_system.specs.Process.{table_of}
 use Rattle.sdl_system.specs.Soundness.{IsEnabled}

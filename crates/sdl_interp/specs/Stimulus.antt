@@ -1,30 +1,30 @@
 -- What begins a step of an instance.
 use Rattle.std.specs.Prelude.{◌≡◌, ◌≢◌, ◌≤◌, ℕ, List, Option, None, Some, false, map, true}
 use Rattle.std.specs.List.{AllZip}
-use Rattle.inbox.specs.Calls.{TakesHere, after_stop}
-use Rattle.inbox.specs.Ends.{OwnerState}
+use Rattle.port_inbox.specs.Calls.{TakesHere, after_stop}
+use Rattle.port_inbox.specs.Ends.{OwnerState}
 use Rattle.port_model.specs.declared.got.Got.{Got}
 use Rattle.port_model.specs.declared.selection.Class.{Class}
 use Rattle.port_model.specs.declared.taken.Taken.{Taken}
 use Rattle.port_model.specs.declared.taken.Taken.TheVariants.{Nothing}
 use Rattle.port_values.specs.declared.value.Value.{Value}
-use Rattle.sdl_evaluation.specs.Environment.{environment}
+use Rattle.run_evaluation.specs.Environment.{environment}
 use Rattle.sdl_interp.specs.Selected.{IsTried}
 use Rattle.sdl_interp.specs.declared.stimulus.Led.{Led}
-use Rattle.sdl_record.specs.Event as event
-use Rattle.sdl_record.specs.Event.{values_got}
-use Rattle.sdl_record.specs.declared.failure.Failure.{Failure}
-use Rattle.sdl_runs.specs.Goes.{AreInner, Goes, GoesWrong, IsOneStep, MachineValue, Waits, with_event}
-use Rattle.sdl_runs.specs.Leads.{Selecting}
-use Rattle.sdl_runs.specs.Place.{Definition, Doing, In, Place, Receiving}
-use Rattle.sdl_runs.specs.Selection.{tried}
-use Rattle.sdl_runs.specs.World.{IsReading, WorldValue}
-use Rattle.sdl_steps.specs.Machine.{IsGoing, IsPositionIn, IsReady, place_of, value_of}
-use Rattle.sdl_steps.specs.Walk.{marks_of}
-use Rattle.sdl_steps.specs.Work.{IsOf}
-use Rattle.sdl_steps.specs.declared.machine.Machine.{Machine}
-use Rattle.sdl_steps.specs.declared.machine.Position.{Position}
-use Rattle.sdl_steps.specs.declared.machine.Position.TheVariants as position
+use Rattle.run_record.specs.Event as event
+use Rattle.run_record.specs.Event.{values_got}
+use Rattle.run_record.specs.declared.failure.Failure.{Failure}
+use Rattle.run_semantics.specs.Goes.{AreInner, Goes, GoesWrong, IsOneStep, MachineValue, Waits, with_event}
+use Rattle.run_semantics.specs.Leads.{Selecting}
+use Rattle.run_semantics.specs.Place.{Definition, Doing, In, Place, Receiving}
+use Rattle.run_semantics.specs.Selection.{tried}
+use Rattle.run_semantics.specs.World.{IsReading, WorldValue}
+use Rattle.run_transitions.specs.Machine.{IsGoing, IsPositionIn, IsReady, place_of, value_of}
+use Rattle.run_transitions.specs.Walk.{marks_of}
+use Rattle.run_transitions.specs.Work.{IsOf}
+use Rattle.run_transitions.specs.declared.machine.Machine.{Machine}
+use Rattle.run_transitions.specs.declared.machine.Position.{Position}
+use Rattle.run_transitions.specs.declared.machine.Position.TheVariants as position
 use Rattle.sdl_system.specs.Behaviour.{MeansContinuous, variable_meaning}
 use Rattle.sdl_system.specs.Body.{Body}
 use Rattle.sdl_system.specs.System.{SystemValue}

@@ -1,11 +1,11 @@
 //! The time of a step.
 
 ghost use Rattle.std.specs.Prelude.{◌≡◌, ◌≤◌};
-ghost use Rattle.sdl_runs.specs.World.{IsReading};
+ghost use Rattle.run_semantics.specs.World.{IsReading};
 
 use port_values::Ticks;
-use sdl_runs::World;
-use sdl_steps::Machine;
+use run_semantics::World;
+use run_transitions::Machine;
 
 /// Reads the clock. Where it lies before the time of the latest step, that time stays.
 pub fn read_clock<W: World>(machine: &mut Machine, world: &mut W) -> Ticks

@@ -1,19 +1,19 @@
 //! Conditions of a process: those of its inputs and of its continuous signals (Z.102: enabling condition).
 
 ghost use Rattle.std.specs.Prelude.{◌≡◌, ◌⊎◌, IfErr, IfOk, List, Ok, Some, map, true};
-ghost use Rattle.sdl_evaluation.specs.Environment.{environment};
-ghost use Rattle.sdl_evaluation.specs.Memory.{FailsAs, wants_memory};
-ghost use Rattle.sdl_evaluation.specs.Value.{truth_at};
+ghost use Rattle.run_evaluation.specs.Environment.{environment};
+ghost use Rattle.run_evaluation.specs.Memory.{FailsAs, wants_memory};
+ghost use Rattle.run_evaluation.specs.Value.{truth_at};
 ghost use Rattle.sdl_interp.specs.Condition.{are_conditions};
-ghost use Rattle.sdl_runs.specs.Selection.{first_failure};
-ghost use Rattle.sdl_steps.specs.Machine.{identity_of};
+ghost use Rattle.run_semantics.specs.Selection.{first_failure};
+ghost use Rattle.run_transitions.specs.Machine.{identity_of};
 ghost use Rattle.sdl_system.specs.Behaviour.{condition_in};
 ghost use Rattle.sdl_system.specs.Term.{Term};
 
-use inbox::Inbox;
-use sdl_evaluation::is_true;
-use sdl_record::Failure;
-use sdl_steps::Machine;
+use port_inbox::Inbox;
+use run_evaluation::is_true;
+use run_record::Failure;
+use run_transitions::Machine;
 use sdl_system::{ConditionId, Enabling, Process, System};
 use std::alloc::Global;
 

@@ -2,19 +2,19 @@
 
 ghost use Rattle.std.specs.Prelude.{◌≡◌, ◌⊎◌, IfErr, IfOk, List, true};
 ghost use Rattle.std.specs.List.{AllZip, list_any};
-ghost use Rattle.sdl_evaluation.specs.Environment.{environment};
-ghost use Rattle.sdl_evaluation.specs.Memory.{wants_memory};
+ghost use Rattle.run_evaluation.specs.Environment.{environment};
+ghost use Rattle.run_evaluation.specs.Memory.{wants_memory};
 ghost use Rattle.sdl_interp.specs.Selected.{IsTried};
-ghost use Rattle.sdl_runs.specs.Fails.{conditions_of};
-ghost use Rattle.sdl_runs.specs.Selection.{fails, tried};
-ghost use Rattle.sdl_steps.specs.Machine.{identity_of};
+ghost use Rattle.run_semantics.specs.Fails.{conditions_of};
+ghost use Rattle.run_semantics.specs.Selection.{fails, tried};
+ghost use Rattle.run_transitions.specs.Machine.{identity_of};
 ghost use Rattle.sdl_system.specs.Behaviour.{ContinuousSignal, MeansContinuous};
 ghost use Rattle.sdl_system.specs.declared.id.NodeId.{NodeId};
 
 use crate::condition::is_condition_true;
-use inbox::Inbox;
-use sdl_record::Failure;
-use sdl_steps::Machine;
+use port_inbox::Inbox;
+use run_record::Failure;
+use run_transitions::Machine;
 use sdl_system::{Continuous, Process, System};
 use std::alloc::Global;
 

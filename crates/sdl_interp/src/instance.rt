@@ -1,20 +1,20 @@
 //! An instance of a process (Z.101: agent).
 
 ghost use Rattle.std.specs.Prelude.{◌≡◌, ◌==◌, ◌&&◌, [], IfOk, IsTrue, MatchResult};
-ghost use Rattle.inbox.specs.Calls.{ComesBack, after_entry};
-ghost use Rattle.inbox.specs.Ends.{single};
-ghost use Rattle.inbox.specs.declared.entry.Entry.TheVariants.{Timer};
+ghost use Rattle.port_inbox.specs.Calls.{ComesBack, after_entry};
+ghost use Rattle.port_inbox.specs.Ends.{single};
+ghost use Rattle.port_inbox.specs.declared.entry.Entry.TheVariants.{Timer};
 ghost use Rattle.port_model.specs.Port.{empty_port, put_into, expires};
-ghost use Rattle.sdl_runs.specs.Instance.{parameters_from};
+ghost use Rattle.run_semantics.specs.Instance.{parameters_from};
 ghost use Rattle.sdl_interp.specs.Instance.{HasRunOf, IsAtRest, IsClosed, Keeps, Steps, created, variables_from};
 
 use crate::stimulus::step_from;
-use inbox::{Alone, Fuse, Inbox, Refused};
+use port_inbox::{Alone, Fuse, Inbox, Refused};
 use port_values::{Item, Ticks, Value, Values};
-use sdl_evaluation::{Identity, Store, Variables};
-use sdl_record::Record;
-use sdl_runs::World;
-use sdl_steps::{Machine, Position};
+use run_evaluation::{Identity, Store, Variables};
+use run_record::Record;
+use run_semantics::World;
+use run_transitions::{Machine, Position};
 use sdl_system::{Process, System};
 use std::alloc::{AllocError, Global};
 use std::marker::Model;

@@ -2,18 +2,18 @@
 
 ghost use Rattle.std.specs.Prelude.{◌≡◌, ◌≤◌};
 ghost use Rattle.port_model.specs.Take as port;
-ghost use Rattle.sdl_evaluation.specs.declared.identity.Identity.{Identity};
-ghost use Rattle.sdl_record.specs.Event.{values_got};
-ghost use Rattle.sdl_runs.specs.Reception as reception;
-ghost use Rattle.sdl_runs.specs.Reception.{receiving};
-ghost use Rattle.sdl_runs.specs.World.{IsReading};
-ghost use Rattle.sdl_steps.specs.Machine.{identity_of};
+ghost use Rattle.run_evaluation.specs.declared.identity.Identity.{Identity};
+ghost use Rattle.run_record.specs.Event.{values_got};
+ghost use Rattle.run_semantics.specs.Reception as reception;
+ghost use Rattle.run_semantics.specs.Reception.{receiving};
+ghost use Rattle.run_semantics.specs.World.{IsReading};
+ghost use Rattle.run_transitions.specs.Machine.{identity_of};
 
 use crate::clock::read_clock;
 use port_model::Got;
 use port_values::{Pid, SignalId, Ticks, Value};
-use sdl_runs::World;
-use sdl_steps::Machine;
+use run_semantics::World;
+use run_transitions::Machine;
 
 /// What is known once a signal was consumed. The time of its transition is the answer.
 pub fn receive<W: World>(got: &Got, machine: &mut Machine, world: &mut W) -> Ticks

@@ -4,15 +4,15 @@ ghost use Rattle.std.specs.Prelude.{◌≡◌, ◌<◌, IfErr, IfOk, length, sli
 ghost use Rattle.port_model.specs.Selection as selection;
 ghost use Rattle.port_values.specs.declared.item.SignalId.{SignalId};
 ghost use Rattle.sdl_interp.specs.Selected.{AreShut, SelectsBy, SelectsNone};
-ghost use Rattle.sdl_steps.specs.Machine.{identity_of};
+ghost use Rattle.run_transitions.specs.Machine.{identity_of};
 ghost use Rattle.sdl_system.specs.Soundness.{IsEnabled};
 
 use crate::condition::truths;
-use inbox::Inbox;
+use port_inbox::Inbox;
 use port_model::{Class, Selection};
 use port_values::SignalId;
-use sdl_record::Failure;
-use sdl_steps::Machine;
+use run_record::Failure;
+use run_transitions::Machine;
 use sdl_system::{Enabled, Process, StateTable, System};
 use std::alloc::Global;
 

@@ -5,8 +5,8 @@ ghost use Rattle.std.specs.Prelude.{◌≡◌, ◌≢◌, ◌≤◌, ◌<◌, So
 ghost use Rattle.port_model.specs.declared.taken.Taken.TheVariants as taken;
 ghost use Rattle.sdl_interp.specs.Selected.{SelectsBy};
 ghost use Rattle.sdl_interp.specs.Stimulus.{BeginsWith, ContinuesWith, FailsThen, IsAnswered, IsLed, IsStepped, LeadsFrom, ProvidesBy, Reacts, Responds, StepsFrom};
-ghost use Rattle.sdl_runs.specs.Place as place;
-ghost use Rattle.sdl_steps.specs.Machine.{IsGoing, IsPositionIn, IsReady, IsSameInstance, identity_of, value_of};
+ghost use Rattle.run_semantics.specs.Place as place;
+ghost use Rattle.run_transitions.specs.Machine.{IsGoing, IsPositionIn, IsReady, IsSameInstance, identity_of, value_of};
 ghost use Rattle.sdl_system.specs.Process.{table_of};
 ghost use Rattle.sdl_system.specs.System.{SystemValue};
 ghost use Rattle.sdl_system.specs.declared.process.Process.{Process};
@@ -16,12 +16,12 @@ use crate::continuous::first_true;
 use crate::received::{name_of, receive, sender_of, values_of};
 use crate::reception::hand_out;
 use crate::selection::select;
-use inbox::Inbox;
+use port_inbox::Inbox;
 use port_model::{Got, Selection, Taken};
 use port_values::Pid;
-use sdl_record::Failure;
-use sdl_runs::World;
-use sdl_steps::{Machine, Position, fail, make, make_room};
+use run_record::Failure;
+use run_semantics::World;
+use run_transitions::{Machine, Position, fail, make, make_room};
 use sdl_system::{Continuous, Process, Reaction, Reception, StateId, StateTable, System};
 use std::alloc::Global;
 

@@ -1,13 +1,13 @@
 -- What a fault of the reading says of the text.
-use Rattle.sdl_behaviour.proofs.Words.{Barred, Deep, Err, Fails, Fixed, IsBarred, IsLeftOut, IsRest, List, Refused, Some, Tree, Word, Words, ap, codes, front, length, limit, read_as, refl, word_place, words_of, ℕ, ◌++◌, ◌∙◌, ◌∷◌, ◌≡◌, ◌≤◌}
+use Rattle.parse_behaviour.proofs.Words.{Barred, Deep, Err, Fails, Fixed, IsBarred, IsLeftOut, IsRest, List, Refused, Some, Tree, Word, Words, ap, codes, front, length, limit, read_as, refl, word_place, words_of, ℕ, ◌++◌, ◌∙◌, ◌∷◌, ◌≡◌, ◌≤◌}
 use Rattle.std.specs.String.{string_bytes}
 use Rattle.sdl_lex.specs.declared.place.Place.{Place}
 use Rattle.sdl_lex.specs.declared.token.Token.{Token}
 use Rattle.sdl_lex.specs.Part.{Lexes}
 use Rattle.sdl_tree.specs.declared.mark.Mark.TheVariants as mark
 use Rattle.sdl_tree.specs.Words as word
-use Rattle.sdl_cursor.specs.declared.fault.Fault.{Fault}
-use Rattle.sdl_cursor.specs.declared.fault.Fault.TheVariants as fault
+use Rattle.parse_cursor.specs.declared.fault.Fault.{Fault}
+use Rattle.parse_cursor.specs.declared.fault.Fault.TheVariants as fault
 use Rattle.sdl_parse.specs.declared.error.ParseError.{ParseError}
 use Rattle.sdl_parse.specs.declared.error.ParseError.TheVariants.{Expected, LeftOut, TooDeep, Memory}
 use Rattle.sdl_parse.specs.Parser.{StandsAt, TooMany, SpellsText, Refuses, TellsWord, IsPlaceOf, Tells}

@@ -5,9 +5,9 @@ use Rattle.sdl_tree.specs.declared.mark.Mark.TheVariants as mark
 use Rattle.sdl_tree.specs.declared.name.Spelling.{Spelling}
 use Rattle.sdl_tree.specs.Tree.{Expr, ParameterGroup, FormalParameters, VariableGroup, TimerDefinition, TimerDefinitions}
 use Rattle.sdl_tree.specs.Words.{Spot}
-use Rattle.sdl_read.specs.Expressions.{expr}
-use Rattle.sdl_read.specs.Parts.{ended}
-use Rattle.sdl_cursor.specs.Reading.{Parser, ◌⊗◌, behind, made, maybe, sees, expect, name, separated, in_parentheses}
+use Rattle.parse_expressions.specs.Expressions.{expr}
+use Rattle.parse_expressions.specs.Parts.{ended}
+use Rattle.parse_cursor.specs.Reading.{Parser, ◌⊗◌, behind, made, maybe, sees, expect, name, separated, in_parentheses}
 
 abbrev pub parameters_with : List Spot × Spot → ParameterGroup
 parameters_with p = record { names = p.0; sort = p.1 }

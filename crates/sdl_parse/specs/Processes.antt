@@ -6,10 +6,10 @@ use Rattle.sdl_tree.specs.declared.name.Spelling.{Spelling}
 use Rattle.sdl_tree.specs.Tree.{Expr, Bound, Counts, FormalParameters, LocalDefinition, LocalSignals, LocalSignalList, LocalSynonyms, LocalSignalSet, Variables, Timers, Start, BodyPart, ProcessDefinition}
 use Rattle.sdl_tree.specs.Words.{Word, Words, Spot, Fixed}
 use Rattle.sdl_tree.specs.Words as word
-use Rattle.sdl_read.specs.Expressions.{expr}
-use Rattle.sdl_read.specs.Parts.{followed, ended, closing, tied, sees_one, signal, signal_list, signal_set}
-use Rattle.sdl_cursor.specs.Reading.{Parser, ◌⊗◌, behind, before, made, either, maybe, front, sees, expect, name, repeated}
-use Rattle.sdl_behaviour.specs.States.{start, body_part}
+use Rattle.parse_expressions.specs.Expressions.{expr}
+use Rattle.parse_expressions.specs.Parts.{followed, ended, closing, tied, sees_one, signal, signal_list, signal_set}
+use Rattle.parse_cursor.specs.Reading.{Parser, ◌⊗◌, behind, before, made, either, maybe, front, sees, expect, name, repeated}
+use Rattle.parse_behaviour.specs.States.{start, body_part}
 use Rattle.sdl_parse.specs.Declarations.{some_fpar, dcl, timer}
 use Rattle.sdl_parse.specs.Synonyms.{synonym}
 

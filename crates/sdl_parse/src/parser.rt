@@ -2,15 +2,15 @@
 
 ghost use Rattle.std.specs.Prelude.{◌<◌, ◌↔◌, Some, None, IfErr, IfOk, IsErrOf, length};
 ghost use Rattle.sdl_parse.specs.Parser.{Refuses, SpellsText, Tells, TellsLeftOut};
-ghost use Rattle.sdl_cursor.specs.PlacedWord.{word_of_placed};
-ghost use Rattle.sdl_cursor.specs.Reading.{front};
+ghost use Rattle.parse_cursor.specs.PlacedWord.{word_of_placed};
+ghost use Rattle.parse_cursor.specs.Reading.{front};
 ghost use Rattle.sdl_tree.specs.Views.{tree_value};
 
 use crate::error::ParseError;
 use crate::system::specification;
-use sdl_cursor::{Cursor, Fault, PlacedWord, Word, placed_words};
+use parse_cursor::{Cursor, Fault, PlacedWord, Word, placed_words};
+use parse_expressions::place::LIMIT;
 use sdl_lex::{LexError, Place, lex, place_of};
-use sdl_read::place::LIMIT;
 use sdl_tree::Tree;
 use std::alloc::Global;
 

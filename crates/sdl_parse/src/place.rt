@@ -1,6 +1,6 @@
 //! Places in the definitions of a specification.
 
-use sdl_read::place::LIMIT;
+use parse_expressions::place::LIMIT;
 
 /// A place in a definition, inside of no parentheses and no decision.
 #[derive(Clone, Copy)]

@@ -3,19 +3,19 @@
 ghost use Rattle.std.specs.Prelude.{◌≡◌, ◌≤◌, option_map};
 ghost use Rattle.sdl_tree.specs.Views.{bound_value, counts_value, expr_value, local_value, process_value};
 ghost use Rattle.sdl_parse.specs.Processes as spec;
-ghost use Rattle.sdl_read.specs.Parts.{sees_one};
-ghost use Rattle.sdl_cursor.specs.Reads.{Reads};
+ghost use Rattle.parse_expressions.specs.Parts.{sees_one};
+ghost use Rattle.parse_cursor.specs.Reads.{Reads};
 
 use crate::declarations::{dcl, fpar};
 use crate::place::Defining;
 use crate::synonyms::synonym;
 use crate::timers::timer;
-use sdl_behaviour::place::Inside;
-use sdl_behaviour::states::{body_part, start};
-use sdl_cursor::{Cursor, Fault, Perhaps, PlacedWord, Word, repeated};
-use sdl_read::expressions::expression;
-use sdl_read::parts::{closing, end};
-use sdl_read::signals::{signal, signal_list, signal_set};
+use parse_behaviour::place::Inside;
+use parse_behaviour::states::{body_part, start};
+use parse_cursor::{Cursor, Fault, Perhaps, PlacedWord, Word, repeated};
+use parse_expressions::expressions::expression;
+use parse_expressions::parts::{closing, end};
+use parse_expressions::signals::{signal, signal_list, signal_set};
 use sdl_tree::{Bound, Counts, Expression, LocalDefinition, Mark, ProcessDefinition};
 use std::alloc::Global;
 

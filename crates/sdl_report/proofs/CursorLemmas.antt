@@ -2,10 +2,10 @@
 use Rattle.std.proofs.Common.{◌≡◌, ℕ, zero, suc, ◌+◌, ◌<◌, ◌≤◌, List, [], ◌∷◌, length, get_or, take, drop, refl, sym, ◌∙◌, ap, arith}
 use Rattle.std.proofs.lemmas.List.{drop-drop, length-drop, take_more}
 use Rattle.port_values.specs.declared.value.Value.{Value}
-use Rattle.sdl_record.specs.Entry.{count_of, counted, event_of, told}
-use Rattle.sdl_record.specs.Event.{Event}
-use Rattle.sdl_record.specs.declared.entry.Entry.{Entry}
-use Rattle.sdl_record.proofs.EntryLemmas.{counted-more, length-told}
+use Rattle.run_record.specs.Entry.{count_of, counted, event_of, told}
+use Rattle.run_record.specs.Event.{Event}
+use Rattle.run_record.specs.declared.entry.Entry.{Entry}
+use Rattle.run_record.proofs.EntryLemmas.{counted-more, length-told}
 
 -- the values before an entry are no more than all
 counted-take-le : (n : ℕ) (entries : List Entry) → counted (take n entries) ≤ counted entries

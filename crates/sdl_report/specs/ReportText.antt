@@ -10,13 +10,13 @@ use Rattle.port_values.specs.declared.value.Value.{Value}
 use Rattle.sdl_system.specs.System.{SystemValue}
 use Rattle.sdl_system.specs.declared.route.Target as target
 use Rattle.sdl_system.specs.declared.route.Target.TheVariants as reached
-use Rattle.sdl_record.specs.Event as event
-use Rattle.sdl_record.specs.Entry.{sender_of}
-use Rattle.sdl_record.specs.Event.{values_got}
-use Rattle.sdl_record.specs.Failure.{failure_text}
+use Rattle.run_record.specs.Event as event
+use Rattle.run_record.specs.Entry.{sender_of}
+use Rattle.run_record.specs.Event.{values_got}
+use Rattle.run_record.specs.Failure.{failure_text}
 use Rattle.sdl_report.specs.Name.{signal_name, process_name, state_name, variable_name}
-use Rattle.sdl_record.specs.Record.{RecordValue}
-use Rattle.sdl_record.specs.declared.record.Report.{Report}
+use Rattle.run_record.specs.Record.{RecordValue}
+use Rattle.run_record.specs.declared.record.Report.{Report}
 
 -- whom an output reached
 abbrev pub target_text : target.Target → List ℕ

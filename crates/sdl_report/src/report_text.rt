@@ -3,7 +3,7 @@
 ghost use Rattle.std.specs.Prelude.{◌≡◌, [], ◌++◌, OnErr, OnOk};
 ghost use Rattle.std.specs.String.{string_bytes};
 ghost use Rattle.std.specs.Io.KnownBytes.{Appends};
-ghost use Rattle.sdl_record.specs.Entry.{event_of};
+ghost use Rattle.run_record.specs.Entry.{event_of};
 ghost use Rattle.sdl_report.specs.Gathered.{Breaks, BreaksOff, Grows};
 ghost use Rattle.sdl_report.specs.ReportText.{end_text, event_line, heading_text, line, record_text, report_text};
 
@@ -11,7 +11,7 @@ use crate::event_line::push_event;
 use crate::names::process_name;
 use crate::write_whole::{WriteFault, write_text};
 use port_values::Value;
-use sdl_record::{Entry, Record, Report};
+use run_record::{Entry, Record, Report};
 use sdl_system::System;
 use std::alloc::{AllocError, Global};
 use std::io::Write;

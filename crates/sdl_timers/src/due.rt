@@ -3,7 +3,7 @@
 ghost use Rattle.std.specs.Prelude.{◌≡◌, ◌%◌};
 ghost use Rattle.sdl_timers.specs.DueOrder.{due_of, earlier};
 
-use inbox::Fuse;
+use port_inbox::Fuse;
 use port_values::{Arm, Ticks};
 
 /// Where a fuse stands in due order: by its time, then by the number of its port, then by that of its set.

@@ -5,7 +5,7 @@ ghost use Rattle.sdl_timers.specs.DueOrder.{first_of, with_fuse};
 
 use crate::due::Due;
 use crate::turn::Turn;
-use inbox::Fuse;
+use port_inbox::Fuse;
 use port_model::{PortError, Refused};
 use std::alloc::Global;
 use std::collections::BTreeMap;

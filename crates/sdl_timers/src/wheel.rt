@@ -7,7 +7,7 @@ ghost use Rattle.sdl_timers.specs.DueOrder.{is_before, with_fuse, Fires};
 use crate::due::Due;
 use crate::slot::Slot;
 use crate::tournament::Tournament;
-use inbox::Fuse;
+use port_inbox::Fuse;
 use port_model::{PortError, Refused};
 use port_values::Ticks;
 use std::alloc::Global;

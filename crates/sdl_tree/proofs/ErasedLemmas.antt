@@ -1,7 +1,7 @@
 -- What is erased twice is erased.
 use Rattle.std.proofs.Common.{◌≡◌, refl, ap, ℕ, Bool, true, false, if◌then◌else◌, Some, None, option_map, List, [], ◌∷◌, map, codes}
 use Rattle.std.specs.Str.{bytes_eq}
-use Rattle.sdl_tree.specs.Erased.{start, plain, erased_name, erased_sort, erased_number, erased_expr, erased_exprs, erased_links, erased_applied, erased_assignment, erased_destination, erased_clause, erased_answer, erased_next_state, erased_terminator, erased_ending, erased_transition, erased_actions, erased_action, erased_parts, erased_otherwise, erased_start, erased_item, erased_input, erased_inputs, erased_saved, erased_condition, erased_stimulus, erased_states, erased_body_part, erased_signal, erased_signal_list, erased_synonym, erased_synonyms, erased_parameters, erased_fpar, erased_variables, erased_timer, erased_timers, erased_signal_set, erased_local, erased_bound, erased_counts, erased_process, erased_end, erased_path, erased_channel, erased_connection, erased_definition, erased_block_part, erased_block, erased_system_definition, erased}
+use Rattle.sdl_tree.specs.Erased.{start, plain, erased_name, erased_sort, erased_number, erased_expr, erased_exprs, erased_links, erased_applied, erased_assignment, erased_destination, erased_clause, erased_answer, erased_next_state, erased_terminator, erased_ending, erased_transition, erased_actions, erased_action, erased_parts, erased_otherwise, erased_start, erased_item, erased_input, erased_inputs, erased_saved, erased_condition, erased_stimulus, erased_states, erased_body_part, erased_signal, erased_signal_list, erased_synonym, erased_synonyms, erased_parameters, erased_fpar, erased_variables, erased_timer, erased_timers, erased_signal_set, erased_local, erased_bound, erased_counts, erased_process, erased_end, erased_path, erased_channel, erased_connection, erased_definition, erased_block_part, erased_block, erased_system_definition}
 use Rattle.sdl_tree.specs.Laws.{ErasedOnce}
 use Rattle.sdl_tree.specs.Spells.Parts.{sort_of}
 use Rattle.sdl_tree.specs.Tree.{Expr, Numeral, Named, Keyword, Active, Paren, Unary, Chain, Exprs, NoExpr, AndExpr, Links, NoLink, AndLink, Value, Range, Compared, Same, To, Next, Stop, Join, Transition, Steps, Actions, NoAction, AndAction, Action, Task, Output, Set, Reset, Create, Decision, Parts, NoPart, AndPart, Otherwise, NoElse, Else, SignalItem, ListItem, InputList, InputAll, SaveList, SaveAll, InputPart, PriorityInput, SavePart, ContinuousSignal, StateList, StateAll, StatePart, FreeAction, LocalSignals, LocalSignalList, LocalSynonyms, LocalSignalSet, Variables, Timers, Env, Agent, Signals, SignalList, Synonyms, Channel, Process, InBlock, Connect, InSystem, Block}

@@ -5,7 +5,7 @@ use Rattle.sdl_tree.specs.Canonical.{optional, in_parentheses, name_words, signa
 use Rattle.sdl_tree.specs.Erased.{plain, erased_name, erased_sort, erased_expr, erased_signal, erased_signal_list, erased_synonym, erased_synonyms, erased_parameters, erased_fpar, erased_variables, erased_timer, erased_timers, erased_signal_set, erased_local, erased_bound, erased_counts, erased_process, erased_end, erased_path, erased_channel, erased_connection, erased_definition, erased_block_part, erased_block, erased_system_definition, erased}
 use Rattle.sdl_tree.specs.Spells.{SpellsSignalName, SpellsSignal, SpellsSignalList, SpellsSynonymName, SpellsSynonym, SpellsPoint, SpellsPath, SpellsNoDelay, SpellsChannel, SpellsBound, SpellsCounts, SpellsParameters, SpellsFpar, SpellsInitial, SpellsVariables, SpellsOne, SpellsTimer, SpellsSignalSet, SpellsPdef, SpellsProcess, SpellsConnect, SpellsDef, SpellsBlockPart, SpellsBlock, SpellsSystemDef, SpellsTree}
 use Rattle.sdl_tree.specs.Spells.Parts.{InParentheses, SpellsName, SpellsClosing}
-use Rattle.sdl_tree.specs.Tree.{SignalSet, LocalDefinition, LocalSignals, LocalSignalList, LocalSynonyms, LocalSignalSet, Variables, Timers, ChannelEnd, Env, Agent, Definition, Signals, SignalList, Synonyms, Channel, Process, BlockPart, InBlock, Connect, SystemDefinition, InSystem, Block, Tree}
+use Rattle.sdl_tree.specs.Tree.{LocalDefinition, LocalSignals, LocalSignalList, LocalSynonyms, LocalSignalSet, Variables, Timers, ChannelEnd, Env, Agent, Definition, Signals, SignalList, Synonyms, Channel, Process, BlockPart, InBlock, Connect, SystemDefinition, InSystem, Block, Tree}
 use Rattle.sdl_tree.specs.Words.{Words}
 use Rattle.sdl_tree.proofs.Written.{Writes, mark_written, name_written, sort_written, names_written, closing_words, closing_written, both_written, behind_written, before_written, followed_written, ended_written, optional_written, separated_written, repeated_written, in_parentheses_written, sigs_written}
 use Rattle.sdl_tree.proofs.WrittenExpressions.{expr_written}

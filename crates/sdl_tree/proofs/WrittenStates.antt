@@ -8,7 +8,7 @@ use Rattle.sdl_tree.specs.Canonical.{fixed, repeated, optional, end_words, termi
 use Rattle.sdl_tree.specs.Erased.{plain, erased_name, erased_number, erased_terminator, erased_ending, erased_action, erased_transition, erased_input, erased_inputs, erased_saved, erased_condition, erased_stimulus, erased_states, erased_body_part}
 use Rattle.sdl_tree.specs.Spells.Behaviour.{SpellsTerminator, SpellsEnding, SpellsTrans, SpellsAction, SpellsIn1, SpellsIns, SpellsSaved, SpellsCondition, SpellsPriority, SpellsStimulus, SpellsStates, SpellsEndStateName, SpellsEndConnection, SpellsBodyPart}
 use Rattle.sdl_tree.specs.Spells.Parts.{Repeated, Wherever, Begins}
-use Rattle.sdl_tree.specs.Tree.{Number, Terminator, Next, Stop, Join, Transition, Steps, NoAction, AndAction, Action, Task, Output, Set, Reset, Create, Decision, Input, Inputs, InputList, InputAll, Saved, SaveList, SaveAll, Stimulus, InputPart, PriorityInput, SavePart, ContinuousSignal, States, StateList, StateAll, BodyPart, StatePart, FreeAction}
+use Rattle.sdl_tree.specs.Tree.{Terminator, Next, Stop, Join, Transition, Steps, NoAction, AndAction, Action, Task, Output, Set, Reset, Create, Decision, Inputs, InputList, InputAll, Saved, SaveList, SaveAll, Stimulus, InputPart, PriorityInput, SavePart, ContinuousSignal, States, StateList, StateAll, BodyPart, StatePart, FreeAction}
 use Rattle.sdl_tree.specs.Words.{Spot, Word, Words, Fixed}
 use Rattle.sdl_tree.specs.Words as word
 use Rattle.sdl_tree.proofs.Written.{Writes, mark_written, name_written, names_written, number_written, both_written, behind_written, before_written, followed_written, ended_written, end_written, optional_written, separated_written, in_parentheses_written, sigs_written}

@@ -6,7 +6,7 @@ use Rattle.sdl_tree.specs.Erased.{plain, erased_name, erased_applied, erased_ass
 use Rattle.sdl_tree.specs.Spells.Behaviour.{SpellsAssignment, SpellsDestination, SpellsClause, SpellsKeys, SpellsAnswer, SpellsLabel, SpellsNextState, SpellsTerminator, SpellsEnding, SpellsStatement, SpellsTransBy, SpellsPart, SpellsElse, SpellsAction, SpellsTrans, SpellsStart}
 use Rattle.sdl_tree.specs.Spells.Expressions.{operator_mark}
 use Rattle.sdl_tree.specs.Spells.Parts.{Optional, Repeated}
-use Rattle.sdl_tree.specs.Tree.{Expr, Applied, Answer, Value, Range, Compared, NextState, Same, To, Terminator, Next, Stop, Join, Transition, Steps, Actions, NoAction, AndAction, Action, Task, Output, Set, Reset, Create, Decision, Parts, NoPart, AndPart, Otherwise, NoElse, Else, Start, statements_in, parts_in, else_in}
+use Rattle.sdl_tree.specs.Tree.{Expr, Applied, Answer, Value, Range, Compared, NextState, Same, To, Terminator, Next, Stop, Join, Transition, Steps, Actions, NoAction, AndAction, Action, Task, Output, Set, Reset, Create, Decision, Parts, NoPart, AndPart, Otherwise, NoElse, Else, statements_in, parts_in, else_in}
 use Rattle.sdl_tree.specs.Words.{Words, Fixed}
 use Rattle.sdl_tree.proofs.Written.{Writes, mark_written, name_written, both_written, behind_written, before_written, ended_written, end_written, optional_written, separated_written, enclosed_written}
 use Rattle.sdl_tree.proofs.WrittenExpressions.{expr_written, applied_written}

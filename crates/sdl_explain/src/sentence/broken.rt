@@ -1,8 +1,8 @@
 //! What is said of the rules that a specification breaks.
 
 use crate::advice::Advice;
+use build_faults::Kind;
 use sdl_build::BuildError;
-use sdl_faults::Kind;
 
 /// What is said of a specification that has no system.
 pub fn build_advice(error: &BuildError) -> Advice<'_> {

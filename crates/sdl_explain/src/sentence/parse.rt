@@ -3,7 +3,7 @@
 use crate::advice::Advice;
 use crate::excerpt::Excerpt;
 use crate::sentence::left_out::left_out_sentence;
-use sdl_cursor::Wanted;
+use parse_cursor::Wanted;
 use sdl_lex::LexError;
 use sdl_parse::ParseError;
 

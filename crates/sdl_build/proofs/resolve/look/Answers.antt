@@ -1,7 +1,7 @@
 use Rattle.sdl_build.proofs.ResolveLemmas.{behind-if}
-use Rattle.sdl_survey.proofs.ProcessLemmas.{not-made}
-use Rattle.sdl_declared.specs.Tables.{rows_of}
-use Rattle.sdl_faults.specs.Faults.{told}
+use Rattle.build_context.proofs.ProcessLemmas.{not-made}
+use Rattle.build_definitions.specs.Tables.{rows_of}
+use Rattle.build_faults.specs.Faults.{told}
 use Rattle.sdl_build.proofs.resolve.look.Goals as goal
 
 pub look_behind_names-requires : goal.look_behind_names-requires

@@ -1,11 +1,11 @@
 use Rattle.std.proofs.Common.{◌∙◌, ap, sym}
 use Rattle.sdl_build.proofs.ResolveLemmas.{to-the-end-if}
-use Rattle.sdl_survey.proofs.ProcessLemmas.{not-made}
-use Rattle.sdl_survey.specs.Around.{definitions_with}
+use Rattle.build_context.proofs.ProcessLemmas.{not-made}
+use Rattle.build_context.specs.Around.{definitions_with}
 use Rattle.sdl_build.specs.Outcome as outcome
-use Rattle.sdl_declared.specs.Tables.{rows_of}
-use Rattle.sdl_figures.specs.Figures.{figures_faults}
-use Rattle.sdl_faults.specs.Faults.{least_of, told}
+use Rattle.build_definitions.specs.Tables.{rows_of}
+use Rattle.build_constants.specs.Figures.{figures_faults}
+use Rattle.build_faults.specs.Faults.{least_of, told}
 use Rattle.sdl_build.proofs.resolve.look_behind_names.Goals as goal
 
 pub returns-then-is_past_limit : goal.returns-then-is_past_limit

@@ -1,7 +1,7 @@
 use Rattle.sdl_build.proofs.ResolveLemmas.{made-on-if}
-use Rattle.sdl_survey.proofs.ProcessLemmas.{not-made}
-use Rattle.sdl_survey.specs.Around.{survey_of}
-use Rattle.sdl_faults.specs.Faults.{told}
+use Rattle.build_context.proofs.ProcessLemmas.{not-made}
+use Rattle.build_context.specs.Around.{survey_of}
+use Rattle.build_faults.specs.Faults.{told}
 use Rattle.sdl_build.proofs.resolve.look_on.Goals as goal
 
 pub processes_in-requires-clause-known : goal.processes_in-requires-clause-known

@@ -2,7 +2,7 @@ use Rattle.std.proofs.Common.{◌≡◌, ◌++◌, map}
 use Rattle.std.specs.Iterator.Adapters.{zip_first, zip_second}
 use Rattle.std.specs.Slice.Iter.{iter_rest}
 use Rattle.sdl_build.specs.Signals.{signal_of, signals_from}
-use Rattle.sdl_declared.specs.Seen.{signal_seen}
+use Rattle.build_definitions.specs.Seen.{signal_seen}
 use Rattle.sdl_build.proofs.signals.signals_of.Given as goal
 
 abbrev pub invariant-loop-entry : goal.invariant-loop-entry

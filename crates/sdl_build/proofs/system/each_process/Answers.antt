@@ -2,13 +2,13 @@ use Rattle.std.proofs.Common.{◌≡◌, ◌∙◌, ◌+◌, Some, ap, length, r
 use Rattle.std.proofs.lemmas.Iterator.Adapters.{YieldsList-from_vec}
 use Rattle.std.proofs.lemmas.Iterator.Consumers.{YieldsList-end, YieldsList-turn}
 use Rattle.std.proofs.lemmas.Option.{none-some, slice_get_read}
-use Rattle.sdl_survey.proofs.ListLemmas.{length-more}
+use Rattle.build_context.proofs.ListLemmas.{length-more}
 use Rattle.sdl_build.proofs.MadeLemmas.{as-many, below-at, bodies-next, less-than, made-next, valid-at}
-use Rattle.sdl_survey.specs.Around.{survey_of}
+use Rattle.build_context.specs.Around.{survey_of}
 use Rattle.sdl_build.specs.Faulty.{NotesBodies}
 use Rattle.sdl_build.specs.Faulty as notes
-use Rattle.sdl_declared.specs.Tables.{rows_of}
-use Rattle.sdl_faults.specs.Faults.{told}
+use Rattle.build_definitions.specs.Tables.{rows_of}
+use Rattle.build_faults.specs.Faults.{told}
 use Rattle.sdl_build.proofs.system.each_process.Goals as goal
 
 pub loop-set-init : goal.loop-set-init

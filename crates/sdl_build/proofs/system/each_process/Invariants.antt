@@ -1,8 +1,8 @@
 use Rattle.std.proofs.Common.{◌≡◌, length}
-use Rattle.sdl_survey.specs.Around.{survey_of}
+use Rattle.build_context.specs.Around.{survey_of}
 use Rattle.sdl_build.specs.Faulty.{NotesBodies}
 use Rattle.sdl_build.specs.Made.{AreMade}
-use Rattle.sdl_faults.specs.Faults.{told}
+use Rattle.build_faults.specs.Faults.{told}
 use Rattle.sdl_build.proofs.system.each_process.Given as goal
 
 abbrev pub invariant-loop-set : goal.invariant-loop-set

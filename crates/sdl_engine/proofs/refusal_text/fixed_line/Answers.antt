@@ -1,7 +1,7 @@
 use Rattle.std.proofs.Common.{◌≡◌, codes, refl, subst, sym}
-use Rattle.sdl_delivery.specs.ErrorText.{run_text}
-use Rattle.sdl_delivery.specs.declared.error.RunError.{RunError}
-use Rattle.sdl_delivery.specs.declared.error.RunError.TheVariants as run
+use Rattle.serial_instances.specs.ErrorText.{run_text}
+use Rattle.serial_instances.specs.declared.error.RunError.{RunError}
+use Rattle.serial_instances.specs.declared.error.RunError.TheVariants as run
 use Rattle.sdl_engine.specs.RefusalText.{line_of, refusal_line}
 use Rattle.sdl_engine.proofs.refusal_text.fixed_line.Goals as goal
 

@@ -1,8 +1,8 @@
 use Rattle.std.proofs.Common.{◌≡◌, List, Some, ap, slice_get, subst}
-use Rattle.sdl_evaluation.specs.Environment.{environment}
-use Rattle.sdl_evaluation.specs.declared.identity.Identity.{Identity}
+use Rattle.run_evaluation.specs.Environment.{environment}
+use Rattle.run_evaluation.specs.declared.identity.Identity.{Identity}
 use Rattle.sdl_interp.proofs.ConditionLemmas.{item_read, told_err, told_ok}
-use Rattle.sdl_steps.specs.Machine.{identity_of}
+use Rattle.run_transitions.specs.Machine.{identity_of}
 use Rattle.sdl_system.specs.declared.expression.Expression.{Expression}
 use Rattle.sdl_interp.proofs.condition.is_condition_true.Goals as goal
 

@@ -1,9 +1,9 @@
 use Rattle.std.proofs.Common.{add-one, length, refl}
 use Rattle.std.proofs.lemmas.Option.{slice_get_read}
 use Rattle.std.proofs.lemmas.Result.{err_from_is_err_and}
-use Rattle.sdl_evaluation.specs.Environment.{environment}
+use Rattle.run_evaluation.specs.Environment.{environment}
 use Rattle.sdl_interp.proofs.ConditionLemmas.{condition_at, failed_at, truths_more}
-use Rattle.sdl_steps.specs.Machine.{identity_of}
+use Rattle.run_transitions.specs.Machine.{identity_of}
 use Rattle.sdl_interp.proofs.condition.truths.Goals as goal
 
 pub returns-in_err-truth-clause-err : goal.returns-in_err-truth-clause-err

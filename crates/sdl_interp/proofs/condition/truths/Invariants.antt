@@ -1,8 +1,8 @@
 use Rattle.std.proofs.Common.{◌≡◌, List, Ok, Some, map, take}
-use Rattle.sdl_evaluation.specs.Environment.{environment}
-use Rattle.sdl_evaluation.specs.Value.{truth_at}
+use Rattle.run_evaluation.specs.Environment.{environment}
+use Rattle.run_evaluation.specs.Value.{truth_at}
 use Rattle.sdl_interp.specs.Condition.{are_conditions}
-use Rattle.sdl_steps.specs.Machine.{identity_of}
+use Rattle.run_transitions.specs.Machine.{identity_of}
 use Rattle.sdl_system.specs.Term.{Term}
 use Rattle.sdl_interp.proofs.condition.truths.Given as goal
 

@@ -1,12 +1,12 @@
 use Rattle.std.proofs.Common.{◌≡◌, ◌∙◌, Bool, true, false, Ok, None, Some, ap, add-one, get_or, subst, sym}
 use Rattle.std.proofs.lemmas.Option.{slice_get-get_or}
 use Rattle.std.proofs.lemmas.Result.{err_from_is_err_and}
-use Rattle.sdl_evaluation.specs.Environment.{environment}
-use Rattle.sdl_evaluation.specs.Value.{truth_at}
+use Rattle.run_evaluation.specs.Environment.{environment}
+use Rattle.run_evaluation.specs.Value.{truth_at}
 use Rattle.sdl_interp.proofs.ConditionLemmas.{begins_there, ends_failing, meets_at, none_left, passes}
 use Rattle.sdl_interp.specs.Selected.{IsTried}
-use Rattle.sdl_runs.specs.Selection.{Tried}
-use Rattle.sdl_steps.specs.Machine.{identity_of}
+use Rattle.run_semantics.specs.Selection.{Tried}
+use Rattle.run_transitions.specs.Machine.{identity_of}
 use Rattle.sdl_system.specs.declared.state.Continuous.{Continuous}
 use Rattle.sdl_interp.proofs.continuous.first_true.Goals as goal
 

@@ -1,8 +1,8 @@
 use Rattle.std.proofs.Common.{◌≡◌, List, drop}
 use Rattle.std.specs.List.{AllZip}
-use Rattle.sdl_evaluation.specs.Environment.{environment}
-use Rattle.sdl_runs.specs.Selection.{tried}
-use Rattle.sdl_steps.specs.Machine.{identity_of}
+use Rattle.run_evaluation.specs.Environment.{environment}
+use Rattle.run_semantics.specs.Selection.{tried}
+use Rattle.run_transitions.specs.Machine.{identity_of}
 use Rattle.sdl_system.specs.Behaviour.{ContinuousSignal, MeansContinuous}
 use Rattle.sdl_system.specs.declared.id.NodeId.{NodeId}
 use Rattle.sdl_interp.proofs.continuous.first_true.Given as goal

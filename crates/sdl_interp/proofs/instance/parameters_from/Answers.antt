@@ -1,7 +1,7 @@
 use Rattle.std.proofs.Common.{◌∙◌, sym, ap, ℕ, List, [], ◌∷◌, ◌++◌, Option, add-one}
 use Rattle.port_values.specs.declared.value.Value.{Value}
 use Rattle.sdl_interp.proofs.Instances.{parameters_more}
-use Rattle.sdl_runs.specs.Instance.{parameters_from}
+use Rattle.run_semantics.specs.Instance.{parameters_from}
 use Rattle.sdl_interp.proofs.instance.parameters_from.Goals as goal
 
 pub loop-index-preserved : goal.loop-index-preserved

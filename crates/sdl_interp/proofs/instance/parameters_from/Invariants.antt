@@ -1,5 +1,5 @@
 use Rattle.std.proofs.Common.{◌≡◌}
-use Rattle.sdl_runs.specs.Instance.{parameters_from}
+use Rattle.run_semantics.specs.Instance.{parameters_from}
 use Rattle.sdl_interp.proofs.instance.parameters_from.Given as goal
 
 abbrev pub invariant-loop-index : goal.invariant-loop-index

@@ -5,7 +5,7 @@ use Rattle.std.proofs.lemmas.Iterator.Consumers.{YieldsList-end}
 use Rattle.std.proofs.lemmas.List.{drop-map}
 use Rattle.port_values.specs.declared.value.Value.{Value}
 use Rattle.sdl_interp.proofs.Instances.{initials_read}
-use Rattle.sdl_runs.specs.Instance.{parameters_from}
+use Rattle.run_semantics.specs.Instance.{parameters_from}
 use Rattle.sdl_system.specs.declared.process.Variable.{Variable}
 use Rattle.sdl_interp.proofs.instance.variables_from.Goals as goal
 

@@ -1,12 +1,12 @@
 use Rattle.std.proofs.Common.{◌≡◌, Option}
 use Rattle.std.specs.Iterator.Adapters.{zip_first, zip_second}
 use Rattle.std.specs.Slice.Iter.{iter_rest}
-use Rattle.inbox.specs.Ends.{OwnerState}
+use Rattle.port_inbox.specs.Ends.{OwnerState}
 use Rattle.sdl_interp.specs.Stimulus.{HasVariables}
-use Rattle.sdl_runs.specs.Goes.{AreInner, Goes}
-use Rattle.sdl_runs.specs.Place.{Definition, Receiving}
-use Rattle.sdl_runs.specs.World.{WorldValue}
-use Rattle.sdl_steps.specs.Machine.{value_of}
+use Rattle.run_semantics.specs.Goes.{AreInner, Goes}
+use Rattle.run_semantics.specs.Place.{Definition, Receiving}
+use Rattle.run_semantics.specs.World.{WorldValue}
+use Rattle.run_transitions.specs.Machine.{value_of}
 use Rattle.sdl_system.specs.Body.{Body}
 use Rattle.sdl_system.specs.declared.id.StateId.{StateId}
 use Rattle.sdl_interp.proofs.reception.hand_out.Given as goal

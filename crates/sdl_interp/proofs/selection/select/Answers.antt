@@ -3,9 +3,9 @@ use Rattle.std.proofs.lemmas.Result.{err_from_is_err_and}
 use Rattle.port_model.specs.declared.selection.Class.{Class}
 use Rattle.sdl_interp.proofs.SelectionLemmas.{cannot_by_condition, cannot_for_memory, made_selects}
 use Rattle.sdl_interp.specs.Condition.{are_conditions}
-use Rattle.sdl_record.specs.declared.failure.Failure.TheVariants.{Memory}
-use Rattle.sdl_runs.specs.Leads.{Selecting}
-use Rattle.sdl_steps.specs.Machine.{identity_of}
+use Rattle.run_record.specs.declared.failure.Failure.TheVariants.{Memory}
+use Rattle.run_semantics.specs.Leads.{Selecting}
+use Rattle.run_transitions.specs.Machine.{identity_of}
 use Rattle.sdl_system.specs.declared.signal.Signal.{Signal}
 use Rattle.sdl_interp.proofs.selection.select.Goals as goal
 

@@ -1,16 +1,16 @@
 use Rattle.std.proofs.Common.{◌∙◌, ap, subst, refl, Some, List, Option}
-use Rattle.inbox.specs.Calls.{after_stop}
-use Rattle.inbox.specs.Ends.{OwnerState}
+use Rattle.port_inbox.specs.Calls.{after_stop}
+use Rattle.port_inbox.specs.Ends.{OwnerState}
 use Rattle.port_values.specs.declared.value.Value.{Value}
 use Rattle.sdl_interp.proofs.Recorded.{same_on, same_stopped, same_trace}
-use Rattle.sdl_record.specs.Event as event
-use Rattle.sdl_record.specs.Event.{values_got}
-use Rattle.sdl_record.specs.Record.{noted}
-use Rattle.sdl_runs.proofs.Goes.{goes_failed, goes_on, goes_until}
-use Rattle.sdl_runs.specs.Goes.{AreInner, Goes, GoesWrong, MachineValue, with_event}
-use Rattle.sdl_runs.specs.Place.{Doing, Ended, Receiving}
-use Rattle.sdl_steps.specs.Machine.{place_of, value_of}
-use Rattle.sdl_steps.specs.declared.machine.Machine.{Machine}
+use Rattle.run_record.specs.Event as event
+use Rattle.run_record.specs.Event.{values_got}
+use Rattle.run_record.specs.Record.{noted}
+use Rattle.run_semantics.proofs.Goes.{goes_failed, goes_on, goes_until}
+use Rattle.run_semantics.specs.Goes.{AreInner, Goes, GoesWrong, MachineValue, with_event}
+use Rattle.run_semantics.specs.Place.{Doing, Ended, Receiving}
+use Rattle.run_transitions.specs.Machine.{place_of, value_of}
+use Rattle.run_transitions.specs.declared.machine.Machine.{Machine}
 use Rattle.sdl_system.specs.declared.id.VariableId.{VariableId}
 use Rattle.sdl_interp.proofs.stimulus.begin.Goals as goal
 

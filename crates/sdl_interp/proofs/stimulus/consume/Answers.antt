@@ -1,5 +1,5 @@
 use Rattle.std.proofs.Common.{◌≡◌, ◌∙◌, sym, ap, subst, refl, Some, ℕ}
-use Rattle.inbox.specs.Ends.{OwnerState}
+use Rattle.port_inbox.specs.Ends.{OwnerState}
 use Rattle.port_model.specs.Take as port
 use Rattle.port_values.specs.declared.item.SignalId.{SignalId}
 use Rattle.port_model.specs.declared.taken.Taken.TheVariants.{Consumed}
@@ -7,12 +7,12 @@ use Rattle.sdl_interp.proofs.First.{fails_recorded}
 use Rattle.sdl_interp.proofs.Reacting.{answers_input, answers_priority}
 use Rattle.sdl_interp.proofs.Recorded.{received_is, roomy_is, same_equal, same_failed, same_on, same_recorded}
 use Rattle.sdl_interp.specs.Stimulus.{Took}
-use Rattle.sdl_record.specs.Event as event
-use Rattle.sdl_record.specs.declared.failure.Failure.TheVariants.{Memory}
-use Rattle.sdl_runs.specs.Goes.{MachineValue}
-use Rattle.sdl_runs.specs.Reception.{receiving}
-use Rattle.sdl_steps.specs.Machine.{identity_of, value_of}
-use Rattle.sdl_steps.specs.declared.machine.Machine.{Machine}
+use Rattle.run_record.specs.Event as event
+use Rattle.run_record.specs.declared.failure.Failure.TheVariants.{Memory}
+use Rattle.run_semantics.specs.Goes.{MachineValue}
+use Rattle.run_semantics.specs.Reception.{receiving}
+use Rattle.run_transitions.specs.Machine.{identity_of, value_of}
+use Rattle.run_transitions.specs.declared.machine.Machine.{Machine}
 use Rattle.sdl_system.specs.Process.{reaction_in}
 use Rattle.sdl_system.specs.declared.state.Reaction.{Reaction}
 use Rattle.sdl_system.specs.declared.state.Reaction.TheVariants as react

@@ -1,14 +1,14 @@
 use Rattle.std.proofs.Common.{◌≡◌, sym, subst, ℕ}
-use Rattle.inbox.specs.Ends.{OwnerState}
+use Rattle.port_inbox.specs.Ends.{OwnerState}
 use Rattle.port_model.specs.declared.taken.Taken.TheVariants.{Discarded}
 use Rattle.sdl_interp.proofs.First.{discards, fails_recorded}
 use Rattle.sdl_interp.proofs.Recorded.{discarded_is, roomy_is, same_equal, same_failed, same_on, same_recorded}
 use Rattle.sdl_interp.specs.Stimulus.{Took}
-use Rattle.sdl_record.specs.Event as event
-use Rattle.sdl_runs.specs.Goes.{MachineValue}
-use Rattle.sdl_runs.specs.Reception.{taking}
-use Rattle.sdl_steps.specs.Machine.{identity_of, value_of}
-use Rattle.sdl_steps.specs.declared.machine.Machine.{Machine}
+use Rattle.run_record.specs.Event as event
+use Rattle.run_semantics.specs.Goes.{MachineValue}
+use Rattle.run_semantics.specs.Reception.{taking}
+use Rattle.run_transitions.specs.Machine.{identity_of, value_of}
+use Rattle.run_transitions.specs.declared.machine.Machine.{Machine}
 use Rattle.sdl_interp.proofs.stimulus.discard.Goals as goal
 
 pub returns-in-Err-clause-kept : goal.returns-in-Err-clause-kept

@@ -1,17 +1,17 @@
 use Rattle.std.proofs.Common.{ℕ, true}
-use Rattle.inbox.specs.Ends.{OwnerState}
+use Rattle.port_inbox.specs.Ends.{OwnerState}
 use Rattle.port_values.specs.declared.pid.Pid.TheVariants.{Of}
-use Rattle.sdl_evaluation.specs.Environment.{environment}
+use Rattle.run_evaluation.specs.Environment.{environment}
 use Rattle.sdl_interp.proofs.Bodies.{found_begins}
 use Rattle.sdl_interp.proofs.First.{provides}
 use Rattle.sdl_interp.proofs.Recorded.{provided_is, same_on, same_recorded}
-use Rattle.sdl_record.specs.Event as event
-use Rattle.sdl_runs.proofs.Goes.{step_on}
-use Rattle.sdl_runs.specs.Goes.{MachineValue}
-use Rattle.sdl_runs.specs.Place.{Doing, In}
-use Rattle.sdl_runs.specs.Reception.{provided}
-use Rattle.sdl_steps.specs.Machine.{identity_of, place_of, value_of}
-use Rattle.sdl_steps.specs.declared.machine.Machine.{Machine}
+use Rattle.run_record.specs.Event as event
+use Rattle.run_semantics.proofs.Goes.{step_on}
+use Rattle.run_semantics.specs.Goes.{MachineValue}
+use Rattle.run_semantics.specs.Place.{Doing, In}
+use Rattle.run_semantics.specs.Reception.{provided}
+use Rattle.run_transitions.specs.Machine.{identity_of, place_of, value_of}
+use Rattle.run_transitions.specs.declared.machine.Machine.{Machine}
 use Rattle.std.specs.Prelude.{Some}
 use Rattle.sdl_interp.proofs.stimulus.provide.Goals as goal
 

@@ -4,8 +4,8 @@ use Rattle.port_model.specs.declared.taken.Taken.{Taken}
 use Rattle.sdl_interp.proofs.Bodies.{is_inside}
 use Rattle.sdl_interp.proofs.Reacting.{table_continues}
 use Rattle.sdl_interp.specs.Stimulus.{Took}
-use Rattle.sdl_runs.specs.Goes.{MachineValue}
-use Rattle.sdl_steps.specs.Machine.{value_of}
+use Rattle.run_semantics.specs.Goes.{MachineValue}
+use Rattle.run_transitions.specs.Machine.{value_of}
 use Rattle.sdl_system.specs.Behaviour.{MeansContinuous}
 use Rattle.sdl_system.specs.declared.state.Continuous.{Continuous}
 use Rattle.port_model.specs.declared.taken.Taken.TheVariants.{Nothing}

@@ -1,7 +1,7 @@
-use Rattle.inbox.specs.Ends.{OwnerState}
+use Rattle.port_inbox.specs.Ends.{OwnerState}
 use Rattle.sdl_interp.proofs.First.{fails_unselected}
-use Rattle.sdl_runs.specs.Goes.{MachineValue}
-use Rattle.sdl_steps.specs.Machine.{value_of}
+use Rattle.run_semantics.specs.Goes.{MachineValue}
+use Rattle.run_transitions.specs.Machine.{value_of}
 use Rattle.sdl_interp.proofs.stimulus.select_and_take.Goals as goal
 
 pub returns-in-Err-clause-responds : goal.returns-in-Err-clause-responds

@@ -1,14 +1,14 @@
 use Rattle.std.proofs.Common.{ℕ, None, true}
-use Rattle.inbox.specs.Ends.{OwnerState}
+use Rattle.port_inbox.specs.Ends.{OwnerState}
 use Rattle.sdl_interp.proofs.Bodies.{start_begins}
 use Rattle.sdl_interp.proofs.First.{starts}
 use Rattle.sdl_interp.proofs.Recorded.{same_on, same_recorded, started_is}
-use Rattle.sdl_record.specs.Event as event
-use Rattle.sdl_runs.proofs.Goes.{step_on}
-use Rattle.sdl_runs.specs.Goes.{MachineValue}
-use Rattle.sdl_runs.specs.Place.{AtStart, Doing}
-use Rattle.sdl_steps.specs.Machine.{place_of, value_of}
-use Rattle.sdl_steps.specs.declared.machine.Machine.{Machine}
+use Rattle.run_record.specs.Event as event
+use Rattle.run_semantics.proofs.Goes.{step_on}
+use Rattle.run_semantics.specs.Goes.{MachineValue}
+use Rattle.run_semantics.specs.Place.{AtStart, Doing}
+use Rattle.run_transitions.specs.Machine.{place_of, value_of}
+use Rattle.run_transitions.specs.declared.machine.Machine.{Machine}
 use Rattle.sdl_interp.proofs.stimulus.start.Goals as goal
 
 pub returns-clause-kept : goal.returns-clause-kept

@@ -1,9 +1,9 @@
 use Rattle.std.proofs.Common.{sym, subst, Some}
 use Rattle.sdl_interp.proofs.Instances.{answered_stepped, responds_steps}
 use Rattle.sdl_interp.specs.Stimulus.{IsStepped, StepsFrom}
-use Rattle.sdl_runs.specs.Goes.{MachineValue}
-use Rattle.sdl_steps.specs.Machine.{value_of}
-use Rattle.sdl_steps.specs.declared.machine.Position.{Position}
+use Rattle.run_semantics.specs.Goes.{MachineValue}
+use Rattle.run_transitions.specs.Machine.{value_of}
+use Rattle.run_transitions.specs.declared.machine.Position.{Position}
 use Rattle.sdl_interp.proofs.stimulus.step_from.Goals as goal
 
 pub returns-in-BeforeStart-clause-steps : goal.returns-in-BeforeStart-clause-steps

@@ -1,15 +1,15 @@
 use Rattle.std.proofs.Common.{sym, ap, subst, List}
-use Rattle.inbox.specs.Ends.{OwnerState}
+use Rattle.port_inbox.specs.Ends.{OwnerState}
 use Rattle.port_model.specs.declared.selection.Class.{Class}
 use Rattle.sdl_interp.proofs.First.{cannot_take, fails_refused, fails_unselected}
 use Rattle.sdl_interp.proofs.Recorded.{roomy_is}
 use Rattle.sdl_interp.specs.Selected.{CannotSelect}
 use Rattle.sdl_interp.specs.Stimulus.{FailsThen, Took}
-use Rattle.sdl_record.specs.declared.failure.Failure.{Failure}
-use Rattle.sdl_runs.specs.Goes.{MachineValue}
-use Rattle.sdl_runs.specs.Leads.{Selecting}
-use Rattle.sdl_steps.specs.Machine.{identity_of, value_of}
-use Rattle.sdl_steps.specs.declared.machine.Machine.{Machine}
+use Rattle.run_record.specs.declared.failure.Failure.{Failure}
+use Rattle.run_semantics.specs.Goes.{MachineValue}
+use Rattle.run_semantics.specs.Leads.{Selecting}
+use Rattle.run_transitions.specs.Machine.{identity_of, value_of}
+use Rattle.run_transitions.specs.declared.machine.Machine.{Machine}
 use Rattle.sdl_interp.proofs.stimulus.take_by.Goals as goal
 
 pub returns-in-Err-clause-responds : goal.returns-in-Err-clause-responds

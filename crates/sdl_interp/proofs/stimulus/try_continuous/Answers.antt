@@ -1,10 +1,10 @@
 use Rattle.std.proofs.Common.{sym, subst, Bool}
-use Rattle.inbox.specs.Ends.{OwnerState}
+use Rattle.port_inbox.specs.Ends.{OwnerState}
 use Rattle.sdl_interp.proofs.Reacting.{answers_failure, found_here, waits_untried}
 use Rattle.sdl_interp.proofs.Recorded.{same_failed}
-use Rattle.sdl_runs.specs.Goes.{Goes, IsOneStep}
-use Rattle.sdl_runs.specs.Place.{In}
-use Rattle.sdl_steps.specs.Machine.{place_of, value_of}
+use Rattle.run_semantics.specs.Goes.{Goes, IsOneStep}
+use Rattle.run_semantics.specs.Place.{In}
+use Rattle.run_transitions.specs.Machine.{place_of, value_of}
 use Rattle.sdl_interp.proofs.stimulus.try_continuous.Goals as goal
 
 pub returns-in-Err-clause-kept : goal.returns-in-Err-clause-kept

@@ -1,4 +1,4 @@
-use Rattle.sdl_read.proofs.Grammar.{limit}
+use Rattle.parse_expressions.proofs.Grammar.{limit}
 use Rattle.sdl_parse.proofs.SystemLaws.{specification_moves}
 use Rattle.sdl_parse.proofs.laws.alike_spell.Goals as goal
 

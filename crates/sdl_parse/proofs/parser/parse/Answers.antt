@@ -1,7 +1,7 @@
 use Rattle.std.proofs.Common.{rules, arith, ◌≡◌, ◌≤◌, length, subst}
 use Rattle.std.proofs.lemmas.Grind.{common_steps}
-use Rattle.sdl_read.proofs.Grammar.{limit, tree_value, Words, words_of, Fails}
-use Rattle.sdl_read.proofs.AllLaws.{read_as}
+use Rattle.parse_expressions.proofs.Grammar.{limit, tree_value, Words, words_of, Fails}
+use Rattle.parse_expressions.proofs.AllLaws.{read_as}
 use Rattle.sdl_parse.specs.Systems.{specification}
 use Rattle.sdl_parse.proofs.ParserLemmas.{found, refuses}
 use Rattle.sdl_parse.proofs.parser.parse.Goals as goal

@@ -1,5 +1,5 @@
 use Rattle.std.specs.String.{string_bytes}
-use Rattle.sdl_record.specs.Entry.{event_of}
+use Rattle.run_record.specs.Entry.{event_of}
 use Rattle.sdl_report.specs.ReportText.{event_line}
 use Rattle.sdl_report.proofs.GatheredLemmas.{Breaks-gathered, Breaks-now, OnErr-any}
 use Rattle.sdl_report.proofs.report_text.write_event.Goals as goal

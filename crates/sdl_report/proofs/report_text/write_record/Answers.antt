@@ -2,11 +2,11 @@ use Rattle.std.proofs.Common.{◌++◌, ◌∙◌, arith, subst, sym}
 use Rattle.std.proofs.lemmas.List.{take_all}
 use Rattle.std.specs.List.{flat_map}
 use Rattle.std.specs.String.{string_bytes}
-use Rattle.sdl_record.specs.Entry.{told}
+use Rattle.run_record.specs.Entry.{told}
 use Rattle.sdl_report.specs.Gathered.{Breaks, Grows}
 use Rattle.sdl_report.specs.ReportText.{event_line, heading_text, line}
 use Rattle.sdl_report.proofs.CursorLemmas.{count-within, left-more, told-here}
-use Rattle.sdl_record.proofs.EntryLemmas.{length-told}
+use Rattle.run_record.proofs.EntryLemmas.{length-told}
 use Rattle.sdl_report.proofs.GatheredLemmas.{Breaks-inside, Grows-more, OnErr-any}
 use Rattle.sdl_report.proofs.report_text.write_record.Goals as goal
 

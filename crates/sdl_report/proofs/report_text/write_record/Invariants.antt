@@ -1,7 +1,7 @@
 use Rattle.std.proofs.Common.{◌≡◌, ◌++◌, drop, take}
 use Rattle.std.specs.List.{flat_map}
 use Rattle.std.specs.String.{string_bytes}
-use Rattle.sdl_record.specs.Entry.{counted, told}
+use Rattle.run_record.specs.Entry.{counted, told}
 use Rattle.sdl_report.specs.Gathered.{Grows}
 use Rattle.sdl_report.specs.ReportText.{event_line, heading_text, line}
 use Rattle.sdl_report.proofs.report_text.write_record.Given as goal

@@ -1,5 +1,5 @@
 use Rattle.std.proofs.Common.{◌∙◌, ap, rules}
-use Rattle.inbox.specs.Calls.{HasDrawn}
+use Rattle.port_inbox.specs.Calls.{HasDrawn}
 use Rattle.port_queue.proofs.Drawing.{goes_on}
 use Rattle.port_queue.proofs.drawer.Drawer.take.Goals as goal
 

@@ -1,5 +1,5 @@
 use Rattle.std.proofs.Common.{◌≡◌}
-use Rattle.inbox.specs.Calls.{HasDrawn}
+use Rattle.port_inbox.specs.Calls.{HasDrawn}
 use Rattle.port_queue.proofs.drawer.Drawer.take.Given as goal
 
 abbrev pub invariant-loop : goal.invariant-loop

@@ -1,11 +1,11 @@
 use Rattle.std.proofs.Common.{◌≤◌, ◌∙◌, sym, ap, arith}
 use Rattle.port_model.specs.Port.{PortState}
-use Rattle.sdl_evaluation.specs.Environment.{initial_store}
-use Rattle.sdl_evaluation.specs.Variables.{VariableList}
+use Rattle.run_evaluation.specs.Environment.{initial_store}
+use Rattle.run_evaluation.specs.Variables.{VariableList}
 use Rattle.sdl_interp.proofs.Instances.{holds_ok, variables_mean}
-use Rattle.sdl_record.specs.Record.{RecordValue}
-use Rattle.sdl_runs.proofs.Histories.{run_begins}
-use Rattle.sdl_steps.specs.Machine.{identity_of}
+use Rattle.run_record.specs.Record.{RecordValue}
+use Rattle.run_semantics.proofs.Histories.{run_begins}
+use Rattle.run_transitions.specs.Machine.{identity_of}
 use Rattle.sdl_interp.proofs.instance.Instance.new.Goals as goal
 
 pub invariant_of-result : goal.invariant_of-result

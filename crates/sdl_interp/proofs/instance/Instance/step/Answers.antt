@@ -4,7 +4,7 @@ use Rattle.sdl_interp.proofs.Instances.{idle_is, stepped_is}
 use Rattle.sdl_interp.proofs.Stepping.{ends_by, keeps_by, moves_by}
 use Rattle.sdl_interp.proofs.instance.Instance.step.Goals as goal
 use Rattle.sdl_interp.proofs.instance.Instance.step.Goals.{in-Ended-to, in_default-to}
-use Rattle.sdl_runs.specs.World.{WorldValue}
+use Rattle.run_semantics.specs.World.{WorldValue}
 
 pub invariant_of-self : goal.invariant_of-self
 invariant_of-self g c =

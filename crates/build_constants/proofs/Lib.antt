@@ -1,0 +1,4 @@
+pub mod BrokenLaws
+mod CountLemmas
+pub mod LimitLemmas
+pub mod SynonymLemmas

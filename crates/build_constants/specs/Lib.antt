@@ -1,0 +1,8 @@
+pub mod Broken
+pub mod Counts
+pub mod Figures
+pub mod Limit
+pub mod Scopes
+pub mod Synonyms
+pub mod Timers
+pub mod Variables

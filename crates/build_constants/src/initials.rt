@@ -1,0 +1,69 @@
+//! What each variable begins with.
+
+ghost use Rattle.std.specs.Prelude.{◌≡◌, flat_map, IfOk};
+ghost use Rattle.build_definitions.specs.Seen.{value_seen};
+ghost use Rattle.build_definitions.specs.Tables.{rows_of};
+ghost use Rattle.build_constants.specs.Figures.{all_initials, initial_at, initial_faults_at, sort_of_entry};
+ghost use Rattle.build_faults.specs.Faults.{least_of, told};
+
+use crate::scope::scope_at;
+use crate::variables::initial_value;
+use build_definitions::{Tables, ValueName};
+use build_expressions::{Constant, ValueEntry};
+use build_faults::Faults;
+use build_names::Declared;
+use sdl_system::Sort;
+use std::alloc::{AllocError, Global};
+
+/// What each variable begins with, by its place among all variables, formal parameters and synonyms. None where no
+/// initial value stands. Noted are the faults of these values.
+pub fn initials_of<'t>(
+    alloc: Global,
+    tables: &Tables<'t>,
+    declared: &Declared<'_, 't>,
+    constants: &[Constant],
+    faults: &mut Faults<'t>,
+) -> Result<Vec<Option<Constant>>, AllocError>
+    ensures values { IfOk result (λ values. values.items
+        ≡ all_initials (rows_of tables.now) declared.now constants.now) }
+    ensures noted { IfOk result (λ values. told faults.new ≡ least_of (told faults.old)
+        (flat_map (initial_faults_at (rows_of tables.now) declared.now constants.now) (rows_of tables.now).values)) }
+{
+    let mut values = Vec::new(alloc);
+    for entry in &tables.values {
+        values.push(initial_of(alloc, tables, declared, constants, entry, faults)?)?;
+    }
+    Ok(values)
+}
+
+fn initial_of<'t>(
+    alloc: Global,
+    tables: &Tables<'t>,
+    declared: &Declared<'_, 't>,
+    constants: &[Constant],
+    entry: &ValueName<'t>,
+    faults: &mut Faults<'t>,
+) -> Result<Option<Constant>, AllocError>
+    ensures value { IfOk result (λ value. value
+        ≡ initial_at (rows_of tables.now) declared.now constants.now (value_seen entry.now)) }
+    ensures noted { IfOk result (λ value. told faults.new ≡ least_of (told faults.old)
+        (initial_faults_at (rows_of tables.now) declared.now constants.now (value_seen entry.now))) }
+{
+    let scope = scope_at(declared, constants, tables.path_of(entry.scope));
+    initial_value(
+        alloc,
+        &scope,
+        sort_of_entry(entry.entry),
+        entry.initial,
+        faults,
+    )
+}
+
+fn sort_of_entry(entry: ValueEntry) -> Option<Sort>
+    ensures { result ≡ sort_of_entry entry }
+{
+    match entry {
+        ValueEntry::Variable { sort, .. } => sort,
+        ValueEntry::Synonym { sort, .. } => sort,
+    }
+}

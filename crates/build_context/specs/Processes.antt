@@ -1,0 +1,30 @@
+-- When a process is what its text says.
+use Rattle.std.specs.Prelude.{All, Option, None, Some, length}
+use Rattle.build_definitions.specs.Rows.{ProcessRow}
+use Rattle.build_process.specs.Made.{IsHeaded}
+use Rattle.build_process.specs.Meant.{IsBehaviour}
+use Rattle.build_process.specs.Refused.{IsRefused}
+use Rattle.build_process.specs.declared.heading.Heading.{Heading}
+use Rattle.build_context.specs.Headings.{IsHeading}
+use Rattle.build_context.specs.Surroundings.{surroundings}
+use Rattle.build_context.specs.Survey.{Survey}
+use Rattle.sdl_system.specs.Behaviour.{Behaviour, Means}
+use Rattle.sdl_system.specs.Soundness.{Keeps}
+use Rattle.sdl_system.specs.declared.id.ProcessId.{ProcessId}
+use Rattle.sdl_system.specs.declared.process.Process.{Process}
+
+-- The process of this number does what its text says: it has what its heading says, and means each behaviour that the
+-- text has; and its tables agree with one another, for the signals of the system.
+pub record IsProcess (survey : Survey) (number : ProcessId) (row : ProcessRow) (process : Process) : Type 0 where
+  pub heading : Heading
+  pub said : IsHeading survey number row heading
+  pub headed : IsHeaded heading process
+  pub means : (behaviour : Behaviour)
+      → IsBehaviour (surroundings survey number row.definition) row.definition heading behaviour
+      → Means process behaviour
+  pub keeps : All (Keeps (length survey.rows.signals) process) process.tables.items
+
+-- it, or why there is none
+abbrev pub IsMadeFrom : Survey → ProcessId → ProcessRow → Option Process → Type 0
+IsMadeFrom survey number row None = IsRefused (surroundings survey number row.definition) row.definition
+IsMadeFrom survey number row (Some process) = IsProcess survey number row process

@@ -1,0 +1,14 @@
+use Rattle.std.proofs.Common.{◌∙◌, ap, option_map, sym}
+use Rattle.build_limits.specs.Names.{names_in}
+use Rattle.build_expressions.specs.Scope.{value_meaning, visible}
+use Rattle.build_expressions.proofs.ScopeLemmas.{meaning-first, outward-first}
+use Rattle.build_expressions.proofs.scope.Scope.value.Goals as goal
+
+pub returns : goal.returns
+returns c =
+    let names = c.args.self.now.values in
+    let meant = value_meaning c.args.self.now.constants.now in
+    c.meaning.ensures
+    ∙ ap (option_map meant) (c.get.ensures
+    ∙ outward-first (names_in names.process) (names_in names.block) names.system.now c.args.text.now)
+    ∙ sym (meaning-first meant (visible names) c.args.text.now)

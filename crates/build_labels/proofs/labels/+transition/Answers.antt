@@ -1,0 +1,38 @@
+use Rattle.std.proofs.Common.{◌∙◌, ◌++◌, List, ap, map, option_map, sym}
+use Rattle.std.proofs.lemmas.List.{append_assoc}
+use Rattle.std.proofs.lemmas.Result.{on_ok_weaker}
+use Rattle.build_labels.proofs.LabelLemmas.{decision_labels, steps_labels}
+use Rattle.build_labels.specs.Labels.{actions_labels, ending_labels, names_listed, otherwise_labels, parts_labels}
+use Rattle.sdl_tree.specs.Tree.{actions_of, else_of, parts_of}
+use Rattle.sdl_tree.specs.Views.{answer_part_value, ending_value, statement_value, transition_value}
+use Rattle.sdl_tree.specs.declared.behaviour.ActionStatement.{ActionStatement}
+use Rattle.sdl_tree.specs.declared.behaviour.AnswerPart.{AnswerPart}
+use Rattle.sdl_tree.specs.declared.behaviour.Transition.{out-Transition}
+use Rattle.build_labels.proofs.labels.+transition.Goals as goal
+
+pub add_transition-returns : goal.add_transition-returns
+add_transition-returns t c =
+    let steps = out-Transition c.args.transition.now in
+    let old = names_listed c.args.labels.now.items in
+    let endings = ending_labels (option_map ending_value steps.terminator) in
+    let actions = λ (xs : List ActionStatement). actions_labels (actions_of (map statement_value xs)) in
+    on_ok_weaker c.add_ending.result (λ is.
+    is
+    ∙ ap (λ before. before ++ endings)
+    (c.in_ok-add_statements.ensures ∙ ap (λ xs. old ++ actions xs) c.deref.ensures.value)
+    ∙ append_assoc old (actions steps.actions.items) endings
+    ∙ ap (λ labels. old ++ labels) (sym (steps_labels c.args.transition.now))) c.add_ending.ensures
+
+pub add_action-returns-in_ok-add_parts-in-Decision : goal.add_action-returns-in_ok-add_parts-in-Decision
+add_action-returns-in_ok-add_parts-in-Decision t c =
+    let d = c.in-Decision in
+    let old = names_listed c.args.labels.now.items in
+    let parts = λ (xs : List AnswerPart). parts_labels (parts_of (map answer_part_value xs)) in
+    let otherwise = otherwise_labels (else_of (option_map transition_value d.otherwise)) in
+    rw d.is (on_ok_weaker c.add_otherwise.result (λ is.
+    is
+    ∙ ap (λ before. before ++ otherwise)
+    (c.in_ok-add_parts-in-Decision.ensures ∙ ap (λ xs. old ++ parts xs) c.deref.ensures.value)
+    ∙ append_assoc old (parts d.parts.items) otherwise
+    ∙ ap (λ labels. old ++ labels) (sym (decision_labels d.word d.question d.parts d.otherwise)))
+    c.add_otherwise.ensures)

@@ -1,0 +1,14 @@
+use Rattle.std.proofs.Common.{◌≡◌, fold, take}
+use Rattle.build_labels.specs.Labels.{names_listed}
+use Rattle.build_limits.specs.Limits.{with_new}
+use Rattle.build_limits.specs.Listed.{words_listed}
+use Rattle.sdl_tree.specs.Views.{names_value}
+use Rattle.build_labels.proofs.states.add_states.Given as goal
+
+abbrev pub invariant-loop-name : goal.invariant-loop-name
+invariant-loop-name l = record {
+  seen : words_listed l.seen ≡ names_listed l.states.items;
+  states :
+      names_listed l.states.items
+      ≡ fold with_new (names_listed l.initial.states.items) (names_value (take l.name-index l.names));
+}

@@ -1,0 +1,51 @@
+//! Names of channels.
+
+ghost use Rattle.std.specs.Prelude.{◌≡◌, map, IfOk};
+ghost use Rattle.build_definitions.specs.Seen.{channel_seen};
+ghost use Rattle.build_definitions.specs.Tables.{rows_of};
+ghost use Rattle.build_names.specs.Entries.{Has, duplicates, entries_of, standings};
+ghost use Rattle.build_names.specs.Meanings.{channel_entries, channels_from};
+ghost use Rattle.build_faults.specs.Faults.{least_of, told};
+
+use crate::declaration::{Declaration, add, declare_all};
+use build_definitions::{ChannelEntry, ChannelId, Tables, next_number};
+use build_faults::Faults;
+use build_scopes::Spaces;
+use std::alloc::{AllocError, Global};
+
+/// The names of channels, by their scopes.
+pub fn declare_channels<'t>(
+    alloc: Global,
+    tables: &Tables<'t>,
+    faults: &mut Faults<'t>,
+) -> Result<Spaces<'t, ChannelId>, AllocError>
+    ensures spaces { IfOk result (λ spaces. Has spaces (channel_entries (rows_of tables.now))) }
+    ensures noted { IfOk result (λ spaces. told faults.new
+        ≡ least_of (told faults.old) (duplicates (standings (channel_entries (rows_of tables.now))))) }
+{
+    let declarations = channel_declarations(alloc, &tables.channels)?;
+    declare_all(alloc, &declarations, faults)
+}
+
+fn channel_declarations<'t>(
+    alloc: Global,
+    table: &[ChannelEntry<'t>],
+) -> Result<Vec<Declaration<'t, ChannelId>>, AllocError>
+    ensures { IfOk result (λ declarations. entries_of declarations.items
+        ≡ channels_from 0 (map channel_seen table.now)) }
+{
+    let mut declarations = Vec::new(alloc);
+    let mut next = 0;
+    for entry in table {
+        add(
+            &mut declarations,
+            Declaration {
+                scope: entry.scope,
+                name: &entry.definition.name,
+                what: ChannelId(next),
+            },
+        )?;
+        next = next_number(next)?;
+    }
+    Ok(declarations)
+}

@@ -1,0 +1,49 @@
+//! Names of labels.
+
+ghost use Rattle.std.specs.Prelude.{◌≡◌, map, IfOk};
+ghost use Rattle.build_definitions.specs.Seen.{label_seen};
+ghost use Rattle.build_definitions.specs.Tables.{rows_of};
+ghost use Rattle.build_names.specs.Entries.{Has, duplicates, entries_of, standings};
+ghost use Rattle.build_names.specs.Meanings.{label_entries, label_entry};
+ghost use Rattle.build_faults.specs.Faults.{least_of, told};
+
+use crate::declaration::{Declaration, add, declare_all};
+use build_definitions::{LabelEntry, Tables};
+use build_faults::Faults;
+use build_scopes::{ScopeId, Spaces};
+use sdl_system::LabelId;
+use std::alloc::{AllocError, Global};
+
+/// The names of labels, by their processes.
+pub fn declare_labels<'t>(
+    alloc: Global,
+    tables: &Tables<'t>,
+    faults: &mut Faults<'t>,
+) -> Result<Spaces<'t, LabelId>, AllocError>
+    ensures spaces { IfOk result (λ spaces. Has spaces (label_entries (rows_of tables.now))) }
+    ensures noted { IfOk result (λ spaces. told faults.new
+        ≡ least_of (told faults.old) (duplicates (standings (label_entries (rows_of tables.now))))) }
+{
+    let declarations = label_declarations(alloc, &tables.labels)?;
+    declare_all(alloc, &declarations, faults)
+}
+
+fn label_declarations<'t>(
+    alloc: Global,
+    table: &[LabelEntry<'t>],
+) -> Result<Vec<Declaration<'t, LabelId>>, AllocError>
+    ensures { IfOk result (λ declarations. entries_of declarations.items ≡ map label_entry (map label_seen table.now)) }
+{
+    let mut declarations = Vec::new(alloc);
+    for entry in table {
+        add(
+            &mut declarations,
+            Declaration {
+                scope: ScopeId::Process(entry.process),
+                name: entry.name,
+                what: entry.number,
+            },
+        )?;
+    }
+    Ok(declarations)
+}

@@ -1,0 +1,51 @@
+//! Names of signal lists.
+
+ghost use Rattle.std.specs.Prelude.{◌≡◌, map, IfOk};
+ghost use Rattle.build_definitions.specs.Seen.{signal_list_seen};
+ghost use Rattle.build_definitions.specs.Tables.{rows_of};
+ghost use Rattle.build_names.specs.Entries.{Has, duplicates, entries_of, standings};
+ghost use Rattle.build_names.specs.Meanings.{list_entries, lists_from};
+ghost use Rattle.build_faults.specs.Faults.{least_of, told};
+
+use crate::declaration::{Declaration, add, declare_all};
+use build_definitions::{SignalListEntry, SignalListId, Tables, next_number};
+use build_faults::Faults;
+use build_scopes::Spaces;
+use std::alloc::{AllocError, Global};
+
+/// The names of signal lists, by their scopes.
+pub fn declare_lists<'t>(
+    alloc: Global,
+    tables: &Tables<'t>,
+    faults: &mut Faults<'t>,
+) -> Result<Spaces<'t, SignalListId>, AllocError>
+    ensures spaces { IfOk result (λ spaces. Has spaces (list_entries (rows_of tables.now))) }
+    ensures noted { IfOk result (λ spaces. told faults.new
+        ≡ least_of (told faults.old) (duplicates (standings (list_entries (rows_of tables.now))))) }
+{
+    let declarations = list_declarations(alloc, &tables.lists)?;
+    declare_all(alloc, &declarations, faults)
+}
+
+fn list_declarations<'t>(
+    alloc: Global,
+    table: &[SignalListEntry<'t>],
+) -> Result<Vec<Declaration<'t, SignalListId>>, AllocError>
+    ensures { IfOk result (λ declarations. entries_of declarations.items
+        ≡ lists_from 0 (map signal_list_seen table.now)) }
+{
+    let mut declarations = Vec::new(alloc);
+    let mut next = 0;
+    for entry in table {
+        add(
+            &mut declarations,
+            Declaration {
+                scope: entry.scope,
+                name: &entry.definition.name,
+                what: SignalListId(next),
+            },
+        )?;
+        next = next_number(next)?;
+    }
+    Ok(declarations)
+}

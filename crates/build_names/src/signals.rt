@@ -1,0 +1,73 @@
+//! Names of signals and timers.
+
+ghost use Rattle.std.specs.Prelude.{◌≡◌, map, IfOk};
+ghost use Rattle.build_definitions.specs.Seen.{kind_seen, signal_seen};
+ghost use Rattle.build_definitions.specs.Tables.{rows_of};
+ghost use Rattle.build_names.specs.Entries.{HasMeant, duplicates, entry_seen, standings};
+ghost use Rattle.build_names.specs.Meanings.{signal_entries, signal_means, signals_from};
+ghost use Rattle.build_faults.specs.Faults.{least_of, told};
+ghost use Rattle.build_expressions.specs.Scope.{signal_meaning};
+
+use crate::declaration::{Declaration, add, declare_all};
+use build_definitions::{SignalEntry, SignalKind, Tables, next_number};
+use build_expressions::SignalMeaning;
+use build_faults::Faults;
+use build_scopes::Spaces;
+use port_values::SignalId;
+use sdl_system::Sort;
+use std::alloc::{AllocError, Global};
+
+/// The names of signals and timers, by their scopes.
+pub fn declare_signals<'s, 't>(
+    alloc: Global,
+    tables: &'s Tables<'t>,
+    faults: &mut Faults<'t>,
+) -> Result<Spaces<'t, SignalMeaning<'s>>, AllocError>
+    ensures spaces { IfOk result (λ spaces. HasMeant signal_meaning spaces (signal_entries (rows_of tables.now))) }
+    ensures noted { IfOk result (λ spaces. told faults.new
+        ≡ least_of (told faults.old) (duplicates (standings (signal_entries (rows_of tables.now))))) }
+{
+    let declarations = signal_declarations(alloc, &tables.signals)?;
+    declare_all(alloc, &declarations, faults)
+}
+
+fn signal_declarations<'s, 't>(
+    alloc: Global,
+    table: &'s [SignalEntry<'t>],
+) -> Result<Vec<Declaration<'t, SignalMeaning<'s>>>, AllocError>
+    ensures { IfOk result (λ declarations. map (entry_seen signal_meaning) declarations.items
+        ≡ signals_from 0 (map signal_seen table.now)) }
+{
+    let mut declarations = Vec::new(alloc);
+    let mut next = 0;
+    for entry in table {
+        add(
+            &mut declarations,
+            Declaration {
+                scope: entry.scope,
+                name: entry.name,
+                what: meaning_of(SignalId(next), &entry.sorts, entry.kind),
+            },
+        )?;
+        next = next_number(next)?;
+    }
+    Ok(declarations)
+}
+
+/// What the signal or the timer of this number stands for.
+fn meaning_of<'s>(
+    number: SignalId,
+    sorts: &'s [Option<Sort>],
+    kind: SignalKind<'_>,
+) -> SignalMeaning<'s>
+    ensures { signal_meaning result ≡ signal_means number.0 sorts.now (kind_seen kind.entry) }
+{
+    match kind {
+        SignalKind::Signal => SignalMeaning::Signal { number, sorts },
+        SignalKind::Timer { duration } => SignalMeaning::Timer {
+            number,
+            sorts,
+            has_default: duration.is_some(),
+        },
+    }
+}

@@ -1,0 +1,4 @@
+pub mod BrokenLaws
+pub mod ListedLaws
+pub mod NumberLemmas
+pub mod PathLemmas

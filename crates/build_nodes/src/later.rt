@@ -1,0 +1,16 @@
+//! Faults of a later part of the text, noted apart.
+
+ghost use Rattle.std.specs.Prelude.{◌≡◌};
+ghost use Rattle.build_nodes.specs.Later.{with_later};
+ghost use Rattle.build_faults.specs.Faults.{told};
+
+use build_faults::Faults;
+
+/// Notes the faults of a later part behind those of the parts before it.
+pub fn note_later<'t>(later: &Faults<'t>, faults: &mut Faults<'t>)
+    ensures { told faults.new ≡ with_later (told faults.old) (told later.now) }
+{
+    if let Some(fault) = later.least() {
+        faults.note(fault.kind, fault.token);
+    }
+}

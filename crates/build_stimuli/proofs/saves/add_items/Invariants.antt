@@ -1,0 +1,17 @@
+use Rattle.std.proofs.Common.{◌≡◌, ◌++◌, map, take}
+use Rattle.build_faults.specs.Faults.{least_of, told}
+use Rattle.build_stimuli.specs.Context.{context_of}
+use Rattle.build_stimuli.specs.Faulty.{saved_faults}
+use Rattle.build_stimuli.specs.Listed.{mentions_listed}
+use Rattle.build_stimuli.specs.Mentions.{saved_mentions}
+use Rattle.sdl_tree.specs.Tree.{SaveList}
+use Rattle.sdl_tree.specs.Views.{item_value}
+use Rattle.build_stimuli.proofs.saves.add_items.Given as goal
+
+abbrev pub invariant-loop-item : goal.invariant-loop-item
+invariant-loop-item l = record {
+  read : mentions_listed l.mentions.items ≡ mentions_listed l.initial.mentions.items
+      ++ saved_mentions (context_of l.context) (SaveList (map item_value (take l.item-index l.items)));
+  noted : told l.faults ≡ least_of (told l.initial.faults)
+      (saved_faults (context_of l.context) (SaveList (map item_value (take l.item-index l.items))));
+}

@@ -1,5 +1,0 @@
--- In this run the port is whose it is said to be.
-use Rattle.input_port_tests.proofs.peers.puts_to_another.Given as goal
-
-abbrev pub ghosts-puts_one : goal.ghosts-puts_one
-ghosts-puts_one g a = record { ports = λ _. a.port.now.queue }

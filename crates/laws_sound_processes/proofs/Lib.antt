@@ -1,0 +1,11 @@
+pub mod BehaviourLemmas
+pub mod BodyLemmas
+pub mod ConditionLemmas
+pub mod InputLemmas
+pub mod KindLemmas
+pub mod LabelLemmas
+pub mod MeaningLemmas
+pub mod MeetLemmas
+pub mod StartLemmas
+pub mod TableLemmas
+pub mod TypedLemmas

@@ -1,0 +1,325 @@
+//! The evaluation of expressions (Z.104: expressions).
+
+ghost use Rattle.std.specs.Prelude.{◌≡◌, Ok, IfErr, IfOk, IfSome, map, true};
+ghost use Rattle.port_model.specs.Port.{PortState};
+ghost use Rattle.sdl_system.specs.System.{SystemValue};
+ghost use Rattle.sdl_system.specs.Term.{operand_of, term_of, term_of_chain};
+ghost use Rattle.run_evaluation.specs.Environment.{environment};
+ghost use Rattle.run_evaluation.specs.Memory.{FailsAs, list_wants_memory, wants_memory};
+ghost use Rattle.run_evaluation.specs.Variables.{value_in};
+ghost use Rattle.run_evaluation.specs.declared.identity.Identity as identity;
+ghost use Rattle.run_evaluation.specs.Value.{accessed, at_place, key_at, operated, pid_in, placed, time_value, truth_at, value_of, values_at};
+
+use crate::identity::Identity;
+use crate::sorts::sorts_of;
+use crate::store::Store;
+use port_inbox::Inbox;
+use port_values::{Pid, SignalId, Ticks, TimerKey, Value, Values};
+use run_record::Failure;
+use sdl_system::{
+    Chain, Expression, Link, PidExpression, Sort, System, VariableId, in_sort, truth_of,
+};
+use std::alloc::Global;
+
+/// What an expression comes to for an instance of the system. Errors: `Overflow` for a number or a time past 64 bits,
+/// `ZeroDivisor`, `Undefined` for a variable that was never assigned, `NotNatural` for a negative value of a timer
+/// whose parameter is a Natural; of several failures the first from the left. `Memory` only where the expression asks
+/// for a timer with values.
+#[cycle(evaluation)]
+#[inline(always)]
+pub fn evaluate<P: Inbox>(
+    alloc: Global,
+    expression: &Expression,
+    system: &System,
+    who: &Identity,
+    store: &Store,
+    inbox: &P,
+) -> Result<Value, Failure>
+    requires { (P.owning inbox.now).state.alive ≡ true }
+    ensures ok { let here = environment system.now who.now store.now (P.owning inbox.now).state in
+        IfOk result (λ value. value_of here (term_of expression.now) ≡ Ok value) }
+    ensures err { let here = environment system.now who.now store.now (P.owning inbox.now).state in
+        let term = term_of expression.now in
+        IfErr result (λ why. FailsAs (wants_memory term) (value_of here term) why) }
+{
+    if let Some(value) = store.known(expression) {
+        return Ok(value);
+    }
+    match expression {
+        Expression::Chain(chain) => evaluate_chain(alloc, chain, system, who, store, inbox),
+        _ => evaluate_any(alloc, expression, system, who, store, inbox),
+    }
+}
+
+/// The same, in a frame that only some expressions need. Literals and variables, as most operands are, come to their
+/// values without it.
+#[cycle(evaluation)]
+#[inline(never)]
+fn evaluate_any<P: Inbox>(
+    alloc: Global,
+    expression: &Expression,
+    system: &System,
+    who: &Identity,
+    store: &Store,
+    inbox: &P,
+) -> Result<Value, Failure>
+    requires { (P.owning inbox.now).state.alive ≡ true }
+    ensures ok { let here = environment system.now who.now store.now (P.owning inbox.now).state in
+        IfOk result (λ value. value_of here (term_of expression.now) ≡ Ok value) }
+    ensures err { let here = environment system.now who.now store.now (P.owning inbox.now).state in
+        let term = term_of expression.now in
+        IfErr result (λ why. FailsAs (wants_memory term) (value_of here term) why) }
+{
+    match expression {
+        Expression::Value(value) => Ok(*value),
+        Expression::Variable(variable) => read(store, *variable),
+        Expression::Now => time_value(store.time),
+        Expression::Pid(word) => Ok(Value::Pid(pid_of(*word, who, store))),
+        Expression::Active { timer, values } => {
+            let key = evaluate_key(alloc, *timer, values, system, who, store, inbox)?;
+            Ok(Value::Bool(inbox.active(&key)))
+        }
+        Expression::Unary { operation, operand } => {
+            let operand = evaluate(alloc, operand, system, who, store, inbox)?;
+            Ok(operation.apply(operand)?)
+        }
+        Expression::Chain(chain) => evaluate_chain(alloc, chain, system, who, store, inbox),
+    }
+}
+
+/// The operands from left to right. Most chains are of two operands that are known.
+#[cycle(evaluation)]
+#[inline(always)]
+fn evaluate_chain<P: Inbox>(
+    alloc: Global,
+    chain: &Chain,
+    system: &System,
+    who: &Identity,
+    store: &Store,
+    inbox: &P,
+) -> Result<Value, Failure>
+    requires { (P.owning inbox.now).state.alive ≡ true }
+    ensures ok { let here = environment system.now who.now store.now (P.owning inbox.now).state in
+        IfOk result (λ value. value_of here (term_of_chain chain.now) ≡ Ok value) }
+    ensures err { let here = environment system.now who.now store.now (P.owning inbox.now).state in
+        let term = term_of_chain chain.now in
+        IfErr result (λ why. FailsAs (wants_memory term) (value_of here term) why) }
+{
+    match evaluate_pair(chain, store) {
+        Some(answer) => answer,
+        None => evaluate_links(alloc, chain, system, who, store, inbox),
+    }
+}
+
+/// What a chain of two operands that are known comes to. None: it is another one.
+#[inline(always)]
+fn evaluate_pair(chain: &Chain, store: &Store) -> Option<Result<Value, Failure>>
+    ensures { (system : SystemValue) (who : identity.Identity) (port : PortState)
+        → IfSome result
+        (λ answer. value_of (environment system who store.now port) (term_of_chain chain.now) ≡ answer) }
+{
+    if chain.rest.len() != 1 {
+        return None;
+    }
+    let link = &chain.rest[0];
+    let left = store.known(&chain.first)?;
+    let right = store.known(&link.operand)?;
+    match link.operation.apply(left, right) {
+        Ok(value) => Some(Ok(value)),
+        Err(why) => Some(Err(Failure::from(why))),
+    }
+}
+
+/// The operands one after the other.
+#[cycle(evaluation)]
+#[inline(never)]
+fn evaluate_links<P: Inbox>(
+    alloc: Global,
+    chain: &Chain,
+    system: &System,
+    who: &Identity,
+    store: &Store,
+    inbox: &P,
+) -> Result<Value, Failure>
+    requires { (P.owning inbox.now).state.alive ≡ true }
+    ensures ok { let here = environment system.now who.now store.now (P.owning inbox.now).state in
+        IfOk result (λ value. value_of here (term_of_chain chain.now) ≡ Ok value) }
+    ensures err { let here = environment system.now who.now store.now (P.owning inbox.now).state in
+        let term = term_of_chain chain.now in
+        IfErr result (λ why. FailsAs (wants_memory term) (value_of here term) why) }
+{
+    let mut value = evaluate(alloc, &chain.first, system, who, store, inbox)?;
+    for link in &chain.rest {
+        value = evaluate_link(alloc, value, link, system, who, store, inbox)?;
+    }
+    Ok(value)
+}
+
+/// One more operation on the value of what stands before it.
+#[cycle(evaluation)]
+#[inline(always)]
+fn evaluate_link<P: Inbox>(
+    alloc: Global,
+    left: Value,
+    link: &Link,
+    system: &System,
+    who: &Identity,
+    store: &Store,
+    inbox: &P,
+) -> Result<Value, Failure>
+    requires { (P.owning inbox.now).state.alive ≡ true }
+    ensures ok { let here = environment system.now who.now store.now (P.owning inbox.now).state in
+        let right = operand_of link.now in
+        IfOk result (λ value. operated right.operation (Ok left) (value_of here right.term) ≡ Ok value) }
+    ensures err { let here = environment system.now who.now store.now (P.owning inbox.now).state in
+        let right = operand_of link.now in
+        let meant = operated right.operation (Ok left) (value_of here right.term) in
+        IfErr result (λ why. FailsAs (wants_memory right.term) meant why) }
+{
+    let right = evaluate(alloc, &link.operand, system, who, store, inbox)?;
+    Ok(link.operation.apply(left, right)?)
+}
+
+/// What an expression comes to at a place of a sort: a number takes the sort of its place. Where there is no
+/// such place it stays what it is. Errors: those of `evaluate`, and then `NotNatural` for a negative value at a Natural
+/// place.
+#[inline(always)]
+pub fn evaluate_at<P: Inbox>(
+    alloc: Global,
+    expression: &Expression,
+    sort: Option<Sort>,
+    system: &System,
+    who: &Identity,
+    store: &Store,
+    inbox: &P,
+) -> Result<Value, Failure>
+    requires { (P.owning inbox.now).state.alive ≡ true }
+    ensures ok { let here = environment system.now who.now store.now (P.owning inbox.now).state in
+        IfOk result (λ value. at_place sort (value_of here (term_of expression.now)) ≡ Ok value) }
+    ensures err { let here = environment system.now who.now store.now (P.owning inbox.now).state in
+        let term = term_of expression.now in
+        IfErr result (λ why. FailsAs (wants_memory term) (at_place sort (value_of here term)) why) }
+{
+    let value = evaluate(alloc, expression, system, who, store, inbox)?;
+    place(value, sort)
+}
+
+/// What several expressions come to at places of these sorts, from left to right. A value for which there is no place
+/// stays what it is. Errors: the first failure, that of an expression or of its place. `Memory` only where there are
+/// values.
+#[cycle(evaluation)]
+#[inline(always)]
+pub fn evaluate_all<P: Inbox>(
+    alloc: Global,
+    expressions: &[Expression],
+    sorts: &[Sort],
+    system: &System,
+    who: &Identity,
+    store: &Store,
+    inbox: &P,
+) -> Result<Values, Failure>
+    requires { (P.owning inbox.now).state.alive ≡ true }
+    ensures ok { let here = environment system.now who.now store.now (P.owning inbox.now).state in
+        IfOk result (λ values. values_at here sorts.now (map term_of expressions.now) ≡ Ok values) }
+    ensures err { let here = environment system.now who.now store.now (P.owning inbox.now).state in
+        let terms = map term_of expressions.now in
+        IfErr result (λ why. FailsAs (list_wants_memory terms) (values_at here sorts.now terms) why) }
+{
+    let mut values = Values::none(alloc);
+    for (index, expression) in expressions.iter().enumerate() {
+        let value = evaluate(alloc, expression, system, who, store, inbox)?;
+        let value = place(value, sorts.get(index).copied())?;
+        if let Err(_) = values.push(value) {
+            return Err(Failure::Memory);
+        }
+    }
+    Ok(values)
+}
+
+/// The key of a timer with these values, each at its place. Errors: those of `evaluate_all`.
+#[cycle(evaluation)]
+#[inline(never)]
+pub fn evaluate_key<P: Inbox>(
+    alloc: Global,
+    timer: SignalId,
+    values: &[Expression],
+    system: &System,
+    who: &Identity,
+    store: &Store,
+    inbox: &P,
+) -> Result<TimerKey, Failure>
+    requires { (P.owning inbox.now).state.alive ≡ true }
+    ensures ok { let here = environment system.now who.now store.now (P.owning inbox.now).state in
+        IfOk result (λ key. key_at here timer (map term_of values.now) ≡ Ok key) }
+    ensures err { let here = environment system.now who.now store.now (P.owning inbox.now).state in
+        let terms = map term_of values.now in
+        IfErr result (λ why. FailsAs (list_wants_memory terms) (key_at here timer terms) why) }
+{
+    let sorts = sorts_of(system, timer);
+    let values = evaluate_all(alloc, values, sorts, system, who, store, inbox)?;
+    Ok(TimerKey {
+        name: timer,
+        values,
+    })
+}
+
+/// Whether a condition is true. Errors: those of `evaluate`.
+pub fn is_true<P: Inbox>(
+    alloc: Global,
+    condition: &Expression,
+    system: &System,
+    who: &Identity,
+    store: &Store,
+    inbox: &P,
+) -> Result<bool, Failure>
+    requires { (P.owning inbox.now).state.alive ≡ true }
+    ensures ok { let here = environment system.now who.now store.now (P.owning inbox.now).state in
+        IfOk result (λ truth. truth_at here (term_of condition.now) ≡ Ok truth) }
+    ensures err { let here = environment system.now who.now store.now (P.owning inbox.now).state in
+        let term = term_of condition.now in
+        IfErr result (λ why. FailsAs (wants_memory term) (truth_at here term) why) }
+{
+    let value = evaluate(alloc, condition, system, who, store, inbox)?;
+    Ok(truth_of(value))
+}
+
+/// A value at a place of a sort; where there is no such place it stays what it is. Refused with `NotNatural` for a
+/// negative value at a Natural place.
+pub fn place(value: Value, sort: Option<Sort>) -> Result<Value, Failure>
+    ensures { result ≡ placed sort value }
+{
+    match sort {
+        None => Ok(value),
+        Some(sort) => in_sort(value, sort).ok_or(Failure::NotNatural),
+    }
+}
+
+/// A time as a value.
+fn time_value(time: Ticks) -> Result<Value, Failure>
+    ensures { result ≡ time_value time }
+{
+    match i64::try_from(time.get()) {
+        Ok(number) => Ok(Value::Time(number)),
+        Err(_) => Err(Failure::Overflow),
+    }
+}
+
+/// The Pid for which a word stands.
+fn pid_of(word: PidExpression, who: &Identity, store: &Store) -> Pid
+    ensures { (system : SystemValue) (port : PortState)
+        → result ≡ pid_in (environment system who.now store.now port) word }
+{
+    match word {
+        PidExpression::SelfPid => Pid::Of(who.pid),
+        PidExpression::Parent => who.parent,
+        PidExpression::Offspring => store.offspring,
+        PidExpression::Sender => store.sender,
+    }
+}
+
+/// The value of a variable; one that was never assigned has none.
+fn read(store: &Store, variable: VariableId) -> Result<Value, Failure>
+    ensures { result ≡ accessed (value_in store.now.variables variable) }
+{
+    store.variables.get(variable).ok_or(Failure::Undefined)
+}

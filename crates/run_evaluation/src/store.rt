@@ -1,0 +1,58 @@
+//! What an instance knows.
+
+ghost use Rattle.std.specs.Prelude.{◌≡◌, IfSome, Ok};
+ghost use Rattle.port_model.specs.Port.{PortState};
+ghost use Rattle.run_evaluation.specs.Environment.{environment, initial_store};
+ghost use Rattle.run_evaluation.specs.Value.{value_of};
+ghost use Rattle.run_evaluation.specs.Variables.{known_in};
+ghost use Rattle.run_evaluation.specs.declared.identity.Identity as identity;
+ghost use Rattle.sdl_system.specs.System.{SystemValue};
+ghost use Rattle.sdl_system.specs.Term.{term_of};
+
+use crate::variables::Variables;
+use port_values::{Pid, Ticks, Value};
+use sdl_system::Expression;
+
+/// What an instance knows besides who it is and what its port has.
+#[derive(Debug, Drop)]
+pub struct Store {
+    pub variables: Variables,
+    /// The instance that it created last, or null.
+    pub offspring: Pid,
+    /// The sender of the latest consumed signal, or null.
+    pub sender: Pid,
+    /// The time of the latest transition.
+    pub time: Ticks,
+    /// The statements of the running transition so far.
+    pub done: u32,
+}
+
+impl Store {
+    /// What an instance knows before its start, with these variables. Takes no memory.
+    pub fn new(variables: Variables) -> Self
+        ensures { result ≡ initial_store variables }
+    {
+        Store {
+            variables,
+            offspring: Pid::Null,
+            sender: Pid::Null,
+            time: Ticks::new(0),
+            done: 0,
+        }
+    }
+    /// What an expression comes to that is a literal, or a variable with a value; most operands are. None: it is
+    /// another expression, or a variable that was never assigned or isn't there.
+    #[inline(always)]
+    pub fn known(&self, expression: &Expression) -> Option<Value>
+        ensures known { result ≡ known_in self.now.variables expression.now }
+        ensures value { (system : SystemValue) (who : identity.Identity) (port : PortState)
+            → IfSome result
+            (λ value. value_of (environment system who self.now port) (term_of expression.now) ≡ Ok value) }
+    {
+        match expression {
+            Expression::Value(value) => Some(*value),
+            Expression::Variable(variable) => self.variables.get(*variable),
+            _ => None,
+        }
+    }
+}

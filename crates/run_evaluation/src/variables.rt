@@ -1,0 +1,61 @@
+//! The variables of an instance.
+
+ghost use Rattle.std.specs.Prelude.{◌≡◌, ◌↔◌, [], IsTrue, Some, length, slice_set};
+ghost use Rattle.run_evaluation.specs.Variables.{value_in};
+
+use port_values::Value;
+use sdl_system::VariableId;
+use std::marker::Model;
+
+/// The variables of an instance, by number. None: never assigned.
+#[derive(Debug, Drop)]
+pub struct Variables {
+    list: Vec<Option<Value>>,
+}
+
+impl Model for Variables {
+    ghost use Rattle.run_evaluation.specs.Variables.{VariableList};
+
+    ghost Value = { VariableList };
+
+    ghost view = { λ variables. variables.list.items };
+}
+
+impl Variables {
+    /// The variables with these values, in the order of their numbers. Takes no memory.
+    pub fn new(list: Vec<Option<Value>>) -> Self
+        ensures { result ≡ list.items }
+    {
+        Variables { list }
+    }
+
+    /// The value of a variable. None where it was never assigned, or isn't there.
+    pub fn get(&self, variable: VariableId) -> Option<Value>
+        ensures { result ≡ value_in self.now variable }
+    {
+        self.list.get(variable.0 as usize).copied().unwrap_or(None)
+    }
+
+    /// Assigns a variable. Where it isn't there nothing changes.
+    pub fn set(&mut self, variable: VariableId, value: Value)
+        ensures { self.new ≡ slice_set self.old variable.0 (Some value) }
+    {
+        if let Some(place) = self.list.get_mut(variable.0 as usize) {
+            *place = Some(value);
+        }
+    }
+
+    /// How many variables there are.
+    pub fn len(&self) -> usize
+        ensures { result ≡ length self.now }
+    {
+        self.list.len()
+    }
+
+    /// Whether there are none.
+    pub fn is_empty(&self) -> bool
+        ensures { IsTrue result ↔ (self.now ≡ []) }
+    {
+        self.list.is_empty()
+    }
+}

@@ -1,0 +1,28 @@
+//! What holds of all runs, as functions that do nothing.
+
+ghost use Rattle.run_semantics.specs.RunLaws.{EndsForGood, OutputsAreSent, RunsAppend, SelectsWhateverIsDrawn, TriesWhateverIsDrawn};
+
+/// Two runs, of which the second begins where the first ends, are one run.
+pub fn runs_append()
+    ensures { RunsAppend }
+{}
+
+/// An instance that has ended does nothing any more, and to a closed record nothing is added (Z.101: agent).
+pub fn ends_for_good()
+    ensures { EndsForGood }
+{}
+
+/// What a run sends is what its events say (Z.102: output).
+pub fn outputs_are_sent()
+    ensures { OutputsAreSent }
+{}
+
+/// What a state selects stays the same, whatever comes into the port meanwhile (Z.101: state).
+pub fn selects_whatever_is_drawn()
+    ensures { SelectsWhateverIsDrawn }
+{}
+
+/// So does the continuous signal that begins (Z.102: continuous signal).
+pub fn tries_whatever_is_drawn()
+    ensures { TriesWhateverIsDrawn }
+{}

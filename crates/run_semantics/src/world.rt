@@ -1,0 +1,59 @@
+//! What an instance asks of all that lies outside of it.
+
+ghost use Rattle.std.specs.Prelude.{◌≡◌, true, Bool, IfOk, OnOk, OnErr};
+
+use port_inbox::Fuse;
+use port_values::{Item, SignalId, Ticks, Values};
+use sdl_system::{Dest, ProcessId, Target};
+use std::alloc::AllocError;
+
+/// What lies outside of an instance, as it makes a step.
+pub trait World {
+    ghost use Rattle.run_semantics.specs.Act.{Arm, Send};
+    ghost use Rattle.run_semantics.specs.Leads.{created};
+    ghost use Rattle.run_semantics.specs.World.{WorldValue, IsClock, IsNumber, IsRoute, after_act, after_acts};
+
+    ghost value: { Self → WorldValue };
+
+    /// Whether there is room for one more fuse.
+    ghost prepared: { Self → Bool };
+
+    /// The clock.
+    fn now(&mut self) -> Ticks
+        ensures clock { IsClock (value self.old) result }
+        ensures same { value self.new ≡ value self.old };
+
+    /// Whom a signal reaches that an instance of `from` sends to the destination `to`.
+    fn route(&mut self, signal: SignalId, from: ProcessId, to: Dest) -> Target
+        ensures route { IsRoute (value self.old) signal from to result }
+        ensures same { value self.new ≡ value self.old };
+
+    /// Sends a signal. For want of memory it has not been sent.
+    fn send(&mut self, target: Target, item: Item) -> Result<(), AllocError>
+        ensures ok { OnOk result (value self.new ≡ after_act (value self.old) (Send target item)) }
+        ensures err { OnErr result (value self.new ≡ value self.old) };
+
+    /// Makes room for one more fuse.
+    fn prepare(&mut self) -> Result<(), AllocError>
+        ensures prepared { OnOk result (prepared self.new ≡ true) }
+        ensures same { value self.new ≡ value self.old };
+
+    /// Keeps the fuse of a timer that was set, which expires at its due time, or at once if that has come. Takes no
+    /// memory.
+    fn arm(&mut self, fuse: Fuse)
+        requires { prepared self.old ≡ true }
+        ensures { value self.new ≡ after_act (value self.old) (Arm fuse) };
+
+    /// Makes an instance of a process, for the instance of the number `parent`, with the values of its parameters. The
+    /// number of the new instance is the answer; None: as many live as may. For want of memory nothing has changed.
+    fn create(
+        &mut self,
+        process: ProcessId,
+        parent: u32,
+        values: Values,
+    ) -> Result<Option<u32>, AllocError>
+        ensures number { IfOk result (IsNumber (value self.old) process) }
+        ensures ok { IfOk result (λ number. value self.new
+            ≡ after_acts (value self.old) (created process parent values number)) }
+        ensures err { OnErr result (value self.new ≡ value self.old) };
+}

@@ -1,0 +1,53 @@
+-- What the transitions of an instance work on, as the definitions see it.
+use Rattle.std.specs.Prelude.{◌≡◌, ◌<◌, ◌≤◌, length, true}
+use Rattle.port_inbox.specs.Ends.{OwnerState}
+use Rattle.run_evaluation.specs.declared.identity.Identity.{Identity}
+use Rattle.run_record.specs.Record.{RecordValue}
+use Rattle.run_semantics.specs.Goes.{MachineValue}
+use Rattle.run_semantics.specs.Place.{AtStart, Ended, In, Place}
+use Rattle.run_transitions.specs.declared.machine.Machine.{Machine}
+use Rattle.run_transitions.specs.declared.machine.Position.{Position}
+use Rattle.run_transitions.specs.declared.machine.Position.TheVariants as position
+use Rattle.sdl_system.specs.declared.process.Process.{Process}
+
+-- who the instance of a record is
+abbrev pub identity_of : RecordValue → Identity
+identity_of trace = record { process = trace.process; pid = trace.pid; parent = trace.parent }
+
+-- the work of an instance, with what its owner of the port knows
+abbrev pub value_of : Machine → OwnerState → MachineValue
+value_of m owner = record {
+  who = identity_of m.trace;
+  store = m.store;
+  owner = owner;
+  events = m.trace.events;
+}
+
+-- who an instance is, and which port it has, never change
+pub record IsSameInstance (m n : MachineValue) : Type 0 where
+  pub who : n.who ≡ m.who
+  pub port : n.owner.port ≡ m.owner.port
+  pub pid : n.owner.pid ≡ m.owner.pid
+
+-- An instance that has not ended: its record has room for one event more, its port lives and has its number.
+pub record IsGoing (m : Machine) (owner : OwnerState) : Type 0 where
+  pub room : 0 < m.trace.room
+  pub alive : owner.state.alive ≡ true
+  pub own : owner.pid ≡ m.trace.pid
+
+-- the place of an instance between two steps
+abbrev pub place_of : Position → Place
+place_of position.BeforeStart = AtStart
+place_of (position.In state) = In state
+place_of position.Ended = Ended
+
+-- an instance that has not ended is going on, and before the start there is room for that and for a failure
+abbrev pub IsReady : Position → Machine → OwnerState → Type 0
+IsReady position.BeforeStart m owner = IsGoing m owner × (2 ≤ m.trace.room)
+IsReady (position.In state) m owner = IsGoing m owner
+IsReady position.Ended m owner = Unit {0}
+
+-- the state of a position is one of the process
+abbrev pub IsPositionIn : Process → Position → Type 0
+IsPositionIn process (position.In n) = n.0 < length process.states.items
+IsPositionIn process other = Unit {0}

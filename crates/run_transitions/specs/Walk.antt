@@ -1,0 +1,163 @@
+-- How a transition is walked over the nodes of its process.
+use Rattle.std.specs.Prelude.{◌≡◌, ◌≢◌, ◌⊎◌, ◌+◌, ◌<◌, ℕ, List, Option, None, Some, Ok, length, slice_get}
+use Rattle.port_inbox.specs.Ends.{OwnerState}
+use Rattle.port_values.specs.declared.value.Value.{Value}
+use Rattle.run_evaluation.specs.Environment.{Environment}
+use Rattle.run_evaluation.specs.Memory.{FailsAs, wants_memory}
+use Rattle.run_evaluation.specs.Value as evaluated
+use Rattle.run_evaluation.specs.declared.store.Store.{Store}
+use Rattle.run_record.specs.Event as event
+use Rattle.run_record.specs.declared.failure.Failure.{Failure}
+use Rattle.run_record.specs.declared.failure.Failure.TheVariants.{Memory, NoAnswer, Undefined}
+use Rattle.run_semantics.specs.Fails.{IsTooLong, most_statements}
+use Rattle.run_semantics.specs.Goes.{AreInner, Goes, GoesWrong, MachineValue, with_event}
+use Rattle.run_semantics.specs.Place.{Definition, Doing}
+use Rattle.run_semantics.specs.World.{WorldValue}
+use Rattle.run_transitions.specs.Machine.{IsGoing, IsPositionIn, IsReady, place_of, value_of}
+use Rattle.run_transitions.specs.Work.{Does, DoesWrong, IsOf, amid, behind}
+use Rattle.run_transitions.specs.declared.machine.Machine.{Machine}
+use Rattle.run_transitions.specs.declared.machine.Position.{Position}
+use Rattle.run_transitions.specs.declared.machine.Position.TheVariants as at
+use Rattle.run_transitions.specs.declared.walk.Onward.{Onward}
+use Rattle.run_transitions.specs.declared.walk.Onward.TheVariants as onward
+use Rattle.sdl_system.specs.Body.{Action, Body}
+use Rattle.sdl_system.specs.System.{SystemValue}
+use Rattle.sdl_system.specs.Table.{Stands, way_of}
+use Rattle.sdl_system.specs.Term.{term_of}
+use Rattle.sdl_system.specs.Walk.{Heads}
+use Rattle.sdl_system.specs.declared.id.NodeId.{NodeId}
+use Rattle.sdl_system.specs.declared.id.StateId.{StateId}
+use Rattle.sdl_system.specs.declared.process.Process.{Process}
+use Rattle.sdl_system.specs.declared.statement.Decision.{Decision}
+use Rattle.sdl_system.specs.declared.statement.Node.{Node}
+use Rattle.sdl_system.specs.declared.statement.Statement.{Statement}
+use Rattle.sdl_system.specs.declared.statement.Statement.TheVariants as kind
+use Rattle.sdl_system.specs.declared.statement.Way.{Way}
+
+-- where the labels of the process stand among its nodes
+abbrev pub marks_of : {system : SystemValue} {process : Process} {d : Definition} → IsOf system process d
+    → List (Option NodeId)
+marks_of is = is.behaves.means.bodies_are.marks
+
+-- from a node to where the flow goes on, or to the end of the transition
+pub record GoesTo (d : Definition) (nodes : List Node) (marks : List (Option NodeId)) (origin : Option StateId)
+    (todo : Body) (m : MachineValue) (w : WorldValue) (place : Option NodeId) (n : MachineValue)
+    (v : WorldValue) : Type 0 where
+  pub rest : Body
+  pub stands : Stands nodes marks place rest
+  pub goes : Goes AreInner d (Doing origin todo) m w (Doing origin rest) n v
+
+abbrev pub GoesOnward : Definition → List Node → List (Option NodeId) → Option StateId → Body → MachineValue
+    → WorldValue → Onward → MachineValue → WorldValue → Type 0
+GoesOnward d nodes marks origin todo m w (onward.At place) n v = GoesTo d nodes marks origin todo m w place n v
+GoesOnward d nodes marks origin todo m w (onward.Over position) n v =
+    Goes AreInner d (Doing origin todo) m w (place_of position) n v
+
+-- whatever stands where the node begins, which is one of the process, is done, or fails
+abbrev pub Visits : SystemValue → Process → Node → Option StateId → MachineValue → WorldValue → Onward → MachineValue
+    → WorldValue → Type 0
+Visits system process node origin m w on n v =
+    (d : Definition) → (is : IsOf system process d) → (todo : Body)
+    → (number : NodeId) → slice_get process.nodes.items number.0 ≡ Some node
+    → Heads process.nodes.items (marks_of is) node todo
+    → GoesOnward d process.nodes.items (marks_of is) origin todo m w on n v
+
+abbrev pub VisitsWrong : SystemValue → Process → Node → Option StateId → MachineValue → WorldValue → MachineValue
+    → WorldValue → Failure → Type 0
+VisitsWrong system process node origin m w n v why =
+    (d : Definition) → (is : IsOf system process d) → (todo : Body)
+    → Heads process.nodes.items (marks_of is) node todo → GoesWrong d (Doing origin todo) m w n v why
+
+-- whatever stands at a place is done to its end, or fails
+abbrev pub Walks : SystemValue → Process → Option NodeId → Option StateId → MachineValue → WorldValue → Position
+    → MachineValue → WorldValue → Type 0
+Walks system process place origin m w position n v =
+    (d : Definition) → (is : IsOf system process d) → (todo : Body)
+    → Stands process.nodes.items (marks_of is) place todo
+    → Goes AreInner d (Doing origin todo) m w (place_of position) n v
+
+abbrev pub WalksWrong : SystemValue → Process → Option NodeId → Option StateId → MachineValue → WorldValue
+    → MachineValue → WorldValue → Failure → Type 0
+WalksWrong system process place origin m w n v why =
+    (d : Definition) → (is : IsOf system process d) → (todo : Body)
+    → Stands process.nodes.items (marks_of is) place todo → GoesWrong d (Doing origin todo) m w n v why
+
+-- what goes on is going, and what has ended a transition is ready for the next
+abbrev pub IsReadyOnward : Onward → Machine → OwnerState → Type 0
+IsReadyOnward (onward.At place) m owner = IsGoing m owner
+IsReadyOnward (onward.Over position) m owner = IsReady position m owner
+
+-- the transition has begun
+abbrev pub HasStarted : Onward → Type 0
+HasStarted (onward.At place) = Unit {0}
+HasStarted (onward.Over position) = position ≢ at.BeforeStart
+
+abbrev pub IsOnwardIn : Process → Onward → Type 0
+IsOnwardIn process (onward.At place) = Unit {0}
+IsOnwardIn process (onward.Over position) = IsPositionIn process position
+
+-- what has not ended counts one statement more
+abbrev pub CountsOnward : Onward → ℕ → ℕ → Type 0
+CountsOnward (onward.At place) old new = (old < most_statements) × (new ≡ old + 1)
+CountsOnward (onward.Over position) old new = Unit {0}
+
+-- ---- actions
+
+-- the statement is no decision and no end of a transition
+abbrev pub IsPlain : Statement → Type 0
+IsPlain (kind.Decision asked) = ⊥
+IsPlain (kind.NextState state) = ⊥
+IsPlain kind.SameState = ⊥
+IsPlain kind.Stop = ⊥
+IsPlain other = Unit {0}
+
+-- in the midst of an action, it is done, or fails; where there is none, nothing is done
+abbrev pub ActsAs : SystemValue → Process → Option Action → MachineValue → WorldValue → MachineValue → WorldValue
+    → Type 0
+ActsAs system process None m w n v = (n ≡ m) × (v ≡ w)
+ActsAs system process (Some action) m w n v = Does (IsOf system process) (amid action) m w behind n v
+
+abbrev pub FailsToAct : SystemValue → Process → Option Action → MachineValue → WorldValue → MachineValue → WorldValue
+    → Failure → Type 0
+FailsToAct system process None m w n v why = ⊥
+FailsToAct system process (Some action) m w n v why = DoesWrong (IsOf system process) (amid action) m w n v why
+
+-- ---- decisions
+
+-- the value of the question takes this way
+pub record ChoosesWay (here : Environment) (asked : Decision) (way : Way) : Type 0 where
+  pub value : Value
+  pub is : evaluated.value_of here (term_of asked.question) ≡ Ok value
+  pub takes : way_of asked value ≡ Some way
+
+-- it takes none
+pub record HasNoWay (here : Environment) (asked : Decision) (why : Failure) : Type 0 where
+  pub value : Value
+  pub is : evaluated.value_of here (term_of asked.question) ≡ Ok value
+  pub none : way_of asked value ≡ None
+  pub told : why ≡ NoAnswer
+
+-- It can't be counted, the question fails, or there is no way.
+abbrev pub CantChoose : Environment → Store → Decision → Failure → Type 0
+CantChoose here s asked why =
+    IsTooLong s why
+    ⊎ ((s.done < most_statements)
+    × (FailsAs (wants_memory (term_of asked.question)) (evaluated.value_of here (term_of asked.question)) why
+    ⊎ HasNoWay here asked why))
+
+-- ---- states
+
+-- the state is entered, which is one of the process
+pub record Enters (state : Option StateId) (process : Process) (old new : Machine) (on : Onward) : Type 0 where
+  pub number : StateId
+  pub is : state ≡ Some number
+  pub there : number.0 < length process.states.items
+  pub onward_is : on ≡ onward.Over (at.In number)
+  pub store : new.store ≡ old.store
+  pub notes : (owner : OwnerState) → value_of new owner ≡ with_event (value_of old owner) (event.NextState number)
+
+-- there is no state to enter, or no memory to record it
+abbrev pub EntersNone : Option StateId → Process → Failure → Type 0
+EntersNone None process why = why ≡ Undefined
+EntersNone (Some number) process why =
+    (why ≡ Memory) ⊎ ((why ≡ Undefined) × (number.0 < length process.states.items → ⊥))

@@ -1,5 +1,0 @@
-use Rattle.sdl_broken.proofs.BodyLaws.{listed-broken}
-use Rattle.sdl_broken.proofs.bodies.listed_is_broken.Goals as goal
-
-pub returns : goal.returns
-returns c = listed-broken

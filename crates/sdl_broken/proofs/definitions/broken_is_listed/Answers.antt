@@ -1,5 +1,0 @@
-use Rattle.sdl_broken.proofs.DefinitionLaws.{broken-listed}
-use Rattle.sdl_broken.proofs.definitions.broken_is_listed.Goals as goal
-
-pub returns : goal.returns
-returns c = broken-listed

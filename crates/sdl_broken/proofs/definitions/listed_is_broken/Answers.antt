@@ -1,5 +1,0 @@
-use Rattle.sdl_broken.proofs.DefinitionLaws.{listed-broken}
-use Rattle.sdl_broken.proofs.definitions.listed_is_broken.Goals as goal
-
-pub returns : goal.returns
-returns c = listed-broken

@@ -1,5 +1,0 @@
-use Rattle.sdl_broken.proofs.StartLaws.{initial-counted}
-use Rattle.sdl_broken.proofs.instances.initial_is_counted.Goals as goal
-
-pub returns : goal.returns
-returns c = initial-counted

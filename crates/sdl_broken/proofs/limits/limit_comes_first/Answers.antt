@@ -1,5 +1,0 @@
-use Rattle.sdl_broken.proofs.LimitLaws.{limit-first}
-use Rattle.sdl_broken.proofs.limits.limit_comes_first.Goals as goal
-
-pub returns : goal.returns
-returns c = limit-first

@@ -1,5 +1,0 @@
-use Rattle.sdl_broken.proofs.LimitLaws.{limit-stays}
-use Rattle.sdl_broken.proofs.limits.limit_stays.Goals as goal
-
-pub returns : goal.returns
-returns c = limit-stays

@@ -1,7 +1,0 @@
-use Rattle.std.proofs.Common.{ℕ, ◌<◌}
-use Rattle.std.specs.List.{Contains}
-use Rattle.sdl_channels.specs.Mask.{Has}
-use Rattle.sdl_channels.proofs.graph.begun.Given as goal
-
-abbrev pub invariant-loop-node : goal.invariant-loop-node
-invariant-loop-node l = (n k : ℕ) → n < l.node → Has l.start n k → Contains l.nodes.items n

@@ -1,8 +1,0 @@
-use Rattle.sdl_channels.specs.Each.{ForSomeBelow}
-use Rattle.sdl_channels.specs.Graph.{Adds}
-use Rattle.sdl_channels.specs.SignalLists.{EntryStep}
-use Rattle.sdl_channels.proofs.signal_sets.add_entries.Given as goal
-
-abbrev pub invariant-loop-entry : goal.invariant-loop-entry
-invariant-loop-entry l = Adds (λ from step. ForSomeBelow l.entries l.entry-index (λ j entry. EntryStep l.list entry from step))
-    l.fn.graph.rows.items l.graph.rows.items

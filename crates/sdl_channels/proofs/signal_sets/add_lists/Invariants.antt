@@ -1,8 +1,0 @@
-use Rattle.sdl_channels.specs.Each.{ForSomeBelow}
-use Rattle.sdl_channels.specs.Graph.{Adds}
-use Rattle.sdl_channels.specs.SignalLists.{EntrySteps}
-use Rattle.sdl_channels.proofs.signal_sets.add_lists.Given as goal
-
-abbrev pub invariant-loop-number : goal.invariant-loop-number
-invariant-loop-number l = Adds (λ from step. ForSomeBelow l.lists l.number (λ list named. EntrySteps list named.items.items from step))
-    l.fn.graph.rows.items l.graph.rows.items

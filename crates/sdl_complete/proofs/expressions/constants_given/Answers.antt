@@ -1,5 +1,0 @@
-use Rattle.sdl_complete.proofs.AnswerLemmas.{constant-given}
-use Rattle.sdl_complete.proofs.expressions.constants_given.Goals as goal
-
-pub returns : goal.returns
-returns c scope place expression complete = constant-given scope complete place expression

@@ -1,5 +1,0 @@
-use Rattle.sdl_complete.proofs.ExpressionLemmas.{list-given}
-use Rattle.sdl_complete.proofs.expressions.lists_given.Goals as goal
-
-pub returns : goal.returns
-returns c context scope name places values complete = list-given context scope complete name places values

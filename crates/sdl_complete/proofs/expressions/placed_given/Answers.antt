@@ -1,5 +1,0 @@
-use Rattle.sdl_complete.proofs.ExpressionLemmas.{placed-given}
-use Rattle.sdl_complete.proofs.expressions.placed_given.Goals as goal
-
-pub returns : goal.returns
-returns c context scope place expression complete = placed-given context scope complete place expression

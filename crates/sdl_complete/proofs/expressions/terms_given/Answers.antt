@@ -1,5 +1,0 @@
-use Rattle.sdl_complete.proofs.ExpressionLemmas.{term-given}
-use Rattle.sdl_complete.proofs.expressions.terms_given.Goals as goal
-
-pub returns : goal.returns
-returns c context scope expression complete = term-given context scope complete expression

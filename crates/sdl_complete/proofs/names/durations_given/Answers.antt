@@ -1,5 +1,0 @@
-use Rattle.sdl_complete.proofs.SeenLemmas.{durations-given}
-use Rattle.sdl_complete.proofs.names.durations_given.Goals as goal
-
-pub returns : goal.returns
-returns c = durations-given

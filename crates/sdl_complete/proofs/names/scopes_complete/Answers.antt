@@ -1,5 +1,0 @@
-use Rattle.sdl_complete.proofs.SeenLemmas.{scopes-complete}
-use Rattle.sdl_complete.proofs.names.scopes_complete.Goals as goal
-
-pub returns : goal.returns
-returns c = scopes-complete

@@ -1,5 +1,0 @@
-use Rattle.sdl_complete.proofs.SeenLemmas.{signals-below}
-use Rattle.sdl_complete.proofs.names.signals_below.Goals as goal
-
-pub returns : goal.returns
-returns c = signals-below

@@ -1,5 +1,0 @@
-use Rattle.sdl_complete.proofs.SeenLemmas.{all-valued}
-use Rattle.sdl_complete.proofs.names.synonyms_valued.Goals as goal
-
-pub returns : goal.returns
-returns c = all-valued

@@ -1,5 +1,0 @@
-use Rattle.sdl_complete.proofs.ProcessLemmas.{process-given}
-use Rattle.sdl_complete.proofs.processes.process_given.Goals as goal
-
-pub returns : goal.returns
-returns c = process-given

@@ -1,5 +1,0 @@
-use Rattle.sdl_complete.proofs.RangeLemmas.{entries-reach}
-use Rattle.sdl_complete.proofs.ranges.entries_reach.Goals as goal
-
-pub returns : goal.returns
-returns c = entries-reach

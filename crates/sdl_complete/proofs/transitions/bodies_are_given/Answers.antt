@@ -1,5 +1,0 @@
-use Rattle.sdl_complete.proofs.TransitionLemmas.{bodies-given}
-use Rattle.sdl_complete.proofs.transitions.bodies_are_given.Goals as goal
-
-pub returns : goal.returns
-returns c = bodies-given

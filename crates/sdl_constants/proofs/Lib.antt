@@ -1,2 +1,0 @@
-pub mod BrokenLaws
-mod CountLemmas

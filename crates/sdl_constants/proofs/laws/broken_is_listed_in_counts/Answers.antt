@@ -1,5 +1,0 @@
-use Rattle.sdl_constants.proofs.BrokenLaws.{broken-counts}
-use Rattle.sdl_constants.proofs.laws.broken_is_listed_in_counts.Goals as goal
-
-pub returns : goal.returns
-returns c = broken-counts

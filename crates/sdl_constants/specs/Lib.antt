@@ -1,4 +1,0 @@
-pub mod Broken
-pub mod Counts
-pub mod Timers
-pub mod Variables

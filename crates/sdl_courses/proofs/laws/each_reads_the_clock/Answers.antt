@@ -1,6 +1,0 @@
--- Each time is the clock's: a lemma says so.
-use Rattle.sdl_courses.proofs.Clocks.{each_reads_the_clock}
-use Rattle.sdl_courses.proofs.laws.each_reads_the_clock.Goals as goal
-
-pub returns : goal.returns
-returns c = each_reads_the_clock

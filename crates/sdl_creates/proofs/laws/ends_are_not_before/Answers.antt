@@ -1,6 +1,0 @@
--- No end is before an event: a lemma says so.
-use Rattle.sdl_creates.proofs.Ends.{ends_are_not_before}
-use Rattle.sdl_creates.proofs.laws.ends_are_not_before.Goals as goal
-
-pub returns : goal.returns
-returns c = ends_are_not_before

@@ -1,7 +1,0 @@
-use Rattle.std.proofs.Common.{◌≡◌, ◌-◌, map}
-use Rattle.sdl_cursor.specs.Reading.{repeated, repeated_from}
-use Rattle.sdl_cursor.proofs.lists.repeated.Given as goal
-
-abbrev pub invariant-loop-turn : goal.invariant-loop-turn
-invariant-loop-turn g l =
-    repeated (g.A.Perhaps.reads l.at) l.fn.cursor ≡ repeated_from (g.A.Perhaps.reads l.at) (l._turn-end - l._turn) (map g.A.Perhaps.value l.found.items) l.cursor

@@ -1,9 +1,0 @@
-use Rattle.std.proofs.Common.{◌≡◌, flat_map, take}
-use Rattle.sdl_declared.specs.Parts.{placed_sort_faults}
-use Rattle.sdl_declared.specs.Views.{parts_listed}
-use Rattle.sdl_faults.specs.Faults.{least_of, told}
-use Rattle.sdl_declared.proofs.sorts.note_in_parts.Given as goal
-
-abbrev pub invariant-loop-placed : goal.invariant-loop-placed
-invariant-loop-placed l = told l.faults
-    ≡ least_of (told l.initial.faults) (flat_map placed_sort_faults (parts_listed (take l.placed-index l.parts)))

@@ -1,9 +1,0 @@
-use Rattle.std.proofs.Common.{◌≡◌, flat_map, map, take}
-use Rattle.sdl_declared.specs.Parts.{signal_sort_faults}
-use Rattle.sdl_faults.specs.Faults.{least_of, told}
-use Rattle.sdl_tree.specs.Views.{signal_value}
-use Rattle.sdl_declared.proofs.sorts.note_in_signals.Given as goal
-
-abbrev pub invariant-loop-signal : goal.invariant-loop-signal
-invariant-loop-signal l = told l.faults
-    ≡ least_of (told l.initial.faults) (flat_map signal_sort_faults (map signal_value (take l.signal-index l.signals)))

@@ -1,9 +1,0 @@
-use Rattle.std.proofs.Common.{◌≡◌, flat_map, map, take}
-use Rattle.sdl_declared.specs.Parts.{synonym_sort_faults}
-use Rattle.sdl_faults.specs.Faults.{least_of, told}
-use Rattle.sdl_tree.specs.Views.{synonym_value}
-use Rattle.sdl_declared.proofs.sorts.note_in_synonyms.Given as goal
-
-abbrev pub invariant-loop-synonym : goal.invariant-loop-synonym
-invariant-loop-synonym l = told l.faults
-    ≡ least_of (told l.initial.faults) (flat_map synonym_sort_faults (map synonym_value (take l.synonym-index l.synonyms)))

@@ -1,9 +1,0 @@
-use Rattle.std.proofs.Common.{◌≡◌, flat_map, map, take}
-use Rattle.sdl_declared.specs.Parts.{timer_sort_faults}
-use Rattle.sdl_faults.specs.Faults.{least_of, told}
-use Rattle.sdl_tree.specs.Views.{timer_value}
-use Rattle.sdl_declared.proofs.sorts.note_in_timers.Given as goal
-
-abbrev pub invariant-loop-timer : goal.invariant-loop-timer
-invariant-loop-timer l = told l.faults
-    ≡ least_of (told l.initial.faults) (flat_map timer_sort_faults (map timer_value (take l.timer-index l.timers)))

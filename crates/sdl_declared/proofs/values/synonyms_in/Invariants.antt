@@ -1,8 +1,0 @@
-use Rattle.std.proofs.Common.{◌≡◌, flat_map, map, take}
-use Rattle.sdl_declared.specs.Rows.{placed_synonyms}
-use Rattle.sdl_declared.specs.Seen.{synonym_seen}
-use Rattle.sdl_declared.specs.Views.{parts_listed}
-use Rattle.sdl_declared.proofs.values.synonyms_in.Given as goal
-
-abbrev pub invariant-loop-placed : goal.invariant-loop-placed
-invariant-loop-placed l = map synonym_seen l.table.items ≡ flat_map placed_synonyms (parts_listed (take l.placed-index l.parts))

@@ -1,5 +1,0 @@
-use Rattle.sdl_ends.proofs.StayLaws.{listed-stays}
-use Rattle.sdl_ends.proofs.laws.listed_is_reached.Goals as goal
-
-pub returns : goal.returns
-returns c = listed-stays

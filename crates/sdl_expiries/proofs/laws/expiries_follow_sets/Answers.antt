@@ -1,6 +1,0 @@
--- Expiries follow their sets: a lemma says so.
-use Rattle.sdl_expiries.proofs.Followed.{expiries_follow_sets}
-use Rattle.sdl_expiries.proofs.laws.expiries_follow_sets.Goals as goal
-
-pub returns : goal.returns
-returns c = expiries_follow_sets

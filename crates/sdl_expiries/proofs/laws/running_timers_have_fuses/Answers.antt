@@ -1,6 +1,0 @@
--- Timers that run have their fuses: a lemma says so.
-use Rattle.sdl_expiries.proofs.Covered.{running_timers_have_fuses}
-use Rattle.sdl_expiries.proofs.laws.running_timers_have_fuses.Goals as goal
-
-pub returns : goal.returns
-returns c = running_timers_have_fuses

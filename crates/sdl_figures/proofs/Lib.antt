@@ -1,2 +1,0 @@
-pub mod LimitLemmas
-pub mod SynonymLemmas

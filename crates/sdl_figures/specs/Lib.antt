@@ -1,4 +1,0 @@
-pub mod Figures
-pub mod Limit
-pub mod Scopes
-pub mod Synonyms

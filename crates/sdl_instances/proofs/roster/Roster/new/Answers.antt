@@ -1,0 +1,15 @@
+use Rattle.std.proofs.Common.{ap, ◌∙◌, arith}
+use Rattle.sdl_instances.specs.Roster.{none_living}
+use Rattle.sdl_instances.proofs.Made.{made_all, made_none}
+use Rattle.sdl_instances.proofs.roster.Roster.new.Goals as goal
+
+pub loop-process-init : goal.loop-process-init
+loop-process-init c = made_none _ _ _ c.in_ok-processes.ensures.items c.in_ok-least.ensures.items
+
+pub invariant_of-result : goal.invariant_of-result
+invariant_of-result c = c.loop-process.invariant.kept
+
+pub returns : goal.returns
+returns c =
+    made_all _ c.loop-process.process-index _ _ c.loop-process.invariant (omega arith)
+    ∙ ap none_living c.processes-process-items.ensures

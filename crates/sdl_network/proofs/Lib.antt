@@ -1,3 +1,0 @@
-pub mod BrokenLaws
-pub mod ListedLaws
-pub mod PathLemmas

@@ -1,7 +1,0 @@
-use Rattle.std.proofs.Common.{◌≡◌, map, take}
-use Rattle.sdl_declared.specs.Seen.{block_seen}
-use Rattle.sdl_network.specs.Agents.{block_names}
-use Rattle.sdl_network.proofs.agents.block_names.Given as goal
-
-abbrev pub invariant-loop-index : goal.invariant-loop-index
-invariant-loop-index l = l.names ≡ block_names (map block_seen (take l.index l.blocks))

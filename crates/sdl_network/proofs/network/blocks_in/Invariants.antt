@@ -1,7 +1,0 @@
-use Rattle.std.proofs.Common.{◌≡◌, map, take}
-use Rattle.sdl_declared.specs.Seen.{block_seen}
-use Rattle.sdl_network.specs.Network.{blocks_in}
-use Rattle.sdl_network.proofs.network.blocks_in.Given as goal
-
-abbrev pub invariant-loop-index : goal.invariant-loop-index
-invariant-loop-index l = l.blocks.items ≡ blocks_in l.declared (map block_seen (take l.index l.entries))

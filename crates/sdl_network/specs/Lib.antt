@@ -1,5 +1,0 @@
-pub mod Agents
-pub mod Broken
-pub mod Connects
-pub mod Network
-pub mod Paths

@@ -1,5 +1,0 @@
-use Rattle.sdl_nodes.proofs.AnswerLaws.{answer-listed}
-use Rattle.sdl_nodes.proofs.laws.broken_is_listed_answer.Goals as goal
-
-pub returns : goal.returns
-returns c = answer-listed

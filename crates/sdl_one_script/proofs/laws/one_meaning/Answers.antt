@@ -1,6 +1,0 @@
--- One meaning: a lemma says so.
-use Rattle.sdl_one_script.proofs.Meanings.{one_meaning}
-use Rattle.sdl_one_script.proofs.laws.one_meaning.Goals as goal
-
-pub returns : goal.returns
-returns c = one_meaning

@@ -1,4 +1,0 @@
-pub mod Kept
-mod LawLemmas
-pub mod SenderLemmas
-pub mod SentLemmas

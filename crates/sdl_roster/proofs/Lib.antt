@@ -1,7 +1,0 @@
-pub mod Ascending
-pub mod Bits
-pub mod Kept
-pub mod Made
-pub mod Members
-pub mod Ranges
-pub mod Without

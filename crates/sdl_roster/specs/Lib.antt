@@ -1,4 +1,0 @@
-pub mod Instances
-pub mod Numbers
-pub mod Roster
-pub mod Words

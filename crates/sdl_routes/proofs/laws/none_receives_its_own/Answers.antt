@@ -1,5 +1,0 @@
-use Rattle.sdl_routes.proofs.ReturnLemmas.{none_receives}
-use Rattle.sdl_routes.proofs.laws.none_receives_its_own.Goals as goal
-
-pub returns : goal.returns
-returns c = none_receives

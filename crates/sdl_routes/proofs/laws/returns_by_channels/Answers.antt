@@ -1,5 +1,0 @@
-use Rattle.sdl_routes.proofs.ReturnLemmas as lemma
-use Rattle.sdl_routes.proofs.laws.returns_by_channels.Goals as goal
-
-pub returns : goal.returns
-returns c = lemma.returns

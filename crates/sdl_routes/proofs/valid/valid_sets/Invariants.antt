@@ -1,5 +1,0 @@
-use Rattle.sdl_routes.specs.Valid.{AreValid}
-use Rattle.sdl_routes.proofs.valid.valid_sets.Given as goal
-
-abbrev pub invariant-loop-number : goal.invariant-loop-number
-invariant-loop-number l = AreValid l.network l.number l.valid.items

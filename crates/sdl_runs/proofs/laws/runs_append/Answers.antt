@@ -1,7 +1,0 @@
--- Two runs are one: a lemma says so.
-use Rattle.sdl_runs.proofs.Runs.{Runs-append}
-use Rattle.sdl_runs.proofs.laws.runs_append.Goals as goal
-
-pub returns : goal.returns
-returns c d who from mid to s t u q r end deeds later history calls first then =
-    Runs-append d who from s q deeds history mid t r first then

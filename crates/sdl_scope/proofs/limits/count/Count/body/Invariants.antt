@@ -1,9 +1,0 @@
-use Rattle.std.proofs.Common.{flat_map, map, take}
-use Rattle.sdl_tree.specs.Views.{body_part_value}
-use Rattle.sdl_scope.specs.Counted.{Counts}
-use Rattle.sdl_scope.specs.Limits.{body_statements}
-use Rattle.sdl_scope.proofs.limits.count.Count.body.Given as goal
-
-abbrev pub invariant-loop-part : goal.invariant-loop-part
-invariant-loop-part l =
-    Counts l.initial.self l.self (flat_map body_statements (map body_part_value (take l.part-index l.parts)))

@@ -1,7 +1,0 @@
-use Rattle.std.proofs.Common.{take}
-use Rattle.sdl_tree.specs.Views.{names_value}
-use Rattle.sdl_scope.specs.Counted.{Counts}
-use Rattle.sdl_scope.proofs.limits.count.Count.names.Given as goal
-
-abbrev pub invariant-loop-name : goal.invariant-loop-name
-invariant-loop-name l = Counts l.initial.self l.self (names_value (take l.name-index l.names))

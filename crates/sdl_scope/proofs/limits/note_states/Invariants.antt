@@ -1,9 +1,0 @@
-use Rattle.std.proofs.Common.{◌≡◌, flat_map, map, take}
-use Rattle.sdl_tree.specs.Views.{body_part_value}
-use Rattle.sdl_scope.specs.Limits.{different, part_states}
-use Rattle.sdl_scope.specs.Listed.{words_listed}
-use Rattle.sdl_scope.proofs.limits.note_states.Given as goal
-
-abbrev pub invariant-loop-part : goal.invariant-loop-part
-invariant-loop-part l =
-    words_listed l.names ≡ different (flat_map part_states (map body_part_value (take l.part-index l.body)))

@@ -1,9 +1,0 @@
-use Rattle.std.proofs.Common.{◌≡◌, flat_map, take}
-use Rattle.sdl_scope.specs.Limits.{processes_of}
-use Rattle.sdl_scope.specs.Listed.{definitions_listed, processes_listed}
-use Rattle.sdl_scope.proofs.limits.processes_in.Given as goal
-
-abbrev pub invariant-loop-definition : goal.invariant-loop-definition
-invariant-loop-definition l =
-    processes_listed l.processes.items
-    ≡ flat_map processes_of (definitions_listed (take l.definition-index l.definitions))

@@ -1,8 +1,0 @@
-use Rattle.std.proofs.Common.{◌≡◌, ◌++◌, take}
-use Rattle.sdl_signal_lists.specs.Seen.{seen_of, items_in}
-use Rattle.sdl_tree.specs.Views.{items_value}
-use Rattle.sdl_signal_lists.proofs.seen.Seen.add_items.Given as goal
-
-abbrev pub invariant-loop-item : goal.invariant-loop-item
-invariant-loop-item l =
-    l.list.items ≡ l.initial.list.items ++ items_in (seen_of l.self) (items_value (take l.item-index l.items))

@@ -1,4 +1,0 @@
-pub mod Lists
-pub mod Numbered
-pub mod Processes
-pub mod Seen

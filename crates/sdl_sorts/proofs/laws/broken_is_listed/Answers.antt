@@ -1,5 +1,0 @@
-use Rattle.sdl_sorts.proofs.BrokenLaws.{broken-listed}
-use Rattle.sdl_sorts.proofs.laws.broken_is_listed.Goals as goal
-
-pub returns : goal.returns
-returns c = broken-listed

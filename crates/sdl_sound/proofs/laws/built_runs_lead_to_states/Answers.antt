@@ -1,5 +1,0 @@
-use Rattle.sdl_sound.proofs.SystemLemmas.{built-runs-lead-to-states}
-use Rattle.sdl_sound.proofs.laws.built_runs_lead_to_states.Goals as goal
-
-pub returns : goal.returns
-returns c = built-runs-lead-to-states

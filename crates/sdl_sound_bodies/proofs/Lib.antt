@@ -1,5 +1,0 @@
-pub mod LabelLemmas
-pub mod MeetLemmas
-pub mod SoundLemmas
-pub mod StartLemmas
-pub mod TypedLemmas

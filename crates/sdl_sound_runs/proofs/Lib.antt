@@ -1,4 +1,0 @@
-pub mod CauseLemmas
-pub mod PathLemmas
-pub mod PlaceLemmas
-pub mod SortLemmas

@@ -1,5 +1,0 @@
-use Rattle.sdl_sound_runs.proofs.PlaceLemmas.{comes-to-states}
-use Rattle.sdl_sound_runs.proofs.laws.comes_to_states.Goals as goal
-
-pub returns : goal.returns
-returns c = comes-to-states

@@ -1,5 +1,0 @@
-use Rattle.sdl_sound_runs.proofs.SortLemmas.{runs-keep-sorts}
-use Rattle.sdl_sound_runs.proofs.laws.runs_keep_sorts.Goals as goal
-
-pub returns : goal.returns
-returns c = runs-keep-sorts

@@ -1,5 +1,0 @@
-use Rattle.sdl_sound_runs.proofs.CauseLemmas.{undefined-is-unassigned}
-use Rattle.sdl_sound_runs.proofs.laws.undefined_is_unassigned.Goals as goal
-
-pub returns : goal.returns
-returns c = undefined-is-unassigned

@@ -1,5 +1,0 @@
-pub mod Asked
-pub mod Laws
-pub mod Paths
-pub mod Sorts
-pub mod States

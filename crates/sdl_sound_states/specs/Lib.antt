@@ -1,4 +1,0 @@
-pub mod Behaviours
-pub mod Laws
-pub mod States
-pub mod Tables

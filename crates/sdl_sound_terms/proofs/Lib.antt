@@ -1,3 +1,0 @@
-pub mod KindLemmas
-pub mod SoundLemmas
-pub mod ValueLemmas

@@ -1,7 +1,0 @@
-use Rattle.std.proofs.Common.{◌≡◌, take}
-use Rattle.sdl_states.specs.Outlined.{cursor_behind}
-use Rattle.sdl_states.proofs.chosen.chosen.Given as goal
-
-abbrev pub invariant-loop-turn : goal.invariant-loop-turn
-invariant-loop-turn l =
-    record { from = l.from; parts = l.parts.items } ≡ cursor_behind l.stars (take l.turn-index l.turns)

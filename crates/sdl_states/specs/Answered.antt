@@ -1,8 +1,0 @@
--- What the answers of the code stand for.
-use Rattle.std.specs.Prelude.{option_map}
-use Rattle.sdl_stimuli.specs.Listed.{rest_value}
-use Rattle.sdl_states.specs.States as states
-use Rattle.sdl_states.specs.declared.answers.Answers.{Answers}
-
-abbrev pub answers_value : Answers → states.Answers
-answers_value answers = record { named = answers.named; rest = option_map rest_value answers.rest }

@@ -1,5 +1,0 @@
-use Rattle.sdl_synonyms.proofs.BrokenLaws.{listed-named}
-use Rattle.sdl_synonyms.proofs.laws.listed_is_named.Goals as goal
-
-pub returns : goal.returns
-returns c = listed-named

@@ -1,8 +1,0 @@
-use Rattle.std.proofs.Common.{◌≡◌, Some, map, take}
-use Rattle.sdl_states.specs.Ordered.{numbered_value}
-use Rattle.sdl_classes.specs.Linked.{continuous_linked}
-use Rattle.sdl_tables.proofs.continuous.all_linked.Given as goal
-
-abbrev pub invariant-loop-one : goal.invariant-loop-one
-invariant-loop-one l = map Some l.list.items
-    ≡ map (continuous_linked l.entries) (map numbered_value (take l.one-index l.numbered))

@@ -1,6 +1,0 @@
-//! A serial run can go one way only (Z.101: system), as laws of the definitions of `sdl_courses`.
-//!
-//! `Same` says what two courses, and two reports, have in common.
-#![tactic(auto)]
-
-pub mod laws;

@@ -1,0 +1,145 @@
+-- What a create makes: the next number, of a process of the system.
+use Rattle.std.proofs.Common.{◌≡◌, ◌∙◌, ◌+◌, ◌||◌, ap, refl, subst, sym, if◌then◌else◌, ℕ, Bool, true, false, IfSome, List, [], ◌∷◌, ◌++◌, Option, None, Some, nat_le, slice_get}
+use Rattle.std.specs.Option.{option_map, option_map_or}
+use Rattle.std.proofs.lemmas.Option.{same_Some}
+use Rattle.port_values.specs.declared.value.Value.{Value}
+use Rattle.serial_order.specs.Told.{given_after, given_after_one}
+use Rattle.run_evaluation.specs.declared.identity.Identity.{Identity}
+use Rattle.run_record.specs.Event as event
+use Rattle.run_record.specs.Event.{Event}
+use Rattle.run_semantics.proofs.Acting.{AreActs, AreActsOf}
+use Rattle.run_semantics.specs.Act.{Act, Arm, Create, Deed, Send, acts_of}
+use Rattle.run_semantics.specs.Leads.{created}
+use Rattle.run_semantics.specs.World.{Census, IsTrueOf, IsTrueOfOne, WorldValue, after_act, after_acts, census_after, count_in, is_reached, most_instances, number_for, time_after_one}
+use Rattle.sdl_system.specs.System.{SystemValue}
+use Rattle.sdl_system.specs.declared.id.ProcessId.{ProcessId}
+use Rattle.sdl_system.specs.declared.process.Process.{Process}
+
+-- this is a process of the system
+pub record IsProcess (system : SystemValue) (id : ProcessId) : Type 0 where
+  pub process : Process
+  pub is_there : slice_get system.processes id.0 ≡ Some process
+
+-- where so many numbers were given, an act makes an instance with the next one
+abbrev pub MakesNext : SystemValue → ℕ → Act → Type 0
+MakesNext system given (Send target item) = Unit {0}
+MakesNext system given (Arm fuse) = Unit {0}
+MakesNext system given (Create process number parent values) = (number ≡ given + 1) × IsProcess system process
+
+-- so do several acts
+abbrev pub MakeNext : SystemValue → ℕ → List Act → Type 0
+MakeNext system given [] = Unit {0}
+MakeNext system given (act ∷ rest) = MakesNext system given act × MakeNext system (given_after_one given act) rest
+
+MakeNext-append : (system : SystemValue) (given : ℕ) (first later : List Act) → MakeNext system given first
+    → MakeNext system (given_after given first) later → MakeNext system given (first ++ later)
+MakeNext-append system given [] later make more = more
+MakeNext-append system given (act ∷ rest) later make more =
+    (make.0, MakeNext-append system (given_after_one given act) rest later make.1 more)
+
+-- ---- the number of a create
+
+module _ (system : SystemValue) (census : Census) (id : ProcessId) (number : ℕ) where
+  by_full : (full : Bool) → Some number ≡ (if full then None else Some (census.given + 1)) → number ≡ census.given + 1
+  by_full true e = let wrong : ⊥ = cc in absurd wrong
+  by_full false e = same_Some number (census.given + 1) e
+
+  by_process : (o : Option Process) → slice_get system.processes id.0 ≡ o
+      → Some number ≡ (if (option_map_or (λ (p : Process). is_reached p.maximum (count_in census id)) o true
+      || nat_le most_instances census.given) then None else Some (census.given + 1))
+      → (number ≡ census.given + 1) × IsProcess system id
+  by_process None is e = let wrong : ⊥ = cc in absurd wrong
+  by_process (Some p) is e = (
+    by_full (is_reached p.maximum (count_in census id) || nat_le most_instances census.given) e,
+    record { process = p; is_there = is },
+  )
+
+  number_is : Some number ≡ number_for system census id → (number ≡ census.given + 1) × IsProcess system id
+  number_is e = by_process (slice_get system.processes id.0) refl e
+
+made_next : (system : SystemValue) (census : Census) (id : ProcessId) (number : Option ℕ) (pid : ℕ)
+    (values : List Value) → number ≡ number_for system census id
+    → MakeNext system census.given (created id pid values number)
+made_next system census id None pid values e = tt
+made_next system census id (Some number) pid values e = (number_is system census id number e, tt)
+
+-- ---- what deeds make
+
+module _ (who : Identity) (w : WorldValue) (census : Census) (known : w.census ≡ Some census) (earlier : ℕ) where
+  nothing_made : (done : List Act) → done ≡ [] → MakeNext w.system census.given done
+  nothing_made done none = subst (λ (list : List Act). MakeNext w.system census.given list) (sym none) tt
+
+  event_makes : (e : Event) (done : List Act) → AreActsOf who.pid e done → IsTrueOfOne who w earlier e
+      → MakeNext w.system census.given done
+  event_makes (event.Output signal named values target) done are is_true =
+      subst (λ (list : List Act). MakeNext w.system census.given list) (sym are.1) (tt, tt)
+  event_makes (event.Set key due) done are is_true =
+      subst (λ (list : List Act). MakeNext w.system census.given list) (sym are.1) (tt, tt)
+  event_makes (event.Create id number) done are is_true =
+      let next : number ≡ number_for w.system census id =
+      subst (λ (o : Option Census). IfSome o (λ census. number ≡ number_for w.system census id)) known is_true in
+      subst (λ (list : List Act). MakeNext w.system census.given list) (sym are.1)
+      (made_next w.system census id number who.pid are.0 next)
+  event_makes (event.Start at) done are is_true = nothing_made done are
+  event_makes (event.Consumed at got) done are is_true = nothing_made done are
+  event_makes (event.Prior at got) done are is_true = nothing_made done are
+  event_makes (event.Discarded at got) done are is_true = nothing_made done are
+  event_makes (event.Provided at number) done are is_true = nothing_made done are
+  event_makes (event.FailedAt at why) done are is_true = nothing_made done are
+  event_makes (event.Task variable value) done are is_true = nothing_made done are
+  event_makes (event.Reset key) done are is_true = nothing_made done are
+  event_makes (event.NextState state) done are is_true = nothing_made done are
+  event_makes event.Stop done are is_true = nothing_made done are
+  event_makes (event.Failed why) done are is_true = nothing_made done are
+  event_makes (event.Rest state) done are is_true = nothing_made done are
+  event_makes (event.Cut state) done are is_true = nothing_made done are
+
+-- the census after some acts
+record Counts (w : WorldValue) (given : ℕ) : Type 0 where
+  census : Census
+  known : w.census ≡ Some census
+  given_is : census.given ≡ given
+
+counts_one : (w : WorldValue) (given : ℕ) (act : Act) → Counts w given
+    → Counts (after_act w act) (given_after_one given act)
+counts_one w given act counts = record {
+  census = census_after counts.census act;
+  known = ap (λ (o : Option Census). option_map (λ census. census_after census act) o) counts.known;
+  given_is = by_act act ∙ ap (λ given. given_after_one given act) counts.given_is;
+} where
+  by_act : (act : Act) → (census_after counts.census act).given ≡ given_after_one counts.census.given act
+  by_act (Send target item) = refl
+  by_act (Arm fuse) = refl
+  by_act (Create process number parent values) = refl
+
+counts_all : (w : WorldValue) (given : ℕ) (done : List Act) → Counts w given
+    → Counts (after_acts w done) (given_after given done)
+counts_all w given [] counts = counts
+counts_all w given (act ∷ rest) counts =
+    counts_all (after_act w act) (given_after_one given act) rest (counts_one w given act counts)
+
+system_kept : (w : WorldValue) (done : List Act) → (after_acts w done).system ≡ w.system
+system_kept w [] = refl
+system_kept w (act ∷ rest) = system_kept (after_act w act) rest
+
+deeds_count : (who : Identity) (w : WorldValue) (given earlier : ℕ) (deeds : List Deed) → Counts w given
+    → AreActs who.pid deeds → IsTrueOf who w earlier deeds → MakeNext w.system given (acts_of deeds)
+deeds_count who w given earlier [] counts are are_true = tt
+deeds_count who w given earlier (deed ∷ rest) counts are are_true =
+    let first : MakeNext w.system given deed.acts =
+    subst (λ given. MakeNext w.system given deed.acts) counts.given_is
+    (event_makes who w counts.census counts.known earlier deed.event deed.acts are.0 are_true.0) in
+    let later : MakeNext w.system (given_after given deed.acts) (acts_of rest) =
+    subst (λ (system : SystemValue). MakeNext system (given_after given deed.acts) (acts_of rest))
+    (system_kept w deed.acts)
+    (deeds_count who (after_acts w deed.acts) (given_after given deed.acts) (time_after_one earlier deed.event) rest
+    (counts_all w given deed.acts counts) are.1 are_true.1) in
+    MakeNext-append w.system given deed.acts (acts_of rest) first later
+
+-- what deeds do that are true of a world in which so many numbers were given
+pub deeds_make : (who : Identity) (w : WorldValue) (census : Census) (earlier : ℕ) (deeds : List Deed)
+    → w.census ≡ Some census → AreActs who.pid deeds → IsTrueOf who w earlier deeds
+    → MakeNext w.system census.given (acts_of deeds)
+deeds_make who w census earlier deeds known are are_true =
+    deeds_count who w census.given earlier deeds (record { census = census; known = known; given_is = refl }) are
+    are_true

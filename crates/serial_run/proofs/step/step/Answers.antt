@@ -1,0 +1,420 @@
+use Rattle.std.proofs.Common.{◌≡◌, ◌≢◌, ◌∙◌, ◌-◌, ◌<◌, true, false, ℕ, suc, Some, refl, inl, inr, ap, sym, subst, arith, rules, slice_get, set, length, map, vec_len}
+use Rattle.std.specs.Prelude.{Contains, ◌↔◌}
+use Rattle.std.proofs.lemmas.List.{length-set}
+use Rattle.std.proofs.lemmas.Option.{slice_get_read, slice_get_within}
+use Rattle.port_inbox.specs.Ends.{OwnerState}
+use Rattle.serial_world.specs.Around.{AreNumbered, act_of, world_of}
+use Rattle.serial_order.specs.Global.{after_acts, around, census_of, is_ended}
+use Rattle.serial_instances.specs.Serial.{IsOfSystem, state_of}
+use Rattle.serial_instances.specs.declared.instances.Instances.{Instances}
+use Rattle.run_evaluation.specs.declared.identity.Identity.{Identity}
+use Rattle.sdl_interp.specs.Instance.{EndsBy, InstanceValue, IsIdle, Moves}
+use Rattle.run_semantics.specs.World.{Census, WorldValue}
+use Rattle.serial_run.specs.CourseLaws.{stays}
+use Rattle.serial_run.proofs.Places.{census_same, in_place_set, marked_off, marked_on, not_ended, one_there, serial_set, set_back, set_here, set_there}
+use Rattle.serial_run.specs.Meanings.{all_at}
+use Rattle.serial_run.proofs.Steps.{IsAlone, Made, around_is, ended_rests, idle_rests, step_counts, step_fails, step_idles}
+use Rattle.serial_sweeps.specs.Sweeps.{after, at_board}
+use Rattle.serial_sweeps.specs.declared.agents.Made.TheVariants.{Failure, Transition}
+use Rattle.run_transitions.specs.declared.machine.Position.TheVariants as at
+use Rattle.serial_run.proofs.step.step.Goals as goal
+
+-- the number is that of an instance
+
+pub returns-in_default-clause-runs : goal.returns-in_default-clause-runs
+returns-in_default-clause-runs c = λ last bound m time.
+    stays last (at_board m c.args.board.now) (at_board m c.args.board.now) c.args.instances.now c.args.instances.now refl refl refl
+
+pub returns-in_default-clause-fewer : goal.returns-in_default-clause-fewer
+returns-in_default-clause-fewer c =
+    let s = c.args.instances.now in
+    let there = c.requires.fits.marked.there c.args.number c.requires.awake in
+    let long : vec_len s.instances ≡ length s.instances.items = search rules in
+    let no : ⊥ = elim c.in_default.ensures.none [
+      | inl none ↦ omega (arith, none, there.0)
+      | inr past ↦ omega (arith, past, there.1, long)
+    ] in
+    absurd no
+
+-- one that has ended already
+
+pub returns-in-Ended-clause-fits : goal.returns-in-Ended-clause-fits
+returns-in-Ended-clause-fits c =
+    let s = c.args.instances.now in
+    let place = c.in-Some.place in
+    let xs = s.instances.items in
+    let number_is : c.args.number ≡ suc place = omega (arith, c.in-Some.ensures.some.0) in
+    let one = c.index.result.now in
+    let at_first : slice_get xs place ≡ Some one =
+    slice_get_read xs (length xs) place one refl (search rules) c.index.ensures in
+    let ended : one.position ≡ at.Ended = sym c.position.ensures ∙ c.in-Ended.is in
+    let back = sym (set_there xs place one at_first) in
+    let off = subst (λ m. (n : ℕ) → Contains c.rest.new.self n ↔ (Contains c.args.board.now.awake n × (n ≢ m))) number_is
+    c.rest.ensures.left in
+    serial_set s _ c.rest.new.self place one one c.requires.fits at_first
+    (record { system = refl; process = refl; who = refl; port = refl; pid = refl }) back refl
+    (c.requires.fits.census ∙ ap (census_of s.system.now) back)
+    (marked_off c.args.board.now.awake c.rest.new.self xs place one c.requires.fits.marked off (ended_rests one ended))
+
+pub returns-in-Ended-clause-runs : goal.returns-in-Ended-clause-runs
+returns-in-Ended-clause-runs c = λ last bound m time.
+    let n = at_board m c.args.board.now in
+    stays last n n c.args.instances.now _ refl refl refl
+
+-- it makes a transition, and lives on
+
+pub perform_all-requires : goal.perform_all-requires
+perform_all-requires c =
+    let s = c.args.instances.now in
+    let place = c.in-Some.place in
+    let xs = s.instances.items in
+    let number_is : c.args.number ≡ suc place = omega (arith, c.in-Some.ensures.some.0) in
+    let old = c.index_mut.result.now in
+    let new = c.step-stepped.new.self in
+    let v = world_of c.step-stepped.new.world in
+    let there : slice_get xs place ≡ Some old =
+    slice_get_read xs (length xs) place old refl (search rules) c.index_mut.ensures.value in
+    let keeps = c.step-stepped.ensures.keeps in
+    let same_one : c.index.result.now ≡ old = one_there (slice_get xs place) c.index.result.now old
+    (slice_get_read xs (length xs) place c.index.result.now refl (search rules) c.index.ensures) there in
+    let lives : old.position ≢ at.Ended =
+    λ ended. c.in_default-position.not-Ended (c.position.ensures ∙ ap (λ (i : InstanceValue). i.position) same_one ∙ ended) in
+    let live_on : is_ended new.position ≡ is_ended old.position =
+    not_ended new.position c.in-Moved.ensures.steps.1 ∙ sym (not_ended old.position lives) in
+    serial_set s _ c.args.board.now.awake place old new c.requires.fits there keeps refl refl
+    (c.requires.fits.census ∙ sym (census_same s.system.now xs place old new there keeps.who live_on))
+    (marked_on c.args.board.now.awake xs place new c.requires.fits.marked (subst (Contains c.args.board.now.awake) number_is c.requires.awake))
+
+pub returns-in_ok-perform_all-in-Moved-clause-runs : goal.returns-in_ok-perform_all-in-Moved-clause-runs
+returns-in_ok-perform_all-in-Moved-clause-runs c = λ last bound m time.
+    let s = c.args.instances.now in
+    let board = c.args.board.now in
+    let from = at_board m board in
+    let place = c.in-Some.place in
+    let xs = s.instances.items in
+    let number_is : c.args.number ≡ suc place = omega (arith, c.in-Some.ensures.some.0) in
+    let old = c.index_mut.result.now in
+    let new = c.step-stepped.new.self in
+    let v = world_of c.step-stepped.new.world in
+    let there : slice_get xs place ≡ Some old =
+    slice_get_read xs (length xs) place old refl (search rules) c.index_mut.ensures.value in
+    let keeps = c.step-stepped.ensures.keeps in
+    let same_one : c.index.result.now ≡ old = one_there (slice_get xs place) c.index.result.now old
+    (slice_get_read xs (length xs) place c.index.result.now refl (search rules) c.index.ensures) there in
+    let lives : old.position ≢ at.Ended =
+    λ ended. c.in_default-position.not-Ended (c.position.ensures ∙ ap (λ (i : InstanceValue). i.position) same_one ∙ ended) in
+    let same_two : c.index-2.result.now ≡ old = one_there (slice_get xs place) c.index-2.result.now old
+    (slice_get_read xs (length xs) place c.index-2.result.now refl (search rules) c.index-2.ensures) there in
+    let changed = set xs place new in
+    let same_three : c.index-3.result.now ≡ new = one_there (slice_get changed place) c.index-3.result.now new
+    (slice_get_read changed (length changed) place c.index-3.result.now refl (search rules) c.index-3.ensures)
+    (set_here xs place old new there) in
+    let alone_then : IsAlone old.owner =
+    subst (λ (i : InstanceValue). IsAlone i.owner) same_two c.draws_nothing.ensures in
+    let alone_now : IsAlone new.owner =
+    subst (λ (i : InstanceValue). IsAlone i.owner) same_three c.draws_nothing-2.ensures in
+    let a = c.new-around.ensures in
+    let sees : world_of c.new-around.result ≡ around (state_of from s) =
+    around_is from s c.new-around.result c.requires.fits a.system a.clock a.begun a.changed (a.acts ∙ c.over-acts.ensures.items) in
+    let acts = map act_of c.step-stepped.new.world.acts.items in
+    let made : Made board.awake from s place c.args.number bound old new v acts = record {
+      serial = c.requires.fits;
+      time = time;
+      is_number = c.in-Some.ensures.some.0;
+      is_there = there;
+      lives = lives;
+      keeps = keeps;
+      undrawn = ap (λ (o : OwnerState). o.drawn) alone_now;
+      known = refl;
+    } in
+    let moves : Moves true old (around (state_of from s)) new v =
+    subst (λ (w : WorldValue). Moves true old w new v) sees c.in-Moved.ensures.steps.0 in
+    let given = ap (λ (census : Census). census.given) c.requires.fits.census in
+    step_counts board.awake from (after Transition c.args.number bound (at_board m c.perform_all.new.board)) s
+    c.perform_all.new.self place c.args.number bound old new v acts made moves
+    (λ numbers. c.in_ok-perform_all-in-Moved.ensures.state
+    (record m { turn = c.args.number; bound = bound; left = m.left - 1 })
+    (subst (λ n. AreNumbered n acts) (sym given) numbers))
+    (omega (arith, time.some)) c.perform_all.ensures.system last
+
+-- it ends
+
+pub leave-requires : goal.leave-requires
+leave-requires c =
+    let s = c.args.instances.now in
+    let place = c.in-Some.place in
+    let xs = s.instances.items in
+    let number_is : c.args.number ≡ suc place = omega (arith, c.in-Some.ensures.some.0) in
+    let old = c.index_mut.result.now in
+    let new = c.step-stepped.new.self in
+    let v = world_of c.step-stepped.new.world in
+    let there : slice_get xs place ≡ Some old =
+    slice_get_read xs (length xs) place old refl (search rules) c.index_mut.ensures.value in
+    let keeps = c.step-stepped.ensures.keeps in
+    let same_one : c.index.result.now ≡ old = one_there (slice_get xs place) c.index.result.now old
+    (slice_get_read xs (length xs) place c.index.result.now refl (search rules) c.index.ensures) there in
+    let lives : old.position ≢ at.Ended =
+    λ ended. c.in_default-position.not-Ended (c.position.ensures ∙ ap (λ (i : InstanceValue). i.position) same_one ∙ ended) in
+    let ends : EndsBy c.in-Ended-stepped.counts old (world_of c.new-around.result) new v = c.in-Ended-stepped.ensures.steps in
+    let end = elim ends as (λ e. (new.position ≡ at.Ended)
+    × Moves c.in-Ended-stepped.counts old (world_of c.new-around.result) new v) [
+      | inl w ↦ absurd (lives w.0)
+      | inr w ↦ (w.1, w.2)
+    ] in
+    let member = all_at (IsOfSystem s.system.now) xs place old c.requires.fits.members there in
+    record {
+      before = old;
+      now = new;
+      is_there = set_here xs place old new there;
+      lived = not_ended old.position lives;
+      ended = ap is_ended end.0;
+      who = keeps.who;
+      inside = subst (λ (who : Identity). who.process.0 < length s.system.now.processes) (sym keeps.who)
+          (slice_get_within s.system.now.processes old.who.process.0 old.process member.process_is);
+      places = in_place_set 0 xs place old new c.requires.fits.places there keeps.who keeps.pid;
+      census = c.requires.fits.census ∙ ap (census_of s.system.now) (sym (set_back xs place old new there));
+    }
+
+pub returns-then-not-counts-clause-fits : goal.returns-then-not-counts-clause-fits
+returns-then-not-counts-clause-fits c =
+    let s = c.args.instances.now in
+    let place = c.in-Some.place in
+    let xs = s.instances.items in
+    let number_is : c.args.number ≡ suc place = omega (arith, c.in-Some.ensures.some.0) in
+    let old = c.index_mut.result.now in
+    let new = c.step-stepped.new.self in
+    let v = world_of c.step-stepped.new.world in
+    let there : slice_get xs place ≡ Some old =
+    slice_get_read xs (length xs) place old refl (search rules) c.index_mut.ensures.value in
+    let keeps = c.step-stepped.ensures.keeps in
+    let same_one : c.index.result.now ≡ old = one_there (slice_get xs place) c.index.result.now old
+    (slice_get_read xs (length xs) place c.index.result.now refl (search rules) c.index.ensures) there in
+    let lives : old.position ≢ at.Ended =
+    λ ended. c.in_default-position.not-Ended (c.position.ensures ∙ ap (λ (i : InstanceValue). i.position) same_one ∙ ended) in
+    let ends : EndsBy c.in-Ended-stepped.counts old (world_of c.new-around.result) new v = c.in-Ended-stepped.ensures.steps in
+    let end = elim ends as (λ e. (new.position ≡ at.Ended)
+    × Moves c.in-Ended-stepped.counts old (world_of c.new-around.result) new v) [
+      | inl w ↦ absurd (lives w.0)
+      | inr w ↦ (w.1, w.2)
+    ] in
+    let same = c.leave.ensures.same in
+    let off = subst (λ m. (n : ℕ) → Contains c.rest-in-Ended-stepped.new.self n ↔ (Contains c.args.board.now.awake n × (n ≢ m))) number_is
+    c.rest-in-Ended-stepped.ensures.left in
+    let marked = marked_off c.args.board.now.awake c.rest-in-Ended-stepped.new.self xs place new c.requires.fits.marked off
+    (ended_rests new end.0) in
+    serial_set s _ c.rest-in-Ended-stepped.new.self place old new c.requires.fits there keeps
+    (ap (λ (u : Instances). u.instances.items) same) (ap (λ (u : Instances). u.system) same) c.leave.ensures.census marked
+
+pub returns-then-not-counts-clause-runs : goal.returns-then-not-counts-clause-runs
+returns-then-not-counts-clause-runs c = λ last bound m time.
+    let s = c.args.instances.now in
+    let board = c.args.board.now in
+    let from = at_board m board in
+    let place = c.in-Some.place in
+    let xs = s.instances.items in
+    let number_is : c.args.number ≡ suc place = omega (arith, c.in-Some.ensures.some.0) in
+    let old = c.index_mut.result.now in
+    let new = c.step-stepped.new.self in
+    let v = world_of c.step-stepped.new.world in
+    let there : slice_get xs place ≡ Some old =
+    slice_get_read xs (length xs) place old refl (search rules) c.index_mut.ensures.value in
+    let keeps = c.step-stepped.ensures.keeps in
+    let same_one : c.index.result.now ≡ old = one_there (slice_get xs place) c.index.result.now old
+    (slice_get_read xs (length xs) place c.index.result.now refl (search rules) c.index.ensures) there in
+    let lives : old.position ≢ at.Ended =
+    λ ended. c.in_default-position.not-Ended (c.position.ensures ∙ ap (λ (i : InstanceValue). i.position) same_one ∙ ended) in
+    let same_two : c.index-2.result.now ≡ old = one_there (slice_get xs place) c.index-2.result.now old
+    (slice_get_read xs (length xs) place c.index-2.result.now refl (search rules) c.index-2.ensures) there in
+    let changed = set xs place new in
+    let same_three : c.index-3.result.now ≡ new = one_there (slice_get changed place) c.index-3.result.now new
+    (slice_get_read changed (length changed) place c.index-3.result.now refl (search rules) c.index-3.ensures)
+    (set_here xs place old new there) in
+    let alone_then : IsAlone old.owner =
+    subst (λ (i : InstanceValue). IsAlone i.owner) same_two c.draws_nothing.ensures in
+    let alone_now : IsAlone new.owner =
+    subst (λ (i : InstanceValue). IsAlone i.owner) same_three c.draws_nothing-2.ensures in
+    let a = c.new-around.ensures in
+    let sees : world_of c.new-around.result ≡ around (state_of from s) =
+    around_is from s c.new-around.result c.requires.fits a.system a.clock a.begun a.changed (a.acts ∙ c.over-acts.ensures.items) in
+    let acts = map act_of c.step-stepped.new.world.acts.items in
+    let made : Made board.awake from s place c.args.number bound old new v acts = record {
+      serial = c.requires.fits;
+      time = time;
+      is_number = c.in-Some.ensures.some.0;
+      is_there = there;
+      lives = lives;
+      keeps = keeps;
+      undrawn = ap (λ (o : OwnerState). o.drawn) alone_now;
+      known = refl;
+    } in
+    let ends : EndsBy c.in-Ended-stepped.counts old (world_of c.new-around.result) new v = c.in-Ended-stepped.ensures.steps in
+    let end = elim ends as (λ e. (new.position ≡ at.Ended)
+    × Moves c.in-Ended-stepped.counts old (world_of c.new-around.result) new v) [
+      | inl w ↦ absurd (lives w.0)
+      | inr w ↦ (w.1, w.2)
+    ] in
+    let same = c.leave.ensures.same in
+    let none : c.in-Ended-stepped.counts ≡ false = search rules in
+    let moves : Moves false old (around (state_of from s)) new v =
+    subst (λ counts. Moves counts old (around (state_of from s)) new v) none
+    (subst (λ (w : WorldValue). Moves c.in-Ended-stepped.counts old w new v) sees end.1) in
+    let to = after Failure c.args.number bound from in
+    step_fails board.awake from to s c.leave.new.self place c.args.number bound old new v acts made moves
+    (ap (state_of to) same) refl (ap (λ (u : Instances). u.system) same) last
+
+pub perform_all-requires-in-Ended-stepped : goal.perform_all-requires-in-Ended-stepped
+perform_all-requires-in-Ended-stepped c =
+    let s = c.args.instances.now in
+    let place = c.in-Some.place in
+    let xs = s.instances.items in
+    let number_is : c.args.number ≡ suc place = omega (arith, c.in-Some.ensures.some.0) in
+    let old = c.index_mut.result.now in
+    let new = c.step-stepped.new.self in
+    let v = world_of c.step-stepped.new.world in
+    let there : slice_get xs place ≡ Some old =
+    slice_get_read xs (length xs) place old refl (search rules) c.index_mut.ensures.value in
+    let keeps = c.step-stepped.ensures.keeps in
+    let same_one : c.index.result.now ≡ old = one_there (slice_get xs place) c.index.result.now old
+    (slice_get_read xs (length xs) place c.index.result.now refl (search rules) c.index.ensures) there in
+    let lives : old.position ≢ at.Ended =
+    λ ended. c.in_default-position.not-Ended (c.position.ensures ∙ ap (λ (i : InstanceValue). i.position) same_one ∙ ended) in
+    let ends : EndsBy c.in-Ended-stepped.counts old (world_of c.new-around.result) new v = c.in-Ended-stepped.ensures.steps in
+    let end = elim ends as (λ e. (new.position ≡ at.Ended)
+    × Moves c.in-Ended-stepped.counts old (world_of c.new-around.result) new v) [
+      | inl w ↦ absurd (lives w.0)
+      | inr w ↦ (w.1, w.2)
+    ] in
+    let same = c.leave.ensures.same in
+    let off = subst (λ m. (n : ℕ) → Contains c.rest-in-Ended-stepped.new.self n ↔ (Contains c.args.board.now.awake n × (n ≢ m))) number_is
+    c.rest-in-Ended-stepped.ensures.left in
+    let marked = marked_off c.args.board.now.awake c.rest-in-Ended-stepped.new.self xs place new c.requires.fits.marked off
+    (ended_rests new end.0) in
+    serial_set s _ c.rest-in-Ended-stepped.new.self place old new c.requires.fits there keeps
+    (ap (λ (u : Instances). u.instances.items) same) (ap (λ (u : Instances). u.system) same) c.leave.ensures.census marked
+
+pub returns-in_ok-perform_all-in-Ended-stepped-clause-runs : goal.returns-in_ok-perform_all-in-Ended-stepped-clause-runs
+returns-in_ok-perform_all-in-Ended-stepped-clause-runs c = λ last bound m time.
+    let s = c.args.instances.now in
+    let board = c.args.board.now in
+    let from = at_board m board in
+    let place = c.in-Some.place in
+    let xs = s.instances.items in
+    let number_is : c.args.number ≡ suc place = omega (arith, c.in-Some.ensures.some.0) in
+    let old = c.index_mut.result.now in
+    let new = c.step-stepped.new.self in
+    let v = world_of c.step-stepped.new.world in
+    let there : slice_get xs place ≡ Some old =
+    slice_get_read xs (length xs) place old refl (search rules) c.index_mut.ensures.value in
+    let keeps = c.step-stepped.ensures.keeps in
+    let same_one : c.index.result.now ≡ old = one_there (slice_get xs place) c.index.result.now old
+    (slice_get_read xs (length xs) place c.index.result.now refl (search rules) c.index.ensures) there in
+    let lives : old.position ≢ at.Ended =
+    λ ended. c.in_default-position.not-Ended (c.position.ensures ∙ ap (λ (i : InstanceValue). i.position) same_one ∙ ended) in
+    let same_two : c.index-2.result.now ≡ old = one_there (slice_get xs place) c.index-2.result.now old
+    (slice_get_read xs (length xs) place c.index-2.result.now refl (search rules) c.index-2.ensures) there in
+    let changed = set xs place new in
+    let same_three : c.index-3.result.now ≡ new = one_there (slice_get changed place) c.index-3.result.now new
+    (slice_get_read changed (length changed) place c.index-3.result.now refl (search rules) c.index-3.ensures)
+    (set_here xs place old new there) in
+    let alone_then : IsAlone old.owner =
+    subst (λ (i : InstanceValue). IsAlone i.owner) same_two c.draws_nothing.ensures in
+    let alone_now : IsAlone new.owner =
+    subst (λ (i : InstanceValue). IsAlone i.owner) same_three c.draws_nothing-2.ensures in
+    let a = c.new-around.ensures in
+    let sees : world_of c.new-around.result ≡ around (state_of from s) =
+    around_is from s c.new-around.result c.requires.fits a.system a.clock a.begun a.changed (a.acts ∙ c.over-acts.ensures.items) in
+    let acts = map act_of c.step-stepped.new.world.acts.items in
+    let made : Made board.awake from s place c.args.number bound old new v acts = record {
+      serial = c.requires.fits;
+      time = time;
+      is_number = c.in-Some.ensures.some.0;
+      is_there = there;
+      lives = lives;
+      keeps = keeps;
+      undrawn = ap (λ (o : OwnerState). o.drawn) alone_now;
+      known = refl;
+    } in
+    let ends : EndsBy c.in-Ended-stepped.counts old (world_of c.new-around.result) new v = c.in-Ended-stepped.ensures.steps in
+    let end = elim ends as (λ e. (new.position ≡ at.Ended)
+    × Moves c.in-Ended-stepped.counts old (world_of c.new-around.result) new v) [
+      | inl w ↦ absurd (lives w.0)
+      | inr w ↦ (w.1, w.2)
+    ] in
+    let same = c.leave.ensures.same in
+    let counts : c.in-Ended-stepped.counts ≡ true = search rules in
+    let moves : Moves true old (around (state_of from s)) new v =
+    subst (λ counts. Moves counts old (around (state_of from s)) new v) counts
+    (subst (λ (w : WorldValue). Moves c.in-Ended-stepped.counts old w new v) sees end.1) in
+    let t = c.perform_all-in-Ended-stepped.new.self in
+    let done = c.in_ok-perform_all-in-Ended-stepped.ensures in
+    let given = ap (λ (census : Census). census.given) c.leave.ensures.census ∙ length-set xs place new in
+    let spent = record m { turn = c.args.number; bound = bound; left = m.left - 1 } in
+    step_counts board.awake from
+    (after Transition c.args.number bound (at_board m c.perform_all-in-Ended-stepped.new.board)) s t place c.args.number
+    bound old new v acts made moves
+    (λ numbers. done.state spent (subst (λ n. AreNumbered n acts) (sym given) numbers)
+    ∙ ap (λ (u : Instances). after_acts (state_of (at_board spent board) u) acts) same)
+    (omega (arith, time.some))
+    (c.perform_all-in-Ended-stepped.ensures.system ∙ ap (λ (u : Instances). u.system) same) last
+
+-- it waits
+
+pub returns-in-Idle-clause-fits : goal.returns-in-Idle-clause-fits
+returns-in-Idle-clause-fits c =
+    let s = c.args.instances.now in
+    let place = c.in-Some.place in
+    let xs = s.instances.items in
+    let number_is : c.args.number ≡ suc place = omega (arith, c.in-Some.ensures.some.0) in
+    let old = c.index_mut.result.now in
+    let new = c.step-stepped.new.self in
+    let v = world_of c.step-stepped.new.world in
+    let there : slice_get xs place ≡ Some old =
+    slice_get_read xs (length xs) place old refl (search rules) c.index_mut.ensures.value in
+    let keeps = c.step-stepped.ensures.keeps in
+    let same_one : c.index.result.now ≡ old = one_there (slice_get xs place) c.index.result.now old
+    (slice_get_read xs (length xs) place c.index.result.now refl (search rules) c.index.ensures) there in
+    let lives : old.position ≢ at.Ended =
+    λ ended. c.in_default-position.not-Ended (c.position.ensures ∙ ap (λ (i : InstanceValue). i.position) same_one ∙ ended) in
+    let idle : IsIdle old (world_of c.new-around.result) new v = c.in-Idle.ensures.steps in
+    let off = subst (λ m. (n : ℕ) → Contains c.rest-in-Idle.new.self n ↔ (Contains c.args.board.now.awake n × (n ≢ m))) number_is
+    c.rest-in-Idle.ensures.left in
+    serial_set s _ c.rest-in-Idle.new.self place old new c.requires.fits there keeps refl refl
+    (c.requires.fits.census
+    ∙ sym (census_same s.system.now xs place old new there keeps.who (ap is_ended idle.0)))
+    (marked_off c.args.board.now.awake c.rest-in-Idle.new.self xs place new c.requires.fits.marked off
+    (idle_rests old new (world_of c.new-around.result) v keeps idle))
+
+pub returns-in-Idle-clause-runs : goal.returns-in-Idle-clause-runs
+returns-in-Idle-clause-runs c = λ last bound m time.
+    let s = c.args.instances.now in
+    let board = c.args.board.now in
+    let from = at_board m board in
+    let place = c.in-Some.place in
+    let xs = s.instances.items in
+    let number_is : c.args.number ≡ suc place = omega (arith, c.in-Some.ensures.some.0) in
+    let old = c.index_mut.result.now in
+    let new = c.step-stepped.new.self in
+    let v = world_of c.step-stepped.new.world in
+    let there : slice_get xs place ≡ Some old =
+    slice_get_read xs (length xs) place old refl (search rules) c.index_mut.ensures.value in
+    let keeps = c.step-stepped.ensures.keeps in
+    let same_one : c.index.result.now ≡ old = one_there (slice_get xs place) c.index.result.now old
+    (slice_get_read xs (length xs) place c.index.result.now refl (search rules) c.index.ensures) there in
+    let lives : old.position ≢ at.Ended =
+    λ ended. c.in_default-position.not-Ended (c.position.ensures ∙ ap (λ (i : InstanceValue). i.position) same_one ∙ ended) in
+    let same_two : c.index-2.result.now ≡ old = one_there (slice_get xs place) c.index-2.result.now old
+    (slice_get_read xs (length xs) place c.index-2.result.now refl (search rules) c.index-2.ensures) there in
+    let changed = set xs place new in
+    let same_three : c.index-3.result.now ≡ new = one_there (slice_get changed place) c.index-3.result.now new
+    (slice_get_read changed (length changed) place c.index-3.result.now refl (search rules) c.index-3.ensures)
+    (set_here xs place old new there) in
+    let alone_then : IsAlone old.owner =
+    subst (λ (i : InstanceValue). IsAlone i.owner) same_two c.draws_nothing.ensures in
+    let alone_now : IsAlone new.owner =
+    subst (λ (i : InstanceValue). IsAlone i.owner) same_three c.draws_nothing-2.ensures in
+    let a = c.new-around.ensures in
+    let sees : world_of c.new-around.result ≡ around (state_of from s) =
+    around_is from s c.new-around.result c.requires.fits a.system a.clock a.begun a.changed (a.acts ∙ c.over-acts.ensures.items) in
+    let idle : IsIdle old (around (state_of from s)) new v =
+    subst (λ (w : WorldValue). IsIdle old w new v) sees c.in-Idle.ensures.steps in
+    step_idles from from s _ place old new v c.requires.fits there keeps alone_then alone_now idle refl refl refl last

@@ -1,0 +1,14 @@
+use Rattle.std.proofs.Common.{◌∷◌, refl}
+use Rattle.std.proofs.lemmas.Result.{on_ok_weaker}
+use Rattle.serial_run.proofs.Timing.{expire_reaches}
+use Rattle.serial_sweeps.specs.Sweeps.{at_board}
+use Rattle.serial_run.proofs.stepping.SteppingAgents.expire.Goals as goal
+
+pub returns-clause-runs : goal.returns-clause-runs
+returns-clause-runs c = λ last m some begun.
+    let board = c.args.board.now in
+    let fuse = c.args.fuse in
+    on_ok_weaker c.fire.result
+    (λ now. expire_reaches (record (at_board m board) { fuses = fuse ∷ board.fuses }) (at_board m c.fire.new.board)
+    c.args.self.now.instances c.fire.new.self fuse board.fuses refl begun c.requires.due now refl some c.fire.ensures.system last)
+    (c.fire.ensures.state m)

@@ -1,0 +1,15 @@
+//! A serial run of a system (Z.101: system, agent), on one thread.
+//!
+//! `run_serial` makes the steps of all instances in sweeps by ascending number, lets the clock move only where all
+//! rest, expires the timers that are due then in their order, and hears the script's lines of that time in theirs: so
+//! do the sweeps (`serial_sweeps`), over instances with ports of their own (`serial_instances`). A step of one of them is made
+//! here, and what it does to others is done behind it. The report is that of one course of all that happens
+//! (`serial_order`).
+#![tactic(auto)]
+
+mod run;
+mod step;
+mod stepping;
+
+pub use run::run_serial;
+pub use serial_instances::RunError;

@@ -1,0 +1,54 @@
+//! A serial run.
+
+ghost use Rattle.std.specs.Prelude.{◌≡◌, IfErr, IfOk, List};
+ghost use Rattle.serial_order.specs.Course.{AreBehaviours};
+ghost use Rattle.serial_order.specs.Report.{IsSerialReport};
+ghost use Rattle.sdl_system.specs.Behaviour.{Behaviour};
+
+use crate::stepping::Stepping;
+use port_values::Ticks;
+use run_record::Report;
+use sdl_script::Script;
+use sdl_system::System;
+use serial_instances::{Instances, RunError};
+use serial_sweeps::{Agents, Board, Sweeps};
+use std::alloc::Global;
+use std::collections::VecDeque;
+
+/// Runs a system serially on a script, until all instances rest, the script is at its end and no timer is due by then,
+/// or until `limit` transitions are made. Refused for want of memory alone.
+pub fn run_serial(
+    alloc: Global,
+    system: &System,
+    script: &Script,
+    limit: u64,
+) -> Result<Report, RunError>
+    ensures serial { IfOk result (λ report. (ps : List Behaviour) → AreBehaviours system.now ps
+        → IsSerialReport ps system.now script.now.lines.items limit report) }
+    ensures err { IfErr result (λ why. why ≡ RunError.Memory) }
+{
+    let mut board = Board::new(alloc);
+    let instances = Instances::begin(alloc, &mut board, system)?;
+    let mut agents = Stepping {
+        instances,
+        spare: VecDeque::new(alloc),
+    };
+    let mut sweeps = Sweeps::new(board, script.lines.as_slice(), agents.given(), limit);
+    let last = script.end();
+    let whole = sweeps.run(alloc, &mut agents, last)?;
+    let clock = clock_of(&sweeps);
+    let end = if whole { last } else { clock };
+    let records = agents.instances.close(alloc, whole)?;
+    Ok(Report {
+        records,
+        end,
+        whole,
+    })
+}
+
+/// The time at which a run stands.
+fn clock_of(sweeps: &Sweeps<'_>) -> Ticks
+    ensures { result ≡ sweeps.now.board.clock }
+{
+    sweeps.board.clock
+}

@@ -1,0 +1,5 @@
+-- In this run the port is whose it is said to be.
+use Rattle.test_input_port.proofs.peers.expires_into_its_own_port.Given as goal
+
+abbrev pub ghosts-expires : goal.ghosts-expires
+ghosts-expires g a = record { ports = λ _. a.port.now.queue }

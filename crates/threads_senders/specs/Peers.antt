@@ -1,0 +1,61 @@
+-- The senders of an instance, and what they have put (Z.101: input port).
+use Rattle.std.specs.Prelude.{◌≡◌, ℕ, Bool, nat_eq, List, [], All, Option, Some, is_some}
+use Rattle.std.specs.declared.alloc.Global.{Global}
+use Rattle.std.specs.Map.{lookup, set_value}
+use Rattle.std.specs.Option.{option_map_or}
+use Rattle.crossbeam_queue.specs.SegTies.{SegId}
+use Rattle.port_inbox.specs.declared.entry.Entry.{Entry}
+use Rattle.port_inbox.specs.Put.{of}
+use Rattle.port_queue.specs.Calls.{Puts}
+use Rattle.input_port.specs.Counts.{signals_in}
+use Rattle.port_queue.specs.Ends.{SenderState}
+use Rattle.port_values.specs.declared.item.Item.{Item}
+use Rattle.port_values.specs.declared.pid.Pid.TheVariants.{Of}
+use Rattle.threads_senders.specs.Rows.{EndsWith}
+use Rattle.run_record.specs.Event.{Event}
+use Rattle.run_semantics.specs.Sent.{sent_to}
+
+-- ---- the senders
+
+-- the senders of an instance, each with the number of the instance into whose port it puts, in the order in which they came
+abbrev pub PeersState : Type 0
+PeersState = List (ℕ × SenderState)
+
+-- the sender into the port of this instance, if there is one
+abbrev pub sender_to : PeersState → ℕ → Option SenderState
+sender_to peers number = lookup (nat_eq number) peers
+
+abbrev pub is_known : PeersState → ℕ → Bool
+is_known peers number = is_some (sender_to peers number)
+
+-- each sender is of the port of its number
+abbrev pub AreNamed : (ℕ → SegId Global) → PeersState → Type 0
+AreNamed ports peers =
+    (number : ℕ) (sender : SenderState) → sender_to peers number ≡ Some sender → sender.port ≡ ports number
+
+-- The sender of this number has put an entry. All others are as they were, and all stand in the same order.
+pub record PutsTo (number at : ℕ) (entry : Entry) (old new : PeersState) : Type 0 where
+  pub before : SenderState
+  pub after : SenderState
+  pub known : sender_to old number ≡ Some before
+  pub puts : Puts before after at entry
+  pub changed : new ≡ set_value (nat_eq number) old after
+
+-- ---- what they have put
+
+-- the signals that a sender has put, in their order
+abbrev pub put_by : SenderState → List Item
+put_by sender = signals_in (of sender.number sender.seen)
+
+-- those that were put into the port of this instance; without a sender, none
+abbrev pub put_to : PeersState → ℕ → List Item
+put_to peers number = option_map_or put_by (sender_to peers number) []
+
+-- The signals are of the instance `who`, and what its events send to the instance `number` ends with them.
+pub record AreLast (who : ℕ) (events : List Event) (number : ℕ) (put : List Item) : Type 0 where
+  pub own : All (λ item. item.sender ≡ Of who) put
+  pub end : EndsWith (sent_to who events number) put
+
+-- So are those that were put into each port. What the events send beside them was sent before there was a sender.
+abbrev pub ArePeers : ℕ → List Event → PeersState → Type 0
+ArePeers who events peers = (number : ℕ) → AreLast who events number (put_to peers number)

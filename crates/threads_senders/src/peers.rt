@@ -1,0 +1,152 @@
+//! The senders of an instance.
+
+ghost use Rattle.std.specs.Prelude.{◌≡◌, ◌≤◌, ◌++◌, ◌∷◌, [], ℕ, List, false, length, true, IfSome, MatchOption, MatchResult, OnOk};
+ghost use Rattle.port_inbox.specs.Calls.{ComesBack};
+ghost use Rattle.port_inbox.specs.declared.entry.Entry.TheVariants.{Signal, Timer};
+ghost use Rattle.port_values.specs.declared.pid.Pid.TheVariants.{Of};
+ghost use Rattle.threads_senders.specs.Peers.{is_known, put_by, put_to, AreLast, ArePeers, PutsTo};
+ghost use Rattle.run_semantics.specs.Sent.{output_of};
+ghost use Rattle.run_record.specs.Event.{Event};
+ghost use Rattle.sdl_system.specs.declared.route.Dest.{Dest};
+
+use crate::{Peer, Run};
+use indexmap::IndexMap;
+use input_port::{Port, Sender};
+use port_inbox::{Fuse, Refused};
+use port_model::PortError;
+use port_values::{Item, Ticks};
+use std::alloc::{AllocFailed, Global};
+use std::marker::{Model, PhantomData};
+use std::sync::Wait;
+
+/// The senders of an instance, each with the number of the instance into whose port it puts, in the order in which
+/// they came.
+#[derive(Drop)]
+pub struct Peers<J: Run> {
+    senders: IndexMap<u32, Sender>,
+    of: PhantomData<J>,
+}
+
+impl<J: Run> Model for Peers<J> {
+    ghost use Rattle.threads_senders.specs.Peers.{AreNamed, PeersState};
+
+    ghost Value = { PeersState };
+
+    ghost view = { λ peers. peers.senders.entries };
+
+    ghost invariant = { λ peers. AreNamed J.ports peers.senders.entries };
+}
+
+impl<J: Run> Peers<J> {
+    /// No senders. Takes no memory.
+    pub fn new(alloc: Global) -> Self
+        ensures { result ≡ [] }
+    {
+        Peers {
+            senders: IndexMap::new(alloc),
+            of: PhantomData,
+        }
+    }
+
+    /// Whether there is a sender into the port of this instance.
+    pub fn is_known(&self, number: u32) -> bool
+        ensures { result ≡ is_known self.now number }
+    {
+        self.senders.contains_key(&number)
+    }
+
+    /// How many signals were put into the port of this instance.
+    pub fn sent(&self, number: u32) -> u64
+        ensures { result ≡ length (put_to self.now number) }
+    {
+        match self.senders.get(&number) {
+            None => 0,
+            Some(sender) => sender.sent(),
+        }
+    }
+
+    /// Adds a sender into the port of this instance. For want of memory it comes back. That there was none, that it
+    /// is of this port, and that it has put no signal, is the caller's condition.
+    pub fn open(&mut self, number: u32, sender: Sender) -> Result<(), Refused<Sender>>
+        requires unknown { is_known self.old number ≡ false }
+        requires port { sender.port ≡ J.ports number }
+        requires fresh { put_by sender ≡ [] }
+        ensures opened { MatchResult result (λ _. self.new ≡ self.old ++ (number, sender) ∷ [])
+            (λ back. ComesBack back sender × (self.new ≡ self.old)) }
+        ensures known { OnOk result (is_known self.new number ≡ true) }
+        ensures kept { (who : ℕ) (events : List Event) → ArePeers who events self.old → ArePeers who events self.new }
+    {
+        match self.senders.insert(number, sender) {
+            Ok(_) => Ok(()),
+            Err(AllocFailed { value: (_, value) }) => Err(Refused {
+                error: PortError::Memory,
+                value,
+            }),
+        }
+    }
+
+    /// Puts a signal into the port of this instance. For want of memory, and after 2^61 entries, it comes back. That
+    /// there is a sender, and that it's this port, is the caller's condition.
+    ///
+    /// Where what was put so far is the last of what a record sends, and the signal is of the record's instance, it is
+    /// so with its output behind the record.
+    pub fn put<R: Wait>(
+        &mut self,
+        rt: &R,
+        port: &Port,
+        number: u32,
+        item: Item,
+    ) -> Result<(), Refused<Item>>
+        requires known { is_known self.old number ≡ true }
+        requires port { port.now.queue ≡ J.ports number }
+        ensures put { MatchResult result (λ _. PutsTo number 0 (Signal item) self.old self.new)
+            (λ back. ComesBack back item × (self.new ≡ self.old)) }
+        ensures known { (n : ℕ) → is_known self.new n ≡ is_known self.old n }
+        ensures kept { MatchResult result
+            (λ _. (who : ℕ) (events : List Event) (named : Dest) → item.sender ≡ Of who → ArePeers who events self.old
+            → ArePeers who (events ++ output_of item named number ∷ []) self.new)
+            (λ _. Unit {0}) }
+    {
+        let Some(sender) = self.senders.get_mut(&number) else {
+            unreachable!()
+        };
+        sender.put(rt, port, item)
+    }
+
+    /// Puts the expiry of a timer into the port of this instance, at the time `at`, as `put` does a signal. That its
+    /// time has come is the caller's condition, too.
+    pub fn expire<R: Wait>(
+        &mut self,
+        rt: &R,
+        port: &Port,
+        number: u32,
+        fuse: Fuse,
+        at: Ticks,
+    ) -> Result<(), Refused<Fuse>>
+        requires known { is_known self.old number ≡ true }
+        requires port { port.now.queue ≡ J.ports number }
+        requires due { fuse.due ≤ at }
+        ensures put { MatchResult result (λ _. PutsTo number at (Timer fuse) self.old self.new)
+            (λ back. ComesBack back fuse × (self.new ≡ self.old)) }
+        ensures known { (n : ℕ) → is_known self.new n ≡ is_known self.old n }
+        ensures kept { (who : ℕ) (events : List Event) → ArePeers who events self.old → ArePeers who events self.new }
+    {
+        let Some(sender) = self.senders.get_mut(&number) else {
+            unreachable!()
+        };
+        sender.expire(rt, port, fuse, at)
+    }
+
+    /// Takes out the sender that came last, with its number, to be gathered at its port. None: there is none.
+    pub fn release(&mut self) -> Option<Peer>
+        ensures released { MatchOption result ((self.old ≡ []) × (self.new ≡ []))
+            (λ peer. self.old ≡ self.new ++ (peer.number, peer.sender) ∷ []) }
+        ensures port { IfSome result (λ peer. peer.sender.port ≡ J.ports peer.number) }
+        ensures last { (who : ℕ) (events : List Event) → ArePeers who events self.old
+            → IfSome result (λ peer. AreLast who events peer.number (put_by peer.sender)) }
+        ensures kept { (who : ℕ) (events : List Event) → ArePeers who events self.old → ArePeers who events self.new }
+    {
+        let (number, sender) = self.senders.pop()?;
+        Some(Peer { number, sender })
+    }
+}
