@@ -8,7 +8,7 @@ use crate::{Owner, since};
 use port_inbox::{Entry, Fuse, Inbox, Refused};
 use port_model::{PortError, Selection, Taken};
 use port_queue::refused::refused;
-use port_queue::{Drawer, Finished, Port, Sender};
+use port_queue::{Finished, Port, Receiver, Sender};
 use port_values::{Ticks, TimerKey};
 use std::marker::Model;
 use std::sync::Wait;
@@ -18,7 +18,7 @@ use std::sync::Wait;
 pub struct Held<'a, R: Wait + Copy> {
     rt: R,
     port: &'a Port,
-    drawer: Drawer,
+    receiver: Receiver,
     since: Vec<Entry>,
     before: u64,
     stopped: bool,
@@ -30,9 +30,9 @@ impl<'a, R: Wait + Copy> Model for Held<'a, R> {
 
     ghost Value = { RetiredState };
 
-    ghost view = { λ h. record { owner = h.drawer; since = h.since.items; before = h.before } };
+    ghost view = { λ h. record { owner = h.receiver; since = h.since.items; before = h.before } };
 
-    ghost invariant = { λ h. (h.drawer.port ≡ h.port.now.queue) × (h.drawer.state.alive ≡ not h.stopped) };
+    ghost invariant = { λ h. (h.receiver.port ≡ h.port.now.queue) × (h.receiver.state.alive ≡ not h.stopped) };
 }
 
 impl<'a, R: Wait + Copy> Held<'a, R> {
@@ -42,12 +42,12 @@ impl<'a, R: Wait + Copy> Held<'a, R> {
         ensures inbox { result ≡ record { owner = owner; since = []; before = 0 } }
         ensures alive { result.owner.state.alive ≡ true }
     {
-        let drawer = owner.into_drawer();
-        let since = drawer.nothing_since();
+        let receiver = owner.into_receiver();
+        let since = receiver.nothing_since();
         Held {
             rt,
             port,
-            drawer,
+            receiver,
             since,
             before: 0,
             stopped: false,
@@ -58,14 +58,14 @@ impl<'a, R: Wait + Copy> Held<'a, R> {
     pub fn gathered(&self) -> u64
         ensures { result ≡ length self.now.owner.gathered }
     {
-        self.drawer.gathered()
+        self.receiver.gathered()
     }
 
     /// How many signals have been drawn, before a stop and since.
     pub fn signals(&self) -> u64
         ensures { result ≡ signals_drawn self.now.owner }
     {
-        self.drawer.signals()
+        self.receiver.signals()
     }
 
     /// How many signals had been drawn when it stopped, and 0 before.
@@ -85,14 +85,14 @@ impl<'a, R: Wait + Copy> Held<'a, R> {
     {
         if self.stopped {
             return since::gather(
-                &mut self.drawer,
+                &mut self.receiver,
                 &mut self.since,
                 &self.rt,
                 self.port,
                 sender,
             );
         }
-        self.drawer.gather(&self.rt, self.port, sender)
+        self.receiver.gather(&self.rt, self.port, sender)
     }
 
     /// Draws all that stands in the port, up to a fresh point, before a stop and after it. For want of memory it stops
@@ -104,16 +104,16 @@ impl<'a, R: Wait + Copy> Held<'a, R> {
         ensures fresh { DrainIs self.new.owner result }
     {
         if self.stopped {
-            return since::drain(&mut self.drawer, &mut self.since, &self.rt, self.port);
+            return since::drain(&mut self.receiver, &mut self.since, &self.rt, self.port);
         }
-        self.drawer.drain(&self.rt, self.port)
+        self.receiver.drain(&self.rt, self.port)
     }
 
     /// What every owner knows, as a fact.
     pub fn knows(&self)
         ensures { IsKnowing self.now.owner }
     {
-        self.drawer.knows();
+        self.receiver.knows();
     }
 
     /// Draws what stands in the port, and gives what is left: as `Owner::finish`, or after a stop as
@@ -126,12 +126,12 @@ impl<'a, R: Wait + Copy> Held<'a, R> {
         }
         self.knows();
         if self.stopped {
-            return Ok(self.drawer.leave(self.since));
+            return Ok(self.receiver.leave(self.since));
         }
-        match self.drawer.leave_waiting() {
+        match self.receiver.leave_waiting() {
             Ok(end) => Ok(end),
-            Err(drawer) => {
-                self.drawer = drawer;
+            Err(receiver) => {
+                self.receiver = receiver;
                 Err(refused(self))
             }
         }
@@ -148,28 +148,28 @@ impl<'a, R: Wait + Copy> Inbox for Held<'a, R> {
     ghost shared = { true };
 
     fn take(&mut self, selection: &Selection) -> Result<Taken, PortError> {
-        self.drawer.take(&self.rt, self.port, selection)
+        self.receiver.take(&self.rt, self.port, selection)
     }
 
     fn set(&mut self, key: TimerKey, due: Ticks) -> Result<Fuse, PortError> {
-        self.drawer.set(key, due)
+        self.receiver.set(key, due)
     }
 
     fn reset(&mut self, key: &TimerKey) {
-        self.drawer.reset(key);
+        self.receiver.reset(key);
     }
 
     fn active(&self, key: &TimerKey) -> bool {
-        self.drawer.active(key)
+        self.receiver.active(key)
     }
 
     fn next_due(&self) -> Option<Ticks> {
-        self.drawer.next_due()
+        self.receiver.next_due()
     }
 
     fn stop(&mut self) {
-        self.before = self.drawer.signals();
-        self.drawer.stop();
+        self.before = self.receiver.signals();
+        self.receiver.stop();
         self.stopped = true;
     }
 }

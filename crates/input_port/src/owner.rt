@@ -8,7 +8,7 @@ use crate::Retired;
 use port_inbox::{Entry, Fuse, Refused};
 use port_model::{PortError, Selection, Taken};
 use port_queue::refused::refused;
-use port_queue::{Drawer, Finished, Pass, Port, Sender};
+use port_queue::{Finished, Pass, Port, Receiver, Sender};
 use port_values::{Ticks, TimerKey};
 use std::alloc::Global;
 use std::marker::Model;
@@ -17,7 +17,7 @@ use std::sync::Wait;
 /// The one that takes from a port and has its timers: the instance. It lives; `stop` makes another type of it.
 #[derive(Drop)]
 pub struct Owner {
-    drawer: Drawer,
+    receiver: Receiver,
 }
 
 impl Model for Owner {
@@ -26,9 +26,9 @@ impl Model for Owner {
 
     ghost Value = { OwnerState };
 
-    ghost view = { λ o. o.drawer };
+    ghost view = { λ o. o.receiver };
 
-    ghost invariant = { λ o. o.drawer.state.alive ≡ true };
+    ghost invariant = { λ o. o.receiver.state.alive ≡ true };
 }
 
 impl Owner {
@@ -38,31 +38,31 @@ impl Owner {
         ensures { result ≡ newborn (record { web = pass.web; heap = pass.heap }) pid }
     {
         Owner {
-            drawer: Drawer::new(alloc, pid, pass),
+            receiver: Receiver::new(alloc, pid, pass),
         }
     }
 
     /// What it has, where it lives on in an inbox.
-    pub(crate) fn into_drawer(self) -> Drawer
+    pub(crate) fn into_receiver(self) -> Receiver
         ensures owner { result ≡ self }
         ensures alive { result.state.alive ≡ true }
     {
-        let Owner { drawer } = self;
-        drawer
+        let Owner { receiver } = self;
+        receiver
     }
 
     /// How many senders have been gathered and not handed back.
     pub fn gathered(&self) -> u64
         ensures { result ≡ length self.now.gathered }
     {
-        self.drawer.gathered()
+        self.receiver.gathered()
     }
 
     /// How many signals have been drawn.
     pub fn signals(&self) -> u64
         ensures { result ≡ signals_drawn self.now }
     {
-        self.drawer.signals()
+        self.receiver.signals()
     }
 
     /// Takes from the port (Z.102, priority input, save): draws entries until the selection takes one, or until none
@@ -81,8 +81,8 @@ impl Owner {
         ensures knows { IsKnowing self.new }
         ensures take { TakeIs selection.now self.old self.new result }
     {
-        let taken = self.drawer.take(rt, port, selection);
-        self.drawer.knows();
+        let taken = self.receiver.take(rt, port, selection);
+        self.receiver.knows();
         taken
     }
 
@@ -96,8 +96,8 @@ impl Owner {
         ensures drawn { HasDrawn self.old self.new }
         ensures fresh { DrainIs self.new result }
     {
-        let drawn = self.drawer.drain(rt, port);
-        self.drawer.knows();
+        let drawn = self.receiver.drain(rt, port);
+        self.receiver.knows();
         drawn
     }
 
@@ -116,8 +116,8 @@ impl Owner {
         ensures knows { IsKnowing self.new }
         ensures gather { GatherIs self.old self.new sender result }
     {
-        let gathered = self.drawer.gather(rt, port, sender);
-        self.drawer.knows();
+        let gathered = self.receiver.gather(rt, port, sender);
+        self.receiver.knows();
         gathered
     }
 
@@ -137,8 +137,8 @@ impl Owner {
         ensures knows { IsKnowing self.new }
         ensures meet { MeetIs self.old self.new sender result }
     {
-        let met = self.drawer.meet(rt, port, sender);
-        self.drawer.knows();
+        let met = self.receiver.meet(rt, port, sender);
+        self.receiver.knows();
         met
     }
 
@@ -149,28 +149,28 @@ impl Owner {
         ensures set { SetIs self.old self.new key due result }
         ensures spent { IsErrOf result PortError.SetsSpent ↔ (self.old.state.sets ≡ MOST_SETS) }
     {
-        self.drawer.set(key, due)
+        self.receiver.set(key, due)
     }
 
     /// Resets a timer: it isn't active any more, and its signal doesn't wait.
     pub fn reset(&mut self, key: &TimerKey)
         ensures { self.new ≡ after_reset self.old key.now }
     {
-        self.drawer.reset(key);
+        self.receiver.reset(key);
     }
 
     /// Whether a timer is active.
     pub fn active(&self, key: &TimerKey) -> bool
         ensures { result ≡ is_active key.now self.now.state.timers }
     {
-        self.drawer.active(key)
+        self.receiver.active(key)
     }
 
     /// The least due time of a timer that is set and has not expired.
     pub fn next_due(&self) -> Option<Ticks>
         ensures { IsLeast (due_times self.now.state.timers) result }
     {
-        self.drawer.next_due()
+        self.receiver.next_due()
     }
 
     /// Ends the port (Z.101, stop): what waits is discarded, no timer is active, and later entries have no effect.
@@ -178,11 +178,11 @@ impl Owner {
     pub fn stop(self) -> Retired
         ensures { result ≡ record { owner = after_stop self; since = []; before = signals_drawn self } }
     {
-        let Owner { mut drawer } = self;
-        let since = drawer.nothing_since();
-        let before = drawer.signals();
-        drawer.stop();
-        Retired::new(drawer, since, before)
+        let Owner { mut receiver } = self;
+        let since = receiver.nothing_since();
+        let before = receiver.signals();
+        receiver.stop();
+        Retired::new(receiver, since, before)
     }
 
     /// What waits in the port of the standard, in order: what was drawn and neither taken nor reset, each timer's
@@ -200,10 +200,10 @@ impl Owner {
         ensures waiting { IfOk result (λ end. AreWaiting self.state.waiting self.pid self.armed end.entries) }
         ensures back { IfErr result (λ back. ComesBack back self) }
     {
-        let Owner { drawer } = self;
-        match drawer.leave_waiting() {
+        let Owner { receiver } = self;
+        match receiver.leave_waiting() {
             Ok(end) => Ok(end),
-            Err(drawer) => Err(refused(Owner { drawer })),
+            Err(receiver) => Err(refused(Owner { receiver })),
         }
     }
 

@@ -5,7 +5,7 @@ ghost use Rattle.input_port.specs.Words.{signals_drawn, ComesBack, DrainIs, Fini
 use crate::since;
 use port_inbox::{Entry, Refused};
 use port_model::PortError;
-use port_queue::{Drawer, Finished, Port, Sender};
+use port_queue::{Finished, Port, Receiver, Sender};
 use std::marker::Model;
 use std::sync::Wait;
 
@@ -13,7 +13,7 @@ use std::sync::Wait;
 /// `finish`.
 #[derive(Drop)]
 pub struct Retired {
-    drawer: Drawer,
+    receiver: Receiver,
     since: Vec<Entry>,
     before: u64,
 }
@@ -23,15 +23,15 @@ impl Model for Retired {
 
     ghost Value = { RetiredState };
 
-    ghost view = { λ r. record { owner = r.drawer; since = r.since.items; before = r.before } };
+    ghost view = { λ r. record { owner = r.receiver; since = r.since.items; before = r.before } };
 }
 
 impl Retired {
-    pub(crate) fn new(drawer: Drawer, since: Vec<Entry>, before: u64) -> Self
-        ensures { result ≡ record { owner = drawer; since = since.items; before = before } }
+    pub(crate) fn new(receiver: Receiver, since: Vec<Entry>, before: u64) -> Self
+        ensures { result ≡ record { owner = receiver; since = since.items; before = before } }
     {
         Retired {
-            drawer,
+            receiver,
             since,
             before,
         }
@@ -41,14 +41,14 @@ impl Retired {
     pub fn gathered(&self) -> u64
         ensures { result ≡ length self.now.owner.gathered }
     {
-        self.drawer.gathered()
+        self.receiver.gathered()
     }
 
     /// How many signals have been drawn, before the stop and since.
     pub fn signals(&self) -> u64
         ensures { result ≡ signals_drawn self.now.owner }
     {
-        self.drawer.signals()
+        self.receiver.signals()
     }
 
     /// How many signals had been drawn when it stopped.
@@ -75,8 +75,8 @@ impl Retired {
             (λ _. GathersSince self.old.owner self.new.owner self.old.since self.new.since sender)
             (λ back. ComesBack back sender × (self.new ≡ self.old)) }
     {
-        let gathered = since::gather(&mut self.drawer, &mut self.since, rt, port, sender);
-        self.drawer.knows();
+        let gathered = since::gather(&mut self.receiver, &mut self.since, rt, port, sender);
+        self.receiver.knows();
         gathered
     }
 
@@ -90,8 +90,8 @@ impl Retired {
         ensures drawn { HasDrawnSince self.old.owner self.new.owner self.old.since self.new.since }
         ensures fresh { DrainIs self.new.owner result }
     {
-        let drawn = since::drain(&mut self.drawer, &mut self.since, rt, port);
-        self.drawer.knows();
+        let drawn = since::drain(&mut self.receiver, &mut self.since, rt, port);
+        self.receiver.knows();
         drawn
     }
 
@@ -113,7 +113,11 @@ impl Retired {
         if let Err(error) = self.drain(rt, port) {
             return Err(Refused { error, value: self });
         }
-        let Retired { drawer, since, .. } = self;
-        Ok(drawer.leave(since))
+        let Retired {
+            receiver,
+            since,
+            ..
+        } = self;
+        Ok(receiver.leave(since))
     }
 }

@@ -5,44 +5,47 @@ ghost use Rattle.input_port.specs.Words.{entry_of, popped_list, DrainIs, GatherS
 use port_inbox::{Entry, Placed, Refused};
 use port_model::PortError;
 use port_queue::refused::refused;
-use port_queue::{Drawer, Port, Sender};
+use port_queue::{Port, Receiver, Sender};
 use std::sync::Wait;
 
 /// Takes a sender in. For want of memory it comes back, and nothing changes.
 pub fn gather<R: Wait>(
-    drawer: &mut Drawer,
+    receiver: &mut Receiver,
     since: &mut Vec<Entry>,
     rt: &R,
     port: &Port,
     sender: Sender,
 ) -> Result<(), Refused<Sender>>
-    requires owner { drawer.old.port ≡ port.now.queue }
+    requires owner { receiver.old.port ≡ port.now.queue }
     requires sender { sender.port ≡ port.now.queue }
-    ensures port { drawer.new.port ≡ drawer.old.port }
-    ensures gather { GatherSinceIs drawer.old drawer.new since.old.items since.new.items sender result }
+    ensures port { receiver.new.port ≡ receiver.old.port }
+    ensures gather { GatherSinceIs receiver.old receiver.new since.old.items since.new.items sender result }
 {
-    if drawer.gathered() == u64::MAX || drawer.signals() == u64::MAX || since.reserve(1).is_err() {
+    if receiver.gathered() == u64::MAX
+        || receiver.signals() == u64::MAX
+        || since.reserve(1).is_err()
+    {
         return Err(refused(sender));
     }
-    let popped = drawer.absorb(rt, port, sender);
+    let popped = receiver.absorb(rt, port, sender);
     keep(since, popped);
     Ok(())
 }
 
 /// Draws all that the queue holds, up to a fresh point.
 pub fn drain<R: Wait>(
-    drawer: &mut Drawer,
+    receiver: &mut Receiver,
     since: &mut Vec<Entry>,
     rt: &R,
     port: &Port,
 ) -> Result<(), PortError>
-    requires { drawer.old.port ≡ port.now.queue }
-    ensures port { drawer.new.port ≡ drawer.old.port }
-    ensures drawn { HasDrawnSince drawer.old drawer.new since.old.items since.new.items }
-    ensures fresh { DrainIs drawer.new result }
+    requires { receiver.old.port ≡ port.now.queue }
+    ensures port { receiver.new.port ≡ receiver.old.port }
+    ensures drawn { HasDrawnSince receiver.old receiver.new since.old.items since.new.items }
+    ensures fresh { DrainIs receiver.new result }
 {
     for _ in rt.forever() {
-        if !pull(drawer, since, rt, port)? {
+        if !pull(receiver, since, rt, port)? {
             return Ok(());
         }
     }
@@ -51,19 +54,19 @@ pub fn drain<R: Wait>(
 
 /// Draws one entry, if the queue has one.
 fn pull<R: Wait>(
-    drawer: &mut Drawer,
+    receiver: &mut Receiver,
     since: &mut Vec<Entry>,
     rt: &R,
     port: &Port,
 ) -> Result<bool, PortError>
-    requires { drawer.old.port ≡ port.now.queue }
-    ensures port { drawer.new.port ≡ drawer.old.port }
-    ensures pulled { PullSinceIs drawer.old drawer.new since.old.items since.new.items result }
+    requires { receiver.old.port ≡ port.now.queue }
+    ensures port { receiver.new.port ≡ receiver.old.port }
+    ensures pulled { PullSinceIs receiver.old receiver.new since.old.items since.new.items result }
 {
-    if drawer.signals() == u64::MAX || since.reserve(1).is_err() {
+    if receiver.signals() == u64::MAX || since.reserve(1).is_err() {
         return Err(PortError::Memory);
     }
-    match drawer.pop(rt, port) {
+    match receiver.pop(rt, port) {
         None => Ok(false),
         Some(placed) => {
             since.push_reserved(placed.into_entry());

@@ -7,12 +7,12 @@ use Rattle.std.proofs.lemmas.Option.{same_Some, slice_get_within}
 use Rattle.port_values.specs.declared.pid.Pid.TheVariants.{Of}
 use Rattle.port_values.specs.declared.value.Value.{Value}
 use Rattle.serial_order.proofs.Made.{MakesNext}
-use Rattle.serial_order.specs.Global.{Global, after_act, census_of, change_at, changed_at, count_living, instance_at, instance_of, is_ended, least_living, lives_of, with_expiry, with_put}
+use Rattle.serial_order.specs.RunState.{RunState, after_effect, living_of, change_at, changed_at, count_living, instance_at, instance_of, is_ended, least_living, lives_of, with_expiry, with_put}
 use Rattle.laws_creates.proofs.Creates.{create_is}
 use Rattle.run_evaluation.specs.declared.identity.Identity.{Identity}
 use Rattle.sdl_interp.specs.Instance.{InstanceValue}
-use Rattle.run_semantics.specs.Act.{Act, Arm, Create, Send}
-use Rattle.run_semantics.specs.World.{Census, census_after, count_in, with_one_more}
+use Rattle.run_semantics.specs.Effect.{Effect, Arm, Create, Send}
+use Rattle.run_semantics.specs.World.{Living, living_after, count_in, with_one_more}
 use Rattle.sdl_system.specs.Route.{living_in, or_later}
 use Rattle.sdl_system.specs.System.{SystemValue}
 use Rattle.sdl_system.specs.declared.process.Process.{Process}
@@ -54,10 +54,10 @@ module _ (q : ℕ) (old new : InstanceValue) (who : new.who ≡ old.who)
       count_cons q x (set xs place new) ∙ ap (λ rest. cond (lives_of q x) 1 0 + rest) (count_same xs place there)
       ∙ sym (count_cons q x xs)
 
-census_set : (system : SystemValue) (xs : List InstanceValue) (place : ℕ) (old new : InstanceValue)
+living_set : (system : SystemValue) (xs : List InstanceValue) (place : ℕ) (old new : InstanceValue)
     → slice_get xs place ≡ Some old → new.who ≡ old.who → is_ended new.position ≡ is_ended old.position
-    → census_of system (set xs place new) ≡ census_of system xs
-census_set system xs place old new there who ended = λ i. record {
+    → living_of system (set xs place new) ≡ living_of system xs
+living_set system xs place old new there who ended = λ i. record {
   least = map (λ q. least_same q old new who ended xs place there i) (range_with_len 0 (length system.processes));
   counts = map (λ q. count_same q old new who ended xs place there i) (range_with_len 0 (length system.processes));
   given = length-set xs place new i;
@@ -66,15 +66,15 @@ census_set system xs place old new there who ended = λ i. record {
 module _ (system : SystemValue) (change : InstanceValue → InstanceValue)
     (who : (i : InstanceValue) → (change i).who ≡ i.who)
     (ended : (i : InstanceValue) → is_ended (change i).position ≡ is_ended i.position) where
-  census_changed : (xs : List InstanceValue) (n : ℕ) (o : Option InstanceValue) → instance_at xs n ≡ o
-      → census_of system (changed_at change xs n o) ≡ census_of system xs
-  census_changed xs n None is = refl
-  census_changed xs zero (Some i) is = refl
-  census_changed xs (suc k) (Some i) is = census_set system xs k i (change i) is (who i) (ended i)
+  living_changed : (xs : List InstanceValue) (n : ℕ) (o : Option InstanceValue) → instance_at xs n ≡ o
+      → living_of system (changed_at change xs n o) ≡ living_of system xs
+  living_changed xs n None is = refl
+  living_changed xs zero (Some i) is = refl
+  living_changed xs (suc k) (Some i) is = living_set system xs k i (change i) is (who i) (ended i)
 
-  census_change : (xs : List InstanceValue) (n : ℕ)
-      → census_of system (change_at change xs n) ≡ census_of system xs
-  census_change xs n = census_changed xs n (instance_at xs n) refl
+  living_change : (xs : List InstanceValue) (n : ℕ)
+      → living_of system (change_at change xs n) ≡ living_of system xs
+  living_change xs n = living_changed xs n (instance_at xs n) refl
 
 -- ---- one more is there
 
@@ -156,16 +156,16 @@ pub it : (a b : ℕ) → a ≡ b → nat_eq a b ≡ true
 it a b e = grind arith
 
 -- an instance before its start, with the next number
-census_more : (system : SystemValue) (instances : List InstanceValue) (who : Identity) (process : Process)
+living_more : (system : SystemValue) (instances : List InstanceValue) (who : Identity) (process : Process)
     (values : List Value) → slice_get system.processes who.process.0 ≡ Some process → who.pid ≡ length instances + 1
-    → census_of system (instances ++ instance_of system process who values ∷ [])
-    ≡ with_one_more (census_of system instances) who.process
-census_more system instances who process values is number =
+    → living_of system (instances ++ instance_of system process who values ∷ [])
+    ≡ with_one_more (living_of system instances) who.process
+living_more system instances who process values is number =
     let i : InstanceValue = instance_of system process who values in
     let n = length system.processes in
     let numbers = range_with_len 0 n in
     let after = instances ++ i ∷ [] in
-    let before : Census = census_of system instances in
+    let before : Living = living_of system instances in
     let p = who.process.0 in
     let inside : p < n = slice_get_within system.processes p process is in
     let zeroed : 0 + p ≡ p = omega arith in
@@ -194,34 +194,34 @@ census_more system instances who process values is number =
     (λ q apart. count_other instances i q (other q apart))
     ∙ ap (set before.counts p) count_is in
     let given : length after ≡ length instances + 1 = length-append instances (i ∷ []) in
-    let end : Census = with_one_more before who.process in
-    ap (λ all. record (census_of system after) { least = all }) least
+    let end : Living = with_one_more before who.process in
+    ap (λ all. record (living_of system after) { least = all }) least
     ∙ ap (λ all. record end { counts = all; given = length after }) counts
     ∙ ap (λ all. record end { given = all }) given
 
 -- ---- an act
 
 -- who lives by the census of a step is who lives
-pub census_act : (system : SystemValue) (g : Global) (act : Act) → g.system ≡ system
-    → MakesNext system (length g.instances) act
-    → census_after (census_of system g.instances) act ≡ census_of system (after_act g act).instances
-census_act system g (Send (Instance number) item) same makes =
-    sym (census_change system (with_put item) (λ i. refl) (λ i. refl) g.instances number)
-census_act system g (Send Env item) same makes = refl
-census_act system g (Send Null item) same makes = refl
-census_act system g (Send Nobody item) same makes = refl
-census_act system g (Arm fuse) same makes =
+pub living_effect : (system : SystemValue) (g : RunState) (effect : Effect) → g.system ≡ system
+    → MakesNext system (length g.instances) effect
+    → living_after (living_of system g.instances) effect ≡ living_of system (after_effect g effect).instances
+living_effect system g (Send (Instance number) item) same makes =
+    sym (living_change system (with_put item) (λ i. refl) (λ i. refl) g.instances number)
+living_effect system g (Send Env item) same makes = refl
+living_effect system g (Send Null item) same makes = refl
+living_effect system g (Send Nobody item) same makes = refl
+living_effect system g (Arm fuse) same makes =
     by_test (nat_le fuse.due g.clock)
     (record g { instances = change_at (with_expiry fuse g.clock) g.instances fuse.pid })
     (record g { fuses = with_fuse fuse g.fuses })
-    (sym (census_change system (with_expiry fuse g.clock) (λ i. refl) (λ i. refl) g.instances fuse.pid)) refl where
-      by_test : (b : Bool) (now later : Global) → census_of system g.instances ≡ census_of system now.instances
-          → census_of system g.instances ≡ census_of system later.instances
-          → census_of system g.instances ≡ census_of system (if b then now else later).instances
+    (sym (living_change system (with_expiry fuse g.clock) (λ i. refl) (λ i. refl) g.instances fuse.pid)) refl where
+      by_test : (b : Bool) (now later : RunState) → living_of system g.instances ≡ living_of system now.instances
+          → living_of system g.instances ≡ living_of system later.instances
+          → living_of system g.instances ≡ living_of system (if b then now else later).instances
       by_test true now later first second = first
       by_test false now later first second = second
-census_act system g (Create id number parent values) same makes =
+living_effect system g (Create id number parent values) same makes =
     let who : Identity = record { process = id; pid = number; parent = Of parent } in
-    sym (ap (λ (h : Global). census_of system h.instances)
+    sym (ap (λ (h : RunState). living_of system h.instances)
     (create_is system g id number parent values makes.1.process same makes.1.is_there)
-    ∙ census_more system g.instances who makes.1.process values makes.1.is_there makes.0)
+    ∙ living_more system g.instances who makes.1.process values makes.1.is_there makes.0)

@@ -9,8 +9,8 @@ use Rattle.port_model.specs.Timers.{IsLeast, earlier}
 use Rattle.port_values.specs.declared.pid.Pid.TheVariants as pid
 use Rattle.port_values.specs.declared.pid.Pid.TheVariants.{Of}
 use Rattle.port_values.specs.declared.value.Value.{Value}
-use Rattle.serial_order.specs.Course.{Course, Expired, Follows, Happening, Heard, IsNoFuseBefore, IsNoLineBefore, Moved, Steps, Ticked, Ticks, begins, goes, next_line}
-use Rattle.serial_order.specs.Global.{Global, after_act, after_acts, around, beginning, change_at, changed_at, first_instances, first_of, instance_at, instance_of, with_created, with_expiry, with_instance, with_put}
+use Rattle.serial_order.specs.Execution.{Execution, Expired, Follows, Happening, Heard, IsNoFuseBefore, IsNoLineBefore, Moved, Steps, Ticked, Ticks, begins, goes, next_line}
+use Rattle.serial_order.specs.RunState.{RunState, after_effect, after_effects, world_at, beginning, change_at, changed_at, first_instances, first_of, instance_at, instance_of, with_created, with_expiry, with_instance, with_put}
 use Rattle.serial_order.specs.Report.{Closes, Ends}
 use Rattle.laws_creates.proofs.Within.{IsWithin, all_within, lines_within}
 use Rattle.laws_creates.specs.Ends.{EndsAreNotBefore, IsBy}
@@ -19,7 +19,7 @@ use Rattle.sdl_interp.specs.Instance.{InstanceValue, closing}
 use Rattle.run_record.specs.Event as event
 use Rattle.run_record.specs.Event.{Event}
 use Rattle.run_record.specs.Record.{RecordValue}
-use Rattle.run_semantics.specs.Act.{Act, Arm, Create, Deed, Send, acts_of, events_of}
+use Rattle.run_semantics.specs.Effect.{Effect, Arm, Create, Deed, Send, effects_of, events_of}
 use Rattle.run_semantics.specs.World.{IsReading, IsTrueOf, IsTrueOfOne, WorldValue, time_after, time_after_one}
 use Rattle.run_semantics.specs.World as world
 use Rattle.sdl_script.specs.Script.{end_of}
@@ -38,7 +38,7 @@ record IsEarly (clock : ℕ) (i : InstanceValue) : Type 0 where
   events : All (IsBy clock) i.events
 
 -- So it is with all instances and the clock, which isn't past what was to be done.
-record AreEarly (g : Global) : Type 0 where
+record AreEarly (g : RunState) : Type 0 where
   begun : g.clock ≤ g.until
   all : All (IsEarly g.clock) g.instances
 
@@ -78,17 +78,17 @@ module _ (who : Identity) (clock : ℕ) where
   event_by w before (event.Rest state) known less is = untimed before less
   event_by w before (event.Cut state) known less is = untimed before less
 
-  clock_kept : (w : WorldValue) (done : List Act) → (world.after_acts w done).clock ≡ w.clock
+  clock_kept : (w : WorldValue) (done : List Effect) → (world.after_effects w done).clock ≡ w.clock
   clock_kept w [] = refl
-  clock_kept w (act ∷ rest) = clock_kept (world.after_act w act) rest
+  clock_kept w (effect ∷ rest) = clock_kept (world.after_effect w effect) rest
 
   deeds_by : (w : WorldValue) (before : ℕ) (deeds : List Deed) → w.clock ≡ Some clock → before ≤ clock
       → IsTrueOf who w before deeds → All (IsBy clock) (events_of deeds) × (time_after before deeds ≤ clock)
   deeds_by w before [] known less are = (All-nil (IsBy clock), less)
   deeds_by w before (deed ∷ rest) known less are =
       let first = event_by w before deed.event known less are.0 in
-      let later = deeds_by (world.after_acts w deed.acts) (time_after_one before deed.event) rest
-      (clock_kept w deed.acts ∙ known) first.1 are.1 in
+      let later = deeds_by (world.after_effects w deed.effects) (time_after_one before deed.event) rest
+      (clock_kept w deed.effects ∙ known) first.1 are.1 in
       (All-cons (IsBy clock) deed.event (events_of rest) first.0 later.0, later.1)
 
 -- ---- instances
@@ -162,16 +162,16 @@ module _ (clock : ℕ) where
 
 -- ---- what is done outside
 
-act_early : (g : Global) (act : Act) → AreEarly g → AreEarly (after_act g act)
-act_early g (Send (Instance number) item) early = record {
+effect_early : (g : RunState) (effect : Effect) → AreEarly g → AreEarly (after_effect g effect)
+effect_early g (Send (Instance number) item) early = record {
   begun = early.begun;
   all = change_early g.clock (with_put item) (put_early g.clock (with_put item) (λ i. (refl, refl))) g.instances number
       early.all;
 }
-act_early g (Send Env item) early = early
-act_early g (Send Null item) early = early
-act_early g (Send Nobody item) early = early
-act_early g (Arm fuse) early =
+effect_early g (Send Env item) early = early
+effect_early g (Send Null item) early = early
+effect_early g (Send Nobody item) early = early
+effect_early g (Arm fuse) early =
     let change : InstanceValue → InstanceValue = with_expiry fuse g.clock in
     by_test (nat_le fuse.due g.clock) (record g { instances = change_at change g.instances fuse.pid })
     (record g { fuses = with_fuse fuse g.fuses })
@@ -180,18 +180,18 @@ act_early g (Arm fuse) early =
       all = change_early g.clock change (put_early g.clock change (λ i. (refl, refl))) g.instances fuse.pid early.all;
     })
     (record { begun = early.begun; all = early.all }) where
-      by_test : (b : Bool) (now later : Global) → AreEarly now → AreEarly later → AreEarly (if b then now else later)
+      by_test : (b : Bool) (now later : RunState) → AreEarly now → AreEarly later → AreEarly (if b then now else later)
       by_test true now later first second = first
       by_test false now later first second = second
-act_early g (Create id number parent values) early = record {
+effect_early g (Create id number parent values) early = record {
   begun = early.begun;
   all = created_early g.clock g.system g.instances (record { process = id; pid = number; parent = Of parent }) values
       (slice_get g.system.processes id.0) early.all;
 }
 
-acts_early : (g : Global) (done : List Act) → AreEarly g → AreEarly (after_acts g done)
-acts_early g [] early = early
-acts_early g (act ∷ rest) early = acts_early (after_act g act) rest (act_early g act early)
+effects_early : (g : RunState) (done : List Effect) → AreEarly g → AreEarly (after_effects g done)
+effects_early g [] early = early
+effects_early g (effect ∷ rest) early = effects_early (after_effect g effect) rest (effect_early g effect early)
 
 -- ---- the clock moves
 
@@ -226,21 +226,21 @@ later_early clock time on i early =
     record { read = omega (arith, read, on); events = later_events clock time on i.events early.events }
 
 module _ (ps : List Behaviour) (last : ℕ) where
-  ticks_early : (g h : Global) (time : ℕ) → AreEarly g → Ticks ps last g time h → AreEarly h
+  ticks_early : (g h : RunState) (time : ℕ) → AreEarly g → Ticks ps last g time h → AreEarly h
   ticks_early g h time early tick =
       let later : g.until ≤ time =
       earlier_after g.until time tick.due (next_line g.script)
       (fuse_after g.until g.fuses tick.due tick.nothing_due.fuses tick.least)
       (line_after g.until g.script tick.nothing_due.lines) tick.is_next in
       let on : g.clock ≤ time = omega (arith, early.begun, later) in
-      subst (λ (g : Global). AreEarly g) (sym tick.now) (record {
+      subst (λ (g : RunState). AreEarly g) (sym tick.now) (record {
         begun = omega arith;
         all = λ k d below. later_early g.clock time on (slice_index_or g.instances k d) (early.all k d below);
       })
 
   -- ---- one happening
 
-  step_early : (g : Global) (who : Identity) (deeds : List Deed) (h : Global) → Steps ps g who deeds h → AreEarly g
+  step_early : (g : RunState) (who : Identity) (deeds : List Deed) (h : RunState) → Steps ps g who deeds h → AreEarly g
       → AreEarly h
   step_early g who deeds h step early =
       let old : InstanceValue = step.old in
@@ -248,39 +248,39 @@ module _ (ps : List Behaviour) (last : ℕ) where
       let before : IsEarly g.clock old = at_number g.clock g.instances who.pid old step.is_there early.all in
       let read : All (IsBy g.clock) (events_of step.goes.deeds)
       × (time_after old.store.time step.goes.deeds ≤ g.clock) =
-      deeds_by old.who g.clock (around g) old.store.time step.goes.deeds refl before.read step.goes.are_true in
+      deeds_by old.who g.clock (world_at g) old.store.time step.goes.deeds refl before.read step.goes.are_true in
       let now : IsEarly g.clock new = record {
         read = subst (λ k. k ≤ g.clock) (sym step.goes.time) read.1;
         events = subst (λ (list : List Event). All (IsBy g.clock) list) (sym step.goes.recorded)
             (All-append (IsBy g.clock) old.events (events_of step.goes.deeds) before.events read.0);
       } in
-      let stepped : Global = record g {
+      let stepped : RunState = record g {
         instances = with_instance g.instances who.pid new;
         turn = who.pid;
         bound = step.bound;
       } in
-      subst (λ (g : Global). AreEarly g) (sym step.now)
-      (acts_early stepped (acts_of deeds)
+      subst (λ (g : RunState). AreEarly g) (sym step.now)
+      (effects_early stepped (effects_of deeds)
       (record { begun = early.begun; all = with_early g.clock g.instances who.pid new now early.all }))
 
-  next_early : (g : Global) (next : Happening) (h : Global) → Follows ps last g next h → AreEarly g → AreEarly h
+  next_early : (g : RunState) (next : Happening) (h : RunState) → Follows ps last g next h → AreEarly g → AreEarly h
   next_early g (Moved who deeds) h step early = step_early g who deeds h step early
   next_early g (Expired fuse) h expires early =
       let change : InstanceValue → InstanceValue = with_expiry fuse g.clock in
-      subst (λ (g : Global). AreEarly g) (sym expires.now) (record {
+      subst (λ (g : RunState). AreEarly g) (sym expires.now) (record {
         begun = early.begun;
         all = change_early g.clock change (put_early g.clock change (λ i. (refl, refl))) g.instances fuse.pid early.all;
       })
   next_early g (Heard line done) h hear early =
-      subst (λ (g : Global). AreEarly g) (sym hear.now)
-      (acts_early (record g { script = hear.later }) done (record { begun = early.begun; all = early.all }))
+      subst (λ (g : RunState). AreEarly g) (sym hear.now)
+      (effects_early (record g { script = hear.later }) done (record { begun = early.begun; all = early.all }))
   next_early g (Ticked time) h tick early = ticks_early g h time early tick
 
-  all_early : {system : SystemValue} {lines : List ScriptLine} {happenings : List Happening} {end : Global}
-      → Course ps last (beginning system lines) happenings end → AreEarly end
+  all_early : {system : SystemValue} {lines : List ScriptLine} {happenings : List Happening} {end : RunState}
+      → Execution ps last (beginning system lines) happenings end → AreEarly end
   all_early {system = system} begins =
       record { begun = omega arith; all = first_early 0 system 1 0 system.processes }
-  all_early (goes {at = at} course next to follows) = next_early at next to follows (all_early course)
+  all_early (goes {at = at} execution next to follows) = next_early at next to follows (all_early execution)
 
 -- ---- records
 
@@ -312,20 +312,20 @@ module _ (ps : List Behaviour) (whole : Bool) (clock end : ℕ) (on : clock ≤ 
       (records_by instances records closes.1 (All-tail (IsEarly clock) i instances all))
 
 clock_by : (ps : List Behaviour) (system : SystemValue) (lines : List ScriptLine) (limit : ℕ)
-    (happenings : List Happening) (last : Global) (end : ℕ)
-    → Course ps (end_of lines) (beginning system lines) happenings last → (whole : Bool)
+    (happenings : List Happening) (last : RunState) (end : ℕ)
+    → Execution ps (end_of lines) (beginning system lines) happenings last → (whole : Bool)
     → Ends whole ps lines limit happenings last end
     → (whole ≡ true → IsNonDecreasingBy (λ (line : ScriptLine). line.at) lines) → last.clock ≤ end
-clock_by ps system lines limit happenings last end course true ends in_order =
+clock_by ps system lines limit happenings last end execution true ends in_order =
     let within : IsWithin (end_of lines) last =
-    all_within ps (end_of lines) (lines_within lines (in_order refl)) course in
+    all_within ps (end_of lines) (lines_within lines (in_order refl)) execution in
     subst (λ k. last.clock ≤ k) (sym ends.is_end) within.clock
-clock_by ps system lines limit happenings last end course false ends in_order =
+clock_by ps system lines limit happenings last end execution false ends in_order =
     subst (λ k. last.clock ≤ k) (sym ends.is_end) (omega arith)
 
 -- no event of a report is past its end
 pub ends_are_not_before : EndsAreNotBefore
 ends_are_not_before ps system lines limit report run in_order =
     records_by ps report.whole run.last.clock report.end
-    (clock_by ps system lines limit run.happenings run.last report.end run.course report.whole run.ends in_order)
-    run.last.instances report.records.items run.records (all_early ps (end_of lines) run.course).all
+    (clock_by ps system lines limit run.happenings run.last report.end run.execution report.whole run.ends in_order)
+    run.last.instances report.records.items run.records (all_early ps (end_of lines) run.execution).all

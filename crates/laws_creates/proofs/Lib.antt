@@ -1,4 +1,4 @@
-mod Census
+mod Living
 mod Creates
 mod Ends
 mod Numbers

@@ -4,12 +4,12 @@ use Rattle.std.specs.Option.{option_map, option_map_or}
 use Rattle.std.proofs.lemmas.List.Concat.{flat_map-append}
 use Rattle.std.proofs.lemmas.Option.{none-some, same_Some, slice_get_within}
 use Rattle.serial_order.proofs.Made.{MakeNext}
-use Rattle.serial_order.specs.Course.{Steps}
-use Rattle.serial_order.specs.Global.{Global, after_act, after_acts, around, census_of, count_living, heard_acts, is_ended, least_living, lives_of}
+use Rattle.serial_order.specs.Execution.{Steps}
+use Rattle.serial_order.specs.RunState.{RunState, after_effect, after_effects, world_at, living_of, count_living, heard_effects, is_ended, least_living, lives_of}
 use Rattle.serial_order.specs.Told.{given_after, given_after_one}
-use Rattle.laws_creates.proofs.Census.{census_act, get_range, it, lives_own}
-use Rattle.laws_creates.proofs.Creates.{act_count, act_system, acts_system, step_makes, system_kept}
-use Rattle.laws_creates.proofs.Numbers.{Numbered, acts_numbered, all_numbered}
+use Rattle.laws_creates.proofs.Living.{living_effect, get_range, it, lives_own}
+use Rattle.laws_creates.proofs.Creates.{effect_count, effect_system, effects_system, step_makes, system_kept}
+use Rattle.laws_creates.proofs.Numbers.{Numbered, effects_numbered, all_numbered}
 use Rattle.laws_creates.proofs.Sending.{step_sent}
 use Rattle.laws_creates.specs.Creates.{identities}
 use Rattle.laws_creates.specs.Steps.{AreCounted, EachIsCounted, EachIsCountedAmid, HasNoNumber, NullsHaveCause, OutputsAreMeant, SignalsAreMeant, all_given, as_many, no_process}
@@ -17,8 +17,8 @@ use Rattle.run_evaluation.specs.declared.identity.Identity.{Identity}
 use Rattle.sdl_interp.specs.Instance.{InstanceValue}
 use Rattle.run_record.specs.Event as event
 use Rattle.run_record.specs.Event.{Event}
-use Rattle.run_semantics.specs.Act.{Act, Deed, Send, acts_of}
-use Rattle.run_semantics.specs.World.{Census, IsRouteBy, IsTrueOf, IsTrueOfOne, WorldValue, count_in, is_full, is_reached, most_instances, number_for, time_after_one}
+use Rattle.run_semantics.specs.Effect.{Effect, Deed, Send, effects_of}
+use Rattle.run_semantics.specs.World.{Living, IsRouteBy, IsTrueOf, IsTrueOfOne, WorldValue, count_in, is_full, is_reached, most_instances, number_for, time_after_one}
 use Rattle.run_semantics.specs.World as world
 use Rattle.sdl_script.specs.declared.script.ScriptSignal.{ScriptSignal}
 use Rattle.run_transitions.specs.declared.machine.Position.{Position}
@@ -32,85 +32,85 @@ use Rattle.sdl_system.specs.declared.route.Source.TheVariants as source
 
 -- ---- the world of a deed
 
-after_acts-append : (g : Global) (first later : List Act)
-    → after_acts g (first ++ later) ≡ after_acts (after_acts g first) later
-after_acts-append g [] later = refl
-after_acts-append g (act ∷ rest) later = after_acts-append (after_act g act) rest later
+after_effects-append : (g : RunState) (first later : List Effect)
+    → after_effects g (first ++ later) ≡ after_effects (after_effects g first) later
+after_effects-append g [] later = refl
+after_effects-append g (effect ∷ rest) later = after_effects-append (after_effect g effect) rest later
 
-MakeNext-split : (system : SystemValue) (given : ℕ) (first later : List Act) → MakeNext system given (first ++ later)
+MakeNext-split : (system : SystemValue) (given : ℕ) (first later : List Effect) → MakeNext system given (first ++ later)
     → MakeNext system given first × MakeNext system (given_after given first) later
 MakeNext-split system given [] later make = (tt, make)
-MakeNext-split system given (act ∷ rest) later make =
-    let more = MakeNext-split system (given_after_one given act) rest later make.1 in
+MakeNext-split system given (effect ∷ rest) later make =
+    let more = MakeNext-split system (given_after_one given effect) rest later make.1 in
     ((make.0, more.0), more.1)
 
 -- a world sees the system and who lives as they are
-record Sees (system : SystemValue) (w : WorldValue) (g : Global) : Type 0 where
+record Sees (system : SystemValue) (w : WorldValue) (g : RunState) : Type 0 where
   system_is : w.system ≡ system
-  census : w.census ≡ Some (census_of system g.instances)
+  living : w.living ≡ Some (living_of system g.instances)
 
 module _ (system : SystemValue) where
-  sees_acts : (w : WorldValue) (g : Global) (done : List Act) → g.system ≡ system
+  sees_effects : (w : WorldValue) (g : RunState) (done : List Effect) → g.system ≡ system
       → MakeNext system (length g.instances) done → Sees system w g
-      → Sees system (world.after_acts w done) (after_acts g done)
-      × (length (after_acts g done).instances ≡ given_after (length g.instances) done)
-  sees_acts w g [] same make sees = (sees, refl)
-  sees_acts w g (act ∷ rest) same make sees =
-      let h : Global = after_act g act in
-      let count : length h.instances ≡ given_after_one (length g.instances) act = act_count system g act same make.0 in
-      let one : Sees system (world.after_act w act) h = record {
+      → Sees system (world.after_effects w done) (after_effects g done)
+      × (length (after_effects g done).instances ≡ given_after (length g.instances) done)
+  sees_effects w g [] same make sees = (sees, refl)
+  sees_effects w g (effect ∷ rest) same make sees =
+      let h : RunState = after_effect g effect in
+      let count : length h.instances ≡ given_after_one (length g.instances) effect = effect_count system g effect same make.0 in
+      let one : Sees system (world.after_effect w effect) h = record {
         system_is = sees.system_is;
-        census = ap (λ (o : Option Census). option_map (λ census. world.census_after census act) o) sees.census
-            ∙ ap Some (census_act system g act same make.0);
+        living = ap (λ (o : Option Living). option_map (λ living. world.living_after living effect) o) sees.living
+            ∙ ap Some (living_effect system g effect same make.0);
       } in
-      let more = sees_acts (world.after_act w act) h rest (act_system g act ∙ same)
+      let more = sees_effects (world.after_effect w effect) h rest (effect_system g effect ∙ same)
       (subst (λ k. MakeNext system k rest) (sym count) make.1) one in
       (more.0, more.1 ∙ ap (λ k. given_after k rest) count)
 
   -- what is said by a deed is true of the world as it is then
-  record AtDeed (who : Identity) (g : Global) (deed : Deed) : Type 0 where
+  record AtDeed (who : Identity) (g : RunState) (deed : Deed) : Type 0 where
     w : WorldValue
     earlier : ℕ
     sees : Sees system w g
     is_true : IsTrueOfOne who w earlier deed.event
 
   module _ (who : Identity) (deed : Deed) (after : List Deed) where
-    at_deed : (before : List Deed) (w : WorldValue) (g : Global) (earlier : ℕ) → g.system ≡ system
+    at_deed : (before : List Deed) (w : WorldValue) (g : RunState) (earlier : ℕ) → g.system ≡ system
         → Sees system w g → IsTrueOf who w earlier (before ++ deed ∷ after)
-        → MakeNext system (length g.instances) (acts_of (before ++ deed ∷ after))
-        → AtDeed who (after_acts g (acts_of before)) deed
+        → MakeNext system (length g.instances) (effects_of (before ++ deed ∷ after))
+        → AtDeed who (after_effects g (effects_of before)) deed
     at_deed [] w g earlier same sees are_true make =
         record { w = w; earlier = earlier; sees = sees; is_true = are_true.0 }
     at_deed (first ∷ rest) w g earlier same sees are_true make =
-        let h : Global = after_acts g first.acts in
+        let h : RunState = after_effects g first.effects in
         let parts =
-        MakeNext-split system (length g.instances) first.acts (acts_of (rest ++ deed ∷ after)) make in
-        let one = sees_acts w g first.acts same parts.0 sees in
-        subst (λ (g : Global). AtDeed who g deed) (sym (after_acts-append g first.acts (acts_of rest)))
-        (at_deed rest (world.after_acts w first.acts) h (time_after_one earlier first.event)
-        (acts_system g first.acts ∙ same) one.0 are_true.1
-        (subst (λ k. MakeNext system k (acts_of (rest ++ deed ∷ after))) (sym one.1) parts.1))
+        MakeNext-split system (length g.instances) first.effects (effects_of (rest ++ deed ∷ after)) make in
+        let one = sees_effects w g first.effects same parts.0 sees in
+        subst (λ (g : RunState). AtDeed who g deed) (sym (after_effects-append g first.effects (effects_of rest)))
+        (at_deed rest (world.after_effects w first.effects) h (time_after_one earlier first.event)
+        (effects_system g first.effects ∙ same) one.0 are_true.1
+        (subst (λ k. MakeNext system k (effects_of (rest ++ deed ∷ after))) (sym one.1) parts.1))
 
 -- a deed of a step
-step_deed : (ps : List Behaviour) (system : SystemValue) (g : Global) (who : Identity) (before : List Deed)
-    (deed : Deed) (after : List Deed) (h : Global) → g.system ≡ system → Steps ps g who (before ++ deed ∷ after) h
-    → AtDeed system who (after_acts g (acts_of before)) deed
+step_deed : (ps : List Behaviour) (system : SystemValue) (g : RunState) (who : Identity) (before : List Deed)
+    (deed : Deed) (after : List Deed) (h : RunState) → g.system ≡ system → Steps ps g who (before ++ deed ∷ after) h
+    → AtDeed system who (after_effects g (effects_of before)) deed
 step_deed ps system g who before deed after h same step =
     let old : InstanceValue = step.old in
     let deeds : List Deed = before ++ deed ∷ after in
-    let are_true : IsTrueOf who (around g) old.store.time deeds =
-    subst (λ (w : Identity). IsTrueOf w (around g) old.store.time deeds) step.is_who
-    (subst (λ (list : List Deed). IsTrueOf old.who (around g) old.store.time list) step.deeds_are
+    let are_true : IsTrueOf who (world_at g) old.store.time deeds =
+    subst (λ (w : Identity). IsTrueOf w (world_at g) old.store.time deeds) step.is_who
+    (subst (λ (list : List Deed). IsTrueOf old.who (world_at g) old.store.time list) step.deeds_are
     step.goes.are_true) in
-    at_deed system who deed after before (around g) g old.store.time same
-    (record { system_is = same; census = ap (λ (s : SystemValue). Some (census_of s g.instances)) same })
+    at_deed system who deed after before (world_at g) g old.store.time same
+    (record { system_is = same; living = ap (λ (s : SystemValue). Some (living_of s g.instances)) same })
     are_true (step_makes ps g who deeds h step system same)
 
 -- ---- creates
 
 module _ (system : SystemValue) (instances : List InstanceValue) (id : ProcessId) where
-  abbrev there : Census
-  there = census_of system instances
+  abbrev there : Living
+  there = living_of system instances
 
   full_by : (full : Bool) → None ≡ (if full then None else Some (length instances + 1)) → full ≡ true
   full_by true is = refl
@@ -156,42 +156,42 @@ module _ (system : SystemValue) (instances : List InstanceValue) (id : ProcessId
 
 -- a create gives none for a cause
 pub nulls_have_cause : NullsHaveCause
-nulls_have_cause ps system lines time happenings g h who before deed after course step id is =
-    let now : Global = after_acts g (acts_of before) in
+nulls_have_cause ps system lines time happenings g h who before deed after execution step id is =
+    let now : RunState = after_effects g (effects_of before) in
     let at : AtDeed system who now deed =
-    step_deed ps system g who before deed after h (system_kept ps system time course) step in
+    step_deed ps system g who before deed after h (system_kept ps system time execution) step in
     let says : IsTrueOfOne who at.w at.earlier (event.Create id None) =
     subst (λ (e : Event). IsTrueOfOne who at.w at.earlier e) is at.is_true in
-    let by_census : None ≡ number_for at.w.system (census_of system now.instances) id =
-    subst (λ (o : Option Census). IfSome o (λ census. None ≡ number_for at.w.system census id)) at.sees.census says in
+    let by_living : None ≡ number_for at.w.system (living_of system now.instances) id =
+    subst (λ (o : Option Living). IfSome o (λ living. None ≡ number_for at.w.system living id)) at.sees.living says in
     no_number system now.instances id
-    (subst (λ (s : SystemValue). None ≡ number_for s (census_of system now.instances) id) at.sees.system_is by_census)
+    (subst (λ (s : SystemValue). None ≡ number_for s (living_of system now.instances) id) at.sees.system_is by_living)
 
 -- ---- targets
 
 -- what an instance sends goes where the routes lead
 pub outputs_are_meant : OutputsAreMeant
-outputs_are_meant ps system lines time happenings g h who before deed after course step signal to values
+outputs_are_meant ps system lines time happenings g h who before deed after execution step signal to values
     target is =
-    let now : Global = after_acts g (acts_of before) in
+    let now : RunState = after_effects g (effects_of before) in
     let at : AtDeed system who now deed =
-    step_deed ps system g who before deed after h (system_kept ps system time course) step in
-    let says : IsRouteBy at.w.system at.w.census signal who.process to target =
+    step_deed ps system g who before deed after h (system_kept ps system time execution) step in
+    let says : IsRouteBy at.w.system at.w.living signal who.process to target =
     subst (λ (e : Event). IsTrueOfOne who at.w at.earlier e) is at.is_true in
-    let by_census : IsRouteBy at.w.system (Some (census_of system now.instances)) signal who.process to target =
-    subst (λ (o : Option Census). IsRouteBy at.w.system o signal who.process to target) at.sees.census says in (
-      subst (λ (s : SystemValue). IsRouteBy s (Some (census_of system now.instances)) signal who.process to target)
-          at.sees.system_is by_census,
+    let by_living : IsRouteBy at.w.system (Some (living_of system now.instances)) signal who.process to target =
+    subst (λ (o : Option Living). IsRouteBy at.w.system o signal who.process to target) at.sees.living says in (
+      subst (λ (s : SystemValue). IsRouteBy s (Some (living_of system now.instances)) signal who.process to target)
+          at.sees.system_is by_living,
       step_sent ps g who before deed after h step signal to values target is,
     )
 
 -- so does a signal of the script
 pub signals_are_meant : SignalsAreMeant
-signals_are_meant ps system lines time happenings g h line acts signal course hears is =
-    let same : g.system ≡ system = system_kept ps system time course in
-    hears.acts_are ∙ ap (λ (o : Option ScriptSignal). heard_acts g o) is
-    ∙ ap (λ (s : SystemValue). let all : List Act = Send
-    (target_in s.routes signal.item.name source.Env signal.to (census_of s g.instances).least) signal.item ∷ [] in all)
+signals_are_meant ps system lines time happenings g h line effects signal execution hears is =
+    let same : g.system ≡ system = system_kept ps system time execution in
+    hears.effects_are ∙ ap (λ (o : Option ScriptSignal). heard_effects g o) is
+    ∙ ap (λ (s : SystemValue). let all : List Effect = Send
+    (target_in s.routes signal.item.name source.Env signal.to (living_of s g.instances).least) signal.item ∷ [] in all)
     same
 
 -- ---- who counts
@@ -248,18 +248,18 @@ counted instances are (suc k) i there lives =
 
 -- who hasn't ended counts where a line is heard, and amid a step
 pub each_is_counted : EachIsCounted
-each_is_counted ps system lines time happenings last behaviours course =
-    counted last.instances (all_numbered ps system time course)
+each_is_counted ps system lines time happenings last behaviours execution =
+    counted last.instances (all_numbered ps system time execution)
 
 pub each_is_counted_amid : EachIsCountedAmid
-each_is_counted_amid ps system lines time happenings g h who before deed after course step =
-    let same : g.system ≡ system = system_kept ps system time course in
+each_is_counted_amid ps system lines time happenings g h who before deed after execution step =
+    let same : g.system ≡ system = system_kept ps system time execution in
     let deeds : List Deed = before ++ deed ∷ after in
-    let parts : MakeNext system (length g.instances) (acts_of before)
-    × MakeNext system (given_after (length g.instances) (acts_of before)) (acts_of (deed ∷ after)) =
-    MakeNext-split system (length g.instances) (acts_of before) (acts_of (deed ∷ after))
-    (subst (λ (list : List Act). MakeNext system (length g.instances) list)
-    (flat_map-append (λ (deed : Deed). deed.acts) before (deed ∷ after))
+    let parts : MakeNext system (length g.instances) (effects_of before)
+    × MakeNext system (given_after (length g.instances) (effects_of before)) (effects_of (deed ∷ after)) =
+    MakeNext-split system (length g.instances) (effects_of before) (effects_of (deed ∷ after))
+    (subst (λ (list : List Effect). MakeNext system (length g.instances) list)
+    (flat_map-append (λ (deed : Deed). deed.effects) before (deed ∷ after))
     (step_makes ps g who deeds h step system same)) in
-    counted (after_acts g (acts_of before)).instances
-    (acts_numbered system g (acts_of before) same parts.0 (all_numbered ps system time course))
+    counted (after_effects g (effects_of before)).instances
+    (effects_numbered system g (effects_of before) same parts.0 (all_numbered ps system time execution))

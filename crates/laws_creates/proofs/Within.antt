@@ -5,9 +5,9 @@ use Rattle.std.proofs.lemmas.Option.{slice_get-get_or}
 use Rattle.std.specs.List.Sorted.{IsNonDecreasingBy}
 use Rattle.std.specs.Option.{option_map_or}
 use Rattle.port_model.specs.Timers.{earlier}
-use Rattle.serial_order.specs.Course.{Course, Expired, Follows, Happening, Heard, Moved, Ticked, begins, goes, next_line}
-use Rattle.serial_order.specs.Global.{Global, after_act, after_acts, beginning, change_at, with_expiry, with_instance}
-use Rattle.run_semantics.specs.Act.{Act, Arm, Create, Send, acts_of}
+use Rattle.serial_order.specs.Execution.{Execution, Expired, Follows, Happening, Heard, Moved, Ticked, begins, goes, next_line}
+use Rattle.serial_order.specs.RunState.{RunState, after_effect, after_effects, beginning, change_at, with_expiry, with_instance}
+use Rattle.run_semantics.specs.Effect.{Effect, Arm, Create, Send, effects_of}
 use Rattle.sdl_script.specs.Script.{end_of}
 use Rattle.sdl_script.specs.declared.script.ScriptLine.{ScriptLine}
 use Rattle.sdl_system.specs.Behaviour.{Behaviour}
@@ -16,29 +16,29 @@ use Rattle.sdl_system.specs.declared.route.Target.TheVariants.{Env, Instance, No
 use Rattle.sdl_timers.specs.DueOrder.{with_fuse}
 
 -- neither the clock nor what is left of the script is past this
-pub record IsWithin (last : ℕ) (g : Global) : Type 0 where
+pub record IsWithin (last : ℕ) (g : RunState) : Type 0 where
   pub clock : g.clock ≤ last
   pub lines : All (λ (line : ScriptLine). line.at ≤ last) g.script
 
-act_within : (last : ℕ) (g : Global) (act : Act) → IsWithin last g → IsWithin last (after_act g act)
-act_within last g (Send (Instance number) item) within = record { clock = within.clock; lines = within.lines }
-act_within last g (Send Env item) within = within
-act_within last g (Send Null item) within = within
-act_within last g (Send Nobody item) within = within
-act_within last g (Arm fuse) within =
+effect_within : (last : ℕ) (g : RunState) (effect : Effect) → IsWithin last g → IsWithin last (after_effect g effect)
+effect_within last g (Send (Instance number) item) within = record { clock = within.clock; lines = within.lines }
+effect_within last g (Send Env item) within = within
+effect_within last g (Send Null item) within = within
+effect_within last g (Send Nobody item) within = within
+effect_within last g (Arm fuse) within =
     by_test (nat_le fuse.due g.clock)
     (record g { instances = change_at (with_expiry fuse g.clock) g.instances fuse.pid })
     (record g { fuses = with_fuse fuse g.fuses }) (record { clock = within.clock; lines = within.lines })
     (record { clock = within.clock; lines = within.lines }) where
-      by_test : (b : Bool) (now later : Global) → IsWithin last now → IsWithin last later
+      by_test : (b : Bool) (now later : RunState) → IsWithin last now → IsWithin last later
           → IsWithin last (if b then now else later)
       by_test true now later first second = first
       by_test false now later first second = second
-act_within last g (Create id number parent values) within = record { clock = within.clock; lines = within.lines }
+effect_within last g (Create id number parent values) within = record { clock = within.clock; lines = within.lines }
 
-acts_within : (last : ℕ) (g : Global) (done : List Act) → IsWithin last g → IsWithin last (after_acts g done)
-acts_within last g [] within = within
-acts_within last g (act ∷ rest) within = acts_within last (after_act g act) rest (act_within last g act within)
+effects_within : (last : ℕ) (g : RunState) (done : List Effect) → IsWithin last g → IsWithin last (after_effects g done)
+effects_within last g [] within = within
+effects_within last g (effect ∷ rest) within = effects_within last (after_effect g effect) rest (effect_within last g effect within)
 
 sooner : (due : Option ℕ) (at time : ℕ) → earlier due (Some at) ≡ Some time → time ≤ at
 sooner None at time is = let same : at ≡ time = cc in omega (arith, same)
@@ -53,31 +53,31 @@ module _ (ps : List Behaviour) (last : ℕ) where
       let bound : line.at ≤ last = All-head (λ (l : ScriptLine). l.at ≤ last) line later all in
       omega (arith, before, bound)
 
-  next_within : (g : Global) (next : Happening) (h : Global) → Follows ps last g next h → IsWithin last g
+  next_within : (g : RunState) (next : Happening) (h : RunState) → Follows ps last g next h → IsWithin last g
       → IsWithin last h
   next_within g (Moved who deeds) h step within =
-      subst (λ (g : Global). IsWithin last g) (sym step.now)
-      (acts_within last
+      subst (λ (g : RunState). IsWithin last g) (sym step.now)
+      (effects_within last
       (record g { instances = with_instance g.instances who.pid step.new; turn = who.pid; bound = step.bound })
-      (acts_of deeds) (record { clock = within.clock; lines = within.lines }))
+      (effects_of deeds) (record { clock = within.clock; lines = within.lines }))
   next_within g (Expired fuse) h expires within =
-      subst (λ (g : Global). IsWithin last g) (sym expires.now) (record { clock = within.clock; lines = within.lines })
+      subst (λ (g : RunState). IsWithin last g) (sym expires.now) (record { clock = within.clock; lines = within.lines })
   next_within g (Heard line done) h hear within =
-      subst (λ (g : Global). IsWithin last g) (sym hear.now)
-      (acts_within last (record g { script = hear.later }) done (record {
+      subst (λ (g : RunState). IsWithin last g) (sym hear.now)
+      (effects_within last (record g { script = hear.later }) done (record {
         clock = within.clock;
         lines = All-tail (λ (l : ScriptLine). l.at ≤ last) line hear.later
             (subst (λ (lines : List ScriptLine). All (λ (l : ScriptLine). l.at ≤ last) lines) hear.next within.lines);
       }))
   next_within g (Ticked time) h tick within =
-      subst (λ (g : Global). IsWithin last g) (sym tick.now)
+      subst (λ (g : RunState). IsWithin last g) (sym tick.now)
       (record { clock = tick_time g.script tick.due time tick.is_next tick.within within.lines; lines = within.lines })
 
-  pub all_within : {system : SystemValue} {lines : List ScriptLine} {happenings : List Happening} {end : Global}
-      → All (λ (line : ScriptLine). line.at ≤ last) lines → Course ps last (beginning system lines) happenings end
+  pub all_within : {system : SystemValue} {lines : List ScriptLine} {happenings : List Happening} {end : RunState}
+      → All (λ (line : ScriptLine). line.at ≤ last) lines → Execution ps last (beginning system lines) happenings end
       → IsWithin last end
   all_within lines begins = record { clock = omega arith; lines = lines }
-  all_within lines (goes {at = at} course next to follows) = next_within at next to follows (all_within lines course)
+  all_within lines (goes {at = at} execution next to follows) = next_within at next to follows (all_within lines execution)
 
 -- lines in order are not past the last one
 pub lines_within : (lines : List ScriptLine) → IsNonDecreasingBy (λ (line : ScriptLine). line.at) lines

@@ -2,8 +2,8 @@
 use Rattle.std.specs.Prelude.{◌≡◌, ◌++◌, ℕ, List, [], ◌∷◌, Some, length, map}
 use Rattle.std.specs.List.{flat_map, range_with_len}
 use Rattle.port_values.specs.declared.pid.Pid.TheVariants.{Of}
-use Rattle.serial_order.specs.Course.{Happening, Moved}
-use Rattle.serial_order.specs.Global.{beginning}
+use Rattle.serial_order.specs.Execution.{Happening, Moved}
+use Rattle.serial_order.specs.RunState.{beginning}
 use Rattle.serial_order.specs.Laws.{AtEachEnd}
 use Rattle.serial_order.specs.Report.{IsSerialReport}
 use Rattle.run_evaluation.specs.declared.identity.Identity.{Identity}
@@ -12,7 +12,7 @@ use Rattle.run_record.specs.Event as event
 use Rattle.run_record.specs.Event.{Event}
 use Rattle.run_record.specs.Record.{RecordValue}
 use Rattle.run_record.specs.declared.record.Report.{Report}
-use Rattle.run_semantics.specs.Act.{Deed}
+use Rattle.run_semantics.specs.Effect.{Deed}
 use Rattle.sdl_script.specs.declared.script.ScriptLine.{ScriptLine}
 use Rattle.run_transitions.specs.Machine.{identity_of}
 use Rattle.sdl_system.specs.Behaviour.{Behaviour}

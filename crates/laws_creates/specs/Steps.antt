@@ -3,13 +3,13 @@ use Rattle.std.specs.Prelude.{◌≡◌, ◌≢◌, ◌≤◌, ℕ, List, [], �
 use Rattle.port_values.specs.declared.item.SignalId.{SignalId}
 use Rattle.port_values.specs.declared.pid.Pid.TheVariants.{Of}
 use Rattle.port_values.specs.declared.value.Value.{Value}
-use Rattle.serial_order.specs.Course.{Course, Happening, Hears, Steps}
-use Rattle.serial_order.specs.Global.{Global, after_acts, beginning, census_of, count_living, instance_at, least_living}
+use Rattle.serial_order.specs.Execution.{Execution, Happening, Hears, Steps}
+use Rattle.serial_order.specs.RunState.{RunState, after_effects, beginning, living_of, count_living, instance_at, least_living}
 use Rattle.serial_order.specs.Laws.{AtEachEnd}
 use Rattle.run_evaluation.specs.declared.identity.Identity.{Identity}
 use Rattle.sdl_interp.specs.Instance.{InstanceValue}
 use Rattle.run_record.specs.Event as event
-use Rattle.run_semantics.specs.Act.{Act, Deed, Send, acts_of}
+use Rattle.run_semantics.specs.Effect.{Effect, Deed, Send, effects_of}
 use Rattle.run_semantics.specs.World.{most_instances}
 use Rattle.sdl_script.specs.declared.script.ScriptLine.{ScriptLine}
 use Rattle.sdl_script.specs.declared.script.ScriptSignal.{ScriptSignal}
@@ -32,10 +32,10 @@ use Rattle.sdl_system.specs.declared.route.Target.{Target}
 abbrev pub OfEachDeed : (SystemValue → List InstanceValue → Identity → Deed → Type 0) → Type 0
 OfEachDeed Holds =
     (ps : List Behaviour) (system : SystemValue) (lines : List ScriptLine) (time : ℕ) (happenings : List Happening)
-    (g h : Global) (who : Identity) (before : List Deed) (deed : Deed) (after : List Deed)
-    → Course ps time (beginning system lines) happenings g
+    (g h : RunState) (who : Identity) (before : List Deed) (deed : Deed) (after : List Deed)
+    → Execution ps time (beginning system lines) happenings g
     → Steps ps g who (before ++ deed ∷ after) h
-    → Holds system (after_acts g (acts_of before)).instances who deed
+    → Holds system (after_effects g (effects_of before)).instances who deed
 
 -- ---- creates
 
@@ -59,7 +59,7 @@ NullsHaveCause =
 -- the least number counts
 abbrev pub target_for : SystemValue → List InstanceValue → SignalId → Source → Dest → Target
 target_for system instances signal from to =
-    target_in system.routes signal from to (census_of system instances).least
+    target_in system.routes signal from to (living_of system instances).least
 
 -- What an instance sends goes there, and nothing else is done with it.
 abbrev pub OutputsAreMeant : Type 0
@@ -68,16 +68,16 @@ OutputsAreMeant =
     (signal : SignalId) (to : Dest) (values : List Value) (target : Target)
     → deed.event ≡ event.Output signal to values target
     → (target ≡ target_for system instances signal (source.Process who.process) to)
-    × (deed.acts ≡ Send target (record { name = signal; values = values; sender = Of who.pid }) ∷ []))
+    × (deed.effects ≡ Send target (record { name = signal; values = values; sender = Of who.pid }) ∷ []))
 
 -- So does a signal of the script, and nothing else is done with it.
 abbrev pub SignalsAreMeant : Type 0
 SignalsAreMeant =
     (ps : List Behaviour) (system : SystemValue) (lines : List ScriptLine) (time : ℕ) (happenings : List Happening)
-    (g h : Global) (line : ScriptLine) (acts : List Act) (signal : ScriptSignal)
-    → Course ps time (beginning system lines) happenings g → Hears g line acts h
+    (g h : RunState) (line : ScriptLine) (effects : List Effect) (signal : ScriptSignal)
+    → Execution ps time (beginning system lines) happenings g → Hears g line effects h
     → line.signal ≡ Some signal
-    → acts ≡ Send (target_for system g.instances signal.item.name source.Env signal.to) signal.item ∷ []
+    → effects ≡ Send (target_for system g.instances signal.item.name source.Env signal.to) signal.item ∷ []
 
 -- ---- who counts
 

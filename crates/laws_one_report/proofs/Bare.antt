@@ -9,11 +9,11 @@ use Rattle.port_inbox.specs.declared.entry.Fuse.{Fuse}
 use Rattle.port_values.specs.declared.item.Item.{Item}
 use Rattle.port_values.specs.declared.pid.Pid.TheVariants.{Of}
 use Rattle.port_values.specs.declared.value.Value.{Value}
-use Rattle.serial_order.specs.Global.{Global, after_act, after_acts, around, census_of, change_at, changed_at, count_living, heard_acts, instance_at, instance_of, least_living, lives_of, with_created, with_expiry, with_instance, with_put}
+use Rattle.serial_order.specs.RunState.{RunState, after_effect, after_effects, world_at, living_of, change_at, changed_at, count_living, heard_effects, instance_at, instance_of, least_living, lives_of, with_created, with_expiry, with_instance, with_put}
 use Rattle.run_evaluation.specs.declared.identity.Identity.{Identity}
 use Rattle.sdl_interp.specs.Instance.{InstanceValue}
-use Rattle.run_semantics.specs.Act.{Act, Arm, Create, Send}
-use Rattle.run_semantics.specs.World.{Census}
+use Rattle.run_semantics.specs.Effect.{Effect, Arm, Create, Send}
+use Rattle.run_semantics.specs.World.{Living}
 use Rattle.sdl_script.specs.declared.script.ScriptSignal.{ScriptSignal}
 use Rattle.sdl_system.specs.Route.{target_in}
 use Rattle.sdl_system.specs.System.{SystemValue}
@@ -69,11 +69,11 @@ map_same : {A : Type 0} (f g : ℕ → A) → ((n : ℕ) → f n ≡ g n) → (l
 map_same f g same [] = refl
 map_same f g same (n ∷ rest) = ap (λ x. x ∷ map f rest) (same n) ∙ ap (λ list. g n ∷ list) (map_same f g same rest)
 
-pub census_bare : (system : SystemValue) (xs : List InstanceValue)
-    → census_of system (map bare xs) ≡ census_of system xs
-census_bare system xs =
+pub living_bare : (system : SystemValue) (xs : List InstanceValue)
+    → living_of system (map bare xs) ≡ living_of system xs
+living_bare system xs =
     let numbers : List ℕ = range_with_len 0 (length system.processes) in
-    let made : List (Option ℕ) → List ℕ → ℕ → Census =
+    let made : List (Option ℕ) → List ℕ → ℕ → Living =
     λ least counts given. record { least = least; counts = counts; given = given } in
     ap (λ l. made l (map (count_living (map bare xs)) numbers) (length (map bare xs)))
     (map_same (least_living (map bare xs)) (least_living xs) (least_bare xs) numbers)
@@ -81,15 +81,15 @@ census_bare system xs =
     (map_same (count_living (map bare xs)) (count_living xs) (count_bare xs) numbers)
     ∙ ap (λ n. made (map (least_living xs) numbers) (map (count_living xs) numbers) n) (length-map xs bare)
 
-pub around_bare : (g : Global) → around (bare_whole g) ≡ around g
-around_bare g =
-    ap (λ census.
-    record { system = g.system; clock = Some g.clock; census = Some census; acts = Some []; sent = None })
-    (census_bare g.system g.instances)
+pub world_bare : (g : RunState) → world_at (bare_whole g) ≡ world_at g
+world_bare g =
+    ap (λ living.
+    record { system = g.system; clock = Some g.clock; living = Some living; effects = Some []; sent = None })
+    (living_bare g.system g.instances)
 
 -- ---- what is done
 
-module _ (g : Global) where
+module _ (g : RunState) where
   put_bare : (n : ℕ) (item : Item)
       → bare_whole (record g { instances = change_at (with_put item) g.instances n })
       ≡ record g { instances = change_at (with_put item) (map bare g.instances) n }
@@ -109,12 +109,12 @@ module _ (g : Global) where
   created_bare who values (Some process) =
       map-append bare g.instances (instance_of g.system process who values ∷ [])
 
-  pub act_bare : (act : Act) → bare_whole (after_act g act) ≡ after_act (bare_whole g) act
-  act_bare (Send (Instance n) item) = put_bare n item
-  act_bare (Send Env item) = refl
-  act_bare (Send Null item) = refl
-  act_bare (Send Nobody item) = refl
-  act_bare (Arm fuse) =
+  pub effect_bare : (effect : Effect) → bare_whole (after_effect g effect) ≡ after_effect (bare_whole g) effect
+  effect_bare (Send (Instance n) item) = put_bare n item
+  effect_bare (Send Env item) = refl
+  effect_bare (Send Null item) = refl
+  effect_bare (Send Nobody item) = refl
+  effect_bare (Arm fuse) =
       by_test (nat_le fuse.due g.clock) where
         by_test : (b : Bool)
             → bare_whole (if b then record g { instances = change_at (with_expiry fuse g.clock) g.instances fuse.pid }
@@ -124,32 +124,32 @@ module _ (g : Global) where
             } else record (bare_whole g) { fuses = with_fuse fuse g.fuses })
         by_test true = expiry_bare fuse g.clock fuse.pid
         by_test false = refl
-  act_bare (Create process number parent values) =
+  effect_bare (Create process number parent values) =
       ap (λ list. record g { instances = list })
       (created_bare (record { process = process; pid = number; parent = Of parent }) values
       (slice_get g.system.processes process.0))
 
-pub acts_bare : (g : Global) (acts : List Act) → bare_whole (after_acts g acts) ≡ after_acts (bare_whole g) acts
-acts_bare g [] = refl
-acts_bare g (act ∷ rest) =
-    acts_bare (after_act g act) rest ∙ ap (λ h. after_acts h rest) (act_bare g act)
+pub effects_bare : (g : RunState) (effects : List Effect) → bare_whole (after_effects g effects) ≡ after_effects (bare_whole g) effects
+effects_bare g [] = refl
+effects_bare g (effect ∷ rest) =
+    effects_bare (after_effect g effect) rest ∙ ap (λ h. after_effects h rest) (effect_bare g effect)
 
-pub heard_bare : (g : Global) (signal : Option ScriptSignal) → heard_acts (bare_whole g) signal ≡ heard_acts g signal
+pub heard_bare : (g : RunState) (signal : Option ScriptSignal) → heard_effects (bare_whole g) signal ≡ heard_effects g signal
 heard_bare g None = refl
 heard_bare g (Some signal) =
-    ap (λ (census : Census). Send
-    (target_in g.system.routes signal.item.name source.Env signal.to census.least) signal.item ∷ [])
-    (census_bare g.system g.instances)
+    ap (λ (living : Living). Send
+    (target_in g.system.routes signal.item.name source.Env signal.to living.least) signal.item ∷ [])
+    (living_bare g.system g.instances)
 
 -- ---- two that are the same, but for what owners know
 
-pub partner : (g h : Global) (n : ℕ) (i : InstanceValue) → bare_whole g ≡ bare_whole h
+pub partner : (g h : RunState) (n : ℕ) (i : InstanceValue) → bare_whole g ≡ bare_whole h
     → instance_at g.instances n ≡ Some i
     → (j : InstanceValue) × (instance_at h.instances n ≡ Some j) × (bare i ≡ bare j)
 partner g h n i same there =
     let is : option_map bare (instance_at h.instances n) ≡ Some (bare i) =
     sym (at_bare h.instances n)
-    ∙ ap (λ (x : Global). instance_at x.instances n) (sym same)
+    ∙ ap (λ (x : RunState). instance_at x.instances n) (sym same)
     ∙ at_bare g.instances n
     ∙ ap (λ o. option_map bare o) there in
     by_option (instance_at h.instances n) refl is where
@@ -159,9 +159,9 @@ partner g h n i same there =
       by_option (Some j) found is = (j, found, sym (same_Some (bare j) (bare i) is))
 
 -- as many instances
-pub as_many : (g h : Global) → bare_whole g ≡ bare_whole h → length g.instances ≡ length h.instances
+pub as_many : (g h : RunState) → bare_whole g ≡ bare_whole h → length g.instances ≡ length h.instances
 as_many g h same =
-    sym (length-map g.instances bare) ∙ ap (λ (x : Global). length x.instances) same ∙ length-map h.instances bare
+    sym (length-map g.instances bare) ∙ ap (λ (x : RunState). length x.instances) same ∙ length-map h.instances bare
 
-pub around_same : (g h : Global) → bare_whole g ≡ bare_whole h → around g ≡ around h
-around_same g h same = sym (around_bare g) ∙ ap around same ∙ around_bare h
+pub world_same : (g h : RunState) → bare_whole g ≡ bare_whole h → world_at g ≡ world_at h
+world_same g h same = sym (world_bare g) ∙ ap world_at same ∙ world_bare h

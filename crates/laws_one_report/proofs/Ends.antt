@@ -6,20 +6,20 @@ use Rattle.std.specs.Option.{option_map_or}
 use Rattle.std.specs.Prelude.{slice_index_or}
 use Rattle.port_inbox.specs.declared.entry.Fuse.{Fuse}
 use Rattle.port_model.specs.Timers.{IsLeast, earlier}
-use Rattle.serial_order.specs.Course.{Course, Expired, Follows, Happening, Heard, IsNoFuseBefore, IsTransition, Moved, Ticked, begins, goes, is_transition, next_line, transitions_of, transitions_of_one}
-use Rattle.serial_order.specs.Global.{Global, after_act, after_acts, beginning, change_at, with_expiry}
+use Rattle.serial_order.specs.Execution.{Execution, Expired, Follows, Happening, Heard, IsNoFuseBefore, IsTransition, Moved, Ticked, begins, goes, is_transition, next_line, transitions_of, transitions_of_one}
+use Rattle.serial_order.specs.RunState.{RunState, after_effect, after_effects, beginning, change_at, with_expiry}
 use Rattle.serial_order.specs.Report.{Ends, EndsCut, EndsWhole}
-use Rattle.run_semantics.specs.Act.{Act, Arm, Create, Deed, Send, acts_of}
+use Rattle.run_semantics.specs.Effect.{Effect, Arm, Create, Deed, Send, effects_of}
 use Rattle.sdl_script.specs.Script.{IsScript, end_of}
 use Rattle.sdl_script.specs.declared.script.ScriptLine.{ScriptLine}
 use Rattle.sdl_system.specs.Behaviour.{Behaviour}
 use Rattle.sdl_system.specs.System.{SystemValue}
 use Rattle.sdl_system.specs.declared.route.Target.TheVariants.{Env, Instance, Nobody, Null}
 use Rattle.sdl_timers.specs.DueOrder.{with_fuse}
-use Rattle.laws_one_report.proofs.Courses.{Headed, Parted, agree, headed, parted}
+use Rattle.laws_one_report.proofs.Executions.{Headed, Parted, agree, headed, parted}
 use Rattle.laws_one_report.proofs.Follows.{rest_clash}
 use Rattle.laws_one_report.proofs.Grown.{stepped}
-use Rattle.laws_one_report.proofs.Lacking.{ByNumber, before_course, step_lacks}
+use Rattle.laws_one_report.proofs.Lacking.{ByNumber, before_execution, step_lacks}
 use Rattle.laws_one_report.specs.Same.{AreSame, bare_whole, uncalled, uncalled_one}
 
 -- ---- transitions
@@ -36,7 +36,7 @@ is_transition_uncalled (first ∷ rest) = refl
 one_uncalled : (happened : Happening) → transitions_of_one (uncalled_one happened) ≡ transitions_of_one happened
 one_uncalled (Moved who deeds) = ap (λ b. if b then 1 else 0) (is_transition_uncalled deeds)
 one_uncalled (Expired fuse) = refl
-one_uncalled (Heard line acts) = refl
+one_uncalled (Heard line effects) = refl
 one_uncalled (Ticked time) = refl
 
 all_uncalled : (happenings : List Happening)
@@ -67,38 +67,38 @@ last_counts (x ∷ xs) ys (z ∷ zs) last same some is =
 -- ---- the script's end
 
 -- what is done up to now, and what is left, is not past the script's end
-pub record IsWithin (last : ℕ) (g : Global) : Type 0 where
+pub record IsWithin (last : ℕ) (g : RunState) : Type 0 where
   pub until : g.until ≤ last + 1
   pub lines : All (λ (line : ScriptLine). line.at ≤ last) g.script
 
-record KeepsScript (g h : Global) : Type 0 where
+record KeepsScript (g h : RunState) : Type 0 where
   until : h.until ≡ g.until
   script : h.script ≡ g.script
 
-act_keeps : (g : Global) (act : Act) → KeepsScript g (after_act g act)
-act_keeps g (Send (Instance n) item) = record { until = refl; script = refl }
-act_keeps g (Send Env item) = record { until = refl; script = refl }
-act_keeps g (Send Null item) = record { until = refl; script = refl }
-act_keeps g (Send Nobody item) = record { until = refl; script = refl }
-act_keeps g (Arm fuse) =
+effect_keeps : (g : RunState) (effect : Effect) → KeepsScript g (after_effect g effect)
+effect_keeps g (Send (Instance n) item) = record { until = refl; script = refl }
+effect_keeps g (Send Env item) = record { until = refl; script = refl }
+effect_keeps g (Send Null item) = record { until = refl; script = refl }
+effect_keeps g (Send Nobody item) = record { until = refl; script = refl }
+effect_keeps g (Arm fuse) =
     by_test (nat_le fuse.due g.clock)
     (record g { instances = change_at (with_expiry fuse g.clock) g.instances fuse.pid })
     (record g { fuses = with_fuse fuse g.fuses }) (record { until = refl; script = refl })
     (record { until = refl; script = refl }) where
-      by_test : (b : Bool) (now later : Global) → KeepsScript g now → KeepsScript g later
+      by_test : (b : Bool) (now later : RunState) → KeepsScript g now → KeepsScript g later
           → KeepsScript g (if b then now else later)
       by_test true now later first second = first
       by_test false now later first second = second
-act_keeps g (Create process number parent values) = record { until = refl; script = refl }
+effect_keeps g (Create process number parent values) = record { until = refl; script = refl }
 
-acts_keep : (g : Global) (acts : List Act) → KeepsScript g (after_acts g acts)
-acts_keep g [] = record { until = refl; script = refl }
-acts_keep g (act ∷ rest) =
-    let first = act_keeps g act in
-    let later = acts_keep (after_act g act) rest in
+effects_keep : (g : RunState) (effects : List Effect) → KeepsScript g (after_effects g effects)
+effects_keep g [] = record { until = refl; script = refl }
+effects_keep g (effect ∷ rest) =
+    let first = effect_keeps g effect in
+    let later = effects_keep (after_effect g effect) rest in
     record { until = later.until ∙ first.until; script = later.script ∙ first.script }
 
-kept_within : (last : ℕ) (g h : Global) → KeepsScript g h → IsWithin last g → IsWithin last h
+kept_within : (last : ℕ) (g h : RunState) → KeepsScript g h → IsWithin last g → IsWithin last h
 kept_within last g h keeps within = record {
   until = subst (λ n. n ≤ last + 1) (sym keeps.until) within.until;
   lines = subst (λ ls. All (λ (line : ScriptLine). line.at ≤ last) ls) (sym keeps.script) within.lines;
@@ -117,20 +117,20 @@ module _ (ps : List Behaviour) (last : ℕ) where
       let bound : line.at ≤ last = All-head (λ (l : ScriptLine). l.at ≤ last) line later all in
       omega (arith, before, bound)
 
-  within_next : (g : Global) (next : Happening) (h : Global) → Follows ps last g next h → IsWithin last g
+  within_next : (g : RunState) (next : Happening) (h : RunState) → Follows ps last g next h → IsWithin last g
       → IsWithin last h
   within_next g (Moved who deeds) h step within =
       subst (λ x. IsWithin last x) (sym step.now)
       (kept_within last (stepped ps last g who deeds h step)
-      (after_acts (stepped ps last g who deeds h step) (acts_of deeds))
-      (acts_keep (stepped ps last g who deeds h step) (acts_of deeds))
+      (after_effects (stepped ps last g who deeds h step) (effects_of deeds))
+      (effects_keep (stepped ps last g who deeds h step) (effects_of deeds))
       (record { until = within.until; lines = within.lines }))
   within_next g (Expired fuse) h expires within =
       subst (λ x. IsWithin last x) (sym expires.now) (record { until = within.until; lines = within.lines })
-  within_next g (Heard line acts) h hears within =
+  within_next g (Heard line effects) h hears within =
       subst (λ x. IsWithin last x) (sym hears.now)
-      (kept_within last (record g { script = hears.later }) (after_acts (record g { script = hears.later }) acts)
-      (acts_keep (record g { script = hears.later }) acts)
+      (kept_within last (record g { script = hears.later }) (after_effects (record g { script = hears.later }) effects)
+      (effects_keep (record g { script = hears.later }) effects)
       (record {
         until = within.until;
         lines = All-tail (λ (l : ScriptLine). l.at ≤ last) line hears.later
@@ -140,11 +140,11 @@ module _ (ps : List Behaviour) (last : ℕ) where
       let bound : time ≤ last = tick_time g.script ticks.due time ticks.is_next ticks.within within.lines in
       subst (λ x. IsWithin last x) (sym ticks.now) (record { until = omega (arith, bound); lines = within.lines })
 
-  within_course : {from : Global} {happenings : List Happening} {to : Global} → Course ps last from happenings to
+  within_execution : {from : RunState} {happenings : List Happening} {to : RunState} → Execution ps last from happenings to
       → IsWithin last from → IsWithin last to
-  within_course begins within = within
-  within_course (goes {at = at} course next to follows) within =
-      within_next at next to follows (within_course course within)
+  within_execution begins within = within
+  within_execution (goes {at = at} execution next to follows) within =
+      within_next at next to follows (within_execution execution within)
 
 -- the lines of a script are not past its end
 lines_within : (system : SystemValue) (lines : List ScriptLine) → IsScript system lines
@@ -166,13 +166,13 @@ begins_within system lines script =
 -- ---- a whole course goes no further
 
 module _ (ps : List Behaviour) (system : SystemValue) (lines : List ScriptLine) (limit : ℕ)
-    (happenings : List Happening) (last : Global) (end : ℕ) (whole : EndsWhole ps lines limit happenings last end)
-    (g : Global) (same : bare_whole last ≡ bare_whole g) (within : IsWithin (end_of lines) g) where
+    (happenings : List Happening) (last : RunState) (end : ℕ) (whole : EndsWhole ps lines limit happenings last end)
+    (g : RunState) (same : bare_whole last ≡ bare_whole g) (within : IsWithin (end_of lines) g) where
   fuses_late : All (λ (fuse : Fuse). end_of lines + 1 ≤ fuse.due) g.fuses
-  fuses_late = subst (λ fs. IsNoFuseBefore (end_of lines + 1) fs) (ap (λ (x : Global). x.fuses) same) whole.no_fuse
+  fuses_late = subst (λ fs. IsNoFuseBefore (end_of lines + 1) fs) (ap (λ (x : RunState). x.fuses) same) whole.no_fuse
 
   heard_all : g.script ≡ []
-  heard_all = sym (ap (λ (x : Global). x.script) same) ∙ whole.heard
+  heard_all = sym (ap (λ (x : RunState). x.script) same) ∙ whole.heard
 
   no_tick : (due : Option ℕ) (time : ℕ) → IsLeast (map (λ (fuse : Fuse). fuse.due) g.fuses) due
       → earlier due (next_line []) ≡ Some time → time ≤ end_of lines → ⊥
@@ -184,7 +184,7 @@ module _ (ps : List Behaviour) (system : SystemValue) (lines : List ScriptLine) 
       (All-map (λ t. end_of lines + 1 ≤ t) (λ (fuse : Fuse). fuse.due) g.fuses fuses_late) least.0 in
       omega (arith, same, late, bound)
 
-  pub whole_stops : (next : Happening) (h : Global) → Follows ps (end_of lines) g next h → ByNumber h.instances → ⊥
+  pub whole_stops : (next : Happening) (h : RunState) → Follows ps (end_of lines) g next h → ByNumber h.instances → ⊥
   whole_stops (Moved who deeds) h step lack =
       rest_clash ps g last who deeds h (sym same) whole.rest step (step_lacks ps (end_of lines) g who deeds h step lack)
   whole_stops (Expired fuse) h expires lack =
@@ -192,7 +192,7 @@ module _ (ps : List Behaviour) (system : SystemValue) (lines : List ScriptLine) 
       All-head (λ (f : Fuse). end_of lines + 1 ≤ f.due) fuse expires.later
       (subst (λ fs. All (λ (f : Fuse). end_of lines + 1 ≤ f.due) fs) expires.first fuses_late) in
       omega (arith, late, expires.due, within.until)
-  whole_stops (Heard line acts) h hears lack =
+  whole_stops (Heard line effects) h hears lack =
       let wrong : [] ≡ line ∷ hears.later = sym heard_all ∙ hears.next in let no_way : ⊥ = cc in no_way
   whole_stops (Ticked time) h ticks lack =
       no_tick ticks.due time ticks.least
@@ -201,9 +201,9 @@ module _ (ps : List Behaviour) (system : SystemValue) (lines : List ScriptLine) 
 -- ---- of two that end a report neither is longer
 
 module _ (ps : List Behaviour) (system : SystemValue) (lines : List ScriptLine) (limit : ℕ)
-    (script : IsScript system lines) (happenings others : List Happening) (last end : Global)
-    (first : Course ps (end_of lines) (beginning system lines) happenings last)
-    (second : Course ps (end_of lines) (beginning system lines) others end) (lack : ByNumber last.instances)
+    (script : IsScript system lines) (happenings others : List Happening) (last end : RunState)
+    (first : Execution ps (end_of lines) (beginning system lines) happenings last)
+    (second : Execution ps (end_of lines) (beginning system lines) others end) (lack : ByNumber last.instances)
     (lack' : ByNumber end.instances) where
   -- after a cut there is no room for one transition more
   cut_stops : (before after : List Happening) (whole' : Bool) (time time' : ℕ) → EndsCut limit happenings last time
@@ -245,14 +245,14 @@ module _ (ps : List Behaviour) (system : SystemValue) (lines : List ScriptLine) 
         alike : AreSame happenings parts.before last parts.mid
         alike =
             agree ps (end_of lines) (beginning system lines) first parts.first lack
-            (before_course ps (end_of lines) parts.mid parts.second lack') (sym parts.many)
+            (before_execution ps (end_of lines) parts.mid parts.second lack') (sym parts.many)
 
         by_whole : (w : Bool) → Ends w ps lines limit happenings last time → ⊥
         by_whole true is_whole =
             let next : Headed ps (end_of lines) parts.mid end = headed ps (end_of lines) parts.second some in
             whole_stops ps system lines limit happenings last time is_whole parts.mid alike.whole
-            (within_course ps (end_of lines) parts.first (begins_within system lines script)) next.next next.state
-            next.follows (before_course ps (end_of lines) next.state next.rest lack')
+            (within_execution ps (end_of lines) parts.first (begins_within system lines script)) next.next next.state
+            next.follows (before_execution ps (end_of lines) next.state next.rest lack')
         by_whole false cut =
             cut_stops parts.before parts.after whole' time time' cut ends' parts.is
             (transitions_same happenings parts.before alike.happened) some

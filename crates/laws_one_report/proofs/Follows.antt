@@ -5,14 +5,14 @@ use Rattle.std.proofs.lemmas.Option.{get_or_from_slice_get, none-some, same_Some
 use Rattle.std.specs.Prelude.{Contains}
 use Rattle.port_inbox.specs.declared.entry.Fuse.{Fuse}
 use Rattle.port_model.specs.Timers.{IsLeast, earlier}
-use Rattle.serial_order.specs.Course.{Expired, Expires, Follows, Happening, Heard, Hears, IsNoFuseBefore, IsNoLineBefore, Moved, Rests, Steps, Ticked, Ticks, next_line}
-use Rattle.serial_order.specs.Global.{Global, after_acts, expired, heard_acts, instance_at}
+use Rattle.serial_order.specs.Execution.{Expired, Expires, Follows, Happening, Heard, Hears, IsNoFuseBefore, IsNoLineBefore, Moved, Rests, Steps, Ticked, Ticks, next_line}
+use Rattle.serial_order.specs.RunState.{RunState, after_effects, expired, heard_effects, instance_at}
 use Rattle.run_evaluation.specs.declared.identity.Identity.{Identity}
 use Rattle.sdl_interp.specs.Instance.{InstanceValue}
-use Rattle.run_semantics.specs.Act.{Act, Deed, events_of}
+use Rattle.run_semantics.specs.Effect.{Effect, Deed, events_of}
 use Rattle.sdl_script.specs.declared.script.ScriptLine.{ScriptLine}
 use Rattle.sdl_system.specs.Behaviour.{Behaviour}
-use Rattle.laws_one_report.proofs.Bare.{acts_bare, as_many, expiry_bare, heard_bare, partner}
+use Rattle.laws_one_report.proofs.Bare.{effects_bare, as_many, expiry_bare, heard_bare, partner}
 use Rattle.laws_one_report.proofs.Moves.{moves_same}
 use Rattle.laws_one_report.proofs.Resting.{never_rests, rests_same}
 use Rattle.laws_one_report.proofs.Lacking.{ByNumber, step_lacks}
@@ -21,20 +21,20 @@ use Rattle.laws_one_step.specs.Unique.{LackNothing}
 
 -- ---- the same parts
 
-module _ (g h : Global) (same : bare_whole g ≡ bare_whole h) where
+module _ (g h : RunState) (same : bare_whole g ≡ bare_whole h) where
   until_same : g.until ≡ h.until
-  until_same = ap (λ (x : Global). x.until) same
+  until_same = ap (λ (x : RunState). x.until) same
 
   fuses_same : g.fuses ≡ h.fuses
-  fuses_same = ap (λ (x : Global). x.fuses) same
+  fuses_same = ap (λ (x : RunState). x.fuses) same
 
   script_same : g.script ≡ h.script
-  script_same = ap (λ (x : Global). x.script) same
+  script_same = ap (λ (x : RunState). x.script) same
 
 -- ---- two kinds exclude each other
 
 -- a fuse that is due, where none is
-pub fuse_clash : (g h : Global) (fuse : Fuse) (later : List Fuse) → bare_whole g ≡ bare_whole h
+pub fuse_clash : (g h : RunState) (fuse : Fuse) (later : List Fuse) → bare_whole g ≡ bare_whole h
     → IsNoFuseBefore g.until g.fuses → h.fuses ≡ fuse ∷ later → fuse.due < h.until → ⊥
 fuse_clash g h fuse later same none first due =
     let list : g.fuses ≡ fuse ∷ later = fuses_same g h same ∙ first in
@@ -43,7 +43,7 @@ fuse_clash g h fuse later same none first due =
     let until = until_same g h same in omega (arith, above, due, until)
 
 -- a line that is due, where none is
-line_clash : (g h : Global) (line : ScriptLine) (later : List ScriptLine) → bare_whole g ≡ bare_whole h
+line_clash : (g h : RunState) (line : ScriptLine) (later : List ScriptLine) → bare_whole g ≡ bare_whole h
     → IsNoLineBefore g.until g.script → h.script ≡ line ∷ later → line.at < h.until → ⊥
 line_clash g h line later same none first due =
     let list : g.script ≡ line ∷ later = script_same g h same ∙ first in
@@ -51,7 +51,7 @@ line_clash g h line later same none first due =
     let until = until_same g h same in omega (arith, above, due, until)
 
 -- an instance that makes a step, where all rest
-pub rest_clash : (ps : List Behaviour) (g h : Global) (who : Identity) (deeds : List Deed) (to : Global)
+pub rest_clash : (ps : List Behaviour) (g h : RunState) (who : Identity) (deeds : List Deed) (to : RunState)
     → bare_whole g ≡ bare_whole h → All (Rests ps) h.instances → (step : Steps ps g who deeds to)
     → LackNothing (events_of deeds) → ⊥
 rest_clash ps g h who deeds to same rest step lack =
@@ -85,7 +85,7 @@ least_one times (Some a) (Some b) first second =
       level a b up down = omega arith
 
 module _ (ps : List Behaviour) (last : ℕ) where
-  expiries_same : (g h : Global) (fuse other : Fuse) (to up : Global) → bare_whole g ≡ bare_whole h
+  expiries_same : (g h : RunState) (fuse other : Fuse) (to up : RunState) → bare_whole g ≡ bare_whole h
       → Expires g fuse to → Expires h other up
       → (uncalled_one (Expired fuse) ≡ uncalled_one (Expired other)) × (bare_whole to ≡ bare_whole up)
   expiries_same g h fuse other to up same first second =
@@ -101,26 +101,26 @@ module _ (ps : List Behaviour) (last : ℕ) where
             ∙ ap bare_whole (sym second.now),
       )
 
-  hearings_same : (g h : Global) (line other : ScriptLine) (acts acts' : List Act) (to up : Global)
-      → bare_whole g ≡ bare_whole h → Hears g line acts to → Hears h other acts' up
-      → (uncalled_one (Heard line acts) ≡ uncalled_one (Heard other acts')) × (bare_whole to ≡ bare_whole up)
-  hearings_same g h line other acts acts' to up same first second =
+  hearings_same : (g h : RunState) (line other : ScriptLine) (effects acts' : List Effect) (to up : RunState)
+      → bare_whole g ≡ bare_whole h → Hears g line effects to → Hears h other acts' up
+      → (uncalled_one (Heard line effects) ≡ uncalled_one (Heard other acts')) × (bare_whole to ≡ bare_whole up)
+  hearings_same g h line other effects acts' to up same first second =
       let lists : line ∷ first.later ≡ other ∷ second.later =
       sym first.next ∙ script_same g h same ∙ second.next in
       let one : line ≡ other = cc in
       let rest : first.later ≡ second.later = cc in
-      let done : acts ≡ acts' =
-      first.acts_are ∙ sym (heard_bare g line.signal) ∙ (λ k. heard_acts (same k) (one k).signal)
-      ∙ heard_bare h other.signal ∙ sym second.acts_are in (
+      let done : effects ≡ acts' =
+      first.effects_are ∙ sym (heard_bare g line.signal) ∙ (λ k. heard_effects (same k) (one k).signal)
+      ∙ heard_bare h other.signal ∙ sym second.effects_are in (
         (λ k. Heard (one k) (done k)),
         ap bare_whole first.now
-            ∙ acts_bare (record g { script = first.later }) acts
-            ∙ (λ k. after_acts (record (same k) { script = rest k }) (done k))
-            ∙ sym (acts_bare (record h { script = second.later }) acts')
+            ∙ effects_bare (record g { script = first.later }) effects
+            ∙ (λ k. after_effects (record (same k) { script = rest k }) (done k))
+            ∙ sym (effects_bare (record h { script = second.later }) acts')
             ∙ ap bare_whole (sym second.now),
       )
 
-  ticks_same : (g h : Global) (time other : ℕ) (to up : Global) → bare_whole g ≡ bare_whole h
+  ticks_same : (g h : RunState) (time other : ℕ) (to up : RunState) → bare_whole g ≡ bare_whole h
       → Ticks ps last g time to → Ticks ps last h other up
       → (uncalled_one (Ticked time) ≡ uncalled_one (Ticked other)) × (bare_whole to ≡ bare_whole up)
   ticks_same g h time other to up same first second =
@@ -140,7 +140,7 @@ module _ (ps : List Behaviour) (last : ℕ) where
 
   -- ---- whatever happens
 
-  pub follows_same : (g h : Global) (next other : Happening) (to up : Global) → bare_whole g ≡ bare_whole h
+  pub follows_same : (g h : RunState) (next other : Happening) (to up : RunState) → bare_whole g ≡ bare_whole h
       → Follows ps last g next to → Follows ps last h other up → ByNumber to.instances → ByNumber up.instances
       → (uncalled_one next ≡ uncalled_one other) × (bare_whole to ≡ bare_whole up)
   follows_same g h (Moved who deeds) (Moved who' deeds') to up same first second lack lack' =
@@ -148,7 +148,7 @@ module _ (ps : List Behaviour) (last : ℕ) where
       (step_lacks ps last g who deeds to first lack) (step_lacks ps last h who' deeds' up second lack')
   follows_same g h (Moved who deeds) (Expired fuse) to up same first second lack lack' =
       absurd (fuse_clash g h fuse second.later same first.nothing_due.fuses second.first second.due)
-  follows_same g h (Moved who deeds) (Heard line acts) to up same first second lack lack' =
+  follows_same g h (Moved who deeds) (Heard line effects) to up same first second lack lack' =
       absurd (line_clash g h line second.later same first.nothing_due.lines second.next second.due)
   follows_same g h (Moved who deeds) (Ticked time) to up same first second lack lack' =
       absurd (rest_clash ps g h who deeds to same second.rest first (step_lacks ps last g who deeds to first lack))
@@ -156,24 +156,24 @@ module _ (ps : List Behaviour) (last : ℕ) where
       absurd (fuse_clash h g fuse first.later (sym same) second.nothing_due.fuses first.first first.due)
   follows_same g h (Expired fuse) (Expired other) to up same first second lack lack' =
       expiries_same g h fuse other to up same first second
-  follows_same g h (Expired fuse) (Heard line acts) to up same first second lack lack' =
+  follows_same g h (Expired fuse) (Heard line effects) to up same first second lack lack' =
       absurd (fuse_clash h g fuse first.later (sym same) second.no_fuse first.first first.due)
   follows_same g h (Expired fuse) (Ticked time) to up same first second lack lack' =
       absurd (fuse_clash h g fuse first.later (sym same) second.nothing_due.fuses first.first first.due)
-  follows_same g h (Heard line acts) (Moved who deeds) to up same first second lack lack' =
+  follows_same g h (Heard line effects) (Moved who deeds) to up same first second lack lack' =
       absurd (line_clash h g line first.later (sym same) second.nothing_due.lines first.next first.due)
-  follows_same g h (Heard line acts) (Expired fuse) to up same first second lack lack' =
+  follows_same g h (Heard line effects) (Expired fuse) to up same first second lack lack' =
       absurd (fuse_clash g h fuse second.later same first.no_fuse second.first second.due)
-  follows_same g h (Heard line acts) (Heard other acts') to up same first second lack lack' =
-      hearings_same g h line other acts acts' to up same first second
-  follows_same g h (Heard line acts) (Ticked time) to up same first second lack lack' =
+  follows_same g h (Heard line effects) (Heard other acts') to up same first second lack lack' =
+      hearings_same g h line other effects acts' to up same first second
+  follows_same g h (Heard line effects) (Ticked time) to up same first second lack lack' =
       absurd (line_clash h g line first.later (sym same) second.nothing_due.lines first.next first.due)
   follows_same g h (Ticked time) (Moved who deeds) to up same first second lack lack' =
       absurd (rest_clash ps h g who deeds up (sym same) first.rest second
       (step_lacks ps last h who deeds up second lack'))
   follows_same g h (Ticked time) (Expired fuse) to up same first second lack lack' =
       absurd (fuse_clash g h fuse second.later same first.nothing_due.fuses second.first second.due)
-  follows_same g h (Ticked time) (Heard line acts) to up same first second lack lack' =
+  follows_same g h (Ticked time) (Heard line effects) to up same first second lack lack' =
       absurd (line_clash g h line second.later same first.nothing_due.lines second.next second.due)
   follows_same g h (Ticked time) (Ticked other) to up same first second lack lack' =
       ticks_same g h time other to up same first second

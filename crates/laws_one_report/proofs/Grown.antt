@@ -3,12 +3,12 @@ use Rattle.std.proofs.Common.{◌≡◌, ◌⊎◌, ◌∙◌, ◌++◌, ap, app
 use Rattle.std.proofs.lemmas.Option.{none-some, same_Some}
 use Rattle.port_values.specs.declared.pid.Pid.TheVariants.{Of}
 use Rattle.port_values.specs.declared.value.Value.{Value}
-use Rattle.serial_order.specs.Course.{Expired, Follows, Happening, Heard, Moved, Steps, Ticked}
-use Rattle.serial_order.specs.Global.{Global, after_act, after_acts, change_at, changed_at, instance_at, instance_of, with_created, with_expiry, with_instance, with_put}
+use Rattle.serial_order.specs.Execution.{Expired, Follows, Happening, Heard, Moved, Steps, Ticked}
+use Rattle.serial_order.specs.RunState.{RunState, after_effect, after_effects, change_at, changed_at, instance_at, instance_of, with_created, with_expiry, with_instance, with_put}
 use Rattle.run_evaluation.specs.declared.identity.Identity.{Identity}
 use Rattle.sdl_interp.specs.Instance.{InstanceValue}
 use Rattle.run_record.specs.Event.{Event}
-use Rattle.run_semantics.specs.Act.{Act, Arm, Create, Deed, Send, acts_of, events_of}
+use Rattle.run_semantics.specs.Effect.{Effect, Arm, Create, Deed, Send, effects_of, events_of}
 use Rattle.sdl_system.specs.Behaviour.{Behaviour}
 use Rattle.sdl_system.specs.declared.process.Process.{Process}
 use Rattle.sdl_system.specs.declared.route.Target.TheVariants.{Env, Instance, Nobody, Null}
@@ -91,66 +91,66 @@ grown_more xs new (suc n) i here =
 
 -- ---- what is done
 
-module _ (g : Global) where
+module _ (g : RunState) where
   grown_created : (who : Identity) (values : List Value) (o : Option Process)
       → Grown g.instances (with_created g.system g.instances who values o)
   grown_created who values None = grown_same g.instances
   grown_created who values (Some process) = grown_more g.instances (instance_of g.system process who values)
 
-  pub grown_act : (act : Act) → Grown g.instances (after_act g act).instances
-  grown_act (Send (Instance n) item) = grown_change (with_put item) (λ i. refl) g.instances n
-  grown_act (Send Env item) = grown_same g.instances
-  grown_act (Send Null item) = grown_same g.instances
-  grown_act (Send Nobody item) = grown_same g.instances
-  grown_act (Arm fuse) =
+  pub grown_effect : (effect : Effect) → Grown g.instances (after_effect g effect).instances
+  grown_effect (Send (Instance n) item) = grown_change (with_put item) (λ i. refl) g.instances n
+  grown_effect (Send Env item) = grown_same g.instances
+  grown_effect (Send Null item) = grown_same g.instances
+  grown_effect (Send Nobody item) = grown_same g.instances
+  grown_effect (Arm fuse) =
       by_test (nat_le fuse.due g.clock)
       (record g { instances = change_at (with_expiry fuse g.clock) g.instances fuse.pid })
       (record g { fuses = with_fuse fuse g.fuses })
       (grown_change (with_expiry fuse g.clock) (λ i. refl) g.instances fuse.pid) (grown_same g.instances) where
-        by_test : (b : Bool) (now later : Global) → Grown g.instances now.instances
+        by_test : (b : Bool) (now later : RunState) → Grown g.instances now.instances
             → Grown g.instances later.instances → Grown g.instances (if b then now else later).instances
         by_test true now later first second = first
         by_test false now later first second = second
-  grown_act (Create process number parent values) =
+  grown_effect (Create process number parent values) =
       grown_created (record { process = process; pid = number; parent = Of parent }) values
       (slice_get g.system.processes process.0)
 
-pub grown_acts : (g : Global) (acts : List Act) → Grown g.instances (after_acts g acts).instances
-grown_acts g [] = grown_same g.instances
-grown_acts g (act ∷ rest) =
-    grown_on g.instances (after_act g act).instances (after_acts (after_act g act) rest).instances (grown_act g act)
-    (grown_acts (after_act g act) rest)
+pub grown_effects : (g : RunState) (effects : List Effect) → Grown g.instances (after_effects g effects).instances
+grown_effects g [] = grown_same g.instances
+grown_effects g (effect ∷ rest) =
+    grown_on g.instances (after_effect g effect).instances (after_effects (after_effect g effect) rest).instances (grown_effect g effect)
+    (grown_effects (after_effect g effect) rest)
 
 -- ---- one happening
 
 module _ (ps : List Behaviour) (last : ℕ) where
   -- the state of the whole as a step is over, before its acts are done
-  abbrev pub stepped : (g : Global) (who : Identity) (deeds : List Deed) (h : Global) → Steps ps g who deeds h → Global
+  abbrev pub stepped : (g : RunState) (who : Identity) (deeds : List Deed) (h : RunState) → Steps ps g who deeds h → RunState
   stepped g who deeds h step = record g {
     instances = with_instance g.instances who.pid step.new;
     turn = who.pid;
     bound = step.bound;
   }
 
-  pub step_events : (g : Global) (who : Identity) (deeds : List Deed) (h : Global) (step : Steps ps g who deeds h)
+  pub step_events : (g : RunState) (who : Identity) (deeds : List Deed) (h : RunState) (step : Steps ps g who deeds h)
       → step.new.events ≡ step.old.events ++ events_of deeds
   step_events g who deeds h step =
       step.goes.recorded ∙ ap (λ list. step.old.events ++ events_of list) step.deeds_are
 
-  pub grown_next : (g : Global) (next : Happening) (h : Global) → Follows ps last g next h
+  pub grown_next : (g : RunState) (next : Happening) (h : RunState) → Follows ps last g next h
       → Grown g.instances h.instances
   grown_next g (Moved who deeds) h step =
-      subst (λ (x : Global). Grown g.instances x.instances) (sym step.now)
+      subst (λ (x : RunState). Grown g.instances x.instances) (sym step.now)
       (grown_on g.instances (with_instance g.instances who.pid step.new)
-      (after_acts (stepped g who deeds h step) (acts_of deeds)).instances
+      (after_effects (stepped g who deeds h step) (effects_of deeds)).instances
       (grown_with g.instances who.pid step.old step.new (events_of deeds) step.is_there
       (step_events g who deeds h step))
-      (grown_acts (stepped g who deeds h step) (acts_of deeds)))
+      (grown_effects (stepped g who deeds h step) (effects_of deeds)))
   grown_next g (Expired fuse) h expires =
-      subst (λ (x : Global). Grown g.instances x.instances) (sym expires.now)
+      subst (λ (x : RunState). Grown g.instances x.instances) (sym expires.now)
       (grown_change (with_expiry fuse g.clock) (λ i. refl) g.instances fuse.pid)
-  grown_next g (Heard line acts) h hears =
-      subst (λ (x : Global). Grown g.instances x.instances) (sym hears.now)
-      (grown_acts (record g { script = hears.later }) acts)
+  grown_next g (Heard line effects) h hears =
+      subst (λ (x : RunState). Grown g.instances x.instances) (sym hears.now)
+      (grown_effects (record g { script = hears.later }) effects)
   grown_next g (Ticked time) h ticks =
-      subst (λ (x : Global). Grown g.instances x.instances) (sym ticks.now) (grown_same g.instances)
+      subst (λ (x : RunState). Grown g.instances x.instances) (sym ticks.now) (grown_same g.instances)

@@ -2,14 +2,14 @@
 use Rattle.std.proofs.Common.{◌≡◌, ◌++◌, refl, subst, ℕ, zero, suc, All, List, [], ◌∷◌, Some}
 use Rattle.std.proofs.lemmas.List.Elements.{All-get_or, All-head, All-tail, All-cons, All-nil}
 use Rattle.std.proofs.lemmas.Option.{get_or_from_slice_get, none-some, slice_get_within}
-use Rattle.serial_order.specs.Course.{Course, Follows, Happening, Steps, begins, goes}
-use Rattle.serial_order.specs.Global.{Global, after_acts, instance_at, with_instance}
+use Rattle.serial_order.specs.Execution.{Execution, Follows, Happening, Steps, begins, goes}
+use Rattle.serial_order.specs.RunState.{RunState, after_effects, instance_at, with_instance}
 use Rattle.run_evaluation.specs.declared.identity.Identity.{Identity}
 use Rattle.sdl_interp.specs.Instance.{InstanceValue}
 use Rattle.run_record.specs.Event.{Event}
-use Rattle.run_semantics.specs.Act.{Deed, acts_of, events_of}
+use Rattle.run_semantics.specs.Effect.{Deed, effects_of, events_of}
 use Rattle.sdl_system.specs.Behaviour.{Behaviour}
-use Rattle.laws_one_report.proofs.Grown.{Grown, Kept, grown_acts, grown_next, step_events, stepped}
+use Rattle.laws_one_report.proofs.Grown.{Grown, Kept, grown_effects, grown_next, step_events, stepped}
 use Rattle.laws_one_step.specs.Unique as events
 use Rattle.laws_one_step.specs.Unique.{LackNothing}
 
@@ -45,15 +45,15 @@ before_grown xs ys grown all n i there =
 
 module _ (ps : List Behaviour) (last : ℕ) where
   -- what a step did lacks nothing, where nothing lacks behind it
-  pub step_lacks : (g : Global) (who : Identity) (deeds : List Deed) (h : Global) (step : Steps ps g who deeds h)
+  pub step_lacks : (g : RunState) (who : Identity) (deeds : List Deed) (h : RunState) (step : Steps ps g who deeds h)
       → ByNumber h.instances → LackNothing (events_of deeds)
   step_lacks g who deeds h step all =
-      let behind : ByNumber (after_acts (stepped ps last g who deeds h step) (acts_of deeds)).instances =
-      subst (λ (x : Global). ByNumber x.instances) step.now all in
+      let behind : ByNumber (after_effects (stepped ps last g who deeds h step) (effects_of deeds)).instances =
+      subst (λ (x : RunState). ByNumber x.instances) step.now all in
       let before : ByNumber (with_instance g.instances who.pid step.new) =
       before_grown (with_instance g.instances who.pid step.new)
-      (after_acts (stepped ps last g who deeds h step) (acts_of deeds)).instances
-      (grown_acts (stepped ps last g who deeds h step) (acts_of deeds)) behind in
+      (after_effects (stepped ps last g who deeds h step) (effects_of deeds)).instances
+      (grown_effects (stepped ps last g who deeds h step) (effects_of deeds)) behind in
       last_part step.old.events (events_of deeds)
       (subst LackNothing (step_events ps last g who deeds h step)
       (before who.pid step.new (written g.instances who.pid step.old step.new step.is_there))) where
@@ -64,13 +64,13 @@ module _ (ps : List Behaviour) (last : ℕ) where
         written (x ∷ xs) (suc zero) old new there = refl
         written (x ∷ xs) (suc (suc n)) old new there = written xs (suc n) old new there
 
-  pub before_next : (g : Global) (next : Happening) (h : Global) → Follows ps last g next h → ByNumber h.instances
+  pub before_next : (g : RunState) (next : Happening) (h : RunState) → Follows ps last g next h → ByNumber h.instances
       → ByNumber g.instances
   before_next g next h follows all =
       before_grown g.instances h.instances (grown_next ps last g next h follows) all
 
-  pub before_course : (from : Global) → {happenings : List Happening} {to : Global}
-      → Course ps last from happenings to → ByNumber to.instances → ByNumber from.instances
-  before_course from begins all = all
-  before_course from (goes {at = at} course next to follows) all =
-      before_course from course (before_next at next to follows all)
+  pub before_execution : (from : RunState) → {happenings : List Happening} {to : RunState}
+      → Execution ps last from happenings to → ByNumber to.instances → ByNumber from.instances
+  before_execution from begins all = all
+  before_execution from (goes {at = at} execution next to follows) all =
+      before_execution from execution (before_next at next to follows all)

@@ -1,5 +1,5 @@
 mod Bare
-mod Courses
+mod Executions
 mod Ends
 mod Follows
 mod Grown
@@ -7,4 +7,4 @@ mod Lacking
 mod Moves
 mod Reports
 mod Resting
-mod Turns
+mod LeadsSilently

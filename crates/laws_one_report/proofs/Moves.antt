@@ -3,33 +3,33 @@ use Rattle.std.proofs.Common.{◌≡◌, ◌∙◌, ◌++◌, ap, map, refl, sli
 use Rattle.std.proofs.lemmas.Option.{same_Some}
 use Rattle.port_inbox.specs.Ends.{single}
 use Rattle.port_model.specs.Port.{PortState}
-use Rattle.serial_order.specs.Course.{Moved, Steps, is_transition}
-use Rattle.serial_order.specs.Global.{Global, after_acts, around, instance_at, with_instance}
+use Rattle.serial_order.specs.Execution.{Moved, Steps, is_transition}
+use Rattle.serial_order.specs.RunState.{RunState, after_effects, world_at, instance_at, with_instance}
 use Rattle.run_evaluation.specs.declared.identity.Identity.{Identity}
 use Rattle.run_evaluation.specs.declared.store.Store.{Store}
 use Rattle.sdl_interp.specs.Instance.{InstanceValue}
 use Rattle.run_record.specs.Event.{Event}
-use Rattle.run_semantics.specs.Act.{Deed, acts_of, events_of}
-use Rattle.run_semantics.specs.Place.{AtStart, In, Place}
+use Rattle.run_semantics.specs.Effect.{Deed, effects_of, events_of}
+use Rattle.run_semantics.specs.ControlPoint.{AtStart, In, ControlPoint}
 use Rattle.run_transitions.specs.Machine.{place_of}
 use Rattle.run_transitions.specs.declared.machine.Position.{Position}
 use Rattle.run_transitions.specs.declared.machine.Position.TheVariants as at
 use Rattle.sdl_system.specs.Behaviour.{Behaviour}
 use Rattle.sdl_system.specs.System.{SystemValue}
 use Rattle.sdl_system.specs.declared.process.Process.{Process}
-use Rattle.laws_one_report.proofs.Bare.{acts_bare, around_same, partner, with_bare}
+use Rattle.laws_one_report.proofs.Bare.{effects_bare, world_same, partner, with_bare}
 use Rattle.laws_one_report.proofs.Grown.{step_events, stepped}
 use Rattle.laws_one_report.proofs.Resting.{StepOf, known, step_of}
-use Rattle.laws_one_report.proofs.Turns.{awake_one, turns_same}
+use Rattle.laws_one_report.proofs.LeadsSilently.{awake_one, turns_same}
 use Rattle.laws_one_report.specs.Same.{bare, bare_whole, uncalled, uncalled_one}
 use Rattle.laws_one_step.proofs.Iterates.{Told, told}
-use Rattle.laws_one_step.proofs.Steps.{acts_same, events_same, stepped_alike}
+use Rattle.laws_one_step.proofs.Steps.{effects_same, events_same, stepped_alike}
 use Rattle.laws_one_step.specs.Unique.{LackNothing}
 
 -- ---- words
 
 -- a position by its place
-position_of : Place → Position
+position_of : ControlPoint → Position
 position_of AtStart = at.BeforeStart
 position_of (In n) = at.In n
 position_of other = at.Ended
@@ -45,7 +45,7 @@ same_position one other same = sym (position_back one) ∙ ap position_of same �
 
 -- what is told of deeds is all but their calls
 deed_of : Told → Deed
-deed_of t = record { event = t.happened; calls = []; acts = t.done }
+deed_of t = record { event = t.happened; calls = []; effects = t.done }
 
 uncalled_told : (deeds : List Deed) → map uncalled deeds ≡ map deed_of (told deeds)
 unfolding deed_of
@@ -76,8 +76,8 @@ same_made s s' p p' w w' at at' t t' n n' q q' e e' system process who position 
 
 -- ---- two steps
 
-module _ (ps : List Behaviour) (last : ℕ) (g : Global) (who : Identity) (deeds : List Deed) (h : Global)
-    (one : Steps ps g who deeds h) (g' : Global) (who' : Identity) (deeds' : List Deed) (h' : Global)
+module _ (ps : List Behaviour) (last : ℕ) (g : RunState) (who : Identity) (deeds : List Deed) (h : RunState)
+    (one : Steps ps g who deeds h) (g' : RunState) (who' : Identity) (deeds' : List Deed) (h' : RunState)
     (other : Steps ps g' who' deeds' h') (same : bare_whole g ≡ bare_whole g') (lack : LackNothing (events_of deeds))
     (lack' : LackNothing (events_of deeds')) where
   -- one turn
@@ -105,17 +105,17 @@ module _ (ps : List Behaviour) (last : ℕ) (g : Global) (who : Identity) (deeds
       ∙ other.meant.listed)
 
   -- the other step, as one of this instance
-  other_of : StepOf ps one.old one.p (around g) (is_transition deeds') deeds' (place_of other.new.position)
+  other_of : StepOf ps one.old one.p (world_at g) (is_transition deeds') deeds' (place_of other.new.position)
       other.new.store other.new.owner.state
   other_of =
-      let as_is : StepOf ps (bare other.old) other.p (around g') (is_transition deeds') deeds'
+      let as_is : StepOf ps (bare other.old) other.p (world_at g') (is_transition deeds') deeds'
       (place_of other.new.position) other.new.store other.new.owner.state =
       step_of ps g' who' deeds' h' other lack' in
       subst (λ w. StepOf ps (bare one.old) one.p w (is_transition deeds') deeds' (place_of other.new.position)
-      other.new.store other.new.owner.state) (sym (around_same g g' same))
-      (subst (λ p. StepOf ps (bare one.old) p (around g') (is_transition deeds') deeds'
+      other.new.store other.new.owner.state) (sym (world_same g g' same))
+      (subst (λ p. StepOf ps (bare one.old) p (world_at g') (is_transition deeds') deeds'
       (place_of other.new.position) other.new.store other.new.owner.state) (sym meaning_is)
-      (subst (λ i. StepOf ps i other.p (around g') (is_transition deeds') deeds'
+      (subst (λ i. StepOf ps i other.p (world_at g') (is_transition deeds') deeds'
       (place_of other.new.position) other.new.store other.new.owner.state) (sym old_is) as_is))
 
   alike : (told deeds ≡ told deeds') × (is_transition deeds ≡ is_transition deeds')
@@ -123,7 +123,7 @@ module _ (ps : List Behaviour) (last : ℕ) (g : Global) (who : Identity) (deeds
       × (one.new.owner.state ≡ other.new.owner.state)
   alike =
       stepped_alike (record { system = one.old.system; behaviour = one.p }) one.old.process one.meant.is_run.behaves
-      one.old.who (around g) (known ps g) (place_of one.old.position) one.old.store one.old.owner.state
+      one.old.who (world_at g) (known ps g) (place_of one.old.position) one.old.store one.old.owner.state
       (is_transition deeds) (is_transition deeds') deeds deeds' (place_of one.new.position)
       (place_of other.new.position) one.new.store other.new.store one.new.owner.state other.new.owner.state
       (step_of ps g who deeds h one lack) other_of
@@ -147,7 +147,7 @@ module _ (ps : List Behaviour) (last : ℕ) (g : Global) (who : Identity) (deeds
   -- one state of the whole, before the acts are done
   before_is : bare_whole (stepped ps last g who deeds h one) ≡ bare_whole (stepped ps last g' who' deeds' h' other)
   before_is =
-      let moved : Global → ℕ → ℕ → InstanceValue → Global =
+      let moved : RunState → ℕ → ℕ → InstanceValue → RunState =
       λ x n bound i. record x { instances = with_instance x.instances n i; turn = n; bound = bound } in
       ap (λ list. record g { instances = list; turn = who.pid; bound = one.bound })
       (with_bare g.instances who.pid one.new)
@@ -159,8 +159,8 @@ module _ (ps : List Behaviour) (last : ℕ) (g : Global) (who : Identity) (deeds
   moves_same = (
     (λ k. Moved (who_is k) (uncalled_same deeds deeds' alike.0 k)),
     ap bare_whole one.now
-        ∙ acts_bare (stepped ps last g who deeds h one) (acts_of deeds)
-        ∙ (λ k. after_acts (before_is k) (acts_same deeds deeds' alike.0 k))
-        ∙ sym (acts_bare (stepped ps last g' who' deeds' h' other) (acts_of deeds'))
+        ∙ effects_bare (stepped ps last g who deeds h one) (effects_of deeds)
+        ∙ (λ k. after_effects (before_is k) (effects_same deeds deeds' alike.0 k))
+        ∙ sym (effects_bare (stepped ps last g' who' deeds' h' other) (effects_of deeds'))
         ∙ ap bare_whole (sym other.now),
   )

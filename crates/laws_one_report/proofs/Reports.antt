@@ -2,8 +2,8 @@
 use Rattle.std.proofs.Common.{◌≡◌, ◌∙◌, ◌++◌, ◌<◌, ap, arith, length, map, refl, subst, sym, ℕ, Bool, true, false, All, List, [], ◌∷◌, None, Some}
 use Rattle.std.proofs.lemmas.List.Elements.{All-cons, All-head, All-nil, All-tail}
 use Rattle.std.specs.List.{AllZip, flat_map}
-use Rattle.serial_order.specs.Course.{Happening, transitions_of}
-use Rattle.serial_order.specs.Global.{Global, beginning}
+use Rattle.serial_order.specs.Execution.{Happening, transitions_of}
+use Rattle.serial_order.specs.RunState.{RunState, beginning}
 use Rattle.serial_order.specs.Report.{Closes, Ends, IsSerialReport}
 use Rattle.sdl_interp.specs.Instance.{InstanceValue, closing}
 use Rattle.run_record.specs.Event as event
@@ -15,7 +15,7 @@ use Rattle.sdl_script.specs.Script.{end_of}
 use Rattle.sdl_script.specs.declared.script.ScriptLine.{ScriptLine}
 use Rattle.sdl_system.specs.Behaviour.{Behaviour}
 use Rattle.sdl_system.specs.System.{SystemValue}
-use Rattle.laws_one_report.proofs.Courses.{agree}
+use Rattle.laws_one_report.proofs.Executions.{agree}
 use Rattle.laws_one_report.proofs.Ends.{not_longer, transitions_same}
 use Rattle.laws_one_report.proofs.Lacking.{ByNumber, by_number, first_part}
 use Rattle.laws_one_report.specs.Same.{AreSame, AreOfOneRun, IsSameReport, OneReport, OneReportOfAll, OneText, bare, read}
@@ -74,7 +74,7 @@ module _ (ps : List Behaviour) (whole : Bool) where
 -- ---- one report
 
 module _ (ps : List Behaviour) (lines : List ScriptLine) (limit : ℕ) (happenings others : List Happening)
-    (last end : Global) (same : transitions_of happenings ≡ transitions_of others) where
+    (last end : RunState) (same : transitions_of happenings ≡ transitions_of others) where
   one_whole : (whole whole' : Bool) (time time' : ℕ) → Ends whole ps lines limit happenings last time
       → Ends whole' ps lines limit others end time' → whole ≡ whole'
   one_whole true true time time' ends ends' = refl
@@ -102,13 +102,13 @@ one_report ps system lines limit one other both =
     by_number second.last.instances
     (none_lacks ps other.whole second.last.instances other.records.items second.records both.second_lacks) in
     let up : length first.happenings < length second.happenings → ⊥ =
-    not_longer ps system lines limit both.script first.happenings second.happenings first.last second.last first.course
-    second.course lack lack' one.whole other.whole one.end other.end first.ends second.ends in
+    not_longer ps system lines limit both.script first.happenings second.happenings first.last second.last first.execution
+    second.execution lack lack' one.whole other.whole one.end other.end first.ends second.ends in
     let down : length second.happenings < length first.happenings → ⊥ =
-    not_longer ps system lines limit both.script second.happenings first.happenings second.last first.last second.course
-    first.course lack' lack other.whole one.whole other.end one.end second.ends first.ends in
+    not_longer ps system lines limit both.script second.happenings first.happenings second.last first.last second.execution
+    first.execution lack' lack other.whole one.whole other.end one.end second.ends first.ends in
     let same : AreSame first.happenings second.happenings first.last second.last =
-    agree ps (end_of lines) (beginning system lines) first.course second.course lack lack'
+    agree ps (end_of lines) (beginning system lines) first.execution second.execution lack lack'
     (level (length first.happenings) (length second.happenings) up down) in
     let made = transitions_same first.happenings second.happenings same.happened in
     let whole : one.whole ≡ other.whole =
@@ -120,7 +120,7 @@ one_report ps system lines limit one other both =
           ∙ (λ k. map (record_of (whole k)) (same.whole k).instances)
           ∙ sym (all_read ps other.whole second.last.instances other.records.items second.records);
       end = one_time ps lines limit first.happenings second.happenings first.last second.last made one.whole one.end
-          other.end (ap (λ (g : Global). g.clock) same.whole) first.ends
+          other.end (ap (λ (g : RunState). g.clock) same.whole) first.ends
           (subst (λ w. Ends w ps lines limit second.happenings second.last other.end) (sym whole) second.ends);
       whole = whole;
     } where

@@ -3,13 +3,13 @@ use Rattle.std.proofs.Common.{◌≡◌, ◌∙◌, refl, subst, sym, Bool, List
 use Rattle.std.proofs.lemmas.Option.{same_Some}
 use Rattle.port_model.specs.Port.{PortState}
 use Rattle.serial_order.proofs.Own.{later_none}
-use Rattle.serial_order.specs.Course.{IsMeant, Rests, Steps, is_transition}
-use Rattle.serial_order.specs.Global.{Global, around, census_of}
+use Rattle.serial_order.specs.Execution.{IsMeant, Rests, Steps, is_transition}
+use Rattle.serial_order.specs.RunState.{RunState, world_at, living_of}
 use Rattle.run_evaluation.specs.declared.identity.Identity.{Identity}
 use Rattle.run_evaluation.specs.declared.store.Store.{Store}
 use Rattle.sdl_interp.specs.Instance.{InstanceValue, IsQuietAt, work_of}
-use Rattle.run_semantics.specs.Act.{Deed, events_of}
-use Rattle.run_semantics.specs.Place.{Definition, Place}
+use Rattle.run_semantics.specs.Effect.{Deed, events_of}
+use Rattle.run_semantics.specs.ControlPoint.{Definition, ControlPoint}
 use Rattle.run_semantics.specs.World.{WorldValue}
 use Rattle.run_transitions.specs.Machine.{place_of}
 use Rattle.run_transitions.specs.declared.machine.Position.{Position}
@@ -62,29 +62,29 @@ module _ (ps : List Behaviour) where
   between (at.In n) = tt
   between at.Ended = tt
 
-  pub known : (g : Global) → IsKnown (around g)
+  pub known : (g : RunState) → IsKnown (world_at g)
   known g = record {
     clock = g.clock;
     clock_is = refl;
-    census = census_of g.system g.instances;
-    census_is = refl;
+    living = living_of g.system g.instances;
+    living_is = refl;
   }
 
   -- what the step of an instance is, by its own value and its behaviour
-  abbrev pub StepOf : InstanceValue → Behaviour → WorldValue → Bool → List Deed → Place → Store → PortState → Type 0
+  abbrev pub StepOf : InstanceValue → Behaviour → WorldValue → Bool → List Deed → ControlPoint → Store → PortState → Type 0
   StepOf i p w counts deeds to t r =
       Stepped (record { system = i.system; behaviour = p }) i.who w (place_of i.position) i.store i.owner.state counts
       deeds to t r
 
-  pub step_of : (g : Global) (who : Identity) (deeds : List Deed) (h : Global) (step : Steps ps g who deeds h)
+  pub step_of : (g : RunState) (who : Identity) (deeds : List Deed) (h : RunState) (step : Steps ps g who deeds h)
       → LackNothing (events_of deeds)
-      → StepOf step.old step.p (around g) (is_transition deeds) deeds (place_of step.new.position) step.new.store
+      → StepOf step.old step.p (world_at g) (is_transition deeds) deeds (place_of step.new.position) step.new.store
       step.new.owner.state
   step_of g who deeds h step lack =
       let d : Definition = record { system = step.old.system; behaviour = step.p } in
       let none : step.goes.news ≡ [] =
       later_none step.old.owner.drawn step.goes.news (sym step.goes.drawn ∙ step.undrawn) in
-      let plain : IsPlainStep d (place_of step.old.position) (work_of step.old) (around g) (is_transition deeds)
+      let plain : IsPlainStep d (place_of step.old.position) (work_of step.old) (world_at g) (is_transition deeds)
       (place_of step.new.position) (work_of step.new) step.world = record {
         goes = step.goes;
         undrawn = none;
@@ -92,13 +92,13 @@ module _ (ps : List Behaviour) where
         starts = between step.old.position;
         between = between step.new.position;
       } in
-      subst (λ list. StepOf step.old step.p (around g) (is_transition deeds) list (place_of step.new.position)
+      subst (λ list. StepOf step.old step.p (world_at g) (is_transition deeds) list (place_of step.new.position)
       step.new.store step.new.owner.state) step.deeds_are
       (stepped_by d (place_of step.old.position) (place_of step.new.position) (work_of step.old) (work_of step.new)
-      (around g) step.world (is_transition deeds) plain)
+      (world_at g) step.world (is_transition deeds) plain)
 
   -- an instance that makes a step doesn't rest
-  pub never_rests : (g : Global) (who : Identity) (deeds : List Deed) (h : Global) (step : Steps ps g who deeds h)
+  pub never_rests : (g : RunState) (who : Identity) (deeds : List Deed) (h : RunState) (step : Steps ps g who deeds h)
       → LackNothing (events_of deeds) → Rests ps step.old → ⊥
   never_rests g who deeds h step lack rests =
       by_position step.old.position refl quiet (step_of g who deeds h step lack) where
@@ -108,12 +108,12 @@ module _ (ps : List Behaviour) where
 
         by_position : (position : Position) → step.old.position ≡ position
             → IsQuietAt (record { system = step.old.system; behaviour = step.p }) position step.old
-            → Stepped (record { system = step.old.system; behaviour = step.p }) step.old.who (around g)
+            → Stepped (record { system = step.old.system; behaviour = step.p }) step.old.who (world_at g)
             (place_of position) step.old.store step.old.owner.state (is_transition deeds) deeds
             (place_of step.new.position) step.new.store step.new.owner.state → ⊥
         by_position at.BeforeStart is quiet stepped = quiet
         by_position (at.In n) is quiet stepped =
             no_step (record { system = step.old.system; behaviour = step.p }) step.old.process step.meant.is_run.behaves
-            step.old.who (around g) (known g) n step.old.store step.old.owner.state (is_transition deeds) deeds
+            step.old.who (world_at g) (known g) n step.old.store step.old.owner.state (is_transition deeds) deeds
             (place_of step.new.position) step.new.store step.new.owner.state quiet.0 quiet.1 stepped
         by_position at.Ended is quiet stepped = step.lives is

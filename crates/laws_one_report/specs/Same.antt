@@ -1,14 +1,14 @@
 -- What two courses of a system, and two serial reports, have in common (Z.101: system).
 use Rattle.std.specs.Prelude.{◌≡◌, ℕ, List, [], All, length, map}
 use Rattle.port_inbox.specs.Ends.{single}
-use Rattle.serial_order.specs.Course.{AreBehaviours, Course, Expired, Happening, Heard, Moved, Ticked}
-use Rattle.serial_order.specs.Global.{Global}
+use Rattle.serial_order.specs.Execution.{AreBehaviours, Execution, Expired, Happening, Heard, Moved, Ticked}
+use Rattle.serial_order.specs.RunState.{RunState}
 use Rattle.serial_order.specs.Report.{IsSerialReport}
 use Rattle.sdl_interp.specs.Instance.{InstanceValue}
 use Rattle.run_record.specs.Record.{RecordValue, with_room}
 use Rattle.sdl_report.specs.ReportText.{report_text}
 use Rattle.run_record.specs.declared.record.Report.{Report}
-use Rattle.run_semantics.specs.Act.{Deed}
+use Rattle.run_semantics.specs.Effect.{Deed}
 use Rattle.sdl_script.specs.Script.{IsScript}
 use Rattle.sdl_script.specs.declared.script.ScriptLine.{ScriptLine}
 use Rattle.sdl_system.specs.Behaviour.{Behaviour}
@@ -21,7 +21,7 @@ use Rattle.laws_one_step.specs.Unique.{LackNothing}
 abbrev pub bare : InstanceValue → InstanceValue
 bare i = record i { owner = single i.owner.pid i.owner.state [] }
 
-abbrev pub bare_whole : Global → Global
+abbrev pub bare_whole : RunState → RunState
 bare_whole g = record g { instances = map bare g.instances }
 
 -- a deed without its calls: a take is told with the list of its classes, and several lists give each name the same one
@@ -31,25 +31,25 @@ uncalled deed = record deed { calls = [] }
 abbrev pub uncalled_one : Happening → Happening
 uncalled_one (Moved who deeds) = Moved who (map uncalled deeds)
 uncalled_one (Expired fuse) = Expired fuse
-uncalled_one (Heard line acts) = Heard line acts
+uncalled_one (Heard line effects) = Heard line effects
 uncalled_one (Ticked time) = Ticked time
 
 -- the same happened, and the whole is in the same state
-pub record AreSame (happenings others : List Happening) (last end : Global) : Type 0 where
+pub record AreSame (happenings others : List Happening) (last end : RunState) : Type 0 where
   pub happened : map uncalled_one happenings ≡ map uncalled_one others
   pub whole : bare_whole last ≡ bare_whole end
 
 -- ---- courses
 
 -- no instance failed for want of memory
-abbrev pub LacksNothing : Global → Type 0
+abbrev pub LacksNothing : RunState → Type 0
 LacksNothing g = All (λ (i : InstanceValue). LackNothing i.events) g.instances
 
 -- Two courses from one state, as long as each other, are the same.
-abbrev pub CoursesAgree : Type 0
-CoursesAgree =
-    (ps : List Behaviour) (time : ℕ) (from : Global) (happenings others : List Happening) (last end : Global)
-    → Course ps time from happenings last → Course ps time from others end → LacksNothing last → LacksNothing end
+abbrev pub ExecutionsAgree : Type 0
+ExecutionsAgree =
+    (ps : List Behaviour) (time : ℕ) (from : RunState) (happenings others : List Happening) (last end : RunState)
+    → Execution ps time from happenings last → Execution ps time from others end → LacksNothing last → LacksNothing end
     → length happenings ≡ length others → AreSame happenings others last end
 
 -- ---- reports

@@ -1,11 +1,11 @@
 //! What holds of any two courses of a system, and of any two of its reports, as functions that do nothing.
 
-ghost use Rattle.laws_one_report.specs.Same.{CoursesAgree, OneReport, OneReportOfAll, OneText};
+ghost use Rattle.laws_one_report.specs.Same.{ExecutionsAgree, OneReport, OneReportOfAll, OneText};
 
 /// Two courses from one state of the whole, of which as much happened in the one as in the other, are the same, and
 /// lead to the same state. That is so where nothing in them fails for want of memory (Z.101: system).
-pub fn courses_agree()
-    ensures { CoursesAgree }
+pub fn executions_agree()
+    ensures { ExecutionsAgree }
 {}
 
 /// A system, what its processes mean, a script and a limit have at most one serial report, as its readers see it: two

@@ -12,10 +12,10 @@ use Rattle.run_evaluation.specs.declared.store.Store.{Store}
 use Rattle.run_record.specs.Event as event
 use Rattle.run_record.specs.declared.failure.Failure.{Failure}
 use Rattle.run_record.specs.declared.failure.Failure.TheVariants.{NoAnswer, SetsSpent, TooLong, Undefined}
-use Rattle.run_semantics.specs.Act.{Act}
+use Rattle.run_semantics.specs.Effect.{Effect}
 use Rattle.run_semantics.specs.Fails.{Fails, HasCause, HasNoAnswer, IsSpent, IsTooLong, most_statements, parameters_of, sent_by, set_by}
 use Rattle.run_semantics.specs.Leads.{Happens}
-use Rattle.run_semantics.specs.Place.{Amid, AtStart, Closed, Definition, Doing, Ended, In, IsState, Place, Receiving}
+use Rattle.run_semantics.specs.ControlPoint.{Amid, AtStart, Closed, Definition, Doing, Ended, In, IsState, ControlPoint, Receiving}
 use Rattle.run_semantics.specs.Reception.{assigned, sort_in}
 use Rattle.run_semantics.specs.World.{WorldValue}
 use Rattle.sdl_system.specs.Body as body
@@ -28,7 +28,7 @@ use Rattle.sdl_system.specs.declared.statement.Decision.{Decision}
 use Rattle.sdl_system.specs.declared.statement.Node.{Node}
 use Rattle.sdl_system.specs.declared.statement.Statement.TheVariants as kind
 use Rattle.sdl_system.specs.declared.statement.Way.{Way}
-use Rattle.laws_one_step.proofs.Inner.{Comes, did_same, ends_next, head_acts, on_false, on_ok, on_some, on_true, one_call}
+use Rattle.laws_one_step.proofs.Inner.{Comes, did_same, ends_next, head_effects, on_false, on_ok, on_some, on_true, one_call}
 use Rattle.laws_one_step.proofs.Next.{Frame, IsAt, Next, Site, amid, at_head, at_node, counting, deciding, did, doing, entering, failing, is_amid, is_doing, is_over, is_receiving, made, mark_of, next_of, node_at, nothing, on_option, on_result, over, receiving, sent, set_at, set_or_spent, turned}
 use Rattle.laws_one_step.proofs.Next as next
 use Rattle.laws_one_step.proofs.Ways.{GoesOn, at_is, decides}
@@ -37,8 +37,8 @@ use Rattle.laws_one_step.specs.Unique.{is_want}
 -- ---- what a failure says
 
 -- whatever stands at the place
-pub failed_so : (d : Definition) (who : Identity) (q : PortState) (at : Place) (s : Store) (why : Failure)
-    (calls : List PortEvent) (done : List Act) (to : Place) (t : Store)
+pub failed_so : (d : Definition) (who : Identity) (q : PortState) (at : ControlPoint) (s : Store) (why : Failure)
+    (calls : List PortEvent) (done : List Effect) (to : ControlPoint) (t : Store)
     → Happens d who q at s (event.Failed why) calls done to t
     → (calls ≡ Stop ∷ []) × (done ≡ []) × Fails d who q at s why × (to ≡ Ended) × (t ≡ s)
 failed_so d who q AtStart s why calls done to t h = h
@@ -115,13 +115,13 @@ module _ (f : Frame) (w : WorldValue) (s : Store) (q : PortState) where
       (at_node f origin s q) (at_is f.nodes at (kind.Decision asked) after asks.at)
 
   -- and at an action
-  pub acts_next : (origin : Option StateId) (action : Action) (at after : Option NodeId)
+  pub effects_next : (origin : Option StateId) (action : Action) (at after : Option NodeId)
       → ActsAt f.nodes at action after
       → next_of f w (doing origin at) s q ≡ counting s q (turned (amid origin action after))
-  acts_next origin action at after acts =
-      on_some (node_at f.nodes at) (record { statement = acts.statement; next = after }) nothing
-      (at_node f origin s q) (at_is f.nodes at acts.statement after acts.at)
-      ∙ ap (λ head. at_head f origin s q after head) (head_acts acts.statement action acts.acts)
+  effects_next origin action at after effects =
+      on_some (node_at f.nodes at) (record { statement = effects.statement; next = after }) nothing
+      (at_node f origin s q) (at_is f.nodes at effects.statement after effects.at)
+      ∙ ap (λ head. at_head f origin s q after head) (head_effects effects.statement action effects.effects)
 
   -- the question fails
   pub asked_wrong : (origin : Option StateId) (asked : Decision) (question : Term) (why : Failure)
@@ -197,13 +197,13 @@ module _ (f : Frame) (w : WorldValue) (s : Store) (q : PortState) where
       miss.1.none)
       miss.0
 
-  pub cause_next : (why : Failure) (at : Place) (site : Site) → IsAt f.nodes f.marks at site
+  pub cause_next : (why : Failure) (at : ControlPoint) (site : Site) → IsAt f.nodes f.marks at site
       → HasCause f.d f.who q at s why → next_of f w site s q ≡ failing s q why
   cause_next why _ _ (is_receiving origin (Some variable ∷ variables) (value ∷ values) rest spot has) cause =
       on_err (placed (sort_in f.d.behaviour variable) value) why (failing s q)
       (λ taken. turned (receiving origin variables values spot) (assigned variable taken s)) cause
   cause_next why _ _ (is_doing origin (body.action first rest) spot has) cause =
-      acts_next origin first spot has.0 has.1 ∙ too_long s q why (turned (amid origin first has.0)) cause
+      effects_next origin first spot has.0 has.1 ∙ too_long s q why (turned (amid origin first has.0)) cause
   cause_next why _ _ (is_doing origin (body.decision question parts rest) spot has) cause =
       asks_next origin has.0 question spot has.1 has.2 ∙ decision_wrong origin question parts rest spot why has cause
   cause_next why _ _ (is_doing origin (body.ending (body.join label)) spot has) cause =
@@ -222,7 +222,7 @@ module _ (f : Frame) (w : WorldValue) (s : Store) (q : PortState) where
       (assigned one.variable value s) q) cause
   cause_next why _ _ (is_amid origin (body.output (one ∷ more) to) rest spot has) cause =
       on_err (sent_by f.d.system (environment f.d.system f.who s q) to one) why (failing s q)
-      (λ named. on_option w.census nothing
+      (λ named. on_option w.living nothing
       (sent f w (amid origin (body.output more to) spot) s q one named.0 named.1)) cause
   cause_next why _ _ (is_amid origin (body.set (one ∷ more)) rest spot has) cause =
       spent_or (amid origin (body.set more) spot) one why cause
@@ -231,12 +231,12 @@ module _ (f : Frame) (w : WorldValue) (s : Store) (q : PortState) where
       (λ key. did (event.Reset key) [] (amid origin (body.reset more) spot) s (remove_from q key)) cause
   cause_next why _ _ (is_amid origin (body.create process terms) rest spot has) cause =
       on_err (values_at (environment f.d.system f.who s q) (parameters_of f.d.system process) terms) why (failing s q)
-      (λ values. on_option w.census nothing (made f w (doing origin spot) s q process values)) cause
+      (λ values. on_option w.living nothing (made f w (doing origin spot) s q process values)) cause
   cause_next why _ _ at cause = absurd cause
 
   -- ---- the failure
 
-  pub fails : (why : Failure) (at : Place) (site : Site) (calls : List PortEvent) (done : List Act) (to : Place)
+  pub fails : (why : Failure) (at : ControlPoint) (site : Site) (calls : List PortEvent) (done : List Effect) (to : ControlPoint)
       (t : Store) (r : PortState) → is_want why ≡ false → IsAt f.nodes f.marks at site
       → Happens f.d f.who q at s (event.Failed why) calls done to t → IsLegal q calls r
       → Comes f w site s q (event.Failed why) done to t r

@@ -15,12 +15,12 @@ use Rattle.run_evaluation.specs.declared.store.Store.{Store}
 use Rattle.run_record.specs.Event as event
 use Rattle.run_record.specs.Event.{Event, values_got}
 use Rattle.run_record.specs.declared.failure.Failure.{Failure}
-use Rattle.run_semantics.specs.Act.{Act}
+use Rattle.run_semantics.specs.Effect.{Effect}
 use Rattle.run_semantics.specs.Fails.{FailsIn, of_condition, of_continuous, of_event, of_take, of_trying}
 use Rattle.run_semantics.specs.Goes.{IsFirst}
-use Rattle.run_semantics.specs.Leads.{Consumes, ConsumesFirst, Discards, FailsHere, Happens, Provides}
-use Rattle.run_semantics.specs.Place as place
-use Rattle.run_semantics.specs.Place.{Place}
+use Rattle.run_semantics.specs.Leads.{Consumes, ConsumesPriority, Discards, FailsHere, Happens, Provides}
+use Rattle.run_semantics.specs.ControlPoint as place
+use Rattle.run_semantics.specs.ControlPoint.{ControlPoint}
 use Rattle.run_semantics.specs.Reception.{provided, taking}
 use Rattle.run_semantics.specs.Reception as reception
 use Rattle.run_semantics.specs.Selection.{Selects, Tried, begins, class_by, fails, first_failure, none_true, tried}
@@ -120,22 +120,22 @@ module _ (f : Frame) (s : Store) (q : PortState) (at : ℕ) (n : StateId) where
 -- ---- the first event
 
 -- what begins a step from a place, at this time
-abbrev pub First : Frame → Store → PortState → ℕ → Place → Next → Type 0
+abbrev pub First : Frame → Store → PortState → ℕ → ControlPoint → Next → Type 0
 First f s q now place.AtStart x =
     x ≡ did (event.Start now) [] (doing None (slice_get f.entries f.d.behaviour.start))
     (record s { time = now; done = 0 }) q
 First f s q now (place.In n) x = Begins f s q now n x
 First f s q now at x = ⊥
 
-pub first_one : (f : Frame) (s : Store) (q : PortState) (now : ℕ) (at : Place) (x y : Next) → First f s q now at x
+pub first_one : (f : Frame) (s : Store) (q : PortState) (now : ℕ) (at : ControlPoint) (x y : Next) → First f s q now at x
     → First f s q now at y → x ≡ y
 first_one f s q now place.AtStart x y first second = first ∙ sym second
 first_one f s q now (place.In n) x y first second = begins_one f s q now n x y first second
 first_one f s q now at x y first second = absurd first
 
 -- the event begins a step, and leads to a place that is known
-pub record FirstComes (f : Frame) (s : Store) (q : PortState) (now : ℕ) (at : Place) (happened : Event)
-    (done : List Act) (to : Place) (t : Store) (r : PortState) : Type 0 where
+pub record FirstComes (f : Frame) (s : Store) (q : PortState) (now : ℕ) (at : ControlPoint) (happened : Event)
+    (done : List Effect) (to : ControlPoint) (t : Store) (r : PortState) : Type 0 where
   pub after : Site
   pub at_site : IsAt f.nodes f.marks to after
   pub first : First f s q now at (did happened done after t r)
@@ -159,7 +159,7 @@ module _ (f : Frame) (table : IsTableOf f.d.behaviour.bodies f.entries f.nodes) 
       subst (λ m. Has f.nodes m (slice_get f.entries number) whole None) marks
       (subst (λ p. Has f.nodes table.marks p whole None) (sym begins.listed) begins.stands.has)
 
-  module _ (s : Store) (q : PortState) (calls : List PortEvent) (done : List Act) (to : Place) (t : Store)
+  module _ (s : Store) (q : PortState) (calls : List PortEvent) (done : List Effect) (to : ControlPoint) (t : Store)
       (r : PortState) (legal : IsLegal q calls r) where
     started : (at : ℕ) → Happens f.d f.who q place.AtStart s (event.Start at) calls done to t
         → FirstComes f s q at place.AtStart (event.Start at) done to t r
@@ -198,10 +198,10 @@ module _ (f : Frame) (table : IsTableOf f.d.behaviour.bodies f.entries f.nodes) 
               (took c.classes (Consumed got) c.calls_are));
         }
 
-    prior : (n : StateId) (at : ℕ) (got : Got) → (done ≡ []) × ConsumesFirst f.d f.who q n s at got calls to t
+    prior : (n : StateId) (at : ℕ) (got : Got) → (done ≡ []) × ConsumesPriority f.d f.who q n s at got calls to t
         → FirstComes f s q at (place.In n) (event.Prior at got) done to t r
     prior n at got h =
-        let c : ConsumesFirst f.d f.who q n s at got calls to t = h.1 in
+        let c : ConsumesPriority f.d f.who q n s at got calls to t = h.1 in
         let spot = slice_get f.entries c.inputs.number in
         let site : Site = receiving (Some n) c.variables (values_got got) spot in
         record {
@@ -284,7 +284,7 @@ module _ (f : Frame) (table : IsTableOf f.d.behaviour.bodies f.entries f.nodes) 
 
     -- ---- whatever it is
 
-    at_now : (from : Place) (at now : ℕ) (happened : Event) → at ≡ now → FirstComes f s q at from happened done to t r
+    at_now : (from : ControlPoint) (at now : ℕ) (happened : Event) → at ≡ now → FirstComes f s q at from happened done to t r
         → FirstComes f s q now from happened done to t r
     at_now from at now happened is comes = subst (λ k. FirstComes f s q k from happened done to t r) is comes
 
@@ -326,7 +326,7 @@ module _ (f : Frame) (table : IsTableOf f.d.behaviour.bodies f.entries f.nodes) 
     none_ended (event.FailedAt at why) first h = h
     none_ended happened first h = absurd first
 
-    pub first_comes : (at : Place) → IsBetween at → (now : ℕ) (happened : Event) → LacksNothing happened
+    pub first_comes : (at : ControlPoint) → IsBetween at → (now : ℕ) (happened : Event) → LacksNothing happened
         → IsFirst happened → IsAtTime now happened → Happens f.d f.who q at s happened calls done to t
         → FirstComes f s q now at happened done to t r
     first_comes place.AtStart between now happened lacks first is h = comes_at_start now happened first is h

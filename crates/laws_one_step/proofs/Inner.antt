@@ -15,13 +15,13 @@ use Rattle.run_record.specs.Event as event
 use Rattle.run_record.specs.Event.{Event}
 use Rattle.run_record.specs.declared.failure.Failure.{Failure}
 use Rattle.run_record.specs.declared.failure.Failure.TheVariants.{SetsSpent, Undefined}
-use Rattle.run_semantics.specs.Act.{Act, Arm, Send}
+use Rattle.run_semantics.specs.Effect.{Effect, Arm, Send}
 use Rattle.run_semantics.specs.Fails.{parameters_of, sent_by, set_by}
 use Rattle.run_semantics.specs.Leads.{Assigns, Creates, Happens, Sends, Sets, created, offspring_of}
-use Rattle.run_semantics.specs.Place as place
-use Rattle.run_semantics.specs.Place.{IsState, Place}
+use Rattle.run_semantics.specs.ControlPoint as place
+use Rattle.run_semantics.specs.ControlPoint.{IsState, ControlPoint}
 use Rattle.run_semantics.specs.Reception.{assigned, sort_in}
-use Rattle.run_semantics.specs.World.{Census, IsNumber, IsRoute, IsRouteBy, WorldValue, number_for}
+use Rattle.run_semantics.specs.World.{Living, IsNumber, IsRoute, IsRouteBy, WorldValue, number_for}
 use Rattle.sdl_system.specs.Body as body
 use Rattle.sdl_system.specs.Body.{Action, Assigning, Body, Sending, Setting, Terminator, Timing, Whither}
 use Rattle.sdl_system.specs.Route.{target_in}
@@ -36,12 +36,12 @@ use Rattle.sdl_system.specs.declared.route.Source.TheVariants as source
 use Rattle.sdl_system.specs.declared.route.Target.{Target}
 use Rattle.sdl_system.specs.declared.statement.Statement.{Statement}
 use Rattle.sdl_system.specs.declared.statement.Statement.TheVariants as kind
-use Rattle.laws_one_step.proofs.Next.{Frame, IsAt, Next, Site, acts, amid, at_head, at_node, at_state, did, doing, ending, ends, entering, failing, head_of, is_amid, is_doing, is_over, is_state, made, next_of, node_at, nothing, on_option, on_result, on_test, over, reached, sent, set_at, set_or_spent}
+use Rattle.laws_one_step.proofs.Next.{Frame, IsAt, Next, Site, effects, amid, at_head, at_node, at_state, did, doing, ending, ends, entering, failing, head_of, is_amid, is_doing, is_over, is_state, made, next_of, node_at, nothing, on_option, on_result, on_test, over, reached, sent, set_at, set_or_spent}
 use Rattle.laws_one_step.proofs.Ways.{at_is}
 
 -- the event is what comes next, and leads to a place that is known
 pub record Comes (f : Frame) (w : WorldValue) (site : Site) (s : Store) (q : PortState) (happened : Event)
-    (done : List Act) (to : Place) (t : Store) (r : PortState) : Type 0 where
+    (done : List Effect) (to : ControlPoint) (t : Store) (r : PortState) : Type 0 where
   pub after : Site
   pub at : IsAt f.nodes f.marks to after
   pub is : next_of f w site s q ≡ did happened done after t r
@@ -62,9 +62,9 @@ on_true b met unmet is = ap (λ x. on_test x met unmet) is
 pub on_false : (b : Bool) (met unmet : Next) → b ≡ false → on_test b met unmet ≡ unmet
 on_false b met unmet is = ap (λ x. on_test x met unmet) is
 
-pub did_same : (e e' : Event) (a a' : List Act) (site : Site) (t t' : Store) (r r' : PortState) → e' ≡ e → a' ≡ a
+pub did_same : (e e' : Event) (a a' : List Effect) (site : Site) (t t' : Store) (r r' : PortState) → e' ≡ e → a' ≡ a
     → t' ≡ t → r' ≡ r → did e a site t r ≡ did e' a' site t' r'
-did_same e e' a a' site t t' r r' is_event are_acts is_store is_port = cc
+did_same e e' a a' site t t' r r' is_event are_effects is_store is_port = cc
 
 pub no_calls : (q r : PortState) (calls : List PortEvent) → calls ≡ [] → IsLegal q calls r → r ≡ q
 no_calls q r calls none legal = subst (λ c. IsLegal q c r) none legal
@@ -78,18 +78,18 @@ one_call q r calls call one legal =
 
 -- ---- where a body has
 
-pub head_acts : (statement : Statement) (action : Action) → action_of statement ≡ Some action
-    → head_of statement ≡ acts action
-head_acts (kind.Task list) action is = cc
-head_acts (kind.Output sends) action is = cc
-head_acts (kind.Set list) action is = cc
-head_acts (kind.Reset list) action is = cc
-head_acts (kind.Create creation) action is = cc
-head_acts (kind.Decision asked) action is = let wrong : ⊥ = cc in absurd wrong
-head_acts (kind.Join label) action is = let wrong : ⊥ = cc in absurd wrong
-head_acts (kind.NextState state) action is = let wrong : ⊥ = cc in absurd wrong
-head_acts kind.SameState action is = let wrong : ⊥ = cc in absurd wrong
-head_acts kind.Stop action is = let wrong : ⊥ = cc in absurd wrong
+pub head_effects : (statement : Statement) (action : Action) → action_of statement ≡ Some action
+    → head_of statement ≡ effects action
+head_effects (kind.Task list) action is = cc
+head_effects (kind.Output sends) action is = cc
+head_effects (kind.Set list) action is = cc
+head_effects (kind.Reset list) action is = cc
+head_effects (kind.Create creation) action is = cc
+head_effects (kind.Decision asked) action is = let wrong : ⊥ = cc in absurd wrong
+head_effects (kind.Join label) action is = let wrong : ⊥ = cc in absurd wrong
+head_effects (kind.NextState state) action is = let wrong : ⊥ = cc in absurd wrong
+head_effects kind.SameState action is = let wrong : ⊥ = cc in absurd wrong
+head_effects kind.Stop action is = let wrong : ⊥ = cc in absurd wrong
 
 pub head_ends : (statement : Statement) (terminator : Terminator) → terminator_of statement ≡ Some terminator
     → head_of statement ≡ ends terminator
@@ -115,8 +115,8 @@ ends_next f w origin terminator at s q has =
 
 -- ---- events of statements
 
-module _ (f : Frame) (w : WorldValue) (s : Store) (q : PortState) (calls : List PortEvent) (done : List Act)
-    (to : Place)
+module _ (f : Frame) (w : WorldValue) (s : Store) (q : PortState) (calls : List PortEvent) (done : List Effect)
+    (to : ControlPoint)
     (t : Store) (r : PortState) (legal : IsLegal q calls r) where
   pub assigns : (origin : Option StateId) (one : Assigning) (more : List Assigning) (rest : Body) (spot : Option NodeId)
       (variable : VariableId) (value : Value) → Has f.nodes f.marks spot rest None
@@ -144,34 +144,34 @@ module _ (f : Frame) (w : WorldValue) (s : Store) (q : PortState) (calls : List 
 
   pub sends : (origin : Option StateId) (one : Sending) (more : List Sending) (whom : Option Whither) (rest : Body)
       (spot : Option NodeId) (signal : SignalId) (named : Dest) (values : List Value) (target : Target)
-      (census : Census) → w.census ≡ Some census → IsRoute w signal f.who.process named target
+      (living : Living) → w.living ≡ Some living → IsRoute w signal f.who.process named target
       → Has f.nodes f.marks spot rest None
       → Happens f.d f.who q (place.Amid origin (body.output (one ∷ more) whom) rest) s
       (event.Output signal named values target) calls done to t
       → Comes f w (amid origin (body.output (one ∷ more) whom) spot) s q (event.Output signal named values target) done
       to t r
-  sends origin one more whom rest spot signal named values target census known route has h =
+  sends origin one more whom rest spot signal named values target living known route has h =
       let sends : Sends f.d f.who q whom one s signal named values target done = h.3 in
       let site : Site = amid origin (body.output more whom) spot in
-      let routed : target ≡ target_in w.system.routes signal (source.Process f.who.process) named census.least =
+      let routed : target ≡ target_in w.system.routes signal (source.Process f.who.process) named living.least =
       subst (λ o. IsRouteBy w.system o signal f.who.process named target) known route in
-      let aim : target ≡ reached f w census one named =
+      let aim : target ≡ reached f w living one named =
       routed
-      ∙ ap (λ x. target_in w.system.routes x (source.Process f.who.process) named census.least) sends.is in
+      ∙ ap (λ x. target_in w.system.routes x (source.Process f.who.process) named living.least) sends.is in
       record {
         after = site;
         at = subst (λ p. IsAt f.nodes f.marks p site) (sym h.1)
             (is_amid origin (body.output more whom) rest spot has);
         is = on_ok (sent_by f.d.system (environment f.d.system f.who s q) whom one) (named, values) (failing s q)
-            (λ pair. on_option w.census nothing (sent f w site s q one pair.0 pair.1)) sends.evaluated
-            ∙ on_some w.census census nothing (sent f w site s q one named values) known
-            ∙ did_same (event.Output one.signal named values (reached f w census one named))
+            (λ pair. on_option w.living nothing (sent f w site s q one pair.0 pair.1)) sends.evaluated
+            ∙ on_some w.living living nothing (sent f w site s q one named values) known
+            ∙ did_same (event.Output one.signal named values (reached f w living one named))
             (event.Output signal named values target)
-            (Send (reached f w census one named)
+            (Send (reached f w living one named)
             (record { name = one.signal; values = values; sender = Of f.who.pid }) ∷ []) done site s t q r
             (ap (λ x. event.Output x named values target) sends.is
             ∙ ap (λ x. event.Output one.signal named values x) aim)
-            (sends.acts_are
+            (sends.effects_are
             ∙ ap (λ x. Send target (record { name = x; values = values; sender = Of f.who.pid }) ∷ []) sends.is
             ∙ ap (λ x. Send x (record { name = one.signal; values = values; sender = Of f.who.pid }) ∷ []) aim)
             h.2 (no_calls q r calls h.0 legal);
@@ -195,7 +195,7 @@ module _ (f : Frame) (w : WorldValue) (s : Store) (q : PortState) (calls : List 
             (ne_eqb q.sets MOST_SETS sets.numbered)
             ∙ did_same (event.Set key due) (event.Set key due)
             (Arm (record { pid = f.who.pid; key = key; arm = q.sets + 1; due = due }) ∷ []) done site s t
-            (set_in q key due) r refl sets.acts_are h.1 step.2;
+            (set_in q key due) r refl sets.effects_are h.1 step.2;
       }
 
   pub resets : (origin : Option StateId) (one : Timing) (more : List Timing) (rest : Body) (spot : Option NodeId)
@@ -214,30 +214,30 @@ module _ (f : Frame) (w : WorldValue) (s : Store) (q : PortState) (calls : List 
       }
 
   pub creates : (origin : Option StateId) (process : ProcessId) (terms : List Term) (rest : Body) (spot : Option NodeId)
-      (given : ProcessId) (number : Option ℕ) (census : Census) → w.census ≡ Some census → IsNumber w given number
+      (given : ProcessId) (number : Option ℕ) (living : Living) → w.living ≡ Some living → IsNumber w given number
       → Has f.nodes f.marks spot rest None
       → Happens f.d f.who q (place.Amid origin (body.create process terms) rest) s (event.Create given number) calls
       done to t
       → Comes f w (amid origin (body.create process terms) spot) s q (event.Create given number) done to t r
-  creates origin process terms rest spot given number census known is_number has h =
+  creates origin process terms rest spot given number living known is_number has h =
       let creates : Creates f.d f.who q process terms s number done t = h.3 in
       let site : Site = doing origin spot in
-      let next : number ≡ number_for w.system census given =
-      subst (λ o. IfSome o (λ census. number ≡ number_for w.system census given)) known is_number in
-      let is_next : number ≡ number_for w.system census process =
-      next ∙ ap (λ p. number_for w.system census p) h.1 in
+      let next : number ≡ number_for w.system living given =
+      subst (λ o. IfSome o (λ living. number ≡ number_for w.system living given)) known is_number in
+      let is_next : number ≡ number_for w.system living process =
+      next ∙ ap (λ p. number_for w.system living p) h.1 in
       record {
         after = site;
         at = subst (λ p. IsAt f.nodes f.marks p site) (sym h.2) (is_doing origin rest spot has);
         is = on_ok (values_at (environment f.d.system f.who s q) (parameters_of f.d.system process) terms)
             creates.values (failing s q)
-            (λ values. on_option w.census nothing (made f w site s q process values)) creates.evaluated
-            ∙ on_some w.census census nothing (made f w site s q process creates.values) known
-            ∙ did_same (event.Create process (number_for w.system census process)) (event.Create given number)
-            (created process f.who.pid creates.values (number_for w.system census process)) done site
-            (record s { offspring = offspring_of (number_for w.system census process) }) t q r
+            (λ values. on_option w.living nothing (made f w site s q process values)) creates.evaluated
+            ∙ on_some w.living living nothing (made f w site s q process creates.values) known
+            ∙ did_same (event.Create process (number_for w.system living process)) (event.Create given number)
+            (created process f.who.pid creates.values (number_for w.system living process)) done site
+            (record s { offspring = offspring_of (number_for w.system living process) }) t q r
             (ap (λ p. event.Create p number) h.1 ∙ ap (λ n. event.Create process n) is_next)
-            (creates.acts_are ∙ ap (λ n. created process f.who.pid creates.values n) is_next)
+            (creates.effects_are ∙ ap (λ n. created process f.who.pid creates.values n) is_next)
             (creates.store ∙ ap (λ n. record s { offspring = offspring_of n }) is_next)
             (no_calls q r calls h.0 legal);
       }

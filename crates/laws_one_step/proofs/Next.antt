@@ -13,13 +13,13 @@ use Rattle.run_record.specs.Event as event
 use Rattle.run_record.specs.Event.{Event}
 use Rattle.run_record.specs.declared.failure.Failure.{Failure}
 use Rattle.run_record.specs.declared.failure.Failure.TheVariants.{NoAnswer, SetsSpent, TooLong, Undefined}
-use Rattle.run_semantics.specs.Act.{Act, Arm, Send}
+use Rattle.run_semantics.specs.Effect.{Effect, Arm, Send}
 use Rattle.run_semantics.specs.Fails.{most_statements, parameters_of, sent_by, set_by}
 use Rattle.run_semantics.specs.Leads.{created, offspring_of}
-use Rattle.run_semantics.specs.Place as place
-use Rattle.run_semantics.specs.Place.{Definition, Place}
+use Rattle.run_semantics.specs.ControlPoint as place
+use Rattle.run_semantics.specs.ControlPoint.{Definition, ControlPoint}
 use Rattle.run_semantics.specs.Reception.{assigned, sort_in}
-use Rattle.run_semantics.specs.World.{Census, WorldValue, number_for}
+use Rattle.run_semantics.specs.World.{Living, WorldValue, number_for}
 use Rattle.sdl_system.specs.Body as body
 use Rattle.sdl_system.specs.Body.{Action, Assigning, Body, Sending, Setting, Terminator, Timing, Whither}
 use Rattle.sdl_system.specs.Route.{target_in}
@@ -52,7 +52,7 @@ pub data Site : Type 0 where
   amid : (origin : Option StateId) (action : Action) (node : Option NodeId) → Site
   over : Site
 
-pub data IsAt (nodes : List Node) (marks : List (Option NodeId)) : Place → Site → Type 0 where
+pub data IsAt (nodes : List Node) (marks : List (Option NodeId)) : ControlPoint → Site → Type 0 where
   is_start : IsAt nodes marks place.AtStart at_start
   is_state : (state : StateId) → IsAt nodes marks (place.In state) (at_state state)
   is_receiving : (origin : Option StateId) (variables : List (Option VariableId)) (values : List Value) (todo : Body)
@@ -78,7 +78,7 @@ pub record Frame : Type 0 where
 pub data Next : Type 0 where
   nothing : Next
   turned : (site : Site) (t : Store) → Next
-  did : (happened : Event) (acts : List Act) (site : Site) (t : Store) (r : PortState) → Next
+  did : (happened : Event) (effects : List Effect) (site : Site) (t : Store) (r : PortState) → Next
 
 abbrev pub failing : Store → PortState → Failure → Next
 failing s q why = did (event.Failed why) [] over s (stopped q)
@@ -106,16 +106,16 @@ counting s q next =
 -- ---- at a node
 
 pub data Head : Type 0 where
-  acts : (action : Action) → Head
+  effects : (action : Action) → Head
   asks : (asked : Decision) → Head
   ends : (terminator : Terminator) → Head
 
 abbrev pub head_of : Statement → Head
-head_of (kind.Task list) = acts (body.task (map assigning list.items))
-head_of (kind.Output sends) = acts (body.output (map sending sends.signals.items) (option_map whither_of sends.to))
-head_of (kind.Set list) = acts (body.set (map setting list.items))
-head_of (kind.Reset list) = acts (body.reset (map timing list.items))
-head_of (kind.Create creation) = acts (body.create creation.process (map term_of creation.values.items))
+head_of (kind.Task list) = effects (body.task (map assigning list.items))
+head_of (kind.Output sends) = effects (body.output (map sending sends.signals.items) (option_map whither_of sends.to))
+head_of (kind.Set list) = effects (body.set (map setting list.items))
+head_of (kind.Reset list) = effects (body.reset (map timing list.items))
+head_of (kind.Create creation) = effects (body.create creation.process (map term_of creation.values.items))
 head_of (kind.Decision asked) = asks asked
 head_of (kind.Join label) = ends (body.join label)
 head_of (kind.NextState state) = ends (body.to_state state)
@@ -149,7 +149,7 @@ deciding f origin s q asked t =
     (λ value. on_option (way_of asked value) (failing s q NoAnswer) (λ way. turned (doing origin way.0) t))
 
 abbrev pub at_head : Frame → Option StateId → Store → PortState → Option NodeId → Head → Next
-at_head f origin s q after (acts action) = counting s q (turned (amid origin action after))
+at_head f origin s q after (effects action) = counting s q (turned (amid origin action after))
 at_head f origin s q after (asks asked) = counting s q (deciding f origin s q asked)
 at_head f origin s q after (ends terminator) = ending f origin s q terminator
 
@@ -164,20 +164,20 @@ assigning_next f site s q one =
     (failing s q)
     (λ value. did (event.Task one.variable value) [] site (assigned one.variable value s) q)
 
-abbrev pub reached : Frame → WorldValue → Census → Sending → Dest → Target
-reached f w census one named =
-    target_in w.system.routes one.signal (source.Process f.who.process) named census.least
+abbrev pub reached : Frame → WorldValue → Living → Sending → Dest → Target
+reached f w living one named =
+    target_in w.system.routes one.signal (source.Process f.who.process) named living.least
 
-abbrev pub sent : Frame → WorldValue → Site → Store → PortState → Sending → Dest → List Value → Census → Next
-sent f w site s q one named values census =
-    did (event.Output one.signal named values (reached f w census one named))
-    (Send (reached f w census one named) (record { name = one.signal; values = values; sender = Of f.who.pid }) ∷ [])
+abbrev pub sent : Frame → WorldValue → Site → Store → PortState → Sending → Dest → List Value → Living → Next
+sent f w site s q one named values living =
+    did (event.Output one.signal named values (reached f w living one named))
+    (Send (reached f w living one named) (record { name = one.signal; values = values; sender = Of f.who.pid }) ∷ [])
     site s q
 
 abbrev pub sending_next : Frame → WorldValue → Site → Store → PortState → Option Whither → Sending → Next
 sending_next f w site s q to one =
     on_result (sent_by f.d.system (environment f.d.system f.who s q) to one) (failing s q)
-    (λ named. on_option w.census nothing (sent f w site s q one named.0 named.1))
+    (λ named. on_option w.living nothing (sent f w site s q one named.0 named.1))
 
 -- a set for which the port has a number left
 abbrev pub set_at : Frame → Site → Store → PortState → ℕ → TimerKey → Next
@@ -199,16 +199,16 @@ resetting_next f site s q one =
     on_result (key_at (environment f.d.system f.who s q) one.timer one.values) (failing s q)
     (λ key. did (event.Reset key) [] site s (remove_from q key))
 
-abbrev pub made : Frame → WorldValue → Site → Store → PortState → ProcessId → List Value → Census → Next
-made f w site s q process values census =
-    did (event.Create process (number_for w.system census process))
-    (created process f.who.pid values (number_for w.system census process)) site
-    (record s { offspring = offspring_of (number_for w.system census process) }) q
+abbrev pub made : Frame → WorldValue → Site → Store → PortState → ProcessId → List Value → Living → Next
+made f w site s q process values living =
+    did (event.Create process (number_for w.system living process))
+    (created process f.who.pid values (number_for w.system living process)) site
+    (record s { offspring = offspring_of (number_for w.system living process) }) q
 
 abbrev pub creating_next : Frame → WorldValue → Site → Store → PortState → ProcessId → List Term → Next
 creating_next f w site s q process terms =
     on_result (values_at (environment f.d.system f.who s q) (parameters_of f.d.system process) terms) (failing s q)
-    (λ values. on_option w.census nothing (made f w site s q process values))
+    (λ values. on_option w.living nothing (made f w site s q process values))
 
 abbrev pub acting_next : Frame → WorldValue → Option StateId → Action → Option NodeId → Store → PortState → Next
 acting_next f w origin (body.task []) after s q = turned (doing origin after) s

@@ -6,19 +6,19 @@ use Rattle.port_model.specs.declared.taken.Taken.TheVariants.{Nothing}
 use Rattle.run_evaluation.specs.declared.identity.Identity.{Identity}
 use Rattle.run_evaluation.specs.declared.store.Store.{Store}
 use Rattle.run_semantics.proofs.Deeds.{calls_of-append}
-use Rattle.run_semantics.specs.Act.{Deed, calls_of}
-use Rattle.run_semantics.specs.Leads.{Leads, Turns}
-use Rattle.run_semantics.specs.Place.{Definition, Place}
-use Rattle.run_semantics.specs.Runs.{Runs, acts, hears, is_outside, outside_of, own_of, still, turns, waits}
+use Rattle.run_semantics.specs.Effect.{Deed, calls_of}
+use Rattle.run_semantics.specs.Leads.{Leads, LeadsSilently}
+use Rattle.run_semantics.specs.ControlPoint.{Definition, ControlPoint}
+use Rattle.run_semantics.specs.Runs.{Runs, effects, hears, is_outside, outside_of, own_of, still, turns, waits}
 
 -- from a place, what is known there and a port, by these deeds
-pub data Path (d : Definition) (who : Identity) (to : Place) (t : Store) (r : PortState)
-    : Place → Store → PortState → List Deed → Type 0 where
+pub data Path (d : Definition) (who : Identity) (to : ControlPoint) (t : Store) (r : PortState)
+    : ControlPoint → Store → PortState → List Deed → Type 0 where
   path_ends : Path d who to t r to t r []
-  path_acts : (at mid : Place) (s u : Store) (q m : PortState) (deed : Deed) (rest : List Deed)
+  path_effects : (at mid : ControlPoint) (s u : Store) (q m : PortState) (deed : Deed) (rest : List Deed)
       → Leads d who q at s deed mid u → IsLegal q deed.calls m → Path d who to t r mid u m rest
       → Path d who to t r at s q (deed ∷ rest)
-  path_turns : (at mid : Place) (s u : Store) (q : PortState) (deeds : List Deed) → Turns d who q at s mid u
+  path_turns : (at mid : ControlPoint) (s u : Store) (q : PortState) (deeds : List Deed) → LeadsSilently d who q at s mid u
       → Path d who to t r mid u q deeds → Path d who to t r at s q deeds
 
 -- ---- nothing comes from outside, and nothing else is called
@@ -52,12 +52,12 @@ calls_more deeds deed =
 more_events : (history more : List PortEvent) → length (history ++ more) ≡ length history + length more
 more_events history more = length-append history more
 
-module _ (d : Definition) (who : Identity) (from : Place) (s : Store) (q : PortState) where
+module _ (d : Definition) (who : Identity) (from : ControlPoint) (s : Store) (q : PortState) where
   -- the deeds' calls are among the history
-  calls_within : {deeds : List Deed} {history : List PortEvent} {to : Place} {t : Store} {r : PortState}
+  calls_within : {deeds : List Deed} {history : List PortEvent} {to : ControlPoint} {t : Store} {r : PortState}
       → Runs d who from s q deeds history to t r → length (calls_of deeds) ≤ length history
   calls_within still = omega arith
-  calls_within (acts {deeds = deeds} {history = history} before deed to t r leads legal) =
+  calls_within (effects {deeds = deeds} {history = history} before deed to t r leads legal) =
       let more = calls_more deeds deed in
       let longer = more_events history deed.calls in
       let within = calls_within before in omega (arith, more, longer, within)
@@ -70,12 +70,12 @@ module _ (d : Definition) (who : Identity) (from : Place) (s : Store) (q : PortS
       let within = calls_within before in omega (arith, longer, within)
 
   -- with a path behind them, they are a path
-  pub path_from : {deeds : List Deed} {history : List PortEvent} {mid : Place} {u : Store} {m : PortState}
+  pub path_from : {deeds : List Deed} {history : List PortEvent} {mid : ControlPoint} {u : Store} {m : PortState}
       → Runs d who from s q deeds history mid u m → length history ≡ length (calls_of deeds) → (later : List Deed)
-      → (to : Place) (t : Store) (r : PortState) → Path d who to t r mid u m later
+      → (to : ControlPoint) (t : Store) (r : PortState) → Path d who to t r mid u m later
       → Path d who to t r from s q (deeds ++ later)
   path_from still same later to t r path = path
-  path_from (acts {deeds = deeds} {history = history} {at = at} {mid = mid} {port = port} before deed after u m leads
+  path_from (effects {deeds = deeds} {history = history} {at = at} {mid = mid} {port = port} before deed after u m leads
       legal)
       same later to t r path =
       let more = calls_more deeds deed in
@@ -83,7 +83,7 @@ module _ (d : Definition) (who : Identity) (from : Place) (s : Store) (q : PortS
       let equal : length history ≡ length (calls_of deeds) = omega (arith, more, longer, same) in
       subst (λ list. Path d who to t r from s q list) (sym (append_assoc deeds (deed ∷ []) later))
       (path_from before equal (deed ∷ later) to t r
-      (path_acts at after mid u port m deed later leads legal path))
+      (path_effects at after mid u port m deed later leads legal path))
   path_from (turns {at = at} {mid = mid} {port = port} before after u turn) same later to t r path =
       path_from before same later to t r (path_turns at after mid u port later turn path)
   path_from (hears {deeds = deeds} {history = history} before heard m outside step) same later to t r path =

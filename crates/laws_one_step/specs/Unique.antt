@@ -5,12 +5,12 @@ use Rattle.run_record.specs.Event as event
 use Rattle.run_record.specs.Event.{Event}
 use Rattle.run_record.specs.declared.failure.Failure.{Failure}
 use Rattle.run_record.specs.declared.failure.Failure.TheVariants.{Memory}
-use Rattle.run_semantics.specs.Act.{Deed, acts_of, events_of}
+use Rattle.run_semantics.specs.Effect.{Deed, effects_of, events_of}
 use Rattle.run_semantics.specs.Behaves.{Behaves}
 use Rattle.run_semantics.specs.Goes.{Goes, IsOneStep, MachineValue}
 use Rattle.run_semantics.specs.Leads.{IsQuiet}
-use Rattle.run_semantics.specs.Place.{AtStart, Definition, Ended, In, Place}
-use Rattle.run_semantics.specs.World.{Census, WorldValue}
+use Rattle.run_semantics.specs.ControlPoint.{AtStart, Definition, Ended, In, ControlPoint}
+use Rattle.run_semantics.specs.World.{Living, WorldValue}
 use Rattle.sdl_system.specs.declared.id.StateId.{StateId}
 use Rattle.sdl_system.specs.declared.process.Process.{Process}
 
@@ -37,18 +37,18 @@ LackNothing events = All LacksNothing events
 pub record IsKnown (w : WorldValue) : Type 0 where
   pub clock : ℕ
   pub clock_is : w.clock ≡ Some clock
-  pub census : Census
-  pub census_is : w.census ≡ Some census
+  pub living : Living
+  pub living_is : w.living ≡ Some living
 
 -- a place between two steps
-abbrev pub IsBetween : Place → Type 0
+abbrev pub IsBetween : ControlPoint → Type 0
 IsBetween AtStart = Unit {0}
 IsBetween (In state) = Unit {0}
 IsBetween Ended = Unit {0}
 IsBetween place = ⊥
 
 -- A step on what is in the port as it begins, in which no memory is wanting.
-pub record IsPlainStep (d : Definition) (from : Place) (m : MachineValue) (w : WorldValue) (counts : Bool) (to : Place)
+pub record IsPlainStep (d : Definition) (from : ControlPoint) (m : MachineValue) (w : WorldValue) (counts : Bool) (to : ControlPoint)
     (n : MachineValue) (v : WorldValue) : Type 0 where
   pub goes : Goes (IsOneStep counts) d from m w to n v
   pub undrawn : goes.news ≡ []
@@ -59,9 +59,9 @@ pub record IsPlainStep (d : Definition) (from : Place) (m : MachineValue) (w : W
 -- ---- the laws
 
 -- Both have the same events and acts, and end at the same place, with the same knowledge and port.
-pub record AreAlike (deeds others : List Deed) (one other : Bool) (to up : Place) (n o : MachineValue) : Type 0 where
+pub record AreAlike (deeds others : List Deed) (one other : Bool) (to up : ControlPoint) (n o : MachineValue) : Type 0 where
   pub events : events_of deeds ≡ events_of others
-  pub acts : acts_of deeds ≡ acts_of others
+  pub effects : effects_of deeds ≡ effects_of others
   pub counts : one ≡ other
   pub place : to ≡ up
   pub store : n.store ≡ o.store
@@ -70,8 +70,8 @@ pub record AreAlike (deeds others : List Deed) (one other : Bool) (to up : Place
 -- Two steps of one instance from one place are alike.
 abbrev pub StepsAlike : Type 0
 StepsAlike =
-    (d : Definition) (process : Process) (from : Place) (m : MachineValue) (w : WorldValue) (one other : Bool)
-    (to up : Place) (n o : MachineValue) (v u : WorldValue)
+    (d : Definition) (process : Process) (from : ControlPoint) (m : MachineValue) (w : WorldValue) (one other : Bool)
+    (to up : ControlPoint) (n o : MachineValue) (v u : WorldValue)
     → Behaves d.system process d.behaviour → IsKnown w → (first : IsPlainStep d from m w one to n v)
     → (second : IsPlainStep d from m w other up o u)
     → AreAlike first.goes.deeds second.goes.deeds one other to up n o
@@ -80,6 +80,6 @@ StepsAlike =
 abbrev pub RestsForNow : Type 0
 RestsForNow =
     (d : Definition) (process : Process) (state : StateId) (m : MachineValue) (w : WorldValue) (counts : Bool)
-    (to : Place) (n : MachineValue) (v : WorldValue) (classes : List Class)
+    (to : ControlPoint) (n : MachineValue) (v : WorldValue) (classes : List Class)
     → Behaves d.system process d.behaviour → IsKnown w → IsQuiet d m.who m.owner.state state m.store classes
     → IsPlainStep d (In state) m w counts to n v → ⊥

@@ -14,8 +14,8 @@ use Rattle.build_process.specs.Faulty.{body_faults}
 use Rattle.build_process.specs.Meant.{IsBehaviour}
 use Rattle.build_process.specs.Surroundings.{Surroundings}
 use Rattle.build_process.specs.declared.heading.Heading.{Heading}
-use Rattle.run_semantics.specs.Act.{Deed}
-use Rattle.run_semantics.specs.Place.{Definition, Place}
+use Rattle.run_semantics.specs.Effect.{Deed}
+use Rattle.run_semantics.specs.ControlPoint.{Definition, ControlPoint}
 use Rattle.run_semantics.specs.Runs.{Runs}
 use Rattle.build_operators.specs.declared.kind.Kind.{Kind}
 use Rattle.laws_sound_runs.specs.Sorts.{HaveSorts}
@@ -41,7 +41,7 @@ BehavioursAreSound =
 -- kind comes to is a value of that kind.
 abbrev pub RunsHaveKinds : Type 0
 RunsHaveKinds =
-    (d : Definition) (process : Process) (who : Identity) (from place : Place) (s t : Store) (q r : PortState)
+    (d : Definition) (process : Process) (who : Identity) (from place : ControlPoint) (s t : Store) (q r : PortState)
     (deeds : List Deed) (history : List PortEvent) (kind : Kind) (term : Term) (v : Value) → Means process d.behaviour
     → HaveSorts d.behaviour s.variables → Runs d who from s q deeds history place t r
     → HasKind d.system process kind term → value_of (environment d.system who t r) term ≡ Ok v

@@ -13,7 +13,7 @@ use Rattle.run_record.specs.declared.failure.Failure.{Failure}
 use Rattle.run_record.specs.declared.failure.Failure.TheVariants.{NoAnswer, Overflow, SetsSpent, TooLong, Undefined}
 use Rattle.run_semantics.specs.Fails.{FailsIn, HasCause, both, conditions_of, due_by, later, named_by, parameters_of, pid_named, sent_by, set_by, ticks_later, ticks_of}
 use Rattle.run_semantics.specs.Fails.{of_condition, of_continuous, of_event, of_take, of_trying}
-use Rattle.run_semantics.specs.Place.{Amid, AtStart, Closed, Definition, Doing, Ended, In, Place, Receiving}
+use Rattle.run_semantics.specs.ControlPoint.{Amid, AtStart, Closed, Definition, Doing, Ended, In, ControlPoint, Receiving}
 use Rattle.run_semantics.specs.Reception.{sort_in}
 use Rattle.run_semantics.specs.Selection.{Tried, failing, fails, first_failure, tried, tried_or}
 use Rattle.laws_sound_runs.proofs.PlaceLemmas.{comes-to-states}
@@ -284,7 +284,7 @@ module _ (d : Definition) (who : Identity) (q : PortState) (s : Store) where
   failed asks (Ok value) caused is = absurd (let never : ⊥ = cc in never)
   failed asks (Err why) caused is = caused (let same : why ≡ Undefined = cc in same)
 
-  at-place : (place : Place) → IsUnset s.variables (λ n. AsksAt n place) → IsUnassigned s.variables place
+  at-place : (place : ControlPoint) → IsUnset s.variables (λ n. AsksAt n place) → IsUnassigned s.variables place
   at-place place unset = record { number = unset.one; asked = unset.is_asked; unset = unset.none }
 
   no-unset : {A : Type 0} → IsUnset s.variables (λ n. ⊥) → A
@@ -299,7 +299,7 @@ module _ (d : Definition) (who : Identity) (q : PortState) (s : Store) where
   spent : {A : Type 0} → Undefined ≡ SetsSpent → A
   spent is = absurd (let never : ⊥ = cc in never)
 
-  unassigned : (place : Place) → (LeadsNowhere d place → ⊥) → HasCause d who q place s Undefined →
+  unassigned : (place : ControlPoint) → (LeadsNowhere d place → ⊥) → HasCause d who q place s Undefined →
       IsUnassigned s.variables place
   unassigned AtStart leads has = absurd has
   unassigned (In n) leads has = absurd has

@@ -7,10 +7,10 @@ use Rattle.run_evaluation.specs.declared.identity.Identity.{Identity}
 use Rattle.run_evaluation.specs.declared.store.Store.{Store}
 use Rattle.run_record.specs.Event as event
 use Rattle.run_record.specs.Event.{Event}
-use Rattle.run_semantics.specs.Act.{Act, Deed}
-use Rattle.run_semantics.specs.Leads.{Happens, Turns}
-use Rattle.run_semantics.specs.Place.{Amid, AtStart, Closed, Definition, Doing, Ended, In, IsState, Place, Receiving}
-use Rattle.run_semantics.specs.Runs.{Runs, acts, hears, still, turns, waits}
+use Rattle.run_semantics.specs.Effect.{Effect, Deed}
+use Rattle.run_semantics.specs.Leads.{Happens, LeadsSilently}
+use Rattle.run_semantics.specs.ControlPoint.{Amid, AtStart, Closed, Definition, Doing, Ended, In, IsState, ControlPoint, Receiving}
+use Rattle.run_semantics.specs.Runs.{Runs, effects, hears, still, turns, waits}
 use Rattle.laws_sound_runs.proofs.PathLemmas.{chosen-part, every-followed, every-from, every-part, reaches-also}
 use Rattle.laws_sound_runs.specs.RunLaws.{ComesToStates}
 use Rattle.laws_sound_runs.specs.Paths.{Meets, Reaches, at_end, at_once, behind_action, behind_label, by_join, by_part}
@@ -32,7 +32,7 @@ pub record IsGood (d : Definition) (origin : Option StateId) (b : Body) : Type 0
   pub led : AreLed (length d.behaviour.states) b
   pub begun : IsBegun d origin b
 
-abbrev pub IsGoodPlace : Definition → Place → Type 0
+abbrev pub IsGoodPlace : Definition → ControlPoint → Type 0
 IsGoodPlace d AtStart = Unit {0}
 IsGoodPlace d (In n) = IsState d n
 IsGoodPlace d (Receiving origin variables values next) = IsGood d origin next
@@ -45,7 +45,7 @@ module _ (d : Definition) (sound : LeadsToStates d.behaviour) where
   abbrev count : ℕ
   count = length d.behaviour.states
 
-  moved : (place to : Place) → to ≡ place → IsGoodPlace d place → IsGoodPlace d to
+  moved : (place to : ControlPoint) → to ≡ place → IsGoodPlace d place → IsGoodPlace d to
   moved place to is good = subst (IsGoodPlace d) (sym is) good
 
   -- a body with fewer paths
@@ -65,7 +65,7 @@ module _ (d : Definition) (sound : LeadsToStates d.behaviour) where
   from-state n number b is listed = record { led = sound.led number b listed; begun = is }
 
   module _ (who : Identity) (q : PortState) where
-    happens-good : (place : Place) (s : Store) (e : Event) (calls : List PortEvent) (done : List Act) (to : Place)
+    happens-good : (place : ControlPoint) (s : Store) (e : Event) (calls : List PortEvent) (done : List Effect) (to : ControlPoint)
         (t : Store) → IsGoodPlace d place → Happens d who q place s e calls done to t → IsGoodPlace d to
     happens-good AtStart s (event.Start at) calls done to t good happens =
         moved (Doing None happens.4.0) to happens.4.2
@@ -201,8 +201,8 @@ module _ (d : Definition) (sound : LeadsToStates d.behaviour) where
       begun = begun-joined origin l on from good.begun;
     }
 
-    turns-good : (place : Place) (s : Store) (to : Place) (t : Store) → IsGoodPlace d place →
-        Turns d who q place s to t → IsGoodPlace d to
+    turns-good : (place : ControlPoint) (s : Store) (to : ControlPoint) (t : Store) → IsGoodPlace d place →
+        LeadsSilently d who q place s to t → IsGoodPlace d to
     turns-good AtStart s to t good turn = absurd turn
     turns-good (In n) s to t good turn = absurd turn
     turns-good (Receiving origin (Some variable ∷ variables) (value ∷ values) next) s to t good turn =
@@ -247,18 +247,18 @@ module _ (d : Definition) (sound : LeadsToStates d.behaviour) where
     turns-good Closed s to t good turn = absurd turn
 
   module _ (who : Identity) (s : Store) (q : PortState) where
-    pub runs-good : {deeds : List Deed} {history : List PortEvent} {place : Place} {t : Store} {r : PortState} →
+    pub runs-good : {deeds : List Deed} {history : List PortEvent} {place : ControlPoint} {t : Store} {r : PortState} →
         Runs d who AtStart s q deeds history place t r → IsGoodPlace d place
     runs-good still = tt
-    runs-good (acts {at = at} {mid = mid} {port = port} before deed to t r leads legal) =
-        happens-good who port at mid deed.event deed.calls deed.acts to t (runs-good before) leads
+    runs-good (effects {at = at} {mid = mid} {port = port} before deed to t r leads legal) =
+        happens-good who port at mid deed.event deed.calls deed.effects to t (runs-good before) leads
     runs-good (turns {at = at} {mid = mid} {port = port} before to t turn) =
         turns-good who port at mid to t (runs-good before) turn
     runs-good (hears before heard r outside step) = runs-good before
     runs-good (waits before classes quiet step) = runs-good before
 
   -- no good place leads nowhere
-  pub leads-on : (place : Place) → IsGoodPlace d place → LeadsNowhere d place → ⊥
+  pub leads-on : (place : ControlPoint) → IsGoodPlace d place → LeadsNowhere d place → ⊥
   leads-on AtStart good nowhere = nowhere
   leads-on (In n) good nowhere = nowhere
   leads-on (Receiving origin variables values next) good nowhere = nowhere

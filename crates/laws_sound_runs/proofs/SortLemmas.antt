@@ -15,12 +15,12 @@ use Rattle.run_evaluation.specs.declared.store.Store.{Store}
 use Rattle.run_record.specs.Event as event
 use Rattle.run_record.specs.Event.{Event}
 use Rattle.run_record.specs.declared.failure.Failure.{Failure}
-use Rattle.run_semantics.specs.Act.{Act, Deed}
+use Rattle.run_semantics.specs.Effect.{Effect, Deed}
 use Rattle.run_semantics.specs.Instance.{parameters_from}
-use Rattle.run_semantics.specs.Leads.{Happens, Turns}
-use Rattle.run_semantics.specs.Place.{Amid, AtStart, Closed, Definition, Doing, Ended, In, Place, Receiving}
+use Rattle.run_semantics.specs.Leads.{Happens, LeadsSilently}
+use Rattle.run_semantics.specs.ControlPoint.{Amid, AtStart, Closed, Definition, Doing, Ended, In, ControlPoint, Receiving}
 use Rattle.run_semantics.specs.Reception.{assigned, sort_in}
-use Rattle.run_semantics.specs.Runs.{Runs, acts, hears, still, turns, waits}
+use Rattle.run_semantics.specs.Runs.{Runs, effects, hears, still, turns, waits}
 use Rattle.laws_sound_runs.specs.Sorts.{HaveSorts, RunsKeepSorts, StartsWithSorts, ValuesFitPlaces}
 use Rattle.sdl_system.proofs.OperationLemmas.{takes_sort}
 use Rattle.sdl_system.specs.Behaviour.{Behaviour, VariableMeaning}
@@ -112,7 +112,7 @@ module _ (d : Definition) (who : Identity) (q : PortState) where
       HaveSorts d.behaviour t.variables
   kept s t u is same have = same-sorts d.behaviour s t (ap variables_of is ∙ same) have
 
-  happens-sorted : (place : Place) (s : Store) (e : Event) (calls : List PortEvent) (done : List Act) (to : Place)
+  happens-sorted : (place : ControlPoint) (s : Store) (e : Event) (calls : List PortEvent) (done : List Effect) (to : ControlPoint)
       (t : Store) → HaveSorts d.behaviour s.variables → Happens d who q place s e calls done to t →
       HaveSorts d.behaviour t.variables
   happens-sorted AtStart s (event.Start at) calls done to t have happens =
@@ -247,8 +247,8 @@ module _ (d : Definition) (who : Identity) (q : PortState) where
   happens-sorted Closed s happened calls done to t have happens =
       absurd happens
 
-  turns-sorted : (place : Place) (s : Store) (to : Place) (t : Store) → HaveSorts d.behaviour s.variables →
-      Turns d who q place s to t → HaveSorts d.behaviour t.variables
+  turns-sorted : (place : ControlPoint) (s : Store) (to : ControlPoint) (t : Store) → HaveSorts d.behaviour s.variables →
+      LeadsSilently d who q place s to t → HaveSorts d.behaviour t.variables
   turns-sorted AtStart s to t have turn =
       absurd turn
   turns-sorted (In n) s to t have turn =
@@ -299,13 +299,13 @@ module _ (d : Definition) (who : Identity) (q : PortState) where
   turns-sorted Closed s to t have turn =
       absurd turn
 
-module _ (d : Definition) (who : Identity) (from : Place) (s : Store) (q : PortState)
+module _ (d : Definition) (who : Identity) (from : ControlPoint) (s : Store) (q : PortState)
     (have : HaveSorts d.behaviour s.variables) where
-  runs-sorted : {deeds : List Deed} {history : List PortEvent} {place : Place} {t : Store} {r : PortState} →
+  runs-sorted : {deeds : List Deed} {history : List PortEvent} {place : ControlPoint} {t : Store} {r : PortState} →
       Runs d who from s q deeds history place t r → HaveSorts d.behaviour t.variables
   runs-sorted still = have
-  runs-sorted (acts {at = at} {mid = mid} {port = port} before deed to t r leads legal) =
-      happens-sorted d who port at mid deed.event deed.calls deed.acts to t (runs-sorted before) leads
+  runs-sorted (effects {at = at} {mid = mid} {port = port} before deed to t r leads legal) =
+      happens-sorted d who port at mid deed.event deed.calls deed.effects to t (runs-sorted before) leads
   runs-sorted (turns {at = at} {mid = mid} {port = port} before to t turn) =
       turns-sorted d who port at mid to t (runs-sorted before) turn
   runs-sorted (hears before heard r outside step) = runs-sorted before

@@ -2,7 +2,7 @@
 use Rattle.std.specs.Prelude.{◌≡◌, ◌⊎◌, List, ◌∷◌, Option, None, Some}
 use Rattle.run_evaluation.specs.Variables.{VariableList, value_in}
 use Rattle.run_semantics.specs.Fails.{conditions_of}
-use Rattle.run_semantics.specs.Place.{Amid, Doing, Place}
+use Rattle.run_semantics.specs.ControlPoint.{Amid, Doing, ControlPoint}
 use Rattle.sdl_system.specs.Behaviour.{StateMeaning}
 use Rattle.sdl_system.specs.Body as body
 use Rattle.sdl_system.specs.Body.{When, Whither}
@@ -37,7 +37,7 @@ AsksWhen number (body.at time) = Asks number time
 AsksWhen number (body.after ticks) = ⊥
 
 -- what is evaluated at the place names the variable
-abbrev pub AsksAt : VariableId → Place → Type 0
+abbrev pub AsksAt : VariableId → ControlPoint → Type 0
 AsksAt number (Doing origin (body.decision question parts rest)) = Asks number question
 AsksAt number (Amid origin (body.task (one ∷ more)) rest) = Asks number one.value
 AsksAt number (Amid origin (body.output (one ∷ more) to) rest) = AsksWhom number to ⊎ AskListed number one.values
@@ -47,7 +47,7 @@ AsksAt number (Amid origin (body.create process values) rest) = AskListed number
 AsksAt number place = ⊥
 
 -- a variable that has no value is asked for
-pub record IsUnassigned (variables : VariableList) (place : Place) : Type 0 where
+pub record IsUnassigned (variables : VariableList) (place : ControlPoint) : Type 0 where
   pub number : VariableId
   pub asked : AsksAt number place
   pub unset : value_in variables number ≡ None

@@ -11,17 +11,17 @@ use Rattle.sdl_system.specs.declared.id.LabelId.{LabelId}
 -- each action, question and terminator of a body is such a one, also inside of decisions
 abbrev mutual
   pub Every : (Action → Type 0) → (Term → Type 0) → (Terminator → Type 0) → Body → Type 0
-  Every acts asks ends body.nothing = Unit {0}
-  Every acts asks ends (body.action first rest) = acts first × Every acts asks ends rest
-  Every acts asks ends (body.decision question parts rest) =
-      asks question × EveryPart acts asks ends parts × Every acts asks ends rest
-  Every acts asks ends (body.label number rest) = Every acts asks ends rest
-  Every acts asks ends (body.ending terminator) = ends terminator
+  Every effects asks ends body.nothing = Unit {0}
+  Every effects asks ends (body.action first rest) = effects first × Every effects asks ends rest
+  Every effects asks ends (body.decision question parts rest) =
+      asks question × EveryPart effects asks ends parts × Every effects asks ends rest
+  Every effects asks ends (body.label number rest) = Every effects asks ends rest
+  Every effects asks ends (body.ending terminator) = ends terminator
 
   pub EveryPart : (Action → Type 0) → (Term → Type 0) → (Terminator → Type 0) → Parts → Type 0
-  EveryPart acts asks ends body.no_part = Unit {0}
-  EveryPart acts asks ends (body.otherwise b) = Every acts asks ends b
-  EveryPart acts asks ends (body.part answers b rest) = Every acts asks ends b × EveryPart acts asks ends rest
+  EveryPart effects asks ends body.no_part = Unit {0}
+  EveryPart effects asks ends (body.otherwise b) = Every effects asks ends b
+  EveryPart effects asks ends (body.part answers b rest) = Every effects asks ends b × EveryPart effects asks ends rest
 
 -- the body stands in one of the parts of a decision
 pub data IsPartOf (one : Body) : Parts → Type 0 where

@@ -6,9 +6,9 @@ use Rattle.run_evaluation.specs.Environment.{Environment}
 use Rattle.run_evaluation.specs.declared.identity.Identity.{Identity}
 use Rattle.run_evaluation.specs.declared.store.Store.{Store}
 use Rattle.run_record.specs.declared.failure.Failure.TheVariants.{Undefined}
-use Rattle.run_semantics.specs.Act.{Deed}
+use Rattle.run_semantics.specs.Effect.{Deed}
 use Rattle.run_semantics.specs.Fails.{FailsIn, HasCause}
-use Rattle.run_semantics.specs.Place.{AtStart, Definition, Place}
+use Rattle.run_semantics.specs.ControlPoint.{AtStart, Definition, ControlPoint}
 use Rattle.run_semantics.specs.Runs.{Runs}
 use Rattle.laws_sound_runs.specs.Asked.{IsUnassigned, IsUnassignedIn}
 use Rattle.laws_sound_runs.specs.States.{LeadsNowhere, LeadsToStates}
@@ -17,14 +17,14 @@ use Rattle.sdl_system.specs.Behaviour.{Behaviour, StateMeaning}
 -- A run from the start comes to no `nextstate` that leads to no state.
 abbrev pub ComesToStates : Type 0
 ComesToStates =
-    (d : Definition) (who : Identity) (place : Place) (s t : Store) (q r : PortState) (deeds : List Deed)
+    (d : Definition) (who : Identity) (place : ControlPoint) (s t : Store) (q r : PortState) (deeds : List Deed)
     (history : List PortEvent) → LeadsToStates d.behaviour → Runs d who AtStart s q deeds history place t r
     → LeadsNowhere d place → ⊥
 
 -- So a transition fails as Undefined only where a variable is asked for that has no value.
 abbrev pub UndefinedIsUnassigned : Type 0
 UndefinedIsUnassigned =
-    (d : Definition) (who : Identity) (place : Place) (s t : Store) (q r : PortState) (deeds : List Deed)
+    (d : Definition) (who : Identity) (place : ControlPoint) (s t : Store) (q r : PortState) (deeds : List Deed)
     (history : List PortEvent) → LeadsToStates d.behaviour → Runs d who AtStart s q deeds history place t r
     → HasCause d who r place t Undefined → IsUnassigned t.variables place
 

@@ -8,9 +8,9 @@ use Rattle.run_evaluation.specs.Value.{values_at}
 use Rattle.run_evaluation.specs.Variables.{VariableList, value_in}
 use Rattle.run_evaluation.specs.declared.identity.Identity.{Identity}
 use Rattle.run_evaluation.specs.declared.store.Store.{Store}
-use Rattle.run_semantics.specs.Act.{Deed}
+use Rattle.run_semantics.specs.Effect.{Deed}
 use Rattle.run_semantics.specs.Instance.{first_variables}
-use Rattle.run_semantics.specs.Place.{Definition, Place}
+use Rattle.run_semantics.specs.ControlPoint.{Definition, ControlPoint}
 use Rattle.run_semantics.specs.Runs.{Runs}
 use Rattle.sdl_system.specs.Behaviour.{Behaviour, VariableMeaning}
 use Rattle.sdl_system.specs.Sort.{has_sort}
@@ -45,7 +45,7 @@ StartsWithSorts =
 -- And so it stays in each run.
 abbrev pub RunsKeepSorts : Type 0
 RunsKeepSorts =
-    (d : Definition) (who : Identity) (from place : Place) (s t : Store) (q r : PortState) (deeds : List Deed)
+    (d : Definition) (who : Identity) (from place : ControlPoint) (s t : Store) (q r : PortState) (deeds : List Deed)
     (history : List PortEvent) → HaveSorts d.behaviour s.variables → Runs d who from s q deeds history place t r
     → HaveSorts d.behaviour t.variables
 

@@ -1,6 +1,6 @@
 -- Transitions that lead to states (Z.102: nextstate).
 use Rattle.std.specs.Prelude.{◌≡◌, ◌<◌, ℕ, None, Some, length, slice_get}
-use Rattle.run_semantics.specs.Place.{Definition, Doing, IsState, Place}
+use Rattle.run_semantics.specs.ControlPoint.{Definition, Doing, IsState, ControlPoint}
 use Rattle.laws_sound_runs.specs.Paths.{Every, Reaches}
 use Rattle.sdl_system.specs.Behaviour.{Behaviour}
 use Rattle.sdl_system.specs.Body as body
@@ -25,7 +25,7 @@ pub record LeadsToStates (p : Behaviour) : Type 0 where
   pub stays : (first : Body) → slice_get p.bodies p.start ≡ Some first → Reaches p.bodies body.to_same first → ⊥
 
 -- a `nextstate` at this place leads to no state of the process
-abbrev pub LeadsNowhere : Definition → Place → Type 0
+abbrev pub LeadsNowhere : Definition → ControlPoint → Type 0
 LeadsNowhere d (Doing origin (body.ending (body.to_state n))) = IsState d n → ⊥
 LeadsNowhere d (Doing None (body.ending body.to_same)) = Unit {0}
 LeadsNowhere d (Doing (Some n) (body.ending body.to_same)) = IsState d n → ⊥

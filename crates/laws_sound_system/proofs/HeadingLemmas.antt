@@ -24,7 +24,7 @@ use Rattle.build_constants.specs.Figures.{counts_at, counts_faults_at, duration_
 use Rattle.build_constants.specs.Scopes.{scope_in}
 use Rattle.build_names.specs.declared.declared.Declared.{Declared}
 use Rattle.run_semantics.specs.Instance.{first_store}
-use Rattle.run_semantics.specs.Place.{AtStart}
+use Rattle.run_semantics.specs.ControlPoint.{AtStart}
 use Rattle.build_faults.proofs.FaultLemmas.{each-both}
 use Rattle.build_faults.specs.FaultLaws.{Each}
 use Rattle.build_faults.specs.Faults.{fault_if, mark_word}

@@ -13,10 +13,10 @@ use Rattle.run_evaluation.specs.declared.store.Store.{Store}
 use Rattle.build_process.specs.Meant.{IsBehaviour}
 use Rattle.run_record.specs.declared.failure.Failure.TheVariants.{Undefined}
 use Rattle.route_table.specs.Table.{SendsFrom}
-use Rattle.run_semantics.specs.Act.{Deed}
+use Rattle.run_semantics.specs.Effect.{Deed}
 use Rattle.run_semantics.specs.Fails.{HasCause}
 use Rattle.run_semantics.specs.Instance.{first_store}
-use Rattle.run_semantics.specs.Place.{AtStart, Definition, Place}
+use Rattle.run_semantics.specs.ControlPoint.{AtStart, Definition, ControlPoint}
 use Rattle.run_semantics.specs.Runs.{Runs}
 use Rattle.laws_sound_runs.specs.Asked.{IsUnassigned}
 use Rattle.laws_sound_runs.specs.Sorts.{FitParameters, HaveSorts}
@@ -57,7 +57,7 @@ BuiltRunsLeadToStates =
     (can : CanRun built.survey system number process) → slice_get system.processes number.0 ≡ Some process
     → (d : Definition)
     → IsBehaviour (surroundings built.survey number can.row.definition) can.row.definition can.heading d.behaviour
-    → (who : Identity) (place : Place) (s t : Store) (q r : PortState) (deeds : List Deed) (history : List PortEvent)
+    → (who : Identity) (place : ControlPoint) (s t : Store) (q r : PortState) (deeds : List Deed) (history : List PortEvent)
     → Runs d who AtStart s q deeds history place t r → HasCause d who r place t Undefined
     → IsUnassigned t.variables place
 
@@ -69,7 +69,7 @@ BuiltRunsHaveSorts =
     (can : CanRun built.survey system number process) → slice_get system.processes number.0 ≡ Some process
     → (d : Definition)
     → IsBehaviour (surroundings built.survey number can.row.definition) can.row.definition can.heading d.behaviour
-    → (who : Identity) (place : Place) (values : List Value) (t : Store) (q r : PortState) (deeds : List Deed)
+    → (who : Identity) (place : ControlPoint) (values : List Value) (t : Store) (q r : PortState) (deeds : List Deed)
     (history : List PortEvent) → FitParameters d.behaviour values
     → Runs d who AtStart (first_store d.behaviour values) q deeds history place t r → HaveSorts d.behaviour t.variables
 

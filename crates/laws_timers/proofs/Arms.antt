@@ -13,12 +13,12 @@ use Rattle.laws_timers.specs.Fused.{AreFused}
 use Rattle.run_record.specs.Event as event
 use Rattle.run_record.specs.Event.{Event}
 use Rattle.run_record.specs.declared.failure.Failure.{Failure}
-use Rattle.run_semantics.proofs.Deeds.{acts_of-append}
-use Rattle.run_semantics.specs.Act.{Act, Arm, Deed, acts_of}
+use Rattle.run_semantics.proofs.Deeds.{effects_of-append}
+use Rattle.run_semantics.specs.Effect.{Effect, Arm, Deed, effects_of}
 use Rattle.run_semantics.specs.Fails.{FailsIn, of_condition, of_continuous, of_event, of_take, of_trying}
 use Rattle.run_semantics.specs.Leads.{Happens}
-use Rattle.run_semantics.specs.Place.{Amid, AtStart, Closed, Definition, Doing, Ended, In, Place, Receiving}
-use Rattle.run_semantics.specs.Runs.{Runs, acts, hears, still, turns, waits}
+use Rattle.run_semantics.specs.ControlPoint.{Amid, AtStart, Closed, Definition, Doing, Ended, In, ControlPoint, Receiving}
+use Rattle.run_semantics.specs.Runs.{Runs, effects, hears, still, turns, waits}
 use Rattle.sdl_system.specs.Behaviour.{Behaviour, StateMeaning}
 use Rattle.sdl_system.specs.Body as body
 
@@ -54,7 +54,7 @@ abbrev AreNoSets : ℕ → List PortEvent → Type 0
 AreNoSets pid calls = AreSetsOf (λ fuse. ⊥) pid calls
 
 -- the one call of a set arms its fuse, and nothing else sets a timer
-abbrev pub IsArmed : ℕ → Event → List PortEvent → List Act → Type 0
+abbrev pub IsArmed : ℕ → Event → List PortEvent → List Effect → Type 0
 IsArmed pid (event.Set key due) calls done =
     (arm : ℕ) × (calls ≡ Set key due arm ∷ [])
     × (done ≡ Arm (record { pid = pid; key = key; arm = arm; due = due }) ∷ [])
@@ -72,7 +72,7 @@ module _ (d : Definition) (who : Identity) (q : PortState) where
   are_as : (calls list : List PortEvent) → calls ≡ list → AreNoSets who.pid list → AreNoSets who.pid calls
   are_as calls list same none = subst (λ (list : List PortEvent). AreNoSets who.pid list) (sym same) none
 
-  pub happens_sets : (place : Place) (s : Store) (e : Event) (calls : List PortEvent) (done : List Act) (to : Place)
+  pub happens_sets : (place : ControlPoint) (s : Store) (e : Event) (calls : List PortEvent) (done : List Effect) (to : ControlPoint)
       (t : Store) → Happens d who q place s e calls done to t → IsArmed who.pid e calls done
   happens_sets AtStart s (event.Start at) calls done to t happens = are_as calls [] happens.0 tt
   happens_sets AtStart s (event.Cut state) calls done to t happens = are_as calls [] happens.0 tt
@@ -148,7 +148,7 @@ module _ (d : Definition) (who : Identity) (q : PortState) where
       are_as calls (Stop ∷ []) happens.0 tt
   happens_sets (Amid origin (body.set []) rest) s happened calls done to t happens = absurd happens
   happens_sets (Amid origin (body.set (one ∷ more)) rest) s (event.Set key due) calls done to t happens =
-      (q.sets + 1, happens.2.calls_are, happens.2.acts_are)
+      (q.sets + 1, happens.2.calls_are, happens.2.effects_are)
   happens_sets (Amid origin (body.set (one ∷ more)) rest) s (event.Failed why) calls done to t happens =
       are_as calls (Stop ∷ []) happens.0 tt
   happens_sets (Amid origin (body.set (one ∷ more)) rest) s happened calls done to t happens = absurd happens
@@ -176,50 +176,50 @@ no_sets : (A : Fuse → Type 0) (pid : ℕ) (calls : List PortEvent) → AreNoSe
 no_sets A pid calls none = sets_more (λ fuse. ⊥) A pid (λ fuse wrong. absurd wrong) calls none
 
 -- a timer ran before, or a set has armed its fuse
-abbrev pub IsArmedOr : (Fuse → Type 0) → List Act → Fuse → Type 0
+abbrev pub IsArmedOr : (Fuse → Type 0) → List Effect → Fuse → Type 0
 IsArmedOr A done fuse = A fuse ⊎ Among (Arm fuse) done
 
-armed_sets : (A : Fuse → Type 0) (pid : ℕ) (e : Event) (calls : List PortEvent) (done : List Act)
+armed_sets : (A : Fuse → Type 0) (pid : ℕ) (e : Event) (calls : List PortEvent) (done : List Effect)
     → IsArmed pid e calls done → AreSetsOf (IsArmedOr A done) pid calls
 armed_sets A pid (event.Set key due) calls done armed =
     let fuse : Fuse = record { pid = pid; key = key; arm = armed.0; due = due } in
     let is : IsArmedOr A done fuse =
-    subst (λ (done : List Act). IsArmedOr A done fuse) (sym armed.2) (inr (inl refl)) in
+    subst (λ (done : List Effect). IsArmedOr A done fuse) (sym armed.2) (inr (inl refl)) in
     subst (λ (calls : List PortEvent). AreSetsOf (IsArmedOr A done) pid calls) (sym armed.1) (is, tt)
 armed_sets A pid happened calls done none = no_sets (IsArmedOr A done) pid calls none
 
-before_more : (A : Fuse → Type 0) (fuse : Fuse) (first later : List Act) → IsArmedOr A first fuse
+before_more : (A : Fuse → Type 0) (fuse : Fuse) (first later : List Effect) → IsArmedOr A first fuse
     → IsArmedOr A (first ++ later) fuse
 before_more A fuse first later (inl is) = inl is
 before_more A fuse first later (inr armed) = inr (among_left (Arm fuse) first later armed)
 
-behind_more : (A : Fuse → Type 0) (fuse : Fuse) (first later : List Act) → IsArmedOr A later fuse
+behind_more : (A : Fuse → Type 0) (fuse : Fuse) (first later : List Effect) → IsArmedOr A later fuse
     → IsArmedOr A (first ++ later) fuse
 behind_more A fuse first later (inl is) = inl is
 behind_more A fuse first later (inr armed) = inr (among_right (Arm fuse) first later armed)
 
-module _ (d : Definition) (who : Identity) (from : Place) (s : Store) (q : PortState) (A : Fuse → Type 0)
+module _ (d : Definition) (who : Identity) (from : ControlPoint) (s : Store) (q : PortState) (A : Fuse → Type 0)
     (are : AreFused A who.pid q.timers) where
   -- the timers that run behind a run of a process
-  pub runs_fused : {deeds : List Deed} {history : List PortEvent} {to : Place} {t : Store} {r : PortState}
-      → Runs d who from s q deeds history to t r → AreFused (IsArmedOr A (acts_of deeds)) who.pid r.timers
+  pub runs_fused : {deeds : List Deed} {history : List PortEvent} {to : ControlPoint} {t : Store} {r : PortState}
+      → Runs d who from s q deeds history to t r → AreFused (IsArmedOr A (effects_of deeds)) who.pid r.timers
   runs_fused still = fused_more A (IsArmedOr A []) who.pid (λ fuse own is. inl is) q.timers are
-  runs_fused (acts {deeds = deeds} {at = at} {mid = mid} {port = port} before deed to t r leads legal) =
-      let one : List Act = acts_of (deed ∷ []) in
-      let now : List Act = acts_of deeds ++ one in
+  runs_fused (effects {deeds = deeds} {at = at} {mid = mid} {port = port} before deed to t r leads legal) =
+      let one : List Effect = effects_of (deed ∷ []) in
+      let now : List Effect = effects_of deeds ++ one in
       let first : AreFused (IsArmedOr A now) who.pid port.timers =
-      fused_more (IsArmedOr A (acts_of deeds)) (IsArmedOr A now) who.pid
-      (λ fuse own is. before_more A fuse (acts_of deeds) one is) port.timers (runs_fused before) in
-      let own : AreSetsOf (IsArmedOr A deed.acts) who.pid deed.calls =
-      armed_sets A who.pid deed.event deed.calls deed.acts
-      (happens_sets d who port at mid deed.event deed.calls deed.acts to t leads) in
+      fused_more (IsArmedOr A (effects_of deeds)) (IsArmedOr A now) who.pid
+      (λ fuse own is. before_more A fuse (effects_of deeds) one is) port.timers (runs_fused before) in
+      let own : AreSetsOf (IsArmedOr A deed.effects) who.pid deed.calls =
+      armed_sets A who.pid deed.event deed.calls deed.effects
+      (happens_sets d who port at mid deed.event deed.calls deed.effects to t leads) in
       let sets : AreSetsOf (IsArmedOr A now) who.pid deed.calls =
-      sets_more (IsArmedOr A deed.acts) (IsArmedOr A now) who.pid
-      (λ fuse is. behind_more A fuse (acts_of deeds) one (before_more A fuse deed.acts [] is)) deed.calls own in
-      subst (λ (done : List Act). AreFused (IsArmedOr A done) who.pid r.timers) (sym (acts_of-append deeds (deed ∷ [])))
+      sets_more (IsArmedOr A deed.effects) (IsArmedOr A now) who.pid
+      (λ fuse is. behind_more A fuse (effects_of deeds) one (before_more A fuse deed.effects [] is)) deed.calls own in
+      subst (λ (done : List Effect). AreFused (IsArmedOr A done) who.pid r.timers) (sym (effects_of-append deeds (deed ∷ [])))
       (fused_legal (IsArmedOr A now) who.pid deed.calls port r legal sets first)
   runs_fused (turns before to t turn) = runs_fused before
   runs_fused (hears {deeds = deeds} {port = port} before heard r outside step) =
-      fused_step (IsArmedOr A (acts_of deeds)) who.pid port r heard step
-      (heard_sets (IsArmedOr A (acts_of deeds)) who.pid heard outside) (runs_fused before)
+      fused_step (IsArmedOr A (effects_of deeds)) who.pid port r heard step
+      (heard_sets (IsArmedOr A (effects_of deeds)) who.pid heard outside) (runs_fused before)
   runs_fused (waits before classes quiet step) = runs_fused before

@@ -8,8 +8,8 @@ use Rattle.port_values.specs.declared.item.Item.{Item}
 use Rattle.port_values.specs.declared.pid.Pid.TheVariants as pid
 use Rattle.port_model.specs.declared.timer.ActiveTimer.{ActiveTimer}
 use Rattle.port_values.specs.declared.value.Value.{Value}
-use Rattle.serial_order.specs.Course.{Course, Expired, Follows, Happening, Heard, Moved, Steps, Ticked, begins, goes}
-use Rattle.serial_order.specs.Global.{Global, after_act, after_acts, beginning, change_at, first_instances, first_of, instance_of, with_created, with_expiry, with_instance, with_put}
+use Rattle.serial_order.specs.Execution.{Execution, Expired, Follows, Happening, Heard, Moved, Steps, Ticked, begins, goes}
+use Rattle.serial_order.specs.RunState.{RunState, after_effect, after_effects, beginning, change_at, first_instances, first_of, instance_of, with_created, with_expiry, with_instance, with_put}
 use Rattle.serial_order.specs.Report.{Ends, EndsWhole}
 use Rattle.run_evaluation.specs.declared.identity.Identity.{Identity}
 use Rattle.laws_timers.proofs.Arms.{Among, IsArmedOr, contained, runs_fused, same_Arm}
@@ -18,8 +18,8 @@ use Rattle.laws_timers.proofs.Numbers.{EachAt, Everywhere, each_change, each_mor
 use Rattle.laws_timers.proofs.Ports.{IsItOr, fused_expired, fused_more, fused_put_in}
 use Rattle.laws_timers.specs.Fused.{AreFused, IsOfFuse, NoTimerIsDue, RunningTimersHaveFuses}
 use Rattle.sdl_interp.specs.Instance.{InstanceValue}
-use Rattle.run_semantics.specs.Act.{Act, Arm, Create, Deed, Send, acts_of}
-use Rattle.run_semantics.specs.Place.{Definition}
+use Rattle.run_semantics.specs.Effect.{Effect, Arm, Create, Deed, Send, effects_of}
+use Rattle.run_semantics.specs.ControlPoint.{Definition}
 use Rattle.sdl_script.specs.Script.{end_of}
 use Rattle.sdl_script.specs.declared.script.ScriptLine.{ScriptLine}
 use Rattle.run_transitions.specs.Machine.{place_of}
@@ -111,10 +111,10 @@ module _ (A : Fuse → Type 0) (fuse : Fuse) (at : ℕ) (due : fuse.due ≤ at) 
 -- ---- the acts of a step
 
 -- it waits, or is to be armed
-abbrev Waits : List Fuse → List Act → Fuse → Type 0
+abbrev Waits : List Fuse → List Effect → Fuse → Type 0
 Waits fuses done fuse = Among fuse fuses ⊎ Among (Arm fuse) done
 
-abbrev AreCovered : Global → List Act → Type 0
+abbrev AreCovered : RunState → List Effect → Type 0
 AreCovered g done = EachAt (IsCovered (Waits g.fuses done)) g.instances
 
 among_armed : (one fuse : Fuse) (fuses : List Fuse) → Among one fuses → Among one (with_fuse fuse fuses)
@@ -136,23 +136,23 @@ armed_among fuse (first ∷ more) = by_test (is_before fuse first) (armed_among 
   by_test false armed = inr armed
 
 -- an act that arms nothing
-abbrev ArmsNothing : Act → Type 0
+abbrev ArmsNothing : Effect → Type 0
 ArmsNothing (Arm fuse) = ⊥
-ArmsNothing act = Unit {0}
+ArmsNothing effect = Unit {0}
 
-not_armed : (fuses : List Fuse) (act : Act) (rest : List Act) → ArmsNothing act → (fuse : Fuse)
-    → Waits fuses (act ∷ rest) fuse → Waits fuses rest fuse
-not_armed fuses act rest nothing fuse (inl is) = inl is
-not_armed fuses act rest nothing fuse (inr (inr is)) = inr is
-not_armed fuses act rest nothing fuse (inr (inl same)) = absurd (subst ArmsNothing (sym same) nothing)
+not_armed : (fuses : List Fuse) (effect : Effect) (rest : List Effect) → ArmsNothing effect → (fuse : Fuse)
+    → Waits fuses (effect ∷ rest) fuse → Waits fuses rest fuse
+not_armed fuses effect rest nothing fuse (inl is) = inl is
+not_armed fuses effect rest nothing fuse (inr (inr is)) = inr is
+not_armed fuses effect rest nothing fuse (inr (inl same)) = absurd (subst ArmsNothing (sym same) nothing)
 
-module _ (g : Global) (rest : List Act) where
-  left_covered : (act : Act) → ArmsNothing act → AreCovered g (act ∷ rest) → AreCovered g rest
-  left_covered act nothing are =
-      each_covered (Waits g.fuses (act ∷ rest)) (Waits g.fuses rest) (not_armed g.fuses act rest nothing) g.instances
+module _ (g : RunState) (rest : List Effect) where
+  left_covered : (effect : Effect) → ArmsNothing effect → AreCovered g (effect ∷ rest) → AreCovered g rest
+  left_covered effect nothing are =
+      each_covered (Waits g.fuses (effect ∷ rest)) (Waits g.fuses rest) (not_armed g.fuses effect rest nothing) g.instances
       are
 
-  sent_covered : (target : Target) (item : Item) → AreCovered g rest → AreCovered (after_act g (Send target item)) rest
+  sent_covered : (target : Target) (item : Item) → AreCovered g rest → AreCovered (after_effect g (Send target item)) rest
   sent_covered (Instance number) item are =
       each_change (IsCovered (Waits g.fuses rest)) (IsCovered (Waits g.fuses rest)) g.instances number are
       (λ n i apart covered. covered) (with_put item) (put_covered (Waits g.fuses rest) item number)
@@ -181,7 +181,7 @@ module _ (g : Global) (rest : List Act) where
       (armed_among fuse g.fuses))
   later_sorted fuse one (inr (inr is)) = inr is
 
-  armed_covered : (fuse : Fuse) → AreCovered g (Arm fuse ∷ rest) → AreCovered (after_act g (Arm fuse)) rest
+  armed_covered : (fuse : Fuse) → AreCovered g (Arm fuse ∷ rest) → AreCovered (after_effect g (Arm fuse)) rest
   armed_covered fuse are = by_test (nat_le fuse.due g.clock) refl where
     by_test : (b : Bool) → nat_le fuse.due g.clock ≡ b
         → AreCovered (if b then record g {
@@ -195,25 +195,25 @@ module _ (g : Global) (rest : List Act) where
         each_covered (Waits g.fuses (Arm fuse ∷ rest)) (Waits (with_fuse fuse g.fuses) rest) (later_sorted fuse)
         g.instances are
 
-  act_covered : (act : Act) → AreCovered g (act ∷ rest) → AreCovered (after_act g act) rest
-  act_covered (Send target item) are = sent_covered target item (left_covered (Send target item) tt are)
-  act_covered (Arm fuse) are = armed_covered fuse are
-  act_covered (Create id number parent values) are =
+  effect_covered : (effect : Effect) → AreCovered g (effect ∷ rest) → AreCovered (after_effect g effect) rest
+  effect_covered (Send target item) are = sent_covered target item (left_covered (Send target item) tt are)
+  effect_covered (Arm fuse) are = armed_covered fuse are
+  effect_covered (Create id number parent values) are =
       created_covered (record { process = id; pid = number; parent = pid.Of parent }) values
       (slice_get g.system.processes id.0) (left_covered (Create id number parent values) tt are)
 
-acts_covered : (g : Global) (done : List Act) → AreCovered g done → AreCovered (after_acts g done) []
-acts_covered g [] are = are
-acts_covered g (act ∷ rest) are = acts_covered (after_act g act) rest (act_covered g rest act are)
+effects_covered : (g : RunState) (done : List Effect) → AreCovered g done → AreCovered (after_effects g done) []
+effects_covered g [] are = are
+effects_covered g (effect ∷ rest) are = effects_covered (after_effect g effect) rest (effect_covered g rest effect are)
 
 -- nothing is to be armed, or more
-none_armed : (fuses : List Fuse) (done : List Act) (fuse : Fuse) → Waits fuses [] fuse → Waits fuses done fuse
+none_armed : (fuses : List Fuse) (done : List Effect) (fuse : Fuse) → Waits fuses [] fuse → Waits fuses done fuse
 none_armed fuses done fuse (inl is) = inl is
 none_armed fuses done fuse (inr none) = absurd none
 
 -- ---- a step
 
-module _ (ps : List Behaviour) (g : Global) (who : Identity) (deeds : List Deed) (h : Global)
+module _ (ps : List Behaviour) (g : RunState) (who : Identity) (deeds : List Deed) (h : RunState)
     (step : Steps ps g who deeds h) (are : AreCovered g []) where
   old_covered : IsCovered (Waits g.fuses []) who.pid step.old
   old_covered = are who.pid step.old step.is_there
@@ -221,12 +221,12 @@ module _ (ps : List Behaviour) (g : Global) (who : Identity) (deeds : List Deed)
   is_number : step.new.who.pid ≡ who.pid
   is_number = ap (λ (w : Identity). w.pid) (step.keeps.who ∙ step.is_who)
 
-  sorted_new : (fuse : Fuse) → IsArmedOr (Fits (Waits g.fuses []) who.pid step.old) (acts_of deeds) fuse
-      → Fits (Waits g.fuses (acts_of deeds)) who.pid step.new fuse
-  sorted_new fuse (inl is) = (is_number, none_armed g.fuses (acts_of deeds) fuse is.1)
+  sorted_new : (fuse : Fuse) → IsArmedOr (Fits (Waits g.fuses []) who.pid step.old) (effects_of deeds) fuse
+      → Fits (Waits g.fuses (effects_of deeds)) who.pid step.new fuse
+  sorted_new fuse (inl is) = (is_number, none_armed g.fuses (effects_of deeds) fuse is.1)
   sorted_new fuse (inr armed) = (is_number, inr armed)
 
-  new_timers : AreFused (IsArmedOr (Fits (Waits g.fuses []) who.pid step.old) (acts_of deeds)) who.pid
+  new_timers : AreFused (IsArmedOr (Fits (Waits g.fuses []) who.pid step.old) (effects_of deeds)) who.pid
       step.new.owner.state.timers
   new_timers =
       let old : InstanceValue = step.old in
@@ -235,36 +235,36 @@ module _ (ps : List Behaviour) (g : Global) (who : Identity) (deeds : List Deed)
       let before : AreFused (Fits (Waits g.fuses []) who.pid old) old.who.pid old.owner.state.timers =
       subst (λ k. AreFused (Fits (Waits g.fuses []) who.pid old) k old.owner.state.timers) (sym number)
       old_covered.timers in
-      let ran : AreFused (IsArmedOr (Fits (Waits g.fuses []) who.pid old) (acts_of step.goes.deeds)) old.who.pid
+      let ran : AreFused (IsArmedOr (Fits (Waits g.fuses []) who.pid old) (effects_of step.goes.deeds)) old.who.pid
       step.new.owner.state.timers =
       runs_fused d old.who (place_of old.position) old.store old.owner.state (Fits (Waits g.fuses []) who.pid old)
       before step.goes.runs in
-      subst (λ (list : List Deed). AreFused (IsArmedOr (Fits (Waits g.fuses []) who.pid old) (acts_of list)) who.pid
+      subst (λ (list : List Deed). AreFused (IsArmedOr (Fits (Waits g.fuses []) who.pid old) (effects_of list)) who.pid
       step.new.owner.state.timers) step.deeds_are
-      (subst (λ k. AreFused (IsArmedOr (Fits (Waits g.fuses []) who.pid old) (acts_of step.goes.deeds)) k
+      (subst (λ k. AreFused (IsArmedOr (Fits (Waits g.fuses []) who.pid old) (effects_of step.goes.deeds)) k
       step.new.owner.state.timers) number ran)
 
-  stepped_new : IsCovered (Waits g.fuses (acts_of deeds)) who.pid step.new
+  stepped_new : IsCovered (Waits g.fuses (effects_of deeds)) who.pid step.new
   stepped_new = record {
     own = step.keeps.pid ∙ old_covered.own ∙ ap (λ (w : Identity). w.pid) (sym step.keeps.who);
-    timers = fused_more (IsArmedOr (Fits (Waits g.fuses []) who.pid step.old) (acts_of deeds))
-        (Fits (Waits g.fuses (acts_of deeds)) who.pid step.new) who.pid (λ fuse own is. sorted_new fuse is)
+    timers = fused_more (IsArmedOr (Fits (Waits g.fuses []) who.pid step.old) (effects_of deeds))
+        (Fits (Waits g.fuses (effects_of deeds)) who.pid step.new) who.pid (λ fuse own is. sorted_new fuse is)
         step.new.owner.state.timers new_timers;
   }
 
   step_covered : AreCovered h []
   step_covered =
-      let stepped : Global = record g {
+      let stepped : RunState = record g {
         instances = with_instance g.instances who.pid step.new;
         turn = who.pid;
         bound = step.bound;
       } in
-      let then_covered : AreCovered stepped (acts_of deeds) =
-      each_with (IsCovered (Waits g.fuses [])) (IsCovered (Waits g.fuses (acts_of deeds))) g.instances who.pid are
+      let then_covered : AreCovered stepped (effects_of deeds) =
+      each_with (IsCovered (Waits g.fuses [])) (IsCovered (Waits g.fuses (effects_of deeds))) g.instances who.pid are
       (λ n i apart covered.
-      covered_more (Waits g.fuses []) (Waits g.fuses (acts_of deeds)) (none_armed g.fuses (acts_of deeds)) n i
+      covered_more (Waits g.fuses []) (Waits g.fuses (effects_of deeds)) (none_armed g.fuses (effects_of deeds)) n i
       covered) step.new stepped_new in
-      subst (λ (g : Global). AreCovered g []) (sym step.now) (acts_covered stepped (acts_of deeds) then_covered)
+      subst (λ (g : RunState). AreCovered g []) (sym step.now) (effects_covered stepped (effects_of deeds) then_covered)
 
 -- ---- one happening
 
@@ -278,22 +278,22 @@ first_sorted fuses later fuse first one is =
       by_case (inr none) = absurd none
 
 module _ (ps : List Behaviour) (last : ℕ) where
-  covered_on : (g : Global) (next : Happening) (h : Global) → Follows ps last g next h → IsPaced g → AreCovered g []
+  covered_on : (g : RunState) (next : Happening) (h : RunState) → Follows ps last g next h → IsPaced g → AreCovered g []
       → AreCovered h []
   covered_on g (Moved who deeds) h step paced are = step_covered ps g who deeds h step are
   covered_on g (Expired fuse) h expires paced are =
-      let before : Global = record g { fuses = expires.later } in
+      let before : RunState = record g { fuses = expires.later } in
       let due : fuse.due ≤ g.clock = omega (arith, expires.due, paced) in
-      subst (λ (g : Global). AreCovered g []) (sym expires.now)
+      subst (λ (g : RunState). AreCovered g []) (sym expires.now)
       (expiry_covered (Waits expires.later []) fuse g.clock due g.instances
       (each_covered (Waits g.fuses []) (IsItOr (Waits expires.later []) fuse)
       (first_sorted g.fuses expires.later fuse expires.first) g.instances are))
   covered_on g (Heard line done) h hear paced are =
-      let before : Global = record g { script = hear.later } in
-      subst (λ (g : Global). AreCovered g []) (sym hear.now)
-      (acts_covered before done
+      let before : RunState = record g { script = hear.later } in
+      subst (λ (g : RunState). AreCovered g []) (sym hear.now)
+      (effects_covered before done
       (each_covered (Waits g.fuses []) (Waits g.fuses done) (none_armed g.fuses done) g.instances are))
-  covered_on g (Ticked time) h tick paced are = subst (λ (g : Global). AreCovered g []) (sym tick.now) are
+  covered_on g (Ticked time) h tick paced are = subst (λ (g : RunState). AreCovered g []) (sym tick.now) are
 
 -- ---- all that happened
 
@@ -316,21 +316,21 @@ module _ (A : Fuse → Type 0) (system : SystemValue) (n : ℕ) where
       (first_covered number (record { 0 = id }) process process.initial)
       (all_covered (number + process.initial) (id + 1) more)
 
-course_covered : (ps : List Behaviour) (system : SystemValue) (lines : List ScriptLine) (time : ℕ)
-    {happenings : List Happening} {last : Global} → Course ps time (beginning system lines) happenings last
+execution_covered : (ps : List Behaviour) (system : SystemValue) (lines : List ScriptLine) (time : ℕ)
+    {happenings : List Happening} {last : RunState} → Execution ps time (beginning system lines) happenings last
     → AreCovered last []
-course_covered ps system lines time begins =
+execution_covered ps system lines time begins =
     each_of (IsCovered (Waits [] [])) (first_instances system 1 0 system.processes)
     (λ n. all_covered (Waits [] []) system n 1 0 system.processes)
-course_covered ps system lines time (goes {at = at} course next to follows) =
-    covered_on ps time at next to follows (are_timed ps system lines time course).paced
-    (course_covered ps system lines time course)
+execution_covered ps system lines time (goes {at = at} execution next to follows) =
+    covered_on ps time at next to follows (are_timed ps system lines time execution).paced
+    (execution_covered ps system lines time execution)
 
 -- each timer that runs has its fuse among those that wait
 pub running_timers_have_fuses : RunningTimersHaveFuses
-running_timers_have_fuses ps system lines time happenings last behaviours course n i e =
+running_timers_have_fuses ps system lines time happenings last behaviours execution n i e =
     fused_more (Fits (Waits last.fuses []) n i) (Contains last.fuses) n (λ fuse own is. waiting fuse is.1)
-    i.owner.state.timers (course_covered ps system lines time course n i e).timers where
+    i.owner.state.timers (execution_covered ps system lines time execution n i e).timers where
       waiting : (fuse : Fuse) → Waits last.fuses [] fuse → Contains last.fuses fuse
       waiting fuse (inl is) = contained fuse last.fuses is
       waiting fuse (inr none) = absurd none
@@ -345,5 +345,5 @@ no_timer_is_due ps system lines limit report behaviours serial whole n i e =
     let beyond : end_of lines + 1 ≤ fuse.due =
     All-contains (λ (fuse : Fuse). end_of lines + 1 ≤ fuse.due) serial.last.fuses fuse ends.no_fuse is in
     omega (arith, beyond, ends.is_end)) i.owner.state.timers
-    (running_timers_have_fuses ps system lines (end_of lines) serial.happenings serial.last behaviours serial.course
+    (running_timers_have_fuses ps system lines (end_of lines) serial.happenings serial.last behaviours serial.execution
     n i e)

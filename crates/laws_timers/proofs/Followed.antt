@@ -5,16 +5,16 @@ use Rattle.std.proofs.lemmas.List.Elements.{All-head, Contains-append_left, Cont
 use Rattle.port_inbox.specs.declared.entry.Fuse.{Fuse}
 use Rattle.port_model.specs.History.{Expire, PortEvent, Put, Reset, Set, Stop, Take}
 use Rattle.port_values.specs.declared.item.Item.{Item}
-use Rattle.serial_order.specs.Course.{Course, Expired, Follows, Happening, Heard, Moved, Steps, Ticked, begins, goes}
-use Rattle.serial_order.specs.Global.{Global, beginning}
+use Rattle.serial_order.specs.Execution.{Execution, Expired, Follows, Happening, Heard, Moved, Steps, Ticked, begins, goes}
+use Rattle.serial_order.specs.RunState.{RunState, beginning}
 use Rattle.serial_order.specs.Told.{Moment, comes_by, comes_by_one, expiry_by, first_moment, given_after_one, history_of, history_of_one, is_there, put_by}
 use Rattle.run_evaluation.specs.declared.identity.Identity.{Identity}
 use Rattle.laws_timers.proofs.Arms.{Among, contained}
 use Rattle.laws_timers.proofs.Dues.{moment_from}
 use Rattle.laws_timers.proofs.Numbers.{eq_is, eq_of}
-use Rattle.laws_timers.proofs.Sets.{IsSetBy, course_set, heard_arms, history_more, set_of, step_arms}
+use Rattle.laws_timers.proofs.Sets.{IsSetBy, execution_set, heard_arms, history_more, set_of, step_arms}
 use Rattle.laws_timers.specs.Fused.{ExpiriesFollowSets, FollowSets, WasSet}
-use Rattle.run_semantics.specs.Act.{Act, Arm, Create, Deed, Send, acts_of, calls_of}
+use Rattle.run_semantics.specs.Effect.{Effect, Arm, Create, Deed, Send, effects_of, calls_of}
 use Rattle.run_semantics.specs.Runs.{own_of}
 use Rattle.sdl_script.specs.declared.script.ScriptLine.{ScriptLine}
 use Rattle.sdl_system.specs.Behaviour.{Behaviour}
@@ -120,22 +120,22 @@ module _ (before : List PortEvent) where
       of_if (fuse.pid == n) (Expire fuse.key fuse.arm fuse.due at ∷ []) (λ same. (was (eq_of fuse.pid n same), tt))
 
   module _ (n : ℕ) where
-    comes_of : (now : Moment) (done : List Act)
+    comes_of : (now : Moment) (done : List Effect)
         → ((fuse : Fuse) → Among (Arm fuse) done → fuse.pid ≡ n → Contains before (set_of fuse))
         → AreOf before (comes_by n now done)
     comes_of now [] was = tt
-    comes_of now (act ∷ rest) was =
-        of_append (comes_by_one n now act) (comes_by n (record now { given = given_after_one now.given act }) rest)
-        (by_act act (λ fuse same. was fuse (inl same)))
-        (comes_of (record now { given = given_after_one now.given act }) rest (λ fuse is. was fuse (inr is))) where
-          by_act : (act : Act) → ((fuse : Fuse) → Arm fuse ≡ act → fuse.pid ≡ n → Contains before (set_of fuse))
-              → AreOf before (comes_by_one n now act)
-          by_act (Send target item) was =
+    comes_of now (effect ∷ rest) was =
+        of_append (comes_by_one n now effect) (comes_by n (record now { given = given_after_one now.given effect }) rest)
+        (by_effect effect (λ fuse same. was fuse (inl same)))
+        (comes_of (record now { given = given_after_one now.given effect }) rest (λ fuse is. was fuse (inr is))) where
+          by_effect : (effect : Effect) → ((fuse : Fuse) → Arm fuse ≡ effect → fuse.pid ≡ n → Contains before (set_of fuse))
+              → AreOf before (comes_by_one n now effect)
+          by_effect (Send target item) was =
               of_if (is_there n now) (put_by n target item) (λ there. put_of n target item)
-          by_act (Arm fuse) was =
+          by_effect (Arm fuse) was =
               of_if (is_there n now && nat_le fuse.due now.clock) (expiry_by n now.clock fuse)
               (λ has_come. expiry_of n now.clock fuse (was fuse refl))
-          by_act (Create process number parent values) was = tt
+          by_effect (Create process number parent values) was = tt
 
 -- ---- one happening
 
@@ -146,21 +146,21 @@ module _ (ps : List Behaviour) (time : ℕ) (system : SystemValue) (happenings :
   abbrev now : Moment
   now = moment_from (first_moment system) happenings
 
-  step_calls : (g : Global) (who : Identity) (deeds : List Deed) (h : Global) → Steps ps g who deeds h
+  step_calls : (g : RunState) (who : Identity) (deeds : List Deed) (h : RunState) → Steps ps g who deeds h
       → AreOf before (calls_of deeds)
   step_calls g who deeds h step =
       subst (λ (list : List Deed). AreOf before (calls_of list)) step.deeds_are
       (subst (λ (calls : List PortEvent). AreOf before calls) step.goes.own (own_are before step.goes.history))
 
-  moved_follow : (g : Global) (who : Identity) (deeds : List Deed) (h : Global) → Steps ps g who deeds h
+  moved_follow : (g : RunState) (who : Identity) (deeds : List Deed) (h : RunState) → Steps ps g who deeds h
       → FollowSets before (history_of_one n now (Moved who deeds))
   moved_follow g who deeds h step =
       let calls : List PortEvent = if who.pid == n then calls_of deeds else [] in
-      follow_append before calls (comes_by n now (acts_of deeds))
+      follow_append before calls (comes_by n now (effects_of deeds))
       (follow_of before calls
       (of_if before (who.pid == n) (calls_of deeds) (λ same. step_calls g who deeds h step)))
-      (follow_of (before ++ calls) (comes_by n now (acts_of deeds))
-      (comes_of (before ++ calls) n now (acts_of deeds)
+      (follow_of (before ++ calls) (comes_by n now (effects_of deeds))
+      (comes_of (before ++ calls) n now (effects_of deeds)
       (λ fuse is own.
       let set_by : IsSetBy who.pid (calls_of deeds) fuse = step_arms ps g who deeds h step fuse is in
       subst (λ (b : Bool). Contains (before ++ (if b then calls_of deeds else [])) (set_of fuse))
@@ -168,7 +168,7 @@ module _ (ps : List Behaviour) (time : ℕ) (system : SystemValue) (happenings :
       (Contains-append_right before (calls_of deeds) (set_of fuse)
       (contained (set_of fuse) (calls_of deeds) set_by.call)))))
 
-  follow_one : (g : Global) (next : Happening) (h : Global) → Follows ps time g next h
+  follow_one : (g : RunState) (next : Happening) (h : RunState) → Follows ps time g next h
       → All (WasSet system happenings) g.fuses → FollowSets before (history_of_one n now next)
   follow_one g (Moved who deeds) h step were = moved_follow g who deeds h step
   follow_one g (Expired fuse) h expires were =
@@ -185,24 +185,24 @@ module _ (ps : List Behaviour) (time : ℕ) (system : SystemValue) (happenings :
       (comes_of before n now done
       (λ fuse is own.
       heard_arms (λ (f : Fuse). Contains before (set_of f)) g line.signal fuse
-      (subst (λ (list : List Act). Among (Arm fuse) list) hear.acts_are is)))
+      (subst (λ (list : List Effect). Among (Arm fuse) list) hear.effects_are is)))
   follow_one g (Ticked clock) h tick were = tt
 
 -- ---- all that happened
 
-course_follows : (ps : List Behaviour) (system : SystemValue) (lines : List ScriptLine) (time : ℕ)
-    {happenings : List Happening} {last : Global} → Course ps time (beginning system lines) happenings last → (n : ℕ)
+execution_follows : (ps : List Behaviour) (system : SystemValue) (lines : List ScriptLine) (time : ℕ)
+    {happenings : List Happening} {last : RunState} → Execution ps time (beginning system lines) happenings last → (n : ℕ)
     → FollowSets [] (history_of system n happenings)
-course_follows ps system lines time begins n = tt
-course_follows ps system lines time (goes {happenings = happenings} {at = at} course next to follows) n =
+execution_follows ps system lines time begins n = tt
+execution_follows ps system lines time (goes {happenings = happenings} {at = at} execution next to follows) n =
     let history : List PortEvent = history_of system n happenings in
     let one : List PortEvent = history_of_one n (moment_from (first_moment system) happenings) next in
     subst (λ (list : List PortEvent). FollowSets [] list)
     (sym (history_more n (first_moment system) happenings next))
-    (follow_append [] history one (course_follows ps system lines time course n)
-    (follow_one ps time system happenings n at next to follows (course_set ps system lines time course)))
+    (follow_append [] history one (execution_follows ps system lines time execution n)
+    (follow_one ps time system happenings n at next to follows (execution_set ps system lines time execution)))
 
 -- each expiry stands behind its set
 pub expiries_follow_sets : ExpiriesFollowSets
-expiries_follow_sets ps system lines time happenings last behaviours course n =
-    course_follows ps system lines time course n
+expiries_follow_sets ps system lines time happenings last behaviours execution n =
+    execution_follows ps system lines time execution n

@@ -1,7 +1,7 @@
 -- What is so of each instance by its number, where one is changed or one more is made.
 use Rattle.std.proofs.Common.{◌≡◌, ◌∙◌, ◌⊎◌, ◌++◌, inl, inr, ap, arith, refl, subst, sym, ℕ, zero, suc, nat_eq, true, false, List, [], ◌∷◌, Option, None, Some, slice_get, set}
 use Rattle.std.proofs.lemmas.Option.{none-some, same_Some}
-use Rattle.serial_order.specs.Global.{change_at, changed_at, instance_at, with_instance}
+use Rattle.serial_order.specs.RunState.{change_at, changed_at, instance_at, with_instance}
 use Rattle.sdl_interp.specs.Instance.{InstanceValue}
 
 pub eq_of : (m n : ℕ) → nat_eq m n ≡ true → m ≡ n

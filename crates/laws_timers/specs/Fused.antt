@@ -6,8 +6,8 @@ use Rattle.port_model.specs.declared.timer.ActiveTimer.{ActiveTimer}
 use Rattle.port_model.specs.declared.timer.Phase.{Phase}
 use Rattle.port_model.specs.declared.timer.Phase.TheVariants.{Running, Waiting}
 use Rattle.port_values.specs.declared.timer_key.TimerKey.{TimerKey}
-use Rattle.serial_order.specs.Course.{AreBehaviours, Expired, Happening, Heard, Moved, Ticked}
-use Rattle.serial_order.specs.Global.{instance_at}
+use Rattle.serial_order.specs.Execution.{AreBehaviours, Expired, Happening, Heard, Moved, Ticked}
+use Rattle.serial_order.specs.RunState.{instance_at}
 use Rattle.serial_order.specs.Laws.{AtEachEnd}
 use Rattle.serial_order.specs.Report.{IsSerialReport}
 use Rattle.serial_order.specs.Told.{Moment, first_moment, history_of, moment_after}
@@ -23,7 +23,7 @@ use Rattle.sdl_system.specs.System.{SystemValue}
 abbrev pub IsDue : Moment → Happening → Type 0
 IsDue now (Moved who deeds) = Unit {0}
 IsDue now (Expired fuse) = fuse.due ≤ now.clock
-IsDue now (Heard line acts) = Unit {0}
+IsDue now (Heard line effects) = Unit {0}
 IsDue now (Ticked time) = Unit {0}
 
 -- so it is with all that happens from a moment on

@@ -8,8 +8,8 @@
 #![tactic(auto)]
 
 mod desk;
-mod drawer;
 mod finished;
+mod receiver;
 pub mod refused;
 mod rule;
 mod sender;
@@ -17,8 +17,8 @@ mod shared;
 pub mod steps;
 
 pub use desk::Desk;
-pub use drawer::Drawer;
 pub use finished::Finished;
+pub use receiver::Receiver;
 pub use rule::{Pass, Queue};
 pub use sender::Sender;
 pub use shared::Port;

@@ -6,11 +6,11 @@ use Rattle.run_evaluation.specs.declared.identity.Identity.{Identity}
 use Rattle.run_evaluation.specs.declared.store.Store.{Store}
 use Rattle.run_record.specs.Event.{Event}
 use Rattle.run_record.specs.Event as event
-use Rattle.run_semantics.specs.Act.{Act, Deed}
-use Rattle.run_semantics.specs.Leads.{Happens, Leads, Turns}
-use Rattle.run_semantics.specs.Place.{Closed, Definition, Ended, Place}
+use Rattle.run_semantics.specs.Effect.{Effect, Deed}
+use Rattle.run_semantics.specs.Leads.{Happens, Leads, LeadsSilently}
+use Rattle.run_semantics.specs.ControlPoint.{Closed, Definition, Ended, ControlPoint}
 use Rattle.run_semantics.specs.RunLaws.{EndsForGood, GoesNoFurther}
-use Rattle.run_semantics.specs.Runs.{Runs, still, acts, turns, hears, waits}
+use Rattle.run_semantics.specs.Runs.{Runs, still, effects, turns, hears, waits}
 
 -- no failure has a cause there
 neither : {A : Type 0} → (A × ⊥) ⊎ ⊥ → ⊥
@@ -18,7 +18,7 @@ neither (inl memory) = memory.1
 neither (inr cause) = cause
 
 module _ (d : Definition) (who : Identity) (q : PortState) where
-  ended_happens : (s : Store) (e : Event) (calls : List PortEvent) (done : List Act) (to : Place) (t : Store)
+  ended_happens : (s : Store) (e : Event) (calls : List PortEvent) (done : List Effect) (to : ControlPoint) (t : Store)
       → Happens d who q Ended s e calls done to t → ⊥
   ended_happens s (event.Start at) calls done to t happens = happens
   ended_happens s (event.Consumed at got) calls done to t happens = happens
@@ -37,7 +37,7 @@ module _ (d : Definition) (who : Identity) (q : PortState) where
   ended_happens s (event.Cut state) calls done to t happens = happens
   ended_happens s (event.Failed why) calls done to t happens = neither happens.2
 
-  closed_happens : (s : Store) (e : Event) (calls : List PortEvent) (done : List Act) (to : Place) (t : Store)
+  closed_happens : (s : Store) (e : Event) (calls : List PortEvent) (done : List Effect) (to : ControlPoint) (t : Store)
       → Happens d who q Closed s e calls done to t → ⊥
   closed_happens s (event.Start at) calls done to t happens = happens
   closed_happens s (event.Consumed at got) calls done to t happens = happens
@@ -57,29 +57,29 @@ module _ (d : Definition) (who : Identity) (q : PortState) where
   closed_happens s (event.Failed why) calls done to t happens = neither happens.2
 
 -- From a place from which no deed and no step leads a run stays where it is.
-module _ (place : Place) (d : Definition) (who : Identity) (s : Store) (q : PortState)
-    (no_deed : (r : PortState) (mid : Store) (deed : Deed) (to : Place) (t : Store)
+module _ (place : ControlPoint) (d : Definition) (who : Identity) (s : Store) (q : PortState)
+    (no_deed : (r : PortState) (mid : Store) (deed : Deed) (to : ControlPoint) (t : Store)
     → Leads d who r place mid deed to t → ⊥)
-    (no_turn : (r : PortState) (mid : Store) (to : Place) (t : Store) → Turns d who r place mid to t → ⊥) where
-  stays : {deeds : List Deed} {history : List PortEvent} {to : Place} {t : Store} {r : PortState}
+    (no_turn : (r : PortState) (mid : Store) (to : ControlPoint) (t : Store) → LeadsSilently d who r place mid to t → ⊥) where
+  stays : {deeds : List Deed} {history : List PortEvent} {to : ControlPoint} {t : Store} {r : PortState}
       → Runs d who place s q deeds history to t r → (deeds ≡ []) × (to ≡ place) × (t ≡ s)
   stays still = (refl, refl, refl)
-  stays (acts {mid = mid} {port = port} before deed to t r leads legal) =
+  stays (effects {mid = mid} {port = port} before deed to t r leads legal) =
       absurd (no_deed port mid deed to t
-      (subst (λ (at : Place). Leads d who port at mid deed to t) (stays before).1 leads))
+      (subst (λ (at : ControlPoint). Leads d who port at mid deed to t) (stays before).1 leads))
   stays (turns {mid = mid} {port = port} before to t turn) =
-      absurd (no_turn port mid to t (subst (λ (at : Place). Turns d who port at mid to t) (stays before).1 turn))
+      absurd (no_turn port mid to t (subst (λ (at : ControlPoint). LeadsSilently d who port at mid to t) (stays before).1 turn))
   stays (hears before heard r outside step) = stays before
   stays (waits before classes quiet step) = stays before
 
 ended : GoesNoFurther Ended
 ended d who to s t q r deeds history runs =
-    stays Ended d who s q (λ port mid deed. ended_happens d who port mid deed.event deed.calls deed.acts)
+    stays Ended d who s q (λ port mid deed. ended_happens d who port mid deed.event deed.calls deed.effects)
     (λ port mid to t turn. turn) runs
 
 closed : GoesNoFurther Closed
 closed d who to s t q r deeds history runs =
-    stays Closed d who s q (λ port mid deed. closed_happens d who port mid deed.event deed.calls deed.acts)
+    stays Closed d who s q (λ port mid deed. closed_happens d who port mid deed.event deed.calls deed.effects)
     (λ port mid to t turn. turn) runs
 
 pub ends_for_good : EndsForGood

@@ -8,12 +8,12 @@ use Rattle.run_record.specs.Event as event
 use Rattle.run_record.specs.declared.failure.Failure.{Failure}
 use Rattle.run_semantics.specs.Fails.{Fails}
 use Rattle.run_semantics.specs.Leads.{Leads}
-use Rattle.run_semantics.specs.Place.{Amid, AtStart, Closed, Definition, Doing, Ended, In, Place, Receiving}
+use Rattle.run_semantics.specs.ControlPoint.{Amid, AtStart, Closed, Definition, Doing, Ended, In, ControlPoint, Receiving}
 use Rattle.sdl_system.specs.Body as body
 
-pub leads_failed : (d : Definition) (who : Identity) (q : PortState) (at : Place) (s : Store) (why : Failure)
+pub leads_failed : (d : Definition) (who : Identity) (q : PortState) (at : ControlPoint) (s : Store) (why : Failure)
     → Fails d who q at s why
-    → Leads d who q at s (record { event = event.Failed why; calls = Stop ∷ []; acts = [] }) Ended s
+    → Leads d who q at s (record { event = event.Failed why; calls = Stop ∷ []; effects = [] }) Ended s
 leads_failed d who q AtStart s why fails = (refl, refl, fails, refl, refl)
 leads_failed d who q (In n) s why fails = (refl, refl, fails, refl, refl)
 leads_failed d who q (Receiving origin variables values rest) s why fails = (refl, refl, fails, refl, refl)

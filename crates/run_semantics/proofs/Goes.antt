@@ -21,14 +21,14 @@ use Rattle.run_semantics.proofs.Failing.{leads_failed}
 use Rattle.run_semantics.proofs.Outside.{Runs-drawn, drawn_as-append, outside_of-append, outside_of-drawn_calls, outside_of-drawn, own_of-append, own_of-drawn_calls, own_of-drawn}
 use Rattle.run_semantics.proofs.Runs.{Runs-append}
 use Rattle.run_semantics.proofs.Same.{selecting_drawn, tried_drawn}
-use Rattle.run_semantics.specs.Act.{Deed, calls_of, events_of}
+use Rattle.run_semantics.specs.Effect.{Deed, calls_of, events_of}
 use Rattle.run_semantics.specs.Fails.{Fails}
 use Rattle.run_semantics.specs.Goes.{AreInner, Goes, GoesWrong, IsFirst, IsInner, IsOneStep, MachineValue, Waits, drawn_as, with_event}
-use Rattle.run_semantics.specs.Leads.{IsQuiet, Leads, Selecting, Turns}
-use Rattle.run_semantics.specs.Place.{Definition, Ended, In, Place}
-use Rattle.run_semantics.specs.Runs.{Runs, acts, outside_of, own_of, still, turns, waits}
+use Rattle.run_semantics.specs.Leads.{IsQuiet, Leads, Selecting, LeadsSilently}
+use Rattle.run_semantics.specs.ControlPoint.{Definition, Ended, In, ControlPoint}
+use Rattle.run_semantics.specs.Runs.{Runs, effects, outside_of, own_of, still, turns, waits}
 use Rattle.run_semantics.specs.Selection.{none_true, tried}
-use Rattle.run_semantics.specs.World.{IsTrueOfOne, WorldValue, after_acts, after_deeds, time_after, time_after_one}
+use Rattle.run_semantics.specs.World.{IsTrueOfOne, WorldValue, after_effects, after_deeds, time_after, time_after_one}
 use Rattle.sdl_system.specs.Behaviour.{ContinuousSignal}
 use Rattle.sdl_system.specs.declared.id.StateId.{StateId}
 
@@ -57,7 +57,7 @@ taken_alive classes old new (Discarded got) takes = ap (λ (q : PortState). q.al
 taken_alive classes old new Nothing takes = ap (λ (q : PortState). q.alive) takes.1
 
 module _ (d : Definition) where
-  pub goes_still : (from : Place) (m : MachineValue) (w : WorldValue) → Goes AreInner d from m w from m w
+  pub goes_still : (from : ControlPoint) (m : MachineValue) (w : WorldValue) → Goes AreInner d from m w from m w
   goes_still from m w = record {
     deeds = [];
     news = [];
@@ -76,21 +76,21 @@ module _ (d : Definition) where
     runs = still;
   }
 
-  pub goes_same : (from : Place) (m n : MachineValue) (w v : WorldValue) → n ≡ m → v ≡ w
+  pub goes_same : (from : ControlPoint) (m n : MachineValue) (w v : WorldValue) → n ≡ m → v ≡ w
       → Goes AreInner d from m w from n v
   goes_same from m n w v same quiet = rw (same, quiet) (goes_still from m w)
 
   -- what begins at equal work
-  pub goes_since : (Shape : List Deed → Type 0) (from to : Place) (m k n : MachineValue) (w v : WorldValue) → k ≡ m
+  pub goes_since : (Shape : List Deed → Type 0) (from to : ControlPoint) (m k n : MachineValue) (w v : WorldValue) → k ≡ m
       → Goes Shape d from k w to n v → Goes Shape d from m w to n v
   goes_since Shape from to m k n w v same goes = subst (λ (x : MachineValue). Goes Shape d from x w to n v) same goes
 
   -- what ends at equal work
-  pub goes_until : (Shape : List Deed → Type 0) (from to : Place) (m k n : MachineValue) (w u v : WorldValue) → n ≡ k
+  pub goes_until : (Shape : List Deed → Type 0) (from to : ControlPoint) (m k n : MachineValue) (w u v : WorldValue) → n ≡ k
       → v ≡ u → Goes Shape d from m w to k u → Goes Shape d from m w to n v
   goes_until Shape from to m k n w u v same around goes = rw (same, around) goes
 
-  goes_join : (First Then Shape : List Deed → Type 0) (from mid to : Place) (l m n : MachineValue) (w v u : WorldValue)
+  goes_join : (First Then Shape : List Deed → Type 0) (from mid to : ControlPoint) (l m n : MachineValue) (w v u : WorldValue)
       (first : Goes First d from l w mid m v) (then : Goes Then d mid m v to n u)
       → Shape (first.deeds ++ then.deeds) → Goes Shape d from l w to n u
   goes_join First Then Shape from mid to l m n w v u first then shape = record {
@@ -127,14 +127,14 @@ module _ (d : Definition) where
         Runs d who mid m.store m.owner.state then.deeds then.history to n.store n.owner.state) first.who then.runs);
   }
 
-  pub goes_on : (from mid to : Place) (l m n : MachineValue) (w v u : WorldValue) → Goes AreInner d from l w mid m v
+  pub goes_on : (from mid to : ControlPoint) (l m n : MachineValue) (w v u : WorldValue) → Goes AreInner d from l w mid m v
       → Goes AreInner d mid m v to n u → Goes AreInner d from l w to n u
   goes_on from mid to l m n w v u first then =
       goes_join AreInner AreInner AreInner from mid to l m n w v u first then
       (AreInner-append first.deeds then.deeds first.shape then.shape)
 
   -- a step that has begun goes on
-  pub step_on : (counts : Bool) (from mid to : Place) (l m n : MachineValue) (w v u : WorldValue)
+  pub step_on : (counts : Bool) (from mid to : ControlPoint) (l m n : MachineValue) (w v u : WorldValue)
       → Goes (IsOneStep counts) d from l w mid m v → Goes AreInner d mid m v to n u
       → Goes (IsOneStep counts) d from l w to n u
   step_on counts from mid to l m n w v u first then =
@@ -144,14 +144,14 @@ module _ (d : Definition) where
   -- ---- one deed
 
   -- The owner draws, and then a deed is done; before its event is recorded the work stands at `k`.
-  pub goes_drawn_deed : (Shape : List Deed → Type 0) (from to : Place) (m k : MachineValue) (w : WorldValue)
+  pub goes_drawn_deed : (Shape : List Deed → Type 0) (from to : ControlPoint) (m k : MachineValue) (w : WorldValue)
       (deed : Deed) (news : List Placed) → Shape (deed ∷ []) → own_of deed.calls ≡ deed.calls
       → outside_of deed.calls ≡ [] → k.who ≡ m.who → k.owner.port ≡ m.owner.port → k.owner.pid ≡ m.owner.pid
       → k.owner.drawn ≡ m.owner.drawn ++ news → k.events ≡ m.events
       → k.store.time ≡ time_after_one m.store.time deed.event → IsTrueOfOne m.who w m.store.time deed.event
       → Leads d m.who (after_draws m.owner.pid m.owner.state news) from m.store deed to k.store
       → IsLegal (after_draws m.owner.pid m.owner.state news) deed.calls k.owner.state
-      → Goes Shape d from m w to (with_event k deed.event) (after_acts w deed.acts)
+      → Goes Shape d from m w to (with_event k deed.event) (after_effects w deed.effects)
   goes_drawn_deed Shape from to m k w deed news shape own outside who port pid drawn events time is_true leads legal =
       record {
         deeds = deed ∷ [];
@@ -168,17 +168,17 @@ module _ (d : Definition) where
         world = refl;
         time = time;
         are_true = (is_true, tt);
-        runs = acts
+        runs = effects
             (Runs-drawn d m.who from m.store m.owner.state [] [] from m.store m.owner.state m.owner.pid news still)
             deed to k.store k.owner.state leads legal;
       }
 
-  pub goes_deed : (Shape : List Deed → Type 0) (from to : Place) (m k : MachineValue) (w : WorldValue) (deed : Deed)
+  pub goes_deed : (Shape : List Deed → Type 0) (from to : ControlPoint) (m k : MachineValue) (w : WorldValue) (deed : Deed)
       → Shape (deed ∷ []) → own_of deed.calls ≡ deed.calls → outside_of deed.calls ≡ [] → k.who ≡ m.who
       → k.owner.port ≡ m.owner.port → k.owner.pid ≡ m.owner.pid → k.owner.drawn ≡ m.owner.drawn → k.events ≡ m.events
       → k.store.time ≡ time_after_one m.store.time deed.event → IsTrueOfOne m.who w m.store.time deed.event
       → Leads d m.who m.owner.state from m.store deed to k.store → IsLegal m.owner.state deed.calls k.owner.state
-      → Goes Shape d from m w to (with_event k deed.event) (after_acts w deed.acts)
+      → Goes Shape d from m w to (with_event k deed.event) (after_effects w deed.effects)
   goes_deed Shape from to m k w deed shape own outside who port pid drawn events time is_true leads legal =
       goes_drawn_deed Shape from to m k w deed [] shape own outside who port pid
       (drawn ∙ sym (append-nil m.owner.drawn)) events time is_true leads legal
@@ -186,8 +186,8 @@ module _ (d : Definition) where
   -- ---- no deed
 
   -- a step without an event
-  pub goes_turn : (from to : Place) (m n : MachineValue) (w : WorldValue)
-      → Turns d m.who m.owner.state from m.store to n.store → n.who ≡ m.who → n.owner ≡ m.owner → n.events ≡ m.events
+  pub goes_turn : (from to : ControlPoint) (m n : MachineValue) (w : WorldValue)
+      → LeadsSilently d m.who m.owner.state from m.store to n.store → n.who ≡ m.who → n.owner ≡ m.owner → n.events ≡ m.events
       → n.store.time ≡ m.store.time → Goes AreInner d from m w to n w
   goes_turn from to m n w turn who owner events time = record {
     deeds = [];
@@ -209,7 +209,7 @@ module _ (d : Definition) where
   }
 
   -- the owner draws
-  abbrev pub goes_drawn : (from : Place) (m : MachineValue) (w : WorldValue) (o : OwnerState) (news : List Placed)
+  abbrev pub goes_drawn : (from : ControlPoint) (m : MachineValue) (w : WorldValue) (o : OwnerState) (news : List Placed)
       → IsDrawn m.owner o news → Goes AreInner d from m w from (record m { owner = o }) w
   goes_drawn from m w o news draws = record {
     deeds = [];
@@ -232,7 +232,7 @@ module _ (d : Definition) where
   }
 
   -- what begins with a draw
-  pub drawn_on : (Shape : List Deed → Type 0) (from to : Place) (m n : MachineValue) (w v : WorldValue) (o : OwnerState)
+  pub drawn_on : (Shape : List Deed → Type 0) (from to : ControlPoint) (m n : MachineValue) (w v : WorldValue) (o : OwnerState)
       (news : List Placed) → IsDrawn m.owner o news → Goes Shape d from (record m { owner = o }) w to n v
       → Goes Shape d from m w to n v
   drawn_on Shape from to m n w v o news draws goes =
@@ -242,13 +242,13 @@ module _ (d : Definition) where
   -- ---- the first deed of a step
 
   -- a take, and what begins with what it gave
-  pub goes_taken : (counts : Bool) (n : StateId) (to : Place) (m k : MachineValue) (w : WorldValue) (deed : Deed)
+  pub goes_taken : (counts : Bool) (n : StateId) (to : ControlPoint) (m k : MachineValue) (w : WorldValue) (deed : Deed)
       (classes : List Class) (reply : Taken) (takes : TakesHere classes m.owner k.owner reply)
       → m.owner.state.alive ≡ true → deed.calls ≡ Take classes reply ∷ [] → IsFirst deed.event
       → is_beginning deed.event ≡ counts → k.who ≡ m.who → k.events ≡ m.events
       → k.store.time ≡ time_after_one m.store.time deed.event → IsTrueOfOne m.who w m.store.time deed.event
       → Leads d m.who (after_draws m.owner.pid m.owner.state takes.news) (In n) m.store deed to k.store
-      → Goes (IsOneStep counts) d (In n) m w to (with_event k deed.event) (after_acts w deed.acts)
+      → Goes (IsOneStep counts) d (In n) m w to (with_event k deed.event) (after_effects w deed.effects)
   goes_taken counts n to m k w deed classes reply takes alive is first begins who events time is_true leads =
       let q : PortState = after_draws m.owner.pid m.owner.state takes.news in
       let lives : q.alive ≡ true = after_draws-alive m.owner.pid m.owner.state takes.news ∙ alive in
@@ -260,14 +260,14 @@ module _ (d : Definition) where
       (k.owner.state, (lives, takes.take), refl))
 
   -- a take, and a failure after it
-  pub goes_taken_stopped : (counts : Bool) (n : StateId) (to : Place) (m k : MachineValue) (w : WorldValue)
+  pub goes_taken_stopped : (counts : Bool) (n : StateId) (to : ControlPoint) (m k : MachineValue) (w : WorldValue)
       (deed : Deed) (classes : List Class) (reply : Taken) (takes : TakesHere classes m.owner k.owner reply)
       → m.owner.state.alive ≡ true → deed.calls ≡ Take classes reply ∷ Stop ∷ [] → IsFirst deed.event
       → is_beginning deed.event ≡ counts → k.who ≡ m.who → k.events ≡ m.events
       → k.store.time ≡ time_after_one m.store.time deed.event → IsTrueOfOne m.who w m.store.time deed.event
       → Leads d m.who (after_draws m.owner.pid m.owner.state takes.news) (In n) m.store deed to k.store
       → Goes (IsOneStep counts) d (In n) m w to (with_event (record k { owner = after_stop k.owner }) deed.event)
-      (after_acts w deed.acts)
+      (after_effects w deed.effects)
   goes_taken_stopped counts n to m k w deed classes reply takes alive is first begins who events time is_true leads =
       let q : PortState = after_draws m.owner.pid m.owner.state takes.news in
       let lives : q.alive ≡ true = after_draws-alive m.owner.pid m.owner.state takes.news ∙ alive in
@@ -281,14 +281,14 @@ module _ (d : Definition) where
       (k.owner.state, (lives, takes.take), (stopped k.owner.state, (still_lives, refl), refl)))
 
   -- the owner draws, and a take is refused
-  pub goes_drawn_stopped : (counts : Bool) (n : StateId) (to : Place) (m k : MachineValue) (w : WorldValue)
+  pub goes_drawn_stopped : (counts : Bool) (n : StateId) (to : ControlPoint) (m k : MachineValue) (w : WorldValue)
       (deed : Deed) (news : List Placed) → IsDrawn m.owner k.owner news → m.owner.state.alive ≡ true
       → deed.calls ≡ Stop ∷ [] → IsFirst deed.event → is_beginning deed.event ≡ counts → k.who ≡ m.who
       → k.events ≡ m.events
       → k.store.time ≡ time_after_one m.store.time deed.event → IsTrueOfOne m.who w m.store.time deed.event
       → Leads d m.who (after_draws m.owner.pid m.owner.state news) (In n) m.store deed to k.store
       → Goes (IsOneStep counts) d (In n) m w to (with_event (record k { owner = after_stop k.owner }) deed.event)
-      (after_acts w deed.acts)
+      (after_effects w deed.effects)
   goes_drawn_stopped counts n to m k w deed news draws alive is first begins who events time is_true leads =
       let q : PortState = after_draws m.owner.pid m.owner.state news in
       let lives : q.alive ≡ true = after_draws-alive m.owner.pid m.owner.state news ∙ alive in
@@ -301,12 +301,12 @@ module _ (d : Definition) where
       (stopped k.owner.state, (lives, ap stopped draws.state), refl))
 
   -- the port is stopped, and nothing is drawn before
-  pub goes_stopped : (Shape : List Deed → Type 0) (from to : Place) (m k : MachineValue) (w : WorldValue) (deed : Deed)
+  pub goes_stopped : (Shape : List Deed → Type 0) (from to : ControlPoint) (m k : MachineValue) (w : WorldValue) (deed : Deed)
       → Shape (deed ∷ []) → m.owner.state.alive ≡ true → deed.calls ≡ Stop ∷ [] → k.who ≡ m.who → k.events ≡ m.events
       → k.store.time ≡ time_after_one m.store.time deed.event → IsTrueOfOne m.who w m.store.time deed.event
       → Leads d m.who m.owner.state from m.store deed to k.store
       → Goes Shape d from m w to (with_event (record k { owner = after_stop m.owner }) deed.event)
-      (after_acts w deed.acts)
+      (after_effects w deed.effects)
   goes_stopped Shape from to m k w deed shape alive is who events time is_true leads =
       goes_deed Shape from to m (record k { owner = after_stop m.owner }) w deed shape
       (subst (λ (calls : List PortEvent). own_of calls ≡ calls) (sym is) refl)
@@ -360,7 +360,7 @@ module _ (d : Definition) where
   -- ---- what goes wrong
 
   -- what goes on and then wrong, goes wrong
-  pub wrong_on : (from mid : Place) (l m n : MachineValue) (w v u : WorldValue) (why : Failure)
+  pub wrong_on : (from mid : ControlPoint) (l m n : MachineValue) (w v u : WorldValue) (why : Failure)
       → Goes AreInner d from l w mid m v → GoesWrong d mid m v n u why → GoesWrong d from l w n u why
   wrong_on from mid l m n w v u why first then = record {
     at = then.at;
@@ -369,7 +369,7 @@ module _ (d : Definition) where
   }
 
   -- what fails at once goes wrong
-  pub wrong_here : (from : Place) (m n : MachineValue) (w v : WorldValue) (why : Failure)
+  pub wrong_here : (from : ControlPoint) (m n : MachineValue) (w v : WorldValue) (why : Failure)
       → Fails d m.who m.owner.state from m.store why → n ≡ m → v ≡ w → GoesWrong d from m w n v why
   wrong_here from m n w v why fails same quiet = record {
     at = from;
@@ -378,11 +378,11 @@ module _ (d : Definition) where
   }
 
   -- what went wrong fails, and its port is stopped
-  pub goes_failed : (from : Place) (m n : MachineValue) (w v : WorldValue) (why : Failure)
+  pub goes_failed : (from : ControlPoint) (m n : MachineValue) (w v : WorldValue) (why : Failure)
       → GoesWrong d from m w n v why → n.owner.state.alive ≡ true
       → Goes AreInner d from m w Ended (with_event (record n { owner = after_stop n.owner }) (event.Failed why)) v
   goes_failed from m n w v why wrong alive =
-      let deed : Deed = record { event = event.Failed why; calls = Stop ∷ []; acts = [] } in
+      let deed : Deed = record { event = event.Failed why; calls = Stop ∷ []; effects = [] } in
       let k : MachineValue = with_event (record n { owner = after_stop n.owner }) (event.Failed why) in
       goes_on from wrong.at Ended m n k w v v wrong.goes
       (goes_stopped AreInner wrong.at Ended n n v deed (All-one (λ (deed : Deed). IsInner deed.event) deed tt)

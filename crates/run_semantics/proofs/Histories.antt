@@ -17,12 +17,12 @@ use Rattle.run_record.specs.Event as event
 use Rattle.run_semantics.proofs.Deeds.{events_of-append}
 use Rattle.run_semantics.proofs.Outside.{drawn_as-append, outside_of-append}
 use Rattle.run_semantics.proofs.Runs.{Runs-append}
-use Rattle.run_semantics.specs.Act.{Deed, events_of}
+use Rattle.run_semantics.specs.Effect.{Deed, events_of}
 use Rattle.run_semantics.specs.Goes.{Goes, MachineValue, Waits, drawn_as}
 use Rattle.run_semantics.specs.Instance.{HasRun, first_store}
 use Rattle.run_semantics.specs.Leads.{IsQuiet, Leads}
-use Rattle.run_semantics.specs.Place.{AtStart, Closed, Definition, In, Place}
-use Rattle.run_semantics.specs.Runs.{Runs, acts, hears, outside_of, still}
+use Rattle.run_semantics.specs.ControlPoint.{AtStart, Closed, Definition, In, ControlPoint}
+use Rattle.run_semantics.specs.Runs.{Runs, effects, hears, outside_of, still}
 use Rattle.run_semantics.specs.World.{WorldValue}
 use Rattle.sdl_system.specs.declared.id.StateId.{StateId}
 
@@ -54,7 +54,7 @@ module _ (d : Definition) where
   }
 
   -- what goes on has run
-  pub run_goes : (shared : Bool) (Shape : List Deed → Type 0) (from to : Place) (m n : MachineValue) (w v : WorldValue)
+  pub run_goes : (shared : Bool) (Shape : List Deed → Type 0) (from to : ControlPoint) (m n : MachineValue) (w v : WorldValue)
       → HasRun shared d m.who m.events from m.store m.owner → Goes Shape d from m w to n v
       → HasRun shared d n.who n.events to n.store n.owner
   run_goes shared Shape from to m n w v run goes = record {
@@ -92,12 +92,12 @@ module _ (d : Definition) where
   -- ---- a record that is closed
 
   -- an event with no call of the port, and nothing done outside
-  run_closes : (shared : Bool) (who : Identity) (events recorded : List Event) (at : Place) (s : Store)
+  run_closes : (shared : Bool) (who : Identity) (events recorded : List Event) (at : ControlPoint) (s : Store)
       (owner : OwnerState) (happened : Event) → HasRun shared d who events at s owner
-      → Leads d who owner.state at s (record { event = happened; calls = []; acts = [] }) Closed s
+      → Leads d who owner.state at s (record { event = happened; calls = []; effects = [] }) Closed s
       → recorded ≡ events ++ happened ∷ [] → HasRun shared d who recorded Closed s owner
   run_closes shared who events recorded at s owner happened run leads is =
-      let deed : Deed = record { event = happened; calls = []; acts = [] } in
+      let deed : Deed = record { event = happened; calls = []; effects = [] } in
       record {
         values = run.values;
         deeds = run.deeds ++ deed ∷ [];
@@ -106,7 +106,7 @@ module _ (d : Definition) where
             ∙ sym (events_of-append run.deeds (deed ∷ []));
         outside = λ is_shared. ap (λ (history : List PortEvent). outside_of history) (append-nil run.history)
             ∙ run.outside is_shared;
-        runs = acts run.runs deed Closed s owner.state leads refl;
+        runs = effects run.runs deed Closed s owner.state leads refl;
       }
 
   -- in a state in which nothing is left to do
@@ -134,7 +134,7 @@ module _ (d : Definition) where
 
   -- ---- a port for one thread: what comes is heard at once
 
-  pub run_hears : (shared : Bool) (who : Identity) (events : List Event) (at : Place) (s : Store) (owner : OwnerState)
+  pub run_hears : (shared : Bool) (who : Identity) (events : List Event) (at : ControlPoint) (s : Store) (owner : OwnerState)
       (heard : PortEvent) (port : PortState) → shared ≡ false → IsFromOutside heard → PortStep owner.state heard port
       → HasRun shared d who events at s owner → HasRun shared d who events at s (record owner { state = port })
   run_hears shared who events at s owner heard port alone outside step run = record {
@@ -146,13 +146,13 @@ module _ (d : Definition) where
     runs = hears run.runs heard port outside step;
   }
 
-  pub run_hears_put : (shared : Bool) (who : Identity) (events : List Event) (at : Place) (s : Store)
+  pub run_hears_put : (shared : Bool) (who : Identity) (events : List Event) (at : ControlPoint) (s : Store)
       (owner : OwnerState) (item : Item) → shared ≡ false → HasRun shared d who events at s owner
       → HasRun shared d who events at s (record owner { state = put_into owner.state item })
   run_hears_put shared who events at s owner item alone run =
       run_hears shared who events at s owner (Put item) (put_into owner.state item) alone tt refl run
 
-  pub run_hears_expiry : (shared : Bool) (who : Identity) (events : List Event) (at : Place) (s : Store)
+  pub run_hears_expiry : (shared : Bool) (who : Identity) (events : List Event) (at : ControlPoint) (s : Store)
       (owner : OwnerState) (key : TimerKey) (arm due time : ℕ) → shared ≡ false → HasRun shared d who events at s owner
       → HasRun shared d who events at s (record owner { state = expire_in owner.state key arm due time })
   run_hears_expiry shared who events at s owner key arm due time alone run =

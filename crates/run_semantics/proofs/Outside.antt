@@ -12,9 +12,9 @@ use Rattle.port_model.specs.Laws.{IsFromOutside}
 use Rattle.port_model.specs.Port.{PortState, expire_in}
 use Rattle.run_evaluation.specs.declared.identity.Identity.{Identity}
 use Rattle.run_evaluation.specs.declared.store.Store.{Store}
-use Rattle.run_semantics.specs.Act.{Deed}
+use Rattle.run_semantics.specs.Effect.{Deed}
 use Rattle.run_semantics.specs.Goes.{drawn_as, entry_as}
-use Rattle.run_semantics.specs.Place.{Definition, Place}
+use Rattle.run_semantics.specs.ControlPoint.{Definition, ControlPoint}
 use Rattle.run_semantics.specs.Runs.{Runs, hears, is_outside, outside_of, own_of}
 
 pub outside_of-append : (first later : List PortEvent)
@@ -104,9 +104,9 @@ outside_of-calls (event ∷ rest) all =
 
 -- ---- what is drawn is heard
 
-module _ (d : Definition) (who : Identity) (from : Place) (s : Store) (q : PortState) where
+module _ (d : Definition) (who : Identity) (from : ControlPoint) (s : Store) (q : PortState) where
   -- one entry
-  hears_fuse : (deeds : List Deed) (history : List PortEvent) (mid : Place) (t : Store) (r : PortState) (own : Bool)
+  hears_fuse : (deeds : List Deed) (history : List PortEvent) (mid : ControlPoint) (t : Store) (r : PortState) (own : Bool)
       (fuse : Fuse) (at : ℕ) → Runs d who from s q deeds history mid t r
       → Runs d who from s q deeds (history ++ cond own (Expire fuse.key fuse.arm fuse.due at ∷ []) []) mid t
       (cond own (expire_in r fuse.key fuse.arm fuse.due at) r)
@@ -114,7 +114,7 @@ module _ (d : Definition) (who : Identity) (from : Place) (s : Store) (q : PortS
       hears runs (Expire fuse.key fuse.arm fuse.due at) (expire_in r fuse.key fuse.arm fuse.due at) tt refl
   hears_fuse deeds history mid t r false fuse at runs = rw (append-nil history) runs
 
-  hears_entry : (deeds : List Deed) (history : List PortEvent) (mid : Place) (t : Store) (r : PortState) (pid at : ℕ)
+  hears_entry : (deeds : List Deed) (history : List PortEvent) (mid : ControlPoint) (t : Store) (r : PortState) (pid at : ℕ)
       (entry : Entry) → Runs d who from s q deeds history mid t r
       → Runs d who from s q deeds (history ++ entry_as pid at entry) mid t (after_entry pid r at entry)
   hears_entry deeds history mid t r pid at (Signal item) runs =
@@ -123,7 +123,7 @@ module _ (d : Definition) (who : Identity) (from : Place) (s : Store) (q : PortS
       hears_fuse deeds history mid t r (fuse.pid == pid) fuse at runs
 
   -- Where a run has come to, what its owner draws is heard: it makes of the port what a draw makes.
-  pub Runs-drawn : (deeds : List Deed) (history : List PortEvent) (mid : Place) (t : Store) (r : PortState) (pid : ℕ)
+  pub Runs-drawn : (deeds : List Deed) (history : List PortEvent) (mid : ControlPoint) (t : Store) (r : PortState) (pid : ℕ)
       (news : List Placed) → Runs d who from s q deeds history mid t r
       → Runs d who from s q deeds (history ++ drawn_as pid news) mid t (after_draws pid r news)
   Runs-drawn deeds history mid t r pid [] runs = rw (append-nil history) runs

@@ -7,19 +7,19 @@ use Rattle.port_model.specs.Port.{PortState}
 use Rattle.port_model.specs.declared.taken.Taken.TheVariants.{Nothing}
 use Rattle.run_evaluation.specs.declared.identity.Identity.{Identity}
 use Rattle.run_evaluation.specs.declared.store.Store.{Store}
-use Rattle.run_semantics.specs.Act.{Deed}
-use Rattle.run_semantics.specs.Place.{Definition, Place}
-use Rattle.run_semantics.specs.Runs.{Runs, still, acts, turns, hears, waits}
+use Rattle.run_semantics.specs.Effect.{Deed}
+use Rattle.run_semantics.specs.ControlPoint.{Definition, ControlPoint}
+use Rattle.run_semantics.specs.Runs.{Runs, still, effects, turns, hears, waits}
 
-module _ (d : Definition) (who : Identity) (from : Place) (s : Store) (q : PortState) (deeds : List Deed)
-    (history : List PortEvent) (mid : Place) (t : Store) (r : PortState) where
-  pub Runs-append : {later : List Deed} {calls : List PortEvent} {to : Place} {u : Store} {end : PortState}
+module _ (d : Definition) (who : Identity) (from : ControlPoint) (s : Store) (q : PortState) (deeds : List Deed)
+    (history : List PortEvent) (mid : ControlPoint) (t : Store) (r : PortState) where
+  pub Runs-append : {later : List Deed} {calls : List PortEvent} {to : ControlPoint} {u : Store} {end : PortState}
       → Runs d who from s q deeds history mid t r → Runs d who mid t r later calls to u end
       → Runs d who from s q (deeds ++ later) (history ++ calls) to u end
   Runs-append first still = rw (append-nil deeds, append-nil history) first
-  Runs-append first (acts {deeds = ds} {history = hs} before deed to u end leads legal) =
+  Runs-append first (effects {deeds = ds} {history = hs} before deed to u end leads legal) =
       rw (← append_assoc deeds ds (deed ∷ []), ← append_assoc history hs deed.calls)
-      (acts (Runs-append first before) deed to u end leads legal)
+      (effects (Runs-append first before) deed to u end leads legal)
   Runs-append first (turns before to u turn) = turns (Runs-append first before) to u turn
   Runs-append first (hears {history = hs} before heard end outside step) =
       rw (← append_assoc history hs (heard ∷ [])) (hears (Runs-append first before) heard end outside step)
@@ -27,8 +27,8 @@ module _ (d : Definition) (who : Identity) (from : Place) (s : Store) (q : PortS
       rw (← append_assoc history hs (Take classes Nothing ∷ [])) (waits (Runs-append first before) classes quiet step)
 
 -- Events from outside, each of which leads on from the port that the one before left, are heard.
-module _ (d : Definition) (who : Identity) (from : Place) (s : Store) (q : PortState) (deeds : List Deed) where
-  pub Runs-hear : (history : List PortEvent) (mid : Place) (t : Store) (r : PortState) (heard : List PortEvent)
+module _ (d : Definition) (who : Identity) (from : ControlPoint) (s : Store) (q : PortState) (deeds : List Deed) where
+  pub Runs-hear : (history : List PortEvent) (mid : ControlPoint) (t : Store) (r : PortState) (heard : List PortEvent)
       (end : PortState) → Runs d who from s q deeds history mid t r → All IsFromOutside heard → IsLegal r heard end
       → Runs d who from s q deeds (history ++ heard) mid t end
   Runs-hear history mid t r [] end runs outside legal = rw (append-nil history, legal) runs

@@ -21,7 +21,7 @@ use Rattle.run_evaluation.specs.declared.store.Store.{Store}
 use Rattle.run_record.specs.declared.failure.Failure.{Failure}
 use Rattle.run_semantics.specs.Fails.{FailsIn}
 use Rattle.run_semantics.specs.Leads.{Selecting}
-use Rattle.run_semantics.specs.Place.{Definition}
+use Rattle.run_semantics.specs.ControlPoint.{Definition}
 use Rattle.run_semantics.specs.Selection.{Selects, tried}
 use Rattle.sdl_system.specs.Behaviour.{ContinuousSignal, StateMeaning}
 use Rattle.sdl_system.specs.System.{SystemValue}

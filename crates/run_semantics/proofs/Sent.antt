@@ -8,10 +8,10 @@ use Rattle.port_values.specs.declared.value.Value.{Value}
 use Rattle.run_record.specs.Event as event
 use Rattle.run_record.specs.Event.{Event}
 use Rattle.run_semantics.proofs.Acting.{AreActs, AreActsOf}
-use Rattle.run_semantics.specs.Act.{Act, Arm, Create, Deed, Send, events_of}
+use Rattle.run_semantics.specs.Effect.{Effect, Arm, Create, Deed, Send, events_of}
 use Rattle.run_semantics.specs.Leads.{created}
 use Rattle.run_semantics.specs.Sent.{sent_by_one, sent_to, sent_with}
-use Rattle.run_semantics.specs.World.{Sent, WorldValue, after_act, after_acts, after_deeds, has_port, sent_after, sent_on}
+use Rattle.run_semantics.specs.World.{Sent, WorldValue, after_effect, after_effects, after_deeds, has_port, sent_after, sent_on}
 use Rattle.sdl_system.specs.declared.id.ProcessId.{ProcessId}
 use Rattle.sdl_system.specs.declared.route.Dest.{Dest}
 use Rattle.sdl_system.specs.declared.route.Target.{Target}
@@ -56,25 +56,25 @@ with_more who e rest sent = λ i number.
 
 module _ (who : ℕ) (w : WorldValue) (sent : Sent) (known : w.sent ≡ Some sent) where
   -- what one act sends
-  after_one : (act : Act) → (after_act w act).sent ≡ Some (sent_after sent act)
-  after_one act = ap (λ (o : Option Sent). option_map (λ sent. sent_after sent act) o) known
+  after_one : (effect : Effect) → (after_effect w effect).sent ≡ Some (sent_after sent effect)
+  after_one effect = ap (λ (o : Option Sent). option_map (λ sent. sent_after sent effect) o) known
 
-  done_by : (later : Sent) (done list : List Act) → done ≡ list → (after_acts w list).sent ≡ Some later
-      → (after_acts w done).sent ≡ Some later
-  done_by later done list is then = subst (λ (acts : List Act). (after_acts w acts).sent ≡ Some later) (sym is) then
+  done_by : (later : Sent) (done list : List Effect) → done ≡ list → (after_effects w list).sent ≡ Some later
+      → (after_effects w done).sent ≡ Some later
+  done_by later done list is then = subst (λ (effects : List Effect). (after_effects w effects).sent ≡ Some later) (sym is) then
 
-  nothing_done : (done : List Act) → done ≡ [] → (after_acts w done).sent ≡ Some sent
+  nothing_done : (done : List Effect) → done ≡ [] → (after_effects w done).sent ≡ Some sent
   nothing_done done none = done_by sent done [] none known
 
-  created_none : (number : Option ℕ) (done : List Act) (values : List Value) (id : ProcessId)
-      → done ≡ created id who values number → (after_acts w done).sent ≡ Some sent
+  created_none : (number : Option ℕ) (done : List Effect) (values : List Value) (id : ProcessId)
+      → done ≡ created id who values number → (after_effects w done).sent ≡ Some sent
   created_none None done values id is = nothing_done done is
   created_none (Some number) done values id is =
       done_by sent done (Create id number who values ∷ []) is (after_one (Create id number who values))
 
   output_sends : (signal : SignalId) (named : Dest) (values : List Value) (target : Target)
       → let item : Item = record { name = signal; values = values; sender = Of who } in
-      (after_act w (Send target item)).sent ≡ Some (sent_with who (event.Output signal named values target ∷ []) sent)
+      (after_effect w (Send target item)).sent ≡ Some (sent_with who (event.Output signal named values target ∷ []) sent)
   output_sends signal named values (Instance to) =
       let item : Item = record { name = signal; values = values; sender = Of who } in
       after_one (Send (Instance to) item) ∙ ap (λ s. Some s) (something sent to item)
@@ -87,12 +87,12 @@ module _ (who : ℕ) (w : WorldValue) (sent : Sent) (known : w.sent ≡ Some sen
       ∙ ap (λ s. Some s) (nothing sent)
 
   -- an event without an output leaves what was sent
-  quiet : (done : List Act) → (after_acts w done).sent ≡ Some sent
-      → (after_acts w done).sent ≡ Some (λ number. cond (has_port number) (sent number ++ []) (sent number))
+  quiet : (done : List Effect) → (after_effects w done).sent ≡ Some sent
+      → (after_effects w done).sent ≡ Some (λ number. cond (has_port number) (sent number ++ []) (sent number))
   quiet done is = is ∙ ap (λ s. Some s) (nothing sent)
 
-  event_sends : (e : Event) (done : List Act) → AreActsOf who e done
-      → (after_acts w done).sent ≡ Some (sent_with who (e ∷ []) sent)
+  event_sends : (e : Event) (done : List Effect) → AreActsOf who e done
+      → (after_effects w done).sent ≡ Some (sent_with who (e ∷ []) sent)
   event_sends (event.Output signal named values target) done are =
       done_by (sent_with who (event.Output signal named values target ∷ []) sent) done
       (Send target (record { name = signal; values = values; sender = Of who }) ∷ [])
@@ -120,7 +120,7 @@ pub deeds_send : (who : ℕ) (w : WorldValue) (deeds : List Deed) (sent : Sent) 
     → w.sent ≡ Some sent → (after_deeds w deeds).sent ≡ Some (sent_with who (events_of deeds) sent)
 deeds_send who w [] sent are known = known ∙ ap (λ s. Some s) (nothing sent)
 deeds_send who w (deed ∷ rest) sent are known =
-    let first : (after_acts w deed.acts).sent ≡ Some (sent_with who (deed.event ∷ []) sent) =
-    event_sends who w sent known deed.event deed.acts are.0 in
-    deeds_send who (after_acts w deed.acts) rest (sent_with who (deed.event ∷ []) sent) are.1 first
+    let first : (after_effects w deed.effects).sent ≡ Some (sent_with who (deed.event ∷ []) sent) =
+    event_sends who w sent known deed.event deed.effects are.0 in
+    deeds_send who (after_effects w deed.effects) rest (sent_with who (deed.event ∷ []) sent) are.1 first
     ∙ ap (λ s. Some s) (with_more who deed.event (events_of rest) sent)

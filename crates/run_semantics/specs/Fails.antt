@@ -17,7 +17,7 @@ use Rattle.run_evaluation.specs.declared.identity.Identity.{Identity}
 use Rattle.run_evaluation.specs.declared.store.Store.{Store}
 use Rattle.run_record.specs.declared.failure.Failure.{Failure}
 use Rattle.run_record.specs.declared.failure.Failure.TheVariants.{Memory, NoAnswer, Overflow, SetsSpent, TooLong, Undefined}
-use Rattle.run_semantics.specs.Place.{Amid, Definition, Doing, IsState, Place, Receiving}
+use Rattle.run_semantics.specs.ControlPoint.{Amid, Definition, Doing, IsState, ControlPoint, Receiving}
 use Rattle.run_semantics.specs.Reception.{sort_in}
 use Rattle.run_semantics.specs.Selection.{Selects, fails, first_failure, tried}
 use Rattle.sdl_system.specs.Behaviour.{Behaviour, ContinuousSignal, StateMeaning}
@@ -119,7 +119,7 @@ pub record IsSpent (here : Environment) (q : PortState) (one : Setting) (why : F
 -- What fails a transition at this place, by what is to be done there. A transition that leads to no state fails as
 -- Undefined: to one that the process doesn't have, or from the start to that from which it began. A text in which that
 -- can be has no system.
-abbrev pub HasCause : Definition → Identity → PortState → Place → Store → Failure → Type 0
+abbrev pub HasCause : Definition → Identity → PortState → ControlPoint → Store → Failure → Type 0
 HasCause d who q (Receiving origin (Some variable ∷ variables) (value ∷ values) rest) s why =
     placed (sort_in d.behaviour variable) value ≡ Err why
 HasCause d who q (Doing origin (body.action first rest)) s why = IsTooLong s why
@@ -145,7 +145,7 @@ HasCause d who q place s why = ⊥
 
 -- Where memory is asked for: to record an event, to keep values, to send. What only counts, goes on or receives asks
 -- for none.
-abbrev pub Grows : Place → Type 0
+abbrev pub Grows : ControlPoint → Type 0
 Grows (Doing origin (body.decision question parts rest)) = wants_memory question ≡ true
 Grows (Doing origin (body.ending (body.to_state state))) = Unit {0}
 Grows (Doing origin (body.ending body.to_same)) = Unit {0}
@@ -158,7 +158,7 @@ Grows (Amid origin (body.create process values) rest) = Unit {0}
 Grows place = ⊥
 
 -- a transition fails: memory was refused where it is asked for, or there is a cause
-abbrev pub Fails : Definition → Identity → PortState → Place → Store → Failure → Type 0
+abbrev pub Fails : Definition → Identity → PortState → ControlPoint → Store → Failure → Type 0
 Fails d who q place s why = ((why ≡ Memory) × Grows place) ⊎ HasCause d who q place s why
 
 -- ---- in a state

@@ -13,10 +13,10 @@ use Rattle.run_evaluation.specs.declared.store.Store.{Store}
 use Rattle.run_record.specs.Event.{Event, is_beginning}
 use Rattle.run_record.specs.Event as event
 use Rattle.run_record.specs.declared.failure.Failure.{Failure}
-use Rattle.run_semantics.specs.Act.{Deed, calls_of, events_of}
+use Rattle.run_semantics.specs.Effect.{Deed, calls_of, events_of}
 use Rattle.run_semantics.specs.Fails.{Fails}
 use Rattle.run_semantics.specs.Leads.{IsQuiet}
-use Rattle.run_semantics.specs.Place.{Definition, In, Place}
+use Rattle.run_semantics.specs.ControlPoint.{Definition, In, ControlPoint}
 use Rattle.run_semantics.specs.Runs.{Runs, outside_of, own_of}
 use Rattle.run_semantics.specs.World.{IsTrueOf, WorldValue, after_deeds, time_after}
 use Rattle.sdl_system.specs.declared.id.StateId.{StateId}
@@ -79,8 +79,8 @@ with_event m happened = record m { events = m.events ++ happened ∷ [] }
 -- From a place to a place, by deeds of this shape: the record grows by their events, the owner's history by exactly
 -- their calls and by what it drew, and the world by what they do; what they say of the world is true, and they are a
 -- run of the process.
-pub record Goes (Shape : List Deed → Type 0) (d : Definition) (from : Place) (m : MachineValue) (w : WorldValue)
-    (to : Place) (n : MachineValue) (v : WorldValue) : Type 0 where
+pub record Goes (Shape : List Deed → Type 0) (d : Definition) (from : ControlPoint) (m : MachineValue) (w : WorldValue)
+    (to : ControlPoint) (n : MachineValue) (v : WorldValue) : Type 0 where
   pub deeds : List Deed
   pub news : List Placed
   pub history : List PortEvent
@@ -98,10 +98,10 @@ pub record Goes (Shape : List Deed → Type 0) (d : Definition) (from : Place) (
   pub runs : Runs d m.who from m.store m.owner.state deeds history to n.store n.owner.state
 
 -- From a place to one at which the transition fails.
-pub record GoesWrong (d : Definition) (from : Place) (m : MachineValue) (w : WorldValue) (n : MachineValue)
+pub record GoesWrong (d : Definition) (from : ControlPoint) (m : MachineValue) (w : WorldValue) (n : MachineValue)
     (v : WorldValue)
     (why : Failure) : Type 0 where
-  pub at : Place
+  pub at : ControlPoint
   pub goes : Goes AreInner d from m w at n v
   pub fails : Fails d n.who n.owner.state at n.store why
 

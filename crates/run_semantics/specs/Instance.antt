@@ -9,9 +9,9 @@ use Rattle.run_evaluation.specs.Variables.{VariableList}
 use Rattle.run_evaluation.specs.declared.identity.Identity.{Identity}
 use Rattle.run_evaluation.specs.declared.store.Store.{Store}
 use Rattle.run_record.specs.Event.{Event}
-use Rattle.run_semantics.specs.Act.{Deed, events_of}
+use Rattle.run_semantics.specs.Effect.{Deed, events_of}
 use Rattle.run_semantics.specs.Goes.{drawn_as}
-use Rattle.run_semantics.specs.Place.{AtStart, Definition, Place}
+use Rattle.run_semantics.specs.ControlPoint.{AtStart, Definition, ControlPoint}
 use Rattle.run_semantics.specs.Runs.{Runs, outside_of}
 use Rattle.sdl_system.specs.Behaviour.{Behaviour, VariableMeaning}
 
@@ -32,7 +32,7 @@ first_store p values = initial_store (first_variables p values)
 
 -- The instance was made with these values, and its events are those of a run of its process, on a legal history that
 -- leads from the empty port to its own. Where all that comes from outside is drawn, that is what came.
-pub record HasRun (shared : Bool) (d : Definition) (who : Identity) (events : List Event) (place : Place) (s : Store)
+pub record HasRun (shared : Bool) (d : Definition) (who : Identity) (events : List Event) (place : ControlPoint) (s : Store)
     (owner : OwnerState) : Type 0 where
   pub values : List Value
   pub deeds : List Deed

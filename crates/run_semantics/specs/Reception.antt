@@ -47,7 +47,7 @@ pub record Inputs (p : Behaviour) (response : Option Response) (variables : List
   pub is : response ≡ Some (input variables condition number)
   pub begins : slice_get p.bodies number ≡ Some body
 
-pub record InputsFirst (p : Behaviour) (response : Option Response) (variables : List (Option VariableId))
+pub record IsPriorityInput (p : Behaviour) (response : Option Response) (variables : List (Option VariableId))
     (body : Body) : Type 0 where
   pub number : ℕ
   pub is : response ≡ Some (priority_input variables number)

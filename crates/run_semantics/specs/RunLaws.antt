@@ -8,9 +8,9 @@ use Rattle.port_model.specs.declared.selection.Class.{Class}
 use Rattle.run_evaluation.specs.Environment.{environment}
 use Rattle.run_evaluation.specs.declared.identity.Identity.{Identity}
 use Rattle.run_evaluation.specs.declared.store.Store.{Store}
-use Rattle.run_semantics.specs.Act.{Deed, events_of}
+use Rattle.run_semantics.specs.Effect.{Deed, events_of}
 use Rattle.run_semantics.specs.Leads.{Selecting}
-use Rattle.run_semantics.specs.Place.{Closed, Definition, Ended, Place}
+use Rattle.run_semantics.specs.ControlPoint.{Closed, Definition, Ended, ControlPoint}
 use Rattle.run_semantics.specs.Runs.{Runs}
 use Rattle.run_semantics.specs.Selection.{tried}
 use Rattle.run_semantics.specs.Sent.{sent_with}
@@ -21,15 +21,15 @@ use Rattle.sdl_system.specs.declared.id.StateId.{StateId}
 -- Two runs, of which the second begins where the first ends, are one, on the one history and then the other.
 abbrev pub RunsAppend : Type 0
 RunsAppend =
-    (d : Definition) (who : Identity) (from mid to : Place) (s t u : Store) (q r end : PortState)
+    (d : Definition) (who : Identity) (from mid to : ControlPoint) (s t u : Store) (q r end : PortState)
     (deeds later : List Deed) (history calls : List PortEvent)
     → Runs d who from s q deeds history mid t r → Runs d who mid t r later calls to u end
     → Runs d who from s q (deeds ++ later) (history ++ calls) to u end
 
 -- What has come to such a place does nothing any more: no deed, no step, and what it knows stays.
-abbrev pub GoesNoFurther : Place → Type 0
+abbrev pub GoesNoFurther : ControlPoint → Type 0
 GoesNoFurther place =
-    (d : Definition) (who : Identity) (to : Place) (s t : Store) (q r : PortState) (deeds : List Deed)
+    (d : Definition) (who : Identity) (to : ControlPoint) (s t : Store) (q r : PortState) (deeds : List Deed)
     (history : List PortEvent) → Runs d who place s q deeds history to t r → (deeds ≡ []) × (to ≡ place) × (t ≡ s)
 
 -- so it is with an instance that has ended, and with a record that is closed
@@ -40,7 +40,7 @@ EndsForGood = GoesNoFurther Ended × GoesNoFurther Closed
 -- the events of the run send there.
 abbrev pub OutputsAreSent : Type 0
 OutputsAreSent =
-    (d : Definition) (who : Identity) (from to : Place) (s t : Store) (q r : PortState) (deeds : List Deed)
+    (d : Definition) (who : Identity) (from to : ControlPoint) (s t : Store) (q r : PortState) (deeds : List Deed)
     (history : List PortEvent) (w : WorldValue) (sent : Sent)
     → Runs d who from s q deeds history to t r → w.sent ≡ Some sent
     → (after_deeds w deeds).sent ≡ Some (sent_with who.pid (events_of deeds) sent)

@@ -7,25 +7,25 @@ use Rattle.port_model.specs.declared.selection.Class.{Class}
 use Rattle.port_model.specs.declared.taken.Taken.TheVariants.{Nothing}
 use Rattle.run_evaluation.specs.declared.identity.Identity.{Identity}
 use Rattle.run_evaluation.specs.declared.store.Store.{Store}
-use Rattle.run_semantics.specs.Act.{Deed}
-use Rattle.run_semantics.specs.Leads.{IsQuiet, Leads, Turns}
-use Rattle.run_semantics.specs.Place.{Definition, In, Place}
+use Rattle.run_semantics.specs.Effect.{Deed}
+use Rattle.run_semantics.specs.Leads.{IsQuiet, Leads, LeadsSilently}
+use Rattle.run_semantics.specs.ControlPoint.{Definition, In, ControlPoint}
 use Rattle.sdl_system.specs.declared.id.StateId.{StateId}
 
 -- From a place, what is known there and a port, by these deeds and on this history of the port. A deed leads on with
 -- its calls of the port; a step may have no event; at any moment a signal may be put or a timer expire; and in a state
 -- a take may find nothing, where no continuous signal is true.
-pub data Runs (d : Definition) (who : Identity) (from : Place) (s : Store) (q : PortState)
-    : List Deed → List PortEvent → Place → Store → PortState → Type 0 where
+pub data Runs (d : Definition) (who : Identity) (from : ControlPoint) (s : Store) (q : PortState)
+    : List Deed → List PortEvent → ControlPoint → Store → PortState → Type 0 where
   still : Runs d who from s q [] [] from s q
-  acts : {deeds : List Deed} {history : List PortEvent} {at : Place} {mid : Store} {port : PortState}
-      → Runs d who from s q deeds history at mid port → (deed : Deed) (to : Place) (t : Store) (r : PortState)
+  effects : {deeds : List Deed} {history : List PortEvent} {at : ControlPoint} {mid : Store} {port : PortState}
+      → Runs d who from s q deeds history at mid port → (deed : Deed) (to : ControlPoint) (t : Store) (r : PortState)
       → Leads d who port at mid deed to t → IsLegal port deed.calls r
       → Runs d who from s q (deeds ++ deed ∷ []) (history ++ deed.calls) to t r
-  turns : {deeds : List Deed} {history : List PortEvent} {at : Place} {mid : Store} {port : PortState}
-      → Runs d who from s q deeds history at mid port → (to : Place) (t : Store)
-      → Turns d who port at mid to t → Runs d who from s q deeds history to t port
-  hears : {deeds : List Deed} {history : List PortEvent} {at : Place} {mid : Store} {port : PortState}
+  turns : {deeds : List Deed} {history : List PortEvent} {at : ControlPoint} {mid : Store} {port : PortState}
+      → Runs d who from s q deeds history at mid port → (to : ControlPoint) (t : Store)
+      → LeadsSilently d who port at mid to t → Runs d who from s q deeds history to t port
+  hears : {deeds : List Deed} {history : List PortEvent} {at : ControlPoint} {mid : Store} {port : PortState}
       → Runs d who from s q deeds history at mid port → (heard : PortEvent) (r : PortState)
       → IsFromOutside heard → PortStep port heard r
       → Runs d who from s q deeds (history ++ heard ∷ []) at mid r

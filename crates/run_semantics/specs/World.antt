@@ -6,7 +6,7 @@ use Rattle.port_values.specs.declared.item.SignalId.{SignalId}
 use Rattle.run_evaluation.specs.declared.identity.Identity.{Identity}
 use Rattle.run_record.specs.Event.{Event}
 use Rattle.run_record.specs.Event as event
-use Rattle.run_semantics.specs.Act.{Act, Create, Deed, Send}
+use Rattle.run_semantics.specs.Effect.{Effect, Create, Deed, Send}
 use Rattle.sdl_system.specs.Route.{living_in, or_later, target_in}
 use Rattle.sdl_system.specs.System.{SystemValue}
 use Rattle.sdl_system.specs.declared.id.ProcessId.{ProcessId}
@@ -23,13 +23,13 @@ most_instances = 1000
 
 -- For each process the least number of its living instances, and how many live; and how many numbers were given, of
 -- which no two are the same.
-pub record Census : Type 0 where
+pub record Living : Type 0 where
   pub least : List (Option ℕ)
   pub counts : List ℕ
   pub given : ℕ
 
-abbrev pub count_in : Census → ProcessId → ℕ
-count_in census process = unwrap_or (slice_get census.counts process.0) 0
+abbrev pub count_in : Living → ProcessId → ℕ
+count_in living process = unwrap_or (slice_get living.counts process.0) 0
 
 -- whether as many live as may, where that is bounded
 abbrev pub is_reached : Option ℕ → ℕ → Bool
@@ -38,21 +38,21 @@ is_reached (Some most) count = nat_le most count
 
 -- whether no instance of the process can be made: as many live as may, all numbers were given, or it is no process of
 -- the system
-abbrev pub is_full : SystemValue → Census → ProcessId → Bool
-is_full system census process =
-    option_map_or (λ p. is_reached p.maximum (count_in census process)) (slice_get system.processes process.0) true
-    || nat_le most_instances census.given
+abbrev pub is_full : SystemValue → Living → ProcessId → Bool
+is_full system living process =
+    option_map_or (λ p. is_reached p.maximum (count_in living process)) (slice_get system.processes process.0) true
+    || nat_le most_instances living.given
 
 -- the number of a new instance, where one can be made: the next that wasn't given
-abbrev pub number_for : SystemValue → Census → ProcessId → Option ℕ
-number_for system census process = if is_full system census process then None else Some (census.given + 1)
+abbrev pub number_for : SystemValue → Living → ProcessId → Option ℕ
+number_for system living process = if is_full system living process then None else Some (living.given + 1)
 
 -- once an instance of the process was made
-abbrev pub with_one_more : Census → ProcessId → Census
-with_one_more census process = record {
-  least = slice_set census.least process.0 (or_later (living_in census.least process) (Some (census.given + 1)));
-  counts = slice_set census.counts process.0 (count_in census process + 1);
-  given = census.given + 1;
+abbrev pub with_one_more : Living → ProcessId → Living
+with_one_more living process = record {
+  least = slice_set living.least process.0 (or_later (living_in living.least process) (Some (living.given + 1)));
+  counts = slice_set living.counts process.0 (count_in living process + 1);
+  given = living.given + 1;
 }
 
 -- ---- what was sent
@@ -77,8 +77,8 @@ sent_on sent to item number =
 pub record WorldValue : Type 0 where
   pub system : SystemValue
   pub clock : Option ℕ
-  pub census : Option Census
-  pub acts : Option (List Act)
+  pub living : Option Living
+  pub effects : Option (List Effect)
   pub sent : Option Sent
 
 -- the clock shows this time
@@ -90,44 +90,44 @@ abbrev pub IsReading : WorldValue → ℕ → ℕ → Type 0
 IsReading w earlier at = IfSome w.clock (λ clock. at ≡ max clock earlier)
 
 -- the signal of an instance of this process reaches this target, by the instances that live now, or by some
-abbrev pub IsRouteBy : SystemValue → Option Census → SignalId → ProcessId → Dest → Target → Type 0
+abbrev pub IsRouteBy : SystemValue → Option Living → SignalId → ProcessId → Dest → Target → Type 0
 IsRouteBy system None signal process to target =
     (living : List (Option ℕ)) × (target ≡ target_in system.routes signal (source.Process process) to living)
-IsRouteBy system (Some census) signal process to target =
-    target ≡ target_in system.routes signal (source.Process process) to census.least
+IsRouteBy system (Some living) signal process to target =
+    target ≡ target_in system.routes signal (source.Process process) to living.least
 
 abbrev pub IsRoute : WorldValue → SignalId → ProcessId → Dest → Target → Type 0
-IsRoute w signal process to target = IsRouteBy w.system w.census signal process to target
+IsRoute w signal process to target = IsRouteBy w.system w.living signal process to target
 
 -- a create of an instance of the process gives this number, or none
 abbrev pub IsNumber : WorldValue → ProcessId → Option ℕ → Type 0
-IsNumber w process number = IfSome w.census (λ census. number ≡ number_for w.system census process)
+IsNumber w process number = IfSome w.living (λ living. number ≡ number_for w.system living process)
 
 -- ---- what is done to it
 
-abbrev pub census_after : Census → Act → Census
-census_after census (Create process number parent values) = with_one_more census process
-census_after census act = census
+abbrev pub living_after : Living → Effect → Living
+living_after living (Create process number parent values) = with_one_more living process
+living_after living effect = living
 
-abbrev pub sent_after : Sent → Act → Sent
+abbrev pub sent_after : Sent → Effect → Sent
 sent_after sent (Send (Instance to) item) = sent_on sent to item
-sent_after sent act = sent
+sent_after sent effect = sent
 
 -- the world, once this was done
-abbrev pub after_act : WorldValue → Act → WorldValue
-after_act w act = record w {
-  census = option_map (λ census. census_after census act) w.census;
-  acts = option_map (λ done. done ++ act ∷ []) w.acts;
-  sent = option_map (λ sent. sent_after sent act) w.sent;
+abbrev pub after_effect : WorldValue → Effect → WorldValue
+after_effect w effect = record w {
+  living = option_map (λ living. living_after living effect) w.living;
+  effects = option_map (λ done. done ++ effect ∷ []) w.effects;
+  sent = option_map (λ sent. sent_after sent effect) w.sent;
 }
 
-abbrev pub after_acts : WorldValue → List Act → WorldValue
-after_acts w [] = w
-after_acts w (act ∷ rest) = after_acts (after_act w act) rest
+abbrev pub after_effects : WorldValue → List Effect → WorldValue
+after_effects w [] = w
+after_effects w (effect ∷ rest) = after_effects (after_effect w effect) rest
 
 abbrev pub after_deeds : WorldValue → List Deed → WorldValue
 after_deeds w [] = w
-after_deeds w (deed ∷ rest) = after_deeds (after_acts w deed.acts) rest
+after_deeds w (deed ∷ rest) = after_deeds (after_effects w deed.effects) rest
 
 -- ---- what the events say of it
 
@@ -163,4 +163,4 @@ abbrev pub IsTrueOf : Identity → WorldValue → ℕ → List Deed → Type 0
 IsTrueOf who w earlier [] = Unit {0}
 IsTrueOf who w earlier (deed ∷ rest) =
     IsTrueOfOne who w earlier deed.event
-    × IsTrueOf who (after_acts w deed.acts) (time_after_one earlier deed.event) rest
+    × IsTrueOf who (after_effects w deed.effects) (time_after_one earlier deed.event) rest

@@ -9,9 +9,9 @@ use std::alloc::AllocError;
 
 /// What lies outside of an instance, as it makes a step.
 pub trait World {
-    ghost use Rattle.run_semantics.specs.Act.{Arm, Send};
+    ghost use Rattle.run_semantics.specs.Effect.{Arm, Send};
     ghost use Rattle.run_semantics.specs.Leads.{created};
-    ghost use Rattle.run_semantics.specs.World.{WorldValue, IsClock, IsNumber, IsRoute, after_act, after_acts};
+    ghost use Rattle.run_semantics.specs.World.{WorldValue, IsClock, IsNumber, IsRoute, after_effect, after_effects};
 
     ghost value: { Self → WorldValue };
 
@@ -30,7 +30,7 @@ pub trait World {
 
     /// Sends a signal. For want of memory it has not been sent.
     fn send(&mut self, target: Target, item: Item) -> Result<(), AllocError>
-        ensures ok { OnOk result (value self.new ≡ after_act (value self.old) (Send target item)) }
+        ensures ok { OnOk result (value self.new ≡ after_effect (value self.old) (Send target item)) }
         ensures err { OnErr result (value self.new ≡ value self.old) };
 
     /// Makes room for one more fuse.
@@ -42,7 +42,7 @@ pub trait World {
     /// memory.
     fn arm(&mut self, fuse: Fuse)
         requires { prepared self.old ≡ true }
-        ensures { value self.new ≡ after_act (value self.old) (Arm fuse) };
+        ensures { value self.new ≡ after_effect (value self.old) (Arm fuse) };
 
     /// Makes an instance of a process, for the instance of the number `parent`, with the values of its parameters. The
     /// number of the new instance is the answer; None: as many live as may. For want of memory nothing has changed.
@@ -54,6 +54,6 @@ pub trait World {
     ) -> Result<Option<u32>, AllocError>
         ensures number { IfOk result (IsNumber (value self.old) process) }
         ensures ok { IfOk result (λ number. value self.new
-            ≡ after_acts (value self.old) (created process parent values number)) }
+            ≡ after_effects (value self.old) (created process parent values number)) }
         ensures err { OnErr result (value self.new ≡ value self.old) };
 }

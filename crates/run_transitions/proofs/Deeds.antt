@@ -13,13 +13,13 @@ use Rattle.run_evaluation.specs.Environment.{Environment, environment}
 use Rattle.run_evaluation.specs.Value.{at_place, key_at, value_of, values_at}
 use Rattle.run_record.specs.Event as event
 use Rattle.run_semantics.proofs.Goes.{All-one, goes_deed, goes_stopped, goes_until}
-use Rattle.run_semantics.specs.Act.{Act, Arm, Deed, Send}
+use Rattle.run_semantics.specs.Effect.{Effect, Arm, Deed, Send}
 use Rattle.run_semantics.specs.Fails.{parameters_of, sent_by, set_by}
 use Rattle.run_semantics.specs.Goes.{AreInner, Goes, IsInner, MachineValue, with_event}
 use Rattle.run_semantics.specs.Leads.{created, offspring_of}
-use Rattle.run_semantics.specs.Place.{Amid, Definition, Doing, Ended, In, IsState, Place}
+use Rattle.run_semantics.specs.ControlPoint.{Amid, Definition, Doing, Ended, In, IsState, ControlPoint}
 use Rattle.run_semantics.specs.Reception.{assigned, sort_in}
-use Rattle.run_semantics.specs.World.{IsNumber, IsRoute, WorldValue, after_act, after_acts}
+use Rattle.run_semantics.specs.World.{IsNumber, IsRoute, WorldValue, after_effect, after_effects}
 use Rattle.sdl_system.specs.Body as body
 use Rattle.sdl_system.specs.Body.{Assigning, Body, Whither}
 use Rattle.sdl_system.specs.Term.{Term}
@@ -48,10 +48,10 @@ module _ (d : Definition) (origin : Option StateId) (rest : Body) where
       → n ≡ with_event (record m { store = assigned one.variable value m.store }) (event.Task one.variable value)
       → Goes AreInner d (Amid origin (body.task (one ∷ more)) rest) m w (Amid origin (body.task more) rest) n w
   goes_assigned one more value m n w found is =
-      let from : Place = Amid origin (body.task (one ∷ more)) rest in
-      let to : Place = Amid origin (body.task more) rest in
+      let from : ControlPoint = Amid origin (body.task (one ∷ more)) rest in
+      let to : ControlPoint = Amid origin (body.task more) rest in
       let k : MachineValue = record m { store = assigned one.variable value m.store } in
-      let deed : Deed = record { event = event.Task one.variable value; calls = []; acts = [] } in
+      let deed : Deed = record { event = event.Task one.variable value; calls = []; effects = [] } in
       goes_until d AreInner from to m (with_event k deed.event) n w w w is refl
       (goes_deed d AreInner from to m k w deed (inner deed tt) refl refl refl refl refl refl refl refl tt
       (refl, refl, refl, record { is = refl; evaluated = found; store = refl }) refl)
@@ -60,35 +60,35 @@ module _ (d : Definition) (origin : Option StateId) (rest : Body) where
       (values : List Value) (target : Target) (m n : MachineValue) (w v : WorldValue)
       → sent_by d.system (here_of d m) to one ≡ Ok (named, values)
       → IsRoute w one.signal m.who.process named target
-      → v ≡ after_act w (Send target (record { name = one.signal; values = values; sender = Of m.who.pid }))
+      → v ≡ after_effect w (Send target (record { name = one.signal; values = values; sender = Of m.who.pid }))
       → n ≡ with_event m (event.Output one.signal named values target)
       → Goes AreInner d (Amid origin (body.output (one ∷ more) to) rest) m w (Amid origin (body.output more to) rest) n
       v
   goes_sent to one more named values target m n w v found route sent is =
-      let from : Place = Amid origin (body.output (one ∷ more) to) rest in
-      let then : Place = Amid origin (body.output more to) rest in
-      let act : Act = Send target (record { name = one.signal; values = values; sender = Of m.who.pid }) in
-      let deed : Deed = record { event = event.Output one.signal named values target; calls = []; acts = act ∷ [] } in
-      goes_until d AreInner from then m (with_event m deed.event) n w (after_act w act) v is sent
+      let from : ControlPoint = Amid origin (body.output (one ∷ more) to) rest in
+      let then : ControlPoint = Amid origin (body.output more to) rest in
+      let effect : Effect = Send target (record { name = one.signal; values = values; sender = Of m.who.pid }) in
+      let deed : Deed = record { event = event.Output one.signal named values target; calls = []; effects = effect ∷ [] } in
+      goes_until d AreInner from then m (with_event m deed.event) n w (after_effect w effect) v is sent
       (goes_deed d AreInner from then m m w deed (inner deed tt) refl refl refl refl refl refl refl refl route
-      (refl, refl, refl, record { is = refl; evaluated = found; acts_are = refl }) refl)
+      (refl, refl, refl, record { is = refl; evaluated = found; effects_are = refl }) refl)
 
   pub goes_set : (one : body.Setting) (more : List body.Setting) (key : TimerKey) (due : ℕ) (m n : MachineValue)
       (w v : WorldValue) → m.owner.state.alive ≡ true → m.owner.state.sets ≢ MOST_SETS
       → set_by (here_of d m) one ≡ Ok (due, key)
-      → v ≡ after_act w (Arm (record { pid = m.who.pid; key = key; arm = m.owner.state.sets + 1; due = due }))
+      → v ≡ after_effect w (Arm (record { pid = m.who.pid; key = key; arm = m.owner.state.sets + 1; due = due }))
       → n ≡ with_event (record m { owner = after_set m.owner key due }) (event.Set key due)
       → Goes AreInner d (Amid origin (body.set (one ∷ more)) rest) m w (Amid origin (body.set more) rest) n v
   goes_set one more key due m n w v alive numbered found armed is =
-      let from : Place = Amid origin (body.set (one ∷ more)) rest in
-      let to : Place = Amid origin (body.set more) rest in
+      let from : ControlPoint = Amid origin (body.set (one ∷ more)) rest in
+      let to : ControlPoint = Amid origin (body.set more) rest in
       let k : MachineValue = record m { owner = after_set m.owner key due } in
       let arm : ℕ = m.owner.state.sets + 1 in
-      let act : Act = Arm (record { pid = m.who.pid; key = key; arm = arm; due = due }) in
-      let deed : Deed = record { event = event.Set key due; calls = Set key due arm ∷ []; acts = act ∷ [] } in
-      goes_until d AreInner from to m (with_event k deed.event) n w (after_act w act) v is armed
+      let effect : Effect = Arm (record { pid = m.who.pid; key = key; arm = arm; due = due }) in
+      let deed : Deed = record { event = event.Set key due; calls = Set key due arm ∷ []; effects = effect ∷ [] } in
+      goes_until d AreInner from to m (with_event k deed.event) n w (after_effect w effect) v is armed
       (goes_deed d AreInner from to m k w deed (inner deed tt) refl refl refl refl refl refl refl refl tt
-      (refl, refl, record { evaluated = found; numbered = numbered; calls_are = refl; acts_are = refl })
+      (refl, refl, record { evaluated = found; numbered = numbered; calls_are = refl; effects_are = refl })
       (set_in m.owner.state key due, (alive, refl, refl), refl))
 
   pub goes_reset : (one : body.Timing) (more : List body.Timing) (key : TimerKey) (m n : MachineValue) (w : WorldValue)
@@ -96,10 +96,10 @@ module _ (d : Definition) (origin : Option StateId) (rest : Body) where
       → n ≡ with_event (record m { owner = after_reset m.owner key }) (event.Reset key)
       → Goes AreInner d (Amid origin (body.reset (one ∷ more)) rest) m w (Amid origin (body.reset more) rest) n w
   goes_reset one more key m n w alive found is =
-      let from : Place = Amid origin (body.reset (one ∷ more)) rest in
-      let to : Place = Amid origin (body.reset more) rest in
+      let from : ControlPoint = Amid origin (body.reset (one ∷ more)) rest in
+      let to : ControlPoint = Amid origin (body.reset more) rest in
       let k : MachineValue = record m { owner = after_reset m.owner key } in
-      let deed : Deed = record { event = event.Reset key; calls = Reset key ∷ []; acts = [] } in
+      let deed : Deed = record { event = event.Reset key; calls = Reset key ∷ []; effects = [] } in
       goes_until d AreInner from to m (with_event k deed.event) n w w w is refl
       (goes_deed d AreInner from to m k w deed (inner deed tt) refl refl refl refl refl refl refl refl tt
       (refl, refl, refl, refl, found)
@@ -108,27 +108,27 @@ module _ (d : Definition) (origin : Option StateId) (rest : Body) where
   pub goes_created : (process : ProcessId) (terms : List Term) (values : List Value) (number : Option ℕ)
       (m n : MachineValue) (w v : WorldValue)
       → values_at (here_of d m) (parameters_of d.system process) terms ≡ Ok values → IsNumber w process number
-      → v ≡ after_acts w (created process m.who.pid values number)
+      → v ≡ after_effects w (created process m.who.pid values number)
       → n ≡ with_event (record m { store = record m.store { offspring = offspring_of number } })
       (event.Create process number)
       → Goes AreInner d (Amid origin (body.create process terms) rest) m w (Doing origin rest) n v
   goes_created process terms values number m n w v found gives made is =
-      let from : Place = Amid origin (body.create process terms) rest in
+      let from : ControlPoint = Amid origin (body.create process terms) rest in
       let k : MachineValue = record m { store = record m.store { offspring = offspring_of number } } in
-      let acts : List Act = created process m.who.pid values number in
-      let deed : Deed = record { event = event.Create process number; calls = []; acts = acts } in
-      goes_until d AreInner from (Doing origin rest) m (with_event k deed.event) n w (after_acts w acts) v is made
+      let effects : List Effect = created process m.who.pid values number in
+      let deed : Deed = record { event = event.Create process number; calls = []; effects = effects } in
+      goes_until d AreInner from (Doing origin rest) m (with_event k deed.event) n w (after_effects w effects) v is made
       (goes_deed d AreInner from (Doing origin rest) m k w deed (inner deed tt) refl refl refl refl refl refl refl refl
       gives
-      (refl, refl, refl, record { values = values; evaluated = found; acts_are = refl; store = refl }) refl)
+      (refl, refl, refl, record { values = values; evaluated = found; effects_are = refl; store = refl }) refl)
 
 module _ (d : Definition) where
   pub goes_to_state : (origin : Option StateId) (state : StateId) (m n : MachineValue) (w : WorldValue)
       → IsState d state → n ≡ with_event m (event.NextState state)
       → Goes AreInner d (Doing origin (body.ending (body.to_state state))) m w (In state) n w
   goes_to_state origin state m n w there is =
-      let from : Place = Doing origin (body.ending (body.to_state state)) in
-      let deed : Deed = record { event = event.NextState state; calls = []; acts = [] } in
+      let from : ControlPoint = Doing origin (body.ending (body.to_state state)) in
+      let deed : Deed = record { event = event.NextState state; calls = []; effects = [] } in
       goes_until d AreInner from (In state) m (with_event m deed.event) n w w w is refl
       (goes_deed d AreInner from (In state) m m w deed (inner deed tt) refl refl refl refl refl refl refl refl tt
       (refl, refl, refl, refl, refl, there) refl)
@@ -137,8 +137,8 @@ module _ (d : Definition) where
       → n ≡ with_event m (event.NextState state)
       → Goes AreInner d (Doing (Some state) (body.ending body.to_same)) m w (In state) n w
   goes_to_same state m n w there is =
-      let from : Place = Doing (Some state) (body.ending body.to_same) in
-      let deed : Deed = record { event = event.NextState state; calls = []; acts = [] } in
+      let from : ControlPoint = Doing (Some state) (body.ending body.to_same) in
+      let deed : Deed = record { event = event.NextState state; calls = []; effects = [] } in
       goes_until d AreInner from (In state) m (with_event m deed.event) n w w w is refl
       (goes_deed d AreInner from (In state) m m w deed (inner deed tt) refl refl refl refl refl refl refl refl tt
       (refl, refl, refl, refl, refl, there) refl)
@@ -147,8 +147,8 @@ module _ (d : Definition) where
       → n ≡ with_event (record m { owner = after_stop m.owner }) event.Stop
       → Goes AreInner d (Doing origin (body.ending body.stop)) m w Ended n w
   goes_ended origin m n w alive is =
-      let from : Place = Doing origin (body.ending body.stop) in
-      let deed : Deed = record { event = event.Stop; calls = Stop ∷ []; acts = [] } in
+      let from : ControlPoint = Doing origin (body.ending body.stop) in
+      let deed : Deed = record { event = event.Stop; calls = Stop ∷ []; effects = [] } in
       let k : MachineValue = with_event (record m { owner = after_stop m.owner }) event.Stop in
       goes_until d AreInner from Ended m k n w w w is refl
       (goes_stopped d AreInner from Ended m m w deed (inner deed tt) alive refl refl refl refl tt

@@ -12,7 +12,7 @@ use Rattle.run_evaluation.specs.declared.identity.Identity.{Identity}
 use Rattle.run_evaluation.specs.declared.store.Store.{Store}
 use Rattle.run_record.specs.declared.failure.Failure.{Failure}
 use Rattle.run_semantics.specs.Fails.{both, due_by, named_by, sent_by, set_by}
-use Rattle.run_semantics.specs.Place.{Definition}
+use Rattle.run_semantics.specs.ControlPoint.{Definition}
 use Rattle.run_semantics.specs.Reception.{sort_in}
 use Rattle.run_transitions.specs.Work.{IsOf}
 use Rattle.sdl_system.specs.Behaviour.{VariableMeaning, variable_meaning}

@@ -4,7 +4,7 @@ use Rattle.std.proofs.lemmas.List.{at_drop_all, at_drop_more}
 use Rattle.run_record.specs.declared.failure.Failure.{Failure}
 use Rattle.run_semantics.proofs.Goes.{goes_on, goes_still, wrong_here, wrong_on}
 use Rattle.run_semantics.specs.Goes.{AreInner, Goes, GoesWrong, MachineValue}
-use Rattle.run_semantics.specs.Place.{Definition}
+use Rattle.run_semantics.specs.ControlPoint.{Definition}
 use Rattle.run_semantics.specs.World.{WorldValue}
 use Rattle.run_transitions.specs.Work.{Does, DoesWrong, FailsAt, Site, amid}
 use Rattle.sdl_system.specs.Body as body

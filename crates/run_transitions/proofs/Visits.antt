@@ -12,10 +12,10 @@ use Rattle.run_semantics.proofs.Goes.{goes_on, goes_turn, wrong_here, wrong_on}
 use Rattle.run_semantics.specs.Fails.{Fails, IsTooLong}
 use Rattle.run_semantics.specs.Goes.{AreInner, Goes, GoesWrong, MachineValue, with_event}
 use Rattle.run_semantics.specs.Leads.{Counts}
-use Rattle.run_semantics.specs.Place.{Amid, Definition, Doing, Ended, In}
+use Rattle.run_semantics.specs.ControlPoint.{Amid, Definition, Doing, Ended, In}
 use Rattle.run_semantics.specs.World.{WorldValue}
 use Rattle.run_transitions.proofs.Deeds.{goes_ended, goes_to_same, goes_to_state}
-use Rattle.run_transitions.proofs.Heads.{Decided, IsCounted, LeadsOn, acts_here, counted_joins, decided_here, ends_here, is_state, is_there, leads_on, same_fails, undecided}
+use Rattle.run_transitions.proofs.Heads.{Decided, IsCounted, LeadsOn, effects_here, counted_joins, decided_here, ends_here, is_state, is_there, leads_on, same_fails, undecided}
 use Rattle.run_transitions.specs.Machine.{value_of}
 use Rattle.run_transitions.specs.Walk.{ActsAs, CantChoose, ChoosesWay, Enters, EntersNone, FailsToAct, IsPlain, Visits, VisitsWrong, marks_of}
 use Rattle.run_transitions.specs.Work.{Does, DoesWrong, IsIn, IsOf, Site, amid, behind}
@@ -68,17 +68,17 @@ module _ (d : Definition) (origin : Option StateId) (rest : Body) (m : MachineVa
 
 module _ (system : SystemValue) (process : Process) (s : Statement) where
   -- the action of the statement is done
-  pub acts_as : (action : Action) (m n : MachineValue) (w v : WorldValue) → action_of s ≡ Some action
+  pub effects_as : (action : Action) (m n : MachineValue) (w v : WorldValue) → action_of s ≡ Some action
       → Does (IsOf system process) (amid action) m w behind n v → ActsAs system process (action_of s) m w n v
-  acts_as action m n w v is does =
+  effects_as action m n w v is does =
       subst (λ (o : Option Action). ActsAs system process o m w n v) (sym is) does
 
   -- one with a list is done, once its list is
-  pub acts_listed : (all none : Action) (m n : MachineValue) (w v : WorldValue) → action_of s ≡ Some all
+  pub effects_listed : (all none : Action) (m n : MachineValue) (w v : WorldValue) → action_of s ≡ Some all
       → ((d : Definition) (origin : Option StateId) (rest : Body)
       → Goes AreInner d (Amid origin none rest) n v (Doing origin rest) n v)
       → Does (IsOf system process) (amid all) m w (amid none) n v → ActsAs system process (action_of s) m w n v
-  acts_listed all none m n w v is done does = acts_as all m n w v is (λ d of origin rest.
+  effects_listed all none m n w v is done does = effects_as all m n w v is (λ d of origin rest.
       goes_on d (Amid origin all rest) (Amid origin none rest) (Doing origin rest) m n n w v v (does d of origin rest)
       (done d origin rest))
 
@@ -90,21 +90,21 @@ module _ (system : SystemValue) (process : Process) (s : Statement) where
       subst (λ (o : Option Action). FailsToAct system process o m w n v why) (sym is) wrong
 
 -- where the statement has no action, nothing is done
-pub acts_none : (system : SystemValue) (process : Process) (s : Statement) (m : MachineValue) (w : WorldValue)
+pub effects_none : (system : SystemValue) (process : Process) (s : Statement) (m : MachineValue) (w : WorldValue)
     → ((list : Vec Assignment Global) → s ≡ kind.Task list → ⊥) → ((sends : Output) → s ≡ kind.Output sends → ⊥)
     → ((list : Vec set.Setting Global) → s ≡ kind.Set list → ⊥)
     → ((list : Vec TimerUse Global) → s ≡ kind.Reset list → ⊥)
     → ((creation : Creation) → s ≡ kind.Create creation → ⊥) → ActsAs system process (action_of s) m w m w
-acts_none system process (kind.Task list) m w task output sets resets creates = absurd (task list refl)
-acts_none system process (kind.Output sends) m w task output sets resets creates = absurd (output sends refl)
-acts_none system process (kind.Set list) m w task output sets resets creates = absurd (sets list refl)
-acts_none system process (kind.Reset list) m w task output sets resets creates = absurd (resets list refl)
-acts_none system process (kind.Create creation) m w task output sets resets creates = absurd (creates creation refl)
-acts_none system process (kind.Decision asked) m w task output sets resets creates = (refl, refl)
-acts_none system process (kind.Join label) m w task output sets resets creates = (refl, refl)
-acts_none system process (kind.NextState state) m w task output sets resets creates = (refl, refl)
-acts_none system process kind.SameState m w task output sets resets creates = (refl, refl)
-acts_none system process kind.Stop m w task output sets resets creates = (refl, refl)
+effects_none system process (kind.Task list) m w task output sets resets creates = absurd (task list refl)
+effects_none system process (kind.Output sends) m w task output sets resets creates = absurd (output sends refl)
+effects_none system process (kind.Set list) m w task output sets resets creates = absurd (sets list refl)
+effects_none system process (kind.Reset list) m w task output sets resets creates = absurd (resets list refl)
+effects_none system process (kind.Create creation) m w task output sets resets creates = absurd (creates creation refl)
+effects_none system process (kind.Decision asked) m w task output sets resets creates = (refl, refl)
+effects_none system process (kind.Join label) m w task output sets resets creates = (refl, refl)
+effects_none system process (kind.NextState state) m w task output sets resets creates = (refl, refl)
+effects_none system process kind.SameState m w task output sets resets creates = (refl, refl)
+effects_none system process kind.Stop m w task output sets resets creates = (refl, refl)
 
 -- what is done in each process of the system is done in this one
 pub does_of : (system : SystemValue) (process : Process) (from to : Site) (m n : MachineValue) (w v : WorldValue)
@@ -154,8 +154,8 @@ module _ (system : SystemValue) (process : Process) (node : Node) (origin : Opti
     pub visits_action : (first : Action) (n : MachineValue) (v : WorldValue) → action_of node.statement ≡ Some first
         → Does (IsOf system process) (amid first) m w behind n v
         → Visits system process node origin l w (onward.At node.next) n v
-    visits_action first n v acts does = λ d is todo number got heads.
-        let here = acts_here process.nodes.items (marks_of is) node first todo acts heads in
+    visits_action first n v effects does = λ d is todo number got heads.
+        let here = effects_here process.nodes.items (marks_of is) node first todo effects heads in
         record {
           rest = here.0;
           stands = here.2;
@@ -168,8 +168,8 @@ module _ (system : SystemValue) (process : Process) (node : Node) (origin : Opti
     pub visits_action_wrong : (first : Action) (n : MachineValue) (v : WorldValue) (why : Failure)
         → action_of node.statement ≡ Some first → DoesWrong (IsOf system process) (amid first) m w n v why
         → VisitsWrong system process node origin l w n v why
-    visits_action_wrong first n v why acts does = λ d is todo heads.
-        let here = acts_here process.nodes.items (marks_of is) node first todo acts heads in
+    visits_action_wrong first n v why effects does = λ d is todo heads.
+        let here = effects_here process.nodes.items (marks_of is) node first todo effects heads in
         subst (λ (b : Body). GoesWrong d (Doing origin b) l w n v why) (sym here.1)
         (wrong_on d (Doing origin (body.action first here.0)) (Amid origin first here.0) l m n w w v why
         (counted d first here.0) (does d is origin here.0))
@@ -197,22 +197,22 @@ module _ (system : SystemValue) (process : Process) (node : Node) (origin : Opti
 
     acted : (s : Statement) (n : MachineValue) (v : WorldValue) → node.statement ≡ s → IsPlain s
         → ActsAs system process (action_of s) m w n v → Visits system process node origin l w (onward.At node.next) n v
-    acted (kind.Task list) n v is plain acts = visits_action _ n v (ap action_of is) acts
-    acted (kind.Output sends) n v is plain acts = visits_action _ n v (ap action_of is) acts
-    acted (kind.Set list) n v is plain acts = visits_action _ n v (ap action_of is) acts
-    acted (kind.Reset list) n v is plain acts = visits_action _ n v (ap action_of is) acts
-    acted (kind.Create creation) n v is plain acts = visits_action _ n v (ap action_of is) acts
-    acted (kind.Decision asked) n v is plain acts = absurd plain
-    acted (kind.Join label) n v is plain acts = rw (acts.0, acts.1) (visits_join label is)
-    acted (kind.NextState state) n v is plain acts = absurd plain
-    acted kind.SameState n v is plain acts = absurd plain
-    acted kind.Stop n v is plain acts = absurd plain
+    acted (kind.Task list) n v is plain effects = visits_action _ n v (ap action_of is) effects
+    acted (kind.Output sends) n v is plain effects = visits_action _ n v (ap action_of is) effects
+    acted (kind.Set list) n v is plain effects = visits_action _ n v (ap action_of is) effects
+    acted (kind.Reset list) n v is plain effects = visits_action _ n v (ap action_of is) effects
+    acted (kind.Create creation) n v is plain effects = visits_action _ n v (ap action_of is) effects
+    acted (kind.Decision asked) n v is plain effects = absurd plain
+    acted (kind.Join label) n v is plain effects = rw (effects.0, effects.1) (visits_join label is)
+    acted (kind.NextState state) n v is plain effects = absurd plain
+    acted kind.SameState n v is plain effects = absurd plain
+    acted kind.Stop n v is plain effects = absurd plain
 
     -- a statement that is no decision and no end is counted, and its action is done
     pub visits_acted : (n : MachineValue) (v : WorldValue) → IsPlain node.statement
         → ActsAs system process (action_of node.statement) m w n v
         → Visits system process node origin l w (onward.At node.next) n v
-    visits_acted n v plain acts = acted node.statement n v refl plain acts
+    visits_acted n v plain effects = acted node.statement n v refl plain effects
 
     acted_wrong : (s : Statement) (n : MachineValue) (v : WorldValue) (why : Failure) → node.statement ≡ s → IsPlain s
         → FailsToAct system process (action_of s) m w n v why → VisitsWrong system process node origin l w n v why

@@ -3,7 +3,7 @@ use Rattle.std.proofs.Common.{◌≡◌, ◌∙◌, ap, refl, List, Option, None
 use Rattle.run_record.specs.declared.failure.Failure.{Failure}
 use Rattle.run_semantics.proofs.Goes.{goes_on, goes_still, goes_turn, wrong_on}
 use Rattle.run_semantics.specs.Goes.{AreInner, Goes, MachineValue}
-use Rattle.run_semantics.specs.Place.{Definition, Doing}
+use Rattle.run_semantics.specs.ControlPoint.{Definition, Doing}
 use Rattle.run_semantics.specs.World.{WorldValue}
 use Rattle.run_transitions.specs.Machine.{place_of}
 use Rattle.run_transitions.specs.Walk.{GoesTo, Visits, VisitsWrong, Walks, WalksWrong, marks_of}

@@ -4,7 +4,7 @@ use Rattle.port_inbox.specs.Ends.{OwnerState}
 use Rattle.run_evaluation.specs.declared.identity.Identity.{Identity}
 use Rattle.run_record.specs.Record.{RecordValue}
 use Rattle.run_semantics.specs.Goes.{MachineValue}
-use Rattle.run_semantics.specs.Place.{AtStart, Ended, In, Place}
+use Rattle.run_semantics.specs.ControlPoint.{AtStart, Ended, In, ControlPoint}
 use Rattle.run_transitions.specs.declared.machine.Machine.{Machine}
 use Rattle.run_transitions.specs.declared.machine.Position.{Position}
 use Rattle.run_transitions.specs.declared.machine.Position.TheVariants as position
@@ -36,7 +36,7 @@ pub record IsGoing (m : Machine) (owner : OwnerState) : Type 0 where
   pub own : owner.pid ≡ m.trace.pid
 
 -- the place of an instance between two steps
-abbrev pub place_of : Position → Place
+abbrev pub place_of : Position → ControlPoint
 place_of position.BeforeStart = AtStart
 place_of (position.In state) = In state
 place_of position.Ended = Ended

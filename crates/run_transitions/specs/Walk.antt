@@ -11,7 +11,7 @@ use Rattle.run_record.specs.declared.failure.Failure.{Failure}
 use Rattle.run_record.specs.declared.failure.Failure.TheVariants.{Memory, NoAnswer, Undefined}
 use Rattle.run_semantics.specs.Fails.{IsTooLong, most_statements}
 use Rattle.run_semantics.specs.Goes.{AreInner, Goes, GoesWrong, MachineValue, with_event}
-use Rattle.run_semantics.specs.Place.{Definition, Doing}
+use Rattle.run_semantics.specs.ControlPoint.{Definition, Doing}
 use Rattle.run_semantics.specs.World.{WorldValue}
 use Rattle.run_transitions.specs.Machine.{IsGoing, IsPositionIn, IsReady, place_of, value_of}
 use Rattle.run_transitions.specs.Work.{Does, DoesWrong, IsOf, amid, behind}

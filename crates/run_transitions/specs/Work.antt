@@ -4,7 +4,7 @@ use Rattle.run_record.specs.declared.failure.Failure.{Failure}
 use Rattle.run_semantics.specs.Behaves.{Behaves}
 use Rattle.run_semantics.specs.Fails.{Fails}
 use Rattle.run_semantics.specs.Goes.{AreInner, Goes, GoesWrong, MachineValue}
-use Rattle.run_semantics.specs.Place.{Amid, Definition, Doing, Place}
+use Rattle.run_semantics.specs.ControlPoint.{Amid, Definition, Doing, ControlPoint}
 use Rattle.run_semantics.specs.World.{WorldValue}
 use Rattle.sdl_system.specs.Body as body
 use Rattle.sdl_system.specs.Body.{Action, Body}
@@ -24,7 +24,7 @@ pub record IsOf (system : SystemValue) (process : Process) (d : Definition) : Ty
 
 -- a place of a transition, by where the transition began and what stands behind
 abbrev pub Site : Type 0
-Site = Option StateId → Body → Place
+Site = Option StateId → Body → ControlPoint
 
 -- before an action, in the midst of it, and behind it
 abbrev pub before : Action → Site

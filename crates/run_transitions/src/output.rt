@@ -9,9 +9,9 @@ ghost use Rattle.run_evaluation.specs.Memory.{FailsAs, list_wants_memory};
 ghost use Rattle.run_evaluation.specs.Value.{values_at};
 ghost use Rattle.run_record.specs.Event as event;
 ghost use Rattle.run_record.specs.Record.{noted};
-ghost use Rattle.run_semantics.specs.Act.{Send};
+ghost use Rattle.run_semantics.specs.Effect.{Send};
 ghost use Rattle.run_semantics.specs.Fails.{named_by};
-ghost use Rattle.run_semantics.specs.World.{IsRoute, after_act};
+ghost use Rattle.run_semantics.specs.World.{IsRoute, after_effect};
 ghost use Rattle.run_transitions.specs.Machine.{IsGoing, IsSameInstance, value_of};
 ghost use Rattle.run_transitions.specs.Work.{Does, DoesWrong, FailsAt, IsIn, amid};
 ghost use Rattle.sdl_system.specs.Body as body;
@@ -156,7 +156,7 @@ fn send_value<W: World>(
     requires room { 0 < machine.old.trace.room }
     requires values_room { 0 < machine.old.trace.values_room }
     ensures route { IfOk result (IsRoute (W.value world.old) signal who.now.process named) }
-    ensures sent { IfOk result (λ target. W.value world.new ≡ after_act (W.value world.old)
+    ensures sent { IfOk result (λ target. W.value world.new ≡ after_effect (W.value world.old)
         (Send target (record { name = signal; values = value ∷ []; sender = Of who.now.pid }))) }
     ensures recorded { IfOk result (λ target. machine.new ≡ record machine.old {
       trace = noted machine.old.trace (event.Output signal named (value ∷ []) target);
@@ -183,7 +183,7 @@ fn send_values<W: World>(
     requires room { 0 < machine.old.trace.room }
     requires values_room { length values ≤ machine.old.trace.values_room }
     ensures route { IfOk result (IsRoute (W.value world.old) signal who.now.process named) }
-    ensures sent { IfOk result (λ target. W.value world.new ≡ after_act (W.value world.old)
+    ensures sent { IfOk result (λ target. W.value world.new ≡ after_effect (W.value world.old)
         (Send target (record { name = signal; values = values; sender = Of who.now.pid }))) }
     ensures recorded { IfOk result (λ target. machine.new ≡ record machine.old {
       trace = noted machine.old.trace (event.Output signal named values target);
@@ -211,7 +211,7 @@ fn deliver<W: World>(
     requires room { 0 < machine.old.trace.room }
     requires values_room { length values ≤ machine.old.trace.values_room }
     ensures route { IfOk result (IsRoute (W.value world.old) signal who.now.process named) }
-    ensures sent { IfOk result (λ target. W.value world.new ≡ after_act (W.value world.old)
+    ensures sent { IfOk result (λ target. W.value world.new ≡ after_effect (W.value world.old)
         (Send target (record { name = signal; values = values; sender = Of who.now.pid }))) }
     ensures recorded { IfOk result (λ target. machine.new ≡ record machine.old {
       trace = noted machine.old.trace (event.Output signal named values target);

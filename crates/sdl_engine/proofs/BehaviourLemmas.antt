@@ -7,7 +7,7 @@ use Rattle.sdl_build.specs.Laws.{CanRun}
 use Rattle.build_context.specs.Surroundings.{surroundings}
 use Rattle.build_context.specs.Survey.{Survey}
 use Rattle.sdl_build.proofs.LawLemmas.{processes-can-run}
-use Rattle.serial_order.specs.Course.{AreBehaviours}
+use Rattle.serial_order.specs.Execution.{AreBehaviours}
 use Rattle.build_definitions.specs.Rows.{ProcessRow}
 use Rattle.build_process.specs.Made.{IsHeaded}
 use Rattle.build_process.specs.Meant.{IsBehaviour}

@@ -5,7 +5,7 @@ use Rattle.std.proofs.lemmas.Slice.Zip.{AllZip-left, AllZip-right}
 use Rattle.port_values.specs.declared.item.SignalId.{SignalId}
 use Rattle.run_evaluation.specs.Environment.{Environment}
 use Rattle.sdl_interp.specs.Selected.{IsTried}
-use Rattle.run_semantics.specs.Reception.{Inputs, InputsFirst}
+use Rattle.run_semantics.specs.Reception.{Inputs, IsPriorityInput}
 use Rattle.run_semantics.specs.Selection.{Tried, begins, fails, none_true, tried}
 use Rattle.sdl_system.proofs.BehaviourLemmas.{reacts_as_meant}
 use Rattle.sdl_system.specs.Behaviour.{Behaviour, Means, MeansResponse, MeansState, MeansTable, Response, StateMeaning, input, priority_input, response_to, save}
@@ -96,7 +96,7 @@ pub record BeginsInput (process : Process) (p : Behaviour) (means : Means proces
 pub record BeginsPriority (process : Process) (p : Behaviour) (means : Means process p) (response : Option Response)
     (reception : Reception) : Type 0 where
   pub next : Body
-  pub inputs : InputsFirst p response reception.variables.items next
+  pub inputs : IsPriorityInput p response reception.variables.items next
   pub stands : Stands process.nodes.items means.bodies_are.marks (Some reception.begin) next
 
 module _ (process : Process) (p : Behaviour) (means : Means process p) where

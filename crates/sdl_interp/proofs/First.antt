@@ -20,12 +20,12 @@ use Rattle.run_record.specs.declared.failure.Failure.{Failure}
 use Rattle.run_record.specs.declared.failure.Failure.TheVariants.{Memory}
 use Rattle.run_semantics.proofs.Goes.{IsOneStep-first, goes_deed, goes_drawn_stopped, goes_stopped, goes_taken, goes_taken_stopped, goes_until}
 use Rattle.run_semantics.proofs.Same.{fails_drawn, selecting_drawn, tried_drawn}
-use Rattle.run_semantics.specs.Act.{Deed}
+use Rattle.run_semantics.specs.Effect.{Deed}
 use Rattle.run_semantics.specs.Fails.{FailsIn, HasGiven, of_event, of_take}
 use Rattle.run_semantics.specs.Goes.{Goes, IsFirst, IsOneStep, MachineValue, with_event}
-use Rattle.run_semantics.specs.Leads.{Consumes, ConsumesFirst, Discards, FailsHere, Happens, Provides, Selecting}
-use Rattle.run_semantics.specs.Place.{AtStart, Definition, Doing, Ended, In, Place, Receiving}
-use Rattle.run_semantics.specs.Reception.{Inputs, InputsFirst, provided, receiving, taking}
+use Rattle.run_semantics.specs.Leads.{Consumes, ConsumesPriority, Discards, FailsHere, Happens, Provides, Selecting}
+use Rattle.run_semantics.specs.ControlPoint.{AtStart, Definition, Doing, Ended, In, ControlPoint, Receiving}
+use Rattle.run_semantics.specs.Reception.{Inputs, IsPriorityInput, provided, receiving, taking}
 use Rattle.run_semantics.specs.Selection.{begins, tried}
 use Rattle.run_semantics.specs.World.{IsReading, IsTrueOfOne, WorldValue, time_after_one}
 use Rattle.sdl_system.specs.Behaviour.{StateMeaning, response_to}
@@ -43,7 +43,7 @@ module _ (d : Definition) where
       → n ≡ with_event (record m { store = record m.store { time = at; done = 0 } }) (event.Start at) → v ≡ w
       → Goes (IsOneStep true) d AtStart m w (Doing None first) n v
   starts at first m n w v begun later reading is quiet =
-      let deed : Deed = record { event = event.Start at; calls = []; acts = [] } in
+      let deed : Deed = record { event = event.Start at; calls = []; effects = [] } in
       let k : MachineValue = record m { store = record m.store { time = at; done = 0 } } in
       goes_until d (IsOneStep true) AtStart (Doing None first) m (with_event k deed.event) n w w v is quiet
       (goes_deed d (IsOneStep true) AtStart (Doing None first) m k w deed (IsOneStep-first true deed tt refl) refl refl
@@ -67,14 +67,14 @@ module _ (d : Definition) where
     selecting_there =
         selecting_drawn d m.who m.owner.state state m.store classes m.owner.pid took.takes.news took.selecting
 
-    begins_taken : (to : Place) (n : MachineValue) (v : WorldValue) (happened : Event) (s : Store) → IsFirst happened
+    begins_taken : (to : ControlPoint) (n : MachineValue) (v : WorldValue) (happened : Event) (s : Store) → IsFirst happened
         → is_beginning happened ≡ true → s.time ≡ time_after_one m.store.time happened
         → IsTrueOfOne m.who w m.store.time happened
         → Happens d m.who drawn (In state) m.store happened (Take classes reply ∷ []) [] to s
         → n ≡ with_event (record k { store = s }) happened → v ≡ w
         → Goes (IsOneStep true) d (In state) m w to n v
     begins_taken to n v happened s first counts time is_true leads is quiet =
-        let deed : Deed = record { event = happened; calls = Take classes reply ∷ []; acts = [] } in
+        let deed : Deed = record { event = happened; calls = Take classes reply ∷ []; effects = [] } in
         let x : MachineValue = record k { store = s } in
         goes_until d (IsOneStep true) (In state) to m (with_event x happened) n w w v is quiet
         (goes_taken d true state to m x w deed classes reply took.takes took.alive refl first counts took.who
@@ -88,7 +88,7 @@ module _ (d : Definition) where
     fails_taken n v why led fails then quiet =
         let at : ℕ = then.at in
         let calls : List PortEvent = Take classes reply ∷ Stop ∷ [] in
-        let deed : Deed = record { event = event.FailedAt at why; calls = calls; acts = [] } in
+        let deed : Deed = record { event = event.FailedAt at why; calls = calls; effects = [] } in
         let x : MachineValue = record k { store = record k.store { time = at } } in
         let here : FailsHere d m.who drawn state m.store at why calls Ended x.store = record {
           state = took.selecting.state;
@@ -148,7 +148,7 @@ module _ (d : Definition) where
     consumes took at variables next n v inputs later reading is quiet =
         let s : Store = receiving k.who at got k.store in
         let q : PortState = drawn state m k w classes (Consumed got) took in
-        let to : Place = Receiving (Some state) variables (values_got got) next in
+        let to : ControlPoint = Receiving (Some state) variables (values_got got) next in
         let here : Consumes d m.who q state m.store at got (Take classes (Consumed got) ∷ []) to s = record {
           classes = classes;
           selecting = selecting_there state m k w classes (Consumed got) took;
@@ -167,15 +167,15 @@ module _ (d : Definition) where
     -- a priority input takes it
     pub consumes_first : (took : Took d state m k classes (Consumed got)) (at : ℕ)
         (variables : List (Option VariableId)) (next : Body) (n : MachineValue) (v : WorldValue)
-        → InputsFirst d.behaviour (response_to d.behaviour took.selecting.state (name_of got)) variables next
+        → IsPriorityInput d.behaviour (response_to d.behaviour took.selecting.state (name_of got)) variables next
         → k.store.time ≤ at → IsReading w k.store.time at
         → n ≡ with_event (record k { store = receiving k.who at got k.store }) (event.Prior at got) → v ≡ w
         → Goes (IsOneStep true) d (In state) m w (Receiving (Some state) variables (values_got got) next) n v
     consumes_first took at variables next n v inputs later reading is quiet =
         let s : Store = receiving k.who at got k.store in
         let q : PortState = drawn state m k w classes (Consumed got) took in
-        let to : Place = Receiving (Some state) variables (values_got got) next in
-        let here : ConsumesFirst d m.who q state m.store at got (Take classes (Consumed got) ∷ []) to s = record {
+        let to : ControlPoint = Receiving (Some state) variables (values_got got) next in
+        let here : ConsumesPriority d m.who q state m.store at got (Take classes (Consumed got) ∷ []) to s = record {
           classes = classes;
           selecting = selecting_there state m k w classes (Consumed got) took;
           variables = variables;
@@ -201,7 +201,7 @@ module _ (d : Definition) where
     provides at number begin next n v tries listed later reading is quiet =
         let s : Store = provided k.who at k.store in
         let q : PortState = drawn state m k w classes Nothing took in
-        let to : Place = Doing (Some state) next in
+        let to : ControlPoint = Doing (Some state) next in
         let here : Provides d m.who q state m.store at number (Take classes Nothing ∷ []) to s = record {
           classes = classes;
           selecting = selecting_there state m k w classes Nothing took;
@@ -227,7 +227,7 @@ module _ (d : Definition) where
       → v ≡ w → Answers d state m w (Some led) n v
   fails_unselected state m n w v why led cannot alive then quiet =
       let at : ℕ = then.at in
-      let deed : Deed = record { event = event.FailedAt at why; calls = Stop ∷ []; acts = [] } in
+      let deed : Deed = record { event = event.FailedAt at why; calls = Stop ∷ []; effects = [] } in
       let x : MachineValue = record m { store = record m.store { time = at } } in
       let here : FailsHere d m.who m.owner.state state m.store at why (Stop ∷ []) Ended x.store = record {
         state = cannot.state;
@@ -256,7 +256,7 @@ module _ (d : Definition) where
       → Answers d state m w (Some led) n v
   fails_refused state m k n w v classes led selecting draws alive who store events then quiet =
       let at : ℕ = then.at in
-      let deed : Deed = record { event = event.FailedAt at Memory; calls = Stop ∷ []; acts = [] } in
+      let deed : Deed = record { event = event.FailedAt at Memory; calls = Stop ∷ []; effects = [] } in
       let q : PortState = after_draws m.owner.pid m.owner.state draws.0 in
       let x : MachineValue = record k { store = record k.store { time = at } } in
       let here : FailsHere d m.who q state m.store at Memory (Stop ∷ []) Ended x.store = record {

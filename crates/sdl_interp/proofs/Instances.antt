@@ -17,7 +17,7 @@ use Rattle.run_record.specs.Record.{RecordValue, noted}
 use Rattle.run_semantics.proofs.Histories.{run_cut, run_goes, run_hears_expiry, run_hears_put, run_rests, run_unstarted, run_waits}
 use Rattle.run_semantics.specs.Goes.{IsOneStep, MachineValue}
 use Rattle.run_semantics.specs.Instance.{HasRun, first_variables, parameters_from}
-use Rattle.run_semantics.specs.Place.{Definition}
+use Rattle.run_semantics.specs.ControlPoint.{Definition}
 use Rattle.run_semantics.specs.World.{WorldValue}
 use Rattle.run_transitions.specs.Machine.{IsReady, identity_of, place_of, value_of}
 use Rattle.run_transitions.specs.Work.{IsOf}

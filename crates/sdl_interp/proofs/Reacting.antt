@@ -24,7 +24,7 @@ use Rattle.run_semantics.proofs.Goes.{step_on, waits_taken}
 use Rattle.run_semantics.proofs.Same.{environment_drawn}
 use Rattle.run_semantics.specs.Fails.{FailsIn, conditions_of, of_continuous, of_trying}
 use Rattle.run_semantics.specs.Goes.{Goes, IsOneStep, MachineValue, Waits, with_event}
-use Rattle.run_semantics.specs.Place.{Definition, In, Place, Receiving}
+use Rattle.run_semantics.specs.ControlPoint.{Definition, In, ControlPoint, Receiving}
 use Rattle.run_semantics.specs.Reception.{receiving}
 use Rattle.run_semantics.specs.Selection.{fails, tried}
 use Rattle.run_semantics.specs.World.{IsReading, WorldValue}
@@ -57,7 +57,7 @@ module _ (system : SystemValue) (process : Process) (d : Definition) (is : IsOf 
     answers_input condition does recorded =
         let b = input_begins process d.behaviour is.behaves.means state took.selecting.state
         (name_of got) reception condition took.selecting.is (sym does) in
-        let on : Place = Receiving (Some state) reception.variables.items (values_got got) b.next in
+        let on : ControlPoint = Receiving (Some state) reception.variables.items (values_got got) b.next in
         subst (λ (counted : Bool). Goes (IsOneStep counted) d (In state) m w (place_of led.to) n u) (sym counts)
         (step_on d true (In state) on (place_of led.to) m k n w v u
         (consumes d state m l w classes got took at reception.variables.items b.next k v b.inputs later reading recorded
@@ -70,7 +70,7 @@ module _ (system : SystemValue) (process : Process) (d : Definition) (is : IsOf 
     answers_priority does recorded =
         let b = priority_begins process d.behaviour is.behaves.means state took.selecting.state
         (name_of got) reception took.selecting.is (sym does) in
-        let on : Place = Receiving (Some state) reception.variables.items (values_got got) b.next in
+        let on : ControlPoint = Receiving (Some state) reception.variables.items (values_got got) b.next in
         subst (λ (counted : Bool). Goes (IsOneStep counted) d (In state) m w (place_of led.to) n u) (sym counts)
         (step_on d true (In state) on (place_of led.to) m k n w v u
         (consumes_first d state m l w classes got took at reception.variables.items b.next k v b.inputs later reading

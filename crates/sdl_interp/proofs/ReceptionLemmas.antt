@@ -11,8 +11,8 @@ use Rattle.run_record.specs.Record.{RecordValue}
 use Rattle.run_record.specs.declared.failure.Failure.{Failure}
 use Rattle.run_semantics.proofs.Goes.{goes_on, goes_turn, wrong_here, wrong_on}
 use Rattle.run_semantics.specs.Goes.{AreInner, Goes, GoesWrong}
-use Rattle.run_semantics.specs.Leads.{Turns}
-use Rattle.run_semantics.specs.Place.{Definition, Doing, Receiving}
+use Rattle.run_semantics.specs.Leads.{LeadsSilently}
+use Rattle.run_semantics.specs.ControlPoint.{Definition, Doing, Receiving}
 use Rattle.run_semantics.specs.Reception.{assigned, sort_in}
 use Rattle.run_semantics.specs.World.{WorldValue}
 use Rattle.run_transitions.specs.Machine.{identity_of, value_of}
@@ -43,7 +43,7 @@ sort_is process d variable has =
 -- behind the last value, or the last variable, the body is next
 last_turn : (d : Definition) (m : Machine) (q : PortState) (origin : Option StateId) (next : Body)
     (variables : List (Option VariableId)) (values : List Value) → (variables ≡ []) ⊎ (values ≡ [])
-    → Turns d (identity_of m.trace) q (Receiving origin variables values next) m.store (Doing origin next) m.store
+    → LeadsSilently d (identity_of m.trace) q (Receiving origin variables values next) m.store (Doing origin next) m.store
 last_turn d m q origin next [] values done = (refl, refl)
 last_turn d m q origin next (None ∷ variables) [] done = (refl, refl)
 last_turn d m q origin next (Some variable ∷ variables) [] done = (refl, refl)

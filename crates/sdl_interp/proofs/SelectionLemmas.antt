@@ -22,7 +22,7 @@ use Rattle.sdl_interp.specs.Selected.{AreShut, IsShut, SelectsBy, SelectsNone}
 use Rattle.run_record.specs.declared.failure.Failure.{Failure}
 use Rattle.run_record.specs.declared.failure.Failure.TheVariants.{Memory}
 use Rattle.run_semantics.specs.Fails.{FailsIn, of_condition, of_take}
-use Rattle.run_semantics.specs.Place.{Definition}
+use Rattle.run_semantics.specs.ControlPoint.{Definition}
 use Rattle.run_semantics.specs.Selection.{Selects, class_by, enabled, first_failure}
 use Rattle.run_transitions.specs.Work.{IsOf}
 use Rattle.sdl_system.proofs.BehaviourLemmas.{reacts_as_meant}

@@ -13,8 +13,8 @@ use Rattle.run_record.specs.Record.{RecordValue}
 use Rattle.run_semantics.specs.Goes.{Goes, IsOneStep, MachineValue}
 use Rattle.run_semantics.specs.Instance.{HasRun, parameters_from}
 use Rattle.run_semantics.specs.Leads.{IsQuiet}
-use Rattle.run_semantics.specs.Place.{Closed, Definition, Place}
-use Rattle.run_semantics.specs.Place as place
+use Rattle.run_semantics.specs.ControlPoint.{Closed, Definition, ControlPoint}
+use Rattle.run_semantics.specs.ControlPoint as place
 use Rattle.run_semantics.specs.World.{WorldValue}
 use Rattle.sdl_interp.specs.Stimulus.{WaitsAt}
 use Rattle.sdl_interp.specs.declared.instance.Stepped.{Stepped}
@@ -140,7 +140,7 @@ closing true (at.In n) = event.Rest n ∷ []
 closing false (at.In n) = event.Cut (Some n) ∷ []
 closing whole at.Ended = []
 
-abbrev pub closed : Position → Place
+abbrev pub closed : Position → ControlPoint
 closed at.BeforeStart = Closed
 closed (at.In n) = Closed
 closed at.Ended = place.Ended

@@ -16,7 +16,7 @@ use Rattle.run_record.specs.Event.{values_got}
 use Rattle.run_record.specs.declared.failure.Failure.{Failure}
 use Rattle.run_semantics.specs.Goes.{AreInner, Goes, GoesWrong, IsOneStep, MachineValue, Waits, with_event}
 use Rattle.run_semantics.specs.Leads.{Selecting}
-use Rattle.run_semantics.specs.Place.{Definition, Doing, In, Place, Receiving}
+use Rattle.run_semantics.specs.ControlPoint.{Definition, Doing, In, ControlPoint, Receiving}
 use Rattle.run_semantics.specs.Selection.{tried}
 use Rattle.run_semantics.specs.World.{IsReading, WorldValue}
 use Rattle.run_transitions.specs.Machine.{IsGoing, IsPositionIn, IsReady, place_of, value_of}
@@ -85,7 +85,7 @@ IsStepped process at None m owner = IsReady at m owner
 IsStepped process at (Some led) m owner = IsLed process led m owner
 
 -- from a place on, whatever process means it
-abbrev pub LeadsFrom : Place → SystemValue → Process → MachineValue → WorldValue → Led → MachineValue → WorldValue
+abbrev pub LeadsFrom : ControlPoint → SystemValue → Process → MachineValue → WorldValue → Led → MachineValue → WorldValue
     → Type 0
 LeadsFrom from system process m w led n v =
     (d : Definition) → IsOf system process d → Goes (IsOneStep led.counts) d from m w (place_of led.to) n v

@@ -5,7 +5,7 @@ ghost use Rattle.std.specs.Prelude.{◌≡◌, ◌≢◌, ◌≤◌, ◌<◌, So
 ghost use Rattle.port_model.specs.declared.taken.Taken.TheVariants as taken;
 ghost use Rattle.sdl_interp.specs.Selected.{SelectsBy};
 ghost use Rattle.sdl_interp.specs.Stimulus.{BeginsWith, ContinuesWith, FailsThen, IsAnswered, IsLed, IsStepped, LeadsFrom, ProvidesBy, Reacts, Responds, StepsFrom};
-ghost use Rattle.run_semantics.specs.Place as place;
+ghost use Rattle.run_semantics.specs.ControlPoint as place;
 ghost use Rattle.run_transitions.specs.Machine.{IsGoing, IsPositionIn, IsReady, IsSameInstance, identity_of, value_of};
 ghost use Rattle.sdl_system.specs.Process.{table_of};
 ghost use Rattle.sdl_system.specs.System.{SystemValue};

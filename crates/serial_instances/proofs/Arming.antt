@@ -2,7 +2,7 @@
 use Rattle.std.proofs.Common.{ℕ, ◌≤◌, Bool, true, false, List, [], ◌∷◌, if◌then◌else◌}
 use Rattle.std.proofs.lemmas.List.Elements.{All-cons, All-head, All-nil, All-tail}
 use Rattle.port_inbox.specs.declared.entry.Fuse.{Fuse}
-use Rattle.serial_order.specs.Course.{IsNoFuseBefore}
+use Rattle.serial_order.specs.Execution.{IsNoFuseBefore}
 use Rattle.sdl_timers.specs.DueOrder.{is_before, with_fuse}
 
 -- where a fuse stands among others: at the front or behind it

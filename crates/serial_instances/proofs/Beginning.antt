@@ -6,12 +6,12 @@ use Rattle.std.specs.List.{range_with_len}
 use Rattle.std.proofs.lemmas.List.Elements.{All-nil}
 use Rattle.port_values.specs.declared.pid.Pid.TheVariants.{Null}
 use Rattle.port_values.specs.declared.value.Value.{Value}
-use Rattle.serial_order.specs.Global.{census_of, count_living, first_instances, first_of, instance_at, instance_of}
-use Rattle.serial_order.specs.Global.{least_living}
+use Rattle.serial_order.specs.RunState.{living_of, count_living, first_instances, first_of, instance_at, instance_of}
+use Rattle.serial_order.specs.RunState.{least_living}
 use Rattle.serial_instances.specs.Serial.{AreInPlace, AreMarked, IsOfSystem, IsSerial}
 use Rattle.serial_instances.specs.declared.instances.Instances.{Instances}
 use Rattle.sdl_interp.specs.Instance.{InstanceValue}
-use Rattle.run_semantics.specs.World.{Census}
+use Rattle.run_semantics.specs.World.{Living}
 use Rattle.sdl_system.specs.System.{SystemValue}
 use Rattle.sdl_system.specs.declared.id.ProcessId.{ProcessId}
 use Rattle.sdl_system.specs.declared.process.Process.{Process}
@@ -122,11 +122,11 @@ none_count zero b = refl
 none_count (suc n) b = ap (λ rest. 0 ∷ rest) (none_count n (b + 1))
 
 -- nobody lives at first
-pub census-none : (system : SystemValue) (n : ℕ) (census : Census) → n ≡ length system.processes
-    → census ≡ record { least = replicate n None; counts = replicate n 0; given = 0 } → census ≡ census_of system []
-census-none system n census long is =
-    let empty : ℕ → Census = λ n. record { least = replicate n None; counts = replicate n 0; given = 0 } in
-    let of_no : Census = census_of system [] in
+pub living-none : (system : SystemValue) (n : ℕ) (living : Living) → n ≡ length system.processes
+    → living ≡ record { least = replicate n None; counts = replicate n 0; given = 0 } → living ≡ living_of system []
+living-none system n living long is =
+    let empty : ℕ → Living = λ n. record { least = replicate n None; counts = replicate n 0; given = 0 } in
+    let of_no : Living = living_of system [] in
     let count = length system.processes in
     is ∙ ap empty long
     ∙ ap (λ all. record (empty count) { least = all }) (sym (none_live count 0))
@@ -143,12 +143,12 @@ marks_none = record {
 }
 
 -- before the first instance
-pub none-serial : (awake : List ℕ) (s : Instances) → s.census ≡ census_of s.system.now [] → s.instances.items ≡ []
-    → awake ≡ [] → IsSerial awake s
-none-serial awake s census none asleep = record {
-  census = census ∙ ap (census_of s.system.now) (sym none);
+pub none-serial : (ready : List ℕ) (s : Instances) → s.living ≡ living_of s.system.now [] → s.instances.items ≡ []
+    → ready ≡ [] → IsSerial ready s
+none-serial ready s living none asleep = record {
+  living = living ∙ ap (living_of s.system.now) (sym none);
   places = subst (AreInPlace 0) (sym none) tt;
   members = subst (All (IsOfSystem s.system.now)) (sym none) (All-nil (IsOfSystem s.system.now));
-  marked = subst (AreMarked awake) (sym none)
-      (subst (λ (awake : List ℕ). AreMarked awake []) (sym asleep) marks_none);
+  marked = subst (AreMarked ready) (sym none)
+      (subst (λ (ready : List ℕ). AreMarked ready []) (sym asleep) marks_none);
 }

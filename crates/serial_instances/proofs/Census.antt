@@ -6,12 +6,12 @@ use Rattle.std.proofs.lemmas.List.{length-set}
 use Rattle.std.proofs.lemmas.List.FromFn.{get_or-map-range_with_len}
 use Rattle.std.proofs.lemmas.List.Sums.{sum_by-cons}
 use Rattle.std.proofs.lemmas.Option.{unwrap_or-slice_get}
-use Rattle.serial_order.specs.Global.{census_of, count_living, is_ended, least_living, lives_of}
+use Rattle.serial_order.specs.RunState.{living_of, count_living, is_ended, least_living, lives_of}
 use Rattle.serial_instances.specs.Serial.{AreInPlace, HasEnded}
 use Rattle.serial_instances.specs.declared.instances.Instances.{Instances}
 use Rattle.run_evaluation.specs.declared.identity.Identity.{Identity}
 use Rattle.sdl_interp.specs.Instance.{InstanceValue}
-use Rattle.run_semantics.specs.World.{Census, count_in}
+use Rattle.run_semantics.specs.World.{Living, count_in}
 use Rattle.sdl_system.specs.Route.{living_in}
 
 -- the numbers of an instance at a place
@@ -184,13 +184,13 @@ map_set f g k (suc n) (suc p) v is same =
     (map_set f g (k + 1) n p v (is ∙ ap g on) (λ q other. same q (λ e. other (e ∙ on))))
 
 -- the census without the one that has ended
-pub census_left : (s : Instances) (place : ℕ) (h : HasEnded s place) (least : Option ℕ)
+pub living_left : (s : Instances) (place : ℕ) (h : HasEnded s place) (least : Option ℕ)
     → least ≡ least_living s.instances.items h.now.who.process.0
-    → (let c : Census = record s.census {
-      least = set s.census.least h.now.who.process.0 least;
-      counts = set s.census.counts h.now.who.process.0 (count_in s.census h.now.who.process - 1);
-    } in c) ≡ census_of s.system.now s.instances.items
-census_left s place h least is =
+    → (let c : Living = record s.living {
+      least = set s.living.least h.now.who.process.0 least;
+      counts = set s.living.counts h.now.who.process.0 (count_in s.living h.now.who.process - 1);
+    } in c) ≡ living_of s.system.now s.instances.items
+living_left s place h least is =
     let xs = s.instances.items in
     let was = set xs place h.before in
     let p = h.now.who.process.0 in
@@ -214,21 +214,21 @@ census_left s place h least is =
     (one_less ∙ ap (count_living xs) (omega arith))
     (λ q other. count_other h.before h.now h.lived h.ended h.who q (λ e. other (e ∙ omega arith)) xs place
     h.is_there) in
-    ap (λ (c : Census). record c {
+    ap (λ (c : Living). record c {
       least = set c.least p least;
       counts = set c.counts p (count_in c h.now.who.process - 1);
-    }) h.census
+    }) h.living
     ∙ (λ i. record { least = leasts i; counts = counts i; given = length-set xs place h.before i })
 
 -- who lives by the census, before the end
 living_was : (s : Instances) (place : ℕ) (h : HasEnded s place)
-    → living_in s.census.least h.now.who.process
+    → living_in s.living.least h.now.who.process
     ≡ least_living (set s.instances.items place h.before) h.now.who.process.0
 living_was s place h =
     let was = set s.instances.items place h.before in
     let p = h.now.who.process.0 in
     let n = length s.system.now.processes in
-    ap (λ (c : Census). living_in c.least h.now.who.process) h.census
+    ap (λ (c : Living). living_in c.least h.now.who.process) h.living
     ∙ unwrap_or-slice_get (map (least_living was) (range_with_len 0 n)) p None
     ∙ get_or-map-range_with_len (least_living was) 0 n p p None h.inside (omega arith)
 
@@ -244,13 +244,13 @@ module _ (s : Instances) (place : ℕ) (h : HasEnded s place) (who : Identity)
   process_is : h.now.who.process.0 ≡ who.process.0
   process_is = ap (λ (w : Identity). w.process.0) who_is
 
-  was_living : living_in s.census.least who.process
+  was_living : living_in s.living.least who.process
       ≡ least_living (set s.instances.items place h.before) who.process.0
-  was_living = subst (λ (w : Identity). living_in s.census.least w.process
+  was_living = subst (λ (w : Identity). living_in s.living.least w.process
       ≡ least_living (set s.instances.items place h.before) w.process.0) who_is (living_was s place h)
 
   -- the least number, where it is less
-  pub left_lesser : (m : ℕ) → Some m ≡ living_in s.census.least who.process → m < who.pid
+  pub left_lesser : (m : ℕ) → Some m ≡ living_in s.living.least who.process → m < who.pid
       → Some m ≡ least_living s.instances.items who.process.0
   left_lesser m is less =
       let pid = ap (λ (w : Identity). w.pid) who_is in
@@ -258,7 +258,7 @@ module _ (s : Instances) (place : ℕ) (h : HasEnded s place) (who : Identity)
       (sym (is ∙ was_living)) (omega (arith, pid, less)))
 
   -- where it is not less, it is the one that has ended
-  pub left_behind : (m : ℕ) → Some m ≡ living_in s.census.least who.process → who.pid ≤ m
+  pub left_behind : (m : ℕ) → Some m ≡ living_in s.living.least who.process → who.pid ≤ m
       → least_living (drop place s.instances.items) who.process.0 ≡ least_living s.instances.items who.process.0
   left_behind m is most =
       let pid = ap (λ (w : Identity). w.pid) who_is in
@@ -268,23 +268,23 @@ module _ (s : Instances) (place : ℕ) (h : HasEnded s place) (who : Identity)
       let same : m ≡ other = cc in
       omega (arith, pid, most, same))
 
-  pub left_none : None ≡ living_in s.census.least who.process
+  pub left_none : None ≡ living_in s.living.least who.process
       → None ≡ least_living s.instances.items who.process.0
   left_none is =
       sym (none_left h.before h.now h.lived h.ended h.who who.process.0 process_is s.instances.items place h.is_there
       (sym (is ∙ was_living)))
 
-  pub leaves : (least : Option ℕ) (census : Census) → least ≡ least_living s.instances.items who.process.0
-      → census ≡ record s.census {
-        least = set s.census.least who.process.0 least;
-        counts = set s.census.counts who.process.0 (count_in s.census who.process - 1);
-      } → census ≡ census_of s.system.now s.instances.items
-  leaves least census is now =
+  pub leaves : (least : Option ℕ) (living : Living) → least ≡ least_living s.instances.items who.process.0
+      → living ≡ record s.living {
+        least = set s.living.least who.process.0 least;
+        counts = set s.living.counts who.process.0 (count_in s.living who.process - 1);
+      } → living ≡ living_of s.system.now s.instances.items
+  leaves least living is now =
       let own : least ≡ least_living s.instances.items h.now.who.process.0 =
       is ∙ ap (least_living s.instances.items) (sym process_is) in
       now
-      ∙ ap (λ (w : Identity). record s.census {
-        least = set s.census.least w.process.0 least;
-        counts = set s.census.counts w.process.0 (count_in s.census w.process - 1);
+      ∙ ap (λ (w : Identity). record s.living {
+        least = set s.living.least w.process.0 least;
+        counts = set s.living.counts w.process.0 (count_in s.living w.process - 1);
       }) (sym who_is)
-      ∙ census_left s place h least own
+      ∙ living_left s place h least own

@@ -13,12 +13,12 @@ use Rattle.port_inbox.specs.declared.entry.Fuse.{Fuse}
 use Rattle.port_model.specs.declared.refused.Refused.{Refused}
 use Rattle.port_model.specs.Port.{PortState}
 use Rattle.port_values.specs.declared.item.Item.{Item}
-use Rattle.serial_order.specs.Global.{census_of, change_at, changed_at, count_living, instance_at, is_ended}
-use Rattle.serial_order.specs.Global.{least_living, lives_of, with_expiry, with_put}
+use Rattle.serial_order.specs.RunState.{living_of, change_at, changed_at, count_living, instance_at, is_ended}
+use Rattle.serial_order.specs.RunState.{least_living, lives_of, with_expiry, with_put}
 use Rattle.serial_instances.specs.Serial.{AreInPlace, AreMarked, IsOfSystem, IsSerial}
 use Rattle.serial_instances.specs.declared.instances.Instances.{Instances}
 use Rattle.sdl_interp.specs.Instance.{InstanceValue}
-use Rattle.run_semantics.specs.World.{Census}
+use Rattle.run_semantics.specs.World.{Living}
 use Rattle.sdl_system.specs.System.{SystemValue}
 
 -- ---- lists
@@ -96,10 +96,10 @@ count-set instances place old new q there same =
     omega (arith, counted, alike, is)
 
 -- who lives stays
-pub census-set : (system : SystemValue) (instances : List InstanceValue) (place : ℕ) (old new : InstanceValue)
+pub living-set : (system : SystemValue) (instances : List InstanceValue) (place : ℕ) (old new : InstanceValue)
     → slice_get instances place ≡ Some old → IsChanged old new
-    → census_of system (set instances place new) ≡ census_of system instances
-census-set system instances place old new there same =
+    → living_of system (set instances place new) ≡ living_of system instances
+living-set system instances place old new there same =
     let numbers = range_with_len 0 (length system.processes) in
     let after = set instances place new in
     let least : map (least_living after) numbers ≡ map (least_living instances) numbers =
@@ -109,8 +109,8 @@ census-set system instances place old new there same =
     map_alike (count_living after) (count_living instances) numbers
     (λ q. count-set instances place old new q there same) in
     let given : length after ≡ length instances = length-set instances place new in
-    let begin : Census = census_of system instances in
-    ap (λ all. record (census_of system after) { least = all }) least
+    let begin : Living = living_of system instances in
+    ap (λ all. record (living_of system after) { least = all }) least
     ∙ ap (λ all. record begin { counts = all; given = length after }) counts
     ∙ ap (λ all. record begin { given = all }) given
 
@@ -141,10 +141,10 @@ member_as system old new member same = record {
 abbrev pub IsWaked : ℕ → List ℕ → List ℕ → Type 0
 IsWaked number old new = (n : ℕ) → Contains new n ↔ ((n ≡ number) ⊎ Contains old n)
 
-there_after : (awake after : List ℕ) (number count : ℕ)
-    → ((n : ℕ) → Contains awake n → (0 < n) × (n ≤ count)) → (0 < number) × (number ≤ count)
-    → IsWaked number awake after → (n : ℕ) → Contains after n → (0 < n) × (n ≤ count)
-there_after awake after number count there inside waked n is =
+there_after : (ready after : List ℕ) (number count : ℕ)
+    → ((n : ℕ) → Contains ready n → (0 < n) × (n ≤ count)) → (0 < number) × (number ≤ count)
+    → IsWaked number ready after → (n : ℕ) → Contains after n → (0 < n) × (n ≤ count)
+there_after ready after number count there inside waked n is =
     elim ((waked n).0 is) [
       | inl same ↦ subst (λ m. (0 < m) × (m ≤ count)) (sym same) inside
       | inr before ↦ there n before
@@ -157,16 +157,16 @@ other_place instances place (suc n) new i apart at =
     let off : place ≡ n → ⊥ = λ e. apart (omega (arith, e)) in
     sym (slice_get-set_other instances place n new off) ∙ at
 
-marks-set : (awake after : List ℕ) (instances : List InstanceValue) (number place : ℕ) (new : InstanceValue)
-    → number ≡ place + 1 → place < length instances → AreMarked awake instances → IsWaked number awake after
+marks-set : (ready after : List ℕ) (instances : List InstanceValue) (number place : ℕ) (new : InstanceValue)
+    → number ≡ place + 1 → place < length instances → AreMarked ready instances → IsWaked number ready after
     → AreMarked after (set instances place new)
-marks-set awake after instances number place new is_number inside marked waked =
+marks-set ready after instances number place new is_number inside marked waked =
     let count : length (set instances place new) ≡ length instances = length-set instances place new in
     let low : 0 < number = omega arith in
     let high : number ≤ length instances = omega arith in
     record {
       there = subst (λ count. (n : ℕ) → Contains after n → (0 < n) × (n ≤ count)) (sym count)
-          (there_after awake after number (length instances) marked.there (low, high) waked);
+          (there_after ready after number (length instances) marked.there (low, high) waked);
       others = λ n i at. elim (cases_eq n number) [
         | inl same ↦ inl ((waked n).1 (inl same))
         | inr apart ↦ elim (marked.others n i
@@ -180,26 +180,26 @@ marks-set awake after instances number place new is_number inside marked waked =
 -- ---- the working state
 
 -- an instance's port is changed, and it may have something to do
-pub serial-set : (s t : Instances) (awake after : List ℕ) (number place : ℕ) (old new : InstanceValue)
-    → IsSerial awake s
+pub serial-set : (s t : Instances) (ready after : List ℕ) (number place : ℕ) (old new : InstanceValue)
+    → IsSerial ready s
     → number ≡ place + 1 → slice_get s.instances.items place ≡ Some old → IsChanged old new
-    → t.system ≡ s.system → t.census ≡ s.census → t.instances.items ≡ set s.instances.items place new
-    → IsWaked number awake after → IsSerial after t
-serial-set s t awake after number place old new serial is_number there same system census instances waked =
+    → t.system ≡ s.system → t.living ≡ s.living → t.instances.items ≡ set s.instances.items place new
+    → IsWaked number ready after → IsSerial after t
+serial-set s t ready after number place old new serial is_number there same system living instances waked =
     let before = s.instances.items in
     let inside : place < length before = slice_get_within before place old there in
     let member = All-slice_get (IsOfSystem s.system.now) before place old serial.members there in
     record {
-      census = census ∙ serial.census ∙ sym (census-set s.system.now before place old new there same)
-          ∙ ap (λ all. census_of s.system.now all) (sym instances)
-          ∙ ap (λ (system : _). census_of system.now t.instances.items) (sym system);
+      living = living ∙ serial.living ∙ sym (living-set s.system.now before place old new there same)
+          ∙ ap (λ all. living_of s.system.now all) (sym instances)
+          ∙ ap (λ (system : _). living_of system.now t.instances.items) (sym system);
       places = subst (AreInPlace 0) (sym instances) (places-set 0 before place old new serial.places there same);
       members = subst (λ all. All (IsOfSystem t.system.now) all) (sym instances)
           (subst (λ (system : _). All (IsOfSystem system.now) (set before place new)) (sym system)
           (All-set (IsOfSystem s.system.now) before place new (member_as s.system.now old new member same)
           serial.members));
       marked = subst (AreMarked after) (sym instances)
-          (marks-set awake after before number place new is_number inside serial.marked waked);
+          (marks-set ready after before number place new is_number inside serial.marked waked);
     }
 
 -- the instance of a number is changed

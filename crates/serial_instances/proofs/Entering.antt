@@ -10,12 +10,12 @@ use Rattle.std.proofs.lemmas.Option.{slice_get_within}
 use Rattle.port_inbox.specs.Ends.{OwnerState}
 use Rattle.port_values.specs.declared.pid.Pid.{Pid}
 use Rattle.port_values.specs.declared.value.Value.{Value}
-use Rattle.serial_order.specs.Global.{census_of, count_living, instance_at, is_ended, least_living, lives_of}
+use Rattle.serial_order.specs.RunState.{living_of, count_living, instance_at, is_ended, least_living, lives_of}
 use Rattle.serial_instances.proofs.Changes.{IsWaked}
 use Rattle.serial_instances.specs.Serial.{AreInPlace, AreMarked, IsOfSystem, IsSerial}
 use Rattle.serial_instances.specs.declared.instances.Instances.{Instances}
 use Rattle.sdl_interp.specs.Instance.{InstanceValue, created}
-use Rattle.run_semantics.specs.World.{Census, count_in, with_one_more}
+use Rattle.run_semantics.specs.World.{Living, count_in, with_one_more}
 use Rattle.sdl_system.specs.Route.{living_in, or_later}
 use Rattle.sdl_system.specs.System.{SystemValue}
 use Rattle.sdl_system.specs.declared.id.ProcessId.{ProcessId}
@@ -129,14 +129,14 @@ entering system process id pid given parent values owner i made port next there 
 }
 
 -- who lives, with one more
-pub census-entered : (system : SystemValue) (instances : List InstanceValue) (id : ProcessId) (i : InstanceValue)
+pub living-entered : (system : SystemValue) (instances : List InstanceValue) (id : ProcessId) (i : InstanceValue)
     → Enters system (length instances) id i
-    → census_of system (instances ++ i ∷ []) ≡ with_one_more (census_of system instances) id
-census-entered system instances id i enters =
+    → living_of system (instances ++ i ∷ []) ≡ with_one_more (living_of system instances) id
+living-entered system instances id i enters =
     let n = length system.processes in
     let numbers = range_with_len 0 n in
     let after = instances ++ i ∷ [] in
-    let before : Census = census_of system instances in
+    let before : Living = living_of system instances in
     let p = id.0 in
     let zeroed : 0 + p ≡ p = omega arith in
     let is_own : i.who.process.0 ≡ p = ap (λ (id : ProcessId). id.0) enters.process in
@@ -164,8 +164,8 @@ census-entered system instances id i enters =
     (λ q apart. count_other instances i q (other q apart))
     ∙ ap (set before.counts p) count_is in
     let given : length after ≡ length instances + 1 = length-append instances (i ∷ []) in
-    let end : Census = with_one_more before id in
-    ap (λ all. record (census_of system after) { least = all }) least
+    let end : Living = with_one_more before id in
+    ap (λ all. record (living_of system after) { least = all }) least
     ∙ ap (λ all. record end { counts = all; given = length after }) counts
     ∙ ap (λ all. record end { given = all }) given
 
@@ -198,9 +198,9 @@ number_cases instances i j (suc n) at = elim (place_cases instances i j n at) [
   | inr before ↦ inr before
 ]
 
-marks-entered : (awake after : List ℕ) (instances : List InstanceValue) (i : InstanceValue)
-    → AreMarked awake instances → IsWaked (length instances + 1) awake after → AreMarked after (instances ++ i ∷ [])
-marks-entered awake after instances i marked waked =
+marks-entered : (ready after : List ℕ) (instances : List InstanceValue) (i : InstanceValue)
+    → AreMarked ready instances → IsWaked (length instances + 1) ready after → AreMarked after (instances ++ i ∷ [])
+marks-entered ready after instances i marked waked =
     let count : length (instances ++ i ∷ []) ≡ length instances + 1 = length-append instances (i ∷ []) in
     record {
       there = λ n is. elim ((waked n).0 is) [
@@ -211,29 +211,29 @@ marks-entered awake after instances i marked waked =
       others = λ n j at. elim (number_cases instances i j n at) [
         | inl last ↦ inl ((waked n).1 (inl last))
         | inr before ↦ elim (marked.others n j before) [
-          | inl awaked ↦ inl ((waked n).1 (inr awaked))
+          | inl readied ↦ inl ((waked n).1 (inr readied))
           | inr rests ↦ inr rests
         ]
       ];
     }
 
 -- an instance enters, and may have something to do
-pub serial-entered : (s t : Instances) (awake after : List ℕ) (id : ProcessId) (i : InstanceValue)
-    → IsSerial awake s
-    → Enters s.system.now s.census.given id i → t.system ≡ s.system → t.census ≡ with_one_more s.census id
-    → t.instances.items ≡ s.instances.items ++ i ∷ [] → IsWaked (s.census.given + 1) awake after → IsSerial after t
-serial-entered s t awake after id i serial enters system census instances waked =
+pub serial-entered : (s t : Instances) (ready after : List ℕ) (id : ProcessId) (i : InstanceValue)
+    → IsSerial ready s
+    → Enters s.system.now s.living.given id i → t.system ≡ s.system → t.living ≡ with_one_more s.living id
+    → t.instances.items ≡ s.instances.items ++ i ∷ [] → IsWaked (s.living.given + 1) ready after → IsSerial after t
+serial-entered s t ready after id i serial enters system living instances waked =
     let before = s.instances.items in
-    let given : s.census.given ≡ length before = ap (λ (c : Census). c.given) serial.census in
+    let given : s.living.given ≡ length before = ap (λ (c : Living). c.given) serial.living in
     let entered : Enters s.system.now (length before) id i =
     subst (λ given. Enters s.system.now given id i) given enters in
-    let waked_so : IsWaked (length before + 1) awake after =
-    subst (λ given. IsWaked (given + 1) awake after) given waked in
+    let waked_so : IsWaked (length before + 1) ready after =
+    subst (λ given. IsWaked (given + 1) ready after) given waked in
     record {
-      census = census ∙ ap (λ c. with_one_more c id) serial.census
-          ∙ sym (census-entered s.system.now before id i entered)
-          ∙ ap (λ all. census_of s.system.now all) (sym instances)
-          ∙ ap (λ (system : _). census_of system.now t.instances.items) (sym system);
+      living = living ∙ ap (λ c. with_one_more c id) serial.living
+          ∙ sym (living-entered s.system.now before id i entered)
+          ∙ ap (λ all. living_of s.system.now all) (sym instances)
+          ∙ ap (λ (system : _). living_of system.now t.instances.items) (sym system);
       places = subst (AreInPlace 0) (sym instances)
           (places-entered 0 before i serial.places (entered.pid ∙ omega arith) (entered.port ∙ omega arith));
       members = subst (λ all. All (IsOfSystem t.system.now) all) (sym instances)
@@ -241,5 +241,5 @@ serial-entered s t awake after id i serial enters system census instances waked 
           (All-append (IsOfSystem s.system.now) before (i ∷ []) serial.members
           (All-cons (IsOfSystem s.system.now) i [] entered.member (All-nil (IsOfSystem s.system.now)))));
       marked = subst (AreMarked after) (sym instances)
-          (marks-entered awake after before i serial.marked waked_so);
+          (marks-entered ready after before i serial.marked waked_so);
     }

@@ -1,6 +1,6 @@
 pub mod Arming
 pub mod Beginning
-pub mod Census
+pub mod Living
 pub mod Changes
 pub mod Closing
 pub mod Entering

@@ -1,13 +1,13 @@
 -- What the instances of a serial run are, between two steps.
 use Rattle.std.specs.Prelude.{◌≡◌, ◌⊎◌, ◌+◌, ◌<◌, ◌≤◌, ℕ, false, true, List, [], ◌∷◌, All, Contains, Some, length, slice_get, slice_set}
-use Rattle.serial_order.specs.Global.{Global, census_of, instance_at, is_ended}
+use Rattle.serial_order.specs.RunState.{RunState, living_of, instance_at, is_ended}
 use Rattle.serial_instances.specs.declared.instances.Instances.{Instances}
 use Rattle.sdl_interp.specs.Instance.{InstanceValue, IsAtRest}
 use Rattle.serial_sweeps.specs.Sweeps.{Moment, until}
 use Rattle.sdl_system.specs.System.{SystemValue}
 
 -- the whole, of what the sweeps have at a moment and of the instances
-abbrev pub state_of : Moment → Instances → Global
+abbrev pub state_of : Moment → Instances → RunState
 state_of m a = record {
   system = a.system.now;
   clock = m.clock;
@@ -30,17 +30,17 @@ pub record IsOfSystem (system : SystemValue) (i : InstanceValue) : Type 0 where
   pub process_is : slice_get system.processes i.who.process.0 ≡ Some i.process
 
 -- who may have something to do is there, and all others rest
-pub record AreMarked (awake : List ℕ) (instances : List InstanceValue) : Type 0 where
-  pub there : (number : ℕ) → Contains awake number → (0 < number) × (number ≤ length instances)
+pub record AreMarked (ready : List ℕ) (instances : List InstanceValue) : Type 0 where
+  pub there : (number : ℕ) → Contains ready number → (0 < number) × (number ≤ length instances)
   pub others : (number : ℕ) (i : InstanceValue) → instance_at instances number ≡ Some i
-      → Contains awake number ⊎ IsAtRest i
+      → Contains ready number ⊎ IsAtRest i
 
 -- the instances are those of a run in which these may have something to do
-pub record IsSerial (awake : List ℕ) (a : Instances) : Type 0 where
-  pub census : a.census ≡ census_of a.system.now a.instances.items
+pub record IsSerial (ready : List ℕ) (a : Instances) : Type 0 where
+  pub living : a.living ≡ living_of a.system.now a.instances.items
   pub places : AreInPlace 0 a.instances.items
   pub members : All (IsOfSystem a.system.now) a.instances.items
-  pub marked : AreMarked awake a.instances.items
+  pub marked : AreMarked ready a.instances.items
 
 -- ---- who lives
 
@@ -54,4 +54,4 @@ pub record HasEnded (a : Instances) (place : ℕ) : Type 0 where
   pub who : now.who ≡ before.who
   pub inside : now.who.process.0 < length a.system.now.processes
   pub places : AreInPlace 0 a.instances.items
-  pub census : a.census ≡ census_of a.system.now (slice_set a.instances.items place before)
+  pub living : a.living ≡ living_of a.system.now (slice_set a.instances.items place before)

@@ -2,7 +2,7 @@
 
 ghost use Rattle.std.specs.Prelude.{◌≡◌, ◌+◌, ◌++◌, [], All, IfOk, IsTrue, OnOk, Some, false, slice_get};
 ghost use Rattle.std.specs.List.{AllZip};
-ghost use Rattle.serial_order.specs.Global.{first_instances, first_of};
+ghost use Rattle.serial_order.specs.RunState.{first_instances, first_of};
 ghost use Rattle.serial_instances.specs.Serial.{IsSerial};
 ghost use Rattle.sdl_interp.specs.Instance.{IsAtRest, IsClosed};
 
@@ -12,8 +12,8 @@ use port_values::{Pid, Values};
 use run_record::Record;
 use sdl_interp::Instance;
 use sdl_system::{Process, ProcessId, System};
-use serial_sweeps::Board;
-use serial_world::Census;
+use serial_sweeps::Agenda;
+use serial_world::Living;
 use std::alloc::Global;
 
 /// The instances of a run, with ports of their own, and who of them lives.
@@ -24,29 +24,29 @@ pub struct Instances<'s> {
     /// By ascending number, the first one with the number 1.
     pub instances: Vec<Instance<'s, Alone>>,
     /// Who of them lives, and how many numbers are given.
-    pub census: Census,
+    pub living: Living,
 }
 
 impl<'s> Instances<'s> {
     /// The instances with which the system begins, before their start at time 0. Nobody was there before.
-    pub fn begin(alloc: Global, board: &mut Board, system: &'s System) -> Result<Self, RunError>
-        requires { board.old.awake ≡ [] }
-        ensures serial { IfOk result (IsSerial board.new.awake) }
-        ensures clock { board.new.clock ≡ board.old.clock }
-        ensures fuses { board.new.fuses ≡ board.old.fuses }
+    pub fn begin(alloc: Global, agenda: &mut Agenda, system: &'s System) -> Result<Self, RunError>
+        requires { agenda.old.ready ≡ [] }
+        ensures serial { IfOk result (IsSerial agenda.new.ready) }
+        ensures clock { agenda.new.clock ≡ agenda.old.clock }
+        ensures fuses { agenda.new.fuses ≡ agenda.old.fuses }
         ensures system { IfOk result (λ a. a.system.now ≡ system.now) }
         ensures instances { IfOk result (λ a. a.instances.items ≡ first_instances system.now 1 0 system.now.processes) }
     {
         let mut run = Instances {
             system,
             instances: Vec::new(alloc),
-            census: Census::new(alloc, system.processes().len())?,
+            living: Living::new(alloc, system.processes().len())?,
         };
         for (number, process) in system.processes().iter().enumerate() {
             let Ok(number) = u32::try_from(number) else {
                 return Err(RunError::Memory);
             };
-            run.begin_all(alloc, board, ProcessId(number), process)?;
+            run.begin_all(alloc, agenda, ProcessId(number), process)?;
         }
         Ok(run)
     }
@@ -55,22 +55,22 @@ impl<'s> Instances<'s> {
     fn begin_all(
         &mut self,
         alloc: Global,
-        board: &mut Board,
+        agenda: &mut Agenda,
         id: ProcessId,
         process: &'s Process,
     ) -> Result<(), RunError>
-        requires serial { IsSerial board.old.awake self.old }
+        requires serial { IsSerial agenda.old.ready self.old }
         requires process { slice_get self.old.system.now.processes id.0 ≡ Some process.now }
-        ensures kept { OnOk result (IsSerial board.new.awake self.new) }
+        ensures kept { OnOk result (IsSerial agenda.new.ready self.new) }
         ensures system { self.new.system ≡ self.old.system }
-        ensures clock { board.new.clock ≡ board.old.clock }
-        ensures fuses { board.new.fuses ≡ board.old.fuses }
+        ensures clock { agenda.new.clock ≡ agenda.old.clock }
+        ensures fuses { agenda.new.fuses ≡ agenda.old.fuses }
         ensures instances { OnOk result (self.new.instances.items ≡ self.old.instances.items
-            ++ first_of self.old.system.now (self.old.census.given + 1) id process.now process.now.initial) }
+            ++ first_of self.old.system.now (self.old.living.given + 1) id process.now process.now.initial) }
     {
         for _ in 0..process.initial {
             let none = Values::none(alloc);
-            self.enter(alloc, board, id, process, Pid::Null, &none)?;
+            self.enter(alloc, agenda, id, process, Pid::Null, &none)?;
         }
         Ok(())
     }

@@ -1,7 +1,7 @@
 //! Who lives.
 
 ghost use Rattle.std.specs.Prelude.{◌≡◌, ◌≤◌, IsSomeAnd, drop, length, slice_get};
-ghost use Rattle.serial_order.specs.Global.{census_of, least_living};
+ghost use Rattle.serial_order.specs.RunState.{living_of, least_living};
 ghost use Rattle.serial_instances.specs.Serial.{HasEnded};
 
 use crate::instances::Instances;
@@ -13,12 +13,12 @@ impl<'s> Instances<'s> {
     /// The instance at a place has ended, and lives no longer.
     pub fn leave(&mut self, place: usize)
         requires { HasEnded self.old place }
-        ensures same { self.new ≡ record self.old { census = self.new.census } }
-        ensures census { self.new.census ≡ census_of self.old.system.now self.old.instances.items }
+        ensures same { self.new ≡ record self.old { living = self.new.living } }
+        ensures living { self.new.living ≡ living_of self.old.system.now self.old.instances.items }
     {
         let who = self.instances[place].who();
         let least = self.least_left(who, place);
-        self.census.remove(who.process, least);
+        self.living.remove(who.process, least);
     }
 
     /// The least number of a living instance of the process of the one at a place, which has ended: that of one with a
@@ -28,7 +28,7 @@ impl<'s> Instances<'s> {
         requires who { IsSomeAnd (slice_get self.now.instances.items place) (λ i. i.who ≡ who) }
         ensures { result ≡ least_living self.now.instances.items who.process.0 }
     {
-        let Some(least) = self.census.least_of(who.process) else {
+        let Some(least) = self.living.least_of(who.process) else {
             return None;
         };
         if least < who.pid {

@@ -9,8 +9,8 @@ use Rattle.serial_order.proofs.Beginnings.{first_time}
 use Rattle.serial_order.proofs.Histories.{are_followed, moment_from}
 use Rattle.serial_order.proofs.Known.{moment_of}
 use Rattle.serial_order.proofs.Numbers.{at_change, at_more, at_with}
-use Rattle.serial_order.specs.Course.{AreBehaviours, Course, Expired, Follows, Happening, Heard, IsNoFuseBefore, IsNoLineBefore, Moved, Steps, Ticked, Ticks, begins, goes, next_line}
-use Rattle.serial_order.specs.Global.{Global, after_act, after_acts, around, beginning, change_at, instance_at, instance_of, with_created, with_expiry, with_instance, with_put}
+use Rattle.serial_order.specs.Execution.{AreBehaviours, Execution, Expired, Follows, Happening, Heard, IsNoFuseBefore, IsNoLineBefore, Moved, Steps, Ticked, Ticks, begins, goes, next_line}
+use Rattle.serial_order.specs.RunState.{RunState, after_effect, after_effects, world_at, beginning, change_at, instance_at, instance_of, with_created, with_expiry, with_instance, with_put}
 use Rattle.serial_order.specs.Laws.{EachReadsTheClock}
 use Rattle.serial_order.specs.Times.{AreAt, AreTimed, IsAt, IsTimed}
 use Rattle.serial_order.specs.Told.{Moment, first_moment, moment_after}
@@ -18,7 +18,7 @@ use Rattle.run_evaluation.specs.declared.identity.Identity.{Identity}
 use Rattle.sdl_interp.specs.Instance.{InstanceValue}
 use Rattle.run_record.specs.Event as event
 use Rattle.run_record.specs.Event.{Event}
-use Rattle.run_semantics.specs.Act.{Act, Arm, Create, Deed, Send, acts_of}
+use Rattle.run_semantics.specs.Effect.{Effect, Arm, Create, Deed, Send, effects_of}
 use Rattle.run_semantics.specs.World.{IsReading, IsTrueOf, IsTrueOfOne, WorldValue, time_after, time_after_one}
 use Rattle.run_semantics.specs.World as world
 use Rattle.sdl_script.specs.declared.script.ScriptLine.{ScriptLine}
@@ -29,7 +29,7 @@ use Rattle.sdl_system.specs.declared.route.Target.TheVariants.{Env, Instance, No
 use Rattle.sdl_timers.specs.DueOrder.{with_fuse}
 
 -- The clock isn't past what was to be done, and no instance has read a later time.
-record IsTimely (g : Global) : Type 0 where
+record IsTimely (g : RunState) : Type 0 where
   begun : g.clock ≤ g.until
   read : (n : ℕ) (i : InstanceValue) → instance_at g.instances n ≡ Some i → i.store.time ≤ g.clock
 
@@ -77,9 +77,9 @@ module _ (who : Identity) (clock : ℕ) where
   event_reads w before (event.Rest state) known less is = record { is_at = tt; after = less }
   event_reads w before (event.Cut state) known less is = record { is_at = tt; after = less }
 
-  clock_kept : (w : WorldValue) (done : List Act) → (world.after_acts w done).clock ≡ w.clock
+  clock_kept : (w : WorldValue) (done : List Effect) → (world.after_effects w done).clock ≡ w.clock
   clock_kept w [] = refl
-  clock_kept w (act ∷ rest) = clock_kept (world.after_act w act) rest
+  clock_kept w (effect ∷ rest) = clock_kept (world.after_effect w effect) rest
 
   deeds_read : (w : WorldValue) (before : ℕ) (deeds : List Deed) → w.clock ≡ Some clock → before ≤ clock
       → IsTrueOf who w before deeds → AreAt clock deeds × (time_after before deeds ≤ clock)
@@ -87,13 +87,13 @@ module _ (who : Identity) (clock : ℕ) where
   deeds_read w before (deed ∷ rest) known less are =
       let first : Reads before deed.event = event_reads w before deed.event known less are.0 in
       let later : AreAt clock rest × (time_after (time_after_one before deed.event) rest ≤ clock) =
-      deeds_read (world.after_acts w deed.acts) (time_after_one before deed.event) rest
-      (clock_kept w deed.acts ∙ known) first.after are.1 in
+      deeds_read (world.after_effects w deed.effects) (time_after_one before deed.event) rest
+      (clock_kept w deed.effects ∙ known) first.after are.1 in
       ((first.is_at, later.0), later.1)
 
 -- ---- what is done outside
 
-module _ (g : Global) (timely : IsTimely g) where
+module _ (g : RunState) (timely : IsTimely g) where
   -- an instance that is changed has read what it had read
   change_timely : (change : InstanceValue → InstanceValue)
       → ((i : InstanceValue) → (change i).store.time ≡ i.store.time) → (m : ℕ)
@@ -125,27 +125,27 @@ module _ (g : Global) (timely : IsTimely g) where
             ];
       }
 
-  act_timely : (act : Act) → IsTimely (after_act g act)
-  act_timely (Send (Instance number) item) = change_timely (with_put item) (λ i. refl) number
-  act_timely (Send Env item) = timely
-  act_timely (Send Null item) = timely
-  act_timely (Send Nobody item) = timely
-  act_timely (Arm fuse) =
+  effect_timely : (effect : Effect) → IsTimely (after_effect g effect)
+  effect_timely (Send (Instance number) item) = change_timely (with_put item) (λ i. refl) number
+  effect_timely (Send Env item) = timely
+  effect_timely (Send Null item) = timely
+  effect_timely (Send Nobody item) = timely
+  effect_timely (Arm fuse) =
       by_test (nat_le fuse.due g.clock)
       (record g { instances = change_at (with_expiry fuse g.clock) g.instances fuse.pid })
       (record g { fuses = with_fuse fuse g.fuses }) (change_timely (with_expiry fuse g.clock) (λ i. refl) fuse.pid)
       (record { begun = timely.begun; read = timely.read }) where
-        by_test : (b : Bool) (now later : Global) → IsTimely now → IsTimely later
+        by_test : (b : Bool) (now later : RunState) → IsTimely now → IsTimely later
             → IsTimely (if b then now else later)
         by_test true now later first second = first
         by_test false now later first second = second
-  act_timely (Create id number parent values) =
+  effect_timely (Create id number parent values) =
       created_timely (record { process = id; pid = number; parent = Of parent }) values
       (slice_get g.system.processes id.0)
 
-acts_timely : (g : Global) (done : List Act) → IsTimely g → IsTimely (after_acts g done)
-acts_timely g [] timely = timely
-acts_timely g (act ∷ rest) timely = acts_timely (after_act g act) rest (act_timely g timely act)
+effects_timely : (g : RunState) (done : List Effect) → IsTimely g → IsTimely (after_effects g done)
+effects_timely g [] timely = timely
+effects_timely g (effect ∷ rest) timely = effects_timely (after_effect g effect) rest (effect_timely g timely effect)
 
 -- ---- the clock moves
 
@@ -170,13 +170,13 @@ fuse_after until fuses (Some time) none least =
     (All-map (λ t. until ≤ t) (λ (fuse : Fuse). fuse.due) fuses none) least.0
 
 module _ (ps : List Behaviour) (last : ℕ) where
-  ticks_on : (g h : Global) (time : ℕ) → IsTimely g → Ticks ps last g time h → IsTimely h
+  ticks_on : (g h : RunState) (time : ℕ) → IsTimely g → Ticks ps last g time h → IsTimely h
   ticks_on g h time timely tick =
       let later : g.until ≤ time =
       earlier_after g.until time tick.due (next_line g.script)
       (fuse_after g.until g.fuses tick.due tick.nothing_due.fuses tick.least)
       (line_after g.until g.script tick.nothing_due.lines) tick.is_next in
-      subst (λ (g : Global). IsTimely g) (sym tick.now) (record {
+      subst (λ (g : RunState). IsTimely g) (sym tick.now) (record {
         begun = omega arith;
         read = λ n i e.
             let before : i.store.time ≤ g.clock = timely.read n i e in
@@ -185,21 +185,21 @@ module _ (ps : List Behaviour) (last : ℕ) where
 
   -- ---- one happening
 
-  step_reads : (g : Global) (who : Identity) (deeds : List Deed) (h : Global) (step : Steps ps g who deeds h)
+  step_reads : (g : RunState) (who : Identity) (deeds : List Deed) (h : RunState) (step : Steps ps g who deeds h)
       → IsTimely g → AreAt g.clock deeds × (step.new.store.time ≤ g.clock)
   step_reads g who deeds h step timely =
       let old : InstanceValue = step.old in
       let read : AreAt g.clock step.goes.deeds × (time_after old.store.time step.goes.deeds ≤ g.clock) =
-      deeds_read old.who g.clock (around g) old.store.time step.goes.deeds refl
+      deeds_read old.who g.clock (world_at g) old.store.time step.goes.deeds refl
       (timely.read who.pid old step.is_there) step.goes.are_true in (
         subst (λ (list : List Deed). AreAt g.clock list) step.deeds_are read.0,
         subst (λ k. k ≤ g.clock) (sym step.goes.time) read.1,
       )
 
-  step_timely : (g : Global) (who : Identity) (deeds : List Deed) (h : Global) (step : Steps ps g who deeds h)
+  step_timely : (g : RunState) (who : Identity) (deeds : List Deed) (h : RunState) (step : Steps ps g who deeds h)
       → IsTimely g → IsTimely h
   step_timely g who deeds h step timely =
-      let stepped : Global = record g {
+      let stepped : RunState = record g {
         instances = with_instance g.instances who.pid step.new;
         turn = who.pid;
         bound = step.bound;
@@ -214,22 +214,22 @@ module _ (ps : List Behaviour) (last : ℕ) where
               | inr w ↦ timely.read n i w.1
             ];
       } in
-      subst (λ (g : Global). IsTimely g) (sym step.now) (acts_timely stepped (acts_of deeds) then_read)
+      subst (λ (g : RunState). IsTimely g) (sym step.now) (effects_timely stepped (effects_of deeds) then_read)
 
-  timely_on : (g : Global) (next : Happening) (h : Global) → Follows ps last g next h → IsTimely g → IsTimely h
+  timely_on : (g : RunState) (next : Happening) (h : RunState) → Follows ps last g next h → IsTimely g → IsTimely h
   timely_on g (Moved who deeds) h step timely = step_timely g who deeds h step timely
   timely_on g (Expired fuse) h expires timely =
-      let before : Global = record g { fuses = expires.later } in
+      let before : RunState = record g { fuses = expires.later } in
       let same : IsTimely before = record { begun = timely.begun; read = timely.read } in
-      subst (λ (g : Global). IsTimely g) (sym expires.now)
+      subst (λ (g : RunState). IsTimely g) (sym expires.now)
       (change_timely before same (with_expiry fuse g.clock) (λ i. refl) fuse.pid)
   timely_on g (Heard line done) h hear timely =
-      let before : Global = record g { script = hear.later } in
+      let before : RunState = record g { script = hear.later } in
       let same : IsTimely before = record { begun = timely.begun; read = timely.read } in
-      subst (λ (g : Global). IsTimely g) (sym hear.now) (acts_timely before done same)
+      subst (λ (g : RunState). IsTimely g) (sym hear.now) (effects_timely before done same)
   timely_on g (Ticked time) h tick timely = ticks_on g h time timely tick
 
-  timed_one : (g : Global) (next : Happening) (h : Global) → Follows ps last g next h → IsTimely g
+  timed_one : (g : RunState) (next : Happening) (h : RunState) → Follows ps last g next h → IsTimely g
       → IsTimed (moment_of g) next
   timed_one g (Moved who deeds) h step timely = (step_reads g who deeds h step timely).0
   timed_one g (Expired fuse) h expires timely = tt
@@ -246,13 +246,13 @@ AreTimed-append now (first ∷ rest) next are last =
 
 module _ (ps : List Behaviour) (system : SystemValue) (lines : List ScriptLine) (time : ℕ)
     (behaviours : AreBehaviours system ps) where
-  are_timed : {happenings : List Happening} {last : Global}
-      → Course ps time (beginning system lines) happenings last
+  are_timed : {happenings : List Happening} {last : RunState}
+      → Execution ps time (beginning system lines) happenings last
       → IsTimely last × AreTimed (first_moment system) happenings
   are_timed begins = (record { begun = omega arith; read = λ n i e. first_time system n i 0 e }, tt)
-  are_timed (goes {happenings = happenings} {at = at} course next to follows) =
-      let before : IsTimely at × AreTimed (first_moment system) happenings = are_timed course in
-      let moment = (are_followed ps system lines time behaviours course).moment in (
+  are_timed (goes {happenings = happenings} {at = at} execution next to follows) =
+      let before : IsTimely at × AreTimed (first_moment system) happenings = are_timed execution in
+      let moment = (are_followed ps system lines time behaviours execution).moment in (
         timely_on ps time at next to follows before.0,
         AreTimed-append (first_moment system) happenings next before.1
             (subst (λ (m : Moment). IsTimed m next) moment (timed_one ps time at next to follows before.0)),
@@ -260,5 +260,5 @@ module _ (ps : List Behaviour) (system : SystemValue) (lines : List ScriptLine) 
 
 -- each time in a record is the clock's time as it was told
 pub each_reads_the_clock : EachReadsTheClock
-each_reads_the_clock ps system lines time happenings last behaviours course =
-    (are_timed ps system lines time behaviours course).1
+each_reads_the_clock ps system lines time happenings last behaviours execution =
+    (are_timed ps system lines time behaviours execution).1

@@ -5,25 +5,25 @@ use Rattle.port_model.specs.History.{PortEvent}
 use Rattle.port_model.specs.Port.{empty_port}
 use Rattle.port_inbox.specs.declared.placed.Placed.{Placed}
 use Rattle.serial_order.proofs.Beginnings.{known_beginning}
-use Rattle.serial_order.proofs.Known.{AreKnown, IsKnown, acts_known, acts_moment, are_known_as, expiry_known, known_as, moment_of, same_known}
+use Rattle.serial_order.proofs.Known.{AreKnown, IsKnown, effects_known, effects_moment, are_known_as, expiry_known, known_as, moment_of, same_known}
 use Rattle.serial_order.proofs.Made.{MakeNext, deeds_make}
 use Rattle.serial_order.proofs.Numbers.{at_with, eq_of, length-change, length-with, other_is, within}
 use Rattle.serial_order.proofs.Own.{all_own, later_none}
-use Rattle.serial_order.specs.Course.{AreBehaviours, Course, Expired, Follows, Happening, Heard, Hears, Moved, Steps, Ticked, begins, goes}
-use Rattle.serial_order.specs.Global.{Global, after_acts, around, beginning, census_of, heard_acts, instance_at, with_expiry, with_instance}
+use Rattle.serial_order.specs.Execution.{AreBehaviours, Execution, Expired, Follows, Happening, Heard, Hears, Moved, Steps, Ticked, begins, goes}
+use Rattle.serial_order.specs.RunState.{RunState, after_effects, world_at, beginning, living_of, heard_effects, instance_at, with_expiry, with_instance}
 use Rattle.serial_order.specs.Laws.{EachIsTold}
 use Rattle.serial_order.specs.Told.{Moment, comes_by, deeds_of, deeds_of_one, first_moment, given_after, history_from, history_of, history_of_one, moment_after}
 use Rattle.run_evaluation.specs.declared.identity.Identity.{Identity}
 use Rattle.sdl_interp.specs.Instance.{InstanceValue}
 use Rattle.run_record.specs.Event.{Event}
-use Rattle.run_semantics.proofs.Acting.{runs_acts}
+use Rattle.run_semantics.proofs.Acting.{runs_effects}
 use Rattle.run_semantics.proofs.Deeds.{events_of-append}
 use Rattle.run_semantics.proofs.Runs.{Runs-append}
-use Rattle.run_semantics.specs.Act.{Act, Deed, acts_of, calls_of, events_of}
+use Rattle.run_semantics.specs.Effect.{Effect, Deed, effects_of, calls_of, events_of}
 use Rattle.run_semantics.specs.Behaves.{Behaves}
 use Rattle.run_semantics.specs.Goes.{drawn_as}
 use Rattle.run_semantics.specs.Instance.{first_store}
-use Rattle.run_semantics.specs.Place.{AtStart, Definition}
+use Rattle.run_semantics.specs.ControlPoint.{AtStart, Definition}
 use Rattle.run_semantics.specs.Runs.{Runs}
 use Rattle.sdl_script.specs.declared.script.ScriptLine.{ScriptLine}
 use Rattle.sdl_script.specs.declared.script.ScriptSignal.{ScriptSignal}
@@ -34,7 +34,7 @@ use Rattle.sdl_system.specs.declared.process.Process.{Process}
 
 -- ---- a step
 
-module _ (ps : List Behaviour) (g : Global) (who : Identity) (done : List Deed) (h : Global)
+module _ (ps : List Behaviour) (g : RunState) (who : Identity) (done : List Deed) (h : RunState)
     (step : Steps ps g who done h) where
   -- since nothing is drawn, the step's history of the port are its own calls
   pub step_calls : step.goes.history ≡ calls_of done
@@ -46,14 +46,14 @@ module _ (ps : List Behaviour) (g : Global) (who : Identity) (done : List Deed) 
       ∙ step.goes.own ∙ ap calls_of step.deeds_are
 
   -- it makes instances with the next numbers
-  pub step_makes : (system : SystemValue) → g.system ≡ system → MakeNext system (length g.instances) (acts_of done)
+  pub step_makes : (system : SystemValue) → g.system ≡ system → MakeNext system (length g.instances) (effects_of done)
   step_makes system same =
       let old : InstanceValue = step.old in
       let d : Definition = record { system = old.system; behaviour = step.p } in
-      subst (λ (list : List Deed). MakeNext system (length g.instances) (acts_of list)) step.deeds_are
-      (subst (λ (s : SystemValue). MakeNext s (length g.instances) (acts_of step.goes.deeds)) same
-      (deeds_make old.who (around g) (census_of g.system g.instances) old.store.time step.goes.deeds refl
-      (runs_acts d old.who (place_of old.position) old.store old.owner.state step.goes.runs) step.goes.are_true))
+      subst (λ (list : List Deed). MakeNext system (length g.instances) (effects_of list)) step.deeds_are
+      (subst (λ (s : SystemValue). MakeNext s (length g.instances) (effects_of step.goes.deeds)) same
+      (deeds_make old.who (world_at g) (living_of g.system g.instances) old.store.time step.goes.deeds refl
+      (runs_effects d old.who (place_of old.position) old.store old.owner.state step.goes.runs) step.goes.are_true))
 
   module _ (system : SystemValue) (n : ℕ) (before : List Deed) (history : List PortEvent)
       (known : IsKnown ps system n step.old before history) where
@@ -117,11 +117,11 @@ module _ (ps : List Behaviour) (g : Global) (who : Identity) (done : List Deed) 
 -- ---- one happening more
 
 module _ (ps : List Behaviour) (system : SystemValue) (behaviours : AreBehaviours system ps)
-    (deeds : ℕ → List Deed) (history : ℕ → List PortEvent) (g : Global)
+    (deeds : ℕ → List Deed) (history : ℕ → List PortEvent) (g : RunState)
     (known : AreKnown ps system g deeds history) where
   -- the instance has made its step, and nothing was done outside yet
-  module _ (who : Identity) (done : List Deed) (h : Global) (step : Steps ps g who done h) where
-    abbrev stepped : Global
+  module _ (who : Identity) (done : List Deed) (h : RunState) (step : Steps ps g who done h) where
+    abbrev stepped : RunState
     stepped = record g {
       instances = with_instance g.instances who.pid step.new;
       turn = who.pid;
@@ -175,70 +175,70 @@ module _ (ps : List Behaviour) (system : SystemValue) (behaviours : AreBehaviour
     stepped_moment : moment_of stepped ≡ moment_of g
     stepped_moment = ap (λ k. let now : Moment = record { given = k; clock = g.clock } in now) stepped_count
 
-    stepped_makes : MakeNext system (length stepped.instances) (acts_of done)
+    stepped_makes : MakeNext system (length stepped.instances) (effects_of done)
     stepped_makes =
-        subst (λ k. MakeNext system k (acts_of done)) (sym stepped_count)
+        subst (λ k. MakeNext system k (effects_of done)) (sym stepped_count)
         (step_makes ps g who done h step system known.system_is)
 
     moved_known : AreKnown ps system h (λ n. deeds n ++ deeds_of_one n (Moved who done))
         (λ n. history n ++ history_of_one n (moment_of g) (Moved who done))
     moved_known =
-        are_known_as ps system deeds_then (λ n. history_then n ++ comes_by n (moment_of stepped) (acts_of done))
+        are_known_as ps system deeds_then (λ n. history_then n ++ comes_by n (moment_of stepped) (effects_of done))
         (λ n. deeds n ++ deeds_of_one n (Moved who done))
-        (λ n. history n ++ history_of_one n (moment_of g) (Moved who done)) (after_acts stepped (acts_of done)) h
+        (λ n. history n ++ history_of_one n (moment_of g) (Moved who done)) (after_effects stepped (effects_of done)) h
         (sym step.now) (λ n. refl)
         (λ n. append_assoc (history n) (if who.pid == n then calls_of done else [])
-        (comes_by n (moment_of stepped) (acts_of done))
+        (comes_by n (moment_of stepped) (effects_of done))
         ∙ ap (λ (m : Moment). history n ++ ((if who.pid == n then calls_of done else [])
-        ++ comes_by n m (acts_of done))) stepped_moment)
-        (acts_known ps system behaviours deeds_then history_then stepped (acts_of done) stepped_known stepped_makes)
+        ++ comes_by n m (effects_of done))) stepped_moment)
+        (effects_known ps system behaviours deeds_then history_then stepped (effects_of done) stepped_known stepped_makes)
 
     moved_moment : moment_of h ≡ moment_after (moment_of g) (Moved who done)
     moved_moment =
-        ap moment_of step.now ∙ acts_moment system stepped (acts_of done) known.system_is stepped_makes
-        ∙ ap (λ k. let now : Moment = record { given = given_after k (acts_of done); clock = g.clock } in now)
+        ap moment_of step.now ∙ effects_moment system stepped (effects_of done) known.system_is stepped_makes
+        ∙ ap (λ k. let now : Moment = record { given = given_after k (effects_of done); clock = g.clock } in now)
         stepped_count
 
   -- nothing is told of what an instance did
-  no_deeds : (history' : ℕ → List PortEvent) (h : Global) → AreKnown ps system h deeds history'
+  no_deeds : (history' : ℕ → List PortEvent) (h : RunState) → AreKnown ps system h deeds history'
       → AreKnown ps system h (λ n. deeds n ++ []) history'
   no_deeds history' h after =
       are_known_as ps system deeds history' (λ n. deeds n ++ []) history' h h refl
       (λ n. sym (append-nil (deeds n))) (λ n. refl) after
 
-  heard_make : (given : ℕ) (signal : Option ScriptSignal) → MakeNext system given (heard_acts g signal)
+  heard_make : (given : ℕ) (signal : Option ScriptSignal) → MakeNext system given (heard_effects g signal)
   heard_make given None = tt
   heard_make given (Some signal) = (tt, tt)
 
-  hears_make : (line : ScriptLine) (done : List Act) (h : Global) → Hears g line done h
+  hears_make : (line : ScriptLine) (done : List Effect) (h : RunState) → Hears g line done h
       → MakeNext system (length g.instances) done
   hears_make line done h hear =
-      subst (λ (list : List Act). MakeNext system (length g.instances) list) (sym hear.acts_are)
+      subst (λ (list : List Effect). MakeNext system (length g.instances) list) (sym hear.effects_are)
       (heard_make (length g.instances) line.signal)
 
-  pub happening_known : (last : ℕ) (next : Happening) (h : Global) → Follows ps last g next h
+  pub happening_known : (last : ℕ) (next : Happening) (h : RunState) → Follows ps last g next h
       → AreKnown ps system h (λ n. deeds n ++ deeds_of_one n next)
       (λ n. history n ++ history_of_one n (moment_of g) next)
   happening_known last (Moved who done) h step = moved_known who done h step
   happening_known last (Expired fuse) h expires =
-      let before : Global = record g { fuses = expires.later } in
+      let before : RunState = record g { fuses = expires.later } in
       no_deeds (λ n. history n ++ history_of_one n (moment_of g) (Expired fuse)) h
       (expiry_known ps system deeds history before (same_known ps system deeds history g known before refl refl) fuse h
       expires.now)
   happening_known last (Heard line done) h hear =
-      let before : Global = record g { script = hear.later } in
+      let before : RunState = record g { script = hear.later } in
       let same = same_known ps system deeds history g known before refl refl in
       no_deeds (λ n. history n ++ comes_by n (moment_of g) done) h
-      (subst (λ (h : Global). AreKnown ps system h deeds (λ n. history n ++ comes_by n (moment_of g) done))
+      (subst (λ (h : RunState). AreKnown ps system h deeds (λ n. history n ++ comes_by n (moment_of g) done))
       (sym hear.now)
-      (acts_known ps system behaviours deeds history before done same (hears_make line done h hear)))
+      (effects_known ps system behaviours deeds history before done same (hears_make line done h hear)))
   happening_known last (Ticked time) h tick =
       are_known_as ps system deeds history (λ n. deeds n ++ []) (λ n. history n ++ []) h h refl
       (λ n. sym (append-nil (deeds n))) (λ n. sym (append-nil (history n)))
-      (same_known ps system deeds history g known h (ap (λ (g : Global). g.system) tick.now)
-      (ap (λ (g : Global). g.instances) tick.now))
+      (same_known ps system deeds history g known h (ap (λ (g : RunState). g.system) tick.now)
+      (ap (λ (g : RunState). g.instances) tick.now))
 
-  pub happening_moment : (last : ℕ) (next : Happening) (h : Global) → Follows ps last g next h
+  pub happening_moment : (last : ℕ) (next : Happening) (h : RunState) → Follows ps last g next h
       → moment_of h ≡ moment_after (moment_of g) next
   happening_moment last (Moved who done) h step = moved_moment who done h step
   happening_moment last (Expired fuse) h expires =
@@ -247,7 +247,7 @@ module _ (ps : List Behaviour) (system : SystemValue) (behaviours : AreBehaviour
       (length-change (with_expiry fuse g.clock) g.instances fuse.pid)
   happening_moment last (Heard line done) h hear =
       ap moment_of hear.now
-      ∙ acts_moment system (record g { script = hear.later }) done known.system_is (hears_make line done h hear)
+      ∙ effects_moment system (record g { script = hear.later }) done known.system_is (hears_make line done h hear)
   happening_moment last (Ticked time) h tick = ap moment_of tick.now
 
 -- ---- all that happened
@@ -280,14 +280,14 @@ history_from-append n now (first ∷ rest) next =
     (history_of_one n (moment_from (moment_after now first) rest) next))
 
 -- what is known behind all that happened
-pub record AreFollowed (ps : List Behaviour) (system : SystemValue) (happenings : List Happening) (last : Global)
+pub record AreFollowed (ps : List Behaviour) (system : SystemValue) (happenings : List Happening) (last : RunState)
     : Type 0 where
   pub known : AreKnown ps system last (λ n. deeds_of n happenings) (λ n. history_of system n happenings)
   pub moment : moment_of last ≡ moment_from (first_moment system) happenings
 
 module _ (ps : List Behaviour) (system : SystemValue) (lines : List ScriptLine) (time : ℕ)
     (behaviours : AreBehaviours system ps) where
-  follows_on : (happenings : List Happening) (at : Global) (next : Happening) (to : Global)
+  follows_on : (happenings : List Happening) (at : RunState) (next : Happening) (to : RunState)
       → AreFollowed ps system happenings at → Follows ps time at next to
       → AreFollowed ps system (happenings ++ next ∷ []) to
   follows_on happenings at next to before follows =
@@ -306,16 +306,16 @@ module _ (ps : List Behaviour) (system : SystemValue) (lines : List ScriptLine) 
             ∙ sym (moment_from-append (first_moment system) happenings next);
       }
 
-  pub are_followed : {happenings : List Happening} {last : Global}
-      → Course ps time (beginning system lines) happenings last → AreFollowed ps system happenings last
+  pub are_followed : {happenings : List Happening} {last : RunState}
+      → Execution ps time (beginning system lines) happenings last → AreFollowed ps system happenings last
   are_followed begins = record { known = known_beginning ps system lines behaviours; moment = refl }
-  are_followed (goes {happenings = happenings} {at = at} course next to follows) =
-      follows_on happenings at next to (are_followed course) follows
+  are_followed (goes {happenings = happenings} {at = at} execution next to follows) =
+      follows_on happenings at next to (are_followed execution) follows
 
 -- each instance is told by the list of all that happened
 pub each_is_told : EachIsTold
-each_is_told ps system lines time happenings last behaviours course =
-    let known = (are_followed ps system lines time behaviours course).known in
+each_is_told ps system lines time happenings last behaviours execution =
+    let known = (are_followed ps system lines time behaviours execution).known in
     record {
       numbers = λ n i e. (known.each n i e).number;
       each = λ n i e. (known.each n i e).told;

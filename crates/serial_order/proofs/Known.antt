@@ -11,18 +11,18 @@ use Rattle.port_values.specs.declared.pid.Pid.TheVariants.{Of}
 use Rattle.port_values.specs.declared.value.Value.{Value}
 use Rattle.serial_order.proofs.Numbers.{at_change, at_more, eq_is, eq_of, length-change, not_there, there}
 use Rattle.serial_order.proofs.Made.{IsProcess, MakeNext, MakesNext}
-use Rattle.serial_order.specs.Course.{AreBehaviours}
-use Rattle.serial_order.specs.Global.{Global, after_act, after_acts, armed, change_at, instance_at, instance_of, sent_to, with_created, with_expiry, with_put}
+use Rattle.serial_order.specs.Execution.{AreBehaviours}
+use Rattle.serial_order.specs.RunState.{RunState, after_effect, after_effects, armed, change_at, instance_at, instance_of, sent_to, with_created, with_expiry, with_put}
 use Rattle.serial_order.specs.Told.{IsTold, Moment, comes_by, comes_by_one, expiry_by, given_after, given_after_one, is_there}
 use Rattle.run_evaluation.specs.Environment.{initial_store}
 use Rattle.run_evaluation.specs.Variables.{VariableList}
 use Rattle.run_evaluation.specs.declared.identity.Identity.{Identity}
 use Rattle.sdl_interp.specs.Instance.{InstanceValue, variables_from}
-use Rattle.run_semantics.specs.Act.{Act, Arm, Create, Deed, Send}
+use Rattle.run_semantics.specs.Effect.{Effect, Arm, Create, Deed, Send}
 use Rattle.sdl_timers.specs.DueOrder.{with_fuse}
 use Rattle.run_semantics.specs.Behaves.{Behaves}
 use Rattle.run_semantics.specs.Instance.{first_store, first_variables, parameters_from}
-use Rattle.run_semantics.specs.Place.{AtStart, Definition}
+use Rattle.run_semantics.specs.ControlPoint.{AtStart, Definition}
 use Rattle.run_semantics.specs.Runs.{Runs, hears, still}
 use Rattle.sdl_system.specs.Behaviour.{Behaviour, Means, VariableMeaning, variable_meaning}
 use Rattle.sdl_system.specs.System.{SystemValue}
@@ -33,7 +33,7 @@ use Rattle.sdl_system.specs.declared.route.Target.{Target}
 use Rattle.sdl_system.specs.declared.route.Target.TheVariants.{Env, Instance, Nobody, Null}
 
 -- the numbers that were given, and the clock, as they are
-abbrev pub moment_of : Global → Moment
+abbrev pub moment_of : RunState → Moment
 moment_of g = record { given = length g.instances; clock = g.clock }
 
 -- The instance of this number has it, belongs to the system, and is told.
@@ -45,7 +45,7 @@ pub record IsKnown (ps : List Behaviour) (system : SystemValue) (n : ℕ) (i : I
   pub told : IsTold ps i deeds history
 
 -- So it is with each that is there; of the others nothing is told.
-pub record AreKnown (ps : List Behaviour) (system : SystemValue) (g : Global) (deeds : ℕ → List Deed)
+pub record AreKnown (ps : List Behaviour) (system : SystemValue) (g : RunState) (deeds : ℕ → List Deed)
     (history : ℕ → List PortEvent) : Type 0 where
   pub system_is : g.system ≡ system
   pub beyond : (n : ℕ) → length g.instances < n → (deeds n ≡ []) × (history n ≡ [])
@@ -167,11 +167,11 @@ known_new ps system process who values n are is number =
 -- ---- an act is done
 
 module _ (ps : List Behaviour) (system : SystemValue) (deeds : ℕ → List Deed) (history : ℕ → List PortEvent) where
-  pub are_known_as : (deeds' : ℕ → List Deed) (history' : ℕ → List PortEvent) (g h : Global) → g ≡ h
+  pub are_known_as : (deeds' : ℕ → List Deed) (history' : ℕ → List PortEvent) (g h : RunState) → g ≡ h
       → ((n : ℕ) → deeds n ≡ deeds' n) → ((n : ℕ) → history n ≡ history' n)
       → AreKnown ps system g deeds history → AreKnown ps system h deeds' history'
   are_known_as deeds' history' g h same done happened known =
-      subst (λ (g : Global). AreKnown ps system g deeds' history') same (record {
+      subst (λ (g : RunState). AreKnown ps system g deeds' history') same (record {
         system_is = known.system_is;
         beyond = λ n less.
             (sym (done n) ∙ (known.beyond n less).0, sym (happened n) ∙ (known.beyond n less).1);
@@ -180,7 +180,7 @@ module _ (ps : List Behaviour) (system : SystemValue) (deeds : ℕ → List Deed
             (known.each n i e);
       })
 
-  module _ (g : Global) (known : AreKnown ps system g deeds history) where
+  module _ (g : RunState) (known : AreKnown ps system g deeds history) where
     -- the instance of a number hears an event, the others hear nothing
     module _ (change : InstanceValue → InstanceValue) (m : ℕ) (heard : PortEvent)
         (hears_it : (i : InstanceValue) → m ≡ i.who.pid → IsKnown ps system m i (deeds m) (history m)
@@ -209,11 +209,11 @@ module _ (ps : List Behaviour) (system : SystemValue) (deeds : ℕ → List Deed
           ]
 
       -- only to one that is there
-      pub change_known : (h : Global) → h ≡ record g { instances = change_at change g.instances m }
+      pub change_known : (h : RunState) → h ≡ record g { instances = change_at change g.instances m }
           → AreKnown ps system h deeds
           (λ n. history n ++ (if is_there n (moment_of g) then (if m == n then heard ∷ [] else []) else []))
       change_known h is =
-          subst (λ (h : Global). AreKnown ps system h deeds (λ n. history n
+          subst (λ (h : RunState). AreKnown ps system h deeds (λ n. history n
           ++ (if is_there n (moment_of g) then (if m == n then heard ∷ [] else []) else []))) (sym is) (record {
             system_is = known.system_is;
             beyond = λ n less.
@@ -262,7 +262,7 @@ module _ (ps : List Behaviour) (system : SystemValue) (deeds : ℕ → List Deed
         (λ n. none_either (is_there n (moment_of g)))
 
     -- an expiry of a fuse
-    pub expiry_known : (fuse : Fuse) (h : Global)
+    pub expiry_known : (fuse : Fuse) (h : RunState)
         → h ≡ record g { instances = change_at (with_expiry fuse g.clock) g.instances fuse.pid }
         → AreKnown ps system h deeds
         (λ n. history n ++ (if is_there n (moment_of g) then expiry_by n g.clock fuse else []))
@@ -272,7 +272,7 @@ module _ (ps : List Behaviour) (system : SystemValue) (deeds : ℕ → List Deed
         h is
 
     -- what is not of the instances changes nothing
-    pub same_known : (h : Global) → h.system ≡ g.system → h.instances ≡ g.instances
+    pub same_known : (h : RunState) → h.system ≡ g.system → h.instances ≡ g.instances
         → AreKnown ps system h deeds history
     same_known h same is = record {
       system_is = same ∙ known.system_is;
@@ -291,10 +291,10 @@ module _ (ps : List Behaviour) (system : SystemValue) (deeds : ℕ → List Deed
     arm_known : (fuse : Fuse) (b : Bool) → nat_le fuse.due g.clock ≡ b
         → AreKnown ps system (armed g fuse) deeds (λ n. history n ++ comes_by_one n (moment_of g) (Arm fuse))
     arm_known fuse true is =
-        let now : Global = record g { instances = change_at (with_expiry fuse g.clock) g.instances fuse.pid } in
-        let later : Global = record g { fuses = with_fuse fuse g.fuses } in
+        let now : RunState = record g { instances = change_at (with_expiry fuse g.clock) g.instances fuse.pid } in
+        let later : RunState = record g { fuses = with_fuse fuse g.fuses } in
         let on : armed g fuse ≡ now = ap (λ (b : Bool). if b then now else later) is in
-        subst (λ (h : Global). AreKnown ps system h deeds (λ n. history n ++ comes_by_one n (moment_of g) (Arm fuse)))
+        subst (λ (h : RunState). AreKnown ps system h deeds (λ n. history n ++ comes_by_one n (moment_of g) (Arm fuse)))
         (sym on) (record {
           system_is = (expiry_known fuse now refl).system_is;
           beyond = λ n less.
@@ -312,14 +312,14 @@ module _ (ps : List Behaviour) (system : SystemValue) (deeds : ℕ → List Deed
               ((expiry_known fuse now refl).each n i e);
         })
     arm_known fuse false is =
-        let now : Global = record g { instances = change_at (with_expiry fuse g.clock) g.instances fuse.pid } in
-        let later : Global = record g { fuses = with_fuse fuse g.fuses } in
+        let now : RunState = record g { instances = change_at (with_expiry fuse g.clock) g.instances fuse.pid } in
+        let later : RunState = record g { fuses = with_fuse fuse g.fuses } in
         let on : armed g fuse ≡ later = ap (λ (b : Bool). if b then now else later) is in
         let comes : ℕ → List PortEvent = λ n. comes_by_one n (moment_of g) (Arm fuse) in
         let quiet : AreKnown ps system g deeds (λ n. history n ++ comes n) =
         nothing_comes comes (λ n. ap (λ (b : Bool). if b then expiry_by n g.clock fuse else [])
         (and_false (is_there n (moment_of g)) (nat_le fuse.due g.clock) is)) in
-        subst (λ (h : Global). AreKnown ps system h deeds (λ n. history n ++ comes n)) (sym on) (record {
+        subst (λ (h : RunState). AreKnown ps system h deeds (λ n. history n ++ comes n)) (sym on) (record {
           system_is = quiet.system_is;
           beyond = quiet.beyond;
           each = quiet.each;
@@ -328,9 +328,9 @@ module _ (ps : List Behaviour) (system : SystemValue) (deeds : ℕ → List Deed
 -- ---- an instance is made
 
 -- what a create of a process of the system does
-pub create_is : (system : SystemValue) (g : Global) (id : ProcessId) (number parent : ℕ) (values : List Value)
+pub create_is : (system : SystemValue) (g : RunState) (id : ProcessId) (number parent : ℕ) (values : List Value)
     (process : Process) → g.system ≡ system → slice_get system.processes id.0 ≡ Some process
-    → after_act g (Create id number parent values)
+    → after_effect g (Create id number parent values)
     ≡ record g {
       instances = g.instances
           ++ instance_of system process (record { process = id; pid = number; parent = Of parent }) values ∷ [];
@@ -342,19 +342,19 @@ create_is system g id number parent values process same is =
     ∙ ap (λ (s : SystemValue). record g { instances = with_created s g.instances who values (Some process) }) same
 
 module _ (ps : List Behaviour) (system : SystemValue) (behaviours : AreBehaviours system ps) where
-  create_known : (deeds : ℕ → List Deed) (history : ℕ → List PortEvent) (g : Global) (id : ProcessId)
+  create_known : (deeds : ℕ → List Deed) (history : ℕ → List PortEvent) (g : RunState) (id : ProcessId)
       (number parent : ℕ) (values : List Value) → AreKnown ps system g deeds history
       → number ≡ length g.instances + 1 → IsProcess system id
-      → AreKnown ps system (after_act g (Create id number parent values)) deeds (λ n. history n ++ [])
+      → AreKnown ps system (after_effect g (Create id number parent values)) deeds (λ n. history n ++ [])
   create_known deeds history g id number parent values known next made =
       let who : Identity = record { process = id; pid = number; parent = Of parent } in
       let new : InstanceValue = instance_of system made.process who values in
       let more : List InstanceValue = g.instances ++ new ∷ [] in
-      let now : Global = record g { instances = more } in
+      let now : RunState = record g { instances = more } in
       let count : length more ≡ length g.instances + 1 = length-append g.instances (new ∷ []) in
-      let is : after_act g (Create id number parent values) ≡ now =
+      let is : after_effect g (Create id number parent values) ≡ now =
       create_is system g id number parent values made.process known.system_is made.is_there in
-      subst (λ (h : Global). AreKnown ps system h deeds (λ n. history n ++ [])) (sym is) (record {
+      subst (λ (h : RunState). AreKnown ps system h deeds (λ n. history n ++ [])) (sym is) (record {
         system_is = known.system_is;
         beyond = λ n less.
             let none = known.beyond n (omega (arith, less, count)) in
@@ -372,31 +372,31 @@ module _ (ps : List Behaviour) (system : SystemValue) (behaviours : AreBehaviour
             ];
       })
 
-  act_known : (deeds : ℕ → List Deed) (history : ℕ → List PortEvent) (g : Global) (act : Act)
-      → AreKnown ps system g deeds history → MakesNext system (length g.instances) act
-      → AreKnown ps system (after_act g act) deeds (λ n. history n ++ comes_by_one n (moment_of g) act)
-  act_known deeds history g (Send target item) known makes = send_known ps system deeds history g known target item
-  act_known deeds history g (Arm fuse) known makes =
+  effect_known : (deeds : ℕ → List Deed) (history : ℕ → List PortEvent) (g : RunState) (effect : Effect)
+      → AreKnown ps system g deeds history → MakesNext system (length g.instances) effect
+      → AreKnown ps system (after_effect g effect) deeds (λ n. history n ++ comes_by_one n (moment_of g) effect)
+  effect_known deeds history g (Send target item) known makes = send_known ps system deeds history g known target item
+  effect_known deeds history g (Arm fuse) known makes =
       arm_known ps system deeds history g known fuse (nat_le fuse.due g.clock) refl
-  act_known deeds history g (Create id number parent values) known makes =
+  effect_known deeds history g (Create id number parent values) known makes =
       create_known deeds history g id number parent values known makes.0 makes.1
 
 -- ---- the moment behind an act
 
-pub act_system : (g : Global) (act : Act) → (after_act g act).system ≡ g.system
-act_system g (Send (Instance number) item) = refl
-act_system g (Send Env item) = refl
-act_system g (Send Null item) = refl
-act_system g (Send Nobody item) = refl
-act_system g (Arm fuse) =
+pub effect_system : (g : RunState) (effect : Effect) → (after_effect g effect).system ≡ g.system
+effect_system g (Send (Instance number) item) = refl
+effect_system g (Send Env item) = refl
+effect_system g (Send Null item) = refl
+effect_system g (Send Nobody item) = refl
+effect_system g (Arm fuse) =
     by_test (nat_le fuse.due g.clock)
     (record g { instances = change_at (with_expiry fuse g.clock) g.instances fuse.pid })
     (record g { fuses = with_fuse fuse g.fuses }) refl refl where
-      by_test : (b : Bool) (now later : Global) → now.system ≡ g.system → later.system ≡ g.system
+      by_test : (b : Bool) (now later : RunState) → now.system ≡ g.system → later.system ≡ g.system
           → (if b then now else later).system ≡ g.system
       by_test true now later first second = first
       by_test false now later first second = second
-act_system g (Create id number parent values) = refl
+effect_system g (Create id number parent values) = refl
 
 moment_at : (given clock clock' given' : ℕ) → given ≡ given' → clock ≡ clock'
     → let now : Moment = record { given = given; clock = clock } in now ≡ record { given = given'; clock = clock' }
@@ -404,25 +404,25 @@ moment_at given clock clock' given' same also =
     ap (λ k. let now : Moment = record { given = k; clock = clock } in now) same
     ∙ ap (λ k. let now : Moment = record { given = given'; clock = k } in now) also
 
-pub act_moment : (system : SystemValue) (g : Global) (act : Act) → g.system ≡ system
-    → MakesNext system (length g.instances) act
-    → moment_of (after_act g act) ≡ record { given = given_after_one (length g.instances) act; clock = g.clock }
-act_moment system g (Send (Instance number) item) same makes =
+pub effect_moment : (system : SystemValue) (g : RunState) (effect : Effect) → g.system ≡ system
+    → MakesNext system (length g.instances) effect
+    → moment_of (after_effect g effect) ≡ record { given = given_after_one (length g.instances) effect; clock = g.clock }
+effect_moment system g (Send (Instance number) item) same makes =
     moment_at (length (change_at (with_put item) g.instances number)) g.clock g.clock (length g.instances)
     (length-change (with_put item) g.instances number) refl
-act_moment system g (Send Env item) same makes = refl
-act_moment system g (Send Null item) same makes = refl
-act_moment system g (Send Nobody item) same makes = refl
-act_moment system g (Arm fuse) same makes =
+effect_moment system g (Send Env item) same makes = refl
+effect_moment system g (Send Null item) same makes = refl
+effect_moment system g (Send Nobody item) same makes = refl
+effect_moment system g (Arm fuse) same makes =
     let changed : List InstanceValue = change_at (with_expiry fuse g.clock) g.instances fuse.pid in
     by_test (nat_le fuse.due g.clock) (record g { instances = changed }) (record g { fuses = with_fuse fuse g.fuses })
     (moment_at (length changed) g.clock g.clock (length g.instances)
     (length-change (with_expiry fuse g.clock) g.instances fuse.pid) refl) refl where
-      by_test : (b : Bool) (now later : Global) → moment_of now ≡ moment_of g → moment_of later ≡ moment_of g
+      by_test : (b : Bool) (now later : RunState) → moment_of now ≡ moment_of g → moment_of later ≡ moment_of g
           → moment_of (if b then now else later) ≡ moment_of g
       by_test true now later first second = first
       by_test false now later first second = second
-act_moment system g (Create id number parent values) same makes =
+effect_moment system g (Create id number parent values) same makes =
     let new : InstanceValue =
     instance_of system makes.1.process (record { process = id; pid = number; parent = Of parent }) values in
     ap moment_of (create_is system g id number parent values makes.1.process same makes.1.is_there)
@@ -431,37 +431,37 @@ act_moment system g (Create id number parent values) same makes =
 
 -- ---- several acts
 
-pub acts_moment : (system : SystemValue) (g : Global) (done : List Act) → g.system ≡ system
+pub effects_moment : (system : SystemValue) (g : RunState) (done : List Effect) → g.system ≡ system
     → MakeNext system (length g.instances) done
-    → moment_of (after_acts g done) ≡ record { given = given_after (length g.instances) done; clock = g.clock }
-acts_moment system g [] same make = refl
-acts_moment system g (act ∷ rest) same make =
-    let one = act_moment system g act same make.0 in
-    let count : length (after_act g act).instances ≡ given_after_one (length g.instances) act =
+    → moment_of (after_effects g done) ≡ record { given = given_after (length g.instances) done; clock = g.clock }
+effects_moment system g [] same make = refl
+effects_moment system g (effect ∷ rest) same make =
+    let one = effect_moment system g effect same make.0 in
+    let count : length (after_effect g effect).instances ≡ given_after_one (length g.instances) effect =
     ap (λ (m : Moment). m.given) one in
-    acts_moment system (after_act g act) rest (act_system g act ∙ same)
+    effects_moment system (after_effect g effect) rest (effect_system g effect ∙ same)
     (subst (λ k. MakeNext system k rest) (sym count) make.1)
-    ∙ moment_at (given_after (length (after_act g act).instances) rest) (after_act g act).clock g.clock
-    (given_after (given_after_one (length g.instances) act) rest) (ap (λ k. given_after k rest) count)
+    ∙ moment_at (given_after (length (after_effect g effect).instances) rest) (after_effect g effect).clock g.clock
+    (given_after (given_after_one (length g.instances) effect) rest) (ap (λ k. given_after k rest) count)
     (ap (λ (m : Moment). m.clock) one)
 
 module _ (ps : List Behaviour) (system : SystemValue) (behaviours : AreBehaviours system ps) where
-  pub acts_known : (deeds : ℕ → List Deed) (history : ℕ → List PortEvent) (g : Global) (done : List Act)
+  pub effects_known : (deeds : ℕ → List Deed) (history : ℕ → List PortEvent) (g : RunState) (done : List Effect)
       → AreKnown ps system g deeds history → MakeNext system (length g.instances) done
-      → AreKnown ps system (after_acts g done) deeds (λ n. history n ++ comes_by n (moment_of g) done)
-  acts_known deeds history g [] known make =
+      → AreKnown ps system (after_effects g done) deeds (λ n. history n ++ comes_by n (moment_of g) done)
+  effects_known deeds history g [] known make =
       are_known_as ps system deeds history deeds (λ n. history n ++ []) g g refl (λ n. refl)
       (λ n. sym (append-nil (history n))) known
-  acts_known deeds history g (act ∷ rest) known make =
-      let h : Global = after_act g act in
-      let comes : ℕ → List PortEvent = λ n. comes_by_one n (moment_of g) act in
-      let moment = act_moment system g act known.system_is make.0 in
-      let count : length h.instances ≡ given_after_one (length g.instances) act = ap (λ (m : Moment). m.given) moment in
+  effects_known deeds history g (effect ∷ rest) known make =
+      let h : RunState = after_effect g effect in
+      let comes : ℕ → List PortEvent = λ n. comes_by_one n (moment_of g) effect in
+      let moment = effect_moment system g effect known.system_is make.0 in
+      let count : length h.instances ≡ given_after_one (length g.instances) effect = ap (λ (m : Moment). m.given) moment in
       let one : AreKnown ps system h deeds (λ n. history n ++ comes n) =
-      act_known ps system behaviours deeds history g act known make.0 in
+      effect_known ps system behaviours deeds history g effect known make.0 in
       are_known_as ps system deeds (λ n. history n ++ comes n ++ comes_by n (moment_of h) rest) deeds
-      (λ n. history n ++ comes_by n (moment_of g) (act ∷ rest)) (after_acts h rest) (after_acts h rest) refl (λ n. refl)
+      (λ n. history n ++ comes_by n (moment_of g) (effect ∷ rest)) (after_effects h rest) (after_effects h rest) refl (λ n. refl)
       (λ n. append_assoc (history n) (comes n) (comes_by n (moment_of h) rest)
       ∙ ap (λ (m : Moment). history n ++ (comes n ++ comes_by n m rest)) moment)
-      (acts_known deeds (λ n. history n ++ comes n) h rest one
+      (effects_known deeds (λ n. history n ++ comes n) h rest one
       (subst (λ k. MakeNext system k rest) (sym count) make.1))

@@ -8,9 +8,9 @@ use Rattle.run_evaluation.specs.declared.identity.Identity.{Identity}
 use Rattle.run_record.specs.Event as event
 use Rattle.run_record.specs.Event.{Event}
 use Rattle.run_semantics.proofs.Acting.{AreActs, AreActsOf}
-use Rattle.run_semantics.specs.Act.{Act, Arm, Create, Deed, Send, acts_of}
+use Rattle.run_semantics.specs.Effect.{Effect, Arm, Create, Deed, Send, effects_of}
 use Rattle.run_semantics.specs.Leads.{created}
-use Rattle.run_semantics.specs.World.{Census, IsTrueOf, IsTrueOfOne, WorldValue, after_act, after_acts, census_after, count_in, is_reached, most_instances, number_for, time_after_one}
+use Rattle.run_semantics.specs.World.{Living, IsTrueOf, IsTrueOfOne, WorldValue, after_effect, after_effects, living_after, count_in, is_reached, most_instances, number_for, time_after_one}
 use Rattle.sdl_system.specs.System.{SystemValue}
 use Rattle.sdl_system.specs.declared.id.ProcessId.{ProcessId}
 use Rattle.sdl_system.specs.declared.process.Process.{Process}
@@ -21,65 +21,65 @@ pub record IsProcess (system : SystemValue) (id : ProcessId) : Type 0 where
   pub is_there : slice_get system.processes id.0 ≡ Some process
 
 -- where so many numbers were given, an act makes an instance with the next one
-abbrev pub MakesNext : SystemValue → ℕ → Act → Type 0
+abbrev pub MakesNext : SystemValue → ℕ → Effect → Type 0
 MakesNext system given (Send target item) = Unit {0}
 MakesNext system given (Arm fuse) = Unit {0}
 MakesNext system given (Create process number parent values) = (number ≡ given + 1) × IsProcess system process
 
 -- so do several acts
-abbrev pub MakeNext : SystemValue → ℕ → List Act → Type 0
+abbrev pub MakeNext : SystemValue → ℕ → List Effect → Type 0
 MakeNext system given [] = Unit {0}
-MakeNext system given (act ∷ rest) = MakesNext system given act × MakeNext system (given_after_one given act) rest
+MakeNext system given (effect ∷ rest) = MakesNext system given effect × MakeNext system (given_after_one given effect) rest
 
-MakeNext-append : (system : SystemValue) (given : ℕ) (first later : List Act) → MakeNext system given first
+MakeNext-append : (system : SystemValue) (given : ℕ) (first later : List Effect) → MakeNext system given first
     → MakeNext system (given_after given first) later → MakeNext system given (first ++ later)
 MakeNext-append system given [] later make more = more
-MakeNext-append system given (act ∷ rest) later make more =
-    (make.0, MakeNext-append system (given_after_one given act) rest later make.1 more)
+MakeNext-append system given (effect ∷ rest) later make more =
+    (make.0, MakeNext-append system (given_after_one given effect) rest later make.1 more)
 
 -- ---- the number of a create
 
-module _ (system : SystemValue) (census : Census) (id : ProcessId) (number : ℕ) where
-  by_full : (full : Bool) → Some number ≡ (if full then None else Some (census.given + 1)) → number ≡ census.given + 1
+module _ (system : SystemValue) (living : Living) (id : ProcessId) (number : ℕ) where
+  by_full : (full : Bool) → Some number ≡ (if full then None else Some (living.given + 1)) → number ≡ living.given + 1
   by_full true e = let wrong : ⊥ = cc in absurd wrong
-  by_full false e = same_Some number (census.given + 1) e
+  by_full false e = same_Some number (living.given + 1) e
 
   by_process : (o : Option Process) → slice_get system.processes id.0 ≡ o
-      → Some number ≡ (if (option_map_or (λ (p : Process). is_reached p.maximum (count_in census id)) o true
-      || nat_le most_instances census.given) then None else Some (census.given + 1))
-      → (number ≡ census.given + 1) × IsProcess system id
+      → Some number ≡ (if (option_map_or (λ (p : Process). is_reached p.maximum (count_in living id)) o true
+      || nat_le most_instances living.given) then None else Some (living.given + 1))
+      → (number ≡ living.given + 1) × IsProcess system id
   by_process None is e = let wrong : ⊥ = cc in absurd wrong
   by_process (Some p) is e = (
-    by_full (is_reached p.maximum (count_in census id) || nat_le most_instances census.given) e,
+    by_full (is_reached p.maximum (count_in living id) || nat_le most_instances living.given) e,
     record { process = p; is_there = is },
   )
 
-  number_is : Some number ≡ number_for system census id → (number ≡ census.given + 1) × IsProcess system id
+  number_is : Some number ≡ number_for system living id → (number ≡ living.given + 1) × IsProcess system id
   number_is e = by_process (slice_get system.processes id.0) refl e
 
-made_next : (system : SystemValue) (census : Census) (id : ProcessId) (number : Option ℕ) (pid : ℕ)
-    (values : List Value) → number ≡ number_for system census id
-    → MakeNext system census.given (created id pid values number)
-made_next system census id None pid values e = tt
-made_next system census id (Some number) pid values e = (number_is system census id number e, tt)
+made_next : (system : SystemValue) (living : Living) (id : ProcessId) (number : Option ℕ) (pid : ℕ)
+    (values : List Value) → number ≡ number_for system living id
+    → MakeNext system living.given (created id pid values number)
+made_next system living id None pid values e = tt
+made_next system living id (Some number) pid values e = (number_is system living id number e, tt)
 
 -- ---- what deeds make
 
-module _ (who : Identity) (w : WorldValue) (census : Census) (known : w.census ≡ Some census) (earlier : ℕ) where
-  nothing_made : (done : List Act) → done ≡ [] → MakeNext w.system census.given done
-  nothing_made done none = subst (λ (list : List Act). MakeNext w.system census.given list) (sym none) tt
+module _ (who : Identity) (w : WorldValue) (living : Living) (known : w.living ≡ Some living) (earlier : ℕ) where
+  nothing_made : (done : List Effect) → done ≡ [] → MakeNext w.system living.given done
+  nothing_made done none = subst (λ (list : List Effect). MakeNext w.system living.given list) (sym none) tt
 
-  event_makes : (e : Event) (done : List Act) → AreActsOf who.pid e done → IsTrueOfOne who w earlier e
-      → MakeNext w.system census.given done
+  event_makes : (e : Event) (done : List Effect) → AreActsOf who.pid e done → IsTrueOfOne who w earlier e
+      → MakeNext w.system living.given done
   event_makes (event.Output signal named values target) done are is_true =
-      subst (λ (list : List Act). MakeNext w.system census.given list) (sym are.1) (tt, tt)
+      subst (λ (list : List Effect). MakeNext w.system living.given list) (sym are.1) (tt, tt)
   event_makes (event.Set key due) done are is_true =
-      subst (λ (list : List Act). MakeNext w.system census.given list) (sym are.1) (tt, tt)
+      subst (λ (list : List Effect). MakeNext w.system living.given list) (sym are.1) (tt, tt)
   event_makes (event.Create id number) done are is_true =
-      let next : number ≡ number_for w.system census id =
-      subst (λ (o : Option Census). IfSome o (λ census. number ≡ number_for w.system census id)) known is_true in
-      subst (λ (list : List Act). MakeNext w.system census.given list) (sym are.1)
-      (made_next w.system census id number who.pid are.0 next)
+      let next : number ≡ number_for w.system living id =
+      subst (λ (o : Option Living). IfSome o (λ living. number ≡ number_for w.system living id)) known is_true in
+      subst (λ (list : List Effect). MakeNext w.system living.given list) (sym are.1)
+      (made_next w.system living id number who.pid are.0 next)
   event_makes (event.Start at) done are is_true = nothing_made done are
   event_makes (event.Consumed at got) done are is_true = nothing_made done are
   event_makes (event.Prior at got) done are is_true = nothing_made done are
@@ -96,50 +96,50 @@ module _ (who : Identity) (w : WorldValue) (census : Census) (known : w.census �
 
 -- the census after some acts
 record Counts (w : WorldValue) (given : ℕ) : Type 0 where
-  census : Census
-  known : w.census ≡ Some census
-  given_is : census.given ≡ given
+  living : Living
+  known : w.living ≡ Some living
+  given_is : living.given ≡ given
 
-counts_one : (w : WorldValue) (given : ℕ) (act : Act) → Counts w given
-    → Counts (after_act w act) (given_after_one given act)
-counts_one w given act counts = record {
-  census = census_after counts.census act;
-  known = ap (λ (o : Option Census). option_map (λ census. census_after census act) o) counts.known;
-  given_is = by_act act ∙ ap (λ given. given_after_one given act) counts.given_is;
+counts_one : (w : WorldValue) (given : ℕ) (effect : Effect) → Counts w given
+    → Counts (after_effect w effect) (given_after_one given effect)
+counts_one w given effect counts = record {
+  living = living_after counts.living effect;
+  known = ap (λ (o : Option Living). option_map (λ living. living_after living effect) o) counts.known;
+  given_is = by_effect effect ∙ ap (λ given. given_after_one given effect) counts.given_is;
 } where
-  by_act : (act : Act) → (census_after counts.census act).given ≡ given_after_one counts.census.given act
-  by_act (Send target item) = refl
-  by_act (Arm fuse) = refl
-  by_act (Create process number parent values) = refl
+  by_effect : (effect : Effect) → (living_after counts.living effect).given ≡ given_after_one counts.living.given effect
+  by_effect (Send target item) = refl
+  by_effect (Arm fuse) = refl
+  by_effect (Create process number parent values) = refl
 
-counts_all : (w : WorldValue) (given : ℕ) (done : List Act) → Counts w given
-    → Counts (after_acts w done) (given_after given done)
+counts_all : (w : WorldValue) (given : ℕ) (done : List Effect) → Counts w given
+    → Counts (after_effects w done) (given_after given done)
 counts_all w given [] counts = counts
-counts_all w given (act ∷ rest) counts =
-    counts_all (after_act w act) (given_after_one given act) rest (counts_one w given act counts)
+counts_all w given (effect ∷ rest) counts =
+    counts_all (after_effect w effect) (given_after_one given effect) rest (counts_one w given effect counts)
 
-system_kept : (w : WorldValue) (done : List Act) → (after_acts w done).system ≡ w.system
+system_kept : (w : WorldValue) (done : List Effect) → (after_effects w done).system ≡ w.system
 system_kept w [] = refl
-system_kept w (act ∷ rest) = system_kept (after_act w act) rest
+system_kept w (effect ∷ rest) = system_kept (after_effect w effect) rest
 
 deeds_count : (who : Identity) (w : WorldValue) (given earlier : ℕ) (deeds : List Deed) → Counts w given
-    → AreActs who.pid deeds → IsTrueOf who w earlier deeds → MakeNext w.system given (acts_of deeds)
+    → AreActs who.pid deeds → IsTrueOf who w earlier deeds → MakeNext w.system given (effects_of deeds)
 deeds_count who w given earlier [] counts are are_true = tt
 deeds_count who w given earlier (deed ∷ rest) counts are are_true =
-    let first : MakeNext w.system given deed.acts =
-    subst (λ given. MakeNext w.system given deed.acts) counts.given_is
-    (event_makes who w counts.census counts.known earlier deed.event deed.acts are.0 are_true.0) in
-    let later : MakeNext w.system (given_after given deed.acts) (acts_of rest) =
-    subst (λ (system : SystemValue). MakeNext system (given_after given deed.acts) (acts_of rest))
-    (system_kept w deed.acts)
-    (deeds_count who (after_acts w deed.acts) (given_after given deed.acts) (time_after_one earlier deed.event) rest
-    (counts_all w given deed.acts counts) are.1 are_true.1) in
-    MakeNext-append w.system given deed.acts (acts_of rest) first later
+    let first : MakeNext w.system given deed.effects =
+    subst (λ given. MakeNext w.system given deed.effects) counts.given_is
+    (event_makes who w counts.living counts.known earlier deed.event deed.effects are.0 are_true.0) in
+    let later : MakeNext w.system (given_after given deed.effects) (effects_of rest) =
+    subst (λ (system : SystemValue). MakeNext system (given_after given deed.effects) (effects_of rest))
+    (system_kept w deed.effects)
+    (deeds_count who (after_effects w deed.effects) (given_after given deed.effects) (time_after_one earlier deed.event) rest
+    (counts_all w given deed.effects counts) are.1 are_true.1) in
+    MakeNext-append w.system given deed.effects (effects_of rest) first later
 
 -- what deeds do that are true of a world in which so many numbers were given
-pub deeds_make : (who : Identity) (w : WorldValue) (census : Census) (earlier : ℕ) (deeds : List Deed)
-    → w.census ≡ Some census → AreActs who.pid deeds → IsTrueOf who w earlier deeds
-    → MakeNext w.system census.given (acts_of deeds)
-deeds_make who w census earlier deeds known are are_true =
-    deeds_count who w census.given earlier deeds (record { census = census; known = known; given_is = refl }) are
+pub deeds_make : (who : Identity) (w : WorldValue) (living : Living) (earlier : ℕ) (deeds : List Deed)
+    → w.living ≡ Some living → AreActs who.pid deeds → IsTrueOf who w earlier deeds
+    → MakeNext w.system living.given (effects_of deeds)
+deeds_make who w living earlier deeds known are are_true =
+    deeds_count who w living.given earlier deeds (record { living = living; known = known; given_is = refl }) are
     are_true

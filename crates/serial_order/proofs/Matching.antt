@@ -7,17 +7,17 @@ use Rattle.port_values.specs.declared.item.Item.{Item}
 use Rattle.port_values.specs.declared.pid.Pid.{Pid}
 use Rattle.port_values.specs.declared.pid.Pid.TheVariants as pid
 use Rattle.serial_order.proofs.Scripts.{script_goes}
-use Rattle.serial_order.specs.Course.{Course, Expired, Follows, Happening, Heard, Moved, Steps, Ticked, begins, goes}
-use Rattle.serial_order.specs.Global.{Global, beginning, heard_acts}
+use Rattle.serial_order.specs.Execution.{Execution, Expired, Follows, Happening, Heard, Moved, Steps, Ticked, begins, goes}
+use Rattle.serial_order.specs.RunState.{RunState, beginning, heard_effects}
 use Rattle.serial_order.specs.Laws.{AreFromEnv, EachIsMatched}
-use Rattle.serial_order.specs.Told.{Moment, acts_by, comes_by, comes_by_one, expiry_by, first_moment, from, history_from, history_of_one, is_from, is_there, lines_of_one, moment_after, put_by, puts_of, sends_from}
+use Rattle.serial_order.specs.Told.{Moment, effects_by, comes_by, comes_by_one, expiry_by, first_moment, from, history_from, history_of_one, is_from, is_there, lines_of_one, moment_after, put_by, puts_of, sends_from}
 use Rattle.run_evaluation.specs.declared.identity.Identity.{Identity}
 use Rattle.run_record.specs.Event as event
 use Rattle.run_record.specs.Event.{Event}
-use Rattle.run_semantics.proofs.Acting.{AreActs, AreActsOf, runs_acts}
-use Rattle.run_semantics.specs.Act.{Act, Arm, Create, Deed, Send, acts_of, calls_of}
+use Rattle.run_semantics.proofs.Acting.{AreActs, AreActsOf, runs_effects}
+use Rattle.run_semantics.specs.Effect.{Effect, Arm, Create, Deed, Send, effects_of, calls_of}
 use Rattle.run_semantics.specs.Leads.{created}
-use Rattle.run_semantics.specs.Place.{Definition}
+use Rattle.run_semantics.specs.ControlPoint.{Definition}
 use Rattle.run_semantics.specs.Runs.{own_of}
 use Rattle.sdl_script.specs.declared.script.ScriptLine.{ScriptLine}
 use Rattle.sdl_script.specs.declared.script.ScriptSignal.{ScriptSignal}
@@ -88,13 +88,13 @@ none_from one sender (item ∷ rest) are other =
 -- ---- what comes by the acts of one sender
 
 -- these acts send signals of this sender alone
-abbrev AreSentBy : Pid → List Act → Type 0
+abbrev AreSentBy : Pid → List Effect → Type 0
 AreSentBy sender [] = Unit {0}
 AreSentBy sender (Send target item ∷ rest) = (item.sender ≡ sender) × AreSentBy sender rest
 AreSentBy sender (Arm fuse ∷ rest) = AreSentBy sender rest
 AreSentBy sender (Create id number parent values ∷ rest) = AreSentBy sender rest
 
-AreSentBy-append : (sender : Pid) (first later : List Act) → AreSentBy sender first → AreSentBy sender later
+AreSentBy-append : (sender : Pid) (first later : List Effect) → AreSentBy sender first → AreSentBy sender later
     → AreSentBy sender (first ++ later)
 AreSentBy-append sender [] later are more = more
 AreSentBy-append sender (Send target item ∷ rest) later are more =
@@ -126,7 +126,7 @@ no_put n at fuse true = by_test (nat_eq fuse.pid n) where
   by_test true = refl
   by_test false = refl
 
-come_of : (sender : Pid) (n : ℕ) (now : Moment) (done : List Act) → AreSentBy sender done
+come_of : (sender : Pid) (n : ℕ) (now : Moment) (done : List Effect) → AreSentBy sender done
     → AreOf sender (puts_of (comes_by n now done))
 come_of sender n now [] are = tt
 come_of sender n now (Send target item ∷ rest) are =
@@ -153,15 +153,15 @@ created_sent sender id parent values None = tt
 created_sent sender id parent values (Some number) = tt
 
 module _ (n : ℕ) where
-  none_sent : (done : List Act) → done ≡ [] → AreSentBy (pid.Of n) done
-  none_sent done none = subst (λ (list : List Act). AreSentBy (pid.Of n) list) (sym none) tt
+  none_sent : (done : List Effect) → done ≡ [] → AreSentBy (pid.Of n) done
+  none_sent done none = subst (λ (list : List Effect). AreSentBy (pid.Of n) list) (sym none) tt
 
-  event_sent : (e : Event) (done : List Act) → AreActsOf n e done → AreSentBy (pid.Of n) done
+  event_sent : (e : Event) (done : List Effect) → AreActsOf n e done → AreSentBy (pid.Of n) done
   event_sent (event.Output signal named values target) done are =
-      subst (λ (list : List Act). AreSentBy (pid.Of n) list) (sym are.1) (are.2, tt)
-  event_sent (event.Set key due) done are = subst (λ (list : List Act). AreSentBy (pid.Of n) list) (sym are.1) tt
+      subst (λ (list : List Effect). AreSentBy (pid.Of n) list) (sym are.1) (are.2, tt)
+  event_sent (event.Set key due) done are = subst (λ (list : List Effect). AreSentBy (pid.Of n) list) (sym are.1) tt
   event_sent (event.Create id number) done are =
-      subst (λ (list : List Act). AreSentBy (pid.Of n) list) (sym are.1) (created_sent (pid.Of n) id n are.0 number)
+      subst (λ (list : List Effect). AreSentBy (pid.Of n) list) (sym are.1) (created_sent (pid.Of n) id n are.0 number)
   event_sent (event.Start at) done are = none_sent done are
   event_sent (event.Consumed at got) done are = none_sent done are
   event_sent (event.Prior at got) done are = none_sent done are
@@ -176,17 +176,17 @@ module _ (n : ℕ) where
   event_sent (event.Rest state) done are = none_sent done are
   event_sent (event.Cut state) done are = none_sent done are
 
-  deeds_sent : (deeds : List Deed) → AreActs n deeds → AreSentBy (pid.Of n) (acts_of deeds)
+  deeds_sent : (deeds : List Deed) → AreActs n deeds → AreSentBy (pid.Of n) (effects_of deeds)
   deeds_sent [] are = tt
   deeds_sent (deed ∷ rest) are =
-      AreSentBy-append (pid.Of n) deed.acts (acts_of rest) (event_sent deed.event deed.acts are.0)
+      AreSentBy-append (pid.Of n) deed.effects (effects_of rest) (event_sent deed.event deed.effects are.0)
       (deeds_sent rest are.1)
 
 -- ---- one happening
 
 -- An instance puts nothing by its own calls, and sends in its own name; a line's signal comes from the environment.
 abbrev IsOwn : Happening → Type 0
-IsOwn (Moved who deeds) = (puts_of (calls_of deeds) ≡ []) × AreSentBy (pid.Of who.pid) (acts_of deeds)
+IsOwn (Moved who deeds) = (puts_of (calls_of deeds) ≡ []) × AreSentBy (pid.Of who.pid) (effects_of deeds)
 IsOwn (Heard line done) = AreSentBy pid.Env done
 IsOwn (Expired fuse) = Unit {0}
 IsOwn (Ticked time) = Unit {0}
@@ -197,10 +197,10 @@ none_put false calls none = refl
 
 module _ (n : ℕ) (now : Moment) where
   moved_puts : (who : Identity) (deeds : List Deed) → IsOwn (Moved who deeds)
-      → puts_of (history_of_one n now (Moved who deeds)) ≡ puts_of (comes_by n now (acts_of deeds))
+      → puts_of (history_of_one n now (Moved who deeds)) ≡ puts_of (comes_by n now (effects_of deeds))
   moved_puts who deeds own =
       let calls : List PortEvent = if who.pid == n then calls_of deeds else [] in
-      let comes : List PortEvent = comes_by n now (acts_of deeds) in
+      let comes : List PortEvent = comes_by n now (effects_of deeds) in
       puts_of-append calls comes
       ∙ ap (λ (items : List Item). items ++ puts_of comes) (none_put (nat_eq who.pid n) (calls_of deeds) own.0)
 
@@ -208,22 +208,22 @@ module _ (n : ℕ) (now : Moment) where
       → is_from sender (pid.Of who.pid) ≡ false → from sender (puts_of (history_of_one n now (Moved who deeds))) ≡ []
   moved_none sender who deeds own other =
       ap (λ (items : List Item). from sender items) (moved_puts who deeds own)
-      ∙ none_from sender (pid.Of who.pid) (puts_of (comes_by n now (acts_of deeds)))
-      (come_of (pid.Of who.pid) n now (acts_of deeds) own.1) other
+      ∙ none_from sender (pid.Of who.pid) (puts_of (comes_by n now (effects_of deeds)))
+      (come_of (pid.Of who.pid) n now (effects_of deeds) own.1) other
 
   moved_own : (m : ℕ) (who : Identity) (deeds : List Deed) → IsOwn (Moved who deeds) → (b : Bool)
       → nat_eq who.pid m ≡ b
       → from (pid.Of m) (puts_of (history_of_one n now (Moved who deeds)))
-      ≡ puts_of (comes_by n now (if b then acts_of deeds else []))
+      ≡ puts_of (comes_by n now (if b then effects_of deeds else []))
   moved_own m who deeds own true same =
-      let comes : List PortEvent = comes_by n now (acts_of deeds) in
+      let comes : List PortEvent = comes_by n now (effects_of deeds) in
       ap (λ (items : List Item). from (pid.Of m) items) (moved_puts who deeds own)
       ∙ all_from (pid.Of m) (pid.Of who.pid) (puts_of comes)
-      (come_of (pid.Of who.pid) n now (acts_of deeds) own.1) same
+      (come_of (pid.Of who.pid) n now (effects_of deeds) own.1) same
   moved_own m who deeds own false other = moved_none (pid.Of m) who deeds own other
 
   matched_one : (sender : Pid) (happened : Happening) → IsOwn happened
-      → from sender (puts_of (history_of_one n now happened)) ≡ puts_of (comes_by n now (acts_by sender happened))
+      → from sender (puts_of (history_of_one n now happened)) ≡ puts_of (comes_by n now (effects_by sender happened))
   matched_one (pid.Of m) (Moved who deeds) own = moved_own m who deeds own (nat_eq who.pid m) refl
   matched_one pid.Env (Moved who deeds) own = moved_none pid.Env who deeds own refl
   matched_one pid.Null (Moved who deeds) own = moved_none pid.Null who deeds own refl
@@ -263,16 +263,16 @@ matched_all sender n now (first ∷ rest) are =
     ap (λ (items : List Item). from sender items) (puts_of-append here later)
     ∙ from-append sender (puts_of here) (puts_of later)
     ∙ ap (λ (items : List Item). items ++ from sender (puts_of later)) (matched_one n now sender first are.0)
-    ∙ ap (λ (items : List Item). puts_of (comes_by n now (acts_by sender first)) ++ items)
+    ∙ ap (λ (items : List Item). puts_of (comes_by n now (effects_by sender first)) ++ items)
     (matched_all sender n (moment_after now first) rest are.1)
 
 -- a step of a course
-step_own : (ps : List Behaviour) (g : Global) (who : Identity) (deeds : List Deed) (h : Global)
+step_own : (ps : List Behaviour) (g : RunState) (who : Identity) (deeds : List Deed) (h : RunState)
     → Steps ps g who deeds h → IsOwn (Moved who deeds)
 step_own ps g who deeds h step =
     let d : Definition = record { system = step.old.system; behaviour = step.p } in
     let are : AreActs step.old.who.pid step.goes.deeds =
-    runs_acts d step.old.who (place_of step.old.position) step.old.store step.old.owner.state step.goes.runs in (
+    runs_effects d step.old.who (place_of step.old.position) step.old.store step.old.owner.state step.goes.runs in (
       ap (λ (list : List Deed). puts_of (calls_of list)) (sym step.deeds_are)
           ∙ ap puts_of (sym step.goes.own) ∙ own_puts step.goes.history,
       deeds_sent who.pid deeds
@@ -280,23 +280,23 @@ step_own ps g who deeds h step =
           (subst (λ (w : Identity). AreActs w.pid step.goes.deeds) step.is_who are)),
     )
 
-heard_own : (g : Global) (signal : Option ScriptSignal) → IfSome signal (λ (s : ScriptSignal). s.item.sender ≡ pid.Env)
-    → AreSentBy pid.Env (heard_acts g signal)
+heard_own : (g : RunState) (signal : Option ScriptSignal) → IfSome signal (λ (s : ScriptSignal). s.item.sender ≡ pid.Env)
+    → AreSentBy pid.Env (heard_effects g signal)
 heard_own g None env = tt
 heard_own g (Some signal) env = (env, tt)
 
 -- the script that is left is of the environment, and so was what was heard
-record IsEnvCourse (happenings : List Happening) (at : Global) : Type 0 where
+record IsEnvExecution (happenings : List Happening) (at : RunState) : Type 0 where
   own : AreOwn happenings
   left : AreFromEnv at.script
 
 module _ (ps : List Behaviour) (time : ℕ) where
-  next_own : (g : Global) (next : Happening) (h : Global) → Follows ps time g next h → AreFromEnv g.script → IsOwn next
+  next_own : (g : RunState) (next : Happening) (h : RunState) → Follows ps time g next h → AreFromEnv g.script → IsOwn next
   next_own g (Moved who deeds) h step env = step_own ps g who deeds h step
   next_own g (Expired fuse) h expires env = tt
   next_own g (Heard line done) h hear env =
       let lines : AreFromEnv (line ∷ hear.later) = subst AreFromEnv hear.next env in
-      subst (λ (list : List Act). AreSentBy pid.Env list) (sym hear.acts_are)
+      subst (λ (list : List Effect). AreSentBy pid.Env list) (sym hear.effects_are)
       (heard_own g line.signal
       (All-head (λ (line : ScriptLine). IfSome line.signal (λ (s : ScriptSignal). s.item.sender ≡ pid.Env)) line
       hear.later lines))
@@ -311,11 +311,11 @@ module _ (ps : List Behaviour) (time : ℕ) where
       env
   after_one (Ticked time) script env = env
 
-  env_course : {system : SystemValue} {lines : List ScriptLine} {happenings : List Happening} {last : Global}
-      → AreFromEnv lines → Course ps time (beginning system lines) happenings last → IsEnvCourse happenings last
-  env_course env begins = record { own = tt; left = env }
-  env_course env (goes {happenings = happenings} {at = at} course next to follows) =
-      let before : IsEnvCourse happenings at = env_course env course in
+  env_execution : {system : SystemValue} {lines : List ScriptLine} {happenings : List Happening} {last : RunState}
+      → AreFromEnv lines → Execution ps time (beginning system lines) happenings last → IsEnvExecution happenings last
+  env_execution env begins = record { own = tt; left = env }
+  env_execution env (goes {happenings = happenings} {at = at} execution next to follows) =
+      let before : IsEnvExecution happenings at = env_execution env execution in
       record {
         own = AreOwn-append happenings next before.own (next_own at next to follows before.left);
         left = after_one next to.script
@@ -324,5 +324,5 @@ module _ (ps : List Behaviour) (time : ℕ) where
 
 -- each signal that is put was sent, each that is sent is put once, in the order of its sender
 pub each_is_matched : EachIsMatched
-each_is_matched ps system lines time happenings last behaviours course env sender n =
-    matched_all sender n (first_moment system) happenings (env_course ps time env course).own
+each_is_matched ps system lines time happenings last behaviours execution env sender n =
+    matched_all sender n (first_moment system) happenings (env_execution ps time env execution).own

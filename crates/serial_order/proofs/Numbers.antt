@@ -2,7 +2,7 @@
 use Rattle.std.proofs.Common.{◌≡◌, ◌∙◌, ◌⊎◌, inl, inr, ap, arith, refl, sym, ℕ, zero, suc, ◌+◌, ◌<◌, ◌&&◌, nat_eq, nat_le, nat_lt, Bool, true, false, List, [], ◌∷◌, ◌++◌, Option, None, Some, length, slice_get, set}
 use Rattle.std.proofs.lemmas.List.{length-set}
 use Rattle.std.proofs.lemmas.Option.{none-some, same_Some, slice_get_within}
-use Rattle.serial_order.specs.Global.{change_at, changed_at, instance_at, with_instance}
+use Rattle.serial_order.specs.RunState.{change_at, changed_at, instance_at, with_instance}
 use Rattle.serial_order.specs.Told.{Moment, is_there}
 use Rattle.sdl_interp.specs.Instance.{InstanceValue}
 

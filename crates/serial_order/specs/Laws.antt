@@ -1,8 +1,8 @@
 -- Laws of the serial order.
 use Rattle.std.specs.Prelude.{◌≡◌, ◌++◌, ℕ, List, All, IfSome}
 use Rattle.port_values.specs.declared.pid.Pid.TheVariants.{Env}
-use Rattle.serial_order.specs.Course.{AreBehaviours, Course, Happening}
-use Rattle.serial_order.specs.Global.{Global, beginning}
+use Rattle.serial_order.specs.Execution.{AreBehaviours, Execution, Happening}
+use Rattle.serial_order.specs.RunState.{RunState, beginning}
 use Rattle.serial_order.specs.Times.{AreTimed}
 use Rattle.serial_order.specs.Told.{AreMatched, AreTold, first_moment, lines_of}
 use Rattle.sdl_script.specs.declared.script.ScriptLine.{ScriptLine}
@@ -11,11 +11,11 @@ use Rattle.sdl_system.specs.Behaviour.{Behaviour}
 use Rattle.sdl_system.specs.System.{SystemValue}
 
 -- this holds at the end of each run of a system from its beginning
-abbrev pub AtEachEnd : (List Behaviour → SystemValue → List ScriptLine → List Happening → Global → Type 0) → Type 0
+abbrev pub AtEachEnd : (List Behaviour → SystemValue → List ScriptLine → List Happening → RunState → Type 0) → Type 0
 AtEachEnd Holds =
     (ps : List Behaviour) (system : SystemValue) (lines : List ScriptLine) (time : ℕ) (happenings : List Happening)
-    (last : Global)
-    → AreBehaviours system ps → Course ps time (beginning system lines) happenings last
+    (last : RunState)
+    → AreBehaviours system ps → Execution ps time (beginning system lines) happenings last
     → Holds ps system lines happenings last
 
 -- The record of each instance, and a run of its process that gives it, are told by the list of all that happened.

@@ -1,5 +1,5 @@
-pub mod Course
-pub mod Global
+pub mod Execution
+pub mod RunState
 pub mod Laws
 pub mod Report
 pub mod Times

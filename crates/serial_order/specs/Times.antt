@@ -1,10 +1,10 @@
 -- The times that the records tell, and the clock (Z.101: system).
 use Rattle.std.specs.Prelude.{◌≡◌, ℕ, List, [], ◌∷◌}
-use Rattle.serial_order.specs.Course.{Expired, Happening, Heard, Moved, Ticked}
+use Rattle.serial_order.specs.Execution.{Expired, Happening, Heard, Moved, Ticked}
 use Rattle.serial_order.specs.Told.{Moment, moment_after}
 use Rattle.run_record.specs.Event as event
 use Rattle.run_record.specs.Event.{Event}
-use Rattle.run_semantics.specs.Act.{Deed}
+use Rattle.run_semantics.specs.Effect.{Deed}
 
 -- the time of an event, where it has one, is this
 abbrev pub IsAt : ℕ → Event → Type 0
@@ -25,7 +25,7 @@ AreAt time (deed ∷ rest) = IsAt time deed.event × AreAt time rest
 abbrev pub IsTimed : Moment → Happening → Type 0
 IsTimed now (Moved who deeds) = AreAt now.clock deeds
 IsTimed now (Expired fuse) = Unit {0}
-IsTimed now (Heard line acts) = Unit {0}
+IsTimed now (Heard line effects) = Unit {0}
 IsTimed now (Ticked time) = Unit {0}
 
 -- so it is with all that happens from a moment on

@@ -7,12 +7,12 @@ use Rattle.port_values.specs.declared.item.Item.{Item}
 use Rattle.port_values.specs.declared.pid.Pid.{Pid}
 use Rattle.port_values.specs.declared.pid.Pid.TheVariants.{Env, Of}
 use Rattle.port_values.specs.declared.value.Value.{Value}
-use Rattle.serial_order.specs.Course.{Expired, Happening, Heard, IsMeant, Moved, Ticked}
-use Rattle.serial_order.specs.Global.{Global, beginning, instance_at}
+use Rattle.serial_order.specs.Execution.{Expired, Happening, Heard, IsMeant, Moved, Ticked}
+use Rattle.serial_order.specs.RunState.{RunState, beginning, instance_at}
 use Rattle.sdl_interp.specs.Instance.{InstanceValue}
-use Rattle.run_semantics.specs.Act.{Act, Arm, Create, Deed, Send, acts_of, calls_of, events_of}
+use Rattle.run_semantics.specs.Effect.{Effect, Arm, Create, Deed, Send, effects_of, calls_of, events_of}
 use Rattle.run_semantics.specs.Instance.{first_store}
-use Rattle.run_semantics.specs.Place.{AtStart}
+use Rattle.run_semantics.specs.ControlPoint.{AtStart}
 use Rattle.run_semantics.specs.Runs.{Runs}
 use Rattle.sdl_script.specs.declared.script.ScriptLine.{ScriptLine}
 use Rattle.run_transitions.specs.Machine.{place_of}
@@ -52,38 +52,38 @@ put_by n target item = []
 abbrev pub expiry_by : ℕ → ℕ → Fuse → List PortEvent
 expiry_by n at fuse = if fuse.pid == n then Expire fuse.key fuse.arm fuse.due at ∷ [] else []
 
-abbrev pub comes_by_one : ℕ → Moment → Act → List PortEvent
+abbrev pub comes_by_one : ℕ → Moment → Effect → List PortEvent
 comes_by_one n now (Send target item) = if is_there n now then put_by n target item else []
 comes_by_one n now (Arm fuse) = if is_there n now && nat_le fuse.due now.clock then expiry_by n now.clock fuse else []
 comes_by_one n now (Create process number parent values) = []
 
 -- an instance that is made is there
-abbrev pub given_after_one : ℕ → Act → ℕ
+abbrev pub given_after_one : ℕ → Effect → ℕ
 given_after_one given (Create process number parent values) = given + 1
-given_after_one given act = given
+given_after_one given effect = given
 
-abbrev pub given_after : ℕ → List Act → ℕ
+abbrev pub given_after : ℕ → List Effect → ℕ
 given_after given [] = given
-given_after given (act ∷ rest) = given_after (given_after_one given act) rest
+given_after given (effect ∷ rest) = given_after (given_after_one given effect) rest
 
-abbrev pub comes_by : ℕ → Moment → List Act → List PortEvent
+abbrev pub comes_by : ℕ → Moment → List Effect → List PortEvent
 comes_by n now [] = []
-comes_by n now (act ∷ rest) =
-    comes_by_one n now act ++ comes_by n (record now { given = given_after_one now.given act }) rest
+comes_by n now (effect ∷ rest) =
+    comes_by_one n now effect ++ comes_by n (record now { given = given_after_one now.given effect }) rest
 
 -- ---- the history of its port
 
 -- what happens to the port of the instance with this number: its own calls, and what comes from outside
 abbrev pub history_of_one : ℕ → Moment → Happening → List PortEvent
-history_of_one n now (Moved who deeds) = (if who.pid == n then calls_of deeds else []) ++ comes_by n now (acts_of deeds)
+history_of_one n now (Moved who deeds) = (if who.pid == n then calls_of deeds else []) ++ comes_by n now (effects_of deeds)
 history_of_one n now (Expired fuse) = if is_there n now then expiry_by n now.clock fuse else []
-history_of_one n now (Heard line acts) = comes_by n now acts
+history_of_one n now (Heard line effects) = comes_by n now effects
 history_of_one n now (Ticked time) = []
 
 abbrev pub moment_after : Moment → Happening → Moment
-moment_after now (Moved who deeds) = record now { given = given_after now.given (acts_of deeds) }
+moment_after now (Moved who deeds) = record now { given = given_after now.given (effects_of deeds) }
 moment_after now (Expired fuse) = now
-moment_after now (Heard line acts) = record now { given = given_after now.given acts }
+moment_after now (Heard line effects) = record now { given = given_after now.given effects }
 moment_after now (Ticked time) = record now { clock = time }
 
 abbrev pub history_from : ℕ → Moment → List Happening → List PortEvent
@@ -113,7 +113,7 @@ pub record IsTold (ps : List Behaviour) (i : InstanceValue) (deeds : List Deed) 
 
 -- so it is for each number that an instance has, and it has that number
 pub record AreTold (ps : List Behaviour) (system : SystemValue) (happenings : List Happening)
-    (last : Global) : Type 0 where
+    (last : RunState) : Type 0 where
   pub numbers : (n : ℕ) (i : InstanceValue) → instance_at last.instances n ≡ Some i → i.who.pid ≡ n
   pub each : (n : ℕ) (i : InstanceValue) → instance_at last.instances n ≡ Some i
       → IsTold ps i (deeds_of n happenings) (history_of system n happenings)
@@ -136,16 +136,16 @@ from one [] = []
 from one (item ∷ rest) = if is_from one item.sender then item ∷ from one rest else from one rest
 
 -- the acts of the instance with this number, and those of the environment
-abbrev pub acts_by : Pid → Happening → List Act
-acts_by (Of m) (Moved who deeds) = if who.pid == m then acts_of deeds else []
-acts_by Env (Heard line acts) = acts
-acts_by sender happened = []
+abbrev pub effects_by : Pid → Happening → List Effect
+effects_by (Of m) (Moved who deeds) = if who.pid == m then effects_of deeds else []
+effects_by Env (Heard line effects) = effects
+effects_by sender happened = []
 
 -- the signals that a sender sends to the instance with this number, while that is there, in their order
 abbrev pub sends_from : Pid → ℕ → Moment → List Happening → List Item
 sends_from sender n now [] = []
 sends_from sender n now (first ∷ rest) =
-    puts_of (comes_by n now (acts_by sender first)) ++ sends_from sender n (moment_after now first) rest
+    puts_of (comes_by n now (effects_by sender first)) ++ sends_from sender n (moment_after now first) rest
 
 -- What was put of a sender into the port of an instance is what that sender sent to it: each signal once, and in the
 -- same order.
@@ -157,7 +157,7 @@ AreMatched system happenings =
 -- ---- the script
 
 abbrev pub lines_of_one : Happening → List ScriptLine
-lines_of_one (Heard line acts) = line ∷ []
+lines_of_one (Heard line effects) = line ∷ []
 lines_of_one happened = []
 
 abbrev pub lines_of : List Happening → List ScriptLine

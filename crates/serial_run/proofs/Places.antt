@@ -4,8 +4,8 @@ use Rattle.std.specs.List.{range_with_len}
 use Rattle.std.specs.Prelude.{Contains, ◌↔◌}
 use Rattle.std.proofs.lemmas.List.{length-set}
 use Rattle.std.proofs.lemmas.Option.{get_or_from_slice_get}
-use Rattle.serial_order.specs.Global.{census_of, count_living, instance_at, is_ended, least_living, lives_of}
-use Rattle.serial_instances.proofs.Census.{count_cons}
+use Rattle.serial_order.specs.RunState.{living_of, count_living, instance_at, is_ended, least_living, lives_of}
+use Rattle.serial_instances.proofs.Living.{count_cons}
 use Rattle.serial_instances.specs.Serial.{AreInPlace, AreMarked, IsOfSystem, IsSerial}
 use Rattle.serial_instances.specs.declared.instances.Instances.{Instances}
 use Rattle.run_evaluation.specs.declared.identity.Identity.{Identity}
@@ -76,10 +76,10 @@ module _ (q : ℕ) (old new : InstanceValue) (who : new.who ≡ old.who)
       count_cons q x (set xs place new) ∙ ap (λ rest. cond (lives_of q x) 1 0 + rest) (count_same xs place there)
       ∙ sym (count_cons q x xs)
 
-pub census_same : (system : SystemValue) (xs : List InstanceValue) (place : ℕ) (old new : InstanceValue)
+pub living_same : (system : SystemValue) (xs : List InstanceValue) (place : ℕ) (old new : InstanceValue)
     → slice_get xs place ≡ Some old → new.who ≡ old.who → is_ended new.position ≡ is_ended old.position
-    → census_of system (set xs place new) ≡ census_of system xs
-census_same system xs place old new there who ended = λ i. record {
+    → living_of system (set xs place new) ≡ living_of system xs
+living_same system xs place old new there who ended = λ i. record {
   least = map (λ q. least_same q old new who ended xs place there i) (range_with_len 0 (length system.processes));
   counts = map (λ q. count_same q old new who ended xs place there i) (range_with_len 0 (length system.processes));
   given = length-set xs place new i;
@@ -128,9 +128,9 @@ members_set system xs place old new all there keeps = λ k d below.
     ])
 
 -- the one at a place may still have something to do
-pub marked_on : (awake : List ℕ) (xs : List InstanceValue) (place : ℕ) (new : InstanceValue) → AreMarked awake xs
-    → Contains awake (suc place) → AreMarked awake (set xs place new)
-marked_on awake xs place new are has = record {
+pub marked_on : (ready : List ℕ) (xs : List InstanceValue) (place : ℕ) (new : InstanceValue) → AreMarked ready xs
+    → Contains ready (suc place) → AreMarked ready (set xs place new)
+marked_on ready xs place new are has = record {
   there = λ number marked. (
     (are.there number marked).0,
     subst (λ n. number ≤ n) (sym (length-set xs place new)) (are.there number marked).1,
@@ -138,19 +138,19 @@ marked_on awake xs place new are has = record {
   others = others;
 } where
   others : (number : ℕ) (i : InstanceValue) → instance_at (set xs place new) number ≡ Some i
-      → Contains awake number ⊎ IsAtRest i
+      → Contains ready number ⊎ IsAtRest i
   others zero i there = let no : ⊥ = cc in absurd no
   others (suc k) i there =
       elim (at_set xs place k new i there) [
-        | inl w ↦ inl (subst (Contains awake) (ap suc (sym w.0)) has)
+        | inl w ↦ inl (subst (Contains ready) (ap suc (sym w.0)) has)
         | inr w ↦ are.others (suc k) i w.1
       ]
 
 -- or it has not, and is at rest
-pub marked_off : (awake fewer : List ℕ) (xs : List InstanceValue) (place : ℕ) (new : InstanceValue)
-    → AreMarked awake xs → ((n : ℕ) → Contains fewer n ↔ (Contains awake n × (n ≢ suc place))) → IsAtRest new
+pub marked_off : (ready fewer : List ℕ) (xs : List InstanceValue) (place : ℕ) (new : InstanceValue)
+    → AreMarked ready xs → ((n : ℕ) → Contains fewer n ↔ (Contains ready n × (n ≢ suc place))) → IsAtRest new
     → AreMarked fewer (set xs place new)
-marked_off awake fewer xs place new are off rest = record {
+marked_off ready fewer xs place new are off rest = record {
   there = λ number marked. let was = are.there number ((off number).0 marked).0 in
       (was.0, subst (λ n. number ≤ n) (sym (length-set xs place new)) was.1);
   others = others;
@@ -168,17 +168,17 @@ marked_off awake fewer xs place new are off rest = record {
       ]
 
 -- the working state, where the instance at a place is changed
-pub serial_set : {awake : List ℕ} (s t : Instances) (after : List ℕ) (place : ℕ) (old new : InstanceValue)
-    → IsSerial awake s
+pub serial_set : {ready : List ℕ} (s t : Instances) (after : List ℕ) (place : ℕ) (old new : InstanceValue)
+    → IsSerial ready s
     → slice_get s.instances.items place ≡ Some old → Keeps old new
     → t.instances.items ≡ set s.instances.items place new → t.system ≡ s.system
-    → t.census ≡ census_of s.system.now (set s.instances.items place new)
+    → t.living ≡ living_of s.system.now (set s.instances.items place new)
     → AreMarked after (set s.instances.items place new) → IsSerial after t
-serial_set s t after place old new serial there keeps items system census marked =
+serial_set s t after place old new serial there keeps items system living marked =
     let now = set s.instances.items place new in
     record {
-      census = census ∙ ap (census_of s.system.now) (sym items)
-          ∙ ap (λ r. census_of r.now t.instances.items) (sym system);
+      living = living ∙ ap (living_of s.system.now) (sym items)
+          ∙ ap (λ r. living_of r.now t.instances.items) (sym system);
       places = subst (AreInPlace 0) (sym items)
           (in_place_set 0 s.instances.items place old new serial.places there keeps.who keeps.pid);
       members = subst (λ r. All (IsOfSystem r.now) t.instances.items) (sym system)

@@ -2,8 +2,8 @@
 use Rattle.std.proofs.Common.{◌≡◌, ◌⊎◌, ◌∙◌, ◌+◌, ◌<◌, Bool, true, false, IsTrue, ℕ, List, [], ◌∷◌, All, refl, inl, inr, sym, ap, subst, arith, length}
 use Rattle.std.specs.List.{AllZip}
 use Rattle.std.proofs.lemmas.List.Elements.{All-head, All-tail}
-use Rattle.serial_order.specs.Course.{AreBehaviours, Course, EndsInTransition, Happening, IsNoFuseBefore, transitions_of}
-use Rattle.serial_order.specs.Global.{beginning, first_instances}
+use Rattle.serial_order.specs.Execution.{AreBehaviours, Execution, EndsInTransition, Happening, IsNoFuseBefore, transitions_of}
+use Rattle.serial_order.specs.RunState.{beginning, first_instances}
 use Rattle.serial_order.specs.Report.{Closes, Ends, IsSerialReport}
 use Rattle.serial_instances.specs.Serial.{IsOfSystem, IsSerial, state_of}
 use Rattle.serial_instances.specs.declared.instances.Instances.{Instances}
@@ -53,13 +53,13 @@ closes_all ps system whole (i ∷ rest) (trace ∷ more) behaviours members clos
 abbrev pub IsWhole : ℕ → Moment → Instances → Type 0
 IsWhole last n b = All IsAtRest b.instances.items × (n.script ≡ []) × IsNoFuseBefore (last + 1) n.fuses × (0 < n.left)
 
-ends_by : (ps : List Behaviour) (lines : List ScriptLine) (limit : ℕ) (awake : List ℕ) (n : Moment) (b : Instances) (happenings : List Happening)
-    (end : ℕ) (whole : Bool) → AreBehaviours b.system.now ps → IsSerial awake b
+ends_by : (ps : List Behaviour) (lines : List ScriptLine) (limit : ℕ) (ready : List ℕ) (n : Moment) (b : Instances) (happenings : List Happening)
+    (end : ℕ) (whole : Bool) → AreBehaviours b.system.now ps → IsSerial ready b
     → n.left + transitions_of happenings ≡ limit → (n.left ≡ 0 → EndsInTransition happenings)
     → (IsTrue whole → IsWhole (end_of lines) n b) → IsTrue whole ⊎ (n.left ≡ 0)
     → ((whole ≡ true) × (end ≡ end_of lines)) ⊎ ((whole ≡ false) × (end ≡ n.clock))
     → Ends whole ps lines limit happenings (state_of n b) end
-ends_by ps lines limit awake n b happenings end true behaviours serial counted reached rests cut is_end =
+ends_by ps lines limit ready n b happenings end true behaviours serial counted reached rests cut is_end =
     let h = rests refl in
     record {
       fewer = omega (arith, counted, h.3);
@@ -68,7 +68,7 @@ ends_by ps lines limit awake n b happenings end true behaviours serial counted r
       no_fuse = h.2;
       is_end = elim is_end [ inl w ↦ w.1 | inr w ↦ let wrong : ⊥ = cc (w.0) in absurd wrong ];
     }
-ends_by ps lines limit awake n b happenings end false behaviours serial counted reached rests cut is_end =
+ends_by ps lines limit ready n b happenings end false behaviours serial counted reached rests cut is_end =
     let spent : n.left ≡ 0 = elim cut [ inl w ↦ let wrong : ⊥ = cc in absurd wrong | inr w ↦ w ] in
     record {
       as_many = omega (arith, counted, spent);
@@ -76,22 +76,22 @@ ends_by ps lines limit awake n b happenings end false behaviours serial counted 
       is_end = elim is_end [ inl w ↦ let wrong : ⊥ = cc (w.0) in absurd wrong | inr w ↦ w.1 ];
     }
 
-pub report : (ps : List Behaviour) (system : SystemValue) (lines : List ScriptLine) (limit : ℕ) (awake : List ℕ)
+pub report : (ps : List Behaviour) (system : SystemValue) (lines : List ScriptLine) (limit : ℕ) (ready : List ℕ)
     (m n : Moment) (a b : Instances) (told : Report) → AreBehaviours system ps
-    → state_of m a ≡ beginning system lines → m.left ≡ limit → Reaches (end_of lines) m a n b → IsSerial awake b
+    → state_of m a ≡ beginning system lines → m.left ≡ limit → Reaches (end_of lines) m a n b → IsSerial ready b
     → (IsTrue told.whole → IsWhole (end_of lines) n b) → IsTrue told.whole ⊎ (n.left ≡ 0)
     → AllZip (IsClosed false told.whole) b.instances.items told.records.items
     → ((told.whole ≡ true) × (told.end ≡ end_of lines)) ⊎ ((told.whole ≡ false) × (told.end ≡ n.clock))
     → IsSerialReport ps system lines limit told
-report ps system lines limit awake m n a b told behaviours state left reaches serial rests cut records is_end =
+report ps system lines limit ready m n a b told behaviours state left reaches serial rests cut records is_end =
     let first = subst (λ all. AreBehaviours all ps) (sym (ap (λ g. g.system) state)) behaviours in
     let run = reaches ps first in
     let last = subst (λ all. AreBehaviours all ps) (sym (ap (λ r. r.now) run.system)) first in
     record {
       happenings = run.happenings;
       last = state_of n b;
-      course = subst (λ g. Course ps (end_of lines) g run.happenings (state_of n b)) state run.course;
+      execution = subst (λ g. Execution ps (end_of lines) g run.happenings (state_of n b)) state run.execution;
       records = closes_all ps b.system.now told.whole b.instances.items told.records.items last serial.members records;
-      ends = ends_by ps lines limit awake n b run.happenings told.end told.whole last serial (run.counted ∙ left)
+      ends = ends_by ps lines limit ready n b run.happenings told.end told.whole last serial (run.counted ∙ left)
           run.in_transition rests cut is_end;
     }

@@ -6,33 +6,33 @@ use Rattle.port_model.specs.History.{Expire, PortEvent, Put, Take}
 use Rattle.port_model.specs.Laws.{IsFromOutside}
 use Rattle.port_model.specs.Port.{PortState}
 use Rattle.port_model.specs.declared.taken.Taken.TheVariants.{Nothing}
-use Rattle.serial_world.specs.Around.{AreNumbered, act_of, census_now, world_of}
-use Rattle.serial_world.specs.declared.around.Around.{Around}
+use Rattle.serial_world.specs.StepWorld.{AreNumbered, effect_of, living_now, world_of}
+use Rattle.serial_world.specs.declared.step_world.SerialWorld.{SerialWorld}
 use Rattle.serial_order.proofs.Made.{MakeNext, deeds_make}
 use Rattle.serial_order.proofs.Own.{later_none}
-use Rattle.serial_order.specs.Course.{AreBehaviours, Moved, Steps, is_transition}
-use Rattle.serial_order.specs.Global.{Global, after_acts, around, census_of, instance_at, with_instance}
-use Rattle.serial_instances.proofs.Census.{in_place}
+use Rattle.serial_order.specs.Execution.{AreBehaviours, Moved, Steps, is_transition}
+use Rattle.serial_order.specs.RunState.{RunState, after_effects, world_at, living_of, instance_at, with_instance}
+use Rattle.serial_instances.proofs.Living.{in_place}
 use Rattle.serial_instances.specs.Serial.{IsSerial, state_of}
 use Rattle.serial_instances.specs.declared.instances.Instances.{Instances}
 use Rattle.run_evaluation.specs.declared.identity.Identity.{Identity}
 use Rattle.run_evaluation.specs.declared.store.Store.{Store}
 use Rattle.sdl_interp.specs.Instance.{InstanceValue, IsAtRest, IsIdle, IsQuietAt, IsRunAs, Keeps, Moves, work_of}
 use Rattle.sdl_interp.specs.Stimulus.{WaitsAt}
-use Rattle.run_semantics.proofs.Acting.{runs_acts}
-use Rattle.run_semantics.proofs.Deeds.{after_deeds-acts}
+use Rattle.run_semantics.proofs.Acting.{runs_effects}
+use Rattle.run_semantics.proofs.Deeds.{after_deeds-effects}
 use Rattle.run_semantics.proofs.Outside.{outside_of-append}
-use Rattle.run_semantics.specs.Act.{Act, Arm, Create, Deed, Send, acts_of}
+use Rattle.run_semantics.specs.Effect.{Effect, Arm, Create, Deed, Send, effects_of}
 use Rattle.run_semantics.specs.Goes.{Goes, IsOneStep, MachineValue, drawn_as}
 use Rattle.run_semantics.specs.Leads.{IsQuiet}
-use Rattle.run_semantics.specs.Place.{Definition, Place}
-use Rattle.run_semantics.specs.Runs.{Runs, acts, hears, outside_of, still, turns, waits}
+use Rattle.run_semantics.specs.ControlPoint.{Definition, ControlPoint}
+use Rattle.run_semantics.specs.Runs.{Runs, effects, hears, outside_of, still, turns, waits}
 use Rattle.run_semantics.specs.World as world
 use Rattle.run_semantics.specs.World.{WorldValue}
-use Rattle.serial_run.specs.CourseLaws.{advances_one, stays}
+use Rattle.serial_run.specs.ExecutionLaws.{advances_one, stays}
 use Rattle.serial_run.proofs.Places.{set_there}
 use Rattle.serial_run.specs.Meanings.{Meaning, meaning_at, nothing_due, turn_by}
-use Rattle.serial_run.proofs.Refusals.{counts_is, refused_acts}
+use Rattle.serial_run.proofs.Refusals.{counts_is, refused_effects}
 use Rattle.serial_run.specs.Advances.{Advances, Reaches}
 use Rattle.run_transitions.specs.Machine.{place_of}
 use Rattle.run_transitions.specs.Work.{IsOf}
@@ -45,25 +45,25 @@ use Rattle.sdl_system.specs.declared.process.Process.{Process}
 
 -- ---- what a step did outside
 
-acts_so_far : (w : WorldValue) (performed done : List Act) → w.acts ≡ Some done
-    → (world.after_acts w performed).acts ≡ Some (done ++ performed)
-acts_so_far w [] done is = is ∙ ap Some (sym (append-nil done))
-acts_so_far w (act ∷ rest) done is =
-    acts_so_far (world.after_act w act) rest (done ++ act ∷ [])
-    (ap (λ (o : Option (List Act)). option_map (λ so_far. so_far ++ act ∷ []) o) is)
-    ∙ ap Some (append_assoc done (act ∷ []) rest)
+effects_so_far : (w : WorldValue) (performed done : List Effect) → w.effects ≡ Some done
+    → (world.after_effects w performed).effects ≡ Some (done ++ performed)
+effects_so_far w [] done is = is ∙ ap Some (sym (append-nil done))
+effects_so_far w (effect ∷ rest) done is =
+    effects_so_far (world.after_effect w effect) rest (done ++ effect ∷ [])
+    (ap (λ (o : Option (List Effect)). option_map (λ so_far. so_far ++ effect ∷ []) o) is)
+    ∙ ap Some (append_assoc done (effect ∷ []) rest)
 
 -- the acts of the world are those of the deeds
-acts_done : (g : Global) (v : WorldValue) (deeds : List Deed) (performed : List Act) → v ≡ world.after_deeds (around g) deeds
-    → v.acts ≡ Some performed → performed ≡ acts_of deeds
-acts_done g v deeds performed is known =
-    let all : v.acts ≡ Some ([] ++ acts_of deeds) =
-    ap (λ (w : WorldValue). w.acts) (is ∙ after_deeds-acts (around g) deeds)
-    ∙ acts_so_far (around g) (acts_of deeds) [] refl in
-    let same : Some performed ≡ Some (acts_of deeds) = sym known ∙ all in
+effects_done : (g : RunState) (v : WorldValue) (deeds : List Deed) (performed : List Effect) → v ≡ world.after_deeds (world_at g) deeds
+    → v.effects ≡ Some performed → performed ≡ effects_of deeds
+effects_done g v deeds performed is known =
+    let all : v.effects ≡ Some ([] ++ effects_of deeds) =
+    ap (λ (w : WorldValue). w.effects) (is ∙ after_deeds-effects (world_at g) deeds)
+    ∙ effects_so_far (world_at g) (effects_of deeds) [] refl in
+    let same : Some performed ≡ Some (effects_of deeds) = sym known ∙ all in
     cc
 
-numbered : (system : SystemValue) (given : ℕ) (performed : List Act) → MakeNext system given performed → AreNumbered given performed
+numbered : (system : SystemValue) (given : ℕ) (performed : List Effect) → MakeNext system given performed → AreNumbered given performed
 numbered system given [] make = tt
 numbered system given (Send target item ∷ rest) make = numbered system given rest make.1
 numbered system given (Arm fuse ∷ rest) make = numbered system given rest make.1
@@ -73,12 +73,12 @@ numbered system given (Create process number parent values ∷ rest) make =
 -- ---- a step
 
 -- the state after a step, before what it did outside is done
-abbrev pub stepped : Moment → Instances → ℕ → ℕ → ℕ → InstanceValue → Global
+abbrev pub stepped : Moment → Instances → ℕ → ℕ → ℕ → InstanceValue → RunState
 stepped m s place number bound new =
     record (state_of m s) { instances = set s.instances.items place new; turn = number; bound = bound }
 
 -- the same deeds, of another shape
-abbrev reshaped : {A B : List Deed → Type 0} {d : Definition} {from to : Place} {m n : MachineValue}
+abbrev reshaped : {A B : List Deed → Type 0} {d : Definition} {from to : ControlPoint} {m n : MachineValue}
     {w v : WorldValue} → (goes : Goes A d from m w to n v) → B goes.deeds → Goes B d from m w to n v
 reshaped goes shape = record {
   deeds = goes.deeds;
@@ -104,19 +104,19 @@ was_transition true left before counted some spent = refl
 was_transition false left before counted some spent = absurd (omega (arith, counted, some, spent))
 
 -- The instance at a place made a step in its turn.
-pub record Made (awake : List ℕ) (m : Moment) (s : Instances) (place number bound : ℕ) (old new : InstanceValue)
-    (v : WorldValue) (performed : List Act) : Type 0 where
-  pub serial : IsSerial awake s
-  pub time : IsTime awake m s.census.given number bound
+pub record Made (ready : List ℕ) (m : Moment) (s : Instances) (place number bound : ℕ) (old new : InstanceValue)
+    (v : WorldValue) (performed : List Effect) : Type 0 where
+  pub serial : IsSerial ready s
+  pub time : IsTime ready m s.living.given number bound
   pub is_number : place + 1 ≡ number
   pub is_there : slice_get s.instances.items place ≡ Some old
   pub lives : old.position ≢ at.Ended
   pub keeps : Keeps old new
   pub undrawn : new.owner.drawn ≡ []
-  pub known : v.acts ≡ Some performed
+  pub known : v.effects ≡ Some performed
 
-module _ (awake : List ℕ) (m n : Moment) (s t : Instances) (place number bound : ℕ) (old new : InstanceValue)
-    (v : WorldValue) (performed : List Act) (made : Made awake m s place number bound old new v performed) (last : ℕ)
+module _ (ready : List ℕ) (m n : Moment) (s t : Instances) (place number bound : ℕ) (old new : InstanceValue)
+    (v : WorldValue) (performed : List Effect) (made : Made ready m s place number bound old new v performed) (last : ℕ)
     (ps : List Behaviour) (behaviours : AreBehaviours s.system.now ps) where
   found : Meaning ps old
   found = meaning_at ps s place old behaviours made.serial made.is_there
@@ -125,7 +125,7 @@ module _ (awake : List ℕ) (m n : Moment) (s t : Instances) (place number bound
   d = record { system = old.system; behaviour = found.p }
 
   abbrev Went : Bool → Type 0
-  Went counts = Goes (IsOneStep counts) d (place_of old.position) (work_of old) (around (state_of m s))
+  Went counts = Goes (IsOneStep counts) d (place_of old.position) (work_of old) (world_at (state_of m s))
       (place_of new.position) (work_of new) v
 
   number_is : number ≡ suc place
@@ -135,7 +135,7 @@ module _ (awake : List ℕ) (m n : Moment) (s t : Instances) (place number bound
   pid_is = (in_place 0 s.instances.items place old made.serial.places made.is_there).0 ∙ omega arith
 
   goes_on : (counts : Bool) (goes : Went counts)
-      → state_of n t ≡ after_acts (stepped m s place number bound new) (acts_of goes.deeds)
+      → state_of n t ≡ after_effects (stepped m s place number bound new) (effects_of goes.deeds)
       → n.left + cond counts 1 0 ≡ m.left → t.system ≡ s.system → Advances ps last m s n t
   goes_on counts goes now counted system =
       let counted_is = counts_is counts goes.deeds goes.shape in
@@ -149,18 +149,18 @@ module _ (awake : List ℕ) (m n : Moment) (s t : Instances) (place number bound
         is_who = refl;
         lives = made.lives;
         meant = found.meant;
-        turn = turn_by ps awake m s old.who.pid bound behaviours made.serial
-            (subst (λ k. IsTurnBy awake m s.census.given k bound) (number_is ∙ sym pid_is) made.time.turn);
+        turn = turn_by ps ready m s old.who.pid bound behaviours made.serial
+            (subst (λ k. IsTurnBy ready m s.living.given k bound) (number_is ∙ sym pid_is) made.time.turn);
         nothing_due = nothing_due m s made.time.nothing_due;
         keeps = made.keeps;
         undrawn = made.undrawn;
         goes = reshaped goes (subst (λ b. IsOneStep b goes.deeds) (sym counted_is) goes.shape);
         deeds_are = refl;
         now = now
-            ∙ ap (λ k. after_acts (stepped m s place k bound new) (acts_of goes.deeds)) number_is
-            ∙ ap (λ k. after_acts
+            ∙ ap (λ k. after_effects (stepped m s place k bound new) (effects_of goes.deeds)) number_is
+            ∙ ap (λ k. after_effects
             (record (state_of m s) { instances = with_instance s.instances.items k new; turn = k; bound = bound })
-            (acts_of goes.deeds)) (sym pid_is);
+            (effects_of goes.deeds)) (sym pid_is);
       } in
       let transitions : n.left + cond (is_transition goes.deeds) 1 0 ≡ m.left =
       subst (λ b. n.left + cond b 1 0 ≡ m.left) (sym counted_is) counted in
@@ -170,48 +170,48 @@ module _ (awake : List ℕ) (m n : Moment) (s t : Instances) (place number bound
       system
 
   -- a transition: what it did outside is done
-  counting : Moves true old (around (state_of m s)) new v
+  counting : Moves true old (world_at (state_of m s)) new v
       → (AreNumbered (length s.instances.items) performed
-      → state_of n t ≡ after_acts (stepped m s place number bound new) performed)
+      → state_of n t ≡ after_effects (stepped m s place number bound new) performed)
       → n.left + 1 ≡ m.left → t.system ≡ s.system → Advances ps last m s n t
   counting moves now counted system =
       let goes = moves d found.meant.is_run in
-      let acts_are = acts_done (state_of m s) v goes.deeds performed goes.world made.known in
-      let make = deeds_make old.who (around (state_of m s)) (census_of s.system.now s.instances.items) old.store.time
-      goes.deeds refl (runs_acts d old.who (place_of old.position) old.store old.owner.state goes.runs)
+      let effects_are = effects_done (state_of m s) v goes.deeds performed goes.world made.known in
+      let make = deeds_make old.who (world_at (state_of m s)) (living_of s.system.now s.instances.items) old.store.time
+      goes.deeds refl (runs_effects d old.who (place_of old.position) old.store old.owner.state goes.runs)
       goes.are_true in
-      let numbers = numbered s.system.now (length s.instances.items) (acts_of goes.deeds) make in
+      let numbers = numbered s.system.now (length s.instances.items) (effects_of goes.deeds) make in
       goes_on true goes
-      (now (subst (AreNumbered (length s.instances.items)) (sym acts_are) numbers)
-      ∙ ap (after_acts (stepped m s place number bound new)) acts_are)
+      (now (subst (AreNumbered (length s.instances.items)) (sym effects_are) numbers)
+      ∙ ap (after_effects (stepped m s place number bound new)) effects_are)
       counted system
 
   -- what fails the instance in a state, which does nothing outside
-  failing : Moves false old (around (state_of m s)) new v
+  failing : Moves false old (world_at (state_of m s)) new v
       → state_of n t ≡ stepped m s place number bound new → n.left ≡ m.left → t.system ≡ s.system → Advances ps last m s n t
   failing moves now counted system =
       let goes = moves d found.meant.is_run in
-      let none = refused_acts d old.who (place_of old.position) (place_of new.position) old.store new.store
+      let none = refused_effects d old.who (place_of old.position) (place_of new.position) old.store new.store
       old.owner.state new.owner.state goes.deeds goes.history goes.runs goes.shape in
-      goes_on false goes (now ∙ ap (after_acts (stepped m s place number bound new)) (sym none))
+      goes_on false goes (now ∙ ap (after_effects (stepped m s place number bound new)) (sym none))
       (omega (arith, counted)) system
 
-pub step_counts : (awake : List ℕ) (m n : Moment) (s t : Instances) (place number bound : ℕ) (old new : InstanceValue)
-    (v : WorldValue) (performed : List Act)
-    → Made awake m s place number bound old new v performed → Moves true old (around (state_of m s)) new v
+pub step_counts : (ready : List ℕ) (m n : Moment) (s t : Instances) (place number bound : ℕ) (old new : InstanceValue)
+    (v : WorldValue) (performed : List Effect)
+    → Made ready m s place number bound old new v performed → Moves true old (world_at (state_of m s)) new v
     → (AreNumbered (length s.instances.items) performed
-    → state_of n t ≡ after_acts (stepped m s place number bound new) performed)
+    → state_of n t ≡ after_effects (stepped m s place number bound new) performed)
     → n.left + 1 ≡ m.left → t.system ≡ s.system → (last : ℕ) → Reaches last m s n t
-step_counts awake m n s t place number bound old new v performed made moves now counted system = λ last ps behaviours.
-    counting awake m n s t place number bound old new v performed made last ps behaviours moves now counted system
+step_counts ready m n s t place number bound old new v performed made moves now counted system = λ last ps behaviours.
+    counting ready m n s t place number bound old new v performed made last ps behaviours moves now counted system
 
-pub step_fails : (awake : List ℕ) (m n : Moment) (s t : Instances) (place number bound : ℕ) (old new : InstanceValue)
-    (v : WorldValue) (performed : List Act)
-    → Made awake m s place number bound old new v performed → Moves false old (around (state_of m s)) new v
+pub step_fails : (ready : List ℕ) (m n : Moment) (s t : Instances) (place number bound : ℕ) (old new : InstanceValue)
+    (v : WorldValue) (performed : List Effect)
+    → Made ready m s place number bound old new v performed → Moves false old (world_at (state_of m s)) new v
     → state_of n t ≡ stepped m s place number bound new → n.left ≡ m.left → t.system ≡ s.system
     → (last : ℕ) → Reaches last m s n t
-step_fails awake m n s t place number bound old new v performed made moves now counted system = λ last ps behaviours.
-    failing awake m n s t place number bound old new v performed made last ps behaviours moves now counted system
+step_fails ready m n s t place number bound old new v performed made moves now counted system = λ last ps behaviours.
+    failing ready m n s t place number bound old new v performed made last ps behaviours moves now counted system
 
 -- ---- waiting
 
@@ -233,11 +233,11 @@ heard_outside (Expire key arm due at) outside none = cc
 heard_outside event outside none = outside
 
 -- where nothing is done and nothing comes the port stays as it is
-port_stays : {d : Definition} {who : Identity} {from : Place} {s : Store} {q : PortState} {deeds : List Deed}
-    {history : List PortEvent} {to : Place} {t : Store} {r : PortState} → Runs d who from s q deeds history to t r
+port_stays : {d : Definition} {who : Identity} {from : ControlPoint} {s : Store} {q : PortState} {deeds : List Deed}
+    {history : List PortEvent} {to : ControlPoint} {t : Store} {r : PortState} → Runs d who from s q deeds history to t r
     → deeds ≡ [] → outside_of history ≡ [] → r ≡ q
 port_stays still none quiet = refl
-port_stays (acts {deeds = deeds} run deed to t r leads legal) none quiet = absurd (snoc_none deeds deed none)
+port_stays (effects {deeds = deeds} run deed to t r leads legal) none quiet = absurd (snoc_none deeds deed none)
 port_stays (turns run to t step) none quiet = port_stays run none quiet
 port_stays (hears {history = history} run heard r outside step) none quiet =
     absurd (heard_outside heard outside
@@ -260,17 +260,17 @@ waited d (at.In state) m n w v waiting one other =
     other ∙ (λ i. single (waiting.pid i) (port i) (waiting.armed i)) ∙ sym one in
     λ i. record { who = waiting.who i; store = waiting.store i; owner = owner i; events = waiting.recorded i }
 
-pub step_idles : {awake : List ℕ} (m n : Moment) (s t : Instances) (place : ℕ) (old new : InstanceValue)
-    (v : WorldValue) → IsSerial awake s
+pub step_idles : {ready : List ℕ} (m n : Moment) (s t : Instances) (place : ℕ) (old new : InstanceValue)
+    (v : WorldValue) → IsSerial ready s
     → slice_get s.instances.items place ≡ Some old → Keeps old new → IsAlone old.owner → IsAlone new.owner
-    → IsIdle old (around (state_of m s)) new v
+    → IsIdle old (world_at (state_of m s)) new v
     → state_of n t ≡ record (state_of m s) { instances = set s.instances.items place new } → n.left ≡ m.left
     → t.system ≡ s.system → (last : ℕ) → Reaches last m s n t
 step_idles m n s t place old new v serial there keeps one other idle now left system = λ last ps behaviours.
     let found = meaning_at ps s place old behaviours serial there in
     let work : work_of new ≡ work_of old =
     waited (record { system = old.system; behaviour = found.p }) old.position (work_of old) (work_of new)
-    (around (state_of m s)) v (idle.1 (record { system = old.system; behaviour = found.p }) found.meant.is_run) one
+    (world_at (state_of m s)) v (idle.1 (record { system = old.system; behaviour = found.p }) found.meant.is_run) one
     other in
     let same : new ≡ old = λ i. record {
       system = keeps.system i;
@@ -310,15 +310,15 @@ pub ended_rests : (i : InstanceValue) → i.position ≡ at.Ended → IsAtRest i
 ended_rests i ended = λ d is_run. subst (λ (position : Position). IsQuietAt d position i) (sym ended) tt
 
 -- what the instance sees is the whole, as it is now
-pub around_is : {awake : List ℕ} (m : Moment) (s : Instances) (w : Around) → IsSerial awake s
-    → w.system.now ≡ s.system.now → w.clock ≡ m.clock → w.begun.now ≡ s.census → w.changed ≡ None
-    → w.acts.items ≡ [] → world_of w ≡ around (state_of m s)
-around_is m s w serial system clock begun changed performed =
-    let census = begun ∙ serial.census in
+pub world_is : {ready : List ℕ} (m : Moment) (s : Instances) (w : SerialWorld) → IsSerial ready s
+    → w.system.now ≡ s.system.now → w.clock ≡ m.clock → w.begun.now ≡ s.living → w.changed ≡ None
+    → w.effects.items ≡ [] → world_of w ≡ world_at (state_of m s)
+world_is m s w serial system clock begun changed performed =
+    let living = begun ∙ serial.living in
     λ i. record {
       system = system i;
       clock = Some (clock i);
-      census = Some (census_now (changed i) (census i));
-      acts = Some (map act_of (performed i));
+      living = Some (living_now (changed i) (living i));
+      effects = Some (map effect_of (performed i));
       sent = None;
     }

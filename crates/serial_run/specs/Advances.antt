@@ -1,6 +1,6 @@
 -- How far a serial run goes.
 use Rattle.std.specs.Prelude.{◌≡◌, ◌+◌, ℕ, List}
-use Rattle.serial_order.specs.Course.{AreBehaviours, Course, EndsInTransition, Happening, transitions_of}
+use Rattle.serial_order.specs.Execution.{AreBehaviours, Execution, EndsInTransition, Happening, transitions_of}
 use Rattle.serial_instances.specs.Serial.{state_of}
 use Rattle.serial_instances.specs.declared.instances.Instances.{Instances}
 use Rattle.serial_sweeps.specs.Sweeps.{Moment}
@@ -11,7 +11,7 @@ use Rattle.sdl_system.specs.Behaviour.{Behaviour}
 pub record Advances (ps : List Behaviour) (last : ℕ) (m : Moment) (a : Instances) (n : Moment) (b : Instances) : Type 0
   where
     pub happenings : List Happening
-    pub course : Course ps last (state_of m a) happenings (state_of n b)
+    pub execution : Execution ps last (state_of m a) happenings (state_of n b)
     pub counted : n.left + transitions_of happenings ≡ m.left
     pub in_transition : n.left ≡ 0 → EndsInTransition happenings
     pub system : b.system ≡ a.system

@@ -1,4 +1,4 @@
 pub mod Advances
-pub mod CourseLaws
+pub mod ExecutionLaws
 pub mod Meanings
 pub mod Ticks

@@ -4,8 +4,8 @@ use Rattle.std.specs.Prelude.{Contains}
 use Rattle.std.specs.List.{AllZip}
 use Rattle.std.proofs.lemmas.List.Elements.{All-get_or}
 use Rattle.std.proofs.lemmas.Option.{get_or_from_slice_get, slice_get_within}
-use Rattle.serial_order.specs.Course.{AreBehaviours, IsMeant, IsNoLineBefore, IsNothingDue, IsTurn, RestBetween, Rests, begins_anew, goes_on, next_line}
-use Rattle.serial_order.specs.Global.{instance_at}
+use Rattle.serial_order.specs.Execution.{AreBehaviours, IsMeant, IsNoLineBefore, IsNothingDue, IsTurn, RestBetween, Rests, begins_anew, goes_on, next_line}
+use Rattle.serial_order.specs.RunState.{instance_at}
 use Rattle.serial_instances.specs.Serial.{IsOfSystem, IsSerial, state_of}
 use Rattle.serial_instances.specs.declared.instances.Instances.{Instances}
 use Rattle.sdl_interp.specs.Instance.{InstanceValue, IsAtRest}
@@ -65,8 +65,8 @@ meaning ps system i behaviours member =
       };
     }
 
-pub meaning_at : (ps : List Behaviour) {awake : List ℕ} (a : Instances) (place : ℕ) (i : InstanceValue) → AreBehaviours a.system.now ps
-    → IsSerial awake a → slice_get a.instances.items place ≡ Some i → Meaning ps i
+pub meaning_at : (ps : List Behaviour) {ready : List ℕ} (a : Instances) (place : ℕ) (i : InstanceValue) → AreBehaviours a.system.now ps
+    → IsSerial ready a → slice_get a.instances.items place ≡ Some i → Meaning ps i
 meaning_at ps a place i behaviours serial there =
     meaning ps a.system.now i behaviours
     (all_at (IsOfSystem a.system.now) a.instances.items place i serial.members there)
@@ -79,13 +79,13 @@ rests_by ps i known rest = record {
   quiet = rest (record { system = i.system; behaviour = known.p }) known.meant.is_run;
 }
 
-pub meaning_of : (ps : List Behaviour) {awake : List ℕ} (a : Instances) (number : ℕ) (i : InstanceValue) → AreBehaviours a.system.now ps
-    → IsSerial awake a → instance_at a.instances.items number ≡ Some i → Meaning ps i
+pub meaning_of : (ps : List Behaviour) {ready : List ℕ} (a : Instances) (number : ℕ) (i : InstanceValue) → AreBehaviours a.system.now ps
+    → IsSerial ready a → instance_at a.instances.items number ≡ Some i → Meaning ps i
 meaning_of ps a zero i behaviours serial there = let wrong : ⊥ = cc in absurd wrong
 meaning_of ps a (suc place) i behaviours serial there = meaning_at ps a place i behaviours serial there
 
 -- where all are at rest all rest
-pub all_rest : (ps : List Behaviour) {awake : List ℕ} (a : Instances) → AreBehaviours a.system.now ps → IsSerial awake a
+pub all_rest : (ps : List Behaviour) {ready : List ℕ} (a : Instances) → AreBehaviours a.system.now ps → IsSerial ready a
     → All IsAtRest a.instances.items → All (Rests ps) a.instances.items
 all_rest ps a behaviours serial all = λ place d below.
     let found = there_is a.instances.items place below in
@@ -108,29 +108,29 @@ next_same (line ∷ later) = refl
 
 -- ---- turns
 
-pub rest_between : (ps : List Behaviour) (awake : List ℕ) (a : Instances) (behind before : ℕ)
-    → AreBehaviours a.system.now ps → IsSerial awake a → NoneBetween awake behind before
+pub rest_between : (ps : List Behaviour) (ready : List ℕ) (a : Instances) (behind before : ℕ)
+    → AreBehaviours a.system.now ps → IsSerial ready a → NoneBetween ready behind before
     → RestBetween ps a.instances.items behind before
-rest_between ps awake a behind before behaviours serial none = λ number i above below there.
+rest_between ps ready a behind before behaviours serial none = λ number i above below there.
     elim (serial.marked.others number i there) [
       | inl marked ↦ absurd (none number marked above below)
       | inr rest ↦ rests_by ps i (meaning_of ps a number i behaviours serial there) rest
     ]
 
-pub turn_by : (ps : List Behaviour) (awake : List ℕ) (m : Moment) (a : Instances) (number bound : ℕ)
-    → AreBehaviours a.system.now ps → IsSerial awake a → IsTurnBy awake m a.census.given number bound
+pub turn_by : (ps : List Behaviour) (ready : List ℕ) (m : Moment) (a : Instances) (number bound : ℕ)
+    → AreBehaviours a.system.now ps → IsSerial ready a → IsTurnBy ready m a.living.given number bound
     → IsTurn ps (state_of m a) number bound
-turn_by ps awake m a number bound behaviours serial (sweeps.goes_on later within none) =
-    goes_on later within (rest_between ps awake a m.turn number behaviours serial none)
-turn_by ps awake m a number bound behaviours serial (sweeps.begins_anew none first) =
-    subst (IsTurn ps (state_of m a) number) (sym (ap (λ census. census.given) serial.census))
-    (begins_anew (rest_between ps awake a m.turn (m.bound + 1) behaviours serial none)
-    (rest_between ps awake a 0 number behaviours serial first))
+turn_by ps ready m a number bound behaviours serial (sweeps.goes_on later within none) =
+    goes_on later within (rest_between ps ready a m.turn number behaviours serial none)
+turn_by ps ready m a number bound behaviours serial (sweeps.begins_anew none first) =
+    subst (IsTurn ps (state_of m a) number) (sym (ap (λ living. living.given) serial.living))
+    (begins_anew (rest_between ps ready a m.turn (m.bound + 1) behaviours serial none)
+    (rest_between ps ready a 0 number behaviours serial first))
 
 -- where nobody may have something to do all are at rest
-pub none_awake : (awake : List ℕ) (a : Instances) → IsSerial awake a → ((n : ℕ) → Contains awake n → ⊥)
+pub none_ready : (ready : List ℕ) (a : Instances) → IsSerial ready a → ((n : ℕ) → Contains ready n → ⊥)
     → All IsAtRest a.instances.items
-none_awake awake a serial none = λ place d below.
+none_ready ready a serial none = λ place d below.
     let found = there_is a.instances.items place below in
     subst IsAtRest (sym (get_or_from_slice_get a.instances.items place found.0 d found.1))
     (elim (serial.marked.others (suc place) found.0 found.1) [

@@ -1,7 +1,7 @@
 //! A serial run.
 
 ghost use Rattle.std.specs.Prelude.{◌≡◌, IfErr, IfOk, List};
-ghost use Rattle.serial_order.specs.Course.{AreBehaviours};
+ghost use Rattle.serial_order.specs.Execution.{AreBehaviours};
 ghost use Rattle.serial_order.specs.Report.{IsSerialReport};
 ghost use Rattle.sdl_system.specs.Behaviour.{Behaviour};
 
@@ -11,7 +11,7 @@ use run_record::Report;
 use sdl_script::Script;
 use sdl_system::System;
 use serial_instances::{Instances, RunError};
-use serial_sweeps::{Agents, Board, Sweeps};
+use serial_sweeps::{Agenda, InstanceSet, Scheduler};
 use std::alloc::Global;
 use std::collections::VecDeque;
 
@@ -27,18 +27,18 @@ pub fn run_serial(
         → IsSerialReport ps system.now script.now.lines.items limit report) }
     ensures err { IfErr result (λ why. why ≡ RunError.Memory) }
 {
-    let mut board = Board::new(alloc);
-    let instances = Instances::begin(alloc, &mut board, system)?;
-    let mut agents = Stepping {
+    let mut agenda = Agenda::new(alloc);
+    let instances = Instances::begin(alloc, &mut agenda, system)?;
+    let mut stepping = Stepping {
         instances,
         spare: VecDeque::new(alloc),
     };
-    let mut sweeps = Sweeps::new(board, script.lines.as_slice(), agents.given(), limit);
+    let mut sweeps = Scheduler::new(agenda, script.lines.as_slice(), stepping.given(), limit);
     let last = script.end();
-    let whole = sweeps.run(alloc, &mut agents, last)?;
+    let whole = sweeps.run(alloc, &mut stepping, last)?;
     let clock = clock_of(&sweeps);
     let end = if whole { last } else { clock };
-    let records = agents.instances.close(alloc, whole)?;
+    let records = stepping.instances.close(alloc, whole)?;
     Ok(Report {
         records,
         end,
@@ -47,8 +47,8 @@ pub fn run_serial(
 }
 
 /// The time at which a run stands.
-fn clock_of(sweeps: &Sweeps<'_>) -> Ticks
-    ensures { result ≡ sweeps.now.board.clock }
+fn clock_of(sweeps: &Scheduler<'_>) -> Ticks
+    ensures { result ≡ sweeps.now.agenda.clock }
 {
-    sweeps.board.clock
+    sweeps.agenda.clock
 }

@@ -3,14 +3,14 @@
 ghost use Rattle.std.specs.Prelude.{◌≡◌, ◌⊎◌, ◌+◌, ◌<◌, ◌≤◌, ℕ, Contains, IfOk, OnOk, length};
 ghost use Rattle.serial_instances.specs.Serial.{IsSerial};
 ghost use Rattle.serial_run.specs.Advances.{Reaches};
-ghost use Rattle.serial_sweeps.specs.Sweeps.{IsNoFuseBefore, IsTime, Moment, after, at_board};
-ghost use Rattle.serial_sweeps.specs.declared.agents.Made.TheVariants.{Transition};
+ghost use Rattle.serial_sweeps.specs.Sweeps.{IsNoFuseBefore, IsTime, Moment, after, at_agenda};
+ghost use Rattle.serial_sweeps.specs.declared.instance_set.Made.TheVariants.{Transition};
 
 use run_transitions::Position;
 use sdl_interp::Stepped;
 use serial_instances::{Instances, RunError};
-use serial_sweeps::{Board, Made};
-use serial_world::{Act, Acts, Around};
+use serial_sweeps::{Agenda, Made};
+use serial_world::{Effect, Effects, SerialWorld};
 use std::alloc::Global;
 use std::collections::VecDeque;
 
@@ -19,52 +19,56 @@ use std::collections::VecDeque;
 pub fn step(
     instances: &mut Instances<'_>,
     alloc: Global,
-    board: &mut Board,
+    agenda: &mut Agenda,
     number: u32,
-    spare: &mut VecDeque<Act>,
+    spare: &mut VecDeque<Effect>,
 ) -> Result<Made, RunError>
-    requires fits { IsSerial board.old.awake instances.old }
-    requires awake { Contains board.old.awake number }
-    ensures fits { OnOk result (IsSerial board.new.awake instances.new) }
-    ensures clock { board.new.clock ≡ board.old.clock }
-    ensures fuses { (until : ℕ) → until ≤ board.old.clock + 1 → IsNoFuseBefore until board.old.fuses
-        → OnOk result (IsNoFuseBefore until board.new.fuses) }
-    ensures fewer { IfOk result (λ made. (made ≡ Transition) ⊎ (length board.new.awake < length board.old.awake)) }
+    requires fits { IsSerial agenda.old.ready instances.old }
+    requires ready { Contains agenda.old.ready number }
+    ensures fits { OnOk result (IsSerial agenda.new.ready instances.new) }
+    ensures clock { agenda.new.clock ≡ agenda.old.clock }
+    ensures fuses { (until : ℕ) → until ≤ agenda.old.clock + 1 → IsNoFuseBefore until agenda.old.fuses
+        → OnOk result (IsNoFuseBefore until agenda.new.fuses) }
+    ensures fewer { IfOk result (λ made. (made ≡ Transition) ⊎ (length agenda.new.ready < length agenda.old.ready)) }
     ensures runs { (last bound : ℕ) (m : Moment)
-        → IsTime board.old.awake (at_board m board.old) instances.old.census.given number bound
-        → IfOk result (λ made. Reaches last (at_board m board.old) instances.old
-        (after made number bound (at_board m board.new)) instances.new) }
+        → IsTime agenda.old.ready (at_agenda m agenda.old) instances.old.living.given number bound
+        → IfOk result (λ made. Reaches last (at_agenda m agenda.old) instances.old
+        (after made number bound (at_agenda m agenda.new)) instances.new) }
 {
     let Some(place) = instances.place_of(number) else {
         return Ok(Made::Nothing);
     };
     if let Position::Ended = instances.instances[place].position() {
-        board.awake.rest(number);
+        agenda.ready.rest(number);
         return Ok(Made::Nothing);
     }
     instances.instances[place].draws_nothing();
-    let acts = Acts::over(spare);
-    let mut around = Around::new(instances.system, board.clock, &instances.census, acts);
-    let stepped = instances.instances[place].step(alloc, &mut around);
+    let effects = Effects::over(spare);
+    let mut world = SerialWorld::new(instances.system, agenda.clock, &instances.living, effects);
+    let stepped = instances.instances[place].step(alloc, &mut world);
     instances.instances[place].draws_nothing();
-    let Around { acts, changed, .. } = around;
+    let SerialWorld {
+        effects,
+        changed,
+        ..
+    } = world;
     drop(changed);
     match stepped {
         Stepped::Idle => {
-            board.awake.rest(number);
+            agenda.ready.rest(number);
             Ok(Made::Nothing)
         }
         Stepped::Moved => {
-            instances.perform_all(alloc, board, acts)?;
+            instances.perform_all(alloc, agenda, effects)?;
             Ok(Made::Transition)
         }
         Stepped::Ended { counts } => {
-            board.awake.rest(number);
+            agenda.ready.rest(number);
             instances.leave(place);
             if !counts {
                 return Ok(Made::Failure);
             }
-            instances.perform_all(alloc, board, acts)?;
+            instances.perform_all(alloc, agenda, effects)?;
             Ok(Made::Transition)
         }
     }

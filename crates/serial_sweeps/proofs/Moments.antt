@@ -5,10 +5,10 @@ use Rattle.port_inbox.specs.declared.entry.Fuse.{Fuse}
 use Rattle.port_model.specs.Timers.{IsLeast, earlier}
 use Rattle.sdl_script.specs.declared.script.ScriptLine.{ScriptLine}
 use Rattle.serial_sweeps.specs.Sweeps.{IsNextTime, IsNoFuseBefore, IsNoLineBefore, IsNothingDue, KeepsTime, moment_of, next_line, until_of}
-use Rattle.serial_sweeps.specs.declared.sweeps.Sweeps.{Sweeps}
+use Rattle.serial_sweeps.specs.declared.scheduler.Scheduler.{Scheduler}
 
 -- what stays from one to the next
-pub keeps_time_on : (s m t : Sweeps) → KeepsTime s m → KeepsTime m t → KeepsTime s t
+pub keeps_time_on : (s m t : Scheduler) → KeepsTime s m → KeepsTime m t → KeepsTime s t
 keeps_time_on s m t a b = record {
   script = b.script ∙ a.script;
   clock = b.clock ∙ a.clock;
@@ -65,16 +65,16 @@ first_gone (line ∷ later) is = let no : ⊥ = cc in absurd no
 less_left : (all time until later : ℕ) → until ≤ time → time < all → later ≡ time + 1 → all - later < all - until
 less_left all time until later before within is = omega arith
 
-pub clock_on : (all last time : ℕ) (s t u : Sweeps) → KeepsTime s t → IsNothingDue (moment_of t)
-    → IsNextTime last (moment_of t) time → u.board.clock ≡ time → u.begun ≡ true → time < all
-    → all - until_of u.begun u.board.clock < all - until_of s.begun s.board.clock
+pub clock_on : (all last time : ℕ) (s t u : Scheduler) → KeepsTime s t → IsNothingDue (moment_of t)
+    → IsNextTime last (moment_of t) time → u.agenda.clock ≡ time → u.begun ≡ true → time < all
+    → all - until_of u.begun u.agenda.clock < all - until_of s.begun s.agenda.clock
 clock_on all last time s t u keeps due next clock begun within =
-    let same : until_of t.begun t.board.clock ≡ until_of s.begun s.board.clock =
-    ap (λ b. until_of b t.board.clock) keeps.begun ∙ ap (until_of s.begun) keeps.clock in
-    let before : until_of t.begun t.board.clock ≤ time =
-    until_next (until_of t.begun t.board.clock) t.board.fuses t.script.now next.due time due.fuses due.lines next.least
+    let same : until_of t.begun t.agenda.clock ≡ until_of s.begun s.agenda.clock =
+    ap (λ b. until_of b t.agenda.clock) keeps.begun ∙ ap (until_of s.begun) keeps.clock in
+    let before : until_of t.begun t.agenda.clock ≤ time =
+    until_next (until_of t.begun t.agenda.clock) t.agenda.fuses t.script.now next.due time due.fuses due.lines next.least
     next.is_next in
-    let later : until_of u.begun u.board.clock ≡ time + 1 =
-    until_is u.begun u.board.clock begun ∙ ap (λ n. n + 1) clock in
-    less_left all time (until_of s.begun s.board.clock) (until_of u.begun u.board.clock) (omega (arith, same, before))
+    let later : until_of u.begun u.agenda.clock ≡ time + 1 =
+    until_is u.begun u.agenda.clock begun ∙ ap (λ n. n + 1) clock in
+    less_left all time (until_of s.begun s.agenda.clock) (until_of u.begun u.agenda.clock) (omega (arith, same, before))
     within later

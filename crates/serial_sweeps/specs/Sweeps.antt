@@ -3,10 +3,10 @@ use Rattle.std.specs.Prelude.{◌≡◌, ◌+◌, ◌-◌, ◌<◌, ◌≤◌, �
 use Rattle.port_inbox.specs.declared.entry.Fuse.{Fuse}
 use Rattle.port_model.specs.Timers.{IsLeast, earlier}
 use Rattle.sdl_script.specs.declared.script.ScriptLine.{ScriptLine}
-use Rattle.serial_sweeps.specs.declared.agents.Made.{Made}
-use Rattle.serial_sweeps.specs.declared.agents.Made.TheVariants as made
-use Rattle.serial_sweeps.specs.declared.board.Board.{Board}
-use Rattle.serial_sweeps.specs.declared.sweeps.Sweeps.{Sweeps}
+use Rattle.serial_sweeps.specs.declared.instance_set.Made.{Made}
+use Rattle.serial_sweeps.specs.declared.instance_set.Made.TheVariants as made
+use Rattle.serial_sweeps.specs.declared.agenda.Agenda.{Agenda}
+use Rattle.serial_sweeps.specs.declared.scheduler.Scheduler.{Scheduler}
 
 -- The clock, in ticks, and whether all have rested for the first time. The sweep that goes on has the instances up to
 -- the number `bound`, and goes on behind the number `turn`. So many transitions may still be made. The fuses that wait
@@ -29,17 +29,17 @@ abbrev pub until : Moment → ℕ
 until m = until_of m.begun m.clock
 
 -- a moment, with the clock and the fuses of a board
-abbrev pub at_board : Moment → Board → Moment
-at_board m b = record m { clock = b.clock; fuses = b.fuses }
+abbrev pub at_agenda : Moment → Agenda → Moment
+at_agenda m b = record m { clock = b.clock; fuses = b.fuses }
 
-abbrev pub moment_of : Sweeps → Moment
+abbrev pub moment_of : Scheduler → Moment
 moment_of s = record {
-  clock = s.board.clock;
+  clock = s.agenda.clock;
   begun = s.begun;
   turn = s.turn;
   bound = s.bound;
   left = s.left;
-  fuses = s.board.fuses;
+  fuses = s.agenda.fuses;
   script = s.script.now;
 }
 
@@ -62,25 +62,25 @@ pub record IsNothingDue (m : Moment) : Type 0 where
   pub lines : IsNoLineBefore (until m) m.script
 
 -- steps leave the script and the clock as they are
-pub record KeepsTime (old new : Sweeps) : Type 0 where
+pub record KeepsTime (old new : Scheduler) : Type 0 where
   pub script : new.script ≡ old.script
-  pub clock : new.board.clock ≡ old.board.clock
+  pub clock : new.agenda.clock ≡ old.agenda.clock
   pub begun : new.begun ≡ old.begun
 
 -- ---- whose turn it is
 
 -- nobody with a number between these two may have something to do
 abbrev pub NoneBetween : List ℕ → ℕ → ℕ → Type 0
-NoneBetween awake after before = (number : ℕ) → Contains awake number → after < number → number < before → ⊥
+NoneBetween ready after before = (number : ℕ) → Contains ready number → after < number → number < before → ⊥
 
 -- By who may have something to do: the next one in this sweep, or the first in a new one, which has all whose numbers
 -- were given.
-pub data IsTurnBy (awake : List ℕ) (m : Moment) (given number : ℕ) : ℕ → Type 0 where
-  goes_on : m.turn < number → number ≤ m.bound → NoneBetween awake m.turn number → IsTurnBy awake m given number m.bound
-  begins_anew : NoneBetween awake m.turn (m.bound + 1) → NoneBetween awake 0 number → IsTurnBy awake m given number given
+pub data IsTurnBy (ready : List ℕ) (m : Moment) (given number : ℕ) : ℕ → Type 0 where
+  goes_on : m.turn < number → number ≤ m.bound → NoneBetween ready m.turn number → IsTurnBy ready m given number m.bound
+  begins_anew : NoneBetween ready m.turn (m.bound + 1) → NoneBetween ready 0 number → IsTurnBy ready m given number given
 
 pub record IsNext (marked : List ℕ) (m : Moment) (given number bound : ℕ) : Type 0 where
-  pub awake : Contains marked number
+  pub ready : Contains marked number
   pub turn : IsTurnBy marked m given number bound
 
 -- a step may be made now, by the one with this number: nothing is due, and a transition is left

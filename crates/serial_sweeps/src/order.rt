@@ -3,8 +3,8 @@
 ghost use Rattle.std.specs.Prelude.{◌≡◌, ◌<◌, ◌≤◌, ◌+◌, ◌⊎◌, ℕ, Contains, IfNone, IfOk, IfSome, IsTrue, OnOk, length};
 ghost use Rattle.serial_sweeps.specs.Sweeps.{IsNext, IsNothingDue, KeepsTime, NoneBetween, moment_of};
 
-use crate::agents::{Agents, Made};
-use crate::sweeps::Sweeps;
+use crate::instance_set::{InstanceSet, Made};
+use crate::scheduler::Scheduler;
 use std::alloc::Global;
 
 /// Whose turn it is: the number of an instance, and how far the sweep goes in which it steps.
@@ -14,21 +14,25 @@ pub struct Turn {
     pub bound: u32,
 }
 
-impl<'s> Sweeps<'s> {
+impl<'s> Scheduler<'s> {
     /// Steps until every instance rests, or no transition is left. Says whether every instance rests.
-    pub fn settle<A: Agents>(&mut self, alloc: Global, agents: &mut A) -> Result<bool, A::Error>
-        requires fits { A.Fits self.old.board.awake agents.old }
+    pub fn settle<A: InstanceSet>(
+        &mut self,
+        alloc: Global,
+        instances: &mut A,
+    ) -> Result<bool, A::Error>
+        requires fits { A.Fits self.old.agenda.ready instances.old }
         requires due { IsNothingDue (moment_of self.old) }
-        ensures fits { OnOk result (A.Fits self.new.board.awake agents.new) }
+        ensures fits { OnOk result (A.Fits self.new.agenda.ready instances.new) }
         ensures same { KeepsTime self.old self.new }
         ensures due { OnOk result (IsNothingDue (moment_of self.new)) }
-        ensures runs { (last : ℕ) → OnOk result (A.Reaches last (moment_of self.old) agents.old
-            (moment_of self.new) agents.new) }
-        ensures rest { IfOk result (λ rest. IsTrue rest → A.AllRest agents.new × (0 < self.new.left)) }
+        ensures runs { (last : ℕ) → OnOk result (A.Reaches last (moment_of self.old) instances.old
+            (moment_of self.new) instances.new) }
+        ensures rest { IfOk result (λ rest. IsTrue rest → A.AllRest instances.new × (0 < self.new.left)) }
         ensures cut { IfOk result (λ rest. IsTrue rest ⊎ (self.new.left ≡ 0)) }
     {
         while self.left > 0 {
-            if !self.make_transition(alloc, agents)? {
+            if !self.make_transition(alloc, instances)? {
                 return Ok(true);
             }
         }
@@ -36,24 +40,24 @@ impl<'s> Sweeps<'s> {
     }
 
     /// The instances step in their order until one of them makes a transition. Says whether one does: else all rest.
-    fn make_transition<A: Agents>(
+    fn make_transition<A: InstanceSet>(
         &mut self,
         alloc: Global,
-        agents: &mut A,
+        instances: &mut A,
     ) -> Result<bool, A::Error>
-        requires fits { A.Fits self.old.board.awake agents.old }
+        requires fits { A.Fits self.old.agenda.ready instances.old }
         requires due { IsNothingDue (moment_of self.old) }
         requires left { 0 < self.old.left }
-        ensures fits { OnOk result (A.Fits self.new.board.awake agents.new) }
+        ensures fits { OnOk result (A.Fits self.new.agenda.ready instances.new) }
         ensures same { KeepsTime self.old self.new }
         ensures due { OnOk result (IsNothingDue (moment_of self.new)) }
-        ensures runs { (last : ℕ) → OnOk result (A.Reaches last (moment_of self.old) agents.old
-            (moment_of self.new) agents.new) }
+        ensures runs { (last : ℕ) → OnOk result (A.Reaches last (moment_of self.old) instances.old
+            (moment_of self.new) instances.new) }
         ensures moved { IfOk result (λ moved. IsTrue moved → self.new.left < self.old.left) }
-        ensures still { IfOk result (λ moved. IsTrue moved ⊎ (A.AllRest agents.new × (self.new.left ≡ self.old.left))) }
+        ensures still { IfOk result (λ moved. IsTrue moved ⊎ (A.AllRest instances.new × (self.new.left ≡ self.old.left))) }
     {
-        while let Some(turn) = self.next_turn(agents) {
-            if self.step(alloc, agents, turn)? {
+        while let Some(turn) = self.next_turn(instances) {
+            if self.step(alloc, instances, turn)? {
                 return Ok(true);
             }
         }
@@ -61,11 +65,11 @@ impl<'s> Sweeps<'s> {
     }
 
     /// The next one in this sweep of those that may have something to do, else the first in a new one.
-    fn next_turn<A: Agents>(&self, agents: &A) -> Option<Turn>
-        requires { A.Fits self.now.board.awake agents.now }
+    fn next_turn<A: InstanceSet>(&self, instances: &A) -> Option<Turn>
+        requires { A.Fits self.now.agenda.ready instances.now }
         ensures next { IfSome result (λ turn.
-            IsNext self.now.board.awake (moment_of self.now) (A.numbers agents.now) turn.number turn.bound) }
-        ensures none { IfNone result ((n : ℕ) → Contains self.now.board.awake n → ⊥) }
+            IsNext self.now.agenda.ready (moment_of self.now) (A.numbers instances.now) turn.number turn.bound) }
+        ensures none { IfNone result ((n : ℕ) → Contains self.now.agenda.ready n → ⊥) }
     {
         if let Some(number) = self.next_in_sweep() {
             return Some(Turn {
@@ -73,20 +77,20 @@ impl<'s> Sweeps<'s> {
                 bound: self.bound,
             });
         }
-        let number = self.board.awake.next_after(0)?;
+        let number = self.agenda.ready.next_after(0)?;
         Some(Turn {
             number,
-            bound: agents.given(),
+            bound: instances.given(),
         })
     }
 
     /// The next one in this sweep of those that may have something to do.
     fn next_in_sweep(&self) -> Option<u32>
-        ensures next { IfSome result (λ number. Contains self.now.board.awake number × (self.now.turn < number)
-            × (number ≤ self.now.bound) × NoneBetween self.now.board.awake self.now.turn number) }
-        ensures none { IfNone result (NoneBetween self.now.board.awake self.now.turn (self.now.bound + 1)) }
+        ensures next { IfSome result (λ number. Contains self.now.agenda.ready number × (self.now.turn < number)
+            × (number ≤ self.now.bound) × NoneBetween self.now.agenda.ready self.now.turn number) }
+        ensures none { IfNone result (NoneBetween self.now.agenda.ready self.now.turn (self.now.bound + 1)) }
     {
-        let number = self.board.awake.next_after(self.turn)?;
+        let number = self.agenda.ready.next_after(self.turn)?;
         if number <= self.bound {
             Some(number)
         } else {
@@ -96,26 +100,26 @@ impl<'s> Sweeps<'s> {
 
     /// One step of the instance whose turn it is. Says whether it was a transition, which is taken off the limit: else
     /// one fewer may have something to do.
-    fn step<A: Agents>(
+    fn step<A: InstanceSet>(
         &mut self,
         alloc: Global,
-        agents: &mut A,
+        instances: &mut A,
         turn: Turn,
     ) -> Result<bool, A::Error>
-        requires fits { A.Fits self.old.board.awake agents.old }
+        requires fits { A.Fits self.old.agenda.ready instances.old }
         requires due { IsNothingDue (moment_of self.old) }
         requires left { 0 < self.old.left }
-        requires next { IsNext self.old.board.awake (moment_of self.old) (A.numbers agents.old) turn.number turn.bound }
-        ensures fits { OnOk result (A.Fits self.new.board.awake agents.new) }
+        requires next { IsNext self.old.agenda.ready (moment_of self.old) (A.numbers instances.old) turn.number turn.bound }
+        ensures fits { OnOk result (A.Fits self.new.agenda.ready instances.new) }
         ensures same { KeepsTime self.old self.new }
         ensures due { OnOk result (IsNothingDue (moment_of self.new)) }
-        ensures runs { (last : ℕ) → OnOk result (A.Reaches last (moment_of self.old) agents.old
-            (moment_of self.new) agents.new) }
+        ensures runs { (last : ℕ) → OnOk result (A.Reaches last (moment_of self.old) instances.old
+            (moment_of self.new) instances.new) }
         ensures moved { IfOk result (λ moved. IsTrue moved → self.new.left < self.old.left) }
         ensures still { IfOk result (λ moved. IsTrue moved ⊎ ((self.new.left ≡ self.old.left)
-            × (length self.new.board.awake < length self.old.board.awake))) }
+            × (length self.new.agenda.ready < length self.old.agenda.ready))) }
     {
-        match agents.step(alloc, &mut self.board, turn.number)? {
+        match instances.step(alloc, &mut self.agenda, turn.number)? {
             Made::Nothing => Ok(false),
             Made::Failure => {
                 self.pass(turn);

@@ -1,3 +1,3 @@
-pub mod Acts
-pub mod Around
+pub mod Effects
+pub mod SerialWorld
 pub mod Counts

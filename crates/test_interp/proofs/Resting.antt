@@ -7,7 +7,7 @@ use Rattle.sdl_interp.specs.declared.instance.Stepped.{Stepped}
 use Rattle.sdl_interp.specs.declared.instance.Stepped.TheVariants as stepped
 use Rattle.sdl_interp.specs.Stimulus.{WaitsAt}
 use Rattle.run_semantics.specs.Leads.{IsQuiet}
-use Rattle.run_semantics.specs.Place.{Definition}
+use Rattle.run_semantics.specs.ControlPoint.{Definition}
 use Rattle.run_semantics.specs.World.{WorldValue}
 use Rattle.run_transitions.specs.Work.{IsOf}
 use Rattle.run_transitions.specs.declared.machine.Position.{Position}

@@ -1,8 +1,8 @@
 //! An instance over the port of one thread.
 
 use crate::case::{Play, identity};
-use crate::outside::{OWN, Outside};
 use crate::play::{Subject, finish, play};
+use crate::runtime::{OWN, Runtime};
 use port_inbox::{Alone, Fuse};
 use port_values::{Item, Ticks};
 use run_record::Record;
@@ -11,8 +11,8 @@ use std::alloc::Global;
 use std::process::Abort;
 
 impl Subject for Instance<'_, Alone> {
-    fn advance(&mut self, alloc: Global, outside: &mut Outside<'_>) -> Stepped {
-        self.step(alloc, outside)
+    fn advance(&mut self, alloc: Global, runtime: &mut Runtime<'_>) -> Stepped {
+        self.step(alloc, runtime)
     }
 
     fn hear(&mut self, item: Item) -> bool {
@@ -29,7 +29,7 @@ pub fn record_alone(
     rt: &impl Abort,
     alloc: Global,
     played: Play<'_>,
-    outside: &mut Outside<'_>,
+    runtime: &mut Runtime<'_>,
 ) -> Record {
     let Play {
         system,
@@ -41,6 +41,6 @@ pub fn record_alone(
     let Ok(mut instance) = Instance::new(alloc, system, process, identity(), &values, inbox) else {
         panic!(rt; "no memory for an instance");
     };
-    play(rt, alloc, &mut instance, outside, script);
-    finish(alloc, instance, outside)
+    play(rt, alloc, &mut instance, runtime, script);
+    finish(alloc, instance, runtime)
 }

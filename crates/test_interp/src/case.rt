@@ -3,7 +3,7 @@
 ghost use Rattle.std.specs.Prelude.{◌≡◌};
 
 use crate::alone::record_alone;
-use crate::outside::{OWN, Outside};
+use crate::runtime::{OWN, Runtime};
 use crate::shared::record_shared;
 use port_values::{Pid, Ticks, Value, Values};
 use run_evaluation::Identity;
@@ -136,18 +136,18 @@ fn compare(
 
 /// Runs the process over the port of one thread, and compares its record and what was done.
 fn check_alone(rt: &impl Abort, alloc: Global, case: &Case<'_>, system: &System) {
-    let mut outside = Outside::new(rt, alloc, system, case.room);
+    let mut runtime = Runtime::new(rt, alloc, system, case.room);
     let played = play_of(rt, alloc, system, case);
-    let trace = record_alone(rt, alloc, played, &mut outside);
-    compare(rt, alloc, case, system, trace, outside.done.as_str());
+    let trace = record_alone(rt, alloc, played, &mut runtime);
+    compare(rt, alloc, case, system, trace, runtime.done.as_str());
 }
 
 /// Runs it over a shared port, and compares the same.
 fn check_shared<R: Abort + Wait + Copy>(rt: R, alloc: Global, case: &Case<'_>, system: &System) {
-    let mut outside = Outside::new(&rt, alloc, system, case.room);
+    let mut runtime = Runtime::new(&rt, alloc, system, case.room);
     let played = play_of(&rt, alloc, system, case);
-    let trace = record_shared(rt, alloc, played, &mut outside);
-    compare(&rt, alloc, case, system, trace, outside.done.as_str());
+    let trace = record_shared(rt, alloc, played, &mut runtime);
+    compare(&rt, alloc, case, system, trace, runtime.done.as_str());
 }
 
 /// Runs the process over either port, and compares its record and what was done.

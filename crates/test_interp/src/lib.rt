@@ -33,9 +33,9 @@ mod member;
 #[cfg(test)]
 mod outputs;
 #[cfg(test)]
-mod outside;
-#[cfg(test)]
 mod play;
+#[cfg(test)]
+mod runtime;
 #[cfg(test)]
 mod shared;
 #[cfg(test)]

@@ -8,7 +8,7 @@ use port_values::{SignalId, Ticks, Values};
 use sdl_system::{Dest, ProcessId, Source, System, Target};
 use std::alloc::AllocError;
 use std::marker::PhantomData;
-use threads_instance::Outside;
+use threads_instance::Runtime;
 use threads_senders::Run;
 
 /// The number of the instance.
@@ -28,7 +28,7 @@ pub struct Lonely<'a, J: Run> {
     ghost desk_is: { desk.port ≡ port.now.queue },
 }
 
-impl<J: Run> Outside<J> for Lonely<'_, J> {
+impl<J: Run> Runtime<J> for Lonely<'_, J> {
     ghost prepared = { λ w. true };
 
     fn now(&self) -> Ticks {

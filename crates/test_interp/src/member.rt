@@ -17,7 +17,7 @@ use std::alloc::Global;
 use std::marker::{Brand, PhantomData};
 use std::process::Abort;
 use std::sync::Wait;
-use threads_instance::{Left, Member};
+use threads_instance::{Left, ThreadInstance};
 use threads_senders::Run;
 
 const TEXT: &str = "system S; signal a, v(Integer);
@@ -74,15 +74,15 @@ fn talk<J: Run, R: Abort + Wait + Copy>(
     requires empty { owner.state ≡ empty_port }
     requires drawn { owner.drawn ≡ [] }
 {
-    let mut outside = Lonely::<J> {
+    let mut runtime = Lonely::<J> {
         port,
         desk,
         kept: Vec::new(alloc),
         of: PhantomData,
     };
     let mut member = member::<J, _>(&rt, alloc, system, Held::new(rt, port, owner));
-    run(&rt, alloc, &mut member, &mut outside);
-    assert!(rt; outside.kept.len() == 1);
+    run(&rt, alloc, &mut member, &mut runtime);
+    assert!(rt; runtime.kept.len() == 1);
     let Left { trace, peers, .. } = member.close(false);
     assert!(rt; peers.is_known(OWN) && peers.sent(OWN) == 2);
     compare(&rt, alloc, system, trace);
@@ -94,7 +94,7 @@ fn member<'s, 'a, J: Run, R: Abort + Wait + Copy>(
     alloc: Global,
     system: &'s System,
     inbox: Held<'a, R>,
-) -> Member<'s, J, Held<'a, R>>
+) -> ThreadInstance<'s, J, Held<'a, R>>
     requires empty { inbox.owner.state ≡ empty_port }
     requires drawn { inbox.owner.drawn ≡ [] }
     requires own { inbox.owner.pid ≡ 1 }
@@ -106,7 +106,7 @@ fn member<'s, 'a, J: Run, R: Abort + Wait + Copy>(
         pid: OWN,
         parent: Pid::Null,
     };
-    match Member::new(alloc, system, process, who, &Values::none(alloc), inbox) {
+    match ThreadInstance::new(alloc, system, process, who, &Values::none(alloc), inbox) {
         Ok(member) => member,
         Err(_) => panic!(rt; "no memory for a member"),
     }
@@ -116,11 +116,11 @@ fn member<'s, 'a, J: Run, R: Abort + Wait + Copy>(
 fn run<J: Run, R: Wait + Copy>(
     rt: &R,
     alloc: Global,
-    member: &mut Member<'_, J, Held<'_, R>>,
-    outside: &mut Lonely<'_, J>,
+    member: &mut ThreadInstance<'_, J, Held<'_, R>>,
+    runtime: &mut Lonely<'_, J>,
 ) {
     for _ in 0..5 {
-        let _ = member.step(alloc, rt, outside);
+        let _ = member.step(alloc, rt, runtime);
     }
 }
 

@@ -15,7 +15,7 @@ pub const OWN: u32 = 1;
 /// A clock, the timers that were set, the signals that the instance sent to itself, and what it did, as lines. `room`
 /// is how many signals may yet be sent.
 #[derive(Drop)]
-pub struct Outside<'s> {
+pub struct Runtime<'s> {
     system: &'s System,
     pub clock: Ticks,
     pub fuses: Vec<Fuse>,
@@ -26,10 +26,10 @@ pub struct Outside<'s> {
     room: usize,
 }
 
-impl<'s> Outside<'s> {
+impl<'s> Runtime<'s> {
     /// The world before the start, in which the instance that is run lives alone.
     pub fn new(rt: &impl Abort, alloc: Global, system: &'s System, room: usize) -> Self {
-        Outside {
+        Runtime {
             system,
             clock: Ticks::new(0),
             fuses: Vec::new(alloc),
@@ -82,11 +82,11 @@ fn name_of(system: &System, signal: SignalId) -> &str {
     }
 }
 
-impl World for Outside<'_> {
+impl World for Runtime<'_> {
     ghost value = { λ w. record {
       system = w.system.now;
       clock = Some w.clock;
-      census = None;
+      living = None;
       acts = None;
       sent = None;
     } };

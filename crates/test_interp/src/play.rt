@@ -3,7 +3,7 @@
 
 ghost use Rattle.std.specs.Prelude.{◌≤◌};
 
-use crate::outside::Outside;
+use crate::runtime::Runtime;
 use port_inbox::{Fuse, Inbox};
 use port_values::{Item, Ticks};
 use run_record::Record;
@@ -18,7 +18,7 @@ const MOST: u32 = 50;
 /// An instance, with what brings signals and expiries into its port.
 pub trait Subject {
     /// One step.
-    fn advance(&mut self, alloc: Global, outside: &mut Outside<'_>) -> Stepped;
+    fn advance(&mut self, alloc: Global, runtime: &mut Runtime<'_>) -> Stepped;
 
     /// Brings a signal into the port; false: for want of memory it is not there.
     fn hear(&mut self, item: Item) -> bool;
@@ -33,19 +33,19 @@ pub fn play<S: Subject>(
     rt: &impl Abort,
     alloc: Global,
     subject: &mut S,
-    outside: &mut Outside<'_>,
+    runtime: &mut Runtime<'_>,
     script: Script,
 ) {
     for line in script.lines {
         let ScriptLine { at, signal } = line;
-        if outside.clock < at {
-            pass(rt, alloc, subject, outside, at);
+        if runtime.clock < at {
+            pass(rt, alloc, subject, runtime, at);
         }
         if let Some(signal) = signal {
             assert!(rt; subject.hear(signal.item));
         }
     }
-    settle(rt, alloc, subject, outside);
+    settle(rt, alloc, subject, runtime);
 }
 
 /// Lets time pass up to this one.
@@ -53,44 +53,44 @@ fn pass<S: Subject>(
     rt: &impl Abort,
     alloc: Global,
     subject: &mut S,
-    outside: &mut Outside<'_>,
+    runtime: &mut Runtime<'_>,
     to: Ticks,
 ) {
     for _ in 0..MOST {
-        settle(rt, alloc, subject, outside);
-        match outside.next_due() {
-            Some(due) if due <= to => outside.clock = due,
+        settle(rt, alloc, subject, runtime);
+        match runtime.next_due() {
+            Some(due) if due <= to => runtime.clock = due,
             _ => break,
         }
     }
-    outside.clock = to;
+    runtime.clock = to;
 }
 
 /// Steps until the instance rests or ends.
-fn settle<S: Subject>(rt: &impl Abort, alloc: Global, subject: &mut S, outside: &mut Outside<'_>) {
+fn settle<S: Subject>(rt: &impl Abort, alloc: Global, subject: &mut S, runtime: &mut Runtime<'_>) {
     for _ in 0..MOST {
-        expire(rt, subject, outside);
-        if subject.advance(alloc, outside) != Stepped::Moved {
+        expire(rt, subject, runtime);
+        if subject.advance(alloc, runtime) != Stepped::Moved {
             break;
         }
-        hear_own(rt, subject, outside);
+        hear_own(rt, subject, runtime);
     }
 }
 
 /// What the instance has sent to itself comes into its port.
-fn hear_own<S: Subject>(rt: &impl Abort, subject: &mut S, outside: &mut Outside<'_>) {
-    for item in outside.own.drain(..) {
+fn hear_own<S: Subject>(rt: &impl Abort, subject: &mut S, runtime: &mut Runtime<'_>) {
+    for item in runtime.own.drain(..) {
         assert!(rt; subject.hear(item));
     }
 }
 
 /// The timers that are due by now expire.
-fn expire<S: Subject>(rt: &impl Abort, subject: &mut S, outside: &mut Outside<'_>) {
+fn expire<S: Subject>(rt: &impl Abort, subject: &mut S, runtime: &mut Runtime<'_>) {
     for _ in 0..MOST {
-        let Some(fuse) = outside.take_due() else {
+        let Some(fuse) = runtime.take_due() else {
             break;
         };
-        let at = Ticks::later_of(outside.clock, fuse.due());
+        let at = Ticks::later_of(runtime.clock, fuse.due());
         assert!(rt; subject.hear_expiry(fuse, at));
     }
 }
@@ -99,9 +99,9 @@ fn expire<S: Subject>(rt: &impl Abort, subject: &mut S, outside: &mut Outside<'_
 pub fn finish<P: Inbox + Drop>(
     alloc: Global,
     mut instance: Instance<'_, P>,
-    outside: &mut Outside<'_>,
+    runtime: &mut Runtime<'_>,
 ) -> Record {
-    match instance.step(alloc, outside) {
+    match instance.step(alloc, runtime) {
         Stepped::Idle => instance.close(true).trace,
         _ => instance.close(false).trace,
     }

@@ -4,8 +4,8 @@ ghost use Rattle.std.specs.Prelude.{◌≡◌, []};
 ghost use Rattle.port_model.specs.Port.{empty_port};
 
 use crate::case::{Play, identity};
-use crate::outside::{OWN, Outside};
 use crate::play::{Subject, finish, play};
+use crate::runtime::{OWN, Runtime};
 use input_port::birth::port;
 use input_port::{Held, NewPort, Port, Sender};
 use port_inbox::Fuse;
@@ -27,8 +27,8 @@ struct Sharing<'s, 'a, R: Wait + Copy> {
 }
 
 impl<R: Wait + Copy> Subject for Sharing<'_, '_, R> {
-    fn advance(&mut self, alloc: Global, outside: &mut Outside<'_>) -> Stepped {
-        self.instance.step(alloc, outside)
+    fn advance(&mut self, alloc: Global, runtime: &mut Runtime<'_>) -> Stepped {
+        self.instance.step(alloc, runtime)
     }
 
     fn hear(&mut self, item: Item) -> bool {
@@ -45,7 +45,7 @@ pub fn record_shared<R: Abort + Wait + Copy>(
     rt: R,
     alloc: Global,
     played: Play<'_>,
-    outside: &mut Outside<'_>,
+    runtime: &mut Runtime<'_>,
 ) -> Record {
     let NewPort {
         port,
@@ -54,7 +54,7 @@ pub fn record_shared<R: Abort + Wait + Copy>(
     } = port(alloc, OWN).expect(&rt, "a port");
     let sender = desk.sender(&port).expect(&rt, "a sender");
     let inbox = Held::new(rt, &port, owner);
-    record_of(rt, alloc, &port, inbox, sender, played, outside)
+    record_of(rt, alloc, &port, inbox, sender, played, runtime)
 }
 
 /// The same over a port, its owner and a sender of it.
@@ -65,7 +65,7 @@ fn record_of<'a, R: Abort + Wait + Copy>(
     inbox: Held<'a, R>,
     sender: Sender,
     played: Play<'_>,
-    outside: &mut Outside<'_>,
+    runtime: &mut Runtime<'_>,
 ) -> Record
     requires empty { inbox.owner.state ≡ empty_port }
     requires drawn { inbox.owner.drawn ≡ [] }
@@ -87,7 +87,7 @@ fn record_of<'a, R: Abort + Wait + Copy>(
         sender,
         instance,
     };
-    play(&rt, alloc, &mut sharing, outside, script);
+    play(&rt, alloc, &mut sharing, runtime, script);
     let Sharing { instance, .. } = sharing;
-    finish(alloc, instance, outside)
+    finish(alloc, instance, runtime)
 }

@@ -5,13 +5,13 @@ use Rattle.std.proofs.lemmas.List.Elements.{All-append, All-cons, All-nil}
 use Rattle.port_values.specs.declared.item.Item.{Item}
 use Rattle.port_values.specs.declared.pid.Pid.TheVariants.{Of}
 use Rattle.sdl_interp.specs.Instance.{InstanceValue, IsClosed, IsRunAs, closing}
-use Rattle.threads_instance.specs.Member.{ArePut, HasPut}
+use Rattle.threads_instance.specs.ThreadInstance.{ArePut, HasPut}
 use Rattle.threads_senders.proofs.Kept.{last_none}
 use Rattle.threads_senders.specs.Peers.{AreLast, ArePeers, PeersState}
 use Rattle.run_record.specs.Event as event
 use Rattle.run_record.specs.Event.{Event}
 use Rattle.run_record.specs.Record.{RecordValue}
-use Rattle.run_semantics.specs.Place.{Definition}
+use Rattle.run_semantics.specs.ControlPoint.{Definition}
 use Rattle.run_semantics.specs.Sent.{sent_by_one, sent_to}
 use Rattle.run_semantics.specs.World.{has_port}
 use Rattle.run_transitions.specs.declared.machine.Position.{Position}

@@ -8,17 +8,17 @@ use Rattle.sdl_interp.specs.Instance.{EndsBy, InstanceValue, IsIdle, IsRunAs, Ke
 use Rattle.sdl_interp.specs.Stimulus.{WaitsAt}
 use Rattle.sdl_interp.specs.declared.instance.Stepped.{Stepped}
 use Rattle.sdl_interp.specs.declared.instance.Stepped.TheVariants as stepped
-use Rattle.threads_instance.specs.Around.{world_of}
-use Rattle.threads_instance.specs.Member.{HasPut}
+use Rattle.threads_instance.specs.ThreadWorld.{world_of}
+use Rattle.threads_instance.specs.ThreadInstance.{HasPut}
 use Rattle.threads_senders.specs.Peers.{PeersState, put_to}
 use Rattle.run_record.specs.Event.{Event}
-use Rattle.run_semantics.proofs.Acting.{runs_acts}
+use Rattle.run_semantics.proofs.Acting.{runs_effects}
 use Rattle.run_semantics.proofs.Sent.{deeds_send}
-use Rattle.run_semantics.specs.Act.{Act, Deed, events_of}
+use Rattle.run_semantics.specs.Effect.{Effect, Deed, events_of}
 use Rattle.run_semantics.specs.Goes.{Goes, IsOneStep, MachineValue, Waits}
-use Rattle.run_semantics.specs.Place.{Definition}
+use Rattle.run_semantics.specs.ControlPoint.{Definition}
 use Rattle.run_semantics.specs.Sent.{sent_by_one, sent_to, sent_with}
-use Rattle.run_semantics.specs.World.{Sent, WorldValue, after_act, after_acts, after_deeds, has_port}
+use Rattle.run_semantics.specs.World.{Sent, WorldValue, after_effect, after_effects, after_deeds, has_port}
 use Rattle.run_transitions.specs.Machine.{place_of}
 use Rattle.run_transitions.specs.Work.{IsOf}
 use Rattle.run_transitions.specs.declared.machine.Position.{Position}
@@ -28,13 +28,13 @@ use Rattle.sdl_system.specs.declared.process.Process.{Process}
 
 -- ---- the system stays
 
-acts_system : (w : WorldValue) (done : List Act) → (after_acts w done).system ≡ w.system
-acts_system w [] = refl
-acts_system w (act ∷ rest) = acts_system (after_act w act) rest
+effects_system : (w : WorldValue) (done : List Effect) → (after_effects w done).system ≡ w.system
+effects_system w [] = refl
+effects_system w (effect ∷ rest) = effects_system (after_effect w effect) rest
 
 deeds_system : (w : WorldValue) (deeds : List Deed) → (after_deeds w deeds).system ≡ w.system
 deeds_system w [] = refl
-deeds_system w (deed ∷ rest) = deeds_system (after_acts w deed.acts) rest ∙ acts_system w deed.acts
+deeds_system w (deed ∷ rest) = deeds_system (after_effects w deed.effects) rest ∙ effects_system w deed.effects
 
 module _ (old new : InstanceValue) (before after : PeersState) (system other : SystemValue) where
   same_world : other ≡ system → world_of other after ≡ world_of system after
@@ -121,7 +121,7 @@ module _ (old new : InstanceValue) (before after : PeersState) (keeps : Keeps ol
       let all : Some (put_to after) ≡ Some (sent_with old.who.pid more (put_to before)) =
       ap (λ (w : WorldValue). w.sent) goes.world
       ∙ deeds_send old.who.pid (world_of system before) goes.deeds (put_to before)
-      (runs_acts d old.who (place_of old.position) old.store old.owner.state goes.runs) refl in
+      (runs_effects d old.who (place_of old.position) old.store old.owner.state goes.runs) refl in
       ap (λ (sent : Sent). sent number)
       (same_Some (put_to after) (sent_with old.who.pid more (put_to before)) all)
       ∙ goes_by (has_port number) (put_to before number) (sent_to old.who.pid old.events number)

@@ -1,2 +1,2 @@
-pub mod Around
-pub mod Member
+pub mod ThreadWorld
+pub mod ThreadInstance

@@ -5,7 +5,7 @@ use Rattle.run_evaluation.specs.declared.store.Store.{Store}
 use Rattle.run_record.specs.Event as event
 use Rattle.run_semantics.specs.Fails.{parameters_of}
 use Rattle.run_semantics.specs.Leads.{created, offspring_of}
-use Rattle.run_semantics.specs.World.{after_acts}
+use Rattle.run_semantics.specs.World.{after_effects}
 use Rattle.run_transitions.proofs.Deeds.{goes_created}
 use Rattle.run_transitions.proofs.Machines.{store_kept, value_noted}
 use Rattle.run_transitions.proofs.Meanings.{values_meant}
@@ -31,7 +31,7 @@ returns-clause-ok g c = λ d is origin rest.
     _ _ c.deref.ensures.value _ c.in_ok-values.ensures.ok)
     c.in-Ok.ensures.number
     (c.in-Ok.ensures.ok
-    ∙ ap (λ (x : Identity). after_acts w (created process x.pid values number)) c.who-who.ensures)
+    ∙ ap (λ (x : Identity). after_effects w (created process x.pid values number)) c.who-who.ensures)
     (value_noted old mid _ _ c.make_room.ensures.same c.create-2.new.self _ _ (event.Create process number) o o
     c.create-2.ensures
     (ap (λ (x : Pid). record mid.store { offspring = x }) c.offspring_of-machine.ensures

@@ -6,8 +6,8 @@ use Rattle.run_evaluation.specs.declared.identity.Identity.{Identity}
 use Rattle.run_record.specs.Event as event
 use Rattle.run_record.specs.Event.{Event}
 use Rattle.run_record.specs.Record.{noted}
-use Rattle.run_semantics.specs.Act.{Send}
-use Rattle.run_semantics.specs.World.{IsRoute, after_act}
+use Rattle.run_semantics.specs.Effect.{Send}
+use Rattle.run_semantics.specs.World.{IsRoute, after_effect}
 use Rattle.run_transitions.proofs.Deeds.{goes_sent}
 use Rattle.run_transitions.proofs.Machines.{store_kept, value_noted}
 use Rattle.run_transitions.proofs.Meanings.{sent_ok, unnamed, unsent}
@@ -37,7 +37,7 @@ returns-clause-ok g c = λ more d is origin rest.
     (subst Route c.who-who.ensures c.in_ok-send_values.ensures.route)
     (c.in_ok-send_values.ensures.sent
     ∙ ap (λ (x : Identity).
-    after_act w (Send target (record { name = signal; values = values; sender = Of x.pid })))
+    after_effect w (Send target (record { name = signal; values = values; sender = Of x.pid })))
     c.who-who.ensures)
     (ap (λ (x : Machine). value_of x o) c.in_ok-send_values.ensures.recorded
     ∙ value_noted old mid _ _ c.make_room-2.ensures.same (noted mid.trace told) mid.store old.store told o o refl
@@ -96,7 +96,7 @@ returns-in-len1-clause-ok g c = λ more d is origin rest.
     (subst Route c.who-who.ensures c.in_ok-send_value.ensures.route)
     (c.in_ok-send_value.ensures.sent
     ∙ ap (λ (x : Identity).
-    after_act w (Send target (record { name = signal; values = values; sender = Of x.pid })))
+    after_effect w (Send target (record { name = signal; values = values; sender = Of x.pid })))
     c.who-who.ensures)
     (ap (λ (x : Machine). value_of x o) c.in_ok-send_value.ensures.recorded
     ∙ value_noted old mid _ _ c.make_room.ensures.same (noted mid.trace told) mid.store old.store told o o refl

@@ -5,9 +5,9 @@ use Rattle.port_inbox.specs.declared.entry.Fuse.{Fuse}
 use Rattle.port_values.specs.declared.timer_key.TimerKey.{TimerKey}
 use Rattle.run_record.specs.Event as event
 use Rattle.run_record.specs.Record.{noted}
-use Rattle.run_semantics.specs.Act.{Arm}
+use Rattle.run_semantics.specs.Effect.{Arm}
 use Rattle.run_semantics.specs.Goes.{with_event}
-use Rattle.run_semantics.specs.World.{WorldValue, after_act}
+use Rattle.run_semantics.specs.World.{WorldValue, after_effect}
 use Rattle.run_transitions.proofs.Deeds.{goes_set, numbered_by}
 use Rattle.run_transitions.proofs.Machines.{store_kept, value_noted}
 use Rattle.run_transitions.proofs.Meanings.{set_ok, undue, unkeyed}
@@ -32,9 +32,9 @@ returns-clause-ok g c = λ more d is origin rest.
     (set_ok c.args.system.now d is _ _ c.who-who.ensures old.store o.state one _ c.deref.ensures.value due key
     c.in_ok-due.ensures.ok c.in_ok-key.ensures.ok)
     (c.arm.ensures
-    ∙ ap (λ (x : WorldValue). after_act x (Arm fuse)) c.prepare.ensures.same
-    ∙ ap (λ (x : Fuse). after_act w (Arm x)) c.in-Ok.ensures.set.fuse_is
-    ∙ ap (λ (x : ℕ). after_act w (Arm (record { pid = x; key = key; arm = arm; due = due }))) c.requires.own)
+    ∙ ap (λ (x : WorldValue). after_effect x (Arm fuse)) c.prepare.ensures.same
+    ∙ ap (λ (x : Fuse). after_effect w (Arm x)) c.in-Ok.ensures.set.fuse_is
+    ∙ ap (λ (x : ℕ). after_effect w (Arm (record { pid = x; key = key; arm = arm; due = due }))) c.requires.own)
     (value_noted old mid _ _ c.make_room.ensures.same c.set-2.new.self mid.store old.store (event.Set key due) o after
     (c.set-2.ensures
     ∙ ap (λ (x : TimerKey). noted mid.trace (event.Set x due))

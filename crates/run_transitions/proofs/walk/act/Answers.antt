@@ -3,10 +3,10 @@ use Rattle.std.proofs.lemmas.Result.{IfErr-weaker, on_ok_weaker}
 use Rattle.std.specs.Option.{option_map}
 use Rattle.port_inbox.specs.Ends.{OwnerState}
 use Rattle.run_semantics.proofs.Goes.{wrong_here}
-use Rattle.run_semantics.specs.Place.{Amid}
+use Rattle.run_semantics.specs.ControlPoint.{Amid}
 use Rattle.run_semantics.specs.World.{WorldValue}
 use Rattle.run_transitions.proofs.Results.{if_err_three}
-use Rattle.run_transitions.proofs.Visits.{acts_as, acts_listed, acts_none, does_of, fails_to_act, output_done, reset_done, set_done, task_done, wrong_of}
+use Rattle.run_transitions.proofs.Visits.{effects_as, effects_listed, effects_none, does_of, fails_to_act, output_done, reset_done, set_done, task_done, wrong_of}
 use Rattle.run_transitions.specs.Machine.{value_of}
 use Rattle.run_transitions.specs.Walk.{FailsToAct}
 use Rattle.run_transitions.specs.Work.{DoesWrong, FailsAt, IsIn, IsOf, amid, behind}
@@ -16,7 +16,7 @@ use Rattle.sdl_system.specs.Term.{term_of}
 use Rattle.sdl_system.specs.declared.statement.Assignment.{Assignment}
 use Rattle.sdl_system.specs.declared.statement.Setting as set
 use Rattle.sdl_system.specs.declared.statement.TimerUse.{TimerUse}
-use Rattle.run_transitions.proofs.walk.act.Goals as goal
+use Rattle.run_transitions.proofs.walk.effect.Goals as goal
 
 pub returns-in-Task-clause-ok : goal.returns-in-Task-clause-ok
 returns-in-Task-clause-ok g c =
@@ -34,7 +34,7 @@ returns-in-Task-clause-ok g c =
     ∙ ap (λ (ys : List Assignment). Some (body.task (map assigning ys))) (sym c.deref.ensures.value) in
     let none = body.task [] in
     on_ok_weaker c.assign_all.result (λ does.
-    acts_listed system process s all none m n w v is (λ d origin rest. task_done d origin rest n v)
+    effects_listed system process s all none m n w v is (λ d origin rest. task_done d origin rest n v)
     (does w))
     c.assign_all.ensures.ok
 
@@ -74,7 +74,7 @@ returns-in-Output-clause-ok g c =
     let is = ap action_of c.in-Output.is in
     let none = body.output [] to in
     on_ok_weaker c.send_all.result (λ does.
-    acts_listed system process s all none m n w v is (λ d origin rest. output_done d origin rest n v to)
+    effects_listed system process s all none m n w v is (λ d origin rest. output_done d origin rest n v to)
     (does_of system process (amid all) (amid none) m n w v does))
     c.send_all.ensures.ok
 
@@ -116,7 +116,7 @@ returns-in-Set-clause-ok g c =
     ∙ ap (λ (ys : List set.Setting). Some (body.set (map setting ys))) (sym c.deref-in-Set.ensures.value) in
     let none = body.set [] in
     on_ok_weaker c.set_all.result (λ does.
-    acts_listed system process s all none m n w v is (λ d origin rest. set_done d origin rest n v)
+    effects_listed system process s all none m n w v is (λ d origin rest. set_done d origin rest n v)
     (does_of system process (amid all) (amid none) m n w v does))
     c.set_all.ensures.ok
 
@@ -159,7 +159,7 @@ returns-in-Reset-clause-ok g c =
     ∙ ap (λ (ys : List TimerUse). Some (body.reset (map timing ys))) (sym c.deref-in-Reset.ensures.value) in
     let none = body.reset [] in
     on_ok_weaker c.reset_all.result (λ does.
-    acts_listed system process s all none m n w v is (λ d origin rest. reset_done d origin rest n v)
+    effects_listed system process s all none m n w v is (λ d origin rest. reset_done d origin rest n v)
     (does_of system process (amid all) (amid none) m n w v (does w)))
     c.reset_all.ensures.ok
 
@@ -198,7 +198,7 @@ returns-in-Create-clause-ok g c =
     let creation = c.in-Create.creation in
     let all = body.create creation.process (map term_of creation.values.items) in
     let is = ap action_of c.in-Create.is in
-    on_ok_weaker c.create.result (λ does. acts_as system process s all m n w v is
+    on_ok_weaker c.create.result (λ does. effects_as system process s all m n w v is
     (does_of system process (amid all) behind m n w v does)) c.create.ensures.ok
 
 pub returns-in-Create-clause-err : goal.returns-in-Create-clause-err
@@ -224,6 +224,6 @@ returns-in-Create-clause-err g c =
 
 pub returns-in_default-clause-ok : goal.returns-in_default-clause-ok
 returns-in_default-clause-ok g c =
-    acts_none c.args.system.now c.args.process.now c.args.statement.now
+    effects_none c.args.system.now c.args.process.now c.args.statement.now
     (value_of c.args.machine.now (g.P.Inbox.owning c.args.inbox.now)) (g.W.World.value c.args.world.now)
     c.in_default.not-Task c.in_default.not-Output c.in_default.not-Set c.in_default.not-Reset c.in_default.not-Create

@@ -1,7 +1,7 @@
 use Rattle.std.proofs.Common.{refl}
 use Rattle.run_semantics.proofs.Goes.{goes_failed, goes_until}
 use Rattle.run_semantics.specs.Goes.{AreInner, with_event}
-use Rattle.run_semantics.specs.Place.{Doing, Ended}
+use Rattle.run_semantics.specs.ControlPoint.{Doing, Ended}
 use Rattle.run_record.specs.Event as event
 use Rattle.port_inbox.specs.Calls.{after_stop}
 use Rattle.run_transitions.proofs.Machines.{instance_failed, instance_on, value_failed}

@@ -4,7 +4,7 @@ use Rattle.std.specs.Slice.Iter.{iter_rest}
 use Rattle.port_inbox.specs.Ends.{OwnerState}
 use Rattle.sdl_interp.specs.Stimulus.{HasVariables}
 use Rattle.run_semantics.specs.Goes.{AreInner, Goes}
-use Rattle.run_semantics.specs.Place.{Definition, Receiving}
+use Rattle.run_semantics.specs.ControlPoint.{Definition, Receiving}
 use Rattle.run_semantics.specs.World.{WorldValue}
 use Rattle.run_transitions.specs.Machine.{value_of}
 use Rattle.sdl_system.specs.Body.{Body}

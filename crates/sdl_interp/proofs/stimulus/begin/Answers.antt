@@ -8,7 +8,7 @@ use Rattle.run_record.specs.Event.{values_got}
 use Rattle.run_record.specs.Record.{noted}
 use Rattle.run_semantics.proofs.Goes.{goes_failed, goes_on, goes_until}
 use Rattle.run_semantics.specs.Goes.{AreInner, Goes, GoesWrong, MachineValue, with_event}
-use Rattle.run_semantics.specs.Place.{Doing, Ended, Receiving}
+use Rattle.run_semantics.specs.ControlPoint.{Doing, Ended, Receiving}
 use Rattle.run_transitions.specs.Machine.{place_of, value_of}
 use Rattle.run_transitions.specs.declared.machine.Machine.{Machine}
 use Rattle.sdl_system.specs.declared.id.VariableId.{VariableId}

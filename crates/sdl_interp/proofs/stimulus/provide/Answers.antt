@@ -8,7 +8,7 @@ use Rattle.sdl_interp.proofs.Recorded.{provided_is, same_on, same_recorded}
 use Rattle.run_record.specs.Event as event
 use Rattle.run_semantics.proofs.Goes.{step_on}
 use Rattle.run_semantics.specs.Goes.{MachineValue}
-use Rattle.run_semantics.specs.Place.{Doing, In}
+use Rattle.run_semantics.specs.ControlPoint.{Doing, In}
 use Rattle.run_semantics.specs.Reception.{provided}
 use Rattle.run_transitions.specs.Machine.{identity_of, place_of, value_of}
 use Rattle.run_transitions.specs.declared.machine.Machine.{Machine}

@@ -6,7 +6,7 @@ use Rattle.sdl_interp.proofs.Recorded.{same_on, same_recorded, started_is}
 use Rattle.run_record.specs.Event as event
 use Rattle.run_semantics.proofs.Goes.{step_on}
 use Rattle.run_semantics.specs.Goes.{MachineValue}
-use Rattle.run_semantics.specs.Place.{AtStart, Doing}
+use Rattle.run_semantics.specs.ControlPoint.{AtStart, Doing}
 use Rattle.run_transitions.specs.Machine.{place_of, value_of}
 use Rattle.run_transitions.specs.declared.machine.Machine.{Machine}
 use Rattle.sdl_interp.proofs.stimulus.start.Goals as goal

@@ -3,7 +3,7 @@ use Rattle.port_inbox.specs.Ends.{OwnerState}
 use Rattle.sdl_interp.proofs.Reacting.{answers_failure, found_here, waits_untried}
 use Rattle.sdl_interp.proofs.Recorded.{same_failed}
 use Rattle.run_semantics.specs.Goes.{Goes, IsOneStep}
-use Rattle.run_semantics.specs.Place.{In}
+use Rattle.run_semantics.specs.ControlPoint.{In}
 use Rattle.run_transitions.specs.Machine.{place_of, value_of}
 use Rattle.sdl_interp.proofs.stimulus.try_continuous.Goals as goal
 

@@ -1,5 +1,5 @@
 use Rattle.std.proofs.Common.{◌≡◌, ◌∙◌, ap, inl, inr, subst, sym, List, ℕ}
-use Rattle.serial_order.specs.Global.{beginning}
+use Rattle.serial_order.specs.RunState.{beginning}
 use Rattle.serial_instances.specs.Serial.{IsSerial, state_of}
 use Rattle.serial_run.proofs.Report.{IsWhole, begins_so, report}
 use Rattle.serial_run.specs.Advances.{Reaches}
@@ -9,7 +9,7 @@ use Rattle.serial_sweeps.specs.Sweeps.{Moment, moment_of}
 
 pub run-requires-clause-fits : goal.run-requires-clause-fits
 run-requires-clause-fits c =
-    subst (λ (awake : List ℕ). IsSerial awake c.in_ok-instances.instances) (sym c.new-sweeps.ensures.awake)
+    subst (λ (ready : List ℕ). IsSerial ready c.in_ok-instances.instances) (sym c.new-sweeps.ensures.ready)
     c.in_ok-instances.ensures.serial
 
 pub returns-clause-serial : goal.returns-clause-serial
@@ -20,17 +20,17 @@ returns-clause-serial c = λ ps behaviours.
     let made = c.in_ok-instances.ensures in
     let m : Moment = moment_of c.new-sweeps.result in
     let n : Moment = moment_of c.run.new.self in
-    let b = c.run.new.agents.instances in
+    let b = c.run.new.instances.instances in
     let first = c.new-sweeps.ensures.moment in
     let state : state_of m a ≡ beginning system lines =
     begins_so system lines m a
-    (ap (λ (m : Moment). m.clock) first ∙ c.begin.ensures.clock ∙ c.new-board.ensures.clock)
+    (ap (λ (m : Moment). m.clock) first ∙ c.begin.ensures.clock ∙ c.new-agenda.ensures.clock)
     (ap (λ (m : Moment). m.begun) first) (ap (λ (m : Moment). m.turn) first)
-    (ap (λ (m : Moment). m.bound) first ∙ c.given.ensures ∙ ap (λ census. census.given) made.serial.census)
-    (ap (λ (m : Moment). m.fuses) first ∙ c.begin.ensures.fuses ∙ c.new-board.ensures.fuses)
+    (ap (λ (m : Moment). m.bound) first ∙ c.given.ensures ∙ ap (λ living. living.given) made.serial.living)
+    (ap (λ (m : Moment). m.fuses) first ∙ c.begin.ensures.fuses ∙ c.new-agenda.ensures.fuses)
     (ap (λ (m : Moment). m.script) first ∙ c.as_slice.ensures.value) made.system made.instances in
     let done = c.in_ok-whole.ensures in
-    report ps system lines c.args.limit c.run.new.self.board.awake m n a b _ behaviours state
+    report ps system lines c.args.limit c.run.new.self.agenda.ready m n a b _ behaviours state
     (ap (λ (m : Moment). m.left) first) (subst (λ k. Reaches k m a n b) c.end-last.ensures done.runs) done.fits
     (λ whole. subst (λ k. IsWhole k n b) c.end-last.ensures (done.whole whole)) done.cut c.in_ok-records.ensures
     (elim c.if-whole.branch [

@@ -3,19 +3,19 @@ use Rattle.std.specs.Prelude.{Contains, ◌↔◌}
 use Rattle.std.proofs.lemmas.List.{length-set}
 use Rattle.std.proofs.lemmas.Option.{slice_get_read, slice_get_within}
 use Rattle.port_inbox.specs.Ends.{OwnerState}
-use Rattle.serial_world.specs.Around.{AreNumbered, act_of, world_of}
-use Rattle.serial_order.specs.Global.{after_acts, around, census_of, is_ended}
+use Rattle.serial_world.specs.StepWorld.{AreNumbered, effect_of, world_of}
+use Rattle.serial_order.specs.RunState.{after_effects, world_at, living_of, is_ended}
 use Rattle.serial_instances.specs.Serial.{IsOfSystem, state_of}
 use Rattle.serial_instances.specs.declared.instances.Instances.{Instances}
 use Rattle.run_evaluation.specs.declared.identity.Identity.{Identity}
 use Rattle.sdl_interp.specs.Instance.{EndsBy, InstanceValue, IsIdle, Moves}
-use Rattle.run_semantics.specs.World.{Census, WorldValue}
-use Rattle.serial_run.specs.CourseLaws.{stays}
-use Rattle.serial_run.proofs.Places.{census_same, in_place_set, marked_off, marked_on, not_ended, one_there, serial_set, set_back, set_here, set_there}
+use Rattle.run_semantics.specs.World.{Living, WorldValue}
+use Rattle.serial_run.specs.ExecutionLaws.{stays}
+use Rattle.serial_run.proofs.Places.{living_same, in_place_set, marked_off, marked_on, not_ended, one_there, serial_set, set_back, set_here, set_there}
 use Rattle.serial_run.specs.Meanings.{all_at}
-use Rattle.serial_run.proofs.Steps.{IsAlone, Made, around_is, ended_rests, idle_rests, step_counts, step_fails, step_idles}
-use Rattle.serial_sweeps.specs.Sweeps.{after, at_board}
-use Rattle.serial_sweeps.specs.declared.agents.Made.TheVariants.{Failure, Transition}
+use Rattle.serial_run.proofs.Steps.{IsAlone, Made, world_is, ended_rests, idle_rests, step_counts, step_fails, step_idles}
+use Rattle.serial_sweeps.specs.Sweeps.{after, at_agenda}
+use Rattle.serial_sweeps.specs.declared.instance_set.Made.TheVariants.{Failure, Transition}
 use Rattle.run_transitions.specs.declared.machine.Position.TheVariants as at
 use Rattle.serial_run.proofs.step.step.Goals as goal
 
@@ -23,12 +23,12 @@ use Rattle.serial_run.proofs.step.step.Goals as goal
 
 pub returns-in_default-clause-runs : goal.returns-in_default-clause-runs
 returns-in_default-clause-runs c = λ last bound m time.
-    stays last (at_board m c.args.board.now) (at_board m c.args.board.now) c.args.instances.now c.args.instances.now refl refl refl
+    stays last (at_agenda m c.args.agenda.now) (at_agenda m c.args.agenda.now) c.args.instances.now c.args.instances.now refl refl refl
 
 pub returns-in_default-clause-fewer : goal.returns-in_default-clause-fewer
 returns-in_default-clause-fewer c =
     let s = c.args.instances.now in
-    let there = c.requires.fits.marked.there c.args.number c.requires.awake in
+    let there = c.requires.fits.marked.there c.args.number c.requires.ready in
     let long : vec_len s.instances ≡ length s.instances.items = search rules in
     let no : ⊥ = elim c.in_default.ensures.none [
       | inl none ↦ omega (arith, none, there.0)
@@ -49,16 +49,16 @@ returns-in-Ended-clause-fits c =
     slice_get_read xs (length xs) place one refl (search rules) c.index.ensures in
     let ended : one.position ≡ at.Ended = sym c.position.ensures ∙ c.in-Ended.is in
     let back = sym (set_there xs place one at_first) in
-    let off = subst (λ m. (n : ℕ) → Contains c.rest.new.self n ↔ (Contains c.args.board.now.awake n × (n ≢ m))) number_is
+    let off = subst (λ m. (n : ℕ) → Contains c.rest.new.self n ↔ (Contains c.args.agenda.now.ready n × (n ≢ m))) number_is
     c.rest.ensures.left in
     serial_set s _ c.rest.new.self place one one c.requires.fits at_first
     (record { system = refl; process = refl; who = refl; port = refl; pid = refl }) back refl
-    (c.requires.fits.census ∙ ap (census_of s.system.now) back)
-    (marked_off c.args.board.now.awake c.rest.new.self xs place one c.requires.fits.marked off (ended_rests one ended))
+    (c.requires.fits.living ∙ ap (living_of s.system.now) back)
+    (marked_off c.args.agenda.now.ready c.rest.new.self xs place one c.requires.fits.marked off (ended_rests one ended))
 
 pub returns-in-Ended-clause-runs : goal.returns-in-Ended-clause-runs
 returns-in-Ended-clause-runs c = λ last bound m time.
-    let n = at_board m c.args.board.now in
+    let n = at_agenda m c.args.agenda.now in
     stays last n n c.args.instances.now _ refl refl refl
 
 -- it makes a transition, and lives on
@@ -81,15 +81,15 @@ perform_all-requires c =
     λ ended. c.in_default-position.not-Ended (c.position.ensures ∙ ap (λ (i : InstanceValue). i.position) same_one ∙ ended) in
     let live_on : is_ended new.position ≡ is_ended old.position =
     not_ended new.position c.in-Moved.ensures.steps.1 ∙ sym (not_ended old.position lives) in
-    serial_set s _ c.args.board.now.awake place old new c.requires.fits there keeps refl refl
-    (c.requires.fits.census ∙ sym (census_same s.system.now xs place old new there keeps.who live_on))
-    (marked_on c.args.board.now.awake xs place new c.requires.fits.marked (subst (Contains c.args.board.now.awake) number_is c.requires.awake))
+    serial_set s _ c.args.agenda.now.ready place old new c.requires.fits there keeps refl refl
+    (c.requires.fits.living ∙ sym (living_same s.system.now xs place old new there keeps.who live_on))
+    (marked_on c.args.agenda.now.ready xs place new c.requires.fits.marked (subst (Contains c.args.agenda.now.ready) number_is c.requires.ready))
 
 pub returns-in_ok-perform_all-in-Moved-clause-runs : goal.returns-in_ok-perform_all-in-Moved-clause-runs
 returns-in_ok-perform_all-in-Moved-clause-runs c = λ last bound m time.
     let s = c.args.instances.now in
-    let board = c.args.board.now in
-    let from = at_board m board in
+    let agenda = c.args.agenda.now in
+    let from = at_agenda m agenda in
     let place = c.in-Some.place in
     let xs = s.instances.items in
     let number_is : c.args.number ≡ suc place = omega (arith, c.in-Some.ensures.some.0) in
@@ -113,11 +113,11 @@ returns-in_ok-perform_all-in-Moved-clause-runs c = λ last bound m time.
     subst (λ (i : InstanceValue). IsAlone i.owner) same_two c.draws_nothing.ensures in
     let alone_now : IsAlone new.owner =
     subst (λ (i : InstanceValue). IsAlone i.owner) same_three c.draws_nothing-2.ensures in
-    let a = c.new-around.ensures in
-    let sees : world_of c.new-around.result ≡ around (state_of from s) =
-    around_is from s c.new-around.result c.requires.fits a.system a.clock a.begun a.changed (a.acts ∙ c.over-acts.ensures.items) in
-    let acts = map act_of c.step-stepped.new.world.acts.items in
-    let made : Made board.awake from s place c.args.number bound old new v acts = record {
+    let a = c.new-world.ensures in
+    let sees : world_of c.new-world.result ≡ world_at (state_of from s) =
+    world_is from s c.new-world.result c.requires.fits a.system a.clock a.begun a.changed (a.effects ∙ c.over-effects.ensures.items) in
+    let effects = map effect_of c.step-stepped.new.world.effects.items in
+    let made : Made agenda.ready from s place c.args.number bound old new v effects = record {
       serial = c.requires.fits;
       time = time;
       is_number = c.in-Some.ensures.some.0;
@@ -127,14 +127,14 @@ returns-in_ok-perform_all-in-Moved-clause-runs c = λ last bound m time.
       undrawn = ap (λ (o : OwnerState). o.drawn) alone_now;
       known = refl;
     } in
-    let moves : Moves true old (around (state_of from s)) new v =
+    let moves : Moves true old (world_at (state_of from s)) new v =
     subst (λ (w : WorldValue). Moves true old w new v) sees c.in-Moved.ensures.steps.0 in
-    let given = ap (λ (census : Census). census.given) c.requires.fits.census in
-    step_counts board.awake from (after Transition c.args.number bound (at_board m c.perform_all.new.board)) s
-    c.perform_all.new.self place c.args.number bound old new v acts made moves
+    let given = ap (λ (living : Living). living.given) c.requires.fits.living in
+    step_counts agenda.ready from (after Transition c.args.number bound (at_agenda m c.perform_all.new.agenda)) s
+    c.perform_all.new.self place c.args.number bound old new v effects made moves
     (λ numbers. c.in_ok-perform_all-in-Moved.ensures.state
     (record m { turn = c.args.number; bound = bound; left = m.left - 1 })
-    (subst (λ n. AreNumbered n acts) (sym given) numbers))
+    (subst (λ n. AreNumbered n effects) (sym given) numbers))
     (omega (arith, time.some)) c.perform_all.ensures.system last
 
 -- it ends
@@ -155,9 +155,9 @@ leave-requires c =
     (slice_get_read xs (length xs) place c.index.result.now refl (search rules) c.index.ensures) there in
     let lives : old.position ≢ at.Ended =
     λ ended. c.in_default-position.not-Ended (c.position.ensures ∙ ap (λ (i : InstanceValue). i.position) same_one ∙ ended) in
-    let ends : EndsBy c.in-Ended-stepped.counts old (world_of c.new-around.result) new v = c.in-Ended-stepped.ensures.steps in
+    let ends : EndsBy c.in-Ended-stepped.counts old (world_of c.new-world.result) new v = c.in-Ended-stepped.ensures.steps in
     let end = elim ends as (λ e. (new.position ≡ at.Ended)
-    × Moves c.in-Ended-stepped.counts old (world_of c.new-around.result) new v) [
+    × Moves c.in-Ended-stepped.counts old (world_of c.new-world.result) new v) [
       | inl w ↦ absurd (lives w.0)
       | inr w ↦ (w.1, w.2)
     ] in
@@ -172,7 +172,7 @@ leave-requires c =
       inside = subst (λ (who : Identity). who.process.0 < length s.system.now.processes) (sym keeps.who)
           (slice_get_within s.system.now.processes old.who.process.0 old.process member.process_is);
       places = in_place_set 0 xs place old new c.requires.fits.places there keeps.who keeps.pid;
-      census = c.requires.fits.census ∙ ap (census_of s.system.now) (sym (set_back xs place old new there));
+      living = c.requires.fits.living ∙ ap (living_of s.system.now) (sym (set_back xs place old new there));
     }
 
 pub returns-then-not-counts-clause-fits : goal.returns-then-not-counts-clause-fits
@@ -191,25 +191,25 @@ returns-then-not-counts-clause-fits c =
     (slice_get_read xs (length xs) place c.index.result.now refl (search rules) c.index.ensures) there in
     let lives : old.position ≢ at.Ended =
     λ ended. c.in_default-position.not-Ended (c.position.ensures ∙ ap (λ (i : InstanceValue). i.position) same_one ∙ ended) in
-    let ends : EndsBy c.in-Ended-stepped.counts old (world_of c.new-around.result) new v = c.in-Ended-stepped.ensures.steps in
+    let ends : EndsBy c.in-Ended-stepped.counts old (world_of c.new-world.result) new v = c.in-Ended-stepped.ensures.steps in
     let end = elim ends as (λ e. (new.position ≡ at.Ended)
-    × Moves c.in-Ended-stepped.counts old (world_of c.new-around.result) new v) [
+    × Moves c.in-Ended-stepped.counts old (world_of c.new-world.result) new v) [
       | inl w ↦ absurd (lives w.0)
       | inr w ↦ (w.1, w.2)
     ] in
     let same = c.leave.ensures.same in
-    let off = subst (λ m. (n : ℕ) → Contains c.rest-in-Ended-stepped.new.self n ↔ (Contains c.args.board.now.awake n × (n ≢ m))) number_is
+    let off = subst (λ m. (n : ℕ) → Contains c.rest-in-Ended-stepped.new.self n ↔ (Contains c.args.agenda.now.ready n × (n ≢ m))) number_is
     c.rest-in-Ended-stepped.ensures.left in
-    let marked = marked_off c.args.board.now.awake c.rest-in-Ended-stepped.new.self xs place new c.requires.fits.marked off
+    let marked = marked_off c.args.agenda.now.ready c.rest-in-Ended-stepped.new.self xs place new c.requires.fits.marked off
     (ended_rests new end.0) in
     serial_set s _ c.rest-in-Ended-stepped.new.self place old new c.requires.fits there keeps
-    (ap (λ (u : Instances). u.instances.items) same) (ap (λ (u : Instances). u.system) same) c.leave.ensures.census marked
+    (ap (λ (u : Instances). u.instances.items) same) (ap (λ (u : Instances). u.system) same) c.leave.ensures.living marked
 
 pub returns-then-not-counts-clause-runs : goal.returns-then-not-counts-clause-runs
 returns-then-not-counts-clause-runs c = λ last bound m time.
     let s = c.args.instances.now in
-    let board = c.args.board.now in
-    let from = at_board m board in
+    let agenda = c.args.agenda.now in
+    let from = at_agenda m agenda in
     let place = c.in-Some.place in
     let xs = s.instances.items in
     let number_is : c.args.number ≡ suc place = omega (arith, c.in-Some.ensures.some.0) in
@@ -233,11 +233,11 @@ returns-then-not-counts-clause-runs c = λ last bound m time.
     subst (λ (i : InstanceValue). IsAlone i.owner) same_two c.draws_nothing.ensures in
     let alone_now : IsAlone new.owner =
     subst (λ (i : InstanceValue). IsAlone i.owner) same_three c.draws_nothing-2.ensures in
-    let a = c.new-around.ensures in
-    let sees : world_of c.new-around.result ≡ around (state_of from s) =
-    around_is from s c.new-around.result c.requires.fits a.system a.clock a.begun a.changed (a.acts ∙ c.over-acts.ensures.items) in
-    let acts = map act_of c.step-stepped.new.world.acts.items in
-    let made : Made board.awake from s place c.args.number bound old new v acts = record {
+    let a = c.new-world.ensures in
+    let sees : world_of c.new-world.result ≡ world_at (state_of from s) =
+    world_is from s c.new-world.result c.requires.fits a.system a.clock a.begun a.changed (a.effects ∙ c.over-effects.ensures.items) in
+    let effects = map effect_of c.step-stepped.new.world.effects.items in
+    let made : Made agenda.ready from s place c.args.number bound old new v effects = record {
       serial = c.requires.fits;
       time = time;
       is_number = c.in-Some.ensures.some.0;
@@ -247,19 +247,19 @@ returns-then-not-counts-clause-runs c = λ last bound m time.
       undrawn = ap (λ (o : OwnerState). o.drawn) alone_now;
       known = refl;
     } in
-    let ends : EndsBy c.in-Ended-stepped.counts old (world_of c.new-around.result) new v = c.in-Ended-stepped.ensures.steps in
+    let ends : EndsBy c.in-Ended-stepped.counts old (world_of c.new-world.result) new v = c.in-Ended-stepped.ensures.steps in
     let end = elim ends as (λ e. (new.position ≡ at.Ended)
-    × Moves c.in-Ended-stepped.counts old (world_of c.new-around.result) new v) [
+    × Moves c.in-Ended-stepped.counts old (world_of c.new-world.result) new v) [
       | inl w ↦ absurd (lives w.0)
       | inr w ↦ (w.1, w.2)
     ] in
     let same = c.leave.ensures.same in
     let none : c.in-Ended-stepped.counts ≡ false = search rules in
-    let moves : Moves false old (around (state_of from s)) new v =
-    subst (λ counts. Moves counts old (around (state_of from s)) new v) none
+    let moves : Moves false old (world_at (state_of from s)) new v =
+    subst (λ counts. Moves counts old (world_at (state_of from s)) new v) none
     (subst (λ (w : WorldValue). Moves c.in-Ended-stepped.counts old w new v) sees end.1) in
     let to = after Failure c.args.number bound from in
-    step_fails board.awake from to s c.leave.new.self place c.args.number bound old new v acts made moves
+    step_fails agenda.ready from to s c.leave.new.self place c.args.number bound old new v effects made moves
     (ap (state_of to) same) refl (ap (λ (u : Instances). u.system) same) last
 
 pub perform_all-requires-in-Ended-stepped : goal.perform_all-requires-in-Ended-stepped
@@ -278,25 +278,25 @@ perform_all-requires-in-Ended-stepped c =
     (slice_get_read xs (length xs) place c.index.result.now refl (search rules) c.index.ensures) there in
     let lives : old.position ≢ at.Ended =
     λ ended. c.in_default-position.not-Ended (c.position.ensures ∙ ap (λ (i : InstanceValue). i.position) same_one ∙ ended) in
-    let ends : EndsBy c.in-Ended-stepped.counts old (world_of c.new-around.result) new v = c.in-Ended-stepped.ensures.steps in
+    let ends : EndsBy c.in-Ended-stepped.counts old (world_of c.new-world.result) new v = c.in-Ended-stepped.ensures.steps in
     let end = elim ends as (λ e. (new.position ≡ at.Ended)
-    × Moves c.in-Ended-stepped.counts old (world_of c.new-around.result) new v) [
+    × Moves c.in-Ended-stepped.counts old (world_of c.new-world.result) new v) [
       | inl w ↦ absurd (lives w.0)
       | inr w ↦ (w.1, w.2)
     ] in
     let same = c.leave.ensures.same in
-    let off = subst (λ m. (n : ℕ) → Contains c.rest-in-Ended-stepped.new.self n ↔ (Contains c.args.board.now.awake n × (n ≢ m))) number_is
+    let off = subst (λ m. (n : ℕ) → Contains c.rest-in-Ended-stepped.new.self n ↔ (Contains c.args.agenda.now.ready n × (n ≢ m))) number_is
     c.rest-in-Ended-stepped.ensures.left in
-    let marked = marked_off c.args.board.now.awake c.rest-in-Ended-stepped.new.self xs place new c.requires.fits.marked off
+    let marked = marked_off c.args.agenda.now.ready c.rest-in-Ended-stepped.new.self xs place new c.requires.fits.marked off
     (ended_rests new end.0) in
     serial_set s _ c.rest-in-Ended-stepped.new.self place old new c.requires.fits there keeps
-    (ap (λ (u : Instances). u.instances.items) same) (ap (λ (u : Instances). u.system) same) c.leave.ensures.census marked
+    (ap (λ (u : Instances). u.instances.items) same) (ap (λ (u : Instances). u.system) same) c.leave.ensures.living marked
 
 pub returns-in_ok-perform_all-in-Ended-stepped-clause-runs : goal.returns-in_ok-perform_all-in-Ended-stepped-clause-runs
 returns-in_ok-perform_all-in-Ended-stepped-clause-runs c = λ last bound m time.
     let s = c.args.instances.now in
-    let board = c.args.board.now in
-    let from = at_board m board in
+    let agenda = c.args.agenda.now in
+    let from = at_agenda m agenda in
     let place = c.in-Some.place in
     let xs = s.instances.items in
     let number_is : c.args.number ≡ suc place = omega (arith, c.in-Some.ensures.some.0) in
@@ -320,11 +320,11 @@ returns-in_ok-perform_all-in-Ended-stepped-clause-runs c = λ last bound m time.
     subst (λ (i : InstanceValue). IsAlone i.owner) same_two c.draws_nothing.ensures in
     let alone_now : IsAlone new.owner =
     subst (λ (i : InstanceValue). IsAlone i.owner) same_three c.draws_nothing-2.ensures in
-    let a = c.new-around.ensures in
-    let sees : world_of c.new-around.result ≡ around (state_of from s) =
-    around_is from s c.new-around.result c.requires.fits a.system a.clock a.begun a.changed (a.acts ∙ c.over-acts.ensures.items) in
-    let acts = map act_of c.step-stepped.new.world.acts.items in
-    let made : Made board.awake from s place c.args.number bound old new v acts = record {
+    let a = c.new-world.ensures in
+    let sees : world_of c.new-world.result ≡ world_at (state_of from s) =
+    world_is from s c.new-world.result c.requires.fits a.system a.clock a.begun a.changed (a.effects ∙ c.over-effects.ensures.items) in
+    let effects = map effect_of c.step-stepped.new.world.effects.items in
+    let made : Made agenda.ready from s place c.args.number bound old new v effects = record {
       serial = c.requires.fits;
       time = time;
       is_number = c.in-Some.ensures.some.0;
@@ -334,26 +334,26 @@ returns-in_ok-perform_all-in-Ended-stepped-clause-runs c = λ last bound m time.
       undrawn = ap (λ (o : OwnerState). o.drawn) alone_now;
       known = refl;
     } in
-    let ends : EndsBy c.in-Ended-stepped.counts old (world_of c.new-around.result) new v = c.in-Ended-stepped.ensures.steps in
+    let ends : EndsBy c.in-Ended-stepped.counts old (world_of c.new-world.result) new v = c.in-Ended-stepped.ensures.steps in
     let end = elim ends as (λ e. (new.position ≡ at.Ended)
-    × Moves c.in-Ended-stepped.counts old (world_of c.new-around.result) new v) [
+    × Moves c.in-Ended-stepped.counts old (world_of c.new-world.result) new v) [
       | inl w ↦ absurd (lives w.0)
       | inr w ↦ (w.1, w.2)
     ] in
     let same = c.leave.ensures.same in
     let counts : c.in-Ended-stepped.counts ≡ true = search rules in
-    let moves : Moves true old (around (state_of from s)) new v =
-    subst (λ counts. Moves counts old (around (state_of from s)) new v) counts
+    let moves : Moves true old (world_at (state_of from s)) new v =
+    subst (λ counts. Moves counts old (world_at (state_of from s)) new v) counts
     (subst (λ (w : WorldValue). Moves c.in-Ended-stepped.counts old w new v) sees end.1) in
     let t = c.perform_all-in-Ended-stepped.new.self in
     let done = c.in_ok-perform_all-in-Ended-stepped.ensures in
-    let given = ap (λ (census : Census). census.given) c.leave.ensures.census ∙ length-set xs place new in
+    let given = ap (λ (living : Living). living.given) c.leave.ensures.living ∙ length-set xs place new in
     let spent = record m { turn = c.args.number; bound = bound; left = m.left - 1 } in
-    step_counts board.awake from
-    (after Transition c.args.number bound (at_board m c.perform_all-in-Ended-stepped.new.board)) s t place c.args.number
-    bound old new v acts made moves
-    (λ numbers. done.state spent (subst (λ n. AreNumbered n acts) (sym given) numbers)
-    ∙ ap (λ (u : Instances). after_acts (state_of (at_board spent board) u) acts) same)
+    step_counts agenda.ready from
+    (after Transition c.args.number bound (at_agenda m c.perform_all-in-Ended-stepped.new.agenda)) s t place c.args.number
+    bound old new v effects made moves
+    (λ numbers. done.state spent (subst (λ n. AreNumbered n effects) (sym given) numbers)
+    ∙ ap (λ (u : Instances). after_effects (state_of (at_agenda spent agenda) u) effects) same)
     (omega (arith, time.some))
     (c.perform_all-in-Ended-stepped.ensures.system ∙ ap (λ (u : Instances). u.system) same) last
 
@@ -375,20 +375,20 @@ returns-in-Idle-clause-fits c =
     (slice_get_read xs (length xs) place c.index.result.now refl (search rules) c.index.ensures) there in
     let lives : old.position ≢ at.Ended =
     λ ended. c.in_default-position.not-Ended (c.position.ensures ∙ ap (λ (i : InstanceValue). i.position) same_one ∙ ended) in
-    let idle : IsIdle old (world_of c.new-around.result) new v = c.in-Idle.ensures.steps in
-    let off = subst (λ m. (n : ℕ) → Contains c.rest-in-Idle.new.self n ↔ (Contains c.args.board.now.awake n × (n ≢ m))) number_is
+    let idle : IsIdle old (world_of c.new-world.result) new v = c.in-Idle.ensures.steps in
+    let off = subst (λ m. (n : ℕ) → Contains c.rest-in-Idle.new.self n ↔ (Contains c.args.agenda.now.ready n × (n ≢ m))) number_is
     c.rest-in-Idle.ensures.left in
     serial_set s _ c.rest-in-Idle.new.self place old new c.requires.fits there keeps refl refl
-    (c.requires.fits.census
-    ∙ sym (census_same s.system.now xs place old new there keeps.who (ap is_ended idle.0)))
-    (marked_off c.args.board.now.awake c.rest-in-Idle.new.self xs place new c.requires.fits.marked off
-    (idle_rests old new (world_of c.new-around.result) v keeps idle))
+    (c.requires.fits.living
+    ∙ sym (living_same s.system.now xs place old new there keeps.who (ap is_ended idle.0)))
+    (marked_off c.args.agenda.now.ready c.rest-in-Idle.new.self xs place new c.requires.fits.marked off
+    (idle_rests old new (world_of c.new-world.result) v keeps idle))
 
 pub returns-in-Idle-clause-runs : goal.returns-in-Idle-clause-runs
 returns-in-Idle-clause-runs c = λ last bound m time.
     let s = c.args.instances.now in
-    let board = c.args.board.now in
-    let from = at_board m board in
+    let agenda = c.args.agenda.now in
+    let from = at_agenda m agenda in
     let place = c.in-Some.place in
     let xs = s.instances.items in
     let number_is : c.args.number ≡ suc place = omega (arith, c.in-Some.ensures.some.0) in
@@ -412,9 +412,9 @@ returns-in-Idle-clause-runs c = λ last bound m time.
     subst (λ (i : InstanceValue). IsAlone i.owner) same_two c.draws_nothing.ensures in
     let alone_now : IsAlone new.owner =
     subst (λ (i : InstanceValue). IsAlone i.owner) same_three c.draws_nothing-2.ensures in
-    let a = c.new-around.ensures in
-    let sees : world_of c.new-around.result ≡ around (state_of from s) =
-    around_is from s c.new-around.result c.requires.fits a.system a.clock a.begun a.changed (a.acts ∙ c.over-acts.ensures.items) in
-    let idle : IsIdle old (around (state_of from s)) new v =
+    let a = c.new-world.ensures in
+    let sees : world_of c.new-world.result ≡ world_at (state_of from s) =
+    world_is from s c.new-world.result c.requires.fits a.system a.clock a.begun a.changed (a.effects ∙ c.over-effects.ensures.items) in
+    let idle : IsIdle old (world_at (state_of from s)) new v =
     subst (λ (w : WorldValue). IsIdle old w new v) sees c.in-Idle.ensures.steps in
     step_idles from from s _ place old new v c.requires.fits there keeps alone_then alone_now idle refl refl refl last

@@ -1,14 +1,14 @@
 use Rattle.std.proofs.Common.{◌≡◌, ◌+◌, ◌++◌, ◌<◌, Some, length, refl, rules, ap, ◌∙◌, arith, slice_get, subst}
 use Rattle.std.proofs.lemmas.Option.{slice_get_read}
-use Rattle.serial_order.specs.Global.{first_of}
-use Rattle.serial_instances.proofs.Beginning.{begun-process, census-none, none-serial}
-use Rattle.run_semantics.specs.World.{Census}
+use Rattle.serial_order.specs.RunState.{first_of}
+use Rattle.serial_instances.proofs.Beginning.{begun-process, living-none, none-serial}
+use Rattle.run_semantics.specs.World.{Living}
 use Rattle.serial_instances.proofs.instances.Instances.begin.Goals as goal
 use Rattle.sdl_system.specs.System.{SystemValue}
 
 pub loop-number-init : goal.loop-number-init
 loop-number-init c = record {
-  serial = none-serial c.args.board.now.awake _ (census-none c.args.system.now _ c.in_ok-new.field-0 (ap length c.processes.ensures)
+  serial = none-serial c.args.agenda.now.ready _ (living-none c.args.system.now _ c.in_ok-new.field-0 (ap length c.processes.ensures)
       c.in_ok-new.ensures) c.new.ensures.items c.requires;
   system = refl;
   clock = refl;
@@ -49,9 +49,9 @@ loop-number-preserved c =
       system = ap (λ (r : _). r.now) c.begin_all.ensures.system ∙ is.system;
       clock = c.begin_all.ensures.clock ∙ is.clock;
       fuses = c.begin_all.ensures.fuses ∙ is.fuses;
-      instances = begun-process system n c.in-Ok.number before.census.given process before.instances.items
+      instances = begun-process system n c.in-Ok.number before.living.given process before.instances.items
           after.instances.items there
           (did.instances ∙ ap (λ (system : SystemValue). before.instances.items
-          ++ first_of system (before.census.given + 1) (record { 0 = c.in-Ok.number }) process process.initial) is.system)
-          number (ap (λ (census : Census). census.given) is.serial.census) is.instances;
+          ++ first_of system (before.living.given + 1) (record { 0 = c.in-Ok.number }) process process.initial) is.system)
+          number (ap (λ (living : Living). living.given) is.serial.living) is.instances;
     }

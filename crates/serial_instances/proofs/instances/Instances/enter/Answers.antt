@@ -9,9 +9,9 @@ returns-clause-kept c =
     let s = c.args.self.now in
     let i = c.in-Ok.instance in
     let port = c.new-inbox.result in
-    let next : c.in-Some.pid ≡ s.census.given + 1 = c.in-Some.ensures.1 ∙ ap (λ n. n + 1) c.given.ensures in
-    let enters = entering s.system.now c.args.process.now c.args.id c.in-Some.pid s.census.given c.args.parent
+    let next : c.in-Some.pid ≡ s.living.given + 1 = c.in-Some.ensures.1 ∙ ap (λ n. n + 1) c.given.ensures in
+    let enters = entering s.system.now c.args.process.now c.args.id c.in-Some.pid s.living.given c.args.parent
     c.args.values.now (single port.pid port.state port.armed) i c.in-Ok.ensures (ap (λ a. a.pid) c.new-inbox.ensures)
     next c.requires.process in
-    serial-entered s _ c.args.board.now.awake c.wake.new.self c.args.id i c.requires.serial enters refl c.add.ensures c.in_ok-push.ensures.items
-    (subst (λ n. IsWaked n c.args.board.now.awake c.wake.new.self) next c.in_ok-wake.ensures.ok)
+    serial-entered s _ c.args.agenda.now.ready c.wake.new.self c.args.id i c.requires.serial enters refl c.add.ensures c.in_ok-push.ensures.items
+    (subst (λ n. IsWaked n c.args.agenda.now.ready c.wake.new.self) next c.in_ok-wake.ensures.ok)

@@ -1,12 +1,12 @@
 use Rattle.std.proofs.Common.{◌≡◌, Option, Some, length, refl, slice_get, subst, sym}
 use Rattle.std.specs.Prelude.{IsSomeAnd}
 use Rattle.std.proofs.lemmas.Option.{slice_get_read, slice_get_within}
-use Rattle.serial_instances.proofs.Census.{leaves}
+use Rattle.serial_instances.proofs.Living.{leaves}
 use Rattle.sdl_interp.specs.Instance.{InstanceValue}
 use Rattle.serial_instances.proofs.instances.Instances.leave.Goals as goal
 
-pub returns-clause-census : goal.returns-clause-census
-returns-clause-census c =
+pub returns-clause-living : goal.returns-clause-living
+returns-clause-living c =
     let s = c.args.self.now in
     let xs = s.instances.items in
     let i = c.index.result.now in

@@ -1,5 +1,5 @@
 use Rattle.std.proofs.Common.{◌≡◌, ◌+◌, drop}
-use Rattle.serial_order.specs.Global.{least_living}
+use Rattle.serial_order.specs.RunState.{least_living}
 use Rattle.serial_instances.proofs.instances.Instances.next_living.Given as goal
 
 abbrev pub invariant-loop-instance : goal.invariant-loop-instance

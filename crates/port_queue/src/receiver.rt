@@ -1,0 +1,381 @@
+//! What draws from a port, for an owner that lives and for one that has stopped. The atomic steps are those of `steps`.
+ghost use Rattle.std.specs.Prelude.{◌≡◌, ◌↔◌, ◌<◌, ◌+◌, ◌-◌, ◌^◌, [], ◌∷◌, ◌≤◌, true, None, length, count_by, IfErr, IfOk, IsErrOf, MatchOption};
+ghost use Rattle.port_queue.specs.Words.{after_draw, after_draws, after_reset, after_stop, armed_left, due_times, is_active, is_signal, left_with, newborn, owner, popped_list, signals_drawn, AreWaiting, DrainIs, GatherIs, HasDrawn, IsDrawn, IsGathered, IsKnowing, IsLeast, IsSegPassOf, MeetIs, MOST_SETS, Placed, PullIs, SetIs, TakeIs, TakesIn};
+ghost use Rattle.port_model.specs.Take.{Takes};
+
+use crate::refused::refused;
+use crate::rule::{Pass, Queue};
+use crate::{Finished, Port, Sender, steps};
+use port_inbox::{Entry, Fuse, Placed, Refused, fused};
+use port_model::{PlainPort, PortError, Selection, Taken};
+use port_values::{Ticks, TimerKey};
+use std::alloc::Global;
+use std::marker::Model;
+use std::sync::Wait;
+
+/// What draws from a port, for an owner that lives and for one that has stopped: its pass, its own port of one thread,
+/// and the counts of the senders gathered and of the signals drawn.
+#[derive(Drop)]
+pub struct Receiver {
+    alloc: Global,
+    pid: u32,
+    pass: Pass,
+    plain: PlainPort,
+    gathered: u64,
+    signals: u64,
+}
+
+impl Model for Receiver {
+    ghost use Rattle.std.specs.Prelude.{◌≡◌, None};
+    ghost use Rattle.port_inbox.specs.Ends.{OwnerState};
+    ghost use Rattle.port_queue.specs.Ends.{IsOfOwner};
+
+    ghost Value = { OwnerState };
+
+    ghost view = { λ o. record {
+      port = record { web = o.pass.web; heap = o.pass.heap };
+      pid = o.pid;
+      drawn = o.pass.me.view.client.drawn;
+      known = o.pass.me.view.client.seen;
+      gathered = o.pass.me.view.client.gathered;
+      state = o.plain.state;
+      armed = o.plain.armed;
+    } };
+
+    ghost invariant = { λ o. IsOfOwner o.pass.me.view.client o.gathered o.signals × (o.pass.me.hand ≡ None)
+        × (o.pass.me.spare ≡ None) };
+}
+
+impl Receiver {
+    /// What has drawn nothing and knows of nothing, from the pass of an owner.
+    pub fn new(alloc: Global, pid: u32, pass: Pass) -> Self
+        requires view { pass.me.view.client ≡ owner [] [] [] [] }
+        requires free { (pass.me.hand ≡ None) × (pass.me.spare ≡ None) }
+        ensures { result ≡ newborn (record { web = pass.web; heap = pass.heap }) pid }
+    {
+        Receiver {
+            alloc,
+            pid,
+            pass,
+            plain: PlainPort::new(alloc),
+            gathered: 0,
+            signals: 0,
+        }
+    }
+
+    /// How many senders have been gathered and not handed back.
+    pub fn gathered(&self) -> u64
+        ensures { result ≡ length self.now.gathered }
+    {
+        self.gathered
+    }
+
+    /// How many signals have been drawn.
+    pub fn signals(&self) -> u64
+        ensures { result ≡ signals_drawn self.now }
+    {
+        self.signals
+    }
+
+    /// What every owner knows, as a fact.
+    pub fn knows(&self)
+        ensures { IsKnowing self.now }
+    {
+        let _ = &self.gathered;
+    }
+
+    /// Takes from the port (Z.102, priority input, save): draws entries until the selection takes one, or until none
+    /// is left. After `Nothing` all that the owner knows of is drawn. In a state with a priority input everything is
+    /// drawn first. For want of memory nothing is taken, and what was drawn stays in the port. That it is the owner's
+    /// port is the caller's condition.
+    pub fn take<R: Wait>(
+        &mut self,
+        rt: &R,
+        port: &Port,
+        selection: &Selection,
+    ) -> Result<Taken, PortError>
+        requires { self.old.port ≡ port.now.queue }
+        ensures port { self.new.port ≡ self.old.port }
+        ensures take { TakeIs selection.now self.old self.new result }
+    {
+        if selection.has_priority() {
+            return self.take_urgent(rt, port, selection);
+        }
+        for _ in rt.forever() {
+            match self.choose(selection) {
+                Taken::Nothing => {}
+                taken => return Ok(taken),
+            }
+            if !self.pull(rt, port)? {
+                return Ok(Taken::Nothing);
+            }
+        }
+        unreachable!()
+    }
+
+    /// In a state with a priority input: where an entry of one is drawn already, takes it. Else draws all that the
+    /// queue holds first.
+    fn take_urgent<R: Wait>(
+        &mut self,
+        rt: &R,
+        port: &Port,
+        selection: &Selection,
+    ) -> Result<Taken, PortError>
+        requires { self.old.port ≡ port.now.queue }
+        ensures port { self.new.port ≡ self.old.port }
+        ensures take { TakeIs selection.now self.old self.new result }
+    {
+        match self.plain.take_priority(selection) {
+            Some(got) => Ok(Taken::Consumed(got)),
+            None => self.take_fresh(rt, port, selection),
+        }
+    }
+
+    /// Draws all that the queue holds, and takes then.
+    fn take_fresh<R: Wait>(
+        &mut self,
+        rt: &R,
+        port: &Port,
+        selection: &Selection,
+    ) -> Result<Taken, PortError>
+        requires { self.old.port ≡ port.now.queue }
+        ensures port { self.new.port ≡ self.old.port }
+        ensures take { TakeIs selection.now self.old self.new result }
+    {
+        self.drain(rt, port)?;
+        Ok(self.choose(selection))
+    }
+
+    /// Draws all that the queue holds, up to a fresh point. For want of memory it stops before. That it is the owner's
+    /// port is the caller's condition.
+    pub fn drain<R: Wait>(&mut self, rt: &R, port: &Port) -> Result<(), PortError>
+        requires { self.old.port ≡ port.now.queue }
+        ensures port { self.new.port ≡ self.old.port }
+        ensures drawn { HasDrawn self.old self.new }
+        ensures fresh { DrainIs self.new result }
+    {
+        for _ in rt.forever() {
+            if !self.pull(rt, port)? {
+                return Ok(());
+            }
+        }
+        unreachable!()
+    }
+
+    /// Takes from what is drawn.
+    fn choose(&mut self, selection: &Selection) -> Taken
+        ensures take { Takes selection.now self.old.state result self.new.state }
+        ensures same { self.new ≡ record self.old { state = self.new.state; armed = armed_left result self.old.armed } }
+    {
+        self.plain.take(selection)
+    }
+
+    /// Draws one entry, if the queue has one. The room for it is made first, so that no entry is lost for want of
+    /// memory.
+    fn pull<R: Wait>(&mut self, rt: &R, port: &Port) -> Result<bool, PortError>
+        requires { self.old.port ≡ port.now.queue }
+        ensures port { self.new.port ≡ self.old.port }
+        ensures pulled { PullIs self.old self.new result }
+    {
+        if self.signals == u64::MAX || self.plain.reserve().is_err() {
+            return Err(PortError::Memory);
+        }
+        match steps::pop(rt, &port.queue, &mut self.pass) {
+            None => Ok(false),
+            Some(placed) => {
+                self.signals += placed.signals();
+                fused::draw(&mut self.plain, self.pid, placed);
+                Ok(true)
+            }
+        }
+    }
+
+    /// Takes a sender in: the owner then knows all that the sender had seen. For want of memory the sender comes back.
+    /// That the port is that of both is the caller's condition.
+    pub fn gather<R: Wait>(
+        &mut self,
+        rt: &R,
+        port: &Port,
+        sender: Sender,
+    ) -> Result<(), Refused<Sender>>
+        requires owner { self.old.port ≡ port.now.queue }
+        requires sender { sender.port ≡ port.now.queue }
+        ensures port { self.new.port ≡ self.old.port }
+        ensures gather { GatherIs self.old self.new sender result }
+    {
+        if self.gathered == u64::MAX || self.signals == u64::MAX {
+            return Err(refused(sender));
+        }
+        if self.plain.reserve().is_err() {
+            return Err(refused(sender));
+        }
+        let popped = take_in(rt, &port.queue, &mut self.pass, sender.into_pass());
+        self.signals += signals_in(&popped);
+        draw_popped(&mut self.plain, self.pid, popped);
+        self.gathered += 1;
+        Ok(())
+    }
+
+    /// Takes a sender in and gives it back: the owner then knows all that the sender had seen, and the sender has seen
+    /// all that the owner knows. For want of memory the sender comes back as it was. That the port is that of both is
+    /// the caller's condition.
+    pub fn meet<R: Wait>(
+        &mut self,
+        rt: &R,
+        port: &Port,
+        sender: Sender,
+    ) -> Result<Sender, Refused<Sender>>
+        requires owner { self.old.port ≡ port.now.queue }
+        requires sender { sender.port ≡ port.now.queue }
+        ensures port { self.new.port ≡ self.old.port }
+        ensures meet { MeetIs self.old self.new sender result }
+    {
+        if self.signals == u64::MAX || self.plain.reserve().is_err() {
+            return Err(refused(sender));
+        }
+        let tally = sender.tally();
+        let popped = take_in(rt, &port.queue, &mut self.pass, sender.into_pass());
+        self.signals += signals_in(&popped);
+        draw_popped(&mut self.plain, self.pid, popped);
+        let pass = steps::split_again(&port.queue, &mut self.pass);
+        Ok(Sender::again(pass, tally))
+    }
+
+    /// Sets a timer for the time `due`, after a reset. Refused with `SetsSpent` after 2^62 sets, and for want of
+    /// memory; the key is dropped then, and nothing changes.
+    pub fn set(&mut self, key: TimerKey, due: Ticks) -> Result<Fuse, PortError>
+        ensures port { self.new.port ≡ self.old.port }
+        ensures set { SetIs self.old self.new key due result }
+        ensures spent { IsErrOf result PortError.SetsSpent ↔ (self.old.state.sets ≡ MOST_SETS) }
+    {
+        fused::set(&mut self.plain, self.pid, key, due)
+    }
+
+    /// Resets a timer: it isn't active any more, and its signal doesn't wait.
+    pub fn reset(&mut self, key: &TimerKey)
+        ensures { self.new ≡ after_reset self.old key.now }
+    {
+        self.plain.reset(key);
+    }
+
+    /// Whether a timer is active.
+    pub fn active(&self, key: &TimerKey) -> bool
+        ensures { result ≡ is_active key.now self.now.state.timers }
+    {
+        self.plain.active(key)
+    }
+
+    /// The least due time of a timer that is set and has not expired.
+    pub fn next_due(&self) -> Option<Ticks>
+        ensures { IsLeast (due_times self.now.state.timers) result }
+    {
+        self.plain.next_due()
+    }
+
+    /// Ends the port (Z.101, stop): what waits is discarded, no timer is active, and later entries have no effect.
+    /// Takes no memory.
+    pub fn stop(&mut self)
+        ensures { self.new ≡ after_stop self.old }
+    {
+        self.plain.stop();
+    }
+
+    /// The list of what is drawn after the stop. Takes no memory.
+    pub fn nothing_since(&self) -> Vec<Entry>
+        ensures { result.items ≡ [] }
+    {
+        Vec::new(self.alloc)
+    }
+
+    /// An entry popped after the stop, which has no effect on the port. That it is the owner's port is the caller's
+    /// condition.
+    pub fn pop<R: Wait>(&mut self, rt: &R, port: &Port) -> Option<Placed>
+        requires port { self.old.port ≡ port.now.queue }
+        requires fewer { signals_drawn self.old < 2 ^ 64 - 1 }
+        ensures port { self.new.port ≡ self.old.port }
+        ensures state { self.new.state ≡ self.old.state }
+        ensures popped { MatchOption result ((self.new ≡ self.old) × (self.new.known ≡ self.new.drawn))
+            (λ placed. IsDrawn self.old
+            (record self.new { state = after_draw self.old.pid self.old.state placed }) (placed ∷ [])) }
+    {
+        let popped = steps::pop(rt, &port.queue, &mut self.pass);
+        self.signals += signals_in(&popped);
+        popped
+    }
+
+    /// A gathering after the stop, with the entry popped on the way. That the port is that of both is the caller's
+    /// condition.
+    pub fn absorb<R: Wait>(&mut self, rt: &R, port: &Port, sender: Sender) -> Option<Placed>
+        requires owner { self.old.port ≡ port.now.queue }
+        requires sender { sender.port ≡ port.now.queue }
+        requires fewer { length self.old.gathered < 2 ^ 64 - 1 }
+        requires few { signals_drawn self.old < 2 ^ 64 - 1 }
+        ensures port { self.new.port ≡ self.old.port }
+        ensures state { self.new.state ≡ self.old.state }
+        ensures gather { IsGathered self.old
+            (record self.new { state = after_draws self.old.pid self.old.state (popped_list result) })
+            sender (popped_list result) }
+    {
+        let popped = take_in(rt, &port.queue, &mut self.pass, sender.into_pass());
+        self.gathered += 1;
+        self.signals += signals_in(&popped);
+        popped
+    }
+
+    /// The end: these entries are left.
+    pub fn leave(self, entries: Vec<Entry>) -> Finished
+        ensures { result ≡ left_with self entries.items }
+    {
+        Finished::new(entries, self.pass)
+    }
+
+    /// The end: what waits in the port of the standard is left, in order, each timer's signal with its fuse. For want
+    /// of memory it comes back as it was.
+    pub fn leave_waiting(mut self) -> Result<Finished, Receiver>
+        ensures left { IfOk result (λ end. end ≡ left_with self end.entries) }
+        ensures waiting { IfOk result (λ end. AreWaiting self.state.waiting self.pid self.armed end.entries) }
+        ensures back { IfErr result (λ back. back ≡ self) }
+    {
+        match fused::into_entries(self.alloc, self.pid, self.plain) {
+            Ok(list) => Ok(Finished::new(list, self.pass)),
+            Err(plain) => {
+                self.plain = plain;
+                Err(self)
+            }
+        }
+    }
+}
+
+/// How many signals were popped.
+fn signals_in(popped: &Option<Placed>) -> u64
+    ensures few { result ≤ 1 }
+    ensures count { result ≡ count_by is_signal (popped_list popped.now) }
+{
+    match popped {
+        None => 0,
+        Some(placed) => placed.signals(),
+    }
+}
+
+/// Takes a sender's pass in, and pops one entry, if the queue has one: this pop tells that what the two had seen are
+/// both beginnings of the put list.
+fn take_in<R: Wait>(rt: &R, queue: &Queue, pass: &mut Pass, other: Pass) -> Option<Placed>
+    requires queue { IsSegPassOf queue.now pass.old × IsSegPassOf queue.now other }
+    requires rights { (pass.old.me.view.client.takes ≡ true) × (other.me.view.client.sends ≡ true) }
+    ensures queue { IsSegPassOf queue.now pass.new }
+    ensures taken { TakesIn pass.old.me.view.client other.me.view.client pass.new.me.view.client (popped_list result) }
+{
+    steps::take_back(queue, pass, other);
+    steps::pop(rt, queue, pass)
+}
+
+/// Puts what was popped into the owner's port, into the room that was made.
+fn draw_popped(plain: &mut PlainPort, pid: u32, popped: Option<Placed>)
+    requires { 0 < plain.old.room }
+    ensures state { plain.new.state ≡ after_draws pid plain.old.state (popped_list popped) }
+    ensures armed { plain.new.armed ≡ plain.old.armed }
+{
+    if let Some(placed) = popped {
+        fused::draw(plain, pid, placed);
+    }
+}

@@ -1,6 +1,0 @@
-use Rattle.std.proofs.Common.{ap}
-use Rattle.serial_sweeps.specs.Marks.{numbers_in}
-use Rattle.serial_sweeps.proofs.awake.Awake.new.Goals as goal
-
-pub returns : goal.returns
-returns c = ap (λ words. numbers_in words) c.new.ensures.items

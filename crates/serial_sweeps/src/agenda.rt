@@ -1,0 +1,33 @@
+//! What the instances see and change of a run.
+
+ghost use Rattle.std.specs.Prelude.{◌≡◌, []};
+
+use crate::ready_set::ReadySet;
+use port_values::Ticks;
+use sdl_timers::Wheel;
+use std::alloc::Global;
+
+/// What the instances of a run see and change of it as they step: the clock, who may have something to do, and the
+/// fuses that wait.
+#[derive(Drop)]
+pub struct Agenda {
+    pub clock: Ticks,
+    pub ready: ReadySet,
+    /// The fuses that wait for their time.
+    pub fuses: Wheel,
+}
+
+impl Agenda {
+    /// The board at time 0, on which nobody and nothing stands. Takes no memory.
+    pub fn new(alloc: Global) -> Self
+        ensures clock { result.clock ≡ 0 }
+        ensures ready { result.ready ≡ [] }
+        ensures fuses { result.fuses ≡ [] }
+    {
+        Agenda {
+            clock: Ticks::new(0),
+            ready: ReadySet::new(alloc),
+            fuses: Wheel::new(alloc),
+        }
+    }
+}

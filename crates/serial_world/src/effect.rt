@@ -1,0 +1,25 @@
+//! What an instance does to what lies outside of it.
+
+use port_inbox::Fuse;
+use port_values::{Item, Values};
+use sdl_system::{ProcessId, Target};
+
+/// What an instance does outside, in a step, which is done when the step is over.
+#[derive(Debug, Drop)]
+pub enum Effect {
+    /// A signal is sent.
+    Send {
+        target: Target,
+        item: Item,
+    },
+    /// A timer is set, which expires at its time.
+    Arm(Fuse),
+    /// An instance of the process is made, with this number and these values of its parameters. `parent` is the number
+    /// of its creator.
+    Create {
+        process: ProcessId,
+        number: u32,
+        parent: u32,
+        values: Values,
+    },
+}
