@@ -1,4 +1,4 @@
--- A course that ends a report goes no further in another.
+-- An execution that ends a report goes no further in another.
 use Rattle.std.proofs.Common.{◌≡◌, ◌∙◌, ◌+◌, ◌-◌, ◌++◌, ◌<◌, ◌≤◌, ap, arith, if◌then◌else◌, inl, inr, length, length-append, map, min, nat_le, refl, slice_get, subst, sym, ℕ, Bool, true, false, All, List, [], ◌∷◌, None, Option, Some}
 use Rattle.std.proofs.lemmas.List.Elements.{All-contains, All-head, All-map, All-tail}
 use Rattle.std.proofs.lemmas.Option.{none-some, slice_get-get_or}
@@ -163,7 +163,7 @@ begins_within : (system : SystemValue) (lines : List ScriptLine) → IsScript sy
 begins_within system lines script =
     record { until = omega arith; lines = lines_within system lines script }
 
--- ---- a whole course goes no further
+-- ---- a whole execution goes no further
 
 module _ (ps : List Behaviour) (system : SystemValue) (lines : List ScriptLine) (limit : ℕ)
     (happenings : List Happening) (last : RunState) (end : ℕ) (whole : EndsWhole ps lines limit happenings last end)

@@ -1,4 +1,4 @@
--- What two courses of a system, and two serial reports, have in common (Z.101: system).
+-- What two executions of a system, and two serial reports, have in common (Z.101: system).
 use Rattle.std.specs.Prelude.{◌≡◌, ℕ, List, [], All, length, map}
 use Rattle.port_inbox.specs.Ends.{single}
 use Rattle.serial_order.specs.Execution.{AreBehaviours, Execution, Expired, Happening, Heard, Moved, Ticked}
@@ -39,13 +39,13 @@ pub record AreSame (happenings others : List Happening) (last end : RunState) : 
   pub happened : map uncalled_one happenings ≡ map uncalled_one others
   pub whole : bare_whole last ≡ bare_whole end
 
--- ---- courses
+-- ---- executions
 
 -- no instance failed for want of memory
 abbrev pub LacksNothing : RunState → Type 0
 LacksNothing g = All (λ (i : InstanceValue). LackNothing i.events) g.instances
 
--- Two courses from one state, as long as each other, are the same.
+-- Two executions from one state, as long as each other, are the same.
 abbrev pub ExecutionsAgree : Type 0
 ExecutionsAgree =
     (ps : List Behaviour) (time : ℕ) (from : RunState) (happenings others : List Happening) (last end : RunState)

@@ -1,8 +1,8 @@
-//! What holds of any two courses of a system, and of any two of its reports, as functions that do nothing.
+//! What holds of any two executions of a system, and of any two of its reports, as functions that do nothing.
 
 ghost use Rattle.laws_one_report.specs.Same.{ExecutionsAgree, OneReport, OneReportOfAll, OneText};
 
-/// Two courses from one state of the whole, of which as much happened in the one as in the other, are the same, and
+/// Two executions from one state of the whole, of which as much happened in the one as in the other, are the same, and
 /// lead to the same state. That is so where nothing in them fails for want of memory (Z.101: system).
 pub fn executions_agree()
     ensures { ExecutionsAgree }

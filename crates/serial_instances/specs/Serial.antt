@@ -44,7 +44,7 @@ pub record IsSerial (ready : List ℕ) (a : Instances) : Type 0 where
 
 -- ---- who lives
 
--- The instance at this place has ended, with the step before which the census was taken.
+-- The instance at this place has ended, with the step before which the living were counted.
 pub record HasEnded (a : Instances) (place : ℕ) : Type 0 where
   pub before : InstanceValue
   pub now : InstanceValue

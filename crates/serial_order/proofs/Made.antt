@@ -94,7 +94,7 @@ module _ (who : Identity) (w : WorldValue) (living : Living) (known : w.living �
   event_makes (event.Rest state) done are is_true = nothing_made done are
   event_makes (event.Cut state) done are is_true = nothing_made done are
 
--- the census after some acts
+-- who lives after some effects
 record Counts (w : WorldValue) (given : ℕ) : Type 0 where
   living : Living
   known : w.living ≡ Some living

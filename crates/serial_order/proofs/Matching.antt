@@ -266,7 +266,7 @@ matched_all sender n now (first ∷ rest) are =
     ∙ ap (λ (items : List Item). puts_of (comes_by n now (effects_by sender first)) ++ items)
     (matched_all sender n (moment_after now first) rest are.1)
 
--- a step of a course
+-- a step of an execution
 step_own : (ps : List Behaviour) (g : RunState) (who : Identity) (deeds : List Deed) (h : RunState)
     → Steps ps g who deeds h → IsOwn (Moved who deeds)
 step_own ps g who deeds h step =

@@ -39,7 +39,7 @@ abbrev pub Ends : Bool → List Behaviour → List ScriptLine → ℕ → List H
 Ends true ps lines limit happenings last end = EndsWhole ps lines limit happenings last end
 Ends false ps lines limit happenings last end = EndsCut limit happenings last end
 
--- The report of a serial run: a course from the first instances, before their start at time 0, to a state whose
+-- The report of a serial run: an execution from the first instances, before their start at time 0, to a state whose
 -- instances are those of the records, one for each number, in order.
 pub record IsSerialReport (ps : List Behaviour) (system : SystemValue) (lines : List ScriptLine) (limit : ℕ)
     (report : Report) : Type 0 where

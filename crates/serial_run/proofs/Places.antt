@@ -47,7 +47,7 @@ in_place_set n (x ∷ xs) zero old new are there who pid =
 in_place_set n (x ∷ xs) (suc place) old new are there who pid =
     (are.0, are.1, in_place_set (n + 1) xs place old new are.2 there who pid)
 
--- ---- the census, where a living one lives on
+-- ---- who lives, where a living one lives on
 
 module _ (q : ℕ) (old new : InstanceValue) (who : new.who ≡ old.who)
     (ended : is_ended new.position ≡ is_ended old.position) where

@@ -6,7 +6,7 @@ use Rattle.serial_instances.specs.declared.instances.Instances.{Instances}
 use Rattle.serial_sweeps.specs.Sweeps.{Moment}
 use Rattle.sdl_system.specs.Behaviour.{Behaviour}
 
--- From one state of the whole to another a course leads, and its transitions are taken off the limit. Where none is
+-- From one state of the whole to another an execution leads, and its transitions are taken off the limit. Where none is
 -- left, nothing happened behind the last of them.
 pub record Advances (ps : List Behaviour) (last : ℕ) (m : Moment) (a : Instances) (n : Moment) (b : Instances) : Type 0
   where

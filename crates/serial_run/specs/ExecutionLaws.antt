@@ -22,7 +22,7 @@ pub transitions_of-append : (before after : List Happening)
 transitions_of-append [] after = omega arith
 transitions_of-append (first ∷ rest) after = omega (arith, transitions_of-append rest after)
 
--- of two courses the later one ends the whole, unless nothing happened in it
+-- of two executions the later one ends the whole, unless nothing happened in it
 ends_on : (before after : List Happening) → EndsInTransition after → (after ≡ [] → EndsInTransition before)
     → EndsInTransition (before ++ after)
 ends_on before after ends first =

@@ -93,7 +93,7 @@ all_rest ps a behaviours serial all = λ place d below.
     (rests_by ps found.0 (meaning_at ps a place found.0 behaviours serial found.1)
     (all_at IsAtRest a.instances.items place found.0 all found.1))
 
--- ---- what is due, in the words of the sweeps and of the course
+-- ---- what is due, in the words of the sweeps and of the execution
 
 no_line : (before : ℕ) (lines : List ScriptLine) → sweeps.IsNoLineBefore before lines → IsNoLineBefore before lines
 no_line before [] is = tt

@@ -3,7 +3,7 @@
 //! `run_serial` makes the steps of all instances in sweeps by ascending number, lets the clock move only where all
 //! rest, expires the timers that are due then in their order, and hears the script's lines of that time in theirs: so
 //! do the sweeps (`serial_sweeps`), over instances with ports of their own (`serial_instances`). A step of one of them is made
-//! here, and what it does to others is done behind it. The report is that of one course of all that happens
+//! here, and what it does to others is done behind it. The report is that of one execution, of all that happens
 //! (`serial_order`).
 #![tactic(auto)]
 

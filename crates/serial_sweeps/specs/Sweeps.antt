@@ -28,7 +28,7 @@ until_of true clock = clock + 1
 abbrev pub until : Moment → ℕ
 until m = until_of m.begun m.clock
 
--- a moment, with the clock and the fuses of a board
+-- a moment, with the clock and the fuses of an agenda
 abbrev pub at_agenda : Moment → Agenda → Moment
 at_agenda m b = record m { clock = b.clock; fuses = b.fuses }
 

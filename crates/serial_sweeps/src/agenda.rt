@@ -18,7 +18,7 @@ pub struct Agenda {
 }
 
 impl Agenda {
-    /// The board at time 0, on which nobody and nothing stands. Takes no memory.
+    /// The agenda at time 0, with nobody and nothing on it. Takes no memory.
     pub fn new(alloc: Global) -> Self
         ensures clock { result.clock ≡ 0 }
         ensures ready { result.ready ≡ [] }

@@ -1,4 +1,4 @@
--- What lies around an instance that makes a step.
+-- The world of an instance that makes a step: what it sees of the run, and what it does to others.
 use Rattle.std.specs.Prelude.{◌≡◌, ◌+◌, ℕ, List, [], ◌∷◌, Option, None, Some, map}
 use Rattle.run_semantics.specs.Effect as runs
 use Rattle.run_semantics.specs.World.{Living, WorldValue}

@@ -1,4 +1,4 @@
-//! What lies around an instance that makes a step.
+//! The world of an instance that makes a step: what it sees of the run, and what it does to others.
 
 ghost use Rattle.std.specs.Prelude.{◌≡◌};
 ghost use Rattle.serial_world.specs.StepWorld.{living_now};

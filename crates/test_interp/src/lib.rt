@@ -1,5 +1,5 @@
 //! Tests of one instance of a process: a specification and a script, and the record that is wanted. Each case is run
-//! over the port of one thread and over a shared port; and one instance is run as a member of a run on threads, with
+//! over the port of one thread and over a shared port; and one instance is run as an instance of a run on threads, with
 //! its senders, on one thread.
 //!
 //! They stand above `sdl_interp`, so that neither it nor the crates under it are proved a second time for their tests;

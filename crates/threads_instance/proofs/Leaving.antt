@@ -1,4 +1,4 @@
--- What the senders have put, as a member is closed.
+-- What the senders have put, as an instance is closed.
 use Rattle.std.proofs.Common.{◌≡◌, ◌∙◌, ◌==◌, ap, append-nil, cond, refl, sym, subst, ℕ, Bool, true, false, List, [], ◌∷◌, ◌++◌, All}
 use Rattle.std.proofs.lemmas.Grind.{flat_map-append}
 use Rattle.std.proofs.lemmas.List.Elements.{All-append, All-cons, All-nil}

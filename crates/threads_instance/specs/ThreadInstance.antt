@@ -7,7 +7,7 @@ use Rattle.run_semantics.specs.ControlPoint.{Definition}
 use Rattle.run_semantics.specs.Sent.{sent_to}
 use Rattle.run_semantics.specs.World.{has_port}
 
--- what a caller sees of a member: the instance, and its senders
+-- what a caller sees of a thread instance: the instance, and its senders
 pub record ThreadInstanceState : Type 0 where
   pub instance : InstanceValue
   pub peers : PeersState

@@ -2,7 +2,7 @@
 //!
 //! A `ThreadInstance` is an instance with its senders. Where its process means something, what was put into the port of another
 //! instance is all that its record sends there, in that order, and nothing else; this is in its type, and follows from
-//! the contract of one step. What a member asks of the run is `Runtime`.
+//! the contract of one step. What an instance asks of the run is `Runtime`.
 #![tactic(auto)]
 
 mod runtime;

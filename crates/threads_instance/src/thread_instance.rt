@@ -46,7 +46,7 @@ impl<'s, J: Run, P: Inbox + Drop> Model for ThreadInstance<'s, J, P> {
     ghost invariant = { λ m. (m.instance.system ≡ m.system.now) × HasPut m.instance m.peers };
 }
 
-/// What is left of a member: its record, its port, and its senders, to be gathered at their ports.
+/// What is left of an instance: its record, its port, and its senders, to be gathered at their ports.
 #[derive(Drop)]
 pub struct Left<J: Run, P: Inbox + Drop> {
     pub trace: Record,

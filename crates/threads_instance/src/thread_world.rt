@@ -1,4 +1,4 @@
-//! What lies around a member that makes a step.
+//! The world of an instance that makes a step in a run on threads.
 
 ghost use Rattle.std.specs.Prelude.{◌≡◌, ℕ, true, IfErr, OnErr, OnOk};
 ghost use Rattle.threads_instance.specs.ThreadWorld.{world_of};
@@ -14,7 +14,7 @@ use std::alloc::AllocError;
 use std::sync::Wait;
 use threads_senders::{Peers, Run};
 
-/// The run, and the senders of the member, whose number is `own`. A signal is put at once.
+/// The run, and the senders of the instance, whose number is `own`. A signal is put at once.
 #[derive(Drop)]
 pub struct ThreadWorld<'a, J: Run, R: Wait, O: Runtime<J>> {
     pub rt: &'a R,

@@ -1,4 +1,4 @@
--- Two courses agree: a lemma says so.
+-- Two executions agree: a lemma says so.
 use Rattle.laws_one_report.proofs.Executions.{executions_agree}
 use Rattle.laws_one_report.proofs.laws.executions_agree.Goals as goal
 

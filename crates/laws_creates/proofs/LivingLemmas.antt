@@ -201,7 +201,7 @@ living_more system instances who process values is number =
 
 -- ---- an act
 
--- who lives by the census of a step is who lives
+-- who lives as a step counts it is who lives
 pub living_effect : (system : SystemValue) (g : RunState) (effect : Effect) → g.system ≡ system
     → MakesNext system (length g.instances) effect
     → living_after (living_of system g.instances) effect ≡ living_of system (after_effect g effect).instances

@@ -1,4 +1,4 @@
--- Two courses as long as each other are the same; a course in two parts.
+-- Two executions as long as each other are the same; an execution in two parts.
 use Rattle.std.proofs.Common.{◌≡◌, ◌⊎◌, ◌∙◌, ◌+◌, ◌++◌, ◌<◌, ◌≤◌, ap, append_assoc, append-nil, arith, inl, inr, length, length-append, nat_le, refl, sym, ℕ, Bool, true, false, List, [], ◌∷◌}
 use Rattle.std.proofs.lemmas.List.{map-append}
 use Rattle.serial_order.specs.Execution.{Execution, Follows, Happening, begins, goes}

@@ -183,7 +183,7 @@ map_set f g k (suc n) (suc p) v is same =
     ∙ ap (λ xs. g k ∷ xs)
     (map_set f g (k + 1) n p v (is ∙ ap g on) (λ q other. same q (λ e. other (e ∙ on))))
 
--- the census without the one that has ended
+-- who lives without the one that has ended
 pub living_left : (s : Instances) (place : ℕ) (h : HasEnded s place) (least : Option ℕ)
     → least ≡ least_living s.instances.items h.now.who.process.0
     → (let c : Living = record s.living {
@@ -220,7 +220,7 @@ living_left s place h least is =
     }) h.living
     ∙ (λ i. record { least = leasts i; counts = counts i; given = length-set xs place h.before i })
 
--- who lives by the census, before the end
+-- who lives, as it is counted, before the end
 living_was : (s : Instances) (place : ℕ) (h : HasEnded s place)
     → living_in s.living.least h.now.who.process
     ≡ least_living (set s.instances.items place h.before) h.now.who.process.0
