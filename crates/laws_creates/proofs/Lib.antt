@@ -1,4 +1,4 @@
-mod Living
+mod LivingLemmas
 mod Creates
 mod Ends
 mod Numbers

@@ -7,7 +7,7 @@ use Rattle.serial_order.proofs.Made.{MakeNext}
 use Rattle.serial_order.specs.Execution.{Steps}
 use Rattle.serial_order.specs.RunState.{RunState, after_effect, after_effects, world_at, living_of, count_living, heard_effects, is_ended, least_living, lives_of}
 use Rattle.serial_order.specs.Told.{given_after, given_after_one}
-use Rattle.laws_creates.proofs.Living.{living_effect, get_range, it, lives_own}
+use Rattle.laws_creates.proofs.LivingLemmas.{living_effect, get_range, it, lives_own}
 use Rattle.laws_creates.proofs.Creates.{effect_count, effect_system, effects_system, step_makes, system_kept}
 use Rattle.laws_creates.proofs.Numbers.{Numbered, effects_numbered, all_numbered}
 use Rattle.laws_creates.proofs.Sending.{step_sent}

@@ -7,4 +7,4 @@ mod Lacking
 mod Moves
 mod Reports
 mod Resting
-mod LeadsSilently
+mod Turns

@@ -20,7 +20,7 @@ use Rattle.sdl_system.specs.declared.process.Process.{Process}
 use Rattle.laws_one_report.proofs.Bare.{effects_bare, world_same, partner, with_bare}
 use Rattle.laws_one_report.proofs.Grown.{step_events, stepped}
 use Rattle.laws_one_report.proofs.Resting.{StepOf, known, step_of}
-use Rattle.laws_one_report.proofs.LeadsSilently.{awake_one, turns_same}
+use Rattle.laws_one_report.proofs.Turns.{awake_one, turns_same}
 use Rattle.laws_one_report.specs.Same.{bare, bare_whole, uncalled, uncalled_one}
 use Rattle.laws_one_step.proofs.Iterates.{Told, told}
 use Rattle.laws_one_step.proofs.Steps.{effects_same, events_same, stepped_alike}

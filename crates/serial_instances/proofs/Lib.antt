@@ -1,6 +1,6 @@
 pub mod Arming
 pub mod Beginning
-pub mod Living
+pub mod LivingLemmas
 pub mod Changes
 pub mod Closing
 pub mod Entering

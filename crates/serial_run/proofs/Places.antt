@@ -5,7 +5,7 @@ use Rattle.std.specs.Prelude.{Contains, ◌↔◌}
 use Rattle.std.proofs.lemmas.List.{length-set}
 use Rattle.std.proofs.lemmas.Option.{get_or_from_slice_get}
 use Rattle.serial_order.specs.RunState.{living_of, count_living, instance_at, is_ended, least_living, lives_of}
-use Rattle.serial_instances.proofs.Living.{count_cons}
+use Rattle.serial_instances.proofs.LivingLemmas.{count_cons}
 use Rattle.serial_instances.specs.Serial.{AreInPlace, AreMarked, IsOfSystem, IsSerial}
 use Rattle.serial_instances.specs.declared.instances.Instances.{Instances}
 use Rattle.run_evaluation.specs.declared.identity.Identity.{Identity}

@@ -12,7 +12,7 @@ use Rattle.serial_order.proofs.Made.{MakeNext, deeds_make}
 use Rattle.serial_order.proofs.Own.{later_none}
 use Rattle.serial_order.specs.Execution.{AreBehaviours, Moved, Steps, is_transition}
 use Rattle.serial_order.specs.RunState.{RunState, after_effects, world_at, living_of, instance_at, with_instance}
-use Rattle.serial_instances.proofs.Living.{in_place}
+use Rattle.serial_instances.proofs.LivingLemmas.{in_place}
 use Rattle.serial_instances.specs.Serial.{IsSerial, state_of}
 use Rattle.serial_instances.specs.declared.instances.Instances.{Instances}
 use Rattle.run_evaluation.specs.declared.identity.Identity.{Identity}

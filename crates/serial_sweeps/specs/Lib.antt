@@ -1,2 +1,2 @@
 pub mod Marks
-pub mod Scheduler
+pub mod Sweeps

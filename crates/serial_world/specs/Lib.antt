@@ -1,3 +1,3 @@
 pub mod Effects
-pub mod SerialWorld
+pub mod StepWorld
 pub mod Counts

@@ -1,6 +1,6 @@
 use Rattle.std.proofs.Common.{◌∙◌, arith}
 use Rattle.std.proofs.lemmas.Option.{slice_get_within}
-use Rattle.serial_instances.proofs.Living.{left_behind, left_lesser, left_none}
+use Rattle.serial_instances.proofs.LivingLemmas.{left_behind, left_lesser, left_none}
 use Rattle.serial_instances.proofs.instances.Instances.least_left.Goals as goal
 
 pub returns-in_default : goal.returns-in_default

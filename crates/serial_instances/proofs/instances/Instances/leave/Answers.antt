@@ -1,7 +1,7 @@
 use Rattle.std.proofs.Common.{◌≡◌, Option, Some, length, refl, slice_get, subst, sym}
 use Rattle.std.specs.Prelude.{IsSomeAnd}
 use Rattle.std.proofs.lemmas.Option.{slice_get_read, slice_get_within}
-use Rattle.serial_instances.proofs.Living.{leaves}
+use Rattle.serial_instances.proofs.LivingLemmas.{leaves}
 use Rattle.sdl_interp.specs.Instance.{InstanceValue}
 use Rattle.serial_instances.proofs.instances.Instances.leave.Goals as goal
 
