@@ -15,8 +15,8 @@ mod sender_number;
 
 pub use alone::Alone;
 pub use entry::{Entry, Fuse};
-pub use placed::{Gone, Placed};
 pub use inbox::Inbox;
+pub use placed::{Gone, Placed};
 pub use port_model::Refused;
 pub use put_count::PutCount;
 pub use sender_number::SenderNumber;
