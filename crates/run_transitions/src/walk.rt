@@ -173,7 +173,7 @@ fn perform<P: Inbox, W: World>(
         → VisitsWrong system.now process.now node.now origin old (W.value world.old) new (W.value world.new) why) }
 {
     count(machine)?;
-    effect(
+    act(
         alloc,
         &node.statement,
         system,
@@ -186,7 +186,7 @@ fn perform<P: Inbox, W: World>(
 }
 
 /// What a statement does before the flow goes on behind it; a join does nothing.
-fn effect<P: Inbox, W: World>(
+fn act<P: Inbox, W: World>(
     alloc: Global,
     statement: &Statement,
     system: &System,

@@ -16,7 +16,7 @@ use Rattle.sdl_system.specs.Term.{term_of}
 use Rattle.sdl_system.specs.declared.statement.Assignment.{Assignment}
 use Rattle.sdl_system.specs.declared.statement.Setting as set
 use Rattle.sdl_system.specs.declared.statement.TimerUse.{TimerUse}
-use Rattle.run_transitions.proofs.walk.effect.Goals as goal
+use Rattle.run_transitions.proofs.walk.act.Goals as goal
 
 pub returns-in-Task-clause-ok : goal.returns-in-Task-clause-ok
 returns-in-Task-clause-ok g c =
