@@ -33,8 +33,8 @@ returns-in_err-effect-clause-err g c =
     let l = value_of old o in
     let w = g.W.World.value c.args.world.now in
     let mid = c.count.new.machine in
-    let n = value_of c.effect.new.machine (g.P.Inbox.owning c.effect.new.inbox) in
-    let v = g.W.World.value c.effect.new.world in
+    let n = value_of c.act.new.machine (g.P.Inbox.owning c.act.new.inbox) in
+    let v = g.W.World.value c.act.new.world in
     rw (q.1, q.2) (λ origin. visits_acted_wrong system process node origin l w (value_of mid o)
     c.in_ok-count.ensures.counts
     (value_counted old mid o c.in_ok-count.ensures.trace) n v _
@@ -45,7 +45,7 @@ returns-in_err-effect-clause-instance g c =
     let o = g.P.Inbox.owning c.args.inbox.now in
     let old = c.args.machine.now in
     let mid = c.count.new.machine in
-    let n = value_of c.effect.new.machine (g.P.Inbox.owning c.effect.new.inbox) in
+    let n = value_of c.act.new.machine (g.P.Inbox.owning c.act.new.inbox) in
     instance_on (value_of old o) (value_of mid o) n
     (instance_counted old mid o c.in_ok-count.ensures.trace) c.in_err-effect.ensures.instance
 
@@ -54,7 +54,7 @@ returns-clause-instance g c =
     let o = g.P.Inbox.owning c.args.inbox.now in
     let old = c.args.machine.now in
     let mid = c.count.new.machine in
-    let n = value_of c.effect.new.machine (g.P.Inbox.owning c.effect.new.inbox) in
+    let n = value_of c.act.new.machine (g.P.Inbox.owning c.act.new.inbox) in
     instance_on (value_of old o) (value_of mid o) n
     (instance_counted old mid o c.in_ok-count.ensures.trace) c.in_ok-effect.ensures.instance
 
@@ -72,8 +72,8 @@ returns-clause-ok g c =
     let l = value_of old o in
     let w = g.W.World.value c.args.world.now in
     let mid = c.count.new.machine in
-    let n = value_of c.effect.new.machine (g.P.Inbox.owning c.effect.new.inbox) in
-    let v = g.W.World.value c.effect.new.world in
+    let n = value_of c.act.new.machine (g.P.Inbox.owning c.act.new.inbox) in
+    let v = g.W.World.value c.act.new.world in
     λ origin. visits_acted system process node origin l w (value_of mid o) c.in_ok-count.ensures.counts
     (value_counted old mid o c.in_ok-count.ensures.trace) n v c.requires.plain
     c.in_ok-effect.ensures.ok
