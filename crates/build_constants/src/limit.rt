@@ -7,7 +7,7 @@ ghost use Rattle.build_faults.specs.Faults.{least_of, told};
 
 use crate::counts::InstanceCounts;
 use build_definitions::ProcessEntry;
-use build_faults::{Faults, Kind, Token};
+use build_faults::{Faults, Rule, Token};
 
 /// The most instances that there may be at the start.
 const MOST_INSTANCES: i64 = 1_000;
@@ -24,7 +24,7 @@ pub fn note_limit<'t>(
     for (entry, counted) in processes.iter().zip(counts) {
         let taken = taken_by(*counted);
         if taken > left {
-            faults.note(Kind::Limit, Token::of_name(&entry.definition.name));
+            faults.note(Rule::Limit, Token::of_name(&entry.definition.name));
             return;
         }
         left -= taken;

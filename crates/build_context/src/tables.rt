@@ -2,7 +2,7 @@
 
 ghost use Rattle.std.specs.Prelude.{◌≡◌, IfOk};
 ghost use Rattle.build_transitions.specs.Numbered.{numbered};
-ghost use Rattle.build_context.specs.Surroundings.{numbered_states};
+ghost use Rattle.build_context.specs.ProcessScope.{numbered_states};
 ghost use Rattle.build_labels.specs.Labels.{names_listed};
 
 use build_definitions::next_number;

@@ -9,7 +9,7 @@ ghost use Rattle.sdl_tree.specs.Views.{signal_value, sort_value, sorts_value, sy
 
 use crate::enter::enter;
 use crate::part::{Part, Placed};
-use build_faults::{Faults, Kind, Token};
+use build_faults::{Faults, Rule, Token};
 use sdl_system::Sort;
 use sdl_tree::{SignalDefinition, SortName, SynonymDefinition, TimerDefinition};
 use std::alloc::{AllocError, Global};
@@ -60,7 +60,7 @@ pub fn note_sort<'t>(name: &'t SortName, faults: &mut Faults<'t>)
     ensures { told faults.new ≡ least_of (told faults.old) (unknown_sort (sort_value name.now)) }
 {
     if sort_at(name).is_none() {
-        faults.note(Kind::Unknown, Token::of_name(&name.spelled));
+        faults.note(Rule::Unknown, Token::of_name(&name.spelled));
     }
 }
 

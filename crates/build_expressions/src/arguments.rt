@@ -10,7 +10,7 @@ ghost use Rattle.sdl_system.specs.Term.{term_of};
 ghost use Rattle.sdl_tree.specs.Views.{name_value};
 
 use crate::typed::Typed;
-use build_faults::{Faults, Kind, Token};
+use build_faults::{Faults, Rule, Token};
 use sdl_system::{Expression, Sort};
 use sdl_tree::Name;
 use std::alloc::{AllocError, Global};
@@ -35,7 +35,7 @@ pub fn place_all<'t>(
         (places_faults (name_value name.now) places.now (map argument_of arguments.now)) }
 {
     if arguments.len() != places.len() {
-        faults.note(Kind::Sort, Token::of_name(name));
+        faults.note(Rule::Sort, Token::of_name(name));
         return false;
     }
     let mut all = true;
@@ -69,7 +69,7 @@ fn place<'t>(
         (Some(sort), Some(typed)) => {
             let fits = typed.kind.fits(sort);
             if !fits {
-                faults.note(Kind::Sort, token);
+                faults.note(Rule::Sort, token);
             }
             fits
         }

@@ -2,7 +2,7 @@
 
 ghost use Rattle.std.specs.Prelude.{◌≡◌, option_and_then, option_map, IfOk, OnOk};
 ghost use Rattle.build_faults.specs.Faults.{fault_if, least_of, told, token_word};
-ghost use Rattle.build_faults.specs.declared.fault.Kind.TheVariants.{BadCount};
+ghost use Rattle.build_faults.specs.declared.fault.Rule.TheVariants.{BadCount};
 ghost use Rattle.build_expressions.specs.Constants.{binary_value, constant_faults, constant_in, counted, counted_faults, given, is_miscounted, unary_value, value_of, with_value};
 ghost use Rattle.build_expressions.specs.Resolved.{typed_of};
 ghost use Rattle.build_expressions.specs.Scope.{scope_of};
@@ -14,7 +14,7 @@ use crate::context::Context;
 use crate::scope::{Constant, Scope};
 use crate::typed::Typed;
 use crate::typing::{first_token, resolve_in};
-use build_faults::{Faults, Kind, Token};
+use build_faults::{Faults, Rule, Token};
 use port_values::Value;
 use sdl_system::{Chain, Failure, Link, Operation, Sort, UnaryOperation, in_sort};
 use sdl_tree::Expression;
@@ -75,7 +75,7 @@ fn valued<'t>(
         (fault_if (is_miscounted sort value) BadCount (token_word token.entry)) }
 {
     let Some(value) = value else {
-        faults.note(Kind::BadCount, token);
+        faults.note(Rule::BadCount, token);
         return Constant::NoValue;
     };
     let Some(sort) = sort else {
@@ -84,7 +84,7 @@ fn valued<'t>(
     match in_sort(value, sort) {
         Some(placed) => Constant::Value(placed),
         None => {
-            faults.note(Kind::BadCount, token);
+            faults.note(Rule::BadCount, token);
             Constant::Value(value)
         }
     }

@@ -16,7 +16,7 @@ use crate::left::Left;
 use crate::scope::{Scope, SignalMeaning, ValueMeaning};
 use crate::typed::Typed;
 use build_faults::{Faults, Token};
-use build_operators::{Kind, result_of, unary_result_of};
+use build_operators::{OperandSort, result_of, unary_result_of};
 use port_values::{SignalId, Value};
 use sdl_tree::{
     Chain, Expression, KeywordValue, Link, Mark, Name, Operator, Spelling, UnaryOperator,
@@ -40,7 +40,7 @@ pub fn resolve_in<'t>(
     match expression {
         Expression::Number(number) => {
             let value = sdl_system::Expression::Value(Value::Int(number.value));
-            Ok(Some(Typed::plain(Kind::Free, value)))
+            Ok(Some(Typed::plain(OperandSort::Free, value)))
         }
         Expression::Name(name) => Ok(resolve_name(context, scope, name, faults)),
         Expression::Keyword { value, word } => Ok(resolve_word(context, *value, *word, faults)),
@@ -171,13 +171,13 @@ fn resolve_name<'t>(
         (name_faults context (name_value name.now) (value_in (scope_of scope.now) (name_value name.now).text)) }
 {
     let Some(meaning) = scope.value(&name.text) else {
-        faults.note(build_faults::Kind::Unknown, Token::of_name(name));
+        faults.note(build_faults::Rule::Unknown, Token::of_name(name));
         return None;
     };
     if let ValueMeaning::Variable { .. } = meaning
         && !context.allows_instance()
     {
-        faults.note(build_faults::Kind::Sort, Token::of_name(name));
+        faults.note(build_faults::Rule::Sort, Token::of_name(name));
     }
     Typed::of_name(context, meaning)
 }
@@ -194,7 +194,7 @@ fn resolve_word<'t>(
     if context.allows_word(value) {
         Some(Typed::of_word(value))
     } else {
-        faults.note(build_faults::Kind::Sort, Token::of_mark(value.mark(), word));
+        faults.note(build_faults::Rule::Sort, Token::of_mark(value.mark(), word));
         None
     }
 }
@@ -218,7 +218,7 @@ fn resolve_unary<'t>(
         Some(operation) => Ok(Some(operand.with(alloc, operation)?)),
         None => {
             faults.note(
-                build_faults::Kind::Sort,
+                build_faults::Rule::Sort,
                 Token::of_mark(operator.mark(), word),
             );
             Ok(None)
@@ -254,7 +254,7 @@ fn join<'t>(
         Some(operation) => Ok(Some(left.join(operation, right)?)),
         None => {
             faults.note(
-                build_faults::Kind::Sort,
+                build_faults::Rule::Sort,
                 Token::of_mark(operator.mark(), word),
             );
             Ok(None)
@@ -275,7 +275,7 @@ fn note_active<'t>(context: Context, word: Spelling, faults: &mut Faults<'t>)
     ensures { told faults.new ≡ least_of (told faults.old) (active_faults context word) }
 {
     if !context.allows_instance() {
-        faults.note(build_faults::Kind::Sort, Token::of_mark(Mark::Active, word));
+        faults.note(build_faults::Rule::Sort, Token::of_mark(Mark::Active, word));
     }
 }
 
@@ -293,7 +293,7 @@ fn resolve_timer<'t>(
         (signal_in (scope_of scope.now) (name_value timer.now).text) (map argument_of arguments.entry.items))) }
 {
     let Some(SignalMeaning::Timer { number, sorts, .. }) = scope.signal(&timer.text) else {
-        faults.note(build_faults::Kind::Unknown, Token::of_name(timer));
+        faults.note(build_faults::Rule::Unknown, Token::of_name(timer));
         return Ok(None);
     };
     let are_taken = place_all(timer, sorts, &arguments, faults);
@@ -318,7 +318,7 @@ fn activity(
         Some(values) => Some(sdl_system::Expression::Active { timer, values }),
     };
     Ok(Typed {
-        kind: Kind::Boolean,
+        kind: OperandSort::Boolean,
         expression,
         is_refused,
     })

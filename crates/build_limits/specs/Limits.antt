@@ -5,7 +5,7 @@ use Rattle.std.specs.Str.{bytes_eq}
 use Rattle.sdl_tree.specs.Tree.{Ending, Join, Next, Stop, Terminator, Transition, Steps, Actions, NoAction, AndAction, Action, Task, Output, Set, Reset, Create, Decision, Parts, NoPart, AndPart, Otherwise, NoElse, Else, Stimulus, InputPart, PriorityInput, SavePart, ContinuousSignal, States, StateList, StateAll, BodyPart, StatePart, FreeAction, SignalDefinition, TimerDefinition, ParameterGroup, FormalParameters, LocalDefinition, LocalSignals, LocalSignalList, LocalSynonyms, LocalSignalSet, Variables, Timers, ProcessDefinition, Definition, Signals, SignalList, Synonyms, Channel, Process, BlockPart, InBlock, Connect, SystemDefinition, InSystem, Block, Tree}
 use Rattle.sdl_tree.specs.Words.{Spot}
 use Rattle.sdl_tree.specs.declared.mark.Mark.TheVariants as mark
-use Rattle.build_faults.specs.Faults.{Told, fault_at, mark_word}
+use Rattle.build_faults.specs.Faults.{Diagnostic, fault_at, mark_word}
 
 -- ---- definitions, each list in the order of the text
 
@@ -154,16 +154,16 @@ parameter_names (Some parameters) = flat_map group_names parameters.groups
 
 -- ---- the limits
 
-abbrev pub declared_faults : Declared → List Told
+abbrev pub declared_faults : Declared → List Diagnostic
 declared_faults declared = fault_at 16 declared.sorts
 
-abbrev pub process_faults : ProcessDefinition → List Told
+abbrev pub process_faults : ProcessDefinition → List Diagnostic
 process_faults process =
     fault_at 16 (parameter_names process.parameters)
     ++ fault_at 1000 (different (state_names process))
 
 -- each limit that a specification passes, at the first word past it
-abbrev pub limit_faults : Tree → List Told
+abbrev pub limit_faults : Tree → List Diagnostic
 limit_faults tree =
     fault_at 200 (map process_name (processes_in tree))
     ++ fault_at 1000 (map declared_name (declared_in tree))

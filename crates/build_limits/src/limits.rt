@@ -9,7 +9,7 @@ ghost use Rattle.build_limits.specs.Listed.{declared_listed, definitions_listed,
 mod count;
 
 use crate::names::Names;
-use build_faults::{Faults, Kind, Token};
+use build_faults::{Faults, Rule, Token};
 use count::Count;
 use sdl_lex::Place;
 use sdl_tree::{
@@ -59,7 +59,7 @@ fn note_processes<'t>(processes: &[&'t ProcessDefinition], faults: &mut Faults<'
         (fault_at 200 (map process_name (processes_listed processes.now))) }
 {
     if let Some(process) = processes.get(MOST_PROCESSES) {
-        faults.note(Kind::Limit, Token::of_name(&process.name));
+        faults.note(Rule::Limit, Token::of_name(&process.name));
     }
 }
 
@@ -68,7 +68,7 @@ fn note_declared<'t>(declared: &[Declared<'t>], faults: &mut Faults<'t>)
         (fault_at 1000 (map declared_name (declared_listed declared.now))) }
 {
     if let Some(declared) = declared.get(MOST_DECLARED) {
-        faults.note(Kind::Limit, Token::of_name(declared.name));
+        faults.note(Rule::Limit, Token::of_name(declared.name));
     }
 }
 
@@ -95,7 +95,7 @@ fn note_sorts<'t>(sorts: &'t [SortName], faults: &mut Faults<'t>)
     ensures { told faults.new ≡ least_of (told faults.old) (fault_at 16 (sorts_value sorts.now)) }
 {
     if let Some(sort) = sorts.get(MOST_PARAMETERS) {
-        faults.note(Kind::Limit, Token::of_name(&sort.spelled));
+        faults.note(Rule::Limit, Token::of_name(&sort.spelled));
     }
 }
 
@@ -160,7 +160,7 @@ fn note_past<'t>(past: Option<&(&'t str, Place)>, faults: &mut Faults<'t>)
             text: *text,
             place: *place,
         };
-        faults.note(Kind::Limit, token);
+        faults.note(Rule::Limit, token);
     }
 }
 

@@ -6,7 +6,7 @@ ghost use Rattle.std.specs.Str.{bytes_eq};
 ghost use Rattle.build_limits.specs.Names.{first_of, first_outward, names_in};
 ghost use Rattle.sdl_tree.specs.Views.{name_value};
 
-use build_faults::{Faults, Kind, Token};
+use build_faults::{Faults, Rule, Token};
 use indexmap::IndexMap;
 use sdl_tree::Name;
 use std::alloc::{AllocError, Global};
@@ -40,7 +40,7 @@ impl<'t, T: Copy> Model for Names<'t, T> {
 
 impl<'t, T: Copy> Names<'t, T> {
     ghost use Rattle.build_faults.specs.Faults.{fault_if, least_of, told};
-    ghost use Rattle.build_faults.specs.declared.fault.Kind.TheVariants.{Duplicate};
+    ghost use Rattle.build_faults.specs.declared.fault.Rule.TheVariants.{Duplicate};
 
     /// No names yet.
     pub fn new(alloc: Global) -> Self
@@ -111,7 +111,7 @@ impl<'t, T: Copy> Names<'t, T> {
         let is_known = self.first.contains_key(name.text.as_str());
         self.add(name.text.as_str(), what)?;
         if is_known {
-            faults.note(Kind::Duplicate, Token::of_name(name));
+            faults.note(Rule::Duplicate, Token::of_name(name));
         }
         Ok(())
     }

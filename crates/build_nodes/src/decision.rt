@@ -13,7 +13,7 @@ ghost use Rattle.sdl_tree.specs.Views.{answer_value};
 
 use build_expressions::{Typed, resolve_answer};
 use build_faults::Faults;
-use build_operators::Kind;
+use build_operators::OperandSort;
 use build_statements::Context;
 use build_statements::list::all_there;
 use sdl_system::{Branch, Decision, Expression, Statement, Way};
@@ -21,7 +21,7 @@ use sdl_tree::Answer;
 use std::alloc::{AllocError, Global};
 
 /// The kind of the values of a question.
-pub fn kind_of(question: &Option<Typed>) -> Option<Kind>
+pub fn kind_of(question: &Option<Typed>) -> Option<OperandSort>
     ensures { result ≡ kind_in (option_map typed_of question.now) }
 {
     match question {
@@ -34,7 +34,7 @@ pub fn kind_of(question: &Option<Typed>) -> Option<Kind>
 pub fn resolve_answers<'t>(
     alloc: Global,
     context: &Context<'_, '_, 't>,
-    question: Option<Kind>,
+    question: Option<OperandSort>,
     answers: &'t [Answer],
     faults: &mut Faults<'t>,
 ) -> Result<Option<Vec<sdl_system::Answer>>, AllocError>

@@ -10,7 +10,7 @@ use build_faults::Faults;
 pub fn note_later<'t>(later: &Faults<'t>, faults: &mut Faults<'t>)
     ensures { told faults.new ≡ with_later (told faults.old) (told later.now) }
 {
-    if let Some(fault) = later.least() {
-        faults.note(fault.kind, fault.token);
+    if let Some(fault) = later.first() {
+        faults.note(fault.rule, fault.token);
     }
 }

@@ -18,7 +18,7 @@ use crate::later::note_later;
 use crate::table::NodeTable;
 use build_expressions::resolve;
 use build_faults::Faults;
-use build_operators::Kind;
+use build_operators::OperandSort;
 use build_statements::list::and_last;
 use build_statements::{
     Context, resolve_create, resolve_output, resolve_reset, resolve_set, resolve_task,
@@ -157,7 +157,7 @@ fn add_parts<'t>(
     alloc: Global,
     context: &Context<'_, '_, 't>,
     table: &mut NodeTable,
-    question: Option<Kind>,
+    question: Option<OperandSort>,
     parts: &'t [AnswerPart],
     next: Option<NodeId>,
     faults: &mut Faults<'t>,
@@ -181,7 +181,7 @@ fn add_part<'t>(
     alloc: Global,
     context: &Context<'_, '_, 't>,
     table: &mut NodeTable,
-    question: Option<Kind>,
+    question: Option<OperandSort>,
     part: &'t AnswerPart,
     next: Option<NodeId>,
     faults: &mut Faults<'t>,

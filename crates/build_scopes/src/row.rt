@@ -3,7 +3,7 @@
 ghost use Rattle.std.specs.Prelude.{◌≡◌, ◌==◌, ◌++◌, ℕ, ◌<◌, [], is_some, length, string_bytes, OnOk};
 ghost use Rattle.build_faults.specs.Faults.{fault_if, least_of, told};
 ghost use Rattle.build_limits.specs.Names.{first_of, names_in};
-ghost use Rattle.build_faults.specs.declared.fault.Kind.TheVariants.{Duplicate};
+ghost use Rattle.build_faults.specs.declared.fault.Rule.TheVariants.{Duplicate};
 ghost use Rattle.build_scopes.specs.Spaces.{entry_if, names_at};
 ghost use Rattle.sdl_tree.specs.Views.{name_value};
 

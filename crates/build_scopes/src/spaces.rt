@@ -3,7 +3,7 @@
 ghost use Rattle.std.specs.Prelude.{◌≡◌, ◌++◌, [], is_some, string_bytes, OnOk};
 ghost use Rattle.build_faults.specs.Faults.{fault_if, least_of, told};
 ghost use Rattle.build_limits.specs.Names.{first_of, names_in};
-ghost use Rattle.build_faults.specs.declared.fault.Kind.TheVariants.{Duplicate};
+ghost use Rattle.build_faults.specs.declared.fault.Rule.TheVariants.{Duplicate};
 ghost use Rattle.build_scopes.specs.Spaces.{block_names, entry_if, is_same_scope, names_of, process_names, seen_in};
 ghost use Rattle.build_scopes.specs.declared.scope.ScopeId as scopes;
 ghost use Rattle.build_scopes.specs.declared.scope.ScopeId.TheVariants as scope;

@@ -8,7 +8,7 @@ ghost use Rattle.sdl_tree.specs.Views.{applied_value, expr_value};
 
 use crate::context::Context;
 use build_expressions::resolve;
-use build_faults::{Faults, Kind, Token};
+use build_faults::{Faults, Rule, Token};
 use sdl_tree::{Applied, Expression};
 use std::alloc::{AllocError, Global};
 
@@ -22,7 +22,7 @@ pub fn note_unknown<'t>(
     ensures { OnOk result (told faults.new ≡ least_of (told faults.old) (unknown_faults (context_of context.now)
         (applied_value applied.now).name (applied_value applied.now).values)) }
 {
-    faults.note(Kind::Unknown, Token::of_name(&applied.name));
+    faults.note(Rule::Unknown, Token::of_name(&applied.name));
     note_each(alloc, context, &applied.values, faults)
 }
 

@@ -5,7 +5,7 @@ ghost use Rattle.build_statements.specs.Contexts.{context_of};
 ghost use Rattle.build_statements.specs.Faulty.{destination_faults, is_lost, output_faults, process_faults, sending_faults, whither_faults};
 ghost use Rattle.build_statements.specs.Statements.{agent_name, output_in, process_of, sending_in, sent_to, sent, whither_in};
 ghost use Rattle.build_faults.specs.Faults.{fault_if, least_of, told};
-ghost use Rattle.build_faults.specs.declared.fault.Kind.TheVariants.{NoRoute};
+ghost use Rattle.build_faults.specs.declared.fault.Rule.TheVariants.{NoRoute};
 ghost use Rattle.build_expressions.specs.Partial.{all_some, both};
 ghost use Rattle.build_expressions.specs.Scope.{agent_in};
 ghost use Rattle.sdl_system.specs.Body.{output, to_pid};
@@ -18,7 +18,7 @@ use crate::applied::note_unknown;
 use crate::context::Context;
 use crate::list::all_there;
 use build_expressions::{AgentMeaning, SignalMeaning, resolve_for, resolve_values};
-use build_faults::{Faults, Kind, Token};
+use build_faults::{Faults, Rule, Token};
 use port_values::SignalId;
 use sdl_system::{Output, Sending, Sort, Statement};
 use sdl_tree::{Applied, Destination, Expression, Name};
@@ -129,7 +129,7 @@ fn note_lost<'t>(
         (fault_if (is_lost (context_of context.now) has_destination signal) NoRoute (name_value name.now)) }
 {
     if !has_destination && !context.is_reaching(signal) {
-        faults.note(Kind::NoRoute, Token::of_name(name));
+        faults.note(Rule::NoRoute, Token::of_name(name));
     }
 }
 
@@ -222,7 +222,7 @@ fn resolve_process<'t>(
         (process_faults (name_value name.now) (agent_in (context_of context.now).scope (name_value name.now).text)) }
 {
     let Some(AgentMeaning::Process { number, .. }) = context.scope.agent(&name.text) else {
-        faults.note(Kind::Unknown, Token::of_name(name));
+        faults.note(Rule::Unknown, Token::of_name(name));
         return None;
     };
     Some(sdl_system::Destination::Process(number))

@@ -5,7 +5,7 @@ ghost use Rattle.build_statements.specs.Contexts.{context_of};
 ghost use Rattle.build_statements.specs.Faulty.{assignment_faults};
 ghost use Rattle.build_statements.specs.Statements.{assigned, assigning_in, sort_of, target_in, target_of, task_in};
 ghost use Rattle.build_faults.specs.Faults.{fault_if, least_of, told};
-ghost use Rattle.build_faults.specs.declared.fault.Kind.TheVariants.{Unknown};
+ghost use Rattle.build_faults.specs.declared.fault.Rule.TheVariants.{Unknown};
 ghost use Rattle.build_expressions.specs.Partial.{all_some, both};
 ghost use Rattle.sdl_system.specs.Body.{task};
 ghost use Rattle.sdl_system.specs.Table.{action_of, assigning};
@@ -15,7 +15,7 @@ ghost use Rattle.sdl_tree.specs.Views.{assignment_value, name_value};
 use crate::context::Context;
 use crate::list::all_there;
 use build_expressions::{ValueMeaning, resolve_for};
-use build_faults::{Faults, Kind, Token};
+use build_faults::{Faults, Rule, Token};
 use sdl_system::{Expression, Sort, Statement, VariableId};
 use sdl_tree::{Assignment, Name};
 use std::alloc::{AllocError, Global};
@@ -101,7 +101,7 @@ fn resolve_target<'t>(
 {
     let target = target_of(context.scope.value(&name.text));
     if target.is_none() {
-        faults.note(Kind::Unknown, Token::of_name(name));
+        faults.note(Rule::Unknown, Token::of_name(name));
     }
     target
 }

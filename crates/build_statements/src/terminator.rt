@@ -5,13 +5,13 @@ ghost use Rattle.build_statements.specs.Contexts.{context_of, label_in, state_in
 ghost use Rattle.build_statements.specs.Faulty.{terminator_faults};
 ghost use Rattle.build_statements.specs.Statements.{terminator_in};
 ghost use Rattle.build_faults.specs.Faults.{fault_if, least_of, told};
-ghost use Rattle.build_faults.specs.declared.fault.Kind.TheVariants.{NoLabel, NoState};
+ghost use Rattle.build_faults.specs.declared.fault.Rule.TheVariants.{NoLabel, NoState};
 ghost use Rattle.sdl_system.specs.Body.{join, to_state};
 ghost use Rattle.sdl_system.specs.Table.{terminator_of};
 ghost use Rattle.sdl_tree.specs.Views.{name_value, terminator_value};
 
 use crate::context::Context;
-use build_faults::{Faults, Kind, Token};
+use build_faults::{Faults, Rule, Token};
 use sdl_system::Statement;
 use sdl_tree::{Name, NextState, Terminator};
 
@@ -55,7 +55,7 @@ fn resolve_state<'t>(
     match context.states.get(&name.text) {
         Some(state) => Some(Statement::NextState(state)),
         None => {
-            faults.note(Kind::NoState, Token::of_name(name));
+            faults.note(Rule::NoState, Token::of_name(name));
             None
         }
     }
@@ -75,7 +75,7 @@ fn resolve_join<'t>(
     match context.labels.get(&name.text) {
         Some(label) => Some(Statement::Join(label)),
         None => {
-            faults.note(Kind::NoLabel, Token::of_name(name));
+            faults.note(Rule::NoLabel, Token::of_name(name));
             None
         }
     }

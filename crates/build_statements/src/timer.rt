@@ -5,7 +5,7 @@ ghost use Rattle.build_statements.specs.Contexts.{context_of};
 ghost use Rattle.build_statements.specs.Faulty.{default_faults, lacks_default, setting_faults, time_faults, timing_faults};
 ghost use Rattle.build_statements.specs.Statements.{default_of, reset_in, set_for, set_in, setting_in, timed, timing_in, when_in};
 ghost use Rattle.build_faults.specs.Faults.{fault_if, least_of, told};
-ghost use Rattle.build_faults.specs.declared.fault.Kind.TheVariants.{Sort};
+ghost use Rattle.build_faults.specs.declared.fault.Rule.TheVariants.{Sort};
 ghost use Rattle.build_expressions.specs.Partial.{all_some, both};
 ghost use Rattle.build_expressions.specs.Scope.{signal_in};
 ghost use Rattle.sdl_system.specs.Body.{after, at, reset, set};
@@ -17,7 +17,7 @@ use crate::applied::note_unknown;
 use crate::context::Context;
 use crate::list::all_there;
 use build_expressions::{SignalMeaning, resolve_for, resolve_values};
-use build_faults::{Faults, Kind, Token};
+use build_faults::{Faults, Rule, Token};
 use port_values::SignalId;
 use sdl_system::{Due, Setting, Statement, TimerUse};
 use sdl_tree::{Applied, Expression, Name, ResetGroup, SetClause};
@@ -156,7 +156,7 @@ fn resolve_default<'t>(
         return None;
     };
     if !has_default {
-        faults.note(Kind::Sort, Token::of_name(name));
+        faults.note(Rule::Sort, Token::of_name(name));
     }
     due_after(context.duration(number))
 }

@@ -6,7 +6,7 @@ ghost use Rattle.build_states.specs.States.{except_faults, left_out_faults, unna
 ghost use Rattle.build_states.specs.Tabled.{is_state};
 ghost use Rattle.sdl_tree.specs.Views.{body_part_value, name_value, names_value, states_value};
 
-use build_faults::{Faults, Kind, Token};
+use build_faults::{Faults, Rule, Token};
 use build_limits::Names;
 use sdl_system::StateId;
 use sdl_tree::{BodyPart, Name, States};
@@ -55,6 +55,6 @@ fn note_name<'t>(states: &Names<'t, StateId>, name: &'t Name, faults: &mut Fault
         (unnamed_faults (is_state states.now) (name_value name.now)) }
 {
     if states.get(&name.text).is_none() {
-        faults.note(Kind::NoState, Token::of_name(name));
+        faults.note(Rule::NoState, Token::of_name(name));
     }
 }

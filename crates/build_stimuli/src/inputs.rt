@@ -17,7 +17,7 @@ use crate::subject::Subject;
 use crate::transition::TransitionId;
 use crate::variables::read_variables;
 use build_expressions::SignalMeaning;
-use build_faults::{Faults, Kind, Token};
+use build_faults::{Faults, Rule, Token};
 use sdl_tree::{Input, Inputs, Mark, Spelling};
 use std::alloc::{AllocError, Global};
 
@@ -119,10 +119,10 @@ fn note_signal<'t>(meaning: Option<SignalMeaning<'_>>, input: &'t Input, faults:
 {
     let name = Token::of_name(&input.signal);
     match meaning {
-        None => faults.note(Kind::Unknown, name),
+        None => faults.note(Rule::Unknown, name),
         Some(_) => {
             if parameters(meaning).len() < input.variables.len() {
-                faults.note(Kind::Sort, name);
+                faults.note(Rule::Sort, name);
             }
         }
     }

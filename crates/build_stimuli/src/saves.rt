@@ -2,7 +2,7 @@
 
 ghost use Rattle.std.specs.Prelude.{◌≡◌, ◌++◌, ◌∷◌, [], IfOk, OnOk, map};
 ghost use Rattle.build_faults.specs.Faults.{fault_if, least_of, told};
-ghost use Rattle.build_faults.specs.declared.fault.Kind.TheVariants.{Unknown};
+ghost use Rattle.build_faults.specs.declared.fault.Rule.TheVariants.{Unknown};
 ghost use Rattle.build_stimuli.specs.Context.{context_of};
 ghost use Rattle.build_stimuli.specs.Faulty.{item_faults, saved_faults};
 ghost use Rattle.build_stimuli.specs.Listed.{mentions_listed};
@@ -15,7 +15,7 @@ use crate::inputs::add_rest;
 use crate::mention::{Mention, Response};
 use crate::signals::{list_subjects, subjects};
 use crate::subject::Subject;
-use build_faults::{Faults, Kind, Token};
+use build_faults::{Faults, Rule, Token};
 use sdl_tree::{Name, Saved, SignalListItem};
 use std::alloc::{AllocError, Global};
 
@@ -116,6 +116,6 @@ fn note_unknown<'t>(is_unknown: bool, name: &'t Name, faults: &mut Faults<'t>)
     ensures { told faults.new ≡ least_of (told faults.old) (fault_if is_unknown Unknown (name_value name.now)) }
 {
     if is_unknown {
-        faults.note(Kind::Unknown, Token::of_name(name));
+        faults.note(Rule::Unknown, Token::of_name(name));
     }
 }

@@ -9,7 +9,7 @@ ghost use Rattle.build_stimuli.specs.Places.{sort_at};
 ghost use Rattle.sdl_tree.specs.Views.{name_value};
 
 use build_expressions::{Scope, ValueMeaning};
-use build_faults::{Faults, Kind, Token};
+use build_faults::{Faults, Rule, Token};
 use sdl_system::{Sort, VariableId};
 use sdl_tree::Name;
 use std::alloc::{AllocError, Global};
@@ -60,12 +60,12 @@ fn read_variable<'t>(
     match scope.value(&name.text) {
         Some(ValueMeaning::Variable { number, sort }) => {
             if is_unfit(parameter, sort) {
-                faults.note(Kind::Sort, Token::of_name(name));
+                faults.note(Rule::Sort, Token::of_name(name));
             }
             Some(number)
         }
         _ => {
-            faults.note(Kind::Unknown, Token::of_name(name));
+            faults.note(Rule::Unknown, Token::of_name(name));
             None
         }
     }
@@ -76,7 +76,7 @@ fn is_unfit(parameter: Option<Sort>, variable: Option<Sort>) -> bool
     ensures { result ≡ is_unfit parameter variable }
 {
     match (parameter, variable) {
-        (Some(parameter), Some(variable)) => !build_operators::Kind::of_sort(parameter).fits(
+        (Some(parameter), Some(variable)) => !build_operators::OperandSort::of_sort(parameter).fits(
             variable,
         ),
         _ => false,

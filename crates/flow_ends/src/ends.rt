@@ -7,7 +7,7 @@ ghost use Rattle.flow_paths.specs.Passing.{transition_passed};
 ghost use Rattle.build_faults.specs.Faults.{least_of, told};
 ghost use Rattle.sdl_tree.specs.Views.{process_value, transition_value};
 
-use build_faults::{Faults, Kind};
+use build_faults::{Faults, Rule};
 use build_limits::Names;
 use flow_paths::{Beginning, Entries, beginnings_of, joins_in, walk_transition};
 use sdl_tree::{ProcessDefinition, Transition};
@@ -53,7 +53,7 @@ fn note<'t>(
         (beginning_faults (texts joins.now) (beginning_value beginning.now))) }
 {
     if passes(alloc, joins, beginning.transition)? {
-        faults.note(Kind::NoEnd, beginning.word);
+        faults.note(Rule::NoEnd, beginning.word);
     }
     Ok(())
 }

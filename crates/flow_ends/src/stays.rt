@@ -8,7 +8,7 @@ ghost use Rattle.build_faults.specs.Faults.{least_of, told};
 ghost use Rattle.sdl_tree.specs.Views.{process_value, terminator_value};
 
 use crate::quick::quick_names;
-use build_faults::{Faults, Kind, Token};
+use build_faults::{Faults, Rule, Token};
 use flow_paths::{Beginning, Found, beginnings_of, labels_in};
 use flow_reach::reach;
 use sdl_tree::{Mark, NextState, ProcessDefinition, Terminator};
@@ -54,6 +54,6 @@ fn note_stay<'t>(terminator: &'t Terminator, faults: &mut Faults<'t>)
         ..
     } = terminator
     {
-        faults.note(Kind::NoState, Token::of_mark(Mark::Minus, *dash));
+        faults.note(Rule::NoState, Token::of_mark(Mark::Minus, *dash));
     }
 }

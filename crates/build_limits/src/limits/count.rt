@@ -5,7 +5,7 @@ ghost use Rattle.sdl_tree.specs.Tree as tree;
 ghost use Rattle.sdl_tree.specs.Views.{action_value, answer_part_value, body_part_value, ending_value, fpar_value, names_value, process_value, statement_value, stimulus_value, transition_value};
 ghost use Rattle.build_limits.specs.Limits.{action_statements, actions_statements, body_statements, ending_statements, otherwise_statements, parameter_names, parts_statements, process_statements, stimulus_statements, transition_statements};
 
-use build_faults::{Faults, Kind, Token};
+use build_faults::{Faults, Rule, Token};
 use sdl_tree::{
     Action, ActionStatement, AnswerPart, BodyPart, FormalParameters, Mark, Name, ProcessDefinition,
     Spelling, Stimulus, Terminator, TerminatorStatement, Transition,
@@ -29,7 +29,7 @@ impl<'t> Count<'t> {
         ensures { told faults.new ≡ least_of (told faults.old) (limit_at (past_limit (count_of self.entry))) }
     {
         if let Count::Past(token) = self {
-            faults.note(Kind::Limit, token);
+            faults.note(Rule::Limit, token);
         }
     }
 

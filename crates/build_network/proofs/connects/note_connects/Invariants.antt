@@ -6,4 +6,5 @@ use Rattle.build_network.proofs.connects.note_connects.Given as goal
 
 abbrev pub invariant-loop-entry : goal.invariant-loop-entry
 invariant-loop-entry l =
-    told l.faults ≡ least_of (told l.initial.faults) (flat_map (connect_faults l.declared) (map connection_seen (take l.entry-index l.entries)))
+    told l.faults ≡ least_of (told l.initial.faults)
+    (flat_map (connect_faults l.symbols) (map connection_seen (take l.entry-index l.entries)))

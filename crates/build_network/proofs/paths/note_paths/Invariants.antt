@@ -6,4 +6,4 @@ use Rattle.build_network.proofs.paths.note_paths.Given as goal
 abbrev pub invariant-loop-entry : goal.invariant-loop-entry
 invariant-loop-entry l =
     told l.faults ≡ least_of (told l.initial.faults)
-    (flat_map (path_faults l.declared l.blocks) (map placed_value (take l.entry-index l.entries)))
+    (flat_map (path_faults l.symbols l.blocks) (map placed_value (take l.entry-index l.entries)))

@@ -6,4 +6,5 @@ use Rattle.build_network.proofs.processes.note_processes.Given as goal
 
 abbrev pub invariant-loop-index : goal.invariant-loop-index
 invariant-loop-index l =
-    told l.faults ≡ least_of (told l.initial.faults) (processes_faults l.declared (map process_seen (take l.index l.entries)))
+    told l.faults ≡ least_of (told l.initial.faults)
+    (processes_faults l.symbols (map process_seen (take l.index l.entries)))

@@ -12,7 +12,7 @@ use Rattle.build_stimuli.specs.Listed.{part_value}
 use Rattle.build_stimuli.specs.Reading.{process_read}
 use Rattle.sdl_tree.specs.Views.{process_value}
 use Rattle.build_process.specs.Made.{Said}
-use Rattle.build_process.specs.Surroundings.{for_stimuli, for_transitions, surroundings_of}
+use Rattle.build_process.specs.ProcessScope.{for_stimuli, for_transitions, process_scope_of}
 use Rattle.build_process.proofs.FaultLemmas.{body-noted, on-ok, states-noted}
 use Rattle.build_process.proofs.KeepsLemmas.{made-keeps, named-enabling}
 use Rattle.build_process.proofs.MeaningLemmas.{made-means}
@@ -21,7 +21,7 @@ use Rattle.build_process.proofs.process.make_process.Goals as goal
 
 pub returns-in_default-clause-noted : goal.returns-in_default-clause-noted
 returns-in_default-clause-noted c =
-    let around = surroundings_of c.args.around.now in
+    let around = process_scope_of c.args.around.now in
     let process = process_value c.args.definition.now in
     let context = for_stimuli around in
     let old = told c.args.faults.now in
@@ -36,7 +36,7 @@ returns-in_default-clause-noted c =
 
 pub returns-clause-noted : goal.returns-clause-noted
 returns-clause-noted c =
-    let around = surroundings_of c.args.around.now in
+    let around = process_scope_of c.args.around.now in
     let process = process_value c.args.definition.now in
     let context = for_stimuli around in
     let old = told c.args.faults.now in
@@ -52,7 +52,7 @@ returns-clause-noted c =
 
 pub returns-clause-means : goal.returns-clause-means
 returns-clause-means c =
-    let around = surroundings_of c.args.around.now in
+    let around = process_scope_of c.args.around.now in
     let process = process_value c.args.definition.now in
     let context = for_stimuli around in
     let parts = (process_read context process).parts in
@@ -77,13 +77,13 @@ returns-clause-means c =
 
 pub returns-in_default-clause-there : goal.returns-in_default-clause-there
 returns-in_default-clause-there c =
-    let around = surroundings_of c.args.around.now in
+    let around = process_scope_of c.args.around.now in
     no-flow around (process_value c.args.definition.now) c.in_ok-transitions.field-0 c.in_default.is
     c.in_ok-transitions.ensures.table
 
 pub returns-clause-there : goal.returns-clause-there
 returns-clause-there c =
-    let around = surroundings_of c.args.around.now in
+    let around = process_scope_of c.args.around.now in
     let process = process_value c.args.definition.now in
     let parts = (process_read (for_stimuli around) process).parts in
     let said : Said = record {
@@ -102,7 +102,7 @@ returns-clause-there c =
 
 pub returns-clause-keeps : goal.returns-clause-keeps
 returns-clause-keeps c =
-    let around = surroundings_of c.args.around.now in
+    let around = process_scope_of c.args.around.now in
     let process = process_value c.args.definition.now in
     let context = for_stimuli around in
     let said : Said = record {
