@@ -4,7 +4,7 @@ ghost use Rattle.std.specs.Prelude.{◌≡◌, IfOk};
 ghost use Rattle.build_definitions.specs.Definitions.{rows_of};
 ghost use Rattle.build_constants.specs.ConstantTable.{all_counts, all_durations, all_initials, constant_table_faults};
 ghost use Rattle.build_constants.specs.Synonyms.{AreSynonymConstants};
-ghost use Rattle.build_faults.specs.Faults.{least_of, told};
+ghost use Rattle.build_faults.specs.Faults.{Notes};
 
 use crate::counts::InstanceCounts;
 use crate::durations::durations_of;
@@ -61,7 +61,7 @@ impl ConstantTable {
             ≡ all_initials (rows_of definitions.now) symbols.now constant_table.constants.items) }
         ensures durations { IfOk result (λ constant_table. constant_table.durations.items
             ≡ all_durations (rows_of definitions.now) symbols.now constant_table.constants.items) }
-        ensures noted { IfOk result (λ constant_table. told faults.new ≡ least_of (told faults.old)
+        ensures noted { IfOk result (λ constant_table. Notes faults.old faults.new
             (constant_table_faults (rows_of definitions.now) symbols.now constant_table.constants.items)) }
     {
         let constants = constants_of(alloc, definitions, symbols, faults)?;

@@ -4,7 +4,7 @@ ghost use Rattle.std.specs.Prelude.{◌≡◌, flat_map, option_map, IfOk};
 ghost use Rattle.build_definitions.specs.Seen.{kind_seen, signal_seen};
 ghost use Rattle.build_definitions.specs.Definitions.{rows_of};
 ghost use Rattle.build_constants.specs.ConstantTable.{all_durations, duration_at, duration_faults_at, duration_of};
-ghost use Rattle.build_faults.specs.Faults.{least_of, told};
+ghost use Rattle.build_faults.specs.Faults.{Notes};
 ghost use Rattle.sdl_tree.specs.Views.{expr_value};
 
 use crate::scope::scope_at;
@@ -27,8 +27,8 @@ pub fn durations_of<'t>(
 ) -> Result<Vec<Option<i64>>, AllocError>
     ensures durations { IfOk result (λ durations. durations.items
         ≡ all_durations (rows_of definitions.now) symbols.now constants.now) }
-    ensures noted { IfOk result (λ durations. told faults.new
-        ≡ least_of (told faults.old) (flat_map (duration_faults_at (rows_of definitions.now) symbols.now constants.now)
+    ensures noted { IfOk result (λ durations. Notes faults.old faults.new
+        (flat_map (duration_faults_at (rows_of definitions.now) symbols.now constants.now)
         (rows_of definitions.now).signals)) }
 {
     let mut durations = Vec::new(alloc);
@@ -48,7 +48,7 @@ fn duration_of_entry<'t>(
 ) -> Result<Option<i64>, AllocError>
     ensures duration { IfOk result (λ duration. duration
         ≡ duration_at (rows_of definitions.now) symbols.now constants.now (signal_seen entry.now)) }
-    ensures noted { IfOk result (λ duration. told faults.new ≡ least_of (told faults.old)
+    ensures noted { IfOk result (λ duration. Notes faults.old faults.new
         (duration_faults_at (rows_of definitions.now) symbols.now constants.now (signal_seen entry.now))) }
 {
     let scope = scope_at(symbols, constants, definitions.path_of(entry.scope));

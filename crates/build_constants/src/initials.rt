@@ -4,7 +4,7 @@ ghost use Rattle.std.specs.Prelude.{◌≡◌, flat_map, IfOk};
 ghost use Rattle.build_definitions.specs.Seen.{value_seen};
 ghost use Rattle.build_definitions.specs.Definitions.{rows_of};
 ghost use Rattle.build_constants.specs.ConstantTable.{all_initials, initial_at, initial_faults_at, sort_of_entry};
-ghost use Rattle.build_faults.specs.Faults.{least_of, told};
+ghost use Rattle.build_faults.specs.Faults.{Notes};
 
 use crate::scope::scope_at;
 use crate::variables::initial_value;
@@ -26,8 +26,8 @@ pub fn initials_of<'t>(
 ) -> Result<Vec<Option<Constant>>, AllocError>
     ensures values { IfOk result (λ values. values.items
         ≡ all_initials (rows_of definitions.now) symbols.now constants.now) }
-    ensures noted { IfOk result (λ values. told faults.new
-        ≡ least_of (told faults.old) (flat_map (initial_faults_at (rows_of definitions.now) symbols.now constants.now)
+    ensures noted { IfOk result (λ values. Notes faults.old faults.new
+        (flat_map (initial_faults_at (rows_of definitions.now) symbols.now constants.now)
         (rows_of definitions.now).values)) }
 {
     let mut values = Vec::new(alloc);
@@ -47,7 +47,7 @@ fn initial_of<'t>(
 ) -> Result<Option<Constant>, AllocError>
     ensures value { IfOk result (λ value. value
         ≡ initial_at (rows_of definitions.now) symbols.now constants.now (value_seen entry.now)) }
-    ensures noted { IfOk result (λ value. told faults.new ≡ least_of (told faults.old)
+    ensures noted { IfOk result (λ value. Notes faults.old faults.new
         (initial_faults_at (rows_of definitions.now) symbols.now constants.now (value_seen entry.now))) }
 {
     let scope = scope_at(symbols, constants, definitions.path_of(entry.scope));

@@ -3,7 +3,7 @@
 ghost use Rattle.std.specs.Prelude.{◌≡◌, pos, false, int_lt, map};
 ghost use Rattle.build_definitions.specs.Seen.{process_seen};
 ghost use Rattle.build_constants.specs.Limit.{limit_faults, taken_by};
-ghost use Rattle.build_faults.specs.Faults.{least_of, told};
+ghost use Rattle.build_faults.specs.Faults.{Notes};
 
 use crate::counts::InstanceCounts;
 use build_definitions::ProcessEntry;
@@ -18,7 +18,7 @@ pub fn note_limit<'t>(
     counts: &[Option<InstanceCounts>],
     faults: &mut Faults<'t>,
 )
-    ensures { told faults.new ≡ least_of (told faults.old) (limit_faults (map process_seen processes.now) counts.now) }
+    ensures { Notes faults.old faults.new (limit_faults (map process_seen processes.now) counts.now) }
 {
     let mut left = MOST_INSTANCES;
     for (entry, counted) in processes.iter().zip(counts) {

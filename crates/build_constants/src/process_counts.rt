@@ -4,7 +4,7 @@ ghost use Rattle.std.specs.Prelude.{◌≡◌, flat_map, IfOk};
 ghost use Rattle.build_definitions.specs.Seen.{process_seen};
 ghost use Rattle.build_definitions.specs.Definitions.{rows_of};
 ghost use Rattle.build_constants.specs.ConstantTable.{all_counts, counts_at, counts_faults_at};
-ghost use Rattle.build_faults.specs.Faults.{least_of, told};
+ghost use Rattle.build_faults.specs.Faults.{Notes};
 
 use crate::counts::{InstanceCounts, instance_counts};
 use crate::scope::scope_at;
@@ -24,8 +24,8 @@ pub fn counts_of<'t>(
 ) -> Result<Vec<Option<InstanceCounts>>, AllocError>
     ensures counts { IfOk result (λ counts. counts.items
         ≡ all_counts (rows_of definitions.now) symbols.now constants.now) }
-    ensures noted { IfOk result (λ counts. told faults.new
-        ≡ least_of (told faults.old) (flat_map (counts_faults_at (rows_of definitions.now) symbols.now constants.now)
+    ensures noted { IfOk result (λ counts. Notes faults.old faults.new
+        (flat_map (counts_faults_at (rows_of definitions.now) symbols.now constants.now)
         (rows_of definitions.now).processes)) }
 {
     let mut counts = Vec::new(alloc);
@@ -45,7 +45,7 @@ fn counted<'t>(
 ) -> Result<Option<InstanceCounts>, AllocError>
     ensures counts { IfOk result (λ counts. counts
         ≡ counts_at (rows_of definitions.now) symbols.now constants.now (process_seen entry.now)) }
-    ensures noted { IfOk result (λ counts. told faults.new ≡ least_of (told faults.old)
+    ensures noted { IfOk result (λ counts. Notes faults.old faults.new
         (counts_faults_at (rows_of definitions.now) symbols.now constants.now (process_seen entry.now))) }
 {
     let scope = scope_at(symbols, constants, definitions.path_of(entry.scope));

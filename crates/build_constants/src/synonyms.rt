@@ -1,10 +1,10 @@
 //! What the synonyms come to.
 
-ghost use Rattle.std.specs.Prelude.{◌≡◌, flat_map, IfOk};
+ghost use Rattle.std.specs.Prelude.{flat_map, IfOk};
 ghost use Rattle.build_definitions.specs.Seen.{synonym_seen};
 ghost use Rattle.build_definitions.specs.Definitions.{rows_of};
 ghost use Rattle.build_constants.specs.Synonyms.{AreSynonymConstants, AreSynonyms, IsSynonym, faults_in_row};
-ghost use Rattle.build_faults.specs.Faults.{least_of, told};
+ghost use Rattle.build_faults.specs.Faults.{Notes};
 
 use build_definitions::{Definitions, SynonymEntry};
 use build_expressions::Constant;
@@ -22,8 +22,8 @@ pub fn constants_of<'t>(
 ) -> Result<Vec<Constant>, AllocError>
     ensures constants { IfOk result (λ constants.
         AreSynonymConstants (rows_of definitions.now) symbols.now constants.items) }
-    ensures noted { IfOk result (λ constants. told faults.new
-        ≡ least_of (told faults.old) (flat_map (faults_in_row (rows_of definitions.now) symbols.now constants.items)
+    ensures noted { IfOk result (λ constants. Notes faults.old faults.new
+        (flat_map (faults_in_row (rows_of definitions.now) symbols.now constants.items)
         (rows_of definitions.now).synonyms)) }
 {
     let synonyms = synonyms_of(alloc, definitions, symbols)?;

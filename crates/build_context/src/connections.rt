@@ -7,7 +7,7 @@ ghost use Rattle.build_definitions.specs.Definitions.{rows_of};
 ghost use Rattle.build_network.specs.Network.{network_faults};
 ghost use Rattle.route_network.specs.SignalLists.{AreSets};
 ghost use Rattle.route_table.specs.Table.{AreRoutes};
-ghost use Rattle.build_faults.specs.Faults.{least_of, told};
+ghost use Rattle.build_faults.specs.Faults.{Notes};
 ghost use Rattle.build_stimuli.specs.Context.{listed_members};
 
 use crate::lists::members;
@@ -33,8 +33,8 @@ pub struct Connections {
 }
 
 impl Connections {
-    /// What joins the agents of a specification with these definitions and names. Noted is each name in it that stands for
-    /// nothing.
+    /// What joins the agents of a specification with these definitions and names. Noted is each name in it that stands
+    /// for nothing.
     pub fn of<'t>(
         alloc: Global,
         definitions: &Definitions<'t>,
@@ -48,8 +48,8 @@ impl Connections {
         ensures routes { IfOk result (λ connections. AreRoutes connections.network connections.routes) }
         ensures members { IfOk result (λ connections. AreMembers connections.network
             (length (rows_of definitions.now).lists) (listed_members connections.members.items)) }
-        ensures noted { OnOk result (told faults.new
-            ≡ least_of (told faults.old) (network_faults (rows_of definitions.now) symbols.now)) }
+        ensures noted { OnOk result (Notes faults.old faults.new
+            (network_faults (rows_of definitions.now) symbols.now)) }
     {
         note_network(alloc, definitions, symbols, faults)?;
         let lists = counted(definitions.lists.len())?;

@@ -9,7 +9,6 @@ ghost use Rattle.build_definitions.specs.Seen.{process_seen};
 ghost use Rattle.build_labels.specs.Labels.{names_listed};
 ghost use Rattle.build_process.specs.Faulty.{NotesBody};
 ghost use Rattle.build_process.specs.ProcessScope.{process_scope_of};
-ghost use Rattle.build_faults.specs.Faults.{told};
 
 use crate::connections::Connections;
 use crate::heading::variables_of;
@@ -48,7 +47,7 @@ pub fn process_at<'t>(
     ensures noted { OnOk result (NotesBody
         (process_scope (context_of definitions.now symbols.now constant_table.now connections.now) number
         (process_seen entry.now).definition)
-        (process_seen entry.now).definition (told faults.old) (told faults.new)) }
+        (process_seen entry.now).definition faults.old faults.new) }
 {
     let heading = heading_of(
         alloc,

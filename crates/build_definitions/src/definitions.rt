@@ -5,7 +5,7 @@ ghost use Rattle.build_definitions.specs.Parts.{all_sort_faults, parts_in};
 ghost use Rattle.build_definitions.specs.Seen.{process_seen};
 ghost use Rattle.build_definitions.specs.Definitions.{block_of, block_round, path_of, rows_in, rows_of};
 ghost use Rattle.build_definitions.specs.Views.{parts_listed};
-ghost use Rattle.build_faults.specs.Faults.{least_of, told};
+ghost use Rattle.build_faults.specs.Faults.{Notes};
 ghost use Rattle.sdl_tree.specs.Views.{tree_value};
 
 use crate::entries::{
@@ -67,8 +67,8 @@ impl<'t> Definitions<'t> {
     pub fn of(alloc: Global, tree: &'t Tree, faults: &mut Faults<'t>) -> Result<Self, AllocError>
         ensures definitions { IfOk result (λ definitions. rows_of definitions
             ≡ rows_in (parts_in (tree_value tree.now))) }
-        ensures noted { IfOk result (λ definitions. told faults.new
-            ≡ least_of (told faults.old) (all_sort_faults (tree_value tree.now))) }
+        ensures noted { IfOk result (λ definitions. Notes faults.old faults.new
+            (all_sort_faults (tree_value tree.now))) }
     {
         let parts = parts_in(alloc, tree)?;
         note_in_parts(&parts, faults);

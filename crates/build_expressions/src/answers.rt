@@ -1,7 +1,7 @@
 //! The answers of a decision.
 
 ghost use Rattle.std.specs.Prelude.{◌≡◌, None, option_map, IfOk, OnOk};
-ghost use Rattle.build_faults.specs.Faults.{fault_if, least_of, told, token_word};
+ghost use Rattle.build_faults.specs.Faults.{Notes, fault_if, token_word};
 ghost use Rattle.build_expressions.specs.Answers.{answer_faults, answer_in, answer_value, answer_value_faults, comparable_in, compared_faults, comparison_for, has_order, is_incomparable, known, order_for};
 ghost use Rattle.build_expressions.specs.Constants.{counted};
 ghost use Rattle.build_faults.specs.declared.fault.Rule.TheVariants.{Sort};
@@ -35,7 +35,7 @@ pub fn resolve_answer<'t>(
     faults: &mut Faults<'t>,
 ) -> Result<Option<sdl_system::Answer>, AllocError>
     ensures answer { IfOk result (λ found. found ≡ answer_in (scope_of scope.now) question (answer_tree answer.now)) }
-    ensures noted { OnOk result (told faults.new ≡ least_of (told faults.old)
+    ensures noted { OnOk result (Notes faults.old faults.new
         (answer_faults (scope_of scope.now) question (answer_tree answer.now))) }
 {
     match answer {
@@ -89,7 +89,7 @@ fn resolve_value<'t>(
     faults: &mut Faults<'t>,
 ) -> Result<Option<Value>, AllocError>
     ensures value { IfOk result (λ found. found ≡ answer_value (scope_of scope.now) question (expr_value value.now)) }
-    ensures noted { OnOk result (told faults.new ≡ least_of (told faults.old)
+    ensures noted { OnOk result (Notes faults.old faults.new
         (answer_value_faults (scope_of scope.now) question (expr_value value.now))) }
 {
     let typed = resolve_in(alloc, Context::Constant, scope, value, faults)?;
@@ -103,7 +103,7 @@ fn compared<'t>(
     faults: &mut Faults<'t>,
 ) -> Option<Value>
     ensures value { result ≡ known (counted None (comparable_in question (option_map typed_of typed))) }
-    ensures noted { told faults.new ≡ least_of (told faults.old)
+    ensures noted { Notes faults.old faults.new
         (compared_faults question (token_word token.entry) (option_map typed_of typed)) }
 {
     let comparable = comparable(question, token, typed, faults);
@@ -118,7 +118,7 @@ fn comparable<'t>(
     faults: &mut Faults<'t>,
 ) -> Option<Typed>
     ensures comparable { option_map typed_of result ≡ comparable_in question (option_map typed_of typed) }
-    ensures noted { told faults.new ≡ least_of (told faults.old)
+    ensures noted { Notes faults.old faults.new
         (fault_if (is_incomparable question (option_map typed_of typed)) Sort (token_word token.entry)) }
 {
     let typed = typed?;

@@ -1,7 +1,7 @@
 //! Values in a list, each for a place of a sort.
 
 ghost use Rattle.std.specs.Prelude.{◌≡◌, ◌&&◌, ◌||◌, IfOk, None, Some, map, option_map};
-ghost use Rattle.build_faults.specs.Faults.{least_of, told, token_word};
+ghost use Rattle.build_faults.specs.Faults.{Notes, token_word};
 ghost use Rattle.build_expressions.specs.Misused.{fault_of_place, places_faults};
 ghost use Rattle.build_expressions.specs.Partial.{and_last};
 ghost use Rattle.build_expressions.specs.Resolved.{argument_of, typed_of};
@@ -31,7 +31,7 @@ pub fn place_all<'t>(
     faults: &mut Faults<'t>,
 ) -> bool
     ensures taken { result ≡ are_taken places.now (map argument_of arguments.now) }
-    ensures noted { told faults.new ≡ least_of (told faults.old)
+    ensures noted { Notes faults.old faults.new
         (places_faults (name_value name.now) places.now (map argument_of arguments.now)) }
 {
     if arguments.len() != places.len() {
@@ -60,7 +60,7 @@ fn place<'t>(
     faults: &mut Faults<'t>,
 ) -> bool
     ensures taken { result ≡ is_taken place (option_map typed_of typed.now) }
-    ensures noted { told faults.new ≡ least_of (told faults.old)
+    ensures noted { Notes faults.old faults.new
         (fault_of_place place (token_word token.entry) (option_map typed_of typed.now)) }
 {
     match (place, typed) {
@@ -84,7 +84,7 @@ pub fn taken<'t>(
     faults: &mut Faults<'t>,
 ) -> Option<Typed>
     ensures taken { option_map typed_of result ≡ taken_in sort (option_map typed_of typed) }
-    ensures noted { told faults.new ≡ least_of (told faults.old)
+    ensures noted { Notes faults.old faults.new
         (fault_of_place sort (token_word token.entry) (option_map typed_of typed)) }
 {
     if place(sort, token, &typed, faults) {

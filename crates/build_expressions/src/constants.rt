@@ -1,7 +1,7 @@
 //! Constant expressions.
 
 ghost use Rattle.std.specs.Prelude.{◌≡◌, option_and_then, option_map, IfOk, OnOk};
-ghost use Rattle.build_faults.specs.Faults.{fault_if, least_of, told, token_word};
+ghost use Rattle.build_faults.specs.Faults.{Notes, fault_if, token_word};
 ghost use Rattle.build_faults.specs.declared.fault.Rule.TheVariants.{BadCount};
 ghost use Rattle.build_expressions.specs.Constants.{binary_value, constant_faults, constant_in, counted, counted_faults, given, is_miscounted, unary_value, value_of, with_value};
 ghost use Rattle.build_expressions.specs.Resolved.{typed_of};
@@ -36,7 +36,7 @@ pub fn constant<'t>(
 ) -> Result<Constant, AllocError>
     ensures constant { IfOk result (λ constant. constant
         ≡ constant_in (scope_of scope.now) sort (expr_value expression.now)) }
-    ensures noted { OnOk result (told faults.new ≡ least_of (told faults.old)
+    ensures noted { OnOk result (Notes faults.old faults.new
         (constant_faults (scope_of scope.now) sort (expr_value expression.now))) }
 {
     let typed = resolve_in(alloc, Context::Constant, scope, expression, faults)?;
@@ -53,7 +53,7 @@ pub fn counted<'t>(
     faults: &mut Faults<'t>,
 ) -> Constant
     ensures constant { result ≡ counted sort (option_map typed_of taken.now) }
-    ensures noted { told faults.new ≡ least_of (told faults.old)
+    ensures noted { Notes faults.old faults.new
         (counted_faults sort (token_word token.entry) (option_map typed_of taken.now)) }
 {
     match taken {
@@ -71,7 +71,7 @@ fn valued<'t>(
     faults: &mut Faults<'t>,
 ) -> Constant
     ensures constant { result ≡ with_value sort value }
-    ensures noted { told faults.new ≡ least_of (told faults.old)
+    ensures noted { Notes faults.old faults.new
         (fault_if (is_miscounted sort value) BadCount (token_word token.entry)) }
 {
     let Some(value) = value else {

@@ -1,12 +1,11 @@
 -- Faults of a specification, their order, and which of them is told.
-use Rattle.std.specs.Prelude.{ℕ, ◌==◌, ◌&&◌, ◌||◌, Bool, true, false, List, [], ◌∷◌, Option, None, Some, fold, nat_lt, option_map, slice_get, if◌then◌else◌}
+use Rattle.std.specs.Prelude.{◌≡◌, ℕ, ◌==◌, ◌&&◌, ◌||◌, Bool, true, false, List, [], ◌∷◌, Option, None, Some, fold, nat_lt, slice_get, if◌then◌else◌}
 use Rattle.sdl_lex.specs.declared.place.Place.{Place}
 use Rattle.sdl_tree.specs.Mark.{spelled}
 use Rattle.sdl_tree.specs.Words.{Spot}
 use Rattle.sdl_tree.specs.declared.mark.Mark.{Mark}
 use Rattle.sdl_tree.specs.declared.name.Spelling.{Spelling}
 use Rattle.build_faults.specs.declared.fault.Fault.{Fault}
-use Rattle.build_faults.specs.declared.fault.Faults.{Faults}
 use Rattle.build_faults.specs.declared.fault.Rule.{Rule}
 use Rattle.build_faults.specs.declared.fault.Rule.TheVariants.{Unknown, Duplicate, Sort, TwiceInState, NoState, NoLabel, NoRoute, BadCount, NoEnd, Limit}
 use Rattle.build_faults.specs.declared.fault.Token.{Token}
@@ -72,6 +71,10 @@ earlier (Some old) fault = if precedes fault old then Some fault else Some old
 abbrev pub least_of : Option Diagnostic → List Diagnostic → Option Diagnostic
 least_of old faults = fold earlier old faults
 
+-- these faults were noted, one after the other: of them and of the one that was told before, the first is told
+abbrev pub Notes : Option Diagnostic → Option Diagnostic → List Diagnostic → Type 0
+Notes old new faults = new ≡ least_of old faults
+
 -- ---- lists of faults
 
 -- a fault at the word where the rule is broken
@@ -95,7 +98,3 @@ token_word token = record { text = token.text.now; place = token.place }
 
 abbrev pub diagnostic_of : Fault → Diagnostic
 diagnostic_of fault = diagnostic_at fault.rule (token_word fault.token)
-
--- the fault that is told, if one was noted
-abbrev pub told : Faults → Option Diagnostic
-told faults = option_map diagnostic_of faults.first

@@ -5,6 +5,7 @@ ghost use Rattle.sdl_tree.specs.Views.{name_value};
 
 use sdl_lex::Place;
 use sdl_tree::{Mark, Name, Number, Spelling};
+use std::marker::Model;
 
 /// A token of the text: how it is spelled, and where it stands.
 #[derive(Clone, Copy, Debug)]
@@ -134,19 +135,29 @@ pub struct Faults<'t> {
     first: Option<Fault<'t>>,
 }
 
+/// The fault that is told, if one was noted.
+impl<'t> Model for Faults<'t> {
+    ghost use Rattle.std.specs.Prelude.{Option, option_map};
+    ghost use Rattle.build_faults.specs.Faults.{Diagnostic, diagnostic_of};
+
+    ghost Value = { Option Diagnostic };
+
+    ghost view = { λ faults. option_map diagnostic_of faults.first };
+}
+
 impl<'t> Faults<'t> {
-    ghost use Rattle.build_faults.specs.Faults.{earlier, told, diagnostic_at, diagnostic_of, token_word};
+    ghost use Rattle.build_faults.specs.Faults.{diagnostic_at, diagnostic_of, earlier, token_word};
 
     /// No fault noted yet.
     pub fn new() -> Self
-        ensures { told result ≡ None }
+        ensures { result ≡ None }
     {
         Faults { first: None }
     }
 
     /// Notes that a rule is broken at a token.
     pub fn note(&mut self, rule: Rule, token: Token<'t>)
-        ensures { told self.new ≡ earlier (told self.old) (diagnostic_at rule (token_word token.entry)) }
+        ensures { self.new ≡ earlier self.old (diagnostic_at rule (token_word token.entry)) }
     {
         let fault = Fault { rule, token };
         let is_first = match &self.first {
@@ -160,7 +171,7 @@ impl<'t> Faults<'t> {
 
     /// The fault that is told, if one was noted.
     pub fn first(&self) -> Option<Fault<'t>>
-        ensures { option_map diagnostic_of result ≡ told self.now }
+        ensures { option_map diagnostic_of result ≡ self.now }
     {
         self.first
     }

@@ -2,7 +2,7 @@
 
 ghost use Rattle.std.specs.Prelude.{◌≡◌, ◌++◌, flat_map, fold, map, option_map, IfOk, OnOk};
 ghost use Rattle.sdl_tree.specs.Views.{block_part_value, body_part_value, definition_value, fpar_value, local_value, name_value, names_value, process_value, signal_value, sorts_value, system_definition_value, timer_value, tree_value};
-ghost use Rattle.build_faults.specs.Faults.{fault_at, least_of, limit_at, told};
+ghost use Rattle.build_faults.specs.Faults.{Notes, fault_at, limit_at};
 ghost use Rattle.build_limits.specs.Limits.{block_definitions, declared_faults, declared_name, declared_of, definitions_in, different, limit_faults, local_declared, of_signal, of_timer, parameter_names, part_states, process_faults, process_name, process_statements, processes_of, system_definitions, with_new};
 ghost use Rattle.build_limits.specs.Listed.{declared_listed, definitions_listed, entry_word, processes_listed, words_listed};
 
@@ -42,7 +42,7 @@ pub fn note_limits<'t>(
     tree: &'t Tree,
     faults: &mut Faults<'t>,
 ) -> Result<(), AllocError>
-    ensures { OnOk result (told faults.new ≡ least_of (told faults.old) (limit_faults (tree_value tree.now))) }
+    ensures { OnOk result (Notes faults.old faults.new (limit_faults (tree_value tree.now))) }
 {
     let definitions = definitions_in(alloc, tree)?;
     let processes = processes_in(alloc, &definitions)?;
@@ -55,8 +55,7 @@ pub fn note_limits<'t>(
 }
 
 fn note_processes<'t>(processes: &[&'t ProcessDefinition], faults: &mut Faults<'t>)
-    ensures { told faults.new ≡ least_of (told faults.old)
-        (fault_at 200 (map process_name (processes_listed processes.now))) }
+    ensures { Notes faults.old faults.new (fault_at 200 (map process_name (processes_listed processes.now))) }
 {
     if let Some(process) = processes.get(MOST_PROCESSES) {
         faults.note(Rule::Limit, Token::of_name(&process.name));
@@ -64,8 +63,7 @@ fn note_processes<'t>(processes: &[&'t ProcessDefinition], faults: &mut Faults<'
 }
 
 fn note_declared<'t>(declared: &[Declared<'t>], faults: &mut Faults<'t>)
-    ensures { told faults.new ≡ least_of (told faults.old)
-        (fault_at 1000 (map declared_name (declared_listed declared.now))) }
+    ensures { Notes faults.old faults.new (fault_at 1000 (map declared_name (declared_listed declared.now))) }
 {
     if let Some(declared) = declared.get(MOST_DECLARED) {
         faults.note(Rule::Limit, Token::of_name(declared.name));
@@ -73,7 +71,7 @@ fn note_declared<'t>(declared: &[Declared<'t>], faults: &mut Faults<'t>)
 }
 
 fn note_statements<'t>(processes: &[&'t ProcessDefinition], faults: &mut Faults<'t>)
-    ensures { told faults.new ≡ least_of (told faults.old)
+    ensures { Notes faults.old faults.new
         (fault_at 50000 (flat_map process_statements (processes_listed processes.now))) }
 {
     let mut count = Count::Left(MOST_STATEMENTS);
@@ -84,7 +82,7 @@ fn note_statements<'t>(processes: &[&'t ProcessDefinition], faults: &mut Faults<
 }
 
 fn note_all_sorts<'t>(list: &[Declared<'t>], faults: &mut Faults<'t>)
-    ensures { told faults.new ≡ least_of (told faults.old) (flat_map declared_faults (declared_listed list.now)) }
+    ensures { Notes faults.old faults.new (flat_map declared_faults (declared_listed list.now)) }
 {
     for declared in list {
         note_sorts(declared.sorts, faults);
@@ -92,7 +90,7 @@ fn note_all_sorts<'t>(list: &[Declared<'t>], faults: &mut Faults<'t>)
 }
 
 fn note_sorts<'t>(sorts: &'t [SortName], faults: &mut Faults<'t>)
-    ensures { told faults.new ≡ least_of (told faults.old) (fault_at 16 (sorts_value sorts.now)) }
+    ensures { Notes faults.old faults.new (fault_at 16 (sorts_value sorts.now)) }
 {
     if let Some(sort) = sorts.get(MOST_PARAMETERS) {
         faults.note(Rule::Limit, Token::of_name(&sort.spelled));
@@ -104,8 +102,7 @@ fn note_in_processes<'t>(
     processes: &[&'t ProcessDefinition],
     faults: &mut Faults<'t>,
 ) -> Result<(), AllocError>
-    ensures { OnOk result (told faults.new ≡ least_of (told faults.old)
-        (flat_map process_faults (processes_listed processes.now))) }
+    ensures { OnOk result (Notes faults.old faults.new (flat_map process_faults (processes_listed processes.now))) }
 {
     for process in processes {
         note_in_process(alloc, process, faults)?;
@@ -118,16 +115,14 @@ fn note_in_process<'t>(
     process: &'t ProcessDefinition,
     faults: &mut Faults<'t>,
 ) -> Result<(), AllocError>
-    ensures { OnOk result (told faults.new ≡ least_of (told faults.old)
-        (process_faults (process_value process.now))) }
+    ensures { OnOk result (Notes faults.old faults.new (process_faults (process_value process.now))) }
 {
     note_parameters(&process.parameters, faults);
     note_states(alloc, &process.body, faults)
 }
 
 fn note_parameters<'t>(parameters: &'t Option<FormalParameters>, faults: &mut Faults<'t>)
-    ensures { told faults.new ≡ least_of (told faults.old)
-        (fault_at 16 (parameter_names (option_map fpar_value parameters.now))) }
+    ensures { Notes faults.old faults.new (fault_at 16 (parameter_names (option_map fpar_value parameters.now))) }
 {
     let mut count = Count::Left(MOST_PARAMETERS);
     count.parameters(parameters);
@@ -139,7 +134,7 @@ fn note_states<'t>(
     body: &'t [BodyPart],
     faults: &mut Faults<'t>,
 ) -> Result<(), AllocError>
-    ensures { OnOk result (told faults.new ≡ least_of (told faults.old)
+    ensures { OnOk result (Notes faults.old faults.new
         (fault_at 1000 (different (flat_map part_states (map body_part_value body.now))))) }
 {
     let mut names = Names::new(alloc);
@@ -152,7 +147,7 @@ fn note_states<'t>(
 
 /// Notes the name past the limit of the states, if there is one.
 fn note_past<'t>(past: Option<&(&'t str, Place)>, faults: &mut Faults<'t>)
-    ensures { told faults.new ≡ least_of (told faults.old)
+    ensures { Notes faults.old faults.new
         (limit_at (option_map (λ entry. entry_word (entry.now.0.now, entry.now.1)) past.entry)) }
 {
     if let Some((text, place)) = past {

@@ -39,7 +39,7 @@ impl<'t, T: Copy> Model for Names<'t, T> {
 }
 
 impl<'t, T: Copy> Names<'t, T> {
-    ghost use Rattle.build_faults.specs.Faults.{fault_if, least_of, told};
+    ghost use Rattle.build_faults.specs.Faults.{Notes, fault_if};
     ghost use Rattle.build_faults.specs.declared.fault.Rule.TheVariants.{Duplicate};
 
     /// No names yet.
@@ -102,11 +102,11 @@ impl<'t, T: Copy> Names<'t, T> {
         faults: &mut Faults<'t>,
     ) -> Result<(), AllocError>
         ensures declared { OnOk result (self.new ≡ self.old ++ (string_bytes name.now.text, what) ∷ []) }
-        ensures noted { OnOk result (told faults.new ≡ least_of (told faults.old)
+        ensures noted { OnOk result (Notes faults.old faults.new
             (fault_if (is_some (first_of self.old (string_bytes name.now.text))) Duplicate (name_value name.now))) }
 
         ensures err { OnErr result (self.new ≡ self.old) }
-        ensures err_faults { OnErr result (told faults.new ≡ told faults.old) }
+        ensures err_faults { OnErr result (faults.new ≡ faults.old) }
     {
         let is_known = self.first.contains_key(name.text.as_str());
         self.add(name.text.as_str(), what)?;

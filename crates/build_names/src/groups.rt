@@ -1,10 +1,10 @@
 //! Groups of name spaces: each is made by a function of its own, so that few spaces are at stake where memory runs out.
 
-ghost use Rattle.std.specs.Prelude.{◌≡◌, ◌++◌, IfOk};
+ghost use Rattle.std.specs.Prelude.{◌++◌, IfOk};
 ghost use Rattle.build_definitions.specs.Definitions.{rows_of};
 ghost use Rattle.build_names.specs.Entries.{Has, HasMeant, duplicates, standings};
 ghost use Rattle.build_names.specs.Meanings.{agent_entries, channel_entries, label_entries, list_entries, signal_entries, state_entries, value_entries};
-ghost use Rattle.build_faults.specs.Faults.{least_of, told};
+ghost use Rattle.build_faults.specs.Faults.{Notes};
 ghost use Rattle.build_expressions.specs.Scope.{agent_meaning, signal_meaning};
 
 use crate::agents::declare_agents;
@@ -51,7 +51,7 @@ pub fn signal_names<'s, 't>(
     ensures signals { IfOk result (λ names. HasMeant signal_meaning names.signals
         (signal_entries (rows_of definitions.now))) }
     ensures lists { IfOk result (λ names. Has names.lists (list_entries (rows_of definitions.now))) }
-    ensures noted { IfOk result (λ names. told faults.new ≡ least_of (told faults.old)
+    ensures noted { IfOk result (λ names. Notes faults.old faults.new
         (duplicates (standings (signal_entries (rows_of definitions.now)))
         ++ duplicates (standings (list_entries (rows_of definitions.now))))) }
 {
@@ -68,7 +68,7 @@ pub fn agent_names<'s, 't>(
     ensures channels { IfOk result (λ names. Has names.channels (channel_entries (rows_of definitions.now))) }
     ensures agents { IfOk result (λ names. HasMeant agent_meaning names.agents
         (agent_entries (rows_of definitions.now))) }
-    ensures noted { IfOk result (λ names. told faults.new ≡ least_of (told faults.old)
+    ensures noted { IfOk result (λ names. Notes faults.old faults.new
         (duplicates (standings (channel_entries (rows_of definitions.now)))
         ++ duplicates (standings (agent_entries (rows_of definitions.now))))) }
 {
@@ -85,7 +85,7 @@ pub fn body_names<'t>(
     ensures values { IfOk result (λ names. Has names.values (value_entries (rows_of definitions.now))) }
     ensures labels { IfOk result (λ names. Has names.labels (label_entries (rows_of definitions.now))) }
     ensures states { IfOk result (λ names. Has names.states (state_entries (rows_of definitions.now))) }
-    ensures noted { IfOk result (λ names. told faults.new ≡ least_of (told faults.old)
+    ensures noted { IfOk result (λ names. Notes faults.old faults.new
         (duplicates (standings (value_entries (rows_of definitions.now)))
         ++ duplicates (standings (label_entries (rows_of definitions.now))))) }
 {

@@ -5,7 +5,7 @@ ghost use Rattle.build_definitions.specs.Seen.{kind_seen, signal_seen};
 ghost use Rattle.build_definitions.specs.Definitions.{rows_of};
 ghost use Rattle.build_names.specs.Entries.{HasMeant, duplicates, entry_seen, standings};
 ghost use Rattle.build_names.specs.Meanings.{signal_entries, signal_means, signals_from};
-ghost use Rattle.build_faults.specs.Faults.{least_of, told};
+ghost use Rattle.build_faults.specs.Faults.{Notes};
 ghost use Rattle.build_expressions.specs.Scope.{signal_meaning};
 
 use crate::declaration::{Declaration, add, declare_all};
@@ -24,8 +24,8 @@ pub fn declare_signals<'s, 't>(
     faults: &mut Faults<'t>,
 ) -> Result<Spaces<'t, SignalMeaning<'s>>, AllocError>
     ensures spaces { IfOk result (λ spaces. HasMeant signal_meaning spaces (signal_entries (rows_of definitions.now))) }
-    ensures noted { IfOk result (λ spaces. told faults.new
-        ≡ least_of (told faults.old) (duplicates (standings (signal_entries (rows_of definitions.now))))) }
+    ensures noted { IfOk result (λ spaces. Notes faults.old faults.new
+        (duplicates (standings (signal_entries (rows_of definitions.now))))) }
 {
     let declarations = signal_declarations(alloc, &definitions.signals)?;
     declare_all(alloc, &declarations, faults)

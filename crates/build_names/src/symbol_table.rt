@@ -4,7 +4,7 @@ ghost use Rattle.std.specs.Prelude.{◌≡◌, IfOk};
 ghost use Rattle.build_definitions.specs.Definitions.{rows_of};
 ghost use Rattle.build_names.specs.Spaces.{AreNamesOf};
 ghost use Rattle.build_names.specs.Meanings.{duplicate_faults};
-ghost use Rattle.build_faults.specs.Faults.{least_of, told};
+ghost use Rattle.build_faults.specs.Faults.{Notes};
 
 use crate::groups::{AgentNames, BodyNames, SignalNames, agent_names, body_names, signal_names};
 use build_definitions::{ChannelId, Definitions, SignalListId};
@@ -45,16 +45,16 @@ impl<'s, 't> Drop for SymbolTable<'s, 't> {
 }
 
 impl<'s, 't> SymbolTable<'s, 't> {
-    /// The names of a specification with these definitions. One that its scope has already is noted as a Duplicate; a state
-    /// may be named again.
+    /// The names of a specification with these definitions. One that its scope has already is noted as a Duplicate; a
+    /// state may be named again.
     pub fn of(
         alloc: Global,
         definitions: &'s Definitions<'t>,
         faults: &mut Faults<'t>,
     ) -> Result<Self, AllocError>
         ensures names { IfOk result (λ symbols. AreNamesOf (rows_of definitions.now) symbols) }
-        ensures noted { IfOk result (λ symbols. told faults.new
-            ≡ least_of (told faults.old) (duplicate_faults (rows_of definitions.now))) }
+        ensures noted { IfOk result (λ symbols. Notes faults.old faults.new
+            (duplicate_faults (rows_of definitions.now))) }
     {
         let signals = signal_names(alloc, definitions, faults)?;
         let agents = agent_names(alloc, definitions, faults)?;

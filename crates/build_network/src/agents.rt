@@ -3,7 +3,7 @@
 ghost use Rattle.std.specs.Prelude.{◌≡◌, ◌==◌, length, map, IfOk};
 ghost use Rattle.build_definitions.specs.Seen.{block_seen};
 ghost use Rattle.build_network.specs.Agents.{agent_end, block_end, block_names, end_faults, end_in};
-ghost use Rattle.build_faults.specs.Faults.{least_of, told};
+ghost use Rattle.build_faults.specs.Faults.{Notes};
 ghost use Rattle.build_limits.specs.Names.{first_of, names_in};
 ghost use Rattle.build_scopes.specs.Spaces.{names_of};
 ghost use Rattle.sdl_tree.specs.Views.{end_value};
@@ -99,8 +99,7 @@ pub fn note_end<'t>(
     end: &'t ChannelEnd,
     faults: &mut Faults<'t>,
 )
-    ensures { told faults.new ≡ least_of (told faults.old)
-        (end_faults blocks.now (names_of agents.now scope) (end_value end.now)) }
+    ensures { Notes faults.old faults.new (end_faults blocks.now (names_of agents.now scope) (end_value end.now)) }
 {
     if let ChannelEnd::Agent(name) = end {
         let found = agent_end(blocks.get(&name.text), get_at(agents, scope, &name.text));

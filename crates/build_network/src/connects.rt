@@ -3,7 +3,7 @@
 ghost use Rattle.std.specs.Prelude.{◌≡◌, ◌++◌, flat_map, map, IfOk, OnOk};
 ghost use Rattle.build_definitions.specs.Seen.{connection_seen};
 ghost use Rattle.build_network.specs.Connects.{channel_faults, connect_faults, connect_in, connect_value, connects_of, ids_of, named_paths, numbers_at};
-ghost use Rattle.build_faults.specs.Faults.{least_of, told};
+ghost use Rattle.build_faults.specs.Faults.{Notes};
 ghost use Rattle.build_scopes.specs.Spaces.{names_of};
 ghost use Rattle.sdl_tree.specs.Views.{connection_value, name_value, names_value};
 
@@ -42,8 +42,7 @@ pub fn note_connects<'t>(
     entries: &[ConnectionEntry<'t>],
     faults: &mut Faults<'t>,
 )
-    ensures { told faults.new ≡ least_of (told faults.old)
-        (flat_map (connect_faults symbols.now) (map connection_seen entries.now)) }
+    ensures { Notes faults.old faults.new (flat_map (connect_faults symbols.now) (map connection_seen entries.now)) }
 {
     for entry in entries {
         note_connect(symbols, entry, faults);
@@ -141,7 +140,7 @@ fn note_connect<'t>(
     entry: &ConnectionEntry<'t>,
     faults: &mut Faults<'t>,
 )
-    ensures { told faults.new ≡ least_of (told faults.old) (connect_faults symbols.now (connection_seen entry.now)) }
+    ensures { Notes faults.old faults.new (connect_faults symbols.now (connection_seen entry.now)) }
 {
     let definition = entry.definition;
     note_channels(
@@ -159,7 +158,7 @@ fn note_channels<'t>(
     names: &'t [Name],
     faults: &mut Faults<'t>,
 )
-    ensures { told faults.new ≡ least_of (told faults.old)
+    ensures { Notes faults.old faults.new
         (flat_map (channel_faults (names_of channels.now scope)) (names_value names.now)) }
 {
     for name in names {
@@ -173,8 +172,7 @@ fn note_channel<'t>(
     name: &'t Name,
     faults: &mut Faults<'t>,
 )
-    ensures { told faults.new ≡ least_of (told faults.old)
-        (channel_faults (names_of channels.now scope) (name_value name.now)) }
+    ensures { Notes faults.old faults.new (channel_faults (names_of channels.now scope) (name_value name.now)) }
 {
     let found = get_at(channels, scope, &name.text);
     note_unknown(found.is_none(), Token::of_name(name), faults);

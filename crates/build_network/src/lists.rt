@@ -5,7 +5,7 @@ ghost use Rattle.build_definitions.specs.Seen.{signal_list_seen};
 ghost use Rattle.build_definitions.specs.Definitions.{rows_of};
 ghost use Rattle.build_network.specs.Lists.{list_at, list_faults};
 ghost use Rattle.build_network.specs.Seen.{list_items};
-ghost use Rattle.build_faults.specs.Faults.{least_of, told};
+ghost use Rattle.build_faults.specs.Faults.{Notes};
 
 use crate::seen::seen_at;
 use build_definitions::{Definitions, SignalListEntry};
@@ -64,7 +64,7 @@ pub fn note_lists<'t>(
     definitions: &Definitions<'t>,
     faults: &mut Faults<'t>,
 )
-    ensures { told faults.new ≡ least_of (told faults.old)
+    ensures { Notes faults.old faults.new
         (flat_map (list_faults symbols.now (rows_of definitions.now).processes) (rows_of definitions.now).lists) }
 {
     for entry in &definitions.lists {
@@ -78,7 +78,7 @@ fn note_list<'t>(
     entry: &SignalListEntry<'t>,
     faults: &mut Faults<'t>,
 )
-    ensures { told faults.new ≡ least_of (told faults.old)
+    ensures { Notes faults.old faults.new
         (list_faults symbols.now (rows_of definitions.now).processes (signal_list_seen entry.now)) }
 {
     let definition = entry.definition;

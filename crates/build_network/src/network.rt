@@ -8,7 +8,7 @@ ghost use Rattle.build_network.specs.Connects.{connect_value};
 ghost use Rattle.build_network.specs.Network.{all_paths, blocks_in, has_no_channel, network_connects, network_faults, network_lists, network_paths, network_processes};
 ghost use Rattle.build_network.specs.Seen.{list_items};
 ghost use Rattle.build_network.specs.Paths.{carried, channel_paths, path_faults, paths_from};
-ghost use Rattle.build_faults.specs.Faults.{least_of, told};
+ghost use Rattle.build_faults.specs.Faults.{Notes};
 ghost use Rattle.build_scopes.specs.declared.scope.ScopeId.TheVariants as scope;
 
 use crate::agents::{block_names, is_empty_at};
@@ -172,8 +172,7 @@ pub fn note_network<'t>(
     symbols: &SymbolTable<'_, 't>,
     faults: &mut Faults<'t>,
 ) -> Result<(), AllocError>
-    ensures { OnOk result (told faults.new ≡ least_of (told faults.old)
-        (network_faults (rows_of definitions.now) symbols.now)) }
+    ensures { OnOk result (Notes faults.old faults.new (network_faults (rows_of definitions.now) symbols.now)) }
 {
     note_lists(symbols, definitions, faults);
     note_channels(alloc, definitions, symbols, faults)?;
@@ -189,7 +188,7 @@ fn note_channels<'t>(
     symbols: &SymbolTable<'_, 't>,
     faults: &mut Faults<'t>,
 ) -> Result<(), AllocError>
-    ensures { OnOk result (told faults.new ≡ least_of (told faults.old)
+    ensures { OnOk result (Notes faults.old faults.new
         (flat_map (path_faults symbols.now (block_names (rows_of definitions.now).blocks))
         (all_paths (rows_of definitions.now)))) }
 {

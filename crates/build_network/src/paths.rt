@@ -4,7 +4,7 @@ ghost use Rattle.std.specs.Prelude.{◌≡◌, ◌++◌, ◌+◌, ◌∷◌, [],
 ghost use Rattle.build_definitions.specs.Seen.{channel_seen};
 ghost use Rattle.build_network.specs.Paths.{carried, channel_paths, items_if, numbers_from, numbers_of, path_faults, path_of, paths_from, placed_value, second_number, second_path, seen_from};
 ghost use Rattle.build_network.specs.Seen.{items_faults, list_items};
-ghost use Rattle.build_faults.specs.Faults.{least_of, told};
+ghost use Rattle.build_faults.specs.Faults.{Notes};
 ghost use Rattle.sdl_tree.specs.Views.{path_value};
 
 use crate::agents::{end_in, note_end};
@@ -134,7 +134,7 @@ pub fn note_paths<'t>(
     entries: &[PathEntry<'t>],
     faults: &mut Faults<'t>,
 )
-    ensures { told faults.new ≡ least_of (told faults.old)
+    ensures { Notes faults.old faults.new
         (flat_map (path_faults symbols.now blocks.now) (map placed_value entries.now)) }
 {
     for entry in entries {
@@ -192,8 +192,7 @@ fn note_path<'t>(
     entry: &PathEntry<'t>,
     faults: &mut Faults<'t>,
 )
-    ensures { told faults.new ≡ least_of (told faults.old)
-        (path_faults symbols.now blocks.now (placed_value entry.now)) }
+    ensures { Notes faults.old faults.new (path_faults symbols.now blocks.now (placed_value entry.now)) }
 {
     let path = entry.path;
     note_end(blocks, &symbols.agents, entry.scope, &path.from, faults);
@@ -207,8 +206,7 @@ fn note_signals<'t>(
     path: &'t PathDefinition,
     faults: &mut Faults<'t>,
 )
-    ensures { told faults.new ≡ least_of (told faults.old)
-        (items_faults (seen_from symbols.now scope) (path_value path.now).signals) }
+    ensures { Notes faults.old faults.new (items_faults (seen_from symbols.now scope) (path_value path.now).signals) }
 {
     let seen = seen_at(symbols, path_at(scope));
     seen.note_items(&path.signals, faults);

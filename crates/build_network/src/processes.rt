@@ -4,7 +4,7 @@ ghost use Rattle.std.specs.Prelude.{◌≡◌, ◌++◌, ◌+◌, ◌^◌, ◌<�
 ghost use Rattle.build_definitions.specs.Seen.{process_seen};
 ghost use Rattle.build_network.specs.Processes.{faults_of, lists_of, named_items, process_at, process_lists, processes_faults, processes_from, scope_of, timers_items, two_lists};
 ghost use Rattle.build_network.specs.Seen.{list_items, seen_of};
-ghost use Rattle.build_faults.specs.Faults.{least_of, told};
+ghost use Rattle.build_faults.specs.Faults.{Notes};
 ghost use Rattle.sdl_tree.specs.Views.{process_value};
 
 use crate::lists::add_list;
@@ -107,7 +107,7 @@ pub fn note_processes<'t>(
     entries: &[ProcessEntry<'t>],
     faults: &mut Faults<'t>,
 ) -> Result<(), AllocError>
-    ensures noted { OnOk result (told faults.new ≡ least_of (told faults.old)
+    ensures noted { OnOk result (Notes faults.old faults.new
         (processes_faults symbols.now (map process_seen entries.now))) }
     ensures few { length entries.now ≤ 2 ^ 32 → IsOk result }
 {
@@ -123,8 +123,7 @@ fn note_process<'t>(
     entry: &ProcessEntry<'t>,
     faults: &mut Faults<'t>,
 ) -> Result<(), AllocError>
-    ensures noted { OnOk result (told faults.new ≡ least_of (told faults.old)
-        (faults_of symbols.now index (process_seen entry.now))) }
+    ensures noted { OnOk result (Notes faults.old faults.new (faults_of symbols.now index (process_seen entry.now))) }
     ensures few { index < 2 ^ 32 → IsOk result }
 {
     let number = counted(index)?;

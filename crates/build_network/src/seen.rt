@@ -3,7 +3,7 @@
 ghost use Rattle.std.specs.Prelude.{◌≡◌, ◌++◌, [], OnOk};
 ghost use Rattle.build_definitions.specs.Definitions.{block_of, path_of};
 ghost use Rattle.build_network.specs.Seen.{found_item, item_faults, item_in, item_name, items_faults, items_in, list_in, list_item, listed, path_within, seen_at, seen_of, signal_in, signal_item, timer_in, timer_item};
-ghost use Rattle.build_faults.specs.Faults.{fault_if, least_of, told, token_word};
+ghost use Rattle.build_faults.specs.Faults.{Notes, fault_if, token_word};
 ghost use Rattle.build_limits.specs.Names.{first_of};
 ghost use Rattle.build_faults.specs.declared.fault.Rule.TheVariants.{Unknown};
 ghost use Rattle.sdl_tree.specs.Views.{item_value, items_value, name_value};
@@ -140,8 +140,7 @@ impl<'a, 's, 't> Seen<'a, 's, 't> {
 
     /// Notes the names that stand for nothing.
     pub fn note_items(&self, items: &'t [SignalListItem], faults: &mut Faults<'t>)
-        ensures { told faults.new ≡ least_of (told faults.old)
-            (items_faults (seen_of self.now) (items_value items.now)) }
+        ensures { Notes faults.old faults.new (items_faults (seen_of self.now) (items_value items.now)) }
     {
         for item in items {
             self.note_item(item, faults);
@@ -149,7 +148,7 @@ impl<'a, 's, 't> Seen<'a, 's, 't> {
     }
 
     fn note_item(&self, item: &'t SignalListItem, faults: &mut Faults<'t>)
-        ensures { told faults.new ≡ least_of (told faults.old) (item_faults (seen_of self.now) (item_value item.now)) }
+        ensures { Notes faults.old faults.new (item_faults (seen_of self.now) (item_value item.now)) }
     {
         note_unknown(self.item(item).is_none(), item_token(item), faults);
     }
@@ -165,7 +164,7 @@ fn item_token(item: &SignalListItem) -> Token<'_>
 
 /// Notes a name that stands for nothing.
 pub fn note_unknown<'t>(is_unknown: bool, token: Token<'t>, faults: &mut Faults<'t>)
-    ensures { told faults.new ≡ least_of (told faults.old) (fault_if is_unknown Unknown (token_word token.entry)) }
+    ensures { Notes faults.old faults.new (fault_if is_unknown Unknown (token_word token.entry)) }
 {
     if is_unknown {
         faults.note(Rule::Unknown, token);

@@ -5,7 +5,7 @@ ghost use Rattle.build_statements.specs.Contexts.{context_of};
 ghost use Rattle.build_nodes.specs.Decided.{IsDecisionOrNone, branch_of};
 ghost use Rattle.build_statements.specs.Faulty.{answers_faults};
 ghost use Rattle.build_statements.specs.Statements.{answers_in, kind_in};
-ghost use Rattle.build_faults.specs.Faults.{least_of, told};
+ghost use Rattle.build_faults.specs.Faults.{Notes};
 ghost use Rattle.build_expressions.specs.Resolved.{typed_of};
 ghost use Rattle.build_expressions.specs.Typing.{term_in};
 ghost use Rattle.sdl_system.specs.Term.{term_of};
@@ -40,7 +40,7 @@ pub fn resolve_answers<'t>(
 ) -> Result<Option<Vec<sdl_system::Answer>>, AllocError>
     ensures answers { IfOk result (λ found. option_map (λ list. list.items) found
         ≡ answers_in (context_of context.now) question (map answer_value answers.now)) }
-    ensures noted { OnOk result (told faults.new ≡ least_of (told faults.old)
+    ensures noted { OnOk result (Notes faults.old faults.new
         (answers_faults (context_of context.now) question (map answer_value answers.now))) }
 {
     let mut found = Vec::new(alloc);

@@ -1,11 +1,11 @@
 -- The rules that are broken in the states and transitions of a process.
-use Rattle.std.specs.Prelude.{◌≡◌, ◌++◌, ℕ, List, Option}
+use Rattle.std.specs.Prelude.{◌++◌, ℕ, List, Option}
 use Rattle.build_transitions.specs.Bodies.{bodies_faults}
 use Rattle.flow_paths.specs.Beginnings.{beginnings}
 use Rattle.flow_reach.specs.Ends.{ends_faults}
 use Rattle.flow_paths.specs.Reach.{AreReached}
 use Rattle.flow_reach.specs.Stays.{stay_faults}
-use Rattle.build_faults.specs.Faults.{Diagnostic, least_of}
+use Rattle.build_faults.specs.Faults.{Diagnostic, Notes}
 use Rattle.build_states.specs.States.{process_faults}
 use Rattle.sdl_tree.specs.Tree.{ProcessDefinition}
 use Rattle.build_process.specs.ProcessScope.{ProcessScope, for_stimuli, for_transitions}
@@ -26,10 +26,10 @@ body_faults around process names =
 pub record NotesFlow (around : ProcessScope) (process : ProcessDefinition) (old new : Option Diagnostic) : Type 0 where
   pub names : List (List ℕ)
   pub are_reached : AreReached (beginnings process) names
-  pub noted : new ≡ least_of old (flow_faults around process names)
+  pub noted : Notes old new (flow_faults around process names)
 
 -- Each fault of its states and transitions is noted in between.
 pub record NotesBody (around : ProcessScope) (process : ProcessDefinition) (old new : Option Diagnostic) : Type 0 where
   pub names : List (List ℕ)
   pub are_reached : AreReached (beginnings process) names
-  pub noted : new ≡ least_of old (body_faults around process names)
+  pub noted : Notes old new (body_faults around process names)

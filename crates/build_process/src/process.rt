@@ -4,7 +4,7 @@ ghost use Rattle.std.specs.Prelude.{◌≡◌, ◌≤◌, ◌++◌, ℕ, All, Li
 ghost use Rattle.build_transitions.specs.Added.{HasEach};
 ghost use Rattle.build_transitions.specs.Sound.{AreTransitionsOf};
 ghost use Rattle.flow_paths.specs.Beginnings.{beginnings};
-ghost use Rattle.build_faults.specs.Faults.{least_of, told};
+ghost use Rattle.build_faults.specs.Faults.{Notes};
 ghost use Rattle.build_limits.specs.Limits.{different};
 ghost use Rattle.build_states.specs.States.{is_named, left_out_faults, names_in};
 ghost use Rattle.build_states.specs.Tabled.{is_state, names_listed};
@@ -51,7 +51,7 @@ pub fn make_process<'t>(
     requires table { (text : List ℕ) → is_state around.now.states.table.now text
         ≡ is_named (names_in (process_value definition.now).body) text }
     ensures noted { OnOk result (NotesBody (process_scope_of around.now) (process_value definition.now)
-        (told faults.old) (told faults.new)) }
+        faults.old faults.new) }
     ensures there { IfOk result (λ made. IfNone made
         (IsRefused (process_scope_of around.now) (process_value definition.now))) }
     ensures headed { IfOk result (λ made. IfSome made (IsHeaded heading)) }
@@ -85,7 +85,7 @@ fn read_parts<'t>(
 ) -> Result<Reading<'t>, AllocError>
     ensures read { IfOk result (λ read. reading_value read
         ≡ reading.process_read (for_stimuli (process_scope_of around.now)) (process_value definition.now)) }
-    ensures noted { OnOk result (told faults.new ≡ least_of (told faults.old)
+    ensures noted { OnOk result (Notes faults.old faults.new
         (reading.body_faults (for_stimuli (process_scope_of around.now)) (process_value definition.now).body
         ++ flat_map (left_out_faults (is_state around.now.states.table.now)) (process_value definition.now).body)) }
 {
@@ -107,7 +107,7 @@ fn read_flow<'t>(
     ensures entries { IfOk result (λ transitions.
         HasEach (length (beginnings (process_value definition.now))) transitions) }
     ensures noted { OnOk result (NotesFlow (process_scope_of around.now) (process_value definition.now)
-        (told faults.old) (told faults.new)) }
+        faults.old faults.new) }
 {
     let context = around.for_transitions();
     let transitions = transitions_of(alloc, &context, definition, faults)?;

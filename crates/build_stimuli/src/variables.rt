@@ -1,7 +1,7 @@
 //! The variables that take the values of an input.
 
 ghost use Rattle.std.specs.Prelude.{◌≡◌, IfOk, OnOk, map, option_map};
-ghost use Rattle.build_faults.specs.Faults.{least_of, told};
+ghost use Rattle.build_faults.specs.Faults.{Notes};
 ghost use Rattle.build_expressions.specs.Scope.{scope_of};
 ghost use Rattle.build_stimuli.specs.Faulty.{is_unfit, variable_faults, variables_faults};
 ghost use Rattle.build_stimuli.specs.Mentions.{variable_in, variables_in};
@@ -25,7 +25,7 @@ pub fn read_variables<'t>(
 ) -> Result<Vec<Option<VariableId>>, AllocError>
     ensures read { IfOk result (λ list. list.items
         ≡ variables_in (scope_of scope.now) (map (option_map name_value) variables.now)) }
-    ensures noted { OnOk result (told faults.new ≡ least_of (told faults.old)
+    ensures noted { OnOk result (Notes faults.old faults.new
         (variables_faults (scope_of scope.now) parameters.now (map (option_map name_value) variables.now))) }
 {
     let mut read = Vec::new(alloc);
@@ -53,7 +53,7 @@ fn read_variable<'t>(
     faults: &mut Faults<'t>,
 ) -> Option<VariableId>
     ensures read { result ≡ variable_in (scope_of scope.now) (option_map name_value variable.now) }
-    ensures noted { told faults.new ≡ least_of (told faults.old)
+    ensures noted { Notes faults.old faults.new
         (variable_faults (scope_of scope.now) parameter (option_map name_value variable.now)) }
 {
     let name = variable.as_ref()?;

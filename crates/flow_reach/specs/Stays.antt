@@ -1,6 +1,6 @@
 -- `nextstate -` that the start can reach: there is no state to stay in (Z.101: nextstate).
-use Rattle.std.specs.Prelude.{◌≡◌, ℕ, List, [], ◌∷◌, Option, flat_map}
-use Rattle.build_faults.specs.Faults.{Diagnostic, least_of, diagnostic_at, mark_word}
+use Rattle.std.specs.Prelude.{ℕ, List, [], ◌∷◌, Option, flat_map}
+use Rattle.build_faults.specs.Faults.{Diagnostic, diagnostic_at, mark_word, Notes}
 use Rattle.build_faults.specs.declared.fault.Rule.TheVariants.{NoState}
 use Rattle.sdl_tree.specs.Tree.{Join, Next, Stop, Terminator, NextState, Same, To, ProcessDefinition}
 use Rattle.sdl_tree.specs.declared.mark.Mark.TheVariants as mark
@@ -25,4 +25,4 @@ stay_faults all names = flat_map stay_fault (met_from all names)
 pub record NotesStays (process : ProcessDefinition) (old new : Option Diagnostic) : Type 0 where
   pub names : List (List ℕ)
   pub are_reached : AreReached (beginnings process) names
-  pub noted : new ≡ least_of old (stay_faults (beginnings process) names)
+  pub noted : Notes old new (stay_faults (beginnings process) names)

@@ -8,7 +8,7 @@ use Rattle.build_constants.specs.ConstantTable.{constant_table_faults}
 use Rattle.build_names.specs.Meanings.{duplicate_faults}
 use Rattle.build_network.specs.Network.{network_faults}
 use Rattle.build_process.specs.Faulty.{NotesBody}
-use Rattle.build_faults.specs.Faults.{Diagnostic, least_of}
+use Rattle.build_faults.specs.Faults.{Diagnostic, Notes}
 use Rattle.build_limits.specs.Limits.{limit_faults}
 use Rattle.sdl_tree.specs.Tree.{Tree}
 
@@ -39,5 +39,5 @@ pub record NotesAt (context : Context) (place : ℕ) (old new : Option Diagnosti
 -- those of what joins its agents, and then those of all processes
 pub record NotesRest (context : Context) (old new : Option Diagnostic) : Type 0 where
   pub mid : Option Diagnostic
-  pub connections : mid ≡ least_of old (network_faults context.rows context.symbols)
+  pub connections : Notes old mid (network_faults context.rows context.symbols)
   pub bodies : NotesBodies context mid (length context.rows.processes) new

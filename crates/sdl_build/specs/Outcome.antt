@@ -11,7 +11,7 @@ use Rattle.build_constants.specs.Synonyms.{AreSynonymConstants}
 use Rattle.build_names.specs.Meanings.{duplicate_faults}
 use Rattle.build_names.specs.Spaces.{AreNamesOf}
 use Rattle.build_names.specs.declared.symbol_table.SymbolTable.{SymbolTable}
-use Rattle.build_faults.specs.Faults.{Diagnostic, least_of, diagnostic_at}
+use Rattle.build_faults.specs.Faults.{Diagnostic, least_of, diagnostic_at, Notes}
 use Rattle.build_faults.specs.declared.fault.Rule.{Rule}
 use Rattle.build_faults.specs.declared.fault.Rule.TheVariants.{Limit}
 use Rattle.build_expressions.specs.declared.scope.Constant.{Constant}
@@ -54,7 +54,7 @@ pub data IsMadeWith (rows : Rows) (old new : Option Diagnostic) (system : Option
 -- so where the names that are declared twice are noted before
 abbrev pub IsMadeBehind : Rows → Option Diagnostic → Option Diagnostic → Option SystemValue → Type 0
 IsMadeBehind rows mid new system =
-    (old : Option Diagnostic) → mid ≡ least_of old (duplicate_faults rows) → IsMadeWith rows old new system
+    (old : Option Diagnostic) → Notes old mid (duplicate_faults rows) → IsMadeWith rows old new system
 
 -- the specification is looked at to the end: this is told, and this is made
 pub record IsLookedAt (tree : Tree) (fault : Option Diagnostic) (system : Option SystemValue) : Type 0 where

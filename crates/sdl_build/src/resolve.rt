@@ -6,7 +6,6 @@ ghost use Rattle.sdl_build.specs.Built.{IsBuilt};
 ghost use Rattle.sdl_build.specs.Outcome.{IsMadeBehind, IsMadeOf, IsMadeOn, IsMadeWith, IsRefusedAs, is_past_limit};
 ghost use Rattle.build_definitions.specs.Definitions.{rows_of};
 ghost use Rattle.build_names.specs.Spaces.{AreNamesOf};
-ghost use Rattle.build_faults.specs.Faults.{told};
 ghost use Rattle.sdl_tree.specs.Views.{tree_value};
 
 use crate::error::BuildError;
@@ -50,8 +49,8 @@ fn resolve<'t>(
     tree: &'t Tree,
     faults: &mut Faults<'t>,
 ) -> Result<Option<System>, AllocError>
-    requires { told faults.old ≡ None }
-    ensures { IfOk result (IsMadeOf (tree_value tree.now) (told faults.new)) }
+    requires { faults.old ≡ None }
+    ensures { IfOk result (IsMadeOf (tree_value tree.now) faults.new) }
 {
     note_limits(alloc, tree, faults)?;
     let definitions = Definitions::of(alloc, tree, faults)?;
@@ -64,7 +63,7 @@ fn look<'t>(
     definitions: &Definitions<'t>,
     faults: &mut Faults<'t>,
 ) -> Result<Option<System>, AllocError>
-    ensures { IfOk result (IsMadeWith (rows_of definitions.now) (told faults.old) (told faults.new)) }
+    ensures { IfOk result (IsMadeWith (rows_of definitions.now) faults.old faults.new) }
 {
     let symbols = SymbolTable::of(alloc, definitions, faults)?;
     look_behind_names(alloc, definitions, &symbols, faults)
@@ -78,7 +77,7 @@ fn look_behind_names<'t>(
     faults: &mut Faults<'t>,
 ) -> Result<Option<System>, AllocError>
     requires { AreNamesOf (rows_of definitions.now) symbols.now }
-    ensures { IfOk result (IsMadeBehind (rows_of definitions.now) (told faults.old) (told faults.new)) }
+    ensures { IfOk result (IsMadeBehind (rows_of definitions.now) faults.old faults.new) }
 {
     let constant_table = ConstantTable::of(alloc, definitions, symbols, faults)?;
     if is_past_limit(faults) {
@@ -87,8 +86,8 @@ fn look_behind_names<'t>(
     look_on(alloc, definitions, symbols, &constant_table, faults)
 }
 
-/// The system with these definitions, names and constants; None where a process means nothing. Noted is what is broken in what
-/// joins the agents, and in the processes.
+/// The system with these definitions, names and constants; None where a process means nothing. Noted is what is broken
+/// in what joins the agents, and in the processes.
 fn look_on<'t>(
     alloc: Global,
     definitions: &Definitions<'t>,
@@ -98,7 +97,7 @@ fn look_on<'t>(
 ) -> Result<Option<System>, AllocError>
     requires { IsConstantTable (rows_of definitions.now) symbols.now constant_table.now }
     ensures { IfOk result (IsMadeOn (resolved_with definitions.now symbols.now constant_table.now)
-        (told faults.old) (told faults.new)) }
+        faults.old faults.new) }
 {
     let connections = Connections::of(alloc, definitions, symbols, faults)?;
     let processes = processes_in(
@@ -120,7 +119,7 @@ fn look_on<'t>(
 
 /// Whether a limit is passed. It is told before all that isn't one.
 fn is_past_limit(faults: &Faults<'_>) -> bool
-    ensures { result ≡ is_past_limit (told faults.now) }
+    ensures { result ≡ is_past_limit faults.now }
 {
     match faults.first() {
         Some(fault) => fault.rule == Rule::Limit,

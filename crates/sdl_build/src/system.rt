@@ -8,7 +8,6 @@ ghost use Rattle.sdl_build.specs.Made.{AreMade, AreProcessesOr, IsComposed, IsCo
 ghost use Rattle.build_definitions.specs.Definitions.{rows_of};
 ghost use Rattle.route_network.specs.SignalLists.{AreSets};
 ghost use Rattle.route_table.specs.Valid.{AreValid};
-ghost use Rattle.build_faults.specs.Faults.{told};
 
 use crate::defined::Defined;
 use build_constants::ConstantTable;
@@ -77,7 +76,7 @@ pub fn processes_in<'t>(
     ensures made { IfOk result (AreProcessesOr (context_of definitions.now symbols.now constant_table.now
         connections.now)) }
     ensures noted { OnOk result (NotesBodies (context_of definitions.now symbols.now constant_table.now connections.now)
-        (told faults.old) (length (rows_of definitions.now).processes) (told faults.new)) }
+        faults.old (length (rows_of definitions.now).processes) faults.new) }
 {
     let valid = valid_sets(alloc, &connections.network, &connections.sets)?;
     let made = each_process(
@@ -109,7 +108,7 @@ fn each_process<'t>(
     ensures made { IfOk result (λ made. AreMade (context_of definitions.now symbols.now constant_table.now
         connections.now) made.items) }
     ensures noted { OnOk result (NotesBodies (context_of definitions.now symbols.now constant_table.now connections.now)
-        (told faults.old) (length (rows_of definitions.now).processes) (told faults.new)) }
+        faults.old (length (rows_of definitions.now).processes) faults.new) }
 {
     let mut made = Vec::new(alloc);
     for set in valid {
@@ -147,7 +146,7 @@ fn process_in<'t>(
     ensures made { IfOk result (IsMadeAt (context_of definitions.now symbols.now constant_table.now connections.now)
         place) }
     ensures noted { OnOk result (NotesAt (context_of definitions.now symbols.now constant_table.now connections.now)
-        place (told faults.old) (told faults.new)) }
+        place faults.old faults.new) }
 {
     let number = counted(place)?;
     let entry = &definitions.processes[place];

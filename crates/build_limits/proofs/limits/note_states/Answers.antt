@@ -1,7 +1,7 @@
 use Rattle.std.proofs.Common.{◌∙◌, ap, flat_map, map}
 use Rattle.std.proofs.lemmas.List.{take_all}
 use Rattle.sdl_tree.specs.Views.{body_part_value}
-use Rattle.build_faults.specs.Faults.{fault_at, least_of, told}
+use Rattle.build_faults.specs.Faults.{fault_at, least_of}
 use Rattle.build_limits.specs.Limits.{different, part_states}
 use Rattle.build_limits.specs.Listed.{entry_word, words_listed}
 use Rattle.build_limits.proofs.PastLemmas.{limit_at-got}
@@ -11,7 +11,7 @@ pub returns : goal.returns
 returns c =
     let all = take_all c.loop-part.part-index c.args.body.now c.loop-part-test.false in
     c.note_past.ensures
-    ∙ ap (least_of (told c.args.faults.now))
+    ∙ ap (least_of c.args.faults.now)
     (limit_at-got entry_word (λ entry. (entry.0.now, entry.1)) c.entries.result.now 1000
     c.get.result c.get.ensures.lookup
     ∙ ap (λ names. fault_at 1000 (words_listed names)) c.entries.ensures

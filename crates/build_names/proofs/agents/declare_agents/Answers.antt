@@ -5,7 +5,7 @@ use Rattle.build_definitions.specs.Definitions.{rows_of}
 use Rattle.build_names.proofs.EntryLemmas.{entries_in-meant, standings-meant}
 use Rattle.build_names.specs.Entries.{Has, HasMeant, duplicates, entries_in, entries_of, entry_seen, standings}
 use Rattle.build_names.specs.Meanings.{agent_entries, agent_entry}
-use Rattle.build_faults.specs.Faults.{least_of, told}
+use Rattle.build_faults.specs.Faults.{least_of}
 use Rattle.build_expressions.specs.Scope.{agent_meaning, meaning}
 use Rattle.build_names.proofs.agents.declare_agents.Goals as goal
 
@@ -31,11 +31,11 @@ returns-clause-spaces c =
 pub returns-clause-noted : goal.returns-clause-noted
 returns-clause-noted c =
     IfOk-weaker c.declare_all.result
-    (λ spaces. told c.declare_all.new.faults
-    ≡ least_of (told c.args.faults.now) (duplicates (standings (entries_of c.deref-3.result.now))))
-    (λ spaces. told c.declare_all.new.faults
-    ≡ least_of (told c.args.faults.now) (duplicates (standings (agent_entries (rows_of c.args.definitions.now)))))
+    (λ spaces. c.declare_all.new.faults
+    ≡ least_of c.args.faults.now (duplicates (standings (entries_of c.deref-3.result.now))))
+    (λ spaces. c.declare_all.new.faults
+    ≡ least_of c.args.faults.now (duplicates (standings (agent_entries (rows_of c.args.definitions.now)))))
     (λ spaces is.
     is
-    ∙ ap (λ names. least_of (told c.args.faults.now) (duplicates names))
+    ∙ ap (λ names. least_of c.args.faults.now (duplicates names))
     (standings-meant agent_meaning c.deref-3.result.now ∙ ap standings (all c))) c.declare_all.ensures.noted

@@ -4,7 +4,6 @@ use Rattle.build_transitions.specs.Added.{HasEach}
 use Rattle.flow_paths.specs.Beginnings.{beginnings}
 use Rattle.build_states.specs.Shared.{IsOfName}
 use Rattle.build_transitions.specs.Sound.{AreTransitionsOf}
-use Rattle.build_faults.specs.Faults.{told}
 use Rattle.build_states.specs.States.{state_of, tables_of}
 use Rattle.build_states.specs.Tabled.{is_state, meanings_at, names_listed, table_value}
 use Rattle.build_states.proofs.ProcessLemmas.{meanings-read}
@@ -24,14 +23,14 @@ returns-in_default-clause-noted c =
     let around = process_scope_of c.args.around.now in
     let process = process_value c.args.definition.now in
     let context = for_stimuli around in
-    let old = told c.args.faults.now in
-    let second = told c.read_states.new.faults in
+    let old = c.args.faults.now in
+    let second = c.read_states.new.faults in
     let are : map part_value c.deref.result.now ≡ (process_read context process).parts =
     ap (map part_value) c.deref.ensures.value
     ∙ ap (λ reading. reading.parts) c.in_ok-numbering.ensures.read in
-    body-noted around process old second (told c.read_flow.new.faults)
+    body-noted around process old second c.read_flow.new.faults
     (states-noted context process (is_state c.args.around.now.states.table.now) (map part_value c.deref.result.now)
-    (names_listed c.args.around.now.states.names.now) old (told c.read_parts.new.faults) second c.requires.table are
+    (names_listed c.args.around.now.states.names.now) old c.read_parts.new.faults second c.requires.table are
     c.requires.names c.in_ok-numbering.ensures.noted c.in_ok-said.ensures.noted) c.in_ok-transitions.ensures.noted
 
 pub returns-clause-noted : goal.returns-clause-noted
@@ -39,15 +38,15 @@ returns-clause-noted c =
     let around = process_scope_of c.args.around.now in
     let process = process_value c.args.definition.now in
     let context = for_stimuli around in
-    let old = told c.args.faults.now in
-    let second = told c.read_states.new.faults in
+    let old = c.args.faults.now in
+    let second = c.read_states.new.faults in
     let are : map part_value c.deref.result.now ≡ (process_read context process).parts =
     ap (map part_value) c.deref.ensures.value
     ∙ ap (λ reading. reading.parts) c.in_ok-numbering.ensures.read in
     on-ok c.process_of.result
-    (body-noted around process old second (told c.read_flow.new.faults)
+    (body-noted around process old second c.read_flow.new.faults
     (states-noted context process (is_state c.args.around.now.states.table.now) (map part_value c.deref.result.now)
-    (names_listed c.args.around.now.states.names.now) old (told c.read_parts.new.faults) second c.requires.table are
+    (names_listed c.args.around.now.states.names.now) old c.read_parts.new.faults second c.requires.table are
     c.requires.names c.in_ok-numbering.ensures.noted c.in_ok-said.ensures.noted) c.in_ok-transitions.ensures.noted)
 
 pub returns-clause-means : goal.returns-clause-means

@@ -5,7 +5,7 @@ use Rattle.build_context.specs.Around.{resolved_with}
 use Rattle.sdl_build.specs.Outcome as outcome
 use Rattle.build_definitions.specs.Definitions.{rows_of}
 use Rattle.build_constants.specs.ConstantTable.{constant_table_faults}
-use Rattle.build_faults.specs.Faults.{least_of, told}
+use Rattle.build_faults.specs.Faults.{least_of}
 use Rattle.sdl_build.proofs.resolve.look_behind_names.Goals as goal
 
 pub returns-then-is_past_limit : goal.returns-then-is_past_limit
@@ -27,7 +27,7 @@ look_on-requires c = record {
 pub returns : goal.returns
 returns c =
     to-the-end-if (resolved_with c.args.definitions.now c.args.symbols.now c.in_ok-constant_table.constant_table) _
-    (told c.of.new.faults) _ c.look_on.result c.requires c.in_ok-constant_table.ensures.constants
+    c.of.new.faults _ c.look_on.result c.requires c.in_ok-constant_table.ensures.constants
     c.in_ok-constant_table.ensures.noted
     c.look_on.ensures
 

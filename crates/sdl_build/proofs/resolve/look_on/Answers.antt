@@ -1,7 +1,6 @@
 use Rattle.sdl_build.proofs.ResolveLemmas.{made-on-if}
 use Rattle.build_context.proofs.ProcessLemmas.{not-made}
 use Rattle.build_context.specs.Around.{context_of}
-use Rattle.build_faults.specs.Faults.{told}
 use Rattle.sdl_build.proofs.resolve.look_on.Goals as goal
 
 pub processes_in-requires-clause-known : goal.processes_in-requires-clause-known
@@ -24,7 +23,7 @@ returns c =
       members = c.in_ok-connections.ensures.members;
     })
     (record {
-      mid = told c.of.new.faults;
+      mid = c.of.new.faults;
       connections = c.in_ok-connections.ensures.noted;
       bodies = c.in_ok-processes.ensures.noted;
     })

@@ -8,7 +8,6 @@ use Rattle.build_context.specs.Around.{context_of}
 use Rattle.sdl_build.specs.Faulty.{NotesBodies}
 use Rattle.sdl_build.specs.Faulty as notes
 use Rattle.build_definitions.specs.Definitions.{rows_of}
-use Rattle.build_faults.specs.Faults.{told}
 use Rattle.sdl_build.proofs.system.each_process.Goals as goal
 
 pub loop-set-init : goal.loop-set-init
@@ -18,7 +17,7 @@ loop-set-init c = record {
       absurd (none-some process (subst (λ items. slice_get items number.0 ≡ Some process) c.new-made.ensures.items
       stands));
   noted = subst (λ items. NotesBodies (context_of c.args.definitions.now c.args.symbols.now c.args.constant_table.now
-      c.args.connections.now) (told c.args.faults.now) (length items) (told c.args.faults.now))
+      c.args.connections.now) c.args.faults.now (length items) c.args.faults.now)
       (sym c.new-made.ensures.items) notes.none;
 }
 
@@ -60,7 +59,7 @@ loop-set-preserved c =
           ∙ sym (length-more c.loop-set.yielded c.in-Some.set);
       made = made-next context c.loop-set.made.items c.push.new.self.items c.len-place.result c.in_ok-process.process
           c.loop-set.invariant.made c.in_ok-push.ensures.items at c.in_ok-process.ensures.made;
-      noted = bodies-next context (told c.args.faults.now) (told c.loop-set.faults) (told c.process_in.new.faults)
+      noted = bodies-next context c.args.faults.now c.loop-set.faults c.process_in.new.faults
           c.len-place.result (length c.loop-set.made.items) (length c.push.new.self.items) c.loop-set.invariant.noted at
           grown c.in_ok-process.ensures.noted;
     }
@@ -83,7 +82,7 @@ returns-clause-noted c =
     c.loop-set.set-iterator c.loop-set.yielded_by c.next.result c.next.new.self c.in-None.is c.next.ensures.steps in
     subst (λ n. NotesBodies (context_of c.args.definitions.now c.args.symbols.now c.args.constant_table.now
     c.args.connections.now)
-    (told c.args.faults.now) n (told c.loop-set.faults))
+    c.args.faults.now n c.loop-set.faults)
     (c.loop-set.invariant.size ∙ end.1
     ∙ as-many (rows_of c.args.definitions.now) c.args.symbols.now c.args.connections.now.network valid
     c.requires.known.is_network c.requires.valid)

@@ -3,7 +3,6 @@ use Rattle.build_definitions.specs.Definitions.{rows_of}
 use Rattle.build_names.proofs.EntryLemmas.{noted-both}
 use Rattle.build_names.specs.Entries.{Has, HasMeant, duplicates, standings}
 use Rattle.build_names.specs.Meanings.{agent_entries, channel_entries, label_entries, list_entries, signal_entries, state_entries, value_entries}
-use Rattle.build_faults.specs.Faults.{told}
 use Rattle.build_expressions.specs.Scope.{agent_meaning, signal_meaning}
 use Rattle.build_names.proofs.symbol_table.SymbolTable.of.Goals as goal
 
@@ -16,10 +15,10 @@ returns-clause-noted c =
     let agents = duplicates (standings (agent_entries rows)) in
     let values = duplicates (standings (value_entries rows)) in
     let labels = duplicates (standings (label_entries rows)) in
-    let start = told c.args.faults.now in
-    let mid = told c.agent_names.new.faults in
-    noted-both start mid (told c.body_names.new.faults) (signals ++ lists ++ channels ++ agents) values labels
-    (noted-both start (told c.signal_names.new.faults) mid (signals ++ lists) channels agents
+    let start = c.args.faults.now in
+    let mid = c.agent_names.new.faults in
+    noted-both start mid c.body_names.new.faults (signals ++ lists ++ channels ++ agents) values labels
+    (noted-both start c.signal_names.new.faults mid (signals ++ lists) channels agents
     c.in_ok-signals.ensures.noted c.in_ok-agents.ensures.noted)
     c.in_ok-bodies.ensures.noted
 
