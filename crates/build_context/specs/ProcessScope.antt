@@ -8,7 +8,7 @@ use Rattle.build_constants.specs.ConstantTable.{all_durations}
 use Rattle.build_constants.specs.Scopes.{scope_at}
 use Rattle.build_labels.specs.Labels.{process_labels}
 use Rattle.build_process.specs.ProcessScope.{ProcessScope}
-use Rattle.build_limits.specs.Limits.{different, state_names}
+use Rattle.build_labels.specs.States.{different, state_names}
 use Rattle.build_expressions.specs.Scope.{meaning}
 use Rattle.build_scopes.specs.Spaces.{seen_in}
 use Rattle.build_scopes.specs.declared.scope.ScopeId.TheVariants as scope

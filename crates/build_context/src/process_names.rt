@@ -4,14 +4,14 @@ ghost use Rattle.std.specs.Prelude.{◌≡◌, IfOk};
 ghost use Rattle.build_transitions.specs.Numbered.{numbered};
 ghost use Rattle.build_context.specs.ProcessScope.{numbered_states, reaching};
 ghost use Rattle.build_labels.specs.Labels.{names_listed, process_labels};
-ghost use Rattle.build_limits.specs.Limits.{different, state_names};
+ghost use Rattle.build_labels.specs.States.{different, state_names};
 ghost use Rattle.sdl_tree.specs.Views.{process_value};
 
 use crate::connections::Connections;
 use crate::reaching::reaching;
 use crate::tables::{label_table, state_table};
 use build_labels::{labels_of, states_of};
-use build_limits::Names;
+use build_scopes::Names;
 use sdl_system::{LabelId, ProcessId, StateId};
 use sdl_tree::{Name, ProcessDefinition};
 use std::alloc::{AllocError, Global};

@@ -7,7 +7,7 @@ ghost use Rattle.build_labels.specs.Labels.{names_listed};
 
 use build_definitions::next_number;
 use build_faults::Faults;
-use build_limits::Names;
+use build_scopes::Names;
 use sdl_system::{LabelId, StateId};
 use sdl_tree::Name;
 use std::alloc::{AllocError, Global};

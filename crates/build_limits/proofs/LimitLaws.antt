@@ -11,7 +11,8 @@ use Rattle.build_faults.specs.declared.fault.Rule.TheVariants.{Limit}
 use Rattle.build_limits.specs.Broken.{AtProcess, IsLimit, IsNewBehind, PassesLimit, StandsBehind, processes, declared, statements, sorts, parameters, states}
 use Rattle.build_faults.specs.Faults.{Diagnostic, diagnostic_at, diagnostic_word, limit_at, fault_at}
 use Rattle.build_faults.specs.FaultLaws.{Each, In}
-use Rattle.build_limits.specs.Limits.{Declared, declared_faults, declared_in, declared_name, different, is_same_text, limit_faults, parameter_names, process_faults, process_name, processes_in, state_names, statements_in, with_new}
+use Rattle.build_limits.specs.Limits.{Declared, declared_faults, declared_in, declared_name, limit_faults, parameter_names, process_faults, process_name, processes_in, statements_in}
+use Rattle.build_labels.specs.States.{different, is_same_text, state_names, with_new}
 use Rattle.build_faults.proofs.FaultLemmas.{each-both, each-of, in-each, in-left, in-right}
 
 -- ---- elements behind others

@@ -6,7 +6,8 @@ use Rattle.sdl_tree.specs.Words.{Spot}
 use Rattle.build_faults.specs.declared.fault.Rule.TheVariants.{Limit}
 use Rattle.build_faults.specs.Faults.{Diagnostic, diagnostic_word}
 use Rattle.build_faults.specs.FaultLaws.{Each, In}
-use Rattle.build_limits.specs.Limits.{Declared, declared_in, different, is_same_text, limit_faults, parameter_names, processes_in, state_names, statements_in}
+use Rattle.build_limits.specs.Limits.{Declared, declared_in, limit_faults, parameter_names, processes_in, statements_in}
+use Rattle.build_labels.specs.States.{different, is_same_text, state_names}
 
 -- the word stands in the list behind so many others
 pub record StandsBehind (most : ℕ) (words : List Spot) (word : Spot) : Type 0 where

@@ -8,7 +8,7 @@ use Rattle.build_names.specs.Entries.{Entry, Standing, duplicates_behind, entrie
 use Rattle.build_names.specs.declared.declaration.Declaration.{Declaration}
 use Rattle.build_faults.proofs.FaultLemmas.{both_noted}
 use Rattle.build_faults.specs.Faults.{Diagnostic, fault_if, least_of}
-use Rattle.build_limits.specs.Names.{first_of}
+use Rattle.build_scopes.specs.Names.{first_of}
 use Rattle.build_faults.specs.declared.fault.Rule.TheVariants.{Duplicate}
 use Rattle.build_expressions.specs.Scope.{meaning}
 use Rattle.build_scopes.specs.Spaces.{entry_if, is_same_scope}

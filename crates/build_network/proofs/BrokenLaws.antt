@@ -17,7 +17,7 @@ use Rattle.build_network.specs.Seen.{Seen, item_faults, item_in, item_name, item
 use Rattle.build_faults.proofs.FaultLemmas.{in-each, in-if, in-left, in-right}
 use Rattle.build_faults.specs.FaultLaws.{In}
 use Rattle.build_faults.specs.Faults.{Diagnostic, diagnostic_at}
-use Rattle.build_limits.specs.Names.{first_of}
+use Rattle.build_scopes.specs.Names.{first_of}
 use Rattle.build_faults.specs.declared.fault.Rule.TheVariants.{Unknown}
 use Rattle.build_expressions.specs.declared.scope.AgentMeaning.TheVariants as agent
 use Rattle.build_scopes.specs.Spaces.{names_of}

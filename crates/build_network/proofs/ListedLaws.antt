@@ -17,7 +17,7 @@ use Rattle.build_network.specs.Seen.{Seen, item_faults, item_in, item_name, item
 use Rattle.build_faults.proofs.FaultLemmas.{each-both, each-if, each-of}
 use Rattle.build_faults.specs.FaultLaws.{Each, In}
 use Rattle.build_faults.specs.Faults.{Diagnostic, diagnostic_at}
-use Rattle.build_limits.specs.Names.{first_of}
+use Rattle.build_scopes.specs.Names.{first_of}
 use Rattle.build_faults.specs.declared.fault.Rule.TheVariants.{Unknown}
 use Rattle.build_definitions.specs.declared.entries.SignalListId.{SignalListId}
 use Rattle.build_expressions.specs.declared.scope.AgentMeaning.{AgentMeaning}

@@ -4,7 +4,7 @@ use Rattle.build_network.specs.Numbered.{numbered}
 use Rattle.route_network.specs.declared.network.End.{End}
 use Rattle.route_network.specs.declared.network.End.TheVariants as at
 use Rattle.build_faults.specs.Faults.{Diagnostic, fault_if}
-use Rattle.build_limits.specs.Names.{first_of}
+use Rattle.build_scopes.specs.Names.{first_of}
 use Rattle.build_faults.specs.declared.fault.Rule.TheVariants.{Unknown}
 use Rattle.build_expressions.specs.declared.scope.AgentMeaning.{AgentMeaning}
 use Rattle.build_expressions.specs.declared.scope.AgentMeaning.TheVariants as agent

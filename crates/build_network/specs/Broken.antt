@@ -11,7 +11,7 @@ use Rattle.build_network.specs.Processes.{seen_within}
 use Rattle.build_network.specs.Seen.{Seen, item_name, seen_at}
 use Rattle.build_faults.specs.FaultLaws.{Each, In}
 use Rattle.build_faults.specs.Faults.{Diagnostic, diagnostic_at}
-use Rattle.build_limits.specs.Names.{first_of}
+use Rattle.build_scopes.specs.Names.{first_of}
 use Rattle.build_faults.specs.declared.fault.Rule.TheVariants.{Unknown}
 use Rattle.build_expressions.specs.declared.scope.AgentMeaning.TheVariants as agent
 use Rattle.build_scopes.specs.Spaces.{names_of}

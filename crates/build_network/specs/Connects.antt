@@ -8,7 +8,7 @@ use Rattle.build_network.specs.declared.paths.ChannelPaths.{ChannelPaths}
 use Rattle.route_network.specs.declared.network.Connect as routes
 use Rattle.route_network.specs.declared.network.PathId.{PathId}
 use Rattle.build_faults.specs.Faults.{Diagnostic, fault_if}
-use Rattle.build_limits.specs.Names.{first_of}
+use Rattle.build_scopes.specs.Names.{first_of}
 use Rattle.build_faults.specs.declared.fault.Rule.TheVariants.{Unknown}
 use Rattle.build_scopes.specs.Spaces.{names_of}
 use Rattle.build_scopes.specs.declared.scope.ScopeId.{ScopeId}

@@ -8,7 +8,7 @@ use Rattle.route_network.specs.declared.list.Item.{Item}
 use Rattle.route_network.specs.declared.list.Item.TheVariants as item
 use Rattle.route_network.specs.declared.list.SignalList.{SignalList}
 use Rattle.build_faults.specs.Faults.{Diagnostic, fault_if}
-use Rattle.build_limits.specs.Names.{first_of}
+use Rattle.build_scopes.specs.Names.{first_of}
 use Rattle.build_faults.specs.declared.fault.Rule.TheVariants.{Unknown}
 use Rattle.build_expressions.specs.Scope.{visible}
 use Rattle.build_expressions.specs.declared.scope.SignalMeaning.{SignalMeaning}

@@ -5,7 +5,7 @@ ghost use Rattle.build_transitions.specs.Added.{HasEach};
 ghost use Rattle.build_transitions.specs.Sound.{AreTransitionsOf};
 ghost use Rattle.flow_paths.specs.Beginnings.{beginnings};
 ghost use Rattle.build_faults.specs.Faults.{Notes};
-ghost use Rattle.build_limits.specs.Limits.{different};
+ghost use Rattle.build_labels.specs.States.{different};
 ghost use Rattle.build_states.specs.States.{is_named, left_out_faults, names_in};
 ghost use Rattle.build_states.specs.Tabled.{is_state, names_listed};
 ghost use Rattle.build_stimuli.specs.Listed.{reading_value};

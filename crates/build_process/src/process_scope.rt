@@ -4,7 +4,7 @@ ghost use Rattle.std.specs.Prelude.{◌≡◌};
 
 use build_definitions::SignalListId;
 use build_expressions::Scope;
-use build_limits::{Names, Outward};
+use build_scopes::{Names, Outward};
 use build_states::NamedStates;
 use port_values::SignalId;
 use sdl_system::LabelId;

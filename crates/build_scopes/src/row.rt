@@ -2,13 +2,13 @@
 
 ghost use Rattle.std.specs.Prelude.{◌≡◌, ◌==◌, ◌++◌, ℕ, ◌<◌, [], is_some, length, string_bytes, OnOk};
 ghost use Rattle.build_faults.specs.Faults.{Notes, fault_if};
-ghost use Rattle.build_limits.specs.Names.{first_of, names_in};
+ghost use Rattle.build_scopes.specs.Names.{first_of, names_in};
 ghost use Rattle.build_faults.specs.declared.fault.Rule.TheVariants.{Duplicate};
 ghost use Rattle.build_scopes.specs.Spaces.{entry_if, names_at};
 ghost use Rattle.sdl_tree.specs.Views.{name_value};
 
+use crate::names::Names;
 use build_faults::Faults;
-use build_limits::Names;
 use sdl_tree::Name;
 use std::alloc::{AllocError, Global};
 

@@ -5,7 +5,7 @@ use Rattle.std.proofs.lemmas.Slice.Eq.{bytes_eq-Decides}
 use Rattle.build_faults.proofs.FaultLemmas.{each-both, each-if, each-of, in-each, in-if, in-left, in-right}
 use Rattle.build_faults.specs.FaultLaws.{Each, In}
 use Rattle.build_faults.specs.Faults.{Diagnostic, diagnostic_at}
-use Rattle.build_limits.specs.Limits.{different, is_same_text, with_new}
+use Rattle.build_labels.specs.States.{different, is_same_text, with_new}
 use Rattle.build_faults.specs.declared.fault.Rule.TheVariants.{NoState, TwiceInState}
 use Rattle.sdl_tree.specs.Tree.{BodyPart, FreeAction, StateAll, StateList, StatePart}
 use Rattle.sdl_tree.specs.Words.{Spot}

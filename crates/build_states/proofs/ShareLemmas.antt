@@ -9,7 +9,7 @@ use Rattle.std.proofs.lemmas.Grind.{flat_map-append}
 use Rattle.std.proofs.lemmas.List.{length-map, map-append, take_more}
 use Rattle.std.proofs.lemmas.Slice.Eq.{bytes_eq-Decides}
 use Rattle.build_faults.proofs.FaultLemmas.{both_noted}
-use Rattle.build_limits.proofs.NameLemmas.{lookup-append}
+use Rattle.build_scopes.proofs.NameLemmas.{lookup-append}
 use Rattle.build_faults.specs.Faults.{Diagnostic, least_of}
 use Rattle.sdl_system.specs.declared.id.TableId.{TableId}
 use Rattle.sdl_tree.specs.Words.{Spot}

@@ -6,7 +6,7 @@ use Rattle.std.specs.Option.{option_or}
 use Rattle.std.specs.Str.{bytes_eq}
 use Rattle.port_values.specs.declared.item.SignalId.{SignalId}
 use Rattle.build_faults.specs.Faults.{Diagnostic, fault_if}
-use Rattle.build_limits.specs.Limits.{different, part_states}
+use Rattle.build_labels.specs.States.{different, part_states}
 use Rattle.build_faults.specs.declared.fault.Rule.TheVariants.{NoState, TwiceInState}
 use Rattle.sdl_system.specs.State.{same_signal}
 use Rattle.sdl_system.specs.declared.id.ConditionId.{ConditionId}

@@ -7,7 +7,7 @@ ghost use Rattle.build_states.specs.Tabled.{is_state};
 ghost use Rattle.sdl_tree.specs.Views.{body_part_value, name_value, names_value, states_value};
 
 use build_faults::{Faults, Rule, Token};
-use build_limits::Names;
+use build_scopes::Names;
 use sdl_system::StateId;
 use sdl_tree::{BodyPart, Name, States};
 

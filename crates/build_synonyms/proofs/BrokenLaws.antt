@@ -5,7 +5,7 @@ use Rattle.std.specs.Option.{unwrap_or}
 use Rattle.build_faults.proofs.FaultLemmas.{each-of, in-each}
 use Rattle.build_faults.specs.FaultLaws.{Each, In}
 use Rattle.build_faults.specs.Faults.{Diagnostic}
-use Rattle.build_limits.specs.Names.{first_of}
+use Rattle.build_scopes.specs.Names.{first_of}
 use Rattle.build_expressions.proofs.ConstantLaws.{broken-listed-constant, listed-broken-constant}
 use Rattle.build_expressions.proofs.ListedLaws.{each-weaker}
 use Rattle.build_expressions.specs.Broken.{IsBrokenConstant, InLinks, InValues, Within}

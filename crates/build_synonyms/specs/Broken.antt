@@ -3,7 +3,7 @@
 use Rattle.std.specs.Prelude.{◌≡◌, ℕ, List, Option, Some, slice_get}
 use Rattle.build_faults.specs.FaultLaws.{In}
 use Rattle.build_faults.specs.Faults.{Diagnostic}
-use Rattle.build_limits.specs.Names.{first_of}
+use Rattle.build_scopes.specs.Names.{first_of}
 use Rattle.build_expressions.specs.Broken.{IsBrokenConstant, Within}
 use Rattle.build_expressions.specs.Scope.{visible}
 use Rattle.build_expressions.specs.declared.scope.Constant.{Constant}

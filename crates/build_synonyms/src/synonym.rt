@@ -7,7 +7,7 @@ ghost use Rattle.build_synonyms.specs.Synonyms.{constant_with, named_by, synonym
 use crate::named::add_named;
 use build_expressions::{AgentMeaning, Constant, Scope, SignalMeaning, ValueEntry, constant};
 use build_faults::Faults;
-use build_limits::Outward;
+use build_scopes::Outward;
 use sdl_system::Sort;
 use sdl_tree::Expression;
 use std::alloc::{AllocError, Global};

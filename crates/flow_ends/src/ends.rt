@@ -8,7 +8,7 @@ ghost use Rattle.build_faults.specs.Faults.{Notes};
 ghost use Rattle.sdl_tree.specs.Views.{process_value, transition_value};
 
 use build_faults::{Faults, Rule};
-use build_limits::Names;
+use build_scopes::Names;
 use flow_paths::{Beginning, Entries, beginnings_of, joins_in, walk_transition};
 use sdl_tree::{ProcessDefinition, Transition};
 use std::alloc::{AllocError, Global};

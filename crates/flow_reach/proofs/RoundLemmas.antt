@@ -3,7 +3,7 @@ use Rattle.std.proofs.Common.{◌≡◌, ◌∙◌, ◌<◌, ℕ, inl, inr, Bool
 use Rattle.std.proofs.lemmas.List.{map-append}
 use Rattle.build_faults.specs.FaultLaws.{In}
 use Rattle.build_faults.specs.Faults.{Diagnostic, least_of}
-use Rattle.build_limits.specs.Names.{first_of}
+use Rattle.build_scopes.specs.Names.{first_of}
 use Rattle.sdl_tree.specs.Tree.{Join, ProcessDefinition, Terminator}
 use Rattle.flow_paths.specs.Beginnings.{Beginning, beginnings}
 use Rattle.flow_paths.specs.Joins.{AreAllMet, any_new, count_open, joins_in, with_joins, with_name}

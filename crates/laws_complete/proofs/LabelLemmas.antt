@@ -20,7 +20,7 @@ use Rattle.build_names.specs.declared.symbol_table.SymbolTable.{SymbolTable}
 use Rattle.build_faults.proofs.FaultLemmas.{in-left, in-right}
 use Rattle.build_faults.specs.FaultLaws.{In}
 use Rattle.build_faults.specs.Faults.{fault_if}
-use Rattle.build_limits.specs.Limits.{different, state_names}
+use Rattle.build_labels.specs.States.{different, state_names}
 use Rattle.build_faults.specs.declared.fault.Rule.TheVariants.{Duplicate}
 use Rattle.build_expressions.specs.declared.scope.Constant.{Constant}
 use Rattle.build_scopes.specs.Spaces.{entry_if, names_of}

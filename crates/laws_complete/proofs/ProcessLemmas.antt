@@ -15,7 +15,7 @@ use Rattle.build_process.specs.Faulty.{flow_faults}
 use Rattle.build_process.specs.Refused.{no_condition, no_entry, no_flow}
 use Rattle.build_process.specs.ProcessScope.{ProcessScope, for_stimuli, for_transitions}
 use Rattle.build_faults.specs.Faults.{Diagnostic}
-use Rattle.build_limits.specs.Limits.{different}
+use Rattle.build_labels.specs.States.{different}
 use Rattle.build_states.specs.States.{names_in, process_faults, states_faults}
 use Rattle.build_stimuli.specs.Reading.{body_faults, process_read}
 use Rattle.sdl_system.specs.Behaviour.{variable_meaning}

@@ -28,7 +28,7 @@ use Rattle.build_names.specs.declared.symbol_table.SymbolTable.{SymbolTable}
 use Rattle.build_statements.specs.Contexts.{Context}
 use Rattle.build_faults.proofs.FaultLemmas.{each-both}
 use Rattle.build_faults.specs.FaultLaws.{Each, In}
-use Rattle.build_limits.specs.Names.{first_of}
+use Rattle.build_scopes.specs.Names.{first_of}
 use Rattle.build_expressions.specs.Constants.{constant_in}
 use Rattle.build_expressions.specs.Scope.{AgentMeaning, SignalMeaning, agent_meaning, meaning, signal, signal_in, signal_meaning, timer, value_in, value_meaning}
 use Rattle.build_expressions.specs.declared.scope.Constant.{Constant}

@@ -5,7 +5,7 @@ use Rattle.laws_complete.proofs.ValueLemmas.{HaveSynonymSorts, IsAccepted, accep
 use Rattle.laws_complete.specs.Complete.{HasValue}
 use Rattle.build_faults.specs.FaultLaws.{Each, In}
 use Rattle.build_faults.specs.Faults.{diagnostic_at}
-use Rattle.build_limits.specs.Names.{first_of}
+use Rattle.build_scopes.specs.Names.{first_of}
 use Rattle.build_faults.specs.declared.fault.Rule.TheVariants.{BadCount}
 use Rattle.build_expressions.proofs.ScopeLemmas.{meaning-first}
 use Rattle.build_expressions.specs.Broken.{Within}

@@ -18,7 +18,7 @@ use Rattle.build_statements.specs.Statements.{answers_in, asked_in, create_in, k
 use Rattle.build_nodes.specs.Transitions.{acts, action_faults, asks, before, body_in, ending_faults, ending_in, head_in, labelled, other_faults, other_in, parts_faults, parts_of, piece, pieces_in, steps_faults, steps_in, transition_faults}
 use Rattle.build_faults.proofs.FaultLemmas.{in-left, in-right}
 use Rattle.build_faults.specs.FaultLaws.{In}
-use Rattle.build_limits.specs.Names.{first_of}
+use Rattle.build_scopes.specs.Names.{first_of}
 use Rattle.build_faults.specs.declared.fault.Rule.TheVariants.{NoLabel, NoState}
 use Rattle.build_expressions.specs.Partial.{both}
 use Rattle.build_expressions.specs.Typing.{Typed, term_in}

@@ -15,7 +15,7 @@ use Rattle.build_names.specs.Spaces.{AreNamesOf}
 use Rattle.build_names.specs.declared.symbol_table.SymbolTable.{SymbolTable}
 use Rattle.build_statements.specs.Contexts.{Context}
 use Rattle.build_faults.specs.FaultLaws.{Each}
-use Rattle.build_limits.specs.Limits.{different, state_names}
+use Rattle.build_labels.specs.States.{different, state_names}
 use Rattle.build_expressions.specs.Scope.{SignalMeaning, signal, timer, signal_in}
 use Rattle.build_expressions.specs.declared.scope.Constant.{Constant}
 use Rattle.build_scopes.specs.Spaces.{names_of}

@@ -13,7 +13,7 @@ use Rattle.build_process.specs.Faulty.{body_faults, flow_faults}
 use Rattle.build_process.specs.Meant.{IsBehaviour}
 use Rattle.build_process.specs.ProcessScope.{ProcessScope, for_stimuli, for_transitions}
 use Rattle.build_process.specs.declared.heading.Heading.{Heading}
-use Rattle.build_limits.specs.Limits.{different}
+use Rattle.build_labels.specs.States.{different}
 use Rattle.laws_sound_processes.proofs.StartLemmas.{start-leads-on}
 use Rattle.laws_sound_processes.proofs.TypedLemmas.{bodies-are-typed}
 use Rattle.laws_sound_processes.specs.Typed.{HasSomeKind, IsSoundContext, IsTypedAction, IsTypedBody, IsTypedTerminator}

@@ -23,7 +23,7 @@ use Rattle.build_nodes.specs.Transitions.{body_in, labelled}
 use Rattle.build_faults.proofs.FaultLemmas.{in-each, in-right}
 use Rattle.build_faults.specs.FaultLaws.{In}
 use Rattle.build_faults.specs.Faults.{Diagnostic, diagnostic_at, mark_word}
-use Rattle.build_limits.specs.Names.{first_of}
+use Rattle.build_scopes.specs.Names.{first_of}
 use Rattle.build_faults.specs.declared.fault.Rule.TheVariants.{NoState}
 use Rattle.laws_sound_processes.proofs.LabelLemmas.{FromTransition, from-transition}
 use Rattle.laws_sound_processes.proofs.MeetLemmas.{Leaves, meeting, meets-transition}

@@ -16,7 +16,7 @@ use Rattle.build_names.specs.Entries.{Entry, entries_in, entry_in}
 use Rattle.build_names.specs.Meanings.{agent_entries, signal_entries, value_entries, value_entry}
 use Rattle.build_names.specs.declared.symbol_table.SymbolTable.{SymbolTable}
 use Rattle.build_faults.specs.FaultLaws.{Each}
-use Rattle.build_limits.specs.Names.{first_of}
+use Rattle.build_scopes.specs.Names.{first_of}
 use Rattle.build_expressions.specs.Scope.{agent_meaning, meaning, signal_meaning, value_meaning}
 use Rattle.build_expressions.specs.declared.scope.Constant.{Constant}
 use Rattle.build_expressions.specs.declared.scope.ValueEntry.{ValueEntry}

@@ -34,8 +34,8 @@ use Rattle.build_process.specs.Faulty.{body_faults}
 use Rattle.build_process.specs.ProcessScope.{for_stimuli}
 use Rattle.build_faults.specs.FaultLaws.{Each}
 use Rattle.build_faults.specs.Faults.{Diagnostic}
-use Rattle.build_limits.specs.Limits.{different, state_names}
-use Rattle.build_limits.specs.Names.{first_of}
+use Rattle.build_labels.specs.States.{different, state_names}
+use Rattle.build_scopes.specs.Names.{first_of}
 use Rattle.build_expressions.specs.declared.scope.Constant.{Constant}
 use Rattle.laws_sound_system.proofs.AgentLemmas.{meant-sorts}
 use Rattle.laws_sound_system.proofs.ScopeLemmas.{IsOfRows, counted, scope-sound}

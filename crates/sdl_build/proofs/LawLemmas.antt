@@ -23,7 +23,7 @@ use Rattle.build_definitions.specs.Rows.{SignalRow}
 use Rattle.build_constants.specs.ConstantTable.{all_durations, duration_at}
 use Rattle.build_constants.specs.Scopes.{scope_in}
 use Rattle.build_process.specs.ProcessScope.{for_stimuli}
-use Rattle.build_limits.specs.Names.{first_of}
+use Rattle.build_scopes.specs.Names.{first_of}
 use Rattle.build_expressions.specs.Scope.{SignalMeaning, meaning, signal, signal_in, timer}
 use Rattle.build_scopes.specs.declared.scope.ScopeId.TheVariants as scope
 use Rattle.build_stimuli.specs.Context.{members_of}

@@ -10,7 +10,7 @@ use Rattle.build_definitions.specs.Rows.{ProcessRow, SignalRow}
 use Rattle.build_constants.specs.ConstantTable.{all_durations}
 use Rattle.build_process.specs.Refused.{IsRefused}
 use Rattle.build_faults.specs.Faults.{Diagnostic, least_of}
-use Rattle.build_limits.specs.Names.{first_of}
+use Rattle.build_scopes.specs.Names.{first_of}
 use Rattle.build_faults.specs.declared.fault.Rule.TheVariants.{Limit}
 use Rattle.build_scopes.specs.Spaces.{entry_if, is_same_scope}
 use Rattle.build_scopes.specs.declared.scope.ScopeId.TheVariants as scope

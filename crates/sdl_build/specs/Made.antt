@@ -7,7 +7,7 @@ use Rattle.sdl_build.specs.Signals.{signal_of, signals_from}
 use Rattle.build_context.specs.Context.{Context}
 use Rattle.build_definitions.specs.Rows.{ProcessRow}
 use Rattle.build_definitions.specs.Definitions.{Rows}
-use Rattle.build_limits.specs.Names.{first_of}
+use Rattle.build_scopes.specs.Names.{first_of}
 use Rattle.sdl_system.specs.System.{SystemValue, meaning_of}
 use Rattle.sdl_system.specs.declared.id.ProcessId.{ProcessId}
 use Rattle.sdl_system.specs.declared.process.Process.{Process}

@@ -6,7 +6,7 @@ use Rattle.build_context.specs.Around.{context_of}
 use Rattle.build_context.specs.ProcessScope.{reaching}
 use Rattle.build_definitions.specs.Seen.{process_seen}
 use Rattle.build_process.specs.ProcessScope.{ProcessScope}
-use Rattle.build_limits.specs.Limits.{different, state_names}
+use Rattle.build_labels.specs.States.{different, state_names}
 use Rattle.build_states.specs.Tabled.{is_state}
 use Rattle.sdl_tree.specs.Views.{process_value}
 use Rattle.build_context.proofs.process.process_at.Goals as goal

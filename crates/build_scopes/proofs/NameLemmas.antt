@@ -6,7 +6,7 @@ use Rattle.std.specs.Option.{option_or}
 use Rattle.std.specs.Str.{bytes_eq}
 use Rattle.std.proofs.lemmas.List.{map-append}
 use Rattle.std.proofs.lemmas.Slice.Eq.{bytes_eq-Decides}
-use Rattle.build_limits.specs.Names.{first_of}
+use Rattle.build_scopes.specs.Names.{first_of}
 
 found-or : {X : Type 0} (b : Bool) (x : X) (rest left right : Option X) → rest ≡ option_or left right →
     cond b (Some x) rest ≡ option_or (cond b (Some x) left) right

@@ -5,9 +5,8 @@ use Rattle.std.specs.Str.{bytes_eq}
 use Rattle.std.proofs.lemmas.List.{map-append}
 use Rattle.sdl_lex.specs.declared.place.Place.{Place}
 use Rattle.sdl_tree.specs.Words.{Spot}
-use Rattle.build_limits.specs.Limits.{is_same_text, with_new}
-use Rattle.build_limits.specs.Listed.{entry_word, words_listed}
-use Rattle.build_limits.specs.Names.{first_of}
+use Rattle.build_labels.specs.States.{entry_word, is_same_text, with_new, words_listed}
+use Rattle.build_scopes.specs.Names.{first_of}
 
 any-found : {X : Type 0} (b : Bool) (x : X) (rest : Option X) (any : Bool) → any ≡ is_some rest →
     (b || any) ≡ is_some (cond b (Some x) rest)

@@ -3,7 +3,7 @@
 ghost use Rattle.std.specs.Prelude.{◌≡◌, ◌==◌, ◌++◌, ℕ, List, [], ◌∷◌, length, map, is_some, OnErr, OnOk, string_bytes};
 ghost use Rattle.indexmap.specs.IndexMap.{get_by};
 ghost use Rattle.std.specs.Str.{bytes_eq};
-ghost use Rattle.build_limits.specs.Names.{first_of, first_outward, names_in};
+ghost use Rattle.build_scopes.specs.Names.{first_of, first_outward, names_in};
 ghost use Rattle.sdl_tree.specs.Views.{name_value};
 
 use build_faults::{Faults, Rule, Token};
@@ -66,13 +66,6 @@ impl<'t, T: Copy> Names<'t, T> {
         self.entries.is_empty()
     }
 
-    /// The names with what they stand for, in the order of the text.
-    pub(crate) fn entries(&self) -> &[(&'t str, T)]
-        ensures { map (λ entry. (entry.0.now, entry.1)) result.now ≡ self.now }
-    {
-        &self.entries
-    }
-
     /// What a name stands for, by its first declaration.
     pub fn get(&self, text: &str) -> Option<T>
         ensures { result ≡ first_of self.now text.now }
@@ -81,7 +74,7 @@ impl<'t, T: Copy> Names<'t, T> {
     }
 
     /// Adds a name, which counts if it is new. After an error the names are as they were.
-    pub(crate) fn add(&mut self, text: &'t str, what: T) -> Result<(), AllocError>
+    fn add(&mut self, text: &'t str, what: T) -> Result<(), AllocError>
         ensures ok { OnOk result (self.new ≡ self.old ++ (text.now, what) ∷ []) }
         ensures err { OnErr result (self.new ≡ self.old) }
     {
@@ -104,7 +97,6 @@ impl<'t, T: Copy> Names<'t, T> {
         ensures declared { OnOk result (self.new ≡ self.old ++ (string_bytes name.now.text, what) ∷ []) }
         ensures noted { OnOk result (Notes faults.old faults.new
             (fault_if (is_some (first_of self.old (string_bytes name.now.text))) Duplicate (name_value name.now))) }
-
         ensures err { OnErr result (self.new ≡ self.old) }
         ensures err_faults { OnErr result (faults.new ≡ faults.old) }
     {

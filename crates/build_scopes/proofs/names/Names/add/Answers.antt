@@ -2,9 +2,9 @@ use Rattle.std.proofs.Common.{◌∙◌, ◌++◌, ◌∷◌, [], ap, sym}
 use Rattle.std.specs.Str.{bytes_eq}
 use Rattle.indexmap.specs.IndexMap.{get_by}
 use Rattle.indexmap.proofs.CallerLemmas.{insert_entry-new}
-use Rattle.build_limits.proofs.NameLemmas.{known-pushed, new-pushed, none-of}
-use Rattle.build_limits.proofs.names.Names.add.Goals as goal
-use Rattle.build_limits.proofs.names.Names.add.Goals.{then-not-contains_key+in_ok-insert, else-not-contains_key}
+use Rattle.build_scopes.proofs.NameLemmas.{known-pushed, new-pushed, none-of}
+use Rattle.build_scopes.proofs.names.Names.add.Goals as goal
+use Rattle.build_scopes.proofs.names.Names.add.Goals.{then-not-contains_key+in_ok-insert, else-not-contains_key}
 
 pub invariant_of-self-2 : goal.invariant_of-self-2
 invariant_of-self-2 g c =
