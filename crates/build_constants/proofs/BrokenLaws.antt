@@ -8,8 +8,8 @@ use Rattle.build_constants.specs.declared.counts.Part.{Part}
 use Rattle.build_constants.specs.declared.counts.Part.TheVariants.{LeftOut, Refused, Number}
 use Rattle.build_faults.proofs.FaultLemmas.{each-both, each-if, each-of, in-each, in-if, in-left, in-right}
 use Rattle.build_faults.specs.FaultLaws.{Each, In}
-use Rattle.build_faults.specs.Faults.{Told, fault_if, told_at, mark_word}
-use Rattle.build_faults.specs.declared.fault.Kind.TheVariants.{BadCount}
+use Rattle.build_faults.specs.Faults.{Diagnostic, fault_if, diagnostic_at, mark_word}
+use Rattle.build_faults.specs.declared.fault.Rule.TheVariants.{BadCount}
 use Rattle.build_expressions.proofs.ConstantLaws.{broken-listed-constant, listed-broken-constant}
 use Rattle.build_expressions.proofs.ListedLaws.{each-weaker}
 use Rattle.build_expressions.specs.Broken.{IsBrokenConstant}
@@ -74,11 +74,11 @@ module _ (scope : Scope) (counts : Counts) where
 -- ---- counts
 
 module _ (scope : Scope) (counts : Counts) where
-  abbrev Breaks : Told → Type 0
+  abbrev Breaks : Diagnostic → Type 0
   Breaks = BreaksCounts scope counts
 
-  abbrev told : Told
-  told = told_at BadCount (mark_word mark.Open counts.parenthesis)
+  abbrev told : Diagnostic
+  told = diagnostic_at BadCount (mark_word mark.Open counts.parenthesis)
 
   abbrev first : Part
   first = part_in scope counts.initial
@@ -119,7 +119,8 @@ module _ (scope : Scope) (counts : Counts) where
       ]
 
   part-broken : (written : Option Expr) →
-      ((part : Expr) (fault : Told) → written ≡ Some part → IsBrokenConstant scope (Some sort.Integer) part fault →
+      ((part : Expr) (fault : Diagnostic) → written ≡ Some part →
+      IsBrokenConstant scope (Some sort.Integer) part fault →
       Breaks fault) →
       Each Breaks (part_faults scope written)
   part-broken None so = tt
@@ -177,7 +178,7 @@ module _ (scope : Scope) (counts : Counts) where
       (ap (λ p. exceeds p second) (first-number part number is to) ∙ ap (exceeds (Number number)) most ∙ less)
   above-misfit initial maximum (left_out is) most less = none-misfit (ap allows_none most ∙ less)
 
-  listed-count : (fault : Told) → Breaks fault → In fault (counts_faults scope (Some counts))
+  listed-count : (fault : Diagnostic) → Breaks fault → In fault (counts_faults scope (Some counts))
   listed-count fault (in_initial part same is broken) =
       in-left fault (part_faults scope counts.initial) (part_faults scope (maximum_in counts.bound)
       ++ fault_if (are_misfit first second) BadCount (mark_word mark.Open counts.parenthesis))
@@ -210,16 +211,17 @@ broken-counts scope counts fault is =
 -- ---- initial values and default durations
 
 module _ (scope : Scope) (place : Option Sort) where
-  value-broken : (P : Told → Type 0) (written : Option Expr) →
-      ((value : Expr) (fault : Told) → written ≡ Some value → IsBrokenConstant scope place value fault → P fault) →
+  value-broken : (P : Diagnostic → Type 0) (written : Option Expr) →
+      ((value : Expr) (fault : Diagnostic) → written ≡ Some value → IsBrokenConstant scope place value fault →
+      P fault) →
       Each P (initial_faults scope place written)
   value-broken P None so = tt
   value-broken P (Some value) so =
       each-weaker (IsBrokenConstant scope place value) P (constant_faults scope place value)
       (λ fault is. so value fault refl is) (listed-broken-constant scope place value)
 
-duration-broken : (scope : Scope) (P : Told → Type 0) (written : Option Expr) →
-    ((duration : Expr) (fault : Told) → written ≡ Some duration →
+duration-broken : (scope : Scope) (P : Diagnostic → Type 0) (written : Option Expr) →
+    ((duration : Expr) (fault : Diagnostic) → written ≡ Some duration →
     IsBrokenConstant scope (Some sort.Duration) duration fault → P fault) →
     Each P (duration_faults scope written)
 duration-broken scope P None so = tt

@@ -4,13 +4,14 @@ use Rattle.build_constants.specs.Counts.{accepted, are_misfit, part_faults, part
 use Rattle.build_constants.specs.declared.counts.InstanceCounts.{InstanceCounts}
 use Rattle.build_constants.specs.declared.counts.Part.{Part}
 use Rattle.build_faults.proofs.FaultLemmas.{both_noted}
-use Rattle.build_faults.specs.Faults.{Told, fault_if, least_of}
-use Rattle.build_faults.specs.declared.fault.Kind.TheVariants.{BadCount}
+use Rattle.build_faults.specs.Faults.{Diagnostic, fault_if, least_of}
+use Rattle.build_faults.specs.declared.fault.Rule.TheVariants.{BadCount}
 use Rattle.build_expressions.specs.Scope.{Scope}
 use Rattle.sdl_tree.specs.Tree.{Expr}
 use Rattle.sdl_tree.specs.Words.{Spot}
 
-three_noted : (old one two three : Option Told) (xs ys zs : List Told) → one ≡ least_of old xs → two ≡ least_of one ys →
+three_noted : (old one two three : Option Diagnostic) (xs ys zs : List Diagnostic) → one ≡ least_of old xs →
+    two ≡ least_of one ys →
     three ≡ least_of two zs → three ≡ least_of old (xs ++ (ys ++ zs))
 three_noted old one two three xs ys zs first second third =
     third ∙ ap (λ before. least_of before zs) second
@@ -31,8 +32,9 @@ module _ (scope : Scope) (initial maximum : Option Expr) (first second : Part) (
   counts_accepted found is =
       is ∙ ap (λ p. accepted p second) initial_part ∙ ap (λ p. accepted (part_in scope initial) p) maximum_part
 
-  pub counts_noted : (word : Spot) (old one two three : Option Told) → one ≡ least_of old (part_faults scope i) →
-      two ≡ least_of one (part_faults scope m) → three ≡ least_of two (fault_if (are_misfit first second) BadCount word) →
+  pub counts_noted : (word : Spot) (old one two three : Option Diagnostic) → one ≡ least_of old (part_faults scope i) →
+      two ≡ least_of one (part_faults scope m) → three
+      ≡ least_of two (fault_if (are_misfit first second) BadCount word) →
       three ≡ least_of old (part_faults scope initial ++ (part_faults scope maximum
       ++ fault_if (are_misfit (part_in scope initial) (part_in scope maximum)) BadCount word))
   counts_noted word old one two three of_initial of_maximum of_both =

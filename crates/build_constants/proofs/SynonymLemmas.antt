@@ -5,9 +5,9 @@ use Rattle.std.specs.List.{AllZip}
 use Rattle.std.proofs.lemmas.List.{map-append, take_more}
 use Rattle.std.proofs.lemmas.Slice.Zip.{all_zipped_more}
 use Rattle.build_definitions.specs.Rows.{SynonymRow}
-use Rattle.build_definitions.specs.Tables.{Rows}
-use Rattle.build_names.specs.declared.declared.Declared.{Declared}
-use Rattle.build_faults.specs.Faults.{Told, least_of}
+use Rattle.build_definitions.specs.Definitions.{Rows}
+use Rattle.build_names.specs.declared.symbol_table.SymbolTable.{SymbolTable}
+use Rattle.build_faults.specs.Faults.{Diagnostic, least_of}
 use Rattle.build_expressions.specs.declared.scope.Constant.{Constant}
 use Rattle.build_synonyms.specs.Synonyms.{synonym_faults}
 use Rattle.build_synonyms.specs.declared.synonym.Synonym.{Synonym}
@@ -30,31 +30,31 @@ made-more Made view items xs same i x below is ys y before one =
     (all_zipped_more Made _ ys (view x) y (subst (λ zs. AllZip Made (map view (take i zs)) ys) (sym same) before) one))
 
 faults-in :
-    (rows : Rows) (declared : Declared) (constants : List Constant) (row : SynonymRow) (synonym : Synonym)
-    → IsSynonym declared rows.processes row synonym
-    → synonym_faults constants synonym ≡ faults_in_row rows declared constants row
-faults-in rows declared constants row synonym is =
+    (rows : Rows) (symbols : SymbolTable) (constants : List Constant) (row : SynonymRow) (synonym : Synonym)
+    → IsSynonym symbols rows.processes row synonym
+    → synonym_faults constants synonym ≡ faults_in_row rows symbols constants row
+faults-in rows symbols constants row synonym is =
     rw (is.values, is.signals, is.agents, is.sort, is.expression) refl
 
 -- their faults are those of the rows
 pub faults-of :
-    (rows : Rows) (declared : Declared) (constants : List Constant) (list : List SynonymRow) (synonyms : List Synonym)
-    → AllZip (IsSynonym declared rows.processes) list synonyms
-    → flat_map (synonym_faults constants) synonyms ≡ flat_map (faults_in_row rows declared constants) list
-faults-of rows declared constants [] [] all = refl
-faults-of rows declared constants [] (synonym ∷ synonyms) all = absurd all
-faults-of rows declared constants (row ∷ list) [] all = absurd all
-faults-of rows declared constants (row ∷ list) (synonym ∷ synonyms) all =
-    rw (faults-in rows declared constants row synonym all.0, faults-of rows declared constants list synonyms all.1) refl
+    (rows : Rows) (symbols : SymbolTable) (constants : List Constant) (list : List SynonymRow) (synonyms : List Synonym)
+    → AllZip (IsSynonym symbols rows.processes) list synonyms
+    → flat_map (synonym_faults constants) synonyms ≡ flat_map (faults_in_row rows symbols constants) list
+faults-of rows symbols constants [] [] all = refl
+faults-of rows symbols constants [] (synonym ∷ synonyms) all = absurd all
+faults-of rows symbols constants (row ∷ list) [] all = absurd all
+faults-of rows symbols constants (row ∷ list) (synonym ∷ synonyms) all =
+    rw (faults-in rows symbols constants row synonym all.0, faults-of rows symbols constants list synonyms all.1) refl
 
 -- what is noted of them is what is noted of the rows
 pub noted-of :
-    {E : Type 0} (rows : Rows) (declared : Declared) (synonyms items : List Synonym) (old new : Option Told)
-    (result : Result (Vec Constant) E) → items ≡ synonyms → AreSynonyms rows declared synonyms
+    {E : Type 0} (rows : Rows) (symbols : SymbolTable) (synonyms items : List Synonym) (old new : Option Diagnostic)
+    (result : Result (Vec Constant) E) → items ≡ synonyms → AreSynonyms rows symbols synonyms
     → IfOk result (λ constants. new ≡ least_of old (flat_map (synonym_faults constants.items) items))
     → IfOk result (λ constants. new
-    ≡ least_of old (flat_map (faults_in_row rows declared constants.items) rows.synonyms))
-noted-of rows declared synonyms items old new (Ok constants) same are noted =
+    ≡ least_of old (flat_map (faults_in_row rows symbols constants.items) rows.synonyms))
+noted-of rows symbols synonyms items old new (Ok constants) same are noted =
     noted ∙ ap (λ list. least_of old (flat_map (synonym_faults constants.items) list)) same
-    ∙ ap (least_of old) (faults-of rows declared constants.items rows.synonyms synonyms are)
-noted-of rows declared synonyms items old new (Err error) same are noted = noted
+    ∙ ap (least_of old) (faults-of rows symbols constants.items rows.synonyms synonyms are)
+noted-of rows symbols synonyms items old new (Err error) same are noted = noted

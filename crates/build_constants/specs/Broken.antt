@@ -5,8 +5,8 @@ use Rattle.build_constants.specs.Counts.{counts_faults, maximum_in}
 use Rattle.build_constants.specs.Timers.{timer_faults}
 use Rattle.build_constants.specs.Variables.{SortedGroup, group_faults}
 use Rattle.build_faults.specs.FaultLaws.{Each, In}
-use Rattle.build_faults.specs.Faults.{Told, told_at, mark_word}
-use Rattle.build_faults.specs.declared.fault.Kind.TheVariants.{BadCount}
+use Rattle.build_faults.specs.Faults.{Diagnostic, diagnostic_at, mark_word}
+use Rattle.build_faults.specs.declared.fault.Rule.TheVariants.{BadCount}
 use Rattle.build_expressions.specs.Broken.{IsBrokenConstant}
 use Rattle.build_expressions.specs.Constants.{constant_in}
 use Rattle.build_expressions.specs.Scope.{Scope}
@@ -38,31 +38,32 @@ pub record IsMaximum (scope : Scope) (counts : Counts) (number : ℤ) : Type 0 w
   pub comes_to : ComesTo scope part number
 
 -- a rule is broken in the counts
-pub data BreaksCounts (scope : Scope) (counts : Counts) : Told → Type 0 where
+pub data BreaksCounts (scope : Scope) (counts : Counts) : Diagnostic → Type 0 where
   -- in the part before the comma, which is a constant of sort Integer
   in_initial :
-      (part : Expr) (fault : Told) → counts.initial ≡ Some part → IsBrokenConstant scope (Some sort.Integer) part fault
+      (part : Expr) (fault : Diagnostic) → counts.initial ≡ Some part →
+      IsBrokenConstant scope (Some sort.Integer) part fault
       → BreaksCounts scope counts fault
   -- in the part behind it, which is one too
   in_maximum :
-      (part : Expr) (fault : Told) → maximum_in counts.bound ≡ Some part
+      (part : Expr) (fault : Diagnostic) → maximum_in counts.bound ≡ Some part
       → IsBrokenConstant scope (Some sort.Integer) part fault → BreaksCounts scope counts fault
   -- there are fewer than none at the start
   below_none :
       (initial : ℤ) → IsInitial scope counts initial → int_lt initial (pos 0) ≡ true
-      → BreaksCounts scope counts (told_at BadCount (mark_word mark.Open counts.parenthesis))
+      → BreaksCounts scope counts (diagnostic_at BadCount (mark_word mark.Open counts.parenthesis))
   -- there may be none ever
   none_ever :
       (maximum : ℤ) → IsMaximum scope counts maximum → int_lt maximum (pos 1) ≡ true
-      → BreaksCounts scope counts (told_at BadCount (mark_word mark.Open counts.parenthesis))
+      → BreaksCounts scope counts (diagnostic_at BadCount (mark_word mark.Open counts.parenthesis))
   -- there are more at the start than there may be at most
   above_maximum :
       (initial maximum : ℤ) → IsInitial scope counts initial → IsMaximum scope counts maximum
       → int_lt maximum initial ≡ true
-      → BreaksCounts scope counts (told_at BadCount (mark_word mark.Open counts.parenthesis))
+      → BreaksCounts scope counts (diagnostic_at BadCount (mark_word mark.Open counts.parenthesis))
 
 -- a rule is broken in the counts that stand behind the name of a process
-pub record IsBrokenInCounts (scope : Scope) (counts : Option Counts) (fault : Told) : Type 0 where
+pub record IsBrokenInCounts (scope : Scope) (counts : Option Counts) (fault : Diagnostic) : Type 0 where
   pub written : Counts
   pub counts_are : counts ≡ Some written
   pub broken : BreaksCounts scope written fault
@@ -70,7 +71,7 @@ pub record IsBrokenInCounts (scope : Scope) (counts : Option Counts) (fault : To
 -- ---- initial values and default durations
 
 -- a rule is broken in the value that stands behind variables, which is a constant of their sort
-pub record IsBrokenInValues (scope : Scope) (groups : List SortedGroup) (fault : Told) : Type 0 where
+pub record IsBrokenInValues (scope : Scope) (groups : List SortedGroup) (fault : Diagnostic) : Type 0 where
   pub sorted : SortedGroup
   pub among : In sorted groups
   pub value : Expr
@@ -78,7 +79,7 @@ pub record IsBrokenInValues (scope : Scope) (groups : List SortedGroup) (fault :
   pub broken : IsBrokenConstant scope sorted.sort value fault
 
 -- a rule is broken in the default duration of a timer, which is a constant of sort Duration
-pub record IsBrokenInDurations (scope : Scope) (timers : List TimerDefinition) (fault : Told) : Type 0 where
+pub record IsBrokenInDurations (scope : Scope) (timers : List TimerDefinition) (fault : Diagnostic) : Type 0 where
   pub definition : TimerDefinition
   pub among : In definition timers
   pub duration : Expr
@@ -102,13 +103,14 @@ ListedBrokenInDurations = (scope : Scope) (timers : List TimerDefinition) →
 
 -- Each that is broken is in the lists.
 abbrev pub BrokenListedInCounts : Type 0
-BrokenListedInCounts = (scope : Scope) (counts : Option Counts) (fault : Told) → IsBrokenInCounts scope counts fault →
+BrokenListedInCounts = (scope : Scope) (counts : Option Counts) (fault : Diagnostic) →
+    IsBrokenInCounts scope counts fault →
     In fault (counts_faults scope counts)
 
 abbrev pub BrokenListedInValues : Type 0
-BrokenListedInValues = (scope : Scope) (groups : List SortedGroup) (fault : Told) →
+BrokenListedInValues = (scope : Scope) (groups : List SortedGroup) (fault : Diagnostic) →
     IsBrokenInValues scope groups fault → In fault (flat_map (group_faults scope) groups)
 
 abbrev pub BrokenListedInDurations : Type 0
-BrokenListedInDurations = (scope : Scope) (timers : List TimerDefinition) (fault : Told) →
+BrokenListedInDurations = (scope : Scope) (timers : List TimerDefinition) (fault : Diagnostic) →
     IsBrokenInDurations scope timers fault → In fault (flat_map (timer_faults scope) timers)

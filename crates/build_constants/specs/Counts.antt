@@ -1,10 +1,11 @@
--- The numbers of instances of a process (Z.101: process): how many there are at the start, and how many there may be at most.
+-- The numbers of instances of a process (Z.101: process): how many there are at the start, and how many there may be at
+-- most.
 use Rattle.std.specs.Prelude.{ℤ, pos, ◌++◌, ◌||◌, Bool, false, List, [], Option, None, Some, int_lt, if◌then◌else◌}
 use Rattle.build_constants.specs.declared.counts.InstanceCounts.{InstanceCounts}
 use Rattle.build_constants.specs.declared.counts.Part.{Part}
 use Rattle.build_constants.specs.declared.counts.Part.TheVariants.{LeftOut, Refused, Number}
-use Rattle.build_faults.specs.Faults.{Told, fault_if, mark_word}
-use Rattle.build_faults.specs.declared.fault.Kind.TheVariants.{BadCount}
+use Rattle.build_faults.specs.Faults.{Diagnostic, fault_if, mark_word}
+use Rattle.build_faults.specs.declared.fault.Rule.TheVariants.{BadCount}
 use Rattle.build_expressions.specs.Constants.{constant_faults, constant_in}
 use Rattle.build_expressions.specs.Scope.{Scope}
 use Rattle.build_expressions.specs.declared.scope.Constant.{Constant}
@@ -26,7 +27,7 @@ abbrev pub part_in : Scope → Option Expr → Part
 part_in scope None = LeftOut
 part_in scope (Some expression) = number_part (constant_in scope (Some sort.Integer) expression)
 
-abbrev pub part_faults : Scope → Option Expr → List Told
+abbrev pub part_faults : Scope → Option Expr → List Diagnostic
 part_faults scope None = []
 part_faults scope (Some expression) = constant_faults scope (Some sort.Integer) expression
 
@@ -86,7 +87,7 @@ counts_in scope None = Some (record { initial = pos 1; maximum = None })
 counts_in scope (Some counts) = accepted (part_in scope counts.initial) (part_in scope (maximum_in counts.bound))
 
 -- the rules that are broken in them: those of each part, and at the parenthesis those on their numbers
-abbrev pub counts_faults : Scope → Option Counts → List Told
+abbrev pub counts_faults : Scope → Option Counts → List Diagnostic
 counts_faults scope None = []
 counts_faults scope (Some counts) =
     part_faults scope counts.initial

@@ -1,6 +1,6 @@
 pub mod Broken
 pub mod Counts
-pub mod Figures
+pub mod ConstantTable
 pub mod Limit
 pub mod Scopes
 pub mod Synonyms

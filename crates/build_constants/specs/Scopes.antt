@@ -1,7 +1,8 @@
--- What names stand for at a place of a specification, where its names are these and its synonyms come to these constants.
+-- What names stand for at a place of a specification, where its names are these and its synonyms come to these
+-- constants.
 use Rattle.std.specs.Prelude.{List}
-use Rattle.build_definitions.specs.Tables.{Rows, path_of}
-use Rattle.build_names.specs.declared.declared.Declared.{Declared}
+use Rattle.build_definitions.specs.Definitions.{Rows, path_of}
+use Rattle.build_names.specs.declared.symbol_table.SymbolTable.{SymbolTable}
 use Rattle.build_expressions.specs.Scope.{Scope, agent_meaning, meaning, signal_meaning, value_meaning}
 use Rattle.build_expressions.specs.declared.scope.Constant.{Constant}
 use Rattle.build_scopes.specs.Spaces.{seen_in}
@@ -9,13 +10,13 @@ use Rattle.build_scopes.specs.declared.scope.ScopeId.{ScopeId}
 use Rattle.build_scopes.specs.declared.scope.ScopePath.{ScopePath}
 
 -- what is seen in these scopes
-abbrev pub scope_at : Declared → List Constant → ScopePath → Scope
-scope_at declared constants path = record {
-  values = meaning (value_meaning constants) (seen_in declared.values path);
-  signals = meaning signal_meaning (seen_in declared.signals path);
-  agents = meaning agent_meaning (seen_in declared.agents path);
+abbrev pub scope_at : SymbolTable → List Constant → ScopePath → Scope
+scope_at symbols constants path = record {
+  values = meaning (value_meaning constants) (seen_in symbols.values path);
+  signals = meaning signal_meaning (seen_in symbols.signals path);
+  agents = meaning agent_meaning (seen_in symbols.agents path);
 }
 
 -- what is seen inside a scope
-abbrev pub scope_in : Rows → Declared → List Constant → ScopeId → Scope
-scope_in rows declared constants place = scope_at declared constants (path_of rows.processes place)
+abbrev pub scope_in : Rows → SymbolTable → List Constant → ScopeId → Scope
+scope_in rows symbols constants place = scope_at symbols constants (path_of rows.processes place)

@@ -1,6 +1,6 @@
 -- For how many ticks the timers of a process are set where no time is told (Z.102: timer).
 use Rattle.std.specs.Prelude.{ℤ, List, [], Option, None, Some}
-use Rattle.build_faults.specs.Faults.{Told}
+use Rattle.build_faults.specs.Faults.{Diagnostic}
 use Rattle.build_expressions.specs.Constants.{constant_faults, constant_in}
 use Rattle.build_expressions.specs.Scope.{Scope}
 use Rattle.build_expressions.specs.declared.scope.Constant.{Constant}
@@ -20,9 +20,9 @@ abbrev pub duration_in : Scope → Option Expr → Option ℤ
 duration_in scope None = None
 duration_in scope (Some expression) = ticks_of (constant_in scope (Some sort.Duration) expression)
 
-abbrev pub duration_faults : Scope → Option Expr → List Told
+abbrev pub duration_faults : Scope → Option Expr → List Diagnostic
 duration_faults scope None = []
 duration_faults scope (Some expression) = constant_faults scope (Some sort.Duration) expression
 
-abbrev pub timer_faults : Scope → TimerDefinition → List Told
+abbrev pub timer_faults : Scope → TimerDefinition → List Diagnostic
 timer_faults scope timer = duration_faults scope timer.duration

@@ -2,14 +2,14 @@
 
 ghost use Rattle.std.specs.Prelude.{◌≡◌, ◌||◌, Some, option_map, IfOk, OnOk};
 ghost use Rattle.build_constants.specs.Counts.{accepted, allows_none, are_misfit, counts_faults, counts_in, exceeds, is_above, is_negative, maximum_in, number_part, part_faults, part_in, with_maximum, with_parts};
-ghost use Rattle.build_faults.specs.Faults.{fault_if, least_of, told, mark_word};
-ghost use Rattle.build_faults.specs.declared.fault.Kind.TheVariants.{BadCount};
+ghost use Rattle.build_faults.specs.Faults.{Notes, fault_if, mark_word};
+ghost use Rattle.build_faults.specs.declared.fault.Rule.TheVariants.{BadCount};
 ghost use Rattle.build_expressions.specs.Scope.{scope_of};
 ghost use Rattle.sdl_tree.specs.Views.{bound_value, counts_value, expr_value};
 ghost use Rattle.sdl_tree.specs.declared.mark.Mark.TheVariants as mark;
 
 use build_expressions::{Constant, Scope, constant};
-use build_faults::{Faults, Kind, Token};
+use build_faults::{Faults, Rule, Token};
 use sdl_system::{Sort, number_of};
 use sdl_tree::{Bound, Counts, Expression, Mark, Spelling};
 use std::alloc::{AllocError, Global};
@@ -43,7 +43,7 @@ pub fn instance_counts<'t>(
 ) -> Result<Option<InstanceCounts>, AllocError>
     ensures counts { IfOk result (λ found. found ≡ counts_in (scope_of scope.now)
         (option_map counts_value counts.now)) }
-    ensures noted { OnOk result (told faults.new ≡ least_of (told faults.old)
+    ensures noted { OnOk result (Notes faults.old faults.new
         (counts_faults (scope_of scope.now) (option_map counts_value counts.now))) }
 {
     match counts {
@@ -62,7 +62,7 @@ fn stated<'t>(
     faults: &mut Faults<'t>,
 ) -> Result<Option<InstanceCounts>, AllocError>
     ensures counts { IfOk result (λ found. found ≡ counts_in (scope_of scope.now) (Some (counts_value counts.now))) }
-    ensures noted { OnOk result (told faults.new ≡ least_of (told faults.old)
+    ensures noted { OnOk result (Notes faults.old faults.new
         (counts_faults (scope_of scope.now) (Some (counts_value counts.now)))) }
 {
     let initial = read_part(alloc, scope, initial_in(&counts.initial), faults)?;
@@ -78,7 +78,7 @@ fn read_part<'t>(
 ) -> Result<Part, AllocError>
     ensures part { IfOk result (λ part. part
         ≡ part_in (scope_of scope.now) (option_map (λ e. expr_value e.now) expression.entry)) }
-    ensures noted { OnOk result (told faults.new ≡ least_of (told faults.old)
+    ensures noted { OnOk result (Notes faults.old faults.new
         (part_faults (scope_of scope.now) (option_map (λ e. expr_value e.now) expression.entry))) }
 {
     match expression {
@@ -124,11 +124,11 @@ fn accepted<'t>(
     faults: &mut Faults<'t>,
 ) -> Option<InstanceCounts>
     ensures counts { result ≡ accepted initial maximum }
-    ensures noted { told faults.new ≡ least_of (told faults.old)
+    ensures noted { Notes faults.old faults.new
         (fault_if (are_misfit initial maximum) BadCount (mark_word mark.Open parenthesis)) }
 {
     if are_misfit(initial, maximum) {
-        faults.note(Kind::BadCount, Token::of_mark(Mark::Open, parenthesis));
+        faults.note(Rule::BadCount, Token::of_mark(Mark::Open, parenthesis));
         return None;
     }
     with_parts(initial, maximum)

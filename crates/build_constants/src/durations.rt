@@ -2,17 +2,17 @@
 
 ghost use Rattle.std.specs.Prelude.{◌≡◌, flat_map, option_map, IfOk};
 ghost use Rattle.build_definitions.specs.Seen.{kind_seen, signal_seen};
-ghost use Rattle.build_definitions.specs.Tables.{rows_of};
-ghost use Rattle.build_constants.specs.Figures.{all_durations, duration_at, duration_faults_at, duration_of};
-ghost use Rattle.build_faults.specs.Faults.{least_of, told};
+ghost use Rattle.build_definitions.specs.Definitions.{rows_of};
+ghost use Rattle.build_constants.specs.ConstantTable.{all_durations, duration_at, duration_faults_at, duration_of};
+ghost use Rattle.build_faults.specs.Faults.{Notes};
 ghost use Rattle.sdl_tree.specs.Views.{expr_value};
 
 use crate::scope::scope_at;
 use crate::timers::default_duration;
-use build_definitions::{SignalEntry, SignalKind, Tables};
+use build_definitions::{Definitions, SignalEntry, SignalKind};
 use build_expressions::Constant;
 use build_faults::Faults;
-use build_names::Declared;
+use build_names::SymbolTable;
 use sdl_tree::Expression;
 use std::alloc::{AllocError, Global};
 
@@ -20,37 +20,38 @@ use std::alloc::{AllocError, Global};
 /// and where none stands. Noted are the faults of these durations.
 pub fn durations_of<'t>(
     alloc: Global,
-    tables: &Tables<'t>,
-    declared: &Declared<'_, 't>,
+    definitions: &Definitions<'t>,
+    symbols: &SymbolTable<'_, 't>,
     constants: &[Constant],
     faults: &mut Faults<'t>,
 ) -> Result<Vec<Option<i64>>, AllocError>
     ensures durations { IfOk result (λ durations. durations.items
-        ≡ all_durations (rows_of tables.now) declared.now constants.now) }
-    ensures noted { IfOk result (λ durations. told faults.new ≡ least_of (told faults.old)
-        (flat_map (duration_faults_at (rows_of tables.now) declared.now constants.now) (rows_of tables.now).signals)) }
+        ≡ all_durations (rows_of definitions.now) symbols.now constants.now) }
+    ensures noted { IfOk result (λ durations. Notes faults.old faults.new
+        (flat_map (duration_faults_at (rows_of definitions.now) symbols.now constants.now)
+        (rows_of definitions.now).signals)) }
 {
     let mut durations = Vec::new(alloc);
-    for entry in &tables.signals {
-        durations.push(duration_of_entry(alloc, tables, declared, constants, entry, faults)?)?;
+    for entry in &definitions.signals {
+        durations.push(duration_of_entry(alloc, definitions, symbols, constants, entry, faults)?)?;
     }
     Ok(durations)
 }
 
 fn duration_of_entry<'t>(
     alloc: Global,
-    tables: &Tables<'t>,
-    declared: &Declared<'_, 't>,
+    definitions: &Definitions<'t>,
+    symbols: &SymbolTable<'_, 't>,
     constants: &[Constant],
     entry: &SignalEntry<'t>,
     faults: &mut Faults<'t>,
 ) -> Result<Option<i64>, AllocError>
     ensures duration { IfOk result (λ duration. duration
-        ≡ duration_at (rows_of tables.now) declared.now constants.now (signal_seen entry.now)) }
-    ensures noted { IfOk result (λ duration. told faults.new ≡ least_of (told faults.old)
-        (duration_faults_at (rows_of tables.now) declared.now constants.now (signal_seen entry.now))) }
+        ≡ duration_at (rows_of definitions.now) symbols.now constants.now (signal_seen entry.now)) }
+    ensures noted { IfOk result (λ duration. Notes faults.old faults.new
+        (duration_faults_at (rows_of definitions.now) symbols.now constants.now (signal_seen entry.now))) }
 {
-    let scope = scope_at(declared, constants, tables.path_of(entry.scope));
+    let scope = scope_at(symbols, constants, definitions.path_of(entry.scope));
     default_duration(alloc, &scope, duration_in_kind(entry.kind), faults)
 }
 

@@ -2,16 +2,16 @@
 
 ghost use Rattle.std.specs.Prelude.{◌≡◌, flat_map, IfOk};
 ghost use Rattle.build_definitions.specs.Seen.{value_seen};
-ghost use Rattle.build_definitions.specs.Tables.{rows_of};
-ghost use Rattle.build_constants.specs.Figures.{all_initials, initial_at, initial_faults_at, sort_of_entry};
-ghost use Rattle.build_faults.specs.Faults.{least_of, told};
+ghost use Rattle.build_definitions.specs.Definitions.{rows_of};
+ghost use Rattle.build_constants.specs.ConstantTable.{all_initials, initial_at, initial_faults_at, sort_of_entry};
+ghost use Rattle.build_faults.specs.Faults.{Notes};
 
 use crate::scope::scope_at;
 use crate::variables::initial_value;
-use build_definitions::{Tables, ValueName};
+use build_definitions::{Definitions, ValueName};
 use build_expressions::{Constant, ValueEntry};
 use build_faults::Faults;
-use build_names::Declared;
+use build_names::SymbolTable;
 use sdl_system::Sort;
 use std::alloc::{AllocError, Global};
 
@@ -19,37 +19,38 @@ use std::alloc::{AllocError, Global};
 /// initial value stands. Noted are the faults of these values.
 pub fn initials_of<'t>(
     alloc: Global,
-    tables: &Tables<'t>,
-    declared: &Declared<'_, 't>,
+    definitions: &Definitions<'t>,
+    symbols: &SymbolTable<'_, 't>,
     constants: &[Constant],
     faults: &mut Faults<'t>,
 ) -> Result<Vec<Option<Constant>>, AllocError>
     ensures values { IfOk result (λ values. values.items
-        ≡ all_initials (rows_of tables.now) declared.now constants.now) }
-    ensures noted { IfOk result (λ values. told faults.new ≡ least_of (told faults.old)
-        (flat_map (initial_faults_at (rows_of tables.now) declared.now constants.now) (rows_of tables.now).values)) }
+        ≡ all_initials (rows_of definitions.now) symbols.now constants.now) }
+    ensures noted { IfOk result (λ values. Notes faults.old faults.new
+        (flat_map (initial_faults_at (rows_of definitions.now) symbols.now constants.now)
+        (rows_of definitions.now).values)) }
 {
     let mut values = Vec::new(alloc);
-    for entry in &tables.values {
-        values.push(initial_of(alloc, tables, declared, constants, entry, faults)?)?;
+    for entry in &definitions.values {
+        values.push(initial_of(alloc, definitions, symbols, constants, entry, faults)?)?;
     }
     Ok(values)
 }
 
 fn initial_of<'t>(
     alloc: Global,
-    tables: &Tables<'t>,
-    declared: &Declared<'_, 't>,
+    definitions: &Definitions<'t>,
+    symbols: &SymbolTable<'_, 't>,
     constants: &[Constant],
     entry: &ValueName<'t>,
     faults: &mut Faults<'t>,
 ) -> Result<Option<Constant>, AllocError>
     ensures value { IfOk result (λ value. value
-        ≡ initial_at (rows_of tables.now) declared.now constants.now (value_seen entry.now)) }
-    ensures noted { IfOk result (λ value. told faults.new ≡ least_of (told faults.old)
-        (initial_faults_at (rows_of tables.now) declared.now constants.now (value_seen entry.now))) }
+        ≡ initial_at (rows_of definitions.now) symbols.now constants.now (value_seen entry.now)) }
+    ensures noted { IfOk result (λ value. Notes faults.old faults.new
+        (initial_faults_at (rows_of definitions.now) symbols.now constants.now (value_seen entry.now))) }
 {
-    let scope = scope_at(declared, constants, tables.path_of(entry.scope));
+    let scope = scope_at(symbols, constants, definitions.path_of(entry.scope));
     initial_value(
         alloc,
         &scope,

@@ -3,11 +3,11 @@
 ghost use Rattle.std.specs.Prelude.{◌≡◌, pos, false, int_lt, map};
 ghost use Rattle.build_definitions.specs.Seen.{process_seen};
 ghost use Rattle.build_constants.specs.Limit.{limit_faults, taken_by};
-ghost use Rattle.build_faults.specs.Faults.{least_of, told};
+ghost use Rattle.build_faults.specs.Faults.{Notes};
 
 use crate::counts::InstanceCounts;
 use build_definitions::ProcessEntry;
-use build_faults::{Faults, Kind, Token};
+use build_faults::{Faults, Rule, Token};
 
 /// The most instances that there may be at the start.
 const MOST_INSTANCES: i64 = 1_000;
@@ -18,13 +18,13 @@ pub fn note_limit<'t>(
     counts: &[Option<InstanceCounts>],
     faults: &mut Faults<'t>,
 )
-    ensures { told faults.new ≡ least_of (told faults.old) (limit_faults (map process_seen processes.now) counts.now) }
+    ensures { Notes faults.old faults.new (limit_faults (map process_seen processes.now) counts.now) }
 {
     let mut left = MOST_INSTANCES;
     for (entry, counted) in processes.iter().zip(counts) {
         let taken = taken_by(*counted);
         if taken > left {
-            faults.note(Kind::Limit, Token::of_name(&entry.definition.name));
+            faults.note(Rule::Limit, Token::of_name(&entry.definition.name));
             return;
         }
         left -= taken;

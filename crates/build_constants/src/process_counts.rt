@@ -2,50 +2,52 @@
 
 ghost use Rattle.std.specs.Prelude.{◌≡◌, flat_map, IfOk};
 ghost use Rattle.build_definitions.specs.Seen.{process_seen};
-ghost use Rattle.build_definitions.specs.Tables.{rows_of};
-ghost use Rattle.build_constants.specs.Figures.{all_counts, counts_at, counts_faults_at};
-ghost use Rattle.build_faults.specs.Faults.{least_of, told};
+ghost use Rattle.build_definitions.specs.Definitions.{rows_of};
+ghost use Rattle.build_constants.specs.ConstantTable.{all_counts, counts_at, counts_faults_at};
+ghost use Rattle.build_faults.specs.Faults.{Notes};
 
 use crate::counts::{InstanceCounts, instance_counts};
 use crate::scope::scope_at;
-use build_definitions::{ProcessEntry, Tables};
+use build_definitions::{Definitions, ProcessEntry};
 use build_expressions::Constant;
 use build_faults::Faults;
-use build_names::Declared;
+use build_names::SymbolTable;
 use std::alloc::{AllocError, Global};
 
 /// The numbers of instances of each process; None where a rule is broken in them, which is noted.
 pub fn counts_of<'t>(
     alloc: Global,
-    tables: &Tables<'t>,
-    declared: &Declared<'_, 't>,
+    definitions: &Definitions<'t>,
+    symbols: &SymbolTable<'_, 't>,
     constants: &[Constant],
     faults: &mut Faults<'t>,
 ) -> Result<Vec<Option<InstanceCounts>>, AllocError>
-    ensures counts { IfOk result (λ counts. counts.items ≡ all_counts (rows_of tables.now) declared.now constants.now) }
-    ensures noted { IfOk result (λ counts. told faults.new ≡ least_of (told faults.old)
-        (flat_map (counts_faults_at (rows_of tables.now) declared.now constants.now) (rows_of tables.now).processes)) }
+    ensures counts { IfOk result (λ counts. counts.items
+        ≡ all_counts (rows_of definitions.now) symbols.now constants.now) }
+    ensures noted { IfOk result (λ counts. Notes faults.old faults.new
+        (flat_map (counts_faults_at (rows_of definitions.now) symbols.now constants.now)
+        (rows_of definitions.now).processes)) }
 {
     let mut counts = Vec::new(alloc);
-    for entry in &tables.processes {
-        counts.push(counted(alloc, tables, declared, constants, entry, faults)?)?;
+    for entry in &definitions.processes {
+        counts.push(counted(alloc, definitions, symbols, constants, entry, faults)?)?;
     }
     Ok(counts)
 }
 
 fn counted<'t>(
     alloc: Global,
-    tables: &Tables<'t>,
-    declared: &Declared<'_, 't>,
+    definitions: &Definitions<'t>,
+    symbols: &SymbolTable<'_, 't>,
     constants: &[Constant],
     entry: &ProcessEntry<'t>,
     faults: &mut Faults<'t>,
 ) -> Result<Option<InstanceCounts>, AllocError>
     ensures counts { IfOk result (λ counts. counts
-        ≡ counts_at (rows_of tables.now) declared.now constants.now (process_seen entry.now)) }
-    ensures noted { IfOk result (λ counts. told faults.new ≡ least_of (told faults.old)
-        (counts_faults_at (rows_of tables.now) declared.now constants.now (process_seen entry.now))) }
+        ≡ counts_at (rows_of definitions.now) symbols.now constants.now (process_seen entry.now)) }
+    ensures noted { IfOk result (λ counts. Notes faults.old faults.new
+        (counts_faults_at (rows_of definitions.now) symbols.now constants.now (process_seen entry.now))) }
 {
-    let scope = scope_at(declared, constants, tables.path_of(entry.scope));
+    let scope = scope_at(symbols, constants, definitions.path_of(entry.scope));
     instance_counts(alloc, &scope, &entry.definition.counts, faults)
 }

@@ -5,21 +5,21 @@ ghost use Rattle.build_constants.specs.Scopes.{scope_at};
 ghost use Rattle.build_expressions.specs.Scope.{scope_of};
 
 use build_expressions::{Constant, Scope};
-use build_names::Declared;
+use build_names::SymbolTable;
 use build_scopes::ScopePath;
 
 /// What is seen in the scopes of this path, where the synonyms come to these constants.
 pub fn scope_at<'a, 's, 't>(
-    declared: &'a Declared<'s, 't>,
+    symbols: &'a SymbolTable<'s, 't>,
     constants: &'a [Constant],
     path: ScopePath,
 ) -> Scope<'a, 's, 't>
-    ensures { scope_of result ≡ scope_at declared.now constants.now path }
+    ensures { scope_of result ≡ scope_at symbols.now constants.now path }
 {
     Scope {
-        values: declared.values.outward(path),
+        values: symbols.values.outward(path),
         constants,
-        signals: declared.signals.outward(path),
-        agents: declared.agents.outward(path),
+        signals: symbols.signals.outward(path),
+        agents: symbols.agents.outward(path),
     }
 }

@@ -2,7 +2,7 @@
 
 ghost use Rattle.std.specs.Prelude.{◌≡◌, option_map, IfOk, OnOk};
 ghost use Rattle.build_constants.specs.Timers.{duration_faults, duration_in, ticks_of};
-ghost use Rattle.build_faults.specs.Faults.{least_of, told};
+ghost use Rattle.build_faults.specs.Faults.{Notes};
 ghost use Rattle.build_expressions.specs.Scope.{scope_of};
 ghost use Rattle.sdl_tree.specs.Views.{expr_value};
 
@@ -24,7 +24,7 @@ pub fn default_duration<'t>(
 ) -> Result<Option<i64>, AllocError>
     ensures duration { IfOk result (λ ticks. ticks
         ≡ duration_in (scope_of scope.now) (option_map (λ e. expr_value e.now) duration.entry)) }
-    ensures noted { OnOk result (told faults.new ≡ least_of (told faults.old)
+    ensures noted { OnOk result (Notes faults.old faults.new
         (duration_faults (scope_of scope.now) (option_map (λ e. expr_value e.now) duration.entry))) }
 {
     match duration {

@@ -2,7 +2,7 @@
 
 ghost use Rattle.std.specs.Prelude.{◌≡◌, option_map, IfOk, OnOk};
 ghost use Rattle.build_constants.specs.Variables.{initial_faults, initial_in};
-ghost use Rattle.build_faults.specs.Faults.{least_of, told};
+ghost use Rattle.build_faults.specs.Faults.{Notes};
 ghost use Rattle.build_expressions.specs.Scope.{scope_of};
 ghost use Rattle.sdl_tree.specs.Views.{expr_value};
 
@@ -26,7 +26,7 @@ pub fn initial_value<'t>(
 ) -> Result<Option<Constant>, AllocError>
     ensures value { IfOk result (λ value. value
         ≡ initial_in (scope_of scope.now) sort (option_map (λ e. expr_value e.now) initial.entry)) }
-    ensures noted { OnOk result (told faults.new ≡ least_of (told faults.old)
+    ensures noted { OnOk result (Notes faults.old faults.new
         (initial_faults (scope_of scope.now) sort (option_map (λ e. expr_value e.now) initial.entry))) }
 {
     match initial {

@@ -1,5 +1,5 @@
 pub mod AroundLemmas
-pub mod JoinedLemmas
+pub mod ConnectionLemmas
 pub mod ListLemmas
 pub mod ProcessLemmas
 pub mod StateLemmas

@@ -5,13 +5,13 @@ use Rattle.build_process.specs.Faulty.{NotesBody}
 use Rattle.build_process.specs.Made.{IsHeaded}
 use Rattle.build_process.specs.Meant.{IsBehaviour}
 use Rattle.build_process.specs.Refused.{IsRefused}
-use Rattle.build_process.specs.Surroundings.{Surroundings}
+use Rattle.build_process.specs.ProcessScope.{ProcessScope}
 use Rattle.build_process.specs.declared.heading.Heading.{Heading}
-use Rattle.build_faults.specs.Faults.{Told}
+use Rattle.build_faults.specs.Faults.{Diagnostic}
 use Rattle.build_context.specs.Headings.{IsHeading}
 use Rattle.build_context.specs.Processes.{IsMadeFrom}
-use Rattle.build_context.specs.Surroundings.{surroundings}
-use Rattle.build_context.specs.Survey.{Survey}
+use Rattle.build_context.specs.ProcessScope.{process_scope}
+use Rattle.build_context.specs.Context.{Context}
 use Rattle.sdl_system.specs.Behaviour.{Behaviour, Means}
 use Rattle.sdl_system.specs.Soundness.{Keeps}
 use Rattle.sdl_system.specs.declared.id.ProcessId.{ProcessId}
@@ -19,7 +19,8 @@ use Rattle.sdl_system.specs.declared.process.Process.{Process}
 
 -- ---- nothing is made
 
-pub not-made : {T E : Type 0} (result : Result T E) (P : T → Type 0) (Q : E → Type 0) → IsErrAnd result Q → IfOk result P
+pub not-made : {T E : Type 0} (result : Result T E) (P : T → Type 0) (Q : E → Type 0) → IsErrAnd result Q →
+    IfOk result P
 not-made (Ok made) P Q is = absurd is
 not-made (Err why) P Q is = tt
 
@@ -33,42 +34,42 @@ length-map f (x ∷ xs) = ap suc (length-map f xs)
 
 -- ---- one of them
 
-pub made-from : (survey : Survey) (number : ProcessId) (row : ProcessRow) (around : Surroundings) (heading : Heading)
-    (result : Option Process) → around ≡ surroundings survey number row.definition →
-    IsHeading survey number row heading → IfNone result (IsRefused around row.definition) →
+pub made-from : (context : Context) (number : ProcessId) (row : ProcessRow) (around : ProcessScope) (heading : Heading)
+    (result : Option Process) → around ≡ process_scope context number row.definition →
+    IsHeading context number row heading → IfNone result (IsRefused around row.definition) →
     IfSome result (IsHeaded heading) →
     IfSome result (λ process. (behaviour : Behaviour) → IsBehaviour around row.definition heading behaviour
     → Means process behaviour) →
     IfSome result (λ process. length heading.valid ≤ around.signals
-    → All (Keeps around.signals process) process.tables.items) → IsMadeFrom survey number row result
-made-from survey number row around heading None same said refused headed means keeps =
+    → All (Keeps around.signals process) process.tables.items) → IsMadeFrom context number row result
+made-from context number row around heading None same said refused headed means keeps =
     subst (λ a. IsRefused a row.definition) same refused
-made-from survey number row around heading (Some process) same said refused headed means keeps = record {
+made-from context number row around heading (Some process) same said refused headed means keeps = record {
   heading = heading;
   said = said;
   headed = headed;
   means = subst (λ a. (behaviour : Behaviour) → IsBehaviour a row.definition heading behaviour
       → Means process behaviour) same means;
-  keeps = subst (λ (a : Surroundings). length heading.valid ≤ a.signals
+  keeps = subst (λ (a : ProcessScope). length heading.valid ≤ a.signals
       → All (Keeps a.signals process) process.tables.items) same keeps (omega (arith, said.valid.size));
 }
 
-pub made-if : {E : Type 0} (survey : Survey) (number : ProcessId) (row : ProcessRow) (around : Surroundings)
-    (heading : Heading) (result : Result (Option Process) E) → around ≡ surroundings survey number row.definition →
-    IsHeading survey number row heading →
+pub made-if : {E : Type 0} (context : Context) (number : ProcessId) (row : ProcessRow) (around : ProcessScope)
+    (heading : Heading) (result : Result (Option Process) E) → around ≡ process_scope context number row.definition →
+    IsHeading context number row heading →
     IfOk result (λ made. IfNone made (IsRefused around row.definition)) →
     IfOk result (λ made. IfSome made (IsHeaded heading)) →
     IfOk result (λ made. IfSome made (λ process. (behaviour : Behaviour)
     → IsBehaviour around row.definition heading behaviour → Means process behaviour)) →
     IfOk result (λ made. IfSome made (λ process. length heading.valid ≤ around.signals
-    → All (Keeps around.signals process) process.tables.items)) → IfOk result (IsMadeFrom survey number row)
-made-if survey number row around heading (Ok made) same said refused headed means keeps =
-    made-from survey number row around heading made same said refused headed means keeps
-made-if survey number row around heading (Err why) same said refused headed means keeps = tt
+    → All (Keeps around.signals process) process.tables.items)) → IfOk result (IsMadeFrom context number row)
+made-if context number row around heading (Ok made) same said refused headed means keeps =
+    made-from context number row around heading made same said refused headed means keeps
+made-if context number row around heading (Err why) same said refused headed means keeps = tt
 
-pub noted-in : {A E : Type 0} (survey : Survey) (number : ProcessId) (row : ProcessRow) (around : Surroundings)
-    (old new : Option Told) (result : Result A E) → around ≡ surroundings survey number row.definition →
+pub noted-in : {A E : Type 0} (context : Context) (number : ProcessId) (row : ProcessRow) (around : ProcessScope)
+    (old new : Option Diagnostic) (result : Result A E) → around ≡ process_scope context number row.definition →
     OnOk result (NotesBody around row.definition old new) →
-    OnOk result (NotesBody (surroundings survey number row.definition) row.definition old new)
-noted-in survey number row around old new result same noted =
+    OnOk result (NotesBody (process_scope context number row.definition) row.definition old new)
+noted-in context number row around old new result same noted =
     subst (λ a. OnOk result (NotesBody a row.definition old new)) same noted

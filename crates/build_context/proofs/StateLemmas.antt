@@ -2,9 +2,9 @@
 use Rattle.std.proofs.Common.{◌≡◌, ◌∙◌, ◌||◌, ◌+◌, ◌++◌, ℕ, Bool, true, false, List, [], ◌∷◌, Option, Some, ap, bytes_eq, cond, fold, is_some, refl, sym, true≢false}
 use Rattle.std.specs.List.{list_any}
 use Rattle.std.proofs.lemmas.Slice.Eq.{bytes_eq-Decides}
-use Rattle.build_context.specs.Surroundings.{numbered_states}
-use Rattle.build_limits.specs.Limits.{different, is_same_text, with_new}
-use Rattle.build_limits.specs.Names.{first_of}
+use Rattle.build_context.specs.ProcessScope.{numbered_states}
+use Rattle.build_labels.specs.States.{different, is_same_text, with_new}
+use Rattle.build_scopes.specs.Names.{first_of}
 use Rattle.build_states.specs.States.{is_named}
 use Rattle.sdl_system.specs.declared.id.StateId.{StateId}
 use Rattle.sdl_tree.specs.Words.{Spot}

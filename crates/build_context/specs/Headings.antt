@@ -3,10 +3,10 @@ use Rattle.std.specs.Prelude.{◌≡◌, ◌<◌, ◌↔◌, ◌++◌, ℕ, ℤ,
 use Rattle.std.specs.Int.{FitsUnsignedBits}
 use Rattle.port_values.specs.declared.item.SignalId.{SignalId}
 use Rattle.port_values.specs.declared.value.Value.{Value}
-use Rattle.build_context.specs.Survey.{Survey}
+use Rattle.build_context.specs.Context.{Context}
 use Rattle.build_constants.specs.declared.counts.InstanceCounts.{InstanceCounts}
 use Rattle.build_definitions.specs.Rows.{ProcessRow, ValueRow}
-use Rattle.build_constants.specs.Figures.{all_initials, counts_at}
+use Rattle.build_constants.specs.ConstantTable.{all_initials, counts_at}
 use Rattle.build_process.specs.declared.heading.Heading.{Heading}
 use Rattle.route_table.specs.Valid.{IsValid}
 use Rattle.route_network.specs.declared.network.Process as network
@@ -75,18 +75,18 @@ IsMaximum (Some counts) maximum = IsBound counts.maximum maximum
 -- ---- valid input sets
 
 -- The set has a place for each signal, and just those of the network that are valid for the process.
-pub record IsValidSet (survey : Survey) (number : ProcessId) (set : List Bool) : Type 0 where
-  pub size : length set ≡ length survey.rows.signals
+pub record IsValidSet (context : Context) (number : ProcessId) (set : List Bool) : Type 0 where
+  pub size : length set ≡ length context.rows.signals
   pub members : (is : network.Process) (signal : SignalId)
-      → slice_get survey.network.processes.items number.0 ≡ Some is → signal.0 < survey.network.signals
-      → (is_member set signal ≡ true) ↔ IsValid survey.network number is signal
+      → slice_get context.network.processes.items number.0 ≡ Some is → signal.0 < context.network.signals
+      → (is_member set signal ≡ true) ↔ IsValid context.network number is signal
 
 -- what the heading of the process of this number says that has this row
-pub record IsHeading (survey : Survey) (number : ProcessId) (row : ProcessRow) (heading : Heading) : Type 0 where
+pub record IsHeading (context : Context) (number : ProcessId) (row : ProcessRow) (heading : Heading) : Type 0 where
   pub name : string_bytes heading.name ≡ row.definition.name.text
-  pub initial : IsInitial (counts_at survey.rows survey.declared survey.constants row) heading.initial
-  pub maximum : IsMaximum (counts_at survey.rows survey.declared survey.constants row) heading.maximum
+  pub initial : IsInitial (counts_at context.rows context.symbols context.constants row) heading.initial
+  pub maximum : IsMaximum (counts_at context.rows context.symbols context.constants row) heading.maximum
   pub parameters : heading.parameters ≡ length row.sorts
   pub variables : map variable_meaning heading.variables.items
-      ≡ variables_in number survey.rows.values (all_initials survey.rows survey.declared survey.constants)
-  pub valid : IsValidSet survey number heading.valid
+      ≡ variables_in number context.rows.values (all_initials context.rows context.symbols context.constants)
+  pub valid : IsValidSet context number heading.valid

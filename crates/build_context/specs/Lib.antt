@@ -1,6 +1,6 @@
 pub mod Around
+pub mod Context
 pub mod Headings
 pub mod Lists
+pub mod ProcessScope
 pub mod Processes
-pub mod Surroundings
-pub mod Survey

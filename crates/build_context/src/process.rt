@@ -1,25 +1,24 @@
 //! One process of a specification, in what stands around it.
 
 ghost use Rattle.std.specs.Prelude.{◌≡◌, slice_get, Some, IfOk, OnOk};
-ghost use Rattle.build_context.specs.Around.{AreKnown, survey_of};
+ghost use Rattle.build_context.specs.Around.{AreKnown, context_of};
 ghost use Rattle.build_context.specs.Processes.{IsMadeFrom};
 ghost use Rattle.build_context.specs.Headings.{IsHeading, IsValidSet};
-ghost use Rattle.build_context.specs.Surroundings.{surroundings, surroundings_with};
+ghost use Rattle.build_context.specs.ProcessScope.{process_scope, process_scope_with};
 ghost use Rattle.build_definitions.specs.Seen.{process_seen};
 ghost use Rattle.build_labels.specs.Labels.{names_listed};
 ghost use Rattle.build_process.specs.Faulty.{NotesBody};
-ghost use Rattle.build_process.specs.Surroundings.{surroundings_of};
-ghost use Rattle.build_faults.specs.Faults.{told};
+ghost use Rattle.build_process.specs.ProcessScope.{process_scope_of};
 
+use crate::connections::Connections;
 use crate::heading::variables_of;
-use crate::inside::Inside;
-use crate::joined::Joined;
 use crate::narrow::{initial_of, maximum_of};
-use build_constants::{Figures, scope_at};
-use build_definitions::{ProcessEntry, Tables};
+use crate::process_names::ProcessNames;
+use build_constants::{ConstantTable, scope_at};
+use build_definitions::{Definitions, ProcessEntry};
 use build_faults::Faults;
-use build_names::Declared;
-use build_process::{Heading, Surroundings, make_process};
+use build_names::SymbolTable;
+use build_process::{Heading, ProcessScope, make_process};
 use build_scopes::ScopeId;
 use build_states::NamedStates;
 use route_network::counted;
@@ -29,55 +28,75 @@ use std::alloc::{AllocError, Global};
 /// The process of this number, with this definition and this valid input set. Noted is what is broken in its body.
 pub fn process_at<'t>(
     alloc: Global,
-    tables: &Tables<'t>,
-    declared: &Declared<'_, 't>,
-    figures: &Figures,
-    joined: &Joined,
+    definitions: &Definitions<'t>,
+    symbols: &SymbolTable<'_, 't>,
+    constant_table: &ConstantTable,
+    connections: &Connections,
     number: ProcessId,
     entry: &ProcessEntry<'t>,
     valid: SignalSet,
     faults: &mut Faults<'t>,
 ) -> Result<Option<Process>, AllocError>
-    requires known { AreKnown tables.now declared.now figures.now joined.now }
-    requires listed { slice_get (survey_of tables.now declared.now figures.now joined.now).rows.processes number.0
-        ≡ Some (process_seen entry.now) }
-    requires valid { IsValidSet (survey_of tables.now declared.now figures.now joined.now) number valid }
-    ensures made { IfOk result (IsMadeFrom (survey_of tables.now declared.now figures.now joined.now) number
-        (process_seen entry.now)) }
+    requires known { AreKnown definitions.now symbols.now constant_table.now connections.now }
+    requires listed { slice_get (context_of definitions.now symbols.now constant_table.now
+        connections.now).rows.processes number.0 ≡ Some (process_seen entry.now) }
+    requires valid { IsValidSet (context_of definitions.now symbols.now constant_table.now connections.now) number
+        valid }
+    ensures made { IfOk result (IsMadeFrom (context_of definitions.now symbols.now constant_table.now connections.now)
+        number (process_seen entry.now)) }
     ensures noted { OnOk result (NotesBody
-        (surroundings (survey_of tables.now declared.now figures.now joined.now) number
+        (process_scope (context_of definitions.now symbols.now constant_table.now connections.now) number
         (process_seen entry.now).definition)
-        (process_seen entry.now).definition (told faults.old) (told faults.new)) }
+        (process_seen entry.now).definition faults.old faults.new) }
 {
     let heading = heading_of(
-        alloc, tables, declared, figures, joined, number, entry, valid,
+        alloc,
+        definitions,
+        symbols,
+        constant_table,
+        connections,
+        number,
+        entry,
+        valid,
     )?;
-    let inside = Inside::of(alloc, joined, number, entry.definition)?;
-    let within = surroundings(tables, declared, figures, joined, number, &inside);
+    let own = ProcessNames::of(alloc, connections, number, entry.definition)?;
+    let within = process_scope(
+        definitions,
+        symbols,
+        constant_table,
+        connections,
+        number,
+        &own,
+    );
     make_process(alloc, &within, heading, entry.definition, faults)
 }
 
 /// What the heading of the process says, and its variables.
 fn heading_of<'t>(
     alloc: Global,
-    tables: &Tables<'t>,
-    declared: &Declared<'_, 't>,
-    figures: &Figures,
-    joined: &Joined,
+    definitions: &Definitions<'t>,
+    symbols: &SymbolTable<'_, 't>,
+    constant_table: &ConstantTable,
+    connections: &Connections,
     number: ProcessId,
     entry: &ProcessEntry<'t>,
     valid: SignalSet,
 ) -> Result<Heading, AllocError>
-    requires known { AreKnown tables.now declared.now figures.now joined.now }
-    requires listed { slice_get (survey_of tables.now declared.now figures.now joined.now).rows.processes number.0
-        ≡ Some (process_seen entry.now) }
-    requires valid { IsValidSet (survey_of tables.now declared.now figures.now joined.now) number valid }
-    ensures { IfOk result (IsHeading (survey_of tables.now declared.now figures.now joined.now) number
+    requires known { AreKnown definitions.now symbols.now constant_table.now connections.now }
+    requires listed { slice_get (context_of definitions.now symbols.now constant_table.now
+        connections.now).rows.processes number.0 ≡ Some (process_seen entry.now) }
+    requires valid { IsValidSet (context_of definitions.now symbols.now constant_table.now connections.now) number
+        valid }
+    ensures { IfOk result (IsHeading (context_of definitions.now symbols.now constant_table.now connections.now) number
         (process_seen entry.now)) }
 {
-    let counts = figures.counts.get(number.0 as usize).copied().flatten();
+    let counts = constant_table
+        .counts
+        .get(number.0 as usize)
+        .copied()
+        .flatten();
     let parameters = counted(entry.sorts.len())?;
-    let variables = variables_of(alloc, number, &tables.values, &figures.initials)?;
+    let variables = variables_of(alloc, number, &definitions.values, &constant_table.initials)?;
     let name = String::from_str(alloc, entry.definition.name.text.as_str())?;
     Ok(Heading {
         name,
@@ -90,32 +109,32 @@ fn heading_of<'t>(
 }
 
 /// What the names in a process stand for, where it has this of its own.
-fn surroundings<'x, 's, 't>(
-    tables: &'x Tables<'t>,
-    declared: &'x Declared<'s, 't>,
-    figures: &'x Figures,
-    joined: &'x Joined,
+fn process_scope<'x, 's, 't>(
+    definitions: &'x Definitions<'t>,
+    symbols: &'x SymbolTable<'s, 't>,
+    constant_table: &'x ConstantTable,
+    connections: &'x Connections,
     number: ProcessId,
-    inside: &'x Inside<'t>,
-) -> Surroundings<'x, 's, 't>
-    requires known { AreKnown tables.now declared.now figures.now joined.now }
-    ensures around { surroundings_of result ≡ surroundings_with
-        (survey_of tables.now declared.now figures.now joined.now) number inside.now.states inside.now.labels
-        inside.now.reaches.items }
-    ensures names { names_listed result.states.names.now ≡ names_listed inside.now.names.items }
+    own: &'x ProcessNames<'t>,
+) -> ProcessScope<'x, 's, 't>
+    requires known { AreKnown definitions.now symbols.now constant_table.now connections.now }
+    ensures around { process_scope_of result ≡ process_scope_with
+        (context_of definitions.now symbols.now constant_table.now connections.now) number own.now.states own.now.labels
+        own.now.reaches.items }
+    ensures names { names_listed result.states.names.now ≡ names_listed own.now.names.items }
 {
-    let path = tables.path_of(ScopeId::Process(number));
-    Surroundings {
-        scope: scope_at(declared, &figures.constants, path),
-        lists: declared.lists.outward(path),
-        members: &joined.members,
+    let path = definitions.path_of(ScopeId::Process(number));
+    ProcessScope {
+        scope: scope_at(symbols, &constant_table.constants, path),
+        lists: symbols.lists.outward(path),
+        members: &connections.members,
         states: NamedStates {
-            names: &inside.names,
-            table: &inside.states,
+            names: &own.names,
+            table: &own.states,
         },
-        labels: &inside.labels,
-        reaches: &inside.reaches,
-        durations: &figures.durations,
-        signals: joined.network.signals,
+        labels: &own.labels,
+        reaches: &own.reaches,
+        durations: &constant_table.durations,
+        signals: connections.network.signals,
     }
 }

@@ -1,7 +1,7 @@
 //! Which signals reach a receiver from a process.
 
 ghost use Rattle.std.specs.Prelude.{◌≡◌, IfOk};
-ghost use Rattle.build_context.specs.Surroundings.{is_reaching, reaching};
+ghost use Rattle.build_context.specs.ProcessScope.{is_reaching, reaching};
 
 use port_values::SignalId;
 use sdl_system::{ProcessId, Routes, Source};

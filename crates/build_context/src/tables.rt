@@ -2,12 +2,12 @@
 
 ghost use Rattle.std.specs.Prelude.{◌≡◌, IfOk};
 ghost use Rattle.build_transitions.specs.Numbered.{numbered};
-ghost use Rattle.build_context.specs.Surroundings.{numbered_states};
+ghost use Rattle.build_context.specs.ProcessScope.{numbered_states};
 ghost use Rattle.build_labels.specs.Labels.{names_listed};
 
 use build_definitions::next_number;
 use build_faults::Faults;
-use build_limits::Names;
+use build_scopes::Names;
 use sdl_system::{LabelId, StateId};
 use sdl_tree::Name;
 use std::alloc::{AllocError, Global};

@@ -6,8 +6,8 @@ use Rattle.build_definitions.specs.Parts.{OfBlock, OfChannel, OfConnection, OfPa
 use Rattle.build_definitions.specs.Sorts.{sort_at, unknown_sort}
 use Rattle.build_faults.proofs.FaultLemmas.{each-if, each-of, in-each, in-if}
 use Rattle.build_faults.specs.FaultLaws.{Each, In}
-use Rattle.build_faults.specs.Faults.{Told, told_at}
-use Rattle.build_faults.specs.declared.fault.Kind.TheVariants.{Unknown}
+use Rattle.build_faults.specs.Faults.{Diagnostic, diagnostic_at}
+use Rattle.build_faults.specs.declared.fault.Rule.TheVariants.{Unknown}
 use Rattle.build_expressions.proofs.ListedLaws.{each-weaker}
 use Rattle.sdl_system.specs.declared.sort.Sort.{Sort}
 use Rattle.sdl_tree.specs.Tree.{Tree}
@@ -32,7 +32,7 @@ no-sort part name named =
       told = refl;
     })
 
-unknown-listed : (name : Spot) → sort_at name ≡ None → In (told_at Unknown name) (unknown_sort name)
+unknown-listed : (name : Spot) → sort_at name ≡ None → In (diagnostic_at Unknown name) (unknown_sort name)
 unknown-listed name none = in-if (not (is_some (sort_at name))) Unknown name (is-none (sort_at name) none)
 
 -- ---- one definition
@@ -59,20 +59,20 @@ each-unknown (OfParameters group) = no-sort (OfParameters group) group.sort (way
 each-unknown (OfVariables group) = no-sort (OfVariables group) group.sort (way.of_variables group refl)
 
 named-listed : (part : Part) (name : Spot) → NamesSort name part → sort_at name ≡ None →
-    In (told_at Unknown name) (sort_faults part)
+    In (diagnostic_at Unknown name) (sort_faults part)
 named-listed part name (way.of_a_signal signals signal at here) none =
-    in-each (told_at Unknown name) signal_sort_faults signals signal at
-    (in-each (told_at Unknown name) unknown_sort signal.sorts name here (unknown-listed name none))
+    in-each (diagnostic_at Unknown name) signal_sort_faults signals signal at
+    (in-each (diagnostic_at Unknown name) unknown_sort signal.sorts name here (unknown-listed name none))
 named-listed part name (way.of_a_timer timers timer at here) none =
-    in-each (told_at Unknown name) timer_sort_faults timers timer at
-    (in-each (told_at Unknown name) unknown_sort timer.sorts name here (unknown-listed name none))
+    in-each (diagnostic_at Unknown name) timer_sort_faults timers timer at
+    (in-each (diagnostic_at Unknown name) unknown_sort timer.sorts name here (unknown-listed name none))
 named-listed part name (way.of_a_synonym synonyms synonym at same) none =
-    in-each (told_at Unknown name) synonym_sort_faults synonyms synonym at
-    (subst (λ sort. In (told_at Unknown name) (unknown_sort sort)) same (unknown-listed name none))
+    in-each (diagnostic_at Unknown name) synonym_sort_faults synonyms synonym at
+    (subst (λ sort. In (diagnostic_at Unknown name) (unknown_sort sort)) same (unknown-listed name none))
 named-listed part name (way.of_parameters group same) none =
-    subst (λ sort. In (told_at Unknown name) (unknown_sort sort)) same (unknown-listed name none)
+    subst (λ sort. In (diagnostic_at Unknown name) (unknown_sort sort)) same (unknown-listed name none)
 named-listed part name (way.of_variables group same) none =
-    subst (λ sort. In (told_at Unknown name) (unknown_sort sort)) same (unknown-listed name none)
+    subst (λ sort. In (diagnostic_at Unknown name) (unknown_sort sort)) same (unknown-listed name none)
 
 -- ---- a specification
 
@@ -82,7 +82,7 @@ listed-broken tree =
     each-weaker (NamesNoSort placed.part) (IsUnknownSort tree) (sort_faults placed.part)
     (λ fault is. record { placed = placed; in_tree = at; broken = is }) (each-unknown placed.part))
 
-pub broken-listed : (tree : Tree) (fault : Told) → IsUnknownSort tree fault → In fault (all_sort_faults tree)
+pub broken-listed : (tree : Tree) (fault : Diagnostic) → IsUnknownSort tree fault → In fault (all_sort_faults tree)
 broken-listed tree fault is =
     in-each fault placed_sort_faults (parts_in tree) is.placed is.in_tree
     (subst (λ f. In f (sort_faults is.placed.part)) (sym is.broken.told)

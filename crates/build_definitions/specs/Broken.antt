@@ -3,8 +3,8 @@ use Rattle.std.specs.Prelude.{◌≡◌, List, None}
 use Rattle.build_definitions.specs.Parts.{OfParameters, OfSignals, OfSynonyms, OfTimers, OfVariables, Part, Placed, all_sort_faults, parts_in}
 use Rattle.build_definitions.specs.Sorts.{sort_at}
 use Rattle.build_faults.specs.FaultLaws.{Each, In}
-use Rattle.build_faults.specs.Faults.{Told, told_at}
-use Rattle.build_faults.specs.declared.fault.Kind.TheVariants.{Unknown}
+use Rattle.build_faults.specs.Faults.{Diagnostic, diagnostic_at}
+use Rattle.build_faults.specs.declared.fault.Rule.TheVariants.{Unknown}
 use Rattle.sdl_tree.specs.Tree.{ParameterGroup, SignalDefinition, SynonymDefinition, TimerDefinition, Tree, VariableGroup}
 use Rattle.sdl_tree.specs.Words.{Spot}
 
@@ -23,14 +23,14 @@ pub data NamesSort (name : Spot) : Part → Type 0 where
   of_variables : (group : VariableGroup) → name ≡ group.sort → NamesSort name (OfVariables group)
 
 -- so it does at a word that is no sort's
-pub record NamesNoSort (part : Part) (fault : Told) : Type 0 where
+pub record NamesNoSort (part : Part) (fault : Diagnostic) : Type 0 where
   pub name : Spot
   pub named : NamesSort name part
   pub no_sort : sort_at name ≡ None
-  pub told : fault ≡ told_at Unknown name
+  pub told : fault ≡ diagnostic_at Unknown name
 
 -- a definition of the specification does
-pub record IsUnknownSort (tree : Tree) (fault : Told) : Type 0 where
+pub record IsUnknownSort (tree : Tree) (fault : Diagnostic) : Type 0 where
   pub placed : Placed
   pub in_tree : In placed (parts_in tree)
   pub broken : NamesNoSort placed.part fault
@@ -40,4 +40,4 @@ abbrev pub ListedBroken : Type 0
 ListedBroken = (tree : Tree) → Each (IsUnknownSort tree) (all_sort_faults tree)
 
 abbrev pub BrokenListed : Type 0
-BrokenListed = (tree : Tree) (fault : Told) → IsUnknownSort tree fault → In fault (all_sort_faults tree)
+BrokenListed = (tree : Tree) (fault : Diagnostic) → IsUnknownSort tree fault → In fault (all_sort_faults tree)

@@ -3,5 +3,5 @@ pub mod Parts
 pub mod Rows
 pub mod Seen
 pub mod Sorts
-pub mod Tables
+pub mod Definitions
 pub mod Views

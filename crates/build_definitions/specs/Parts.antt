@@ -1,8 +1,8 @@
--- The definitions of a specification in the order of the text, each with the scope that it stands in. Blocks and processes are
--- numbered from 0, each kind for itself, and what stands within one follows it.
+-- The definitions of a specification in the order of the text, each with the scope that it stands in. Blocks and
+-- processes are numbered from 0, each kind for itself, and what stands within one follows it.
 use Rattle.std.specs.Prelude.{ℕ, ◌+◌, ◌++◌, List, [], ◌∷◌, Option, None, Some, flat_map}
 use Rattle.build_definitions.specs.Sorts.{unknown_sort, unknown_sorts}
-use Rattle.build_faults.specs.Faults.{Told}
+use Rattle.build_faults.specs.Faults.{Diagnostic}
 use Rattle.build_scopes.specs.declared.scope.ScopeId.{ScopeId}
 use Rattle.build_scopes.specs.declared.scope.ScopeId.TheVariants as scope
 use Rattle.sdl_system.specs.declared.id.BlockId.{BlockId}
@@ -118,17 +118,17 @@ parts_in tree = all_parts 0 0 tree.definitions
 
 -- ---- sorts that are none
 
-abbrev pub signal_sort_faults : SignalDefinition → List Told
+abbrev pub signal_sort_faults : SignalDefinition → List Diagnostic
 signal_sort_faults signal = unknown_sorts signal.sorts
 
-abbrev pub timer_sort_faults : TimerDefinition → List Told
+abbrev pub timer_sort_faults : TimerDefinition → List Diagnostic
 timer_sort_faults timer = unknown_sorts timer.sorts
 
-abbrev pub synonym_sort_faults : SynonymDefinition → List Told
+abbrev pub synonym_sort_faults : SynonymDefinition → List Diagnostic
 synonym_sort_faults synonym = unknown_sort synonym.sort
 
 -- Unknown at each name of a definition that stands for a sort and is none's
-abbrev pub sort_faults : Part → List Told
+abbrev pub sort_faults : Part → List Diagnostic
 sort_faults (OfBlock number definition) = []
 sort_faults (OfProcess number definition) = []
 sort_faults (OfChannel definition) = []
@@ -141,9 +141,9 @@ sort_faults (OfSignalSet definition) = []
 sort_faults (OfParameters group) = unknown_sort group.sort
 sort_faults (OfVariables group) = unknown_sort group.sort
 
-abbrev pub placed_sort_faults : Placed → List Told
+abbrev pub placed_sort_faults : Placed → List Diagnostic
 placed_sort_faults placed = sort_faults placed.part
 
 -- in a whole specification
-abbrev pub all_sort_faults : Tree → List Told
+abbrev pub all_sort_faults : Tree → List Diagnostic
 all_sort_faults tree = flat_map placed_sort_faults (parts_in tree)

@@ -5,7 +5,7 @@ use Rattle.build_definitions.specs.Sorts.{sort_at}
 use Rattle.build_definitions.specs.declared.entries.Agent.{Agent}
 use Rattle.build_definitions.specs.declared.entries.Agent.TheVariants as agent
 use Rattle.build_labels.specs.Labels.{process_labels}
-use Rattle.build_limits.specs.Limits.{different, state_names}
+use Rattle.build_labels.specs.States.{different, state_names}
 use Rattle.build_expressions.specs.declared.scope.ValueEntry.{ValueEntry}
 use Rattle.build_expressions.specs.declared.scope.ValueEntry.TheVariants as entry
 use Rattle.build_scopes.specs.declared.scope.ScopeId.{ScopeId}

@@ -1,8 +1,8 @@
 -- The names of sorts (Z.104: predefined sorts).
 use Rattle.std.specs.Prelude.{ℕ, List, Option, None, Some, codes, flat_map, is_some, not, if◌then◌else◌}
 use Rattle.std.specs.Str.{bytes_eq}
-use Rattle.build_faults.specs.Faults.{Told, fault_if}
-use Rattle.build_faults.specs.declared.fault.Kind.TheVariants.{Unknown}
+use Rattle.build_faults.specs.Faults.{Diagnostic, fault_if}
+use Rattle.build_faults.specs.declared.fault.Rule.TheVariants.{Unknown}
 use Rattle.sdl_system.specs.declared.sort.Sort.{Sort}
 use Rattle.sdl_system.specs.declared.sort.Sort.TheVariants.{Boolean, Integer, Natural, Pid, Time, Duration}
 use Rattle.sdl_tree.specs.Words.{Spot}
@@ -24,8 +24,8 @@ abbrev pub sort_at : Spot → Option Sort
 sort_at name = sort_named name.text
 
 -- Unknown at a name that is no sort's
-abbrev pub unknown_sort : Spot → List Told
+abbrev pub unknown_sort : Spot → List Diagnostic
 unknown_sort name = fault_if (not (is_some (sort_at name))) Unknown name
 
-abbrev pub unknown_sorts : List Spot → List Told
+abbrev pub unknown_sorts : List Spot → List Diagnostic
 unknown_sorts names = flat_map unknown_sort names

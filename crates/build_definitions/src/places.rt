@@ -5,7 +5,7 @@ ghost use Rattle.build_definitions.specs.Rows.{label_rows, placed_labels, placed
 ghost use Rattle.build_definitions.specs.Seen.{label_seen, state_seen};
 ghost use Rattle.build_definitions.specs.Views.{placed_value};
 ghost use Rattle.build_labels.specs.Labels.{names_listed, process_labels};
-ghost use Rattle.build_limits.specs.Limits.{different, state_names};
+ghost use Rattle.build_labels.specs.States.{different, state_names};
 ghost use Rattle.sdl_tree.specs.Views.{process_value};
 
 use crate::enter::enter;

@@ -4,12 +4,12 @@ ghost use Rattle.std.specs.Prelude.{◌≡◌, flat_map, map, IfOk};
 ghost use Rattle.build_definitions.specs.Parts.{placed_sort_faults, signal_sort_faults, sort_faults, synonym_sort_faults, timer_sort_faults};
 ghost use Rattle.build_definitions.specs.Sorts.{sort_at, sort_named, unknown_sort, unknown_sorts};
 ghost use Rattle.build_definitions.specs.Views.{part_value, parts_listed};
-ghost use Rattle.build_faults.specs.Faults.{least_of, told};
+ghost use Rattle.build_faults.specs.Faults.{Notes};
 ghost use Rattle.sdl_tree.specs.Views.{signal_value, sort_value, sorts_value, synonym_value, timer_value};
 
 use crate::enter::enter;
 use crate::part::{Part, Placed};
-use build_faults::{Faults, Kind, Token};
+use build_faults::{Faults, Rule, Token};
 use sdl_system::Sort;
 use sdl_tree::{SignalDefinition, SortName, SynonymDefinition, TimerDefinition};
 use std::alloc::{AllocError, Global};
@@ -57,16 +57,16 @@ pub fn sorts_at(alloc: Global, names: &[SortName]) -> Result<Vec<Option<Sort>>, 
 
 /// Notes a name that is no sort's.
 pub fn note_sort<'t>(name: &'t SortName, faults: &mut Faults<'t>)
-    ensures { told faults.new ≡ least_of (told faults.old) (unknown_sort (sort_value name.now)) }
+    ensures { Notes faults.old faults.new (unknown_sort (sort_value name.now)) }
 {
     if sort_at(name).is_none() {
-        faults.note(Kind::Unknown, Token::of_name(&name.spelled));
+        faults.note(Rule::Unknown, Token::of_name(&name.spelled));
     }
 }
 
 /// Notes the names that are no sort's.
 pub fn note_sorts<'t>(names: &'t [SortName], faults: &mut Faults<'t>)
-    ensures { told faults.new ≡ least_of (told faults.old) (unknown_sorts (sorts_value names.now)) }
+    ensures { Notes faults.old faults.new (unknown_sorts (sorts_value names.now)) }
 {
     for name in names {
         note_sort(name, faults);
@@ -75,7 +75,7 @@ pub fn note_sorts<'t>(names: &'t [SortName], faults: &mut Faults<'t>)
 
 /// Notes the names in these definitions that stand for sorts and are none's.
 pub fn note_in_parts<'t>(parts: &[Placed<'t>], faults: &mut Faults<'t>)
-    ensures { told faults.new ≡ least_of (told faults.old) (flat_map placed_sort_faults (parts_listed parts.now)) }
+    ensures { Notes faults.old faults.new (flat_map placed_sort_faults (parts_listed parts.now)) }
 {
     for placed in parts {
         note_in_part(placed.part, faults);
@@ -83,7 +83,7 @@ pub fn note_in_parts<'t>(parts: &[Placed<'t>], faults: &mut Faults<'t>)
 }
 
 fn note_in_part<'t>(part: Part<'t>, faults: &mut Faults<'t>)
-    ensures { told faults.new ≡ least_of (told faults.old) (sort_faults (part_value part.entry)) }
+    ensures { Notes faults.old faults.new (sort_faults (part_value part.entry)) }
 {
     match part {
         Part::Signals(signals) => note_in_signals(signals, faults),
@@ -96,8 +96,7 @@ fn note_in_part<'t>(part: Part<'t>, faults: &mut Faults<'t>)
 }
 
 fn note_in_signals<'t>(signals: &'t [SignalDefinition], faults: &mut Faults<'t>)
-    ensures { told faults.new ≡ least_of (told faults.old)
-        (flat_map signal_sort_faults (map signal_value signals.now)) }
+    ensures { Notes faults.old faults.new (flat_map signal_sort_faults (map signal_value signals.now)) }
 {
     for signal in signals {
         note_sorts(&signal.sorts, faults);
@@ -105,7 +104,7 @@ fn note_in_signals<'t>(signals: &'t [SignalDefinition], faults: &mut Faults<'t>)
 }
 
 fn note_in_timers<'t>(timers: &'t [TimerDefinition], faults: &mut Faults<'t>)
-    ensures { told faults.new ≡ least_of (told faults.old) (flat_map timer_sort_faults (map timer_value timers.now)) }
+    ensures { Notes faults.old faults.new (flat_map timer_sort_faults (map timer_value timers.now)) }
 {
     for timer in timers {
         note_sorts(&timer.sorts, faults);
@@ -113,8 +112,7 @@ fn note_in_timers<'t>(timers: &'t [TimerDefinition], faults: &mut Faults<'t>)
 }
 
 fn note_in_synonyms<'t>(synonyms: &'t [SynonymDefinition], faults: &mut Faults<'t>)
-    ensures { told faults.new ≡ least_of (told faults.old)
-        (flat_map synonym_sort_faults (map synonym_value synonyms.now)) }
+    ensures { Notes faults.old faults.new (flat_map synonym_sort_faults (map synonym_value synonyms.now)) }
 {
     for synonym in synonyms {
         note_sort(&synonym.sort, faults);

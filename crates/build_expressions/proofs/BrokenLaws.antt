@@ -4,12 +4,12 @@ use Rattle.std.proofs.lemmas.Bool.{eqb-true, eqb-false}
 use Rattle.std.proofs.lemmas.List.{length-map}
 use Rattle.build_faults.proofs.FaultLemmas.{in-each, in-if, in-left, in-right}
 use Rattle.build_faults.specs.FaultLaws.{In}
-use Rattle.build_faults.specs.Faults.{Told, told_at, mark_word}
-use Rattle.build_faults.specs.declared.fault.Kind.TheVariants.{Unknown, Sort}
+use Rattle.build_faults.specs.Faults.{Diagnostic, diagnostic_at, mark_word}
+use Rattle.build_faults.specs.declared.fault.Rule.TheVariants.{Unknown, Sort}
 use Rattle.build_expressions.specs.Broken.{BreaksPlaces, InLinks, InValues, IsBroken, IsBrokenAt, IsBrokenIn, IsNoTimer, IsOperation, Within, append_links}
 use Rattle.build_expressions.specs.Broken as broken
 use Rattle.build_expressions.specs.Contexts.{allows_instance, allows_word}
-use Rattle.build_operators.specs.Kinds.{fits, result_of, unary_result_of}
+use Rattle.build_operators.specs.OperandSorts.{fits, result_of, unary_result_of}
 use Rattle.build_expressions.specs.Misused.{active_faults, binary_faults, expression_faults, fault_of_place, links_faults, list_faults, misplaced, name_faults, place_faults, places_faults, timer_faults, unary_faults, values_faults}
 use Rattle.build_expressions.specs.Scope.{Scope, SignalMeaning, signal_in}
 use Rattle.build_expressions.specs.Typing.{Typed, argument_in, arguments_in, binary_typed, chain_typed, typed_in}
@@ -30,33 +30,37 @@ in-misplaced : (context : Context) (scope : Scope) (before : List Expr) (value :
     (places_before : List (Option sorts.Sort)) (sort : sorts.Sort) (places_after : List (Option sorts.Sort)) →
     length before ≡ length places_before → (typed : Typed) → typed_in context scope value ≡ Some typed →
     fits typed.kind sort ≡ false →
-    In (told_at Sort (first_word value)) (misplaced (places_before ++ Some sort ∷ places_after)
+    In (diagnostic_at Sort (first_word value)) (misplaced (places_before ++ Some sort ∷ places_after)
     (map (argument_in context scope) (before ++ value ∷ after)))
 in-misplaced context scope [] value after [] sort places_after same typed is differs =
-    subst (λ found. In (told_at Sort (first_word value)) (fault_of_place (Some sort) (first_word value) found
+    subst (λ found. In (diagnostic_at Sort (first_word value)) (fault_of_place (Some sort) (first_word value) found
     ++ misplaced places_after (map (argument_in context scope) after))) (sym is)
-    (in-left (told_at Sort (first_word value)) (fault_of_place (Some sort) (first_word value) (Some typed))
+    (in-left (diagnostic_at Sort (first_word value)) (fault_of_place (Some sort) (first_word value) (Some typed))
     (misplaced places_after (map (argument_in context scope) after))
     (in-if (not (fits typed.kind sort)) Sort (first_word value) (ap not differs)))
 in-misplaced context scope [] value after (place ∷ places_before) sort places_after same typed is differs =
     absurd (let never : ⊥ = cc in never)
 in-misplaced context scope (other ∷ before) value after [] sort places_after same typed is differs =
     absurd (let never : ⊥ = cc in never)
-in-misplaced context scope (other ∷ before) value after (place ∷ places_before) sort places_after same typed is differs =
-    in-right (told_at Sort (first_word value)) (fault_of_place place (first_word other) (typed_in context scope other))
+in-misplaced context scope (other ∷ before) value after (place ∷ places_before) sort places_after same typed is
+    differs =
+    in-right (diagnostic_at Sort (first_word value))
+    (fault_of_place place (first_word other) (typed_in context scope other))
     (misplaced (places_before ++ Some sort ∷ places_after) (map (argument_in context scope) (before ++ value ∷ after)))
-    (in-misplaced context scope before value after places_before sort places_after (let e : _ = cc in e) typed is differs)
+    (in-misplaced context scope before value after places_before sort places_after (let e : _ = cc in e) typed is
+    differs)
 
 -- which of the two the faults are
-abbrev counted_faults : Bool → Spot → List Told → List Told
-counted_faults counted name faults = if counted then faults else told_at Sort name ∷ []
+abbrev counted_faults : Bool → Spot → List Diagnostic → List Diagnostic
+counted_faults counted name faults = if counted then faults else diagnostic_at Sort name ∷ []
 
-in-uncounted : (counted : Bool) (name : Spot) (faults : List Told) → counted ≡ false →
-    In (told_at Sort name) (counted_faults counted name faults)
+in-uncounted : (counted : Bool) (name : Spot) (faults : List Diagnostic) → counted ≡ false →
+    In (diagnostic_at Sort name) (counted_faults counted name faults)
 in-uncounted true name faults is = cc
 in-uncounted false name faults is = inl refl
 
-in-counted : (counted : Bool) (name : Spot) (faults : List Told) (fault : Told) → counted ≡ true → In fault faults →
+in-counted : (counted : Bool) (name : Spot) (faults : List Diagnostic) (fault : Diagnostic) → counted ≡ true →
+    In fault faults →
     In fault (counted_faults counted name faults)
 in-counted true name faults fault is at = at
 in-counted false name faults fault is at = cc
@@ -69,8 +73,9 @@ eqb-other : (n m : ℕ) (counted : Bool) → (n == m) ≡ counted → (n ≡ m �
 eqb-other n m true is other = absurd (other (eqb-true n m is))
 eqb-other n m false is other = refl
 
-pub in-places : (context : Context) (scope : Scope) (name : Spot) (places : List (Option sorts.Sort)) (values : List Expr)
-    (fault : Told) → BreaksPlaces context scope name places values fault →
+pub in-places : (context : Context) (scope : Scope) (name : Spot) (places : List (Option sorts.Sort))
+    (values : List Expr)
+    (fault : Diagnostic) → BreaksPlaces context scope name places values fault →
     In fault (places_faults name places (map (argument_in context scope) values))
 in-places context scope name places values fault (broken.count other) =
     in-uncounted (length (map (argument_in context scope) values) == length places) name
@@ -79,12 +84,13 @@ in-places context scope name places values fault (broken.count other) =
     (λ same. other (sym (length-map values (argument_in context scope)) ∙ same)))
 in-places context scope name places values fault (broken.misfit value same at) =
     in-counted (length (map (argument_in context scope) values) == length places) name
-    (misplaced places (map (argument_in context scope) values)) (told_at Sort (first_word value))
+    (misplaced places (map (argument_in context scope) values)) (diagnostic_at Sort (first_word value))
     (eqb-same _ _ (length (map (argument_in context scope) values) == length places) refl
     (length-map values (argument_in context scope) ∙ same))
-    (subst (λ list. In (told_at Sort (first_word value)) (misplaced list (map (argument_in context scope) values)))
+    (subst (λ list. In (diagnostic_at Sort (first_word value))
+    (misplaced list (map (argument_in context scope) values)))
     (sym at.places_are)
-    (subst (λ list. In (told_at Sort (first_word value))
+    (subst (λ list. In (diagnostic_at Sort (first_word value))
     (misplaced (at.places_before ++ Some at.sort ∷ at.places_after) (map (argument_in context scope) list)))
     (sym at.values_are)
     (in-misplaced context scope at.before value at.after at.places_before at.sort at.places_after at.same_place
@@ -94,7 +100,8 @@ in-places context scope name places values fault (broken.misfit value same at) =
 
 module _ (context : Context) (scope : Scope) where
   mutual
-    kept : {part whole : Expr} → Within part whole → (fault : Told) → In fault (expression_faults context scope part) →
+    kept : {part whole : Expr} → Within part whole → (fault : Diagnostic) →
+        In fault (expression_faults context scope part) →
         In fault (expression_faults context scope whole)
     kept broken.itself fault at = at
     kept (broken.in_parentheses inner) fault at = kept inner fault at
@@ -113,7 +120,7 @@ module _ (context : Context) (scope : Scope) where
         in-right fault (active_faults context word) (values_faults context scope values ++ timers)
         (in-left fault (values_faults context scope values) timers (kept-values inner fault at))
 
-    kept-links : {part : Expr} {links : Links} → InLinks part links → (left : Option Typed) (fault : Told) →
+    kept-links : {part : Expr} {links : Links} → InLinks part links → (left : Option Typed) (fault : Diagnostic) →
         In fault (expression_faults context scope part) → In fault (links_faults context scope left links)
     kept-links (broken.this_operand {part} {operand} {operator} {word} {rest} inner) left fault at =
         let right = typed_in context scope operand in
@@ -127,7 +134,7 @@ module _ (context : Context) (scope : Scope) where
         (links_faults context scope (binary_typed operator left right) rest)
         (kept-links inner (binary_typed operator left right) fault at)
 
-    kept-values : {part : Expr} {values : Exprs} → InValues part values → (fault : Told) →
+    kept-values : {part : Expr} {values : Exprs} → InValues part values → (fault : Diagnostic) →
         In fault (expression_faults context scope part) → In fault (values_faults context scope values)
     kept-values (broken.this_value {part} {value} {rest} inner) fault at =
         in-left fault (expression_faults context scope value) (values_faults context scope rest) (kept inner fault at)
@@ -135,8 +142,9 @@ module _ (context : Context) (scope : Scope) where
         in-right fault (expression_faults context scope value) (values_faults context scope rest)
         (kept-values inner fault at)
 
-  in-link : (left : Option Typed) (before : Links) (operator : Operator) (word : Spelling) (right : Expr) (after : Links)
-      (fault : Told) →
+  in-link : (left : Option Typed) (before : Links) (operator : Operator) (word : Spelling) (right : Expr)
+      (after : Links)
+      (fault : Diagnostic) →
       In fault (binary_faults operator word (chain_typed context scope left before) (typed_in context scope right)) →
       In fault (links_faults context scope left (append_links before (AndLink operator word right after)))
   in-link left NoLink operator word right after fault at =
@@ -153,11 +161,11 @@ module _ (context : Context) (scope : Scope) where
   -- ---- each rule
 
   in-no_timer : (name : Spot) (found : Option SignalMeaning) (values : Exprs) → IsNoTimer found →
-      In (told_at Unknown name) (timer_faults name found (arguments_in context scope values))
+      In (diagnostic_at Unknown name) (timer_faults name found (arguments_in context scope values))
   in-no_timer name found values broken.nothing = inl refl
   in-no_timer name found values (broken.a_signal number places) = inl refl
 
-  in-active : (word : Spelling) (name : Spot) (values : Exprs) (fault : Told) →
+  in-active : (word : Spelling) (name : Spot) (values : Exprs) (fault : Diagnostic) →
       In fault (timer_faults name (signal_in scope name.text) (arguments_in context scope values)) →
       In fault (expression_faults context scope (Active word name values))
   in-active word name values fault at =
@@ -169,9 +177,9 @@ module _ (context : Context) (scope : Scope) where
       (at : IsOperation whole left operator word right) → (first second : Typed) →
       typed_in context scope left ≡ Some first → typed_in context scope right ≡ Some second →
       result_of operator first.kind second.kind ≡ None →
-      In (told_at Sort (mark_word (operator_mark operator) word)) (expression_faults context scope whole)
+      In (diagnostic_at Sort (mark_word (operator_mark operator) word)) (expression_faults context scope whole)
   in-operation whole left operator word right at first second first_is second_is none =
-      let fault = told_at Sort (mark_word (operator_mark operator) word) in
+      let fault = diagnostic_at Sort (mark_word (operator_mark operator) word) in
       let links = append_links at.before (AndLink operator word right at.after) in
       kept at.within fault
       (in-right fault (expression_faults context scope at.first)
@@ -184,27 +192,28 @@ module _ (context : Context) (scope : Scope) where
       (in-if (is_none (result_of operator first.kind second.kind)) Sort (mark_word (operator_mark operator) word)
       (ap is_none none)))))))
 
-  pub broken-listed : (whole : Expr) (fault : Told) → IsBroken context scope whole fault →
+  pub broken-listed : (whole : Expr) (fault : Diagnostic) → IsBroken context scope whole fault →
       In fault (expression_faults context scope whole)
   broken-listed whole fault (broken.unknown name at is) =
-      kept at (told_at Unknown name)
-      (subst (λ found. In (told_at Unknown name) (name_faults context name found)) (sym is) (inl refl))
+      kept at (diagnostic_at Unknown name)
+      (subst (λ found. In (diagnostic_at Unknown name) (name_faults context name found)) (sym is) (inl refl))
   broken-listed whole fault (broken.variable name number sort at is differs) =
-      kept at (told_at Sort name)
-      (subst (λ found. In (told_at Sort name) (name_faults context name found)) (sym is)
+      kept at (diagnostic_at Sort name)
+      (subst (λ found. In (diagnostic_at Sort name) (name_faults context name found)) (sym is)
       (in-if (not (allows_instance context)) Sort name (ap not differs)))
   broken-listed whole fault (broken.keyword value word at differs) =
-      kept at (told_at Sort (mark_word (value_mark value) word))
+      kept at (diagnostic_at Sort (mark_word (value_mark value) word))
       (in-if (not (allows_word context value)) Sort (mark_word (value_mark value) word) (ap not differs))
   broken-listed whole fault (broken.active word name values at differs) =
       let timers = timer_faults name (signal_in scope name.text) (arguments_in context scope values) in
-      kept at (told_at Sort (mark_word mark.Active word))
-      (in-left (told_at Sort (mark_word mark.Active word)) (active_faults context word)
+      kept at (diagnostic_at Sort (mark_word mark.Active word))
+      (in-left (diagnostic_at Sort (mark_word mark.Active word)) (active_faults context word)
       (values_faults context scope values ++ timers)
       (in-if (not (allows_instance context)) Sort (mark_word mark.Active word) (ap not differs)))
   broken-listed whole fault (broken.no_timer word name values at none) =
-      kept at (told_at Unknown name)
-      (in-active word name values (told_at Unknown name) (in-no_timer name (signal_in scope name.text) values none))
+      kept at (diagnostic_at Unknown name)
+      (in-active word name values (diagnostic_at Unknown name)
+      (in-no_timer name (signal_in scope name.text) values none))
   broken-listed whole fault (broken.timer_values word name values at meaning told breaks) =
       kept at told (in-active word name values told
       (subst (λ found. In told (timer_faults name found (arguments_in context scope values))) (sym meaning.meant)
@@ -212,7 +221,7 @@ module _ (context : Context) (scope : Scope) where
       (sym (arguments_in-listed context scope values))
       (in-places context scope name meaning.places (exprs_in values) told breaks))))
   broken-listed whole fault (broken.unary operator word operand at typed is none) =
-      let told = told_at Sort (mark_word (unary_mark operator) word) in
+      let told = diagnostic_at Sort (mark_word (unary_mark operator) word) in
       kept at told
       (in-right told (expression_faults context scope operand)
       (unary_faults operator word (typed_in context scope operand))
@@ -222,13 +231,14 @@ module _ (context : Context) (scope : Scope) where
   broken-listed whole fault (broken.binary left operator word right at first second first_is second_is none) =
       in-operation whole left operator word right at first second first_is second_is none
 
-pub broken-listed-at : (context : Context) (scope : Scope) (place : Option sorts.Sort) (whole : Expr) (fault : Told) →
+pub broken-listed-at : (context : Context) (scope : Scope) (place : Option sorts.Sort) (whole : Expr)
+    (fault : Diagnostic) →
     IsBrokenAt context scope place whole fault → In fault (place_faults context scope place whole)
 broken-listed-at context scope place whole fault (broken.inside told is) =
     in-left told (expression_faults context scope whole)
     (fault_of_place place (first_word whole) (typed_in context scope whole)) (broken-listed context scope whole told is)
 broken-listed-at context scope place whole fault (broken.misfit sort place_is at) =
-    let told = told_at Sort (first_word whole) in
+    let told = diagnostic_at Sort (first_word whole) in
     in-right told (expression_faults context scope whole)
     (fault_of_place place (first_word whole) (typed_in context scope whole))
     (subst (λ p. In told (fault_of_place p (first_word whole) (typed_in context scope whole))) (sym place_is)
@@ -236,7 +246,7 @@ broken-listed-at context scope place whole fault (broken.misfit sort place_is at
     (in-if (not (fits at.typed.kind sort)) Sort (first_word whole) (ap not at.misfit))))
 
 pub broken-listed-in : (context : Context) (scope : Scope) (name : Spot) (places : List (Option sorts.Sort))
-    (values : List Expr) (fault : Told) → IsBrokenIn context scope name places values fault →
+    (values : List Expr) (fault : Diagnostic) → IsBrokenIn context scope name places values fault →
     In fault (list_faults context scope name places values)
 broken-listed-in context scope name places values fault (broken.inside told value at is) =
     in-left told (flat_map (expression_faults context scope) values)

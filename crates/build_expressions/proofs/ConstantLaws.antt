@@ -3,18 +3,18 @@ use Rattle.std.proofs.Common.{◌≡◌, ℤ, pos, negsuc, Bool, true, false, []
 use Rattle.port_values.specs.declared.value.Value.{Value}
 use Rattle.build_faults.proofs.FaultLemmas.{each-both, each-if, in-if, in-left, in-right}
 use Rattle.build_faults.specs.FaultLaws.{Each, In}
-use Rattle.build_faults.specs.Faults.{Told, fault_if, told_at}
-use Rattle.build_faults.specs.declared.fault.Kind.TheVariants.{BadCount}
+use Rattle.build_faults.specs.Faults.{Diagnostic, fault_if, diagnostic_at}
+use Rattle.build_faults.specs.declared.fault.Rule.TheVariants.{BadCount}
 use Rattle.build_expressions.specs.Broken.{IsBrokenAt, IsBrokenConstant, LacksValue, TakesKind}
 use Rattle.build_expressions.specs.Broken as broken
 use Rattle.build_expressions.specs.Constants.{constant_faults, counted_faults, is_miscounted, value_of}
-use Rattle.build_operators.specs.Kinds.{fits}
+use Rattle.build_operators.specs.OperandSorts.{fits}
 use Rattle.build_expressions.specs.Misused.{place_faults}
 use Rattle.build_expressions.specs.Scope.{Scope}
 use Rattle.build_expressions.specs.Typing.{Typed, is_taken, taken_in, typed_in}
 use Rattle.build_expressions.specs.Words.{first_word}
 use Rattle.build_expressions.specs.declared.context.Context.TheVariants.{Constant}
-use Rattle.build_operators.specs.declared.kind.Kind.{Kind}
+use Rattle.build_operators.specs.declared.operand_sort.OperandSort.{OperandSort}
 use Rattle.build_expressions.proofs.BrokenLaws.{broken-listed-at}
 use Rattle.build_expressions.proofs.ListedLaws.{each-weaker, listed-broken-at}
 use Rattle.sdl_system.specs.Operation.{number_of}
@@ -48,7 +48,7 @@ takes : (place : Option sorts.Sort) (typed : Typed) → is_taken place (Some typ
 takes None typed is = broken.any typed.kind
 takes (Some sort) typed is = broken.fitting sort typed.kind is
 
-taken : (place : Option sorts.Sort) (kind : Kind) (typed : Typed) → TakesKind place kind → kind ≡ typed.kind →
+taken : (place : Option sorts.Sort) (kind : OperandSort) (typed : Typed) → TakesKind place kind → kind ≡ typed.kind →
     is_taken place (Some typed) ≡ true
 taken place kind typed (broken.any k) same = refl
 taken place kind typed (broken.fitting sort k is) same = subst (λ x. fits x sort ≡ true) same is
@@ -85,7 +85,7 @@ module _ (scope : Scope) (place : Option sorts.Sort) (whole : Expr) where
 pub listed-broken-constant : (scope : Scope) (place : Option sorts.Sort) (whole : Expr) →
     Each (IsBrokenConstant scope place whole) (constant_faults scope place whole)
 listed-broken-constant scope place whole =
-    let P : Told → Type 0 = IsBrokenConstant scope place whole in
+    let P : Diagnostic → Type 0 = IsBrokenConstant scope place whole in
     each-both P (place_faults Constant scope place whole)
     (counted_faults place (first_word whole) (taken_in place (typed_in Constant scope whole)))
     (each-weaker (IsBrokenAt Constant scope place whole) P (place_faults Constant scope place whole)
@@ -94,7 +94,7 @@ listed-broken-constant scope place whole =
 
 in-value : (typed : Typed) (place : Option sorts.Sort) (word : Spot) (refused : Bool) → refused ≡ false →
     is_miscounted place (option_and_then value_of typed.term) ≡ true →
-    In (told_at BadCount word) (if refused
+    In (diagnostic_at BadCount word) (if refused
     then []
     else fault_if (is_miscounted place (option_and_then value_of typed.term)) BadCount word)
 in-value typed place word true accepted is = cc
@@ -102,19 +102,19 @@ in-value typed place word false accepted is =
     in-if (is_miscounted place (option_and_then value_of typed.term)) BadCount word is
 
 in-taken : (typed : Typed) (place : Option sorts.Sort) (word : Spot) (fit : Bool) → fit ≡ true →
-    In (told_at BadCount word) (counted_faults place word (Some typed)) →
-    In (told_at BadCount word) (counted_faults place word (if fit then Some typed else None))
+    In (diagnostic_at BadCount word) (counted_faults place word (Some typed)) →
+    In (diagnostic_at BadCount word) (counted_faults place word (if fit then Some typed else None))
 in-taken typed place word true is at = at
 in-taken typed place word false is at = cc
 
-pub broken-listed-constant : (scope : Scope) (place : Option sorts.Sort) (whole : Expr) (fault : Told) →
+pub broken-listed-constant : (scope : Scope) (place : Option sorts.Sort) (whole : Expr) (fault : Diagnostic) →
     IsBrokenConstant scope place whole fault → In fault (constant_faults scope place whole)
 broken-listed-constant scope place whole fault (broken.at_place told is) =
     in-left told (place_faults Constant scope place whole)
     (counted_faults place (first_word whole) (taken_in place (typed_in Constant scope whole)))
     (broken-listed-at Constant scope place whole told is)
 broken-listed-constant scope place whole fault (broken.count at) =
-    let told = told_at BadCount (first_word whole) in
+    let told = diagnostic_at BadCount (first_word whole) in
     in-right told (place_faults Constant scope place whole)
     (counted_faults place (first_word whole) (taken_in place (typed_in Constant scope whole)))
     (subst (λ typed. In told (counted_faults place (first_word whole) (taken_in place typed))) (sym at.typed_is)

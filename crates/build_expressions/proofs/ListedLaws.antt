@@ -4,12 +4,12 @@ use Rattle.std.proofs.lemmas.Bool.{eqb-true, eqb-false}
 use Rattle.std.proofs.lemmas.List.{append_assoc, length-append, length-map}
 use Rattle.build_faults.proofs.FaultLemmas.{each-both, each-if, each-of}
 use Rattle.build_faults.specs.FaultLaws.{Each}
-use Rattle.build_faults.specs.Faults.{Told, told_at, mark_word}
-use Rattle.build_faults.specs.declared.fault.Kind.TheVariants.{Sort}
+use Rattle.build_faults.specs.Faults.{Diagnostic, diagnostic_at, mark_word}
+use Rattle.build_faults.specs.declared.fault.Rule.TheVariants.{Sort}
 use Rattle.build_expressions.specs.Broken.{BreaksPlaces, InLinks, InValues, IsBroken, IsBrokenAt, IsBrokenIn, IsNoTimer, IsOperation, TimerMeaning, Within, append_links}
 use Rattle.build_expressions.specs.Broken as broken
 use Rattle.build_expressions.specs.Contexts.{allows_instance, allows_word}
-use Rattle.build_operators.specs.Kinds.{fits, result_of, unary_result_of}
+use Rattle.build_operators.specs.OperandSorts.{fits, result_of, unary_result_of}
 use Rattle.build_expressions.specs.Misused.{active_faults, binary_faults, expression_faults, fault_of_place, links_faults, list_faults, misplaced, name_faults, place_faults, places_faults, timer_faults, unary_faults, values_faults}
 use Rattle.build_expressions.specs.Scope.{Scope, SignalMeaning, signal, timer, signal_in, value_in}
 use Rattle.build_expressions.specs.Typing.{Typed, argument_in, arguments_in, binary_typed, chain_typed, typed_in}
@@ -49,14 +49,16 @@ mutual
   links-then at (broken.this_operand operand) = broken.this_operand (within-then at operand)
   links-then at (broken.behind_operand rest) = broken.behind_operand (links-then at rest)
 
-  values-then : {part middle : Expr} {values : Exprs} → Within part middle → InValues middle values → InValues part values
+  values-then : {part middle : Expr} {values : Exprs} → Within part middle → InValues middle values →
+      InValues part values
   values-then at (broken.this_value value) = broken.this_value (within-then at value)
   values-then at (broken.behind_value rest) = broken.behind_value (values-then at rest)
 
 pub in-links : (before : Links) (operator : Operator) (word : Spelling) (operand : Expr) (after : Links) →
     InLinks operand (append_links before (AndLink operator word operand after))
 in-links NoLink operator word operand after = broken.this_operand broken.itself
-in-links (AndLink o w e rest) operator word operand after = broken.behind_operand (in-links rest operator word operand after)
+in-links (AndLink o w e rest) operator word operand after = broken.behind_operand
+    (in-links rest operator word operand after)
 
 pub append_links-last : (before : Links) (operator : Operator) (word : Spelling) (operand : Expr) (after : Links) →
     append_links (append_links before (AndLink operator word operand NoLink)) after
@@ -82,16 +84,18 @@ arguments_in-listed context scope (AndExpr value values) =
 
 -- ---- values at places
 
-each-place : (P : Told → Type 0) (place : Option sorts.Sort) (word : Spot) (typed : Option Typed) →
+each-place : (P : Diagnostic → Type 0) (place : Option sorts.Sort) (word : Spot) (typed : Option Typed) →
     ((sort : sorts.Sort) (found : Typed) → place ≡ Some sort → typed ≡ Some found → fits found.kind sort ≡ false →
-    P (told_at Sort word)) →
+    P (diagnostic_at Sort word)) →
     Each P (fault_of_place place word typed)
 each-place P place word None is = tt
 each-place P None word (Some typed) is = tt
 each-place P (Some sort) word (Some typed) is =
-    each-if P (not (fits typed.kind sort)) Sort word (λ no. is sort typed refl refl (not-true (fits typed.kind sort) no))
+    each-if P (not (fits typed.kind sort)) Sort word
+    (λ no. is sort typed refl refl (not-true (fits typed.kind sort) no))
 
-module _ (context : Context) (scope : Scope) (name : Spot) (all_places : List (Option sorts.Sort)) (all : List Expr) where
+module _ (context : Context) (scope : Scope) (name : Spot) (all_places : List (Option sorts.Sort))
+    (all : List Expr) where
   each-misplaced : (before : List Expr) (places_before : List (Option sorts.Sort)) (places : List (Option sorts.Sort))
       (values : List Expr) → length all ≡ length all_places → all ≡ before ++ values →
       all_places ≡ places_before ++ places → length before ≡ length places_before →
@@ -99,7 +103,7 @@ module _ (context : Context) (scope : Scope) (name : Spot) (all_places : List (O
   each-misplaced before places_before [] values count are places_are same = tt
   each-misplaced before places_before (place ∷ places) [] count are places_are same = tt
   each-misplaced before places_before (place ∷ places) (value ∷ values) count are places_are same =
-      let P : Told → Type 0 = BreaksPlaces context scope name all_places all in
+      let P : Diagnostic → Type 0 = BreaksPlaces context scope name all_places all in
       each-both P (fault_of_place place (first_word value) (typed_in context scope value))
       (misplaced places (map (argument_in context scope) values))
       (each-place P place (first_word value) (typed_in context scope value) (λ sort found place_is typed_is no.
@@ -122,9 +126,10 @@ module _ (context : Context) (scope : Scope) (name : Spot) (all_places : List (O
   each-counted : (counted : Bool) → (length (map (argument_in context scope) all) == length all_places) ≡ counted →
       Each (BreaksPlaces context scope name all_places all) (if counted
       then misplaced all_places (map (argument_in context scope) all)
-      else told_at Sort name ∷ [])
+      else diagnostic_at Sort name ∷ [])
   each-counted true is =
-      each-misplaced [] [] all_places all (sym (length-map all (argument_in context scope)) ∙ eqb-true _ _ is) refl refl refl
+      each-misplaced [] [] all_places all (sym (length-map all (argument_in context scope)) ∙ eqb-true _ _ is) refl refl
+      refl
   each-counted false is =
       (broken.count (λ same. eqb-false _ _ is (length-map all (argument_in context scope) ∙ same)), tt)
 
@@ -134,7 +139,8 @@ module _ (context : Context) (scope : Scope) (name : Spot) (all_places : List (O
 
 -- ---- expressions
 
-pub each-weaker : (P Q : Told → Type 0) (faults : List Told) → ((fault : Told) → P fault → Q fault) → Each P faults →
+pub each-weaker : (P Q : Diagnostic → Type 0) (faults : List Diagnostic) → ((fault : Diagnostic) → P fault → Q fault) →
+    Each P faults →
     Each Q faults
 each-weaker P Q [] so each = tt
 each-weaker P Q (fault ∷ faults) so each = (so fault each.0, each-weaker P Q faults so each.1)
@@ -191,14 +197,16 @@ module _ (context : Context) (scope : Scope) (whole : Expr) where
       (each-places context scope name places (exprs_in values)))
 
   mutual
-    listed : (part : Expr) → Within part whole → Each (IsBroken context scope whole) (expression_faults context scope part)
+    listed : (part : Expr) → Within part whole → Each (IsBroken context scope whole)
+        (expression_faults context scope part)
     listed (Numeral number) at = tt
     listed (Named name) at = each-name name at (value_in scope name.text) refl
     listed (Keyword value word) at =
-        each-if (IsBroken context scope whole) (not (allows_word context value)) Sort (mark_word (value_mark value) word)
+        each-if (IsBroken context scope whole) (not (allows_word context value)) Sort
+        (mark_word (value_mark value) word)
         (λ no. broken.keyword value word at (not-true (allows_word context value) no))
     listed (Active word name values) at =
-        let P : Told → Type 0 = IsBroken context scope whole in
+        let P : Diagnostic → Type 0 = IsBroken context scope whole in
         let timers = timer_faults name (signal_in scope name.text) (arguments_in context scope values) in
         each-both P (active_faults context word) (values_faults context scope values ++ timers)
         (each-if P (not (allows_instance context)) Sort (mark_word mark.Active word)
@@ -223,7 +231,7 @@ module _ (context : Context) (scope : Scope) (whole : Expr) where
         (links_faults context scope (chain_typed context scope (typed_in context scope first) before) rest)
     listed-links first before NoLink at = tt
     listed-links first before (AndLink operator word operand rest) at =
-        let P : Told → Type 0 = IsBroken context scope whole in
+        let P : Diagnostic → Type 0 = IsBroken context scope whole in
         let left = chain_typed context scope (typed_in context scope first) before in
         let right = typed_in context scope operand in
         each-both P (expression_faults context scope operand ++ binary_faults operator word left right)
@@ -235,7 +243,8 @@ module _ (context : Context) (scope : Scope) (whole : Expr) where
         (subst (λ typed. Each P (links_faults context scope typed rest))
         (chain_typed-last context scope (typed_in context scope first) before operator word operand)
         (listed-links first (append_links before (AndLink operator word operand NoLink)) rest
-        (subst (λ links. Within (Chain first links) whole) (sym (append_links-last before operator word operand rest)) at)))
+        (subst (λ links. Within (Chain first links) whole) (sym (append_links-last before operator word operand rest))
+        at)))
 
     listed-values : (values : Exprs) → ((value : Expr) → InValues value values → Within value whole) →
         Each (IsBroken context scope whole) (values_faults context scope values)
@@ -252,7 +261,7 @@ listed-broken context scope whole = listed context scope whole whole broken.itse
 pub listed-broken-at : (context : Context) (scope : Scope) (place : Option sorts.Sort) (whole : Expr) →
     Each (IsBrokenAt context scope place whole) (place_faults context scope place whole)
 listed-broken-at context scope place whole =
-    let P : Told → Type 0 = IsBrokenAt context scope place whole in
+    let P : Diagnostic → Type 0 = IsBrokenAt context scope place whole in
     each-both P (expression_faults context scope whole)
     (fault_of_place place (first_word whole) (typed_in context scope whole))
     (each-weaker (IsBroken context scope whole) P (expression_faults context scope whole)
@@ -264,7 +273,7 @@ pub listed-broken-in : (context : Context) (scope : Scope) (name : Spot) (places
     (values : List Expr) →
     Each (IsBrokenIn context scope name places values) (list_faults context scope name places values)
 listed-broken-in context scope name places values =
-    let P : Told → Type 0 = IsBrokenIn context scope name places values in
+    let P : Diagnostic → Type 0 = IsBrokenIn context scope name places values in
     each-both P (flat_map (expression_faults context scope) values)
     (places_faults name places (map (argument_in context scope) values))
     (each-of P (expression_faults context scope) values (λ value is.

@@ -1,20 +1,21 @@
--- When a rule is broken in an expression, and at which word: said of the parts of the expression, and not of what is noted.
+-- When a rule is broken in an expression, and at which word: said of the parts of the expression, and not of what is
+-- noted.
 use Rattle.std.specs.Prelude.{◌≡◌, ◌++◌, ℕ, negsuc, Bool, true, false, List, ◌∷◌, Option, None, Some, length, option_and_then}
 use Rattle.build_faults.specs.FaultLaws.{Each, In}
-use Rattle.build_faults.specs.Faults.{Told, told_at, mark_word}
-use Rattle.build_faults.specs.declared.fault.Kind.TheVariants.{Unknown, Sort, BadCount}
+use Rattle.build_faults.specs.Faults.{Diagnostic, diagnostic_at, mark_word}
+use Rattle.build_faults.specs.declared.fault.Rule.TheVariants.{Unknown, Sort, BadCount}
 use Rattle.port_values.specs.declared.item.SignalId.{SignalId}
 use Rattle.port_values.specs.declared.value.Value.{Value}
 use Rattle.build_expressions.specs.Constants.{constant_faults, value_of}
 use Rattle.build_expressions.specs.Contexts.{allows_instance, allows_word}
-use Rattle.build_operators.specs.Kinds.{fits, result_of, unary_result_of}
+use Rattle.build_operators.specs.OperandSorts.{fits, result_of, unary_result_of}
 use Rattle.build_expressions.specs.Misused.{expression_faults, list_faults, place_faults}
 use Rattle.build_expressions.specs.Scope.{Scope, SignalMeaning, signal, timer, signal_in, value_in}
 use Rattle.build_expressions.specs.Typing.{Typed, typed_in}
 use Rattle.build_expressions.specs.Words.{first_word}
 use Rattle.build_expressions.specs.declared.context.Context.{Context}
 use Rattle.build_expressions.specs.declared.context.Context.TheVariants.{Constant}
-use Rattle.build_operators.specs.declared.kind.Kind.{Kind}
+use Rattle.build_operators.specs.declared.operand_sort.OperandSort.{OperandSort}
 use Rattle.build_expressions.specs.declared.scope.ValueMeaning.TheVariants as meant
 use Rattle.sdl_system.specs.Operation.{number_of}
 use Rattle.sdl_system.specs.declared.id.VariableId.{VariableId}
@@ -95,13 +96,13 @@ pub record HasMisfit (context : Context) (scope : Scope) (places : List (Option 
 
 -- values behind a name that don't fit the places of these sorts
 pub data BreaksPlaces (context : Context) (scope : Scope) (name : Spot) (places : List (Option sorts.Sort))
-    (values : List Expr) : Told → Type 0 where
+    (values : List Expr) : Diagnostic → Type 0 where
   -- they are fewer or more
-  count : (length values ≡ length places → ⊥) → BreaksPlaces context scope name places values (told_at Sort name)
+  count : (length values ≡ length places → ⊥) → BreaksPlaces context scope name places values (diagnostic_at Sort name)
   -- one doesn't fit its place
   misfit :
       (value : Expr) → length values ≡ length places → HasMisfit context scope places values value
-      → BreaksPlaces context scope name places values (told_at Sort (first_word value))
+      → BreaksPlaces context scope name places values (diagnostic_at Sort (first_word value))
 
 -- ---- expressions
 
@@ -118,77 +119,81 @@ pub record TimerMeaning (scope : Scope) (name : Spot) : Type 0 where
   pub meant : signal_in scope name.text ≡ Some (timer number places has_default)
 
 -- a rule is broken in the expression
-pub data IsBroken (context : Context) (scope : Scope) (whole : Expr) : Told → Type 0 where
+pub data IsBroken (context : Context) (scope : Scope) (whole : Expr) : Diagnostic → Type 0 where
   -- a name stands for nothing
   unknown :
       (name : Spot) → Within (Named name) whole → value_in scope name.text ≡ None
-      → IsBroken context scope whole (told_at Unknown name)
+      → IsBroken context scope whole (diagnostic_at Unknown name)
   -- a variable or a formal parameter stands in a constant
   variable :
       (name : Spot) (number : VariableId) (sort : Option sorts.Sort) → Within (Named name) whole
       → value_in scope name.text ≡ Some (meant.Variable number sort) → allows_instance context ≡ false
-      → IsBroken context scope whole (told_at Sort name)
+      → IsBroken context scope whole (diagnostic_at Sort name)
   -- a keyword stands where it may not
   keyword :
       (value : KeywordValue) (word : Spelling) → Within (Keyword value word) whole
-      → allows_word context value ≡ false → IsBroken context scope whole (told_at Sort (mark_word (value_mark value) word))
+      → allows_word context value ≡ false → IsBroken context scope whole
+      (diagnostic_at Sort (mark_word (value_mark value) word))
   -- a timer is asked for in a constant
   active :
       (word : Spelling) (name : Spot) (values : Exprs) → Within (Active word name values) whole
-      → allows_instance context ≡ false → IsBroken context scope whole (told_at Sort (mark_word mark.Active word))
+      → allows_instance context ≡ false → IsBroken context scope whole (diagnostic_at Sort (mark_word mark.Active word))
   -- a name behind `active` is no timer's
   no_timer :
       (word : Spelling) (name : Spot) (values : Exprs) → Within (Active word name values) whole
-      → IsNoTimer (signal_in scope name.text) → IsBroken context scope whole (told_at Unknown name)
+      → IsNoTimer (signal_in scope name.text) → IsBroken context scope whole (diagnostic_at Unknown name)
   -- the values behind a timer's name don't fit it
   timer_values :
       (word : Spelling) (name : Spot) (values : Exprs) → Within (Active word name values) whole
-      → (meaning : TimerMeaning scope name) (fault : Told)
+      → (meaning : TimerMeaning scope name) (fault : Diagnostic)
       → BreaksPlaces context scope name meaning.places (exprs_in values) fault → IsBroken context scope whole fault
   -- an operator before an operand is none for its kind
   unary :
       (operator : UnaryOperator) (word : Spelling) (operand : Expr) → Within (Unary operator word operand) whole
       → (typed : Typed) → typed_in context scope operand ≡ Some typed → unary_result_of operator typed.kind ≡ None
-      → IsBroken context scope whole (told_at Sort (mark_word (unary_mark operator) word))
+      → IsBroken context scope whole (diagnostic_at Sort (mark_word (unary_mark operator) word))
   -- an operator between operands is none for their kinds
   binary :
       (left : Expr) (operator : Operator) (word : Spelling) (right : Expr)
       → IsOperation whole left operator word right → (first second : Typed)
       → typed_in context scope left ≡ Some first → typed_in context scope right ≡ Some second
       → result_of operator first.kind second.kind ≡ None
-      → IsBroken context scope whole (told_at Sort (mark_word (operator_mark operator) word))
+      → IsBroken context scope whole (diagnostic_at Sort (mark_word (operator_mark operator) word))
 
 -- a rule is broken in an expression, or it doesn't fit the place
-pub data IsBrokenAt (context : Context) (scope : Scope) (place : Option sorts.Sort) (whole : Expr) : Told → Type 0 where
-  inside : (fault : Told) → IsBroken context scope whole fault → IsBrokenAt context scope place whole fault
+pub data IsBrokenAt (context : Context) (scope : Scope) (place : Option sorts.Sort) (whole : Expr) : Diagnostic →
+    Type 0 where
+  inside : (fault : Diagnostic) → IsBroken context scope whole fault → IsBrokenAt context scope place whole fault
   misfit :
       (sort : sorts.Sort) → place ≡ Some sort → IsMisfit context scope sort whole
-      → IsBrokenAt context scope place whole (told_at Sort (first_word whole))
+      → IsBrokenAt context scope place whole (diagnostic_at Sort (first_word whole))
 
 -- a rule is broken in a value of the list, or they don't fit the places
 pub data IsBrokenIn (context : Context) (scope : Scope) (name : Spot) (places : List (Option sorts.Sort))
-    (values : List Expr) : Told → Type 0 where
+    (values : List Expr) : Diagnostic → Type 0 where
   inside :
-      (fault : Told) (value : Expr) → In value values → IsBroken context scope value fault
+      (fault : Diagnostic) (value : Expr) → In value values → IsBroken context scope value fault
       → IsBrokenIn context scope name places values fault
   at_places :
-      (fault : Told) → BreaksPlaces context scope name places values fault
+      (fault : Diagnostic) → BreaksPlaces context scope name places values fault
       → IsBrokenIn context scope name places values fault
 
 -- ---- constants
 
 -- a value of the kind may stand at the place; where the place's sort is unknown, each may
-pub data TakesKind : Option sorts.Sort → Kind → Type 0 where
-  any : (kind : Kind) → TakesKind None kind
-  fitting : (sort : sorts.Sort) (kind : Kind) → fits kind sort ≡ true → TakesKind (Some sort) kind
+pub data TakesKind : Option sorts.Sort → OperandSort → Type 0 where
+  any : (kind : OperandSort) → TakesKind None kind
+  fitting : (sort : sorts.Sort) (kind : OperandSort) → fits kind sort ≡ true → TakesKind (Some sort) kind
 
 -- there is no value, or a negative one for a Natural
 pub data LacksValue : Option sorts.Sort → Option Value → Type 0 where
   no_value : (place : Option sorts.Sort) → LacksValue place None
   negative :
-      (value : Value) (less_one : ℕ) → number_of value ≡ negsuc less_one → LacksValue (Some the_sort.Natural) (Some value)
+      (value : Value) (less_one : ℕ) → number_of value ≡ negsuc less_one →
+      LacksValue (Some the_sort.Natural) (Some value)
 
--- the expression may stand at the place and rests on no refused synonym, but has no value, or a negative one for a Natural
+-- the expression may stand at the place and rests on no refused synonym, but has no value, or a negative one for a
+-- Natural
 pub record IsUncounted (scope : Scope) (place : Option sorts.Sort) (whole : Expr) : Type 0 where
   pub typed : Typed
   pub typed_is : typed_in Constant scope whole ≡ Some typed
@@ -197,9 +202,10 @@ pub record IsUncounted (scope : Scope) (place : Option sorts.Sort) (whole : Expr
   pub lacks : LacksValue place (option_and_then value_of typed.term)
 
 -- a rule is broken in a constant expression at a place
-pub data IsBrokenConstant (scope : Scope) (place : Option sorts.Sort) (whole : Expr) : Told → Type 0 where
-  at_place : (fault : Told) → IsBrokenAt Constant scope place whole fault → IsBrokenConstant scope place whole fault
-  count : IsUncounted scope place whole → IsBrokenConstant scope place whole (told_at BadCount (first_word whole))
+pub data IsBrokenConstant (scope : Scope) (place : Option sorts.Sort) (whole : Expr) : Diagnostic → Type 0 where
+  at_place : (fault : Diagnostic) → IsBrokenAt Constant scope place whole fault →
+      IsBrokenConstant scope place whole fault
+  count : IsUncounted scope place whole → IsBrokenConstant scope place whole (diagnostic_at BadCount (first_word whole))
 
 -- ---- laws
 
@@ -213,21 +219,23 @@ ListedBrokenAt = (context : Context) (scope : Scope) (place : Option sorts.Sort)
     Each (IsBrokenAt context scope place whole) (place_faults context scope place whole)
 
 abbrev pub ListedBrokenIn : Type 0
-ListedBrokenIn = (context : Context) (scope : Scope) (name : Spot) (places : List (Option sorts.Sort)) (values : List Expr) →
+ListedBrokenIn = (context : Context) (scope : Scope) (name : Spot) (places : List (Option sorts.Sort))
+    (values : List Expr) →
     Each (IsBrokenIn context scope name places values) (list_faults context scope name places values)
 
 -- Each that is broken is in the lists.
 abbrev pub BrokenListed : Type 0
-BrokenListed = (context : Context) (scope : Scope) (whole : Expr) (fault : Told) →
+BrokenListed = (context : Context) (scope : Scope) (whole : Expr) (fault : Diagnostic) →
     IsBroken context scope whole fault → In fault (expression_faults context scope whole)
 
 abbrev pub BrokenListedAt : Type 0
-BrokenListedAt = (context : Context) (scope : Scope) (place : Option sorts.Sort) (whole : Expr) (fault : Told) →
+BrokenListedAt = (context : Context) (scope : Scope) (place : Option sorts.Sort) (whole : Expr) (fault : Diagnostic) →
     IsBrokenAt context scope place whole fault → In fault (place_faults context scope place whole)
 
 abbrev pub BrokenListedIn : Type 0
-BrokenListedIn = (context : Context) (scope : Scope) (name : Spot) (places : List (Option sorts.Sort)) (values : List Expr)
-    (fault : Told) → IsBrokenIn context scope name places values fault
+BrokenListedIn = (context : Context) (scope : Scope) (name : Spot) (places : List (Option sorts.Sort))
+    (values : List Expr)
+    (fault : Diagnostic) → IsBrokenIn context scope name places values fault
     → In fault (list_faults context scope name places values)
 
 abbrev pub ListedBrokenConstant : Type 0
@@ -235,5 +243,5 @@ ListedBrokenConstant = (scope : Scope) (place : Option sorts.Sort) (whole : Expr
     Each (IsBrokenConstant scope place whole) (constant_faults scope place whole)
 
 abbrev pub BrokenListedConstant : Type 0
-BrokenListedConstant = (scope : Scope) (place : Option sorts.Sort) (whole : Expr) (fault : Told) →
+BrokenListedConstant = (scope : Scope) (place : Option sorts.Sort) (whole : Expr) (fault : Diagnostic) →
     IsBrokenConstant scope place whole fault → In fault (constant_faults scope place whole)

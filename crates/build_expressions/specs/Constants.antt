@@ -2,8 +2,8 @@
 use Rattle.std.specs.Prelude.{◌++◌, Bool, true, false, List, [], Option, None, Some, Result, Ok, Err, is_none, option_and_then, if◌then◌else◌}
 use Rattle.std.specs.Option.{unwrap_or}
 use Rattle.port_values.specs.declared.value.Value.{Value}
-use Rattle.build_faults.specs.Faults.{Told, fault_if}
-use Rattle.build_faults.specs.declared.fault.Kind.TheVariants.{BadCount}
+use Rattle.build_faults.specs.Faults.{Diagnostic, fault_if}
+use Rattle.build_faults.specs.declared.fault.Rule.TheVariants.{BadCount}
 use Rattle.build_expressions.specs.Misused.{place_faults}
 use Rattle.build_expressions.specs.Scope.{Scope}
 use Rattle.build_expressions.specs.Typing.{Typed, taken_in, typed_in}
@@ -64,13 +64,14 @@ is_miscounted place None = true
 is_miscounted None (Some value) = false
 is_miscounted (Some sort) (Some value) = is_none (as_sort sort value)
 
--- what an expression comes to that fits its place, where one does; where a synonym in it is refused, its value isn't asked for
+-- what an expression comes to that fits its place, where one does; where a synonym in it is refused, its value isn't
+-- asked for
 abbrev pub counted : Option Sort → Option Typed → Constant
 counted place None = constants.Refused
 counted place (Some typed) =
     if typed.is_refused then constants.Refused else with_value place (option_and_then value_of typed.term)
 
-abbrev pub counted_faults : Option Sort → Spot → Option Typed → List Told
+abbrev pub counted_faults : Option Sort → Spot → Option Typed → List Diagnostic
 counted_faults place word None = []
 counted_faults place word (Some typed) = if typed.is_refused
     then []
@@ -81,7 +82,7 @@ abbrev pub constant_in : Scope → Option Sort → Expr → Constant
 constant_in scope place expression = counted place (taken_in place (typed_in context.Constant scope expression))
 
 -- the rules that it breaks
-abbrev pub constant_faults : Scope → Option Sort → Expr → List Told
+abbrev pub constant_faults : Scope → Option Sort → Expr → List Diagnostic
 constant_faults scope place expression =
     place_faults context.Constant scope place expression
     ++ counted_faults place (first_word expression) (taken_in place (typed_in context.Constant scope expression))

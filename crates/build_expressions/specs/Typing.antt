@@ -1,18 +1,18 @@
--- The kind and the term of an expression (Z.104: expressions). An expression in which a rule is broken has neither, so that
--- nothing is told of what stands round it.
+-- The kind and the term of an expression (Z.104: expressions). An expression in which a rule is broken has neither, so
+-- that nothing is told of what stands round it.
 use Rattle.std.specs.Prelude.{◌||◌, ◌&&◌, Bool, true, false, List, [], ◌∷◌, Option, None, Some, map, option_map, if◌then◌else◌}
 use Rattle.std.specs.List.{list_any}
 use Rattle.port_values.specs.declared.item.SignalId.{SignalId}
 use Rattle.port_values.specs.declared.pid.Pid.TheVariants.{Null}
 use Rattle.port_values.specs.declared.value.Value.TheVariants as value
 use Rattle.build_expressions.specs.Contexts.{allows_instance, allows_word}
-use Rattle.build_operators.specs.Kinds.{fits, kind_of, result_of, unary_result_of}
+use Rattle.build_operators.specs.OperandSorts.{fits, kind_of, result_of, unary_result_of}
 use Rattle.build_expressions.specs.Partial.{all_some, both}
 use Rattle.build_expressions.specs.Scope.{Scope, SignalMeaning, signal, timer, signal_in, value_in}
 use Rattle.build_expressions.specs.Words.{first_word}
 use Rattle.build_expressions.specs.declared.context.Context.{Context}
-use Rattle.build_operators.specs.declared.kind.Kind.{Kind}
-use Rattle.build_operators.specs.declared.kind.Kind.TheVariants.{Free, Time, Boolean, Pid}
+use Rattle.build_operators.specs.declared.operand_sort.OperandSort.{OperandSort}
+use Rattle.build_operators.specs.declared.operand_sort.OperandSort.TheVariants.{Free, Time, Boolean, Pid}
 use Rattle.build_operators.specs.declared.operator.TypedOperation.{TypedOperation}
 use Rattle.build_operators.specs.declared.operator.TypedUnaryOperation.{TypedUnaryOperation}
 use Rattle.build_expressions.specs.declared.scope.Constant.{Constant}
@@ -32,14 +32,14 @@ use Rattle.sdl_tree.specs.declared.expressions.Operator.{Operator}
 use Rattle.sdl_tree.specs.declared.expressions.UnaryOperator.{UnaryOperator}
 
 pub record Typed : Type 0 where
-  pub kind : Kind
+  pub kind : OperandSort
   -- none where a synonym inside has no value or is refused
   pub term : Option Term
   -- whether a synonym inside is refused
   pub is_refused : Bool
 
 -- an expression that names no synonym
-abbrev pub plain : Kind → Term → Typed
+abbrev pub plain : OperandSort → Term → Typed
 plain kind term = record { kind = kind; term = Some term; is_refused = false }
 
 -- ---- names and literals

@@ -1,10 +1,10 @@
 //! The answers of a decision.
 
 ghost use Rattle.std.specs.Prelude.{◌≡◌, None, option_map, IfOk, OnOk};
-ghost use Rattle.build_faults.specs.Faults.{fault_if, least_of, told, token_word};
+ghost use Rattle.build_faults.specs.Faults.{Notes, fault_if, token_word};
 ghost use Rattle.build_expressions.specs.Answers.{answer_faults, answer_in, answer_value, answer_value_faults, comparable_in, compared_faults, comparison_for, has_order, is_incomparable, known, order_for};
 ghost use Rattle.build_expressions.specs.Constants.{counted};
-ghost use Rattle.build_faults.specs.declared.fault.Kind.TheVariants.{Sort};
+ghost use Rattle.build_faults.specs.declared.fault.Rule.TheVariants.{Sort};
 ghost use Rattle.build_expressions.specs.Resolved.{typed_of};
 ghost use Rattle.build_expressions.specs.Scope.{scope_of};
 ghost use Rattle.sdl_tree.specs.Views.{answer_value as answer_tree, expr_value};
@@ -15,7 +15,7 @@ use crate::scope::{Constant, Scope};
 use crate::typed::Typed;
 use crate::typing::{first_token, resolve_in};
 use build_faults::{Faults, Token};
-use build_operators::{Kind, result_of};
+use build_operators::{OperandSort, result_of};
 use port_values::Value;
 use sdl_system::Comparison;
 use sdl_tree::{Answer, Expression, Operator};
@@ -30,12 +30,12 @@ use std::alloc::{AllocError, Global};
 pub fn resolve_answer<'t>(
     alloc: Global,
     scope: &Scope<'_, '_, 't>,
-    question: Option<Kind>,
+    question: Option<OperandSort>,
     answer: &'t Answer,
     faults: &mut Faults<'t>,
 ) -> Result<Option<sdl_system::Answer>, AllocError>
     ensures answer { IfOk result (λ found. found ≡ answer_in (scope_of scope.now) question (answer_tree answer.now)) }
-    ensures noted { OnOk result (told faults.new ≡ least_of (told faults.old)
+    ensures noted { OnOk result (Notes faults.old faults.new
         (answer_faults (scope_of scope.now) question (answer_tree answer.now))) }
 {
     match answer {
@@ -46,7 +46,7 @@ pub fn resolve_answer<'t>(
         Answer::Range { first, last } => {
             let has_order = has_order(question);
             if !has_order {
-                faults.note(build_faults::Kind::Sort, first_token(first));
+                faults.note(build_faults::Rule::Sort, first_token(first));
             }
             let first = resolve_value(alloc, scope, question, first, faults)?;
             let last = resolve_value(alloc, scope, question, last, faults)?;
@@ -65,7 +65,7 @@ pub fn resolve_answer<'t>(
             let comparison = comparison_for(question, *operator);
             if comparison.is_none() {
                 faults.note(
-                    build_faults::Kind::Sort,
+                    build_faults::Rule::Sort,
                     Token::of_mark(operator.mark(), *word),
                 );
             }
@@ -84,12 +84,12 @@ pub fn resolve_answer<'t>(
 fn resolve_value<'t>(
     alloc: Global,
     scope: &Scope<'_, '_, 't>,
-    question: Option<Kind>,
+    question: Option<OperandSort>,
     value: &'t Expression,
     faults: &mut Faults<'t>,
 ) -> Result<Option<Value>, AllocError>
     ensures value { IfOk result (λ found. found ≡ answer_value (scope_of scope.now) question (expr_value value.now)) }
-    ensures noted { OnOk result (told faults.new ≡ least_of (told faults.old)
+    ensures noted { OnOk result (Notes faults.old faults.new
         (answer_value_faults (scope_of scope.now) question (expr_value value.now))) }
 {
     let typed = resolve_in(alloc, Context::Constant, scope, value, faults)?;
@@ -97,13 +97,13 @@ fn resolve_value<'t>(
 }
 
 fn compared<'t>(
-    question: Option<Kind>,
+    question: Option<OperandSort>,
     token: Token<'t>,
     typed: Option<Typed>,
     faults: &mut Faults<'t>,
 ) -> Option<Value>
     ensures value { result ≡ known (counted None (comparable_in question (option_map typed_of typed))) }
-    ensures noted { told faults.new ≡ least_of (told faults.old)
+    ensures noted { Notes faults.old faults.new
         (compared_faults question (token_word token.entry) (option_map typed_of typed)) }
 {
     let comparable = comparable(question, token, typed, faults);
@@ -112,13 +112,13 @@ fn compared<'t>(
 
 /// The value where it can be compared with the question's. One that can't be is noted.
 fn comparable<'t>(
-    question: Option<Kind>,
+    question: Option<OperandSort>,
     token: Token<'t>,
     typed: Option<Typed>,
     faults: &mut Faults<'t>,
 ) -> Option<Typed>
     ensures comparable { option_map typed_of result ≡ comparable_in question (option_map typed_of typed) }
-    ensures noted { told faults.new ≡ least_of (told faults.old)
+    ensures noted { Notes faults.old faults.new
         (fault_if (is_incomparable question (option_map typed_of typed)) Sort (token_word token.entry)) }
 {
     let typed = typed?;
@@ -129,7 +129,7 @@ fn comparable<'t>(
     if is_comparable {
         Some(typed)
     } else {
-        faults.note(build_faults::Kind::Sort, token);
+        faults.note(build_faults::Rule::Sort, token);
         None
     }
 }
@@ -144,17 +144,20 @@ fn known(constant: Constant) -> Option<Value>
 }
 
 /// Whether the values of the question have an order.
-fn has_order(question: Option<Kind>) -> bool
+fn has_order(question: Option<OperandSort>) -> bool
     ensures { result ≡ has_order question }
 {
     match question {
-        Some(Kind::Boolean | Kind::Pid) => false,
-        None | Some(Kind::Free | Kind::Integer | Kind::Time | Kind::Duration) => true,
+        Some(OperandSort::Boolean | OperandSort::Pid) => false,
+        None
+        | Some(
+            OperandSort::Free | OperandSort::Integer | OperandSort::Time | OperandSort::Duration,
+        ) => true,
     }
 }
 
 /// The comparison that an operator is before an answer of the question.
-fn comparison_for(question: Option<Kind>, operator: Operator) -> Option<Comparison>
+fn comparison_for(question: Option<OperandSort>, operator: Operator) -> Option<Comparison>
     ensures { result ≡ comparison_for question operator }
 {
     match operator {
@@ -168,7 +171,7 @@ fn comparison_for(question: Option<Kind>, operator: Operator) -> Option<Comparis
     }
 }
 
-fn order_for(question: Option<Kind>, comparison: Comparison) -> Option<Comparison>
+fn order_for(question: Option<OperandSort>, comparison: Comparison) -> Option<Comparison>
     ensures { result ≡ order_for question comparison }
 {
     if has_order(question) {

@@ -1,7 +1,7 @@
 //! Values in a list, each for a place of a sort.
 
 ghost use Rattle.std.specs.Prelude.{◌≡◌, ◌&&◌, ◌||◌, IfOk, None, Some, map, option_map};
-ghost use Rattle.build_faults.specs.Faults.{least_of, told, token_word};
+ghost use Rattle.build_faults.specs.Faults.{Notes, token_word};
 ghost use Rattle.build_expressions.specs.Misused.{fault_of_place, places_faults};
 ghost use Rattle.build_expressions.specs.Partial.{and_last};
 ghost use Rattle.build_expressions.specs.Resolved.{argument_of, typed_of};
@@ -10,7 +10,7 @@ ghost use Rattle.sdl_system.specs.Term.{term_of};
 ghost use Rattle.sdl_tree.specs.Views.{name_value};
 
 use crate::typed::Typed;
-use build_faults::{Faults, Kind, Token};
+use build_faults::{Faults, Rule, Token};
 use sdl_system::{Expression, Sort};
 use sdl_tree::Name;
 use std::alloc::{AllocError, Global};
@@ -31,11 +31,11 @@ pub fn place_all<'t>(
     faults: &mut Faults<'t>,
 ) -> bool
     ensures taken { result ≡ are_taken places.now (map argument_of arguments.now) }
-    ensures noted { told faults.new ≡ least_of (told faults.old)
+    ensures noted { Notes faults.old faults.new
         (places_faults (name_value name.now) places.now (map argument_of arguments.now)) }
 {
     if arguments.len() != places.len() {
-        faults.note(Kind::Sort, Token::of_name(name));
+        faults.note(Rule::Sort, Token::of_name(name));
         return false;
     }
     let mut all = true;
@@ -60,7 +60,7 @@ fn place<'t>(
     faults: &mut Faults<'t>,
 ) -> bool
     ensures taken { result ≡ is_taken place (option_map typed_of typed.now) }
-    ensures noted { told faults.new ≡ least_of (told faults.old)
+    ensures noted { Notes faults.old faults.new
         (fault_of_place place (token_word token.entry) (option_map typed_of typed.now)) }
 {
     match (place, typed) {
@@ -69,7 +69,7 @@ fn place<'t>(
         (Some(sort), Some(typed)) => {
             let fits = typed.kind.fits(sort);
             if !fits {
-                faults.note(Kind::Sort, token);
+                faults.note(Rule::Sort, token);
             }
             fits
         }
@@ -84,7 +84,7 @@ pub fn taken<'t>(
     faults: &mut Faults<'t>,
 ) -> Option<Typed>
     ensures taken { option_map typed_of result ≡ taken_in sort (option_map typed_of typed) }
-    ensures noted { told faults.new ≡ least_of (told faults.old)
+    ensures noted { Notes faults.old faults.new
         (fault_of_place sort (token_word token.entry) (option_map typed_of typed)) }
 {
     if place(sort, token, &typed, faults) {

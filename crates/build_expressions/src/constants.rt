@@ -1,8 +1,8 @@
 //! Constant expressions.
 
 ghost use Rattle.std.specs.Prelude.{◌≡◌, option_and_then, option_map, IfOk, OnOk};
-ghost use Rattle.build_faults.specs.Faults.{fault_if, least_of, told, token_word};
-ghost use Rattle.build_faults.specs.declared.fault.Kind.TheVariants.{BadCount};
+ghost use Rattle.build_faults.specs.Faults.{Notes, fault_if, token_word};
+ghost use Rattle.build_faults.specs.declared.fault.Rule.TheVariants.{BadCount};
 ghost use Rattle.build_expressions.specs.Constants.{binary_value, constant_faults, constant_in, counted, counted_faults, given, is_miscounted, unary_value, value_of, with_value};
 ghost use Rattle.build_expressions.specs.Resolved.{typed_of};
 ghost use Rattle.build_expressions.specs.Scope.{scope_of};
@@ -14,7 +14,7 @@ use crate::context::Context;
 use crate::scope::{Constant, Scope};
 use crate::typed::Typed;
 use crate::typing::{first_token, resolve_in};
-use build_faults::{Faults, Kind, Token};
+use build_faults::{Faults, Rule, Token};
 use port_values::Value;
 use sdl_system::{Chain, Failure, Link, Operation, Sort, UnaryOperation, in_sort};
 use sdl_tree::Expression;
@@ -36,7 +36,7 @@ pub fn constant<'t>(
 ) -> Result<Constant, AllocError>
     ensures constant { IfOk result (λ constant. constant
         ≡ constant_in (scope_of scope.now) sort (expr_value expression.now)) }
-    ensures noted { OnOk result (told faults.new ≡ least_of (told faults.old)
+    ensures noted { OnOk result (Notes faults.old faults.new
         (constant_faults (scope_of scope.now) sort (expr_value expression.now))) }
 {
     let typed = resolve_in(alloc, Context::Constant, scope, expression, faults)?;
@@ -53,7 +53,7 @@ pub fn counted<'t>(
     faults: &mut Faults<'t>,
 ) -> Constant
     ensures constant { result ≡ counted sort (option_map typed_of taken.now) }
-    ensures noted { told faults.new ≡ least_of (told faults.old)
+    ensures noted { Notes faults.old faults.new
         (counted_faults sort (token_word token.entry) (option_map typed_of taken.now)) }
 {
     match taken {
@@ -71,11 +71,11 @@ fn valued<'t>(
     faults: &mut Faults<'t>,
 ) -> Constant
     ensures constant { result ≡ with_value sort value }
-    ensures noted { told faults.new ≡ least_of (told faults.old)
+    ensures noted { Notes faults.old faults.new
         (fault_if (is_miscounted sort value) BadCount (token_word token.entry)) }
 {
     let Some(value) = value else {
-        faults.note(Kind::BadCount, token);
+        faults.note(Rule::BadCount, token);
         return Constant::NoValue;
     };
     let Some(sort) = sort else {
@@ -84,7 +84,7 @@ fn valued<'t>(
     match in_sort(value, sort) {
         Some(placed) => Constant::Value(placed),
         None => {
-            faults.note(Kind::BadCount, token);
+            faults.note(Rule::BadCount, token);
             Constant::Value(value)
         }
     }

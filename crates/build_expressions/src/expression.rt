@@ -1,7 +1,7 @@
 //! Expressions at places of the text that want a sort.
 
 ghost use Rattle.std.specs.Prelude.{◌≡◌, Some, map, option_map, IfOk, OnOk};
-ghost use Rattle.build_faults.specs.Faults.{least_of, told};
+ghost use Rattle.build_faults.specs.Faults.{Notes};
 ghost use Rattle.build_expressions.specs.Misused.{expression_faults, list_faults, place_faults};
 ghost use Rattle.build_expressions.specs.Resolved.{typed_of};
 ghost use Rattle.build_expressions.specs.Scope.{scope_of};
@@ -35,7 +35,7 @@ pub fn resolve<'t>(
 ) -> Result<Option<Typed>, AllocError>
     ensures typed { IfOk result (λ found. option_map typed_of found
         ≡ typed_in Transition (scope_of scope.now) (expr_value expression.now)) }
-    ensures noted { OnOk result (told faults.new ≡ least_of (told faults.old)
+    ensures noted { OnOk result (Notes faults.old faults.new
         (expression_faults Transition (scope_of scope.now) (expr_value expression.now))) }
 {
     resolve_in(alloc, Context::Transition, scope, expression, faults)
@@ -53,7 +53,7 @@ pub fn resolve_for<'t>(
 ) -> Result<Option<sdl_system::Expression>, AllocError>
     ensures term { IfOk result (λ found. option_map term_of found
         ≡ taken_term sort (typed_in Transition (scope_of scope.now) (expr_value expression.now))) }
-    ensures noted { OnOk result (told faults.new ≡ least_of (told faults.old)
+    ensures noted { OnOk result (Notes faults.old faults.new
         (place_faults Transition (scope_of scope.now) sort (expr_value expression.now))) }
 {
     resolve_at(alloc, Context::Transition, scope, expression, sort, faults)
@@ -68,7 +68,7 @@ pub fn resolve_condition<'t>(
 ) -> Result<Option<sdl_system::Expression>, AllocError>
     ensures term { IfOk result (λ found. option_map term_of found
         ≡ taken_term (Some Boolean) (typed_in Condition (scope_of scope.now) (expr_value expression.now))) }
-    ensures noted { OnOk result (told faults.new ≡ least_of (told faults.old)
+    ensures noted { OnOk result (Notes faults.old faults.new
         (place_faults Condition (scope_of scope.now) (Some Boolean) (expr_value expression.now))) }
 {
     let boolean = Some(Sort::Boolean);
@@ -92,7 +92,7 @@ fn resolve_at<'t>(
 ) -> Result<Option<sdl_system::Expression>, AllocError>
     ensures term { IfOk result (λ found. option_map term_of found
         ≡ taken_term sort (typed_in context (scope_of scope.now) (expr_value written.now))) }
-    ensures noted { OnOk result (told faults.new ≡ least_of (told faults.old)
+    ensures noted { OnOk result (Notes faults.old faults.new
         (place_faults context (scope_of scope.now) sort (expr_value written.now))) }
 {
     let typed = resolve_in(alloc, context, scope, written, faults)?;
@@ -114,7 +114,7 @@ pub fn resolve_values<'t>(
 ) -> Result<Option<Vec<sdl_system::Expression>>, AllocError>
     ensures terms { IfOk result (λ found. option_map (λ list. map term_of list.items) found
         ≡ taken_terms sorts.now (map (argument_in Transition (scope_of scope.now)) (map expr_value values.now))) }
-    ensures noted { OnOk result (told faults.new ≡ least_of (told faults.old)
+    ensures noted { OnOk result (Notes faults.old faults.new
         (list_faults Transition (scope_of scope.now) (name_value name.now) sorts.now (map expr_value values.now))) }
 {
     let arguments = resolve_each(alloc, Context::Transition, scope, values, faults)?;

@@ -6,7 +6,7 @@ ghost use Rattle.build_expressions.specs.Resolved.{operands_term};
 ghost use Rattle.sdl_system.specs.Term.{binary, term_of};
 
 use crate::typed::Typed;
-use build_operators::{Kind, TypedOperation};
+use build_operators::{OperandSort, TypedOperation};
 use sdl_system::{Chain, Expression, Link, Operation};
 use std::alloc::{AllocError, Global};
 
@@ -20,7 +20,7 @@ struct Operands {
 /// What stands on the left of the next operator of a chain.
 #[derive(Drop)]
 pub struct Left {
-    pub kind: Kind,
+    pub kind: OperandSort,
     operands: Option<Operands>,
     is_refused: bool,
 }

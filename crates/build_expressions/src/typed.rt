@@ -5,7 +5,7 @@ ghost use Rattle.sdl_system.specs.Term.{term_of, unary};
 
 use crate::context::Context;
 use crate::scope::{Constant, ValueMeaning};
-use build_operators::{Kind, TypedUnaryOperation};
+use build_operators::{OperandSort, TypedUnaryOperation};
 use port_values::{Pid, Value};
 use sdl_system::{Expression, PidExpression, Sort, UnaryOperation};
 use sdl_tree::KeywordValue;
@@ -14,7 +14,7 @@ use std::alloc::{AllocError, Global};
 /// An expression with its names resolved, and its kind.
 #[derive(Debug, Drop)]
 pub struct Typed {
-    pub kind: Kind,
+    pub kind: OperandSort,
     /// None where a synonym in it has no value or is refused, which is told where the synonym is defined.
     pub expression: Option<Expression>,
     /// Whether a synonym in it is refused.
@@ -26,7 +26,7 @@ impl Typed {
     ghost use Rattle.build_expressions.specs.Typing.{name_typed, of_synonym, plain, with_operation, word_typed};
 
     /// An expression of this kind that names no synonym.
-    pub(crate) fn plain(kind: Kind, expression: Expression) -> Self
+    pub(crate) fn plain(kind: OperandSort, expression: Expression) -> Self
         ensures { typed_of result ≡ plain kind (term_of expression) }
     {
         Typed {
@@ -43,7 +43,7 @@ impl Typed {
         match meaning {
             ValueMeaning::Variable { number, sort } => {
                 if context.allows_instance() {
-                    Some(Typed::plain(Kind::of_sort(sort?), Expression::Variable(number)))
+                    Some(Typed::plain(OperandSort::of_sort(sort?), Expression::Variable(number)))
                 } else {
                     None
                 }
@@ -56,7 +56,7 @@ impl Typed {
         ensures { typed_of result ≡ of_synonym value sort }
     {
         Typed {
-            kind: Kind::of_sort(sort),
+            kind: OperandSort::of_sort(sort),
             expression: match value {
                 Constant::Value(value) => Some(Expression::Value(value)),
                 Constant::NoValue | Constant::Refused => None,
@@ -71,24 +71,27 @@ impl Typed {
     {
         match value {
             KeywordValue::True => {
-                Typed::plain(Kind::Boolean, Expression::Value(Value::Bool(true)))
+                Typed::plain(OperandSort::Boolean, Expression::Value(Value::Bool(true)))
             }
             KeywordValue::False => {
-                Typed::plain(Kind::Boolean, Expression::Value(Value::Bool(false)))
+                Typed::plain(OperandSort::Boolean, Expression::Value(Value::Bool(false)))
             }
-            KeywordValue::Null => Typed::plain(Kind::Pid, Expression::Value(Value::Pid(Pid::Null))),
-            KeywordValue::Now => Typed::plain(Kind::Time, Expression::Now),
+            KeywordValue::Null => Typed::plain(
+                OperandSort::Pid,
+                Expression::Value(Value::Pid(Pid::Null)),
+            ),
+            KeywordValue::Now => Typed::plain(OperandSort::Time, Expression::Now),
             KeywordValue::SelfPid => {
-                Typed::plain(Kind::Pid, Expression::Pid(PidExpression::SelfPid))
+                Typed::plain(OperandSort::Pid, Expression::Pid(PidExpression::SelfPid))
             }
             KeywordValue::Parent => {
-                Typed::plain(Kind::Pid, Expression::Pid(PidExpression::Parent))
+                Typed::plain(OperandSort::Pid, Expression::Pid(PidExpression::Parent))
             }
             KeywordValue::Offspring => {
-                Typed::plain(Kind::Pid, Expression::Pid(PidExpression::Offspring))
+                Typed::plain(OperandSort::Pid, Expression::Pid(PidExpression::Offspring))
             }
             KeywordValue::Sender => {
-                Typed::plain(Kind::Pid, Expression::Pid(PidExpression::Sender))
+                Typed::plain(OperandSort::Pid, Expression::Pid(PidExpression::Sender))
             }
         }
     }

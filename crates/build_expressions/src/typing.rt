@@ -2,7 +2,7 @@
 
 ghost use Rattle.std.specs.Prelude.{◌≡◌, ◌++◌, None, Some, flat_map, map, option_map, if◌then◌else◌, IfOk, OnOk};
 ghost use Rattle.build_expressions.specs.Contexts.{allows_word};
-ghost use Rattle.build_faults.specs.Faults.{least_of, told, token_word};
+ghost use Rattle.build_faults.specs.Faults.{Notes, token_word};
 ghost use Rattle.build_expressions.specs.Misused.{active_faults, binary_faults, expression_faults, name_faults, timer_faults, unary_faults, word_faults};
 ghost use Rattle.build_expressions.specs.Resolved.{argument_of, left_of, typed_of};
 ghost use Rattle.build_expressions.specs.Scope.{scope_of, signal_in, value_in};
@@ -16,7 +16,7 @@ use crate::left::Left;
 use crate::scope::{Scope, SignalMeaning, ValueMeaning};
 use crate::typed::Typed;
 use build_faults::{Faults, Token};
-use build_operators::{Kind, result_of, unary_result_of};
+use build_operators::{OperandSort, result_of, unary_result_of};
 use port_values::{SignalId, Value};
 use sdl_tree::{
     Chain, Expression, KeywordValue, Link, Mark, Name, Operator, Spelling, UnaryOperator,
@@ -34,13 +34,13 @@ pub fn resolve_in<'t>(
 ) -> Result<Option<Typed>, AllocError>
     ensures typed { IfOk result (λ found. option_map typed_of found
         ≡ typed_in context (scope_of scope.now) (expr_value expression.now)) }
-    ensures noted { OnOk result (told faults.new ≡ least_of (told faults.old)
+    ensures noted { OnOk result (Notes faults.old faults.new
         (expression_faults context (scope_of scope.now) (expr_value expression.now))) }
 {
     match expression {
         Expression::Number(number) => {
             let value = sdl_system::Expression::Value(Value::Int(number.value));
-            Ok(Some(Typed::plain(Kind::Free, value)))
+            Ok(Some(Typed::plain(OperandSort::Free, value)))
         }
         Expression::Name(name) => Ok(resolve_name(context, scope, name, faults)),
         Expression::Keyword { value, word } => Ok(resolve_word(context, *value, *word, faults)),
@@ -78,7 +78,7 @@ fn resolve_chain<'t>(
 ) -> Result<Option<Typed>, AllocError>
     ensures typed { IfOk result (λ found. option_map typed_of found
         ≡ typed_in context (scope_of scope.now) (chain_value chain.now)) }
-    ensures noted { OnOk result (told faults.new ≡ least_of (told faults.old)
+    ensures noted { OnOk result (Notes faults.old faults.new
         (expression_faults context (scope_of scope.now) (chain_value chain.now))) }
 {
     let mut left = begin(
@@ -102,7 +102,7 @@ fn resolve_link<'t>(
 ) -> Result<Option<Left>, AllocError>
     ensures typed { IfOk result (λ found. option_map left_of found ≡ binary_typed link.now.operator
         (option_map left_of left) (typed_in context (scope_of scope.now) (expr_value link.now.operand))) }
-    ensures noted { OnOk result (told faults.new ≡ least_of (told faults.old)
+    ensures noted { OnOk result (Notes faults.old faults.new
         (expression_faults context (scope_of scope.now) (expr_value link.now.operand)
         ++ binary_faults link.now.operator link.now.word (option_map left_of left)
         (typed_in context (scope_of scope.now) (expr_value link.now.operand)))) }
@@ -122,7 +122,7 @@ pub fn resolve_each<'t>(
 ) -> Result<Vec<Argument<'t>>, AllocError>
     ensures arguments { IfOk result (λ arguments. map argument_of arguments.items
         ≡ map (argument_in context (scope_of scope.now)) (map expr_value values.now)) }
-    ensures noted { OnOk result (told faults.new ≡ least_of (told faults.old)
+    ensures noted { OnOk result (Notes faults.old faults.new
         (flat_map (expression_faults context (scope_of scope.now)) (map expr_value values.now))) }
 {
     let mut arguments = Vec::new(alloc);
@@ -167,17 +167,17 @@ fn resolve_name<'t>(
 ) -> Option<Typed>
     ensures typed { option_map typed_of result
         ≡ name_typed context (value_in (scope_of scope.now) (name_value name.now).text) }
-    ensures noted { told faults.new ≡ least_of (told faults.old)
+    ensures noted { Notes faults.old faults.new
         (name_faults context (name_value name.now) (value_in (scope_of scope.now) (name_value name.now).text)) }
 {
     let Some(meaning) = scope.value(&name.text) else {
-        faults.note(build_faults::Kind::Unknown, Token::of_name(name));
+        faults.note(build_faults::Rule::Unknown, Token::of_name(name));
         return None;
     };
     if let ValueMeaning::Variable { .. } = meaning
         && !context.allows_instance()
     {
-        faults.note(build_faults::Kind::Sort, Token::of_name(name));
+        faults.note(build_faults::Rule::Sort, Token::of_name(name));
     }
     Typed::of_name(context, meaning)
 }
@@ -189,12 +189,12 @@ fn resolve_word<'t>(
     faults: &mut Faults<'t>,
 ) -> Option<Typed>
     ensures typed { option_map typed_of result ≡ (if allows_word context value then Some (word_typed value) else None) }
-    ensures noted { told faults.new ≡ least_of (told faults.old) (word_faults context value word) }
+    ensures noted { Notes faults.old faults.new (word_faults context value word) }
 {
     if context.allows_word(value) {
         Some(Typed::of_word(value))
     } else {
-        faults.note(build_faults::Kind::Sort, Token::of_mark(value.mark(), word));
+        faults.note(build_faults::Rule::Sort, Token::of_mark(value.mark(), word));
         None
     }
 }
@@ -208,7 +208,7 @@ fn resolve_unary<'t>(
 ) -> Result<Option<Typed>, AllocError>
     ensures typed { IfOk result (λ found. option_map typed_of found
         ≡ unary_typed operator (option_map typed_of operand)) }
-    ensures noted { OnOk result (told faults.new ≡ least_of (told faults.old)
+    ensures noted { OnOk result (Notes faults.old faults.new
         (unary_faults operator word (option_map typed_of operand))) }
 {
     let Some(operand) = operand else {
@@ -218,7 +218,7 @@ fn resolve_unary<'t>(
         Some(operation) => Ok(Some(operand.with(alloc, operation)?)),
         None => {
             faults.note(
-                build_faults::Kind::Sort,
+                build_faults::Rule::Sort,
                 Token::of_mark(operator.mark(), word),
             );
             Ok(None)
@@ -244,7 +244,7 @@ fn join<'t>(
 ) -> Result<Option<Left>, AllocError>
     ensures typed { IfOk result (λ found. option_map left_of found
         ≡ binary_typed operator (option_map left_of left) (option_map typed_of right)) }
-    ensures noted { OnOk result (told faults.new ≡ least_of (told faults.old)
+    ensures noted { OnOk result (Notes faults.old faults.new
         (binary_faults operator word (option_map left_of left) (option_map typed_of right))) }
 {
     let (Some(left), Some(right)) = (left, right) else {
@@ -254,7 +254,7 @@ fn join<'t>(
         Some(operation) => Ok(Some(left.join(operation, right)?)),
         None => {
             faults.note(
-                build_faults::Kind::Sort,
+                build_faults::Rule::Sort,
                 Token::of_mark(operator.mark(), word),
             );
             Ok(None)
@@ -272,10 +272,10 @@ fn finish(alloc: Global, left: Option<Left>) -> Result<Option<Typed>, AllocError
 }
 
 fn note_active<'t>(context: Context, word: Spelling, faults: &mut Faults<'t>)
-    ensures { told faults.new ≡ least_of (told faults.old) (active_faults context word) }
+    ensures { Notes faults.old faults.new (active_faults context word) }
 {
     if !context.allows_instance() {
-        faults.note(build_faults::Kind::Sort, Token::of_mark(Mark::Active, word));
+        faults.note(build_faults::Rule::Sort, Token::of_mark(Mark::Active, word));
     }
 }
 
@@ -289,11 +289,12 @@ fn resolve_timer<'t>(
 ) -> Result<Option<Typed>, AllocError>
     ensures typed { IfOk result (λ found. option_map typed_of found ≡ active_typed context
         (signal_in (scope_of scope.now) (name_value timer.now).text) (map argument_of arguments.entry.items)) }
-    ensures noted { OnOk result (told faults.new ≡ least_of (told faults.old) (timer_faults (name_value timer.now)
-        (signal_in (scope_of scope.now) (name_value timer.now).text) (map argument_of arguments.entry.items))) }
+    ensures noted { OnOk result (Notes faults.old faults.new
+        (timer_faults (name_value timer.now) (signal_in (scope_of scope.now) (name_value timer.now).text)
+        (map argument_of arguments.entry.items))) }
 {
     let Some(SignalMeaning::Timer { number, sorts, .. }) = scope.signal(&timer.text) else {
-        faults.note(build_faults::Kind::Unknown, Token::of_name(timer));
+        faults.note(build_faults::Rule::Unknown, Token::of_name(timer));
         return Ok(None);
     };
     let are_taken = place_all(timer, sorts, &arguments, faults);
@@ -318,7 +319,7 @@ fn activity(
         Some(values) => Some(sdl_system::Expression::Active { timer, values }),
     };
     Ok(Typed {
-        kind: Kind::Boolean,
+        kind: OperandSort::Boolean,
         expression,
         is_refused,
     })

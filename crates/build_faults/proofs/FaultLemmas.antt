@@ -2,37 +2,38 @@
 use Rattle.std.proofs.Common.{◌≡◌, ◌⊎◌, inl, inr, ◌++◌, Bool, true, false, List, [], ◌∷◌, Option, None, Some, flat_map, if◌then◌else◌, refl, sym, subst}
 use Rattle.std.proofs.lemmas.List.Sums.{fold-append}
 use Rattle.sdl_tree.specs.Words.{Spot}
-use Rattle.build_faults.specs.declared.fault.Kind.{Kind}
+use Rattle.build_faults.specs.declared.fault.Rule.{Rule}
 use Rattle.build_faults.specs.FaultLaws.{Each, In, IsFirst}
-use Rattle.build_faults.specs.Faults.{Told, told_at, key, precedes, earlier, least_of, fault_if}
+use Rattle.build_faults.specs.Faults.{Diagnostic, diagnostic_at, key, precedes, earlier, least_of, fault_if}
 use Rattle.build_faults.proofs.OrderLemmas.{not_less-trans, less-asym, not_less-same}
 
 -- ---- what is told
 
-pub both_noted : (old : Option Told) (xs ys : List Told) → least_of (least_of old xs) ys ≡ least_of old (xs ++ ys)
+pub both_noted : (old : Option Diagnostic) (xs ys : List Diagnostic) →
+    least_of (least_of old xs) ys ≡ least_of old (xs ++ ys)
 both_noted old xs ys = sym (fold-append earlier old xs ys)
 
 -- a fault that was noted stays, or an earlier one is told
-one_told : (old x : Told) (xs : List Told) → (least_of (Some x) xs ≡ None → ⊥) →
+one_told : (old x : Diagnostic) (xs : List Diagnostic) → (least_of (Some x) xs ≡ None → ⊥) →
     (least_of (Some old) xs ≡ None → ⊥) → (b : Bool) → least_of (if b then Some x else Some old) xs ≡ None → ⊥
 one_told old x xs by_x by_old true h = by_x h
 one_told old x xs by_x by_old false h = by_old h
 
-some_told : (old : Told) (xs : List Told) → least_of (Some old) xs ≡ None → ⊥
+some_told : (old : Diagnostic) (xs : List Diagnostic) → least_of (Some old) xs ≡ None → ⊥
 some_told old [] h = cc
 some_told old (x ∷ xs) h = one_told old x xs (some_told x xs) (some_told old xs) (precedes x old) h
 
-pub none_noted : (faults : List Told) → least_of None faults ≡ None → faults ≡ []
+pub none_noted : (faults : List Diagnostic) → least_of None faults ≡ None → faults ≡ []
 none_noted [] h = refl
 none_noted (x ∷ xs) h = absurd (some_told x xs h)
 
 -- the fault that is told once these are noted behind an old one
-record IsFirstFrom (old : Told) (xs : List Told) (fault : Told) : Type 0 where
+record IsFirstFrom (old : Diagnostic) (xs : List Diagnostic) (fault : Diagnostic) : Type 0 where
   among : (fault ≡ old) ⊎ In fault xs
   old_first : precedes old fault ≡ false
   first : Each (λ other. precedes other fault ≡ false) xs
 
-one_first : (old x : Told) (xs : List Told) (fault : Told) →
+one_first : (old x : Diagnostic) (xs : List Diagnostic) (fault : Diagnostic) →
     (least_of (Some x) xs ≡ Some fault → IsFirstFrom x xs fault) →
     (least_of (Some old) xs ≡ Some fault → IsFirstFrom old xs fault) → (b : Bool) → precedes x old ≡ b →
     least_of (if b then Some x else Some old) xs ≡ Some fault → IsFirstFrom old (x ∷ xs) fault
@@ -51,7 +52,7 @@ one_first old x xs fault by_x by_old false less h =
       first = (not_less-trans (key fault) (key old) (key x) rest.old_first less, rest.first);
     }
 
-first_from : (old : Told) (xs : List Told) (fault : Told) → least_of (Some old) xs ≡ Some fault →
+first_from : (old : Diagnostic) (xs : List Diagnostic) (fault : Diagnostic) → least_of (Some old) xs ≡ Some fault →
     IsFirstFrom old xs fault
 first_from old [] fault h =
     let same : old ≡ fault = cc in
@@ -63,7 +64,8 @@ first_from old [] fault h =
 first_from old (x ∷ xs) fault h =
     one_first old x xs fault (first_from x xs fault) (first_from old xs fault) (precedes x old) refl h
 
-pub first_noted : (faults : List Told) (fault : Told) → least_of None faults ≡ Some fault → IsFirst faults fault
+pub first_noted : (faults : List Diagnostic) (fault : Diagnostic) → least_of None faults ≡ Some fault →
+    IsFirst faults fault
 first_noted [] fault h = cc
 first_noted (x ∷ xs) fault h =
     let from = first_from x xs fault h in
@@ -84,10 +86,10 @@ pub each-in : {A : Type 0} (P : A → Type 0) (xs : List A) (x : A) → Each P x
 each-in P [] x each at = absurd at
 each-in P (y ∷ ys) x each at = elim at [ inl e ↦ subst P (sym e) each.0 | inr i ↦ each-in P ys x each.1 i ]
 
-pub each-if : (P : Told → Type 0) (broken : Bool) (kind : Kind) (word : Spot) →
-    (broken ≡ true → P (told_at kind word)) → Each P (fault_if broken kind word)
-each-if P true kind word is = (is refl, tt)
-each-if P false kind word is = tt
+pub each-if : (P : Diagnostic → Type 0) (broken : Bool) (rule : Rule) (word : Spot) →
+    (broken ≡ true → P (diagnostic_at rule word)) → Each P (fault_if broken rule word)
+each-if P true rule word is = (is refl, tt)
+each-if P false rule word is = tt
 
 -- ---- what stands in a list of faults
 
@@ -108,7 +110,7 @@ in-each x f (z ∷ xs) y at here =
       | inr i ↦ in-right x (f z) (flat_map f xs) (in-each x f xs y i here)
     ]
 
-pub in-if : (broken : Bool) (kind : Kind) (word : Spot) → broken ≡ true →
-    In (told_at kind word) (fault_if broken kind word)
-in-if true kind word is = inl refl
-in-if false kind word is = cc
+pub in-if : (broken : Bool) (rule : Rule) (word : Spot) → broken ≡ true →
+    In (diagnostic_at rule word) (fault_if broken rule word)
+in-if true rule word is = inl refl
+in-if false rule word is = cc

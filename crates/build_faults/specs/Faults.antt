@@ -1,19 +1,18 @@
 -- Faults of a specification, their order, and which of them is told.
-use Rattle.std.specs.Prelude.{ℕ, ◌==◌, ◌&&◌, ◌||◌, Bool, true, false, List, [], ◌∷◌, Option, None, Some, fold, nat_lt, option_map, slice_get, if◌then◌else◌}
+use Rattle.std.specs.Prelude.{◌≡◌, ℕ, ◌==◌, ◌&&◌, ◌||◌, Bool, true, false, List, [], ◌∷◌, Option, None, Some, fold, nat_lt, slice_get, if◌then◌else◌}
 use Rattle.sdl_lex.specs.declared.place.Place.{Place}
 use Rattle.sdl_tree.specs.Mark.{spelled}
 use Rattle.sdl_tree.specs.Words.{Spot}
 use Rattle.sdl_tree.specs.declared.mark.Mark.{Mark}
 use Rattle.sdl_tree.specs.declared.name.Spelling.{Spelling}
 use Rattle.build_faults.specs.declared.fault.Fault.{Fault}
-use Rattle.build_faults.specs.declared.fault.Faults.{Faults}
-use Rattle.build_faults.specs.declared.fault.Kind.{Kind}
-use Rattle.build_faults.specs.declared.fault.Kind.TheVariants.{Unknown, Duplicate, Sort, TwiceInState, NoState, NoLabel, NoRoute, BadCount, NoEnd, Limit}
+use Rattle.build_faults.specs.declared.fault.Rule.{Rule}
+use Rattle.build_faults.specs.declared.fault.Rule.TheVariants.{Unknown, Duplicate, Sort, TwiceInState, NoState, NoLabel, NoRoute, BadCount, NoEnd, Limit}
 use Rattle.build_faults.specs.declared.fault.Token.{Token}
 
 -- a rule that is broken, with the text of the word at which it is told, and where that stands
-pub record Told : Type 0 where
-  pub kind : Kind
+pub record Diagnostic : Type 0 where
+  pub rule : Rule
   pub text : List ℕ
   pub place : Place
 
@@ -21,17 +20,17 @@ pub record Told : Type 0 where
 abbrev pub mark_word : Mark → Spelling → Spot
 mark_word mark word = record { text = spelled mark word.case; place = word.place }
 
-abbrev pub told_at : Kind → Spot → Told
-told_at kind word = record { kind = kind; text = word.text; place = word.place }
+abbrev pub diagnostic_at : Rule → Spot → Diagnostic
+diagnostic_at rule word = record { rule = rule; text = word.text; place = word.place }
 
 -- the word at which it is told
-abbrev pub told_word : Told → Spot
-told_word fault = record { text = fault.text; place = fault.place }
+abbrev pub diagnostic_word : Diagnostic → Spot
+diagnostic_word fault = record { text = fault.text; place = fault.place }
 
 -- ---- the order
 
--- of two faults at one place the kind with the smaller number is told
-abbrev pub rank : Kind → ℕ
+-- of two faults at one place the one whose rule has the smaller number is told
+abbrev pub rank : Rule → ℕ
 rank Unknown = 0
 rank Duplicate = 1
 rank Sort = 2
@@ -44,7 +43,7 @@ rank NoEnd = 8
 rank Limit = 9
 
 -- limits come before all else
-abbrev pub phase : Kind → ℕ
+abbrev pub phase : Rule → ℕ
 phase Limit = 0
 phase _ = 1
 
@@ -56,35 +55,39 @@ is_less (x ∷ xs) [] = false
 is_less (x ∷ xs) (y ∷ ys) = nat_lt x y || (x == y && is_less xs ys)
 
 -- what faults are ordered by
-abbrev pub key : Told → List ℕ
-key fault = phase fault.kind ∷ fault.place.line ∷ fault.place.column ∷ rank fault.kind ∷ []
+abbrev pub key : Diagnostic → List ℕ
+key fault = phase fault.rule ∷ fault.place.line ∷ fault.place.column ∷ rank fault.rule ∷ []
 
 -- whether the first fault is told before the second
-abbrev pub precedes : Told → Told → Bool
+abbrev pub precedes : Diagnostic → Diagnostic → Bool
 precedes one other = is_less (key one) (key other)
 
 -- of two faults that were noted one after the other, the one that is told
-abbrev pub earlier : Option Told → Told → Option Told
+abbrev pub earlier : Option Diagnostic → Diagnostic → Option Diagnostic
 earlier None fault = Some fault
 earlier (Some old) fault = if precedes fault old then Some fault else Some old
 
 -- the fault that is told once these are noted
-abbrev pub least_of : Option Told → List Told → Option Told
+abbrev pub least_of : Option Diagnostic → List Diagnostic → Option Diagnostic
 least_of old faults = fold earlier old faults
+
+-- these faults were noted, one after the other: of them and of the one that was told before, the first is told
+abbrev pub Notes : Option Diagnostic → Option Diagnostic → List Diagnostic → Type 0
+Notes old new faults = new ≡ least_of old faults
 
 -- ---- lists of faults
 
 -- a fault at the word where the rule is broken
-abbrev pub fault_if : Bool → Kind → Spot → List Told
-fault_if broken kind word = if broken then told_at kind word ∷ [] else []
+abbrev pub fault_if : Bool → Rule → Spot → List Diagnostic
+fault_if broken rule word = if broken then diagnostic_at rule word ∷ [] else []
 
 -- a Limit at the word that is past it, if there is one
-abbrev pub limit_at : Option Spot → List Told
+abbrev pub limit_at : Option Spot → List Diagnostic
 limit_at None = []
-limit_at (Some word) = told_at Limit word ∷ []
+limit_at (Some word) = diagnostic_at Limit word ∷ []
 
 -- a Limit at the word that has so many before it in the list, if there is one
-abbrev pub fault_at : ℕ → List Spot → List Told
+abbrev pub fault_at : ℕ → List Spot → List Diagnostic
 fault_at most words = limit_at (slice_get words most)
 
 -- ---- what the code keeps
@@ -93,9 +96,5 @@ fault_at most words = limit_at (slice_get words most)
 abbrev pub token_word : Token → Spot
 token_word token = record { text = token.text.now; place = token.place }
 
-abbrev pub told_of : Fault → Told
-told_of fault = told_at fault.kind (token_word fault.token)
-
--- the fault that is told, if one was noted
-abbrev pub told : Faults → Option Told
-told faults = option_map told_of faults.least
+abbrev pub diagnostic_of : Fault → Diagnostic
+diagnostic_of fault = diagnostic_at fault.rule (token_word fault.token)

@@ -5,6 +5,7 @@ ghost use Rattle.sdl_tree.specs.Views.{name_value};
 
 use sdl_lex::Place;
 use sdl_tree::{Mark, Name, Number, Spelling};
+use std::marker::Model;
 
 /// A token of the text: how it is spelled, and where it stands.
 #[derive(Clone, Copy, Debug)]
@@ -44,9 +45,9 @@ impl<'t> Token<'t> {
     }
 }
 
-/// The rule that is broken. Of two faults at one place the one whose kind comes first in this list is told.
+/// The rule that is broken. Of two faults at one place the one whose rule comes first in this list is told.
 #[derive(Clone, Copy, Debug, PartialEq, Eq)]
-pub enum Kind {
+pub enum Rule {
     /// The name means nothing here.
     Unknown,
     /// The name stands for something in this scope already.
@@ -69,7 +70,7 @@ pub enum Kind {
     Limit,
 }
 
-impl Kind {
+impl Rule {
     ghost use Rattle.build_faults.specs.Faults.{phase, rank};
 
     /// Whether it is told behind the limits.
@@ -77,26 +78,26 @@ impl Kind {
         ensures { result ≡ phase self }
     {
         match self {
-            Kind::Limit => 0,
+            Rule::Limit => 0,
             _ => 1,
         }
     }
 
-    /// Its number in the list of kinds.
+    /// Its number in the list of rules.
     fn rank(self) -> usize
         ensures { result ≡ rank self }
     {
         match self {
-            Kind::Unknown => 0,
-            Kind::Duplicate => 1,
-            Kind::Sort => 2,
-            Kind::TwiceInState => 3,
-            Kind::NoState => 4,
-            Kind::NoLabel => 5,
-            Kind::NoRoute => 6,
-            Kind::BadCount => 7,
-            Kind::NoEnd => 8,
-            Kind::Limit => 9,
+            Rule::Unknown => 0,
+            Rule::Duplicate => 1,
+            Rule::Sort => 2,
+            Rule::TwiceInState => 3,
+            Rule::NoState => 4,
+            Rule::NoLabel => 5,
+            Rule::NoRoute => 6,
+            Rule::BadCount => 7,
+            Rule::NoEnd => 8,
+            Rule::Limit => 9,
         }
     }
 }
@@ -104,26 +105,26 @@ impl Kind {
 /// A rule that is broken at a token.
 #[derive(Clone, Copy, Debug)]
 pub struct Fault<'t> {
-    pub kind: Kind,
+    pub rule: Rule,
     pub token: Token<'t>,
 }
 
 impl<'t> Fault<'t> {
-    ghost use Rattle.build_faults.specs.Faults.{precedes, told_of};
+    ghost use Rattle.build_faults.specs.Faults.{precedes, diagnostic_of};
 
     /// Whether this fault is told before the other.
     pub fn precedes(&self, other: &Fault<'t>) -> bool
-        ensures { result ≡ precedes (told_of self.now) (told_of other.now) }
+        ensures { result ≡ precedes (diagnostic_of self.now) (diagnostic_of other.now) }
     {
         let (here, there) = (self.token.place, other.token.place);
-        if self.kind.phase() != other.kind.phase() {
-            self.kind.phase() < other.kind.phase()
+        if self.rule.phase() != other.rule.phase() {
+            self.rule.phase() < other.rule.phase()
         } else if here.line != there.line {
             here.line < there.line
         } else if here.column != there.column {
             here.column < there.column
         } else {
-            self.kind.rank() < other.kind.rank()
+            self.rule.rank() < other.rule.rank()
         }
     }
 }
@@ -131,37 +132,47 @@ impl<'t> Fault<'t> {
 /// The fault to tell among those that were noted.
 #[derive(Debug, Drop)]
 pub struct Faults<'t> {
-    least: Option<Fault<'t>>,
+    first: Option<Fault<'t>>,
+}
+
+/// The fault that is told, if one was noted.
+impl<'t> Model for Faults<'t> {
+    ghost use Rattle.std.specs.Prelude.{Option, option_map};
+    ghost use Rattle.build_faults.specs.Faults.{Diagnostic, diagnostic_of};
+
+    ghost Value = { Option Diagnostic };
+
+    ghost view = { λ faults. option_map diagnostic_of faults.first };
 }
 
 impl<'t> Faults<'t> {
-    ghost use Rattle.build_faults.specs.Faults.{earlier, told, told_at, told_of, token_word};
+    ghost use Rattle.build_faults.specs.Faults.{diagnostic_at, diagnostic_of, earlier, token_word};
 
     /// No fault noted yet.
     pub fn new() -> Self
-        ensures { told result ≡ None }
+        ensures { result ≡ None }
     {
-        Faults { least: None }
+        Faults { first: None }
     }
 
     /// Notes that a rule is broken at a token.
-    pub fn note(&mut self, kind: Kind, token: Token<'t>)
-        ensures { told self.new ≡ earlier (told self.old) (told_at kind (token_word token.entry)) }
+    pub fn note(&mut self, rule: Rule, token: Token<'t>)
+        ensures { self.new ≡ earlier self.old (diagnostic_at rule (token_word token.entry)) }
     {
-        let fault = Fault { kind, token };
-        let is_first = match &self.least {
+        let fault = Fault { rule, token };
+        let is_first = match &self.first {
             None => true,
-            Some(least) => fault.precedes(least),
+            Some(first) => fault.precedes(first),
         };
         if is_first {
-            self.least = Some(fault);
+            self.first = Some(fault);
         }
     }
 
     /// The fault that is told, if one was noted.
-    pub fn least(&self) -> Option<Fault<'t>>
-        ensures { option_map told_of result ≡ told self.now }
+    pub fn first(&self) -> Option<Fault<'t>>
+        ensures { option_map diagnostic_of result ≡ self.now }
     {
-        self.least
+        self.first
     }
 }

@@ -2,14 +2,13 @@
 
 ghost use Rattle.std.specs.Prelude.{◌≡◌, fold, IfOk, OnOk};
 ghost use Rattle.build_labels.specs.Labels.{names_listed};
-ghost use Rattle.build_limits.specs.Limits.{different, state_names, with_new};
-ghost use Rattle.build_limits.specs.Listed.{words_listed};
-ghost use Rattle.sdl_tree.specs.Views.{name_value, names_value, process_value};
+ghost use Rattle.build_labels.specs.States.{different, part_states, state_names, with_new, words_listed};
+ghost use Rattle.sdl_tree.specs.Views.{body_part_value, name_value, names_value, process_value};
 
 use build_faults::Faults;
-use build_limits::{Names, named_states};
+use build_scopes::Names;
 use sdl_lex::Place;
-use sdl_tree::{Name, ProcessDefinition};
+use sdl_tree::{BodyPart, Name, ProcessDefinition, StatePart, States};
 use std::alloc::{AllocError, Global};
 
 /// The different states of a process, in the order in which its state lists first name them, each by the word that
@@ -26,6 +25,21 @@ pub fn states_of<'t>(
         add_states(&mut seen, &mut states, named_states(part))?;
     }
     Ok(states)
+}
+
+/// The names of the state list of a part of a process; none of `state *`, and of what is no state.
+fn named_states(part: &BodyPart) -> &[Name]
+    ensures { names_value result.now ≡ part_states (body_part_value part.now) }
+{
+    match part {
+        BodyPart::State(
+            StatePart {
+                states: States::Named(names),
+                ..
+            },
+        ) => names,
+        _ => &[],
+    }
 }
 
 /// Adds those of these names that are new.

@@ -7,11 +7,12 @@ use Rattle.std.proofs.lemmas.List.Sums.{fold-append}
 use Rattle.std.proofs.lemmas.Option.{same_Some, slice_get_past}
 use Rattle.sdl_tree.specs.Tree.{ProcessDefinition, Tree}
 use Rattle.sdl_tree.specs.Words.{Spot}
-use Rattle.build_faults.specs.declared.fault.Kind.TheVariants.{Limit}
+use Rattle.build_faults.specs.declared.fault.Rule.TheVariants.{Limit}
 use Rattle.build_limits.specs.Broken.{AtProcess, IsLimit, IsNewBehind, PassesLimit, StandsBehind, processes, declared, statements, sorts, parameters, states}
-use Rattle.build_faults.specs.Faults.{Told, told_at, told_word, limit_at, fault_at}
+use Rattle.build_faults.specs.Faults.{Diagnostic, diagnostic_at, diagnostic_word, limit_at, fault_at}
 use Rattle.build_faults.specs.FaultLaws.{Each, In}
-use Rattle.build_limits.specs.Limits.{Declared, declared_faults, declared_in, declared_name, different, is_same_text, limit_faults, parameter_names, process_faults, process_name, processes_in, state_names, statements_in, with_new}
+use Rattle.build_limits.specs.Limits.{Declared, declared_faults, declared_in, declared_name, limit_faults, parameter_names, process_faults, process_name, processes_in, statements_in}
+use Rattle.build_labels.specs.States.{different, is_same_text, state_names, with_new}
 use Rattle.build_faults.proofs.FaultLemmas.{each-both, each-of, in-each, in-left, in-right}
 
 -- ---- elements behind others
@@ -87,21 +88,21 @@ in-list xs before after x is = subst (λ ys. In x ys) (sym is) (in-right x befor
 
 -- ---- limits at words
 
-each-limit : (P : Told → Type 0) (past : Option Spot) →
-    ((word : Spot) → past ≡ Some word → P (told_at Limit word)) → Each P (limit_at past)
+each-limit : (P : Diagnostic → Type 0) (past : Option Spot) →
+    ((word : Spot) → past ≡ Some word → P (diagnostic_at Limit word)) → Each P (limit_at past)
 each-limit P None is = tt
 each-limit P (Some word) is = (is word refl, tt)
 
-each-at : (P : Told → Type 0) (most : ℕ) (words : List Spot) →
-    ((word : Spot) → slice_get words most ≡ Some word → P (told_at Limit word)) → Each P (fault_at most words)
+each-at : (P : Diagnostic → Type 0) (most : ℕ) (words : List Spot) →
+    ((word : Spot) → slice_get words most ≡ Some word → P (diagnostic_at Limit word)) → Each P (fault_at most words)
 each-at P most words is = each-limit P (slice_get words most) is
 
 in-at : (most : ℕ) (words : List Spot) (word : Spot) → slice_get words most ≡ Some word →
-    In (told_at Limit word) (fault_at most words)
-in-at most words word at = subst (λ past. In (told_at Limit word) (limit_at past)) (sym at) (inl refl)
+    In (diagnostic_at Limit word) (fault_at most words)
+in-at most words word at = subst (λ past. In (diagnostic_at Limit word) (limit_at past)) (sym at) (inl refl)
 
 in-behind : (most : ℕ) (words : List Spot) (word : Spot) → StandsBehind most words word →
-    In (told_at Limit word) (fault_at most words)
+    In (diagnostic_at Limit word) (fault_at most words)
 in-behind most words word at = in-at most words word (got most words at.before at.after word at.in_words at.count)
 
 behind-words : (most : ℕ) (words : List Spot) (word : Spot) → slice_get words most ≡ Some word →
@@ -212,11 +213,11 @@ new-got most words word at =
 
 -- ---- each limit of the list is passed
 
-limit-of : (tree : Tree) (word : Spot) → PassesLimit tree word → IsLimit tree (told_at Limit word)
-limit-of tree word passed = record { kind = refl; passed = passed }
+limit-of : (tree : Tree) (word : Spot) → PassesLimit tree word → IsLimit tree (diagnostic_at Limit word)
+limit-of tree word passed = record { rule = refl; passed = passed }
 
 process-limit : (tree : Tree) (word : Spot) → slice_get (map process_name (processes_in tree)) 200 ≡ Some word →
-    IsLimit tree (told_at Limit word)
+    IsLimit tree (diagnostic_at Limit word)
 process-limit tree word at =
     let one = from process_name (processes_in tree) 200 word at in
     let there = behind 200 (processes_in tree) one.source one.at in
@@ -229,7 +230,7 @@ process-limit tree word at =
     }))
 
 declared-limit : (tree : Tree) (word : Spot) → slice_get (map declared_name (declared_in tree)) 1000 ≡ Some word →
-    IsLimit tree (told_at Limit word)
+    IsLimit tree (diagnostic_at Limit word)
 declared-limit tree word at =
     let one = from declared_name (declared_in tree) 1000 word at in
     let there = behind 1000 (declared_in tree) one.source one.at in
@@ -242,11 +243,11 @@ declared-limit tree word at =
     }))
 
 statement-limit : (tree : Tree) (word : Spot) → slice_get (statements_in tree) 50000 ≡ Some word →
-    IsLimit tree (told_at Limit word)
+    IsLimit tree (diagnostic_at Limit word)
 statement-limit tree word at = limit-of tree word (statements (behind-words 50000 (statements_in tree) word at))
 
 sort-limit : (tree : Tree) (one : Declared) (word : Spot) → In one (declared_in tree) →
-    slice_get one.sorts 16 ≡ Some word → IsLimit tree (told_at Limit word)
+    slice_get one.sorts 16 ≡ Some word → IsLimit tree (diagnostic_at Limit word)
 sort-limit tree one word there at =
     let place = stands one (declared_in tree) there in
     limit-of tree word (sorts (record {
@@ -272,7 +273,7 @@ at-process P tree process word there broken =
     }
 
 parameter-limit : (tree : Tree) (process : ProcessDefinition) (word : Spot) → In process (processes_in tree) →
-    slice_get (parameter_names process.parameters) 16 ≡ Some word → IsLimit tree (told_at Limit word)
+    slice_get (parameter_names process.parameters) 16 ≡ Some word → IsLimit tree (diagnostic_at Limit word)
 parameter-limit tree process word there at =
     limit-of tree word (parameters (at-process (λ before p name. StandsBehind 16 (parameter_names p.parameters) name)
     tree process word there (λ before. behind-words 16 (parameter_names process.parameters) word at)))
@@ -290,7 +291,7 @@ new-words words most word at =
     }
 
 state-limit : (tree : Tree) (process : ProcessDefinition) (word : Spot) → In process (processes_in tree) →
-    slice_get (different (state_names process)) 1000 ≡ Some word → IsLimit tree (told_at Limit word)
+    slice_get (different (state_names process)) 1000 ≡ Some word → IsLimit tree (diagnostic_at Limit word)
 state-limit tree process word there at =
     limit-of tree word (states (at-process (λ before p name. IsNewBehind 1000 (state_names p) name)
     tree process word there (λ before. new-words (state_names process) 1000 word at)))
@@ -318,74 +319,74 @@ listed-broken tree =
 
 -- ---- each limit that is passed is in the list
 
-abbrev first_two : Tree → List Told
+abbrev first_two : Tree → List Diagnostic
 first_two tree =
     fault_at 200 (map process_name (processes_in tree))
     ++ fault_at 1000 (map declared_name (declared_in tree))
 
-abbrev first_three : Tree → List Told
+abbrev first_three : Tree → List Diagnostic
 first_three tree = first_two tree ++ fault_at 50000 (statements_in tree)
 
-abbrev first_four : Tree → List Told
+abbrev first_four : Tree → List Diagnostic
 first_four tree = first_three tree ++ flat_map declared_faults (declared_in tree)
 
-in-four : (tree : Tree) (fault : Told) → In fault (first_four tree) → In fault (limit_faults tree)
+in-four : (tree : Tree) (fault : Diagnostic) → In fault (first_four tree) → In fault (limit_faults tree)
 in-four tree fault at = in-left fault (first_four tree) (flat_map process_faults (processes_in tree)) at
 
-in-three : (tree : Tree) (fault : Told) → In fault (first_three tree) → In fault (limit_faults tree)
+in-three : (tree : Tree) (fault : Diagnostic) → In fault (first_three tree) → In fault (limit_faults tree)
 in-three tree fault at =
     in-four tree fault (in-left fault (first_three tree) (flat_map declared_faults (declared_in tree)) at)
 
-in-two : (tree : Tree) (fault : Told) → In fault (first_two tree) → In fault (limit_faults tree)
+in-two : (tree : Tree) (fault : Diagnostic) → In fault (first_two tree) → In fault (limit_faults tree)
 in-two tree fault at = in-three tree fault (in-left fault (first_two tree) (fault_at 50000 (statements_in tree)) at)
 
 in-process : (P : List ProcessDefinition → ProcessDefinition → Spot → Type 0) (tree : Tree) (word : Spot)
-    (at : AtProcess P tree word) → In (told_at Limit word) (process_faults at.process) →
-    In (told_at Limit word) (limit_faults tree)
+    (at : AtProcess P tree word) → In (diagnostic_at Limit word) (process_faults at.process) →
+    In (diagnostic_at Limit word) (limit_faults tree)
 in-process P tree word at here =
-    in-right (told_at Limit word) (first_four tree) (flat_map process_faults (processes_in tree))
-    (in-each (told_at Limit word) process_faults (processes_in tree) at.process
+    in-right (diagnostic_at Limit word) (first_four tree) (flat_map process_faults (processes_in tree))
+    (in-each (diagnostic_at Limit word) process_faults (processes_in tree) at.process
     (in-list (processes_in tree) at.before at.after at.process at.in_tree) here)
 
-listed : (tree : Tree) (word : Spot) → PassesLimit tree word → In (told_at Limit word) (limit_faults tree)
+listed : (tree : Tree) (word : Spot) → PassesLimit tree word → In (diagnostic_at Limit word) (limit_faults tree)
 listed tree word (processes p) =
     let names = map process_name (processes_in tree) in
-    in-two tree (told_at Limit word)
-    (in-left (told_at Limit word) (fault_at 200 names) (fault_at 1000 (map declared_name (declared_in tree)))
+    in-two tree (diagnostic_at Limit word)
+    (in-left (diagnostic_at Limit word) (fault_at 200 names) (fault_at 1000 (map declared_name (declared_in tree)))
     (in-at 200 names word
     (mapped process_name (processes_in tree) 200 p.process
     (got 200 (processes_in tree) p.before p.after p.process p.in_tree p.broken.0)
     ∙ ap Some (sym p.broken.1))))
 listed tree word (declared d) =
     let names = map declared_name (declared_in tree) in
-    in-two tree (told_at Limit word)
-    (in-right (told_at Limit word) (fault_at 200 (map process_name (processes_in tree))) (fault_at 1000 names)
+    in-two tree (diagnostic_at Limit word)
+    (in-right (diagnostic_at Limit word) (fault_at 200 (map process_name (processes_in tree))) (fault_at 1000 names)
     (in-at 1000 names word
     (mapped declared_name (declared_in tree) 1000 d.declared
     (got 1000 (declared_in tree) d.before d.after d.declared d.in_tree d.broken.0)
     ∙ ap Some (sym d.broken.1))))
 listed tree word (statements at) =
-    in-three tree (told_at Limit word)
-    (in-right (told_at Limit word) (first_two tree) (fault_at 50000 (statements_in tree))
+    in-three tree (diagnostic_at Limit word)
+    (in-right (diagnostic_at Limit word) (first_two tree) (fault_at 50000 (statements_in tree))
     (in-behind 50000 (statements_in tree) word at))
 listed tree word (sorts d) =
-    in-four tree (told_at Limit word)
-    (in-right (told_at Limit word) (first_three tree) (flat_map declared_faults (declared_in tree))
-    (in-each (told_at Limit word) declared_faults (declared_in tree) d.declared
+    in-four tree (diagnostic_at Limit word)
+    (in-right (diagnostic_at Limit word) (first_three tree) (flat_map declared_faults (declared_in tree))
+    (in-each (diagnostic_at Limit word) declared_faults (declared_in tree) d.declared
     (in-list (declared_in tree) d.before d.after d.declared d.in_tree)
     (in-behind 16 d.declared.sorts word d.broken)))
 listed tree word (parameters p) =
     let names = parameter_names p.process.parameters in
     in-process (λ before process name. StandsBehind 16 (parameter_names process.parameters) name) tree word p
-    (in-left (told_at Limit word) (fault_at 16 names) (fault_at 1000 (different (state_names p.process)))
+    (in-left (diagnostic_at Limit word) (fault_at 16 names) (fault_at 1000 (different (state_names p.process)))
     (in-behind 16 names word p.broken))
 listed tree word (states p) =
     let names = different (state_names p.process) in
     in-process (λ before process name. IsNewBehind 1000 (state_names process) name) tree word p
-    (in-right (told_at Limit word) (fault_at 16 (parameter_names p.process.parameters)) (fault_at 1000 names)
+    (in-right (diagnostic_at Limit word) (fault_at 16 (parameter_names p.process.parameters)) (fault_at 1000 names)
     (in-at 1000 names word (new-got 1000 (state_names p.process) word p.broken)))
 
-pub broken-listed : (tree : Tree) (fault : Told) → IsLimit tree fault → In fault (limit_faults tree)
+pub broken-listed : (tree : Tree) (fault : Diagnostic) → IsLimit tree fault → In fault (limit_faults tree)
 broken-listed tree fault limit =
-    subst (λ kind. In (told_at kind (told_word fault)) (limit_faults tree)) (sym limit.kind)
-    (listed tree (told_word fault) limit.passed)
+    subst (λ rule. In (diagnostic_at rule (diagnostic_word fault)) (limit_faults tree)) (sym limit.rule)
+    (listed tree (diagnostic_word fault) limit.passed)

@@ -4,7 +4,7 @@ use Rattle.std.specs.Borrow.{Bor}
 use Rattle.std.specs.Slice.{IsItemAt}
 use Rattle.std.proofs.lemmas.Option.{slice_get-get_or, slice_get-map, slice_get_past}
 use Rattle.sdl_tree.specs.Words.{Spot}
-use Rattle.build_faults.specs.Faults.{Told, limit_at, fault_at, least_of}
+use Rattle.build_faults.specs.Faults.{Diagnostic, limit_at, fault_at, least_of}
 
 item-some : {X : Type 0} (xs : List X) (i : ℕ) (x : Bor X) → IsItemAt xs i (Some x) → slice_get xs i ≡ Some x.now
 item-some xs i x h = slice_get-get_or xs i x.now h.3.0 ∙ ap Some (sym (h.4 (omega arith) x.now))
@@ -33,7 +33,7 @@ limit_at-got word value xs i (Some x) at = limit_at-read word value xs i (Some x
 
 -- the element that a read gave was noted
 pub noted-at : {X Y : Type 0} (word : Y → Spot) (value : X → Y) (xs : List X) (i : ℕ) (got : Option (Bor X))
-    (old new : Option Told) → IsItemAt xs i got →
+    (old new : Option Diagnostic) → IsItemAt xs i got →
     new ≡ least_of old (limit_at (option_map (λ x. word (value x.now)) got)) →
     new ≡ least_of old (fault_at i (map word (map value xs)))
 noted-at word value xs i got old new at noted = noted ∙ ap (least_of old) (limit_at-got word value xs i got at)

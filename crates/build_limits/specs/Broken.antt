@@ -3,10 +3,11 @@ use Rattle.std.specs.Prelude.{◌≡◌, ◌++◌, ℕ, false, List, ◌∷◌, 
 use Rattle.std.specs.List.{list_any}
 use Rattle.sdl_tree.specs.Tree.{ProcessDefinition, Tree}
 use Rattle.sdl_tree.specs.Words.{Spot}
-use Rattle.build_faults.specs.declared.fault.Kind.TheVariants.{Limit}
-use Rattle.build_faults.specs.Faults.{Told, told_word}
+use Rattle.build_faults.specs.declared.fault.Rule.TheVariants.{Limit}
+use Rattle.build_faults.specs.Faults.{Diagnostic, diagnostic_word}
 use Rattle.build_faults.specs.FaultLaws.{Each, In}
-use Rattle.build_limits.specs.Limits.{Declared, declared_in, different, is_same_text, limit_faults, parameter_names, processes_in, state_names, statements_in}
+use Rattle.build_limits.specs.Limits.{Declared, declared_in, limit_faults, parameter_names, processes_in, statements_in}
+use Rattle.build_labels.specs.States.{different, is_same_text, state_names}
 
 -- the word stands in the list behind so many others
 pub record StandsBehind (most : ℕ) (words : List Spot) (word : Spot) : Type 0 where
@@ -63,9 +64,9 @@ pub data PassesLimit (tree : Tree) (word : Spot) : Type 0 where
       AtProcess (λ before process name. IsNewBehind 1000 (state_names process) name) tree word → PassesLimit tree word
 
 -- the fault is a limit that is passed
-pub record IsLimit (tree : Tree) (fault : Told) : Type 0 where
-  pub kind : fault.kind ≡ Limit
-  pub passed : PassesLimit tree (told_word fault)
+pub record IsLimit (tree : Tree) (fault : Diagnostic) : Type 0 where
+  pub rule : fault.rule ≡ Limit
+  pub passed : PassesLimit tree (diagnostic_word fault)
 
 -- Each limit of the list is passed.
 abbrev pub ListedBroken : Type 0
@@ -73,4 +74,4 @@ ListedBroken = (tree : Tree) → Each (IsLimit tree) (limit_faults tree)
 
 -- Each limit that is passed is in the list.
 abbrev pub BrokenListed : Type 0
-BrokenListed = (tree : Tree) (fault : Told) → IsLimit tree fault → In fault (limit_faults tree)
+BrokenListed = (tree : Tree) (fault : Diagnostic) → IsLimit tree fault → In fault (limit_faults tree)

@@ -2,4 +2,3 @@ pub mod Broken
 pub mod Counted
 pub mod Limits
 pub mod Listed
-pub mod Names

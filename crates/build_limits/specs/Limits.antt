@@ -1,11 +1,10 @@
 -- How large a specification may be: the words at which it is too large.
-use Rattle.std.specs.Prelude.{◌++◌, Bool, List, [], ◌∷◌, Option, None, Some, flat_map, fold, map, if◌then◌else◌}
-use Rattle.std.specs.List.{list_any}
-use Rattle.std.specs.Str.{bytes_eq}
-use Rattle.sdl_tree.specs.Tree.{Ending, Join, Next, Stop, Terminator, Transition, Steps, Actions, NoAction, AndAction, Action, Task, Output, Set, Reset, Create, Decision, Parts, NoPart, AndPart, Otherwise, NoElse, Else, Stimulus, InputPart, PriorityInput, SavePart, ContinuousSignal, States, StateList, StateAll, BodyPart, StatePart, FreeAction, SignalDefinition, TimerDefinition, ParameterGroup, FormalParameters, LocalDefinition, LocalSignals, LocalSignalList, LocalSynonyms, LocalSignalSet, Variables, Timers, ProcessDefinition, Definition, Signals, SignalList, Synonyms, Channel, Process, BlockPart, InBlock, Connect, SystemDefinition, InSystem, Block, Tree}
+use Rattle.std.specs.Prelude.{◌++◌, List, [], ◌∷◌, Option, None, Some, flat_map, map}
+use Rattle.sdl_tree.specs.Tree.{Ending, Join, Next, Stop, Terminator, Transition, Steps, Actions, NoAction, AndAction, Action, Task, Output, Set, Reset, Create, Decision, Parts, NoPart, AndPart, Otherwise, NoElse, Else, Stimulus, InputPart, PriorityInput, SavePart, ContinuousSignal, BodyPart, StatePart, FreeAction, SignalDefinition, TimerDefinition, ParameterGroup, FormalParameters, LocalDefinition, LocalSignals, LocalSignalList, LocalSynonyms, LocalSignalSet, Variables, Timers, ProcessDefinition, Definition, Signals, SignalList, Synonyms, Channel, Process, BlockPart, InBlock, Connect, SystemDefinition, InSystem, Block, Tree}
 use Rattle.sdl_tree.specs.Words.{Spot}
 use Rattle.sdl_tree.specs.declared.mark.Mark.TheVariants as mark
-use Rattle.build_faults.specs.Faults.{Told, fault_at, mark_word}
+use Rattle.build_faults.specs.Faults.{Diagnostic, fault_at, mark_word}
+use Rattle.build_labels.specs.States.{different, state_names}
 
 -- ---- definitions, each list in the order of the text
 
@@ -120,30 +119,7 @@ process_statements process = transition_statements process.start.transition ++ f
 abbrev pub statements_in : Tree → List Spot
 statements_in tree = flat_map process_statements (processes_in tree)
 
--- ---- states and formal parameters of a process
-
--- the names of a state list; the other forms name no state
-abbrev pub named_states : States → List Spot
-named_states (StateList names) = names
-named_states (StateAll asterisk except) = []
-
-abbrev pub part_states : BodyPart → List Spot
-part_states (StatePart states stimuli) = named_states states
-part_states (FreeAction word label transition) = []
-
-abbrev pub state_names : ProcessDefinition → List Spot
-state_names process = flat_map part_states process.body
-
-abbrev pub is_same_text : Spot → Spot → Bool
-is_same_text one other = bytes_eq one.text other.text
-
--- these words, and one more behind them if its text is new
-abbrev pub with_new : List Spot → Spot → List Spot
-with_new words word = if list_any (is_same_text word) words then words else words ++ word ∷ []
-
--- the words of a list whose texts are different, each where its text first stands
-abbrev pub different : List Spot → List Spot
-different words = fold with_new [] words
+-- ---- formal parameters of a process
 
 abbrev pub group_names : ParameterGroup → List Spot
 group_names group = group.names
@@ -154,16 +130,16 @@ parameter_names (Some parameters) = flat_map group_names parameters.groups
 
 -- ---- the limits
 
-abbrev pub declared_faults : Declared → List Told
+abbrev pub declared_faults : Declared → List Diagnostic
 declared_faults declared = fault_at 16 declared.sorts
 
-abbrev pub process_faults : ProcessDefinition → List Told
+abbrev pub process_faults : ProcessDefinition → List Diagnostic
 process_faults process =
     fault_at 16 (parameter_names process.parameters)
     ++ fault_at 1000 (different (state_names process))
 
 -- each limit that a specification passes, at the first word past it
-abbrev pub limit_faults : Tree → List Told
+abbrev pub limit_faults : Tree → List Diagnostic
 limit_faults tree =
     fault_at 200 (map process_name (processes_in tree))
     ++ fault_at 1000 (map declared_name (declared_in tree))

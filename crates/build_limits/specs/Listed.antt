@@ -1,10 +1,8 @@
 -- What the lists stand for that are made of the parts of a tree.
-use Rattle.std.specs.Prelude.{ℕ, List, map}
+use Rattle.std.specs.Prelude.{List, map}
 use Rattle.std.specs.Borrow.{Bor}
-use Rattle.sdl_lex.specs.declared.place.Place.{Place}
 use Rattle.sdl_tree.specs.Tree as tree
 use Rattle.sdl_tree.specs.Views.{name_value, sorts_value, definition_value, process_value}
-use Rattle.sdl_tree.specs.Words.{Spot}
 use Rattle.sdl_tree.specs.declared.definitions.Definition.{Definition}
 use Rattle.sdl_tree.specs.declared.definitions.ProcessDefinition.{ProcessDefinition}
 use Rattle.build_limits.specs.Limits as limits
@@ -21,10 +19,3 @@ declared_value declared = record { name = name_value declared.name.now; sorts = 
 
 abbrev pub declared_listed : List Declared → List limits.Declared
 declared_listed declared = map declared_value declared
-
--- a name of a scope that is kept with its place
-abbrev pub entry_word : List ℕ × Place → Spot
-entry_word entry = record { text = entry.0; place = entry.1 }
-
-abbrev pub words_listed : List (List ℕ × Place) → List Spot
-words_listed names = map entry_word names

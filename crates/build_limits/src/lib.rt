@@ -1,10 +1,10 @@
-//! What checks of a specification stand on beside the faults that they note: the names that they look up, and the
-//! limits of what is built.
+//! The limits of what is built: how large a specification may be.
+//!
+//! Each limit is a number in `specs/Limits`, and is noted at the first word past it. `specs/Broken` says when a limit is
+//! passed, and `laws` that the list of faults says the same.
 #![tactic(auto)]
 
 pub mod laws;
 mod limits;
-mod names;
 
-pub use limits::{named_states, note_limits};
-pub use names::{Names, Outward};
+pub use limits::note_limits;

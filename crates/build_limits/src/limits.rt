@@ -1,21 +1,20 @@
 //! How large a specification may be.
 
-ghost use Rattle.std.specs.Prelude.{◌≡◌, ◌++◌, flat_map, fold, map, option_map, IfOk, OnOk};
-ghost use Rattle.sdl_tree.specs.Views.{block_part_value, body_part_value, definition_value, fpar_value, local_value, name_value, names_value, process_value, signal_value, sorts_value, system_definition_value, timer_value, tree_value};
-ghost use Rattle.build_faults.specs.Faults.{fault_at, least_of, limit_at, told};
-ghost use Rattle.build_limits.specs.Limits.{block_definitions, declared_faults, declared_name, declared_of, definitions_in, different, limit_faults, local_declared, of_signal, of_timer, parameter_names, part_states, process_faults, process_name, process_statements, processes_of, system_definitions, with_new};
-ghost use Rattle.build_limits.specs.Listed.{declared_listed, definitions_listed, entry_word, processes_listed, words_listed};
+ghost use Rattle.std.specs.Prelude.{◌≡◌, ◌++◌, flat_map, map, option_map, IfOk, OnOk};
+ghost use Rattle.sdl_tree.specs.Views.{block_part_value, definition_value, fpar_value, local_value, process_value, signal_value, sorts_value, system_definition_value, timer_value, tree_value};
+ghost use Rattle.build_faults.specs.Faults.{Notes, fault_at};
+ghost use Rattle.build_limits.specs.Limits.{block_definitions, declared_faults, declared_name, declared_of, definitions_in, limit_faults, local_declared, of_signal, of_timer, parameter_names, process_faults, process_name, process_statements, processes_of, system_definitions};
+ghost use Rattle.build_limits.specs.Listed.{declared_listed, definitions_listed, processes_listed};
+ghost use Rattle.build_labels.specs.States.{different, state_names};
 
 mod count;
 
-use crate::names::Names;
-use build_faults::{Faults, Kind, Token};
+use build_faults::{Faults, Rule, Token};
+use build_labels::states_of;
 use count::Count;
-use sdl_lex::Place;
 use sdl_tree::{
-    BlockDefinition, BlockPart, BodyPart, Definition, FormalParameters, LocalDefinition, Name,
-    ProcessDefinition, SignalDefinition, SortName, StatePart, States, SystemDefinition,
-    TimerDefinition, Tree,
+    BlockDefinition, BlockPart, Definition, FormalParameters, LocalDefinition, Name,
+    ProcessDefinition, SignalDefinition, SortName, SystemDefinition, TimerDefinition, Tree,
 };
 use std::alloc::{AllocError, Global};
 
@@ -42,7 +41,7 @@ pub fn note_limits<'t>(
     tree: &'t Tree,
     faults: &mut Faults<'t>,
 ) -> Result<(), AllocError>
-    ensures { OnOk result (told faults.new ≡ least_of (told faults.old) (limit_faults (tree_value tree.now))) }
+    ensures { OnOk result (Notes faults.old faults.new (limit_faults (tree_value tree.now))) }
 {
     let definitions = definitions_in(alloc, tree)?;
     let processes = processes_in(alloc, &definitions)?;
@@ -55,25 +54,23 @@ pub fn note_limits<'t>(
 }
 
 fn note_processes<'t>(processes: &[&'t ProcessDefinition], faults: &mut Faults<'t>)
-    ensures { told faults.new ≡ least_of (told faults.old)
-        (fault_at 200 (map process_name (processes_listed processes.now))) }
+    ensures { Notes faults.old faults.new (fault_at 200 (map process_name (processes_listed processes.now))) }
 {
     if let Some(process) = processes.get(MOST_PROCESSES) {
-        faults.note(Kind::Limit, Token::of_name(&process.name));
+        faults.note(Rule::Limit, Token::of_name(&process.name));
     }
 }
 
 fn note_declared<'t>(declared: &[Declared<'t>], faults: &mut Faults<'t>)
-    ensures { told faults.new ≡ least_of (told faults.old)
-        (fault_at 1000 (map declared_name (declared_listed declared.now))) }
+    ensures { Notes faults.old faults.new (fault_at 1000 (map declared_name (declared_listed declared.now))) }
 {
     if let Some(declared) = declared.get(MOST_DECLARED) {
-        faults.note(Kind::Limit, Token::of_name(declared.name));
+        faults.note(Rule::Limit, Token::of_name(declared.name));
     }
 }
 
 fn note_statements<'t>(processes: &[&'t ProcessDefinition], faults: &mut Faults<'t>)
-    ensures { told faults.new ≡ least_of (told faults.old)
+    ensures { Notes faults.old faults.new
         (fault_at 50000 (flat_map process_statements (processes_listed processes.now))) }
 {
     let mut count = Count::Left(MOST_STATEMENTS);
@@ -84,7 +81,7 @@ fn note_statements<'t>(processes: &[&'t ProcessDefinition], faults: &mut Faults<
 }
 
 fn note_all_sorts<'t>(list: &[Declared<'t>], faults: &mut Faults<'t>)
-    ensures { told faults.new ≡ least_of (told faults.old) (flat_map declared_faults (declared_listed list.now)) }
+    ensures { Notes faults.old faults.new (flat_map declared_faults (declared_listed list.now)) }
 {
     for declared in list {
         note_sorts(declared.sorts, faults);
@@ -92,10 +89,10 @@ fn note_all_sorts<'t>(list: &[Declared<'t>], faults: &mut Faults<'t>)
 }
 
 fn note_sorts<'t>(sorts: &'t [SortName], faults: &mut Faults<'t>)
-    ensures { told faults.new ≡ least_of (told faults.old) (fault_at 16 (sorts_value sorts.now)) }
+    ensures { Notes faults.old faults.new (fault_at 16 (sorts_value sorts.now)) }
 {
     if let Some(sort) = sorts.get(MOST_PARAMETERS) {
-        faults.note(Kind::Limit, Token::of_name(&sort.spelled));
+        faults.note(Rule::Limit, Token::of_name(&sort.spelled));
     }
 }
 
@@ -104,8 +101,7 @@ fn note_in_processes<'t>(
     processes: &[&'t ProcessDefinition],
     faults: &mut Faults<'t>,
 ) -> Result<(), AllocError>
-    ensures { OnOk result (told faults.new ≡ least_of (told faults.old)
-        (flat_map process_faults (processes_listed processes.now))) }
+    ensures { OnOk result (Notes faults.old faults.new (flat_map process_faults (processes_listed processes.now))) }
 {
     for process in processes {
         note_in_process(alloc, process, faults)?;
@@ -118,16 +114,14 @@ fn note_in_process<'t>(
     process: &'t ProcessDefinition,
     faults: &mut Faults<'t>,
 ) -> Result<(), AllocError>
-    ensures { OnOk result (told faults.new ≡ least_of (told faults.old)
-        (process_faults (process_value process.now))) }
+    ensures { OnOk result (Notes faults.old faults.new (process_faults (process_value process.now))) }
 {
     note_parameters(&process.parameters, faults);
-    note_states(alloc, &process.body, faults)
+    note_states(alloc, process, faults)
 }
 
 fn note_parameters<'t>(parameters: &'t Option<FormalParameters>, faults: &mut Faults<'t>)
-    ensures { told faults.new ≡ least_of (told faults.old)
-        (fault_at 16 (parameter_names (option_map fpar_value parameters.now))) }
+    ensures { Notes faults.old faults.new (fault_at 16 (parameter_names (option_map fpar_value parameters.now))) }
 {
     let mut count = Count::Left(MOST_PARAMETERS);
     count.parameters(parameters);
@@ -136,64 +130,15 @@ fn note_parameters<'t>(parameters: &'t Option<FormalParameters>, faults: &mut Fa
 
 fn note_states<'t>(
     alloc: Global,
-    body: &'t [BodyPart],
+    process: &'t ProcessDefinition,
     faults: &mut Faults<'t>,
 ) -> Result<(), AllocError>
-    ensures { OnOk result (told faults.new ≡ least_of (told faults.old)
-        (fault_at 1000 (different (flat_map part_states (map body_part_value body.now))))) }
+    ensures { OnOk result (Notes faults.old faults.new
+        (fault_at 1000 (different (state_names (process_value process.now))))) }
 {
-    let mut names = Names::new(alloc);
-    for part in body {
-        add_states(&mut names, named_states(part))?;
-    }
-    note_past(names.entries().get(MOST_STATES), faults);
-    Ok(())
-}
-
-/// Notes the name past the limit of the states, if there is one.
-fn note_past<'t>(past: Option<&(&'t str, Place)>, faults: &mut Faults<'t>)
-    ensures { told faults.new ≡ least_of (told faults.old)
-        (limit_at (option_map (λ entry. entry_word (entry.now.0.now, entry.now.1)) past.entry)) }
-{
-    if let Some((text, place)) = past {
-        let token = Token {
-            text: *text,
-            place: *place,
-        };
-        faults.note(Kind::Limit, token);
-    }
-}
-
-/// The names of the state list of a part of a process; none of `state *`, and of what is no state.
-pub fn named_states(part: &BodyPart) -> &[Name]
-    ensures { names_value result.now ≡ part_states (body_part_value part.now) }
-{
-    match part {
-        BodyPart::State(
-            StatePart {
-                states: States::Named(names),
-                ..
-            },
-        ) => names,
-        _ => &[],
-    }
-}
-
-fn add_states<'t>(names: &mut Names<'t, Place>, list: &'t [Name]) -> Result<(), AllocError>
-    ensures { OnOk result (words_listed names.new ≡ fold with_new (words_listed names.old) (names_value list.now)) }
-{
-    for name in list {
-        add_state(names, name)?;
-    }
-    Ok(())
-}
-
-fn add_state<'t>(names: &mut Names<'t, Place>, name: &'t Name) -> Result<(), AllocError>
-    ensures { OnOk result (words_listed names.new ≡ with_new (words_listed names.old) (name_value name.now)) }
-{
-    let text = name.text.as_str();
-    if names.get(text).is_none() {
-        names.add(text, name.place)?;
+    let states = states_of(alloc, process)?;
+    if let Some(state) = states.get(MOST_STATES) {
+        faults.note(Rule::Limit, Token::of_name(state));
     }
     Ok(())
 }

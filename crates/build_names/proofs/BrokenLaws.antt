@@ -5,15 +5,15 @@ use Rattle.std.specs.Str.{bytes_eq}
 use Rattle.std.proofs.lemmas.Bool.Decides.{nat_tests}
 use Rattle.std.proofs.lemmas.List.{append-nil, append_assoc}
 use Rattle.std.proofs.lemmas.Slice.Eq.{bytes_eq-Decides}
-use Rattle.build_definitions.specs.Tables.{Rows}
+use Rattle.build_definitions.specs.Definitions.{Rows}
 use Rattle.build_names.specs.Broken.{IsDeclaredTwice, IsDuplicate}
 use Rattle.build_names.specs.Broken as way
 use Rattle.build_names.specs.Entries.{Standing, duplicates, duplicates_behind, is_same_name, standings}
 use Rattle.build_names.specs.Meanings.{agent_entries, channel_entries, duplicate_faults, label_entries, list_entries, signal_entries, value_entries}
 use Rattle.build_faults.proofs.FaultLemmas.{each-both, each-if, in-if, in-left, in-right}
 use Rattle.build_faults.specs.FaultLaws.{Each, In}
-use Rattle.build_faults.specs.Faults.{Told, fault_if, told_at}
-use Rattle.build_faults.specs.declared.fault.Kind.TheVariants.{Duplicate}
+use Rattle.build_faults.specs.Faults.{Diagnostic, fault_if, diagnostic_at}
+use Rattle.build_faults.specs.declared.fault.Rule.TheVariants.{Duplicate}
 use Rattle.build_expressions.proofs.ListedLaws.{each-weaker}
 use Rattle.build_scopes.specs.Spaces.{is_same_scope}
 use Rattle.build_scopes.specs.declared.scope.ScopeId.{ScopeId}
@@ -92,7 +92,7 @@ found-any test (x ∷ xs) one at is =
 -- ---- one name space
 
 duplicate : (all before : List Standing) (name : Standing) (after : List Standing) → all ≡ before ++ name ∷ after →
-    list_any (is_same_name name) before ≡ true → IsDuplicate all (told_at Duplicate name.name)
+    list_any (is_same_name name) before ≡ true → IsDuplicate all (diagnostic_at Duplicate name.name)
 duplicate all before name after in_names any =
     let found = any-found (is_same_name name) before any in
     let same_scope = is_same_scope found.one.scope name.scope in
@@ -122,47 +122,53 @@ each-duplicate all before (name ∷ names) is =
 
 in-behind : (base before : List Standing) (name : Standing) (after : List Standing) →
     list_any (is_same_name name) (base ++ before) ≡ true →
-    In (told_at Duplicate name.name) (duplicates_behind base (before ++ name ∷ after))
+    In (diagnostic_at Duplicate name.name) (duplicates_behind base (before ++ name ∷ after))
 in-behind base [] name after any =
-    in-left (told_at Duplicate name.name) (fault_if (list_any (is_same_name name) base) Duplicate name.name)
+    in-left (diagnostic_at Duplicate name.name) (fault_if (list_any (is_same_name name) base) Duplicate name.name)
     (duplicates_behind (base ++ name ∷ []) after)
     (in-if (list_any (is_same_name name) base) Duplicate name.name
     (ap (list_any (is_same_name name)) (sym (append-nil base)) ∙ any))
 in-behind base (x ∷ before) name after any =
-    in-right (told_at Duplicate name.name) (fault_if (list_any (is_same_name x) base) Duplicate x.name)
+    in-right (diagnostic_at Duplicate name.name) (fault_if (list_any (is_same_name x) base) Duplicate x.name)
     (duplicates_behind (base ++ x ∷ []) (before ++ name ∷ after))
     (in-behind (base ++ x ∷ []) before name after
     (ap (list_any (is_same_name name)) (append_assoc base (x ∷ []) before) ∙ any))
 
-duplicate-listed : (names : List Standing) (fault : Told) → IsDuplicate names fault → In fault (duplicates names)
+duplicate-listed : (names : List Standing) (fault : Diagnostic) → IsDuplicate names fault → In fault (duplicates names)
 duplicate-listed names fault is =
     let same : is_same_name is.name is.first ≡ true =
     both-true (is_same_scope is.first.scope is.name.scope) (bytes_eq is.name.name.text is.first.name.text)
     (ap (λ scope. is_same_scope scope is.name.scope) is.same_scope ∙ scope-same is.name.scope)
     ((bytes_eq-Decides is.name.name.text is.first.name.text).1 (sym is.same_text)) in
-    let at : In (told_at Duplicate is.name.name) (duplicates (is.before ++ is.name ∷ is.after)) =
+    let at : In (diagnostic_at Duplicate is.name.name) (duplicates (is.before ++ is.name ∷ is.after)) =
     in-behind [] is.before is.name is.after
     (found-any (is_same_name is.name) is.before is.first is.stands_before same) in
     subst (λ f. In f (duplicates names)) (sym is.told)
-    (subst (λ list. In (told_at Duplicate is.name.name) (duplicates list)) (sym is.in_names) at)
+    (subst (λ list. In (diagnostic_at Duplicate is.name.name) (duplicates list)) (sym is.in_names) at)
 
 -- ---- all name spaces
 
 in-space : (rows : Rows) (names : List Standing) →
-    ((fault : Told) → IsDuplicate names fault → IsDeclaredTwice rows fault) →
+    ((fault : Diagnostic) → IsDuplicate names fault → IsDeclaredTwice rows fault) →
     Each (IsDeclaredTwice rows) (duplicates names)
 in-space rows names to =
     each-weaker (IsDuplicate names) (IsDeclaredTwice rows) (duplicates names) to (each-duplicate names [] names refl)
 
 pub listed-broken : (rows : Rows) → Each (IsDeclaredTwice rows) (duplicate_faults rows)
 listed-broken rows =
-    each-both (IsDeclaredTwice rows) (duplicates (standings (signal_entries rows)) ++ duplicates (standings (list_entries rows)) ++ duplicates (standings (channel_entries rows)) ++ duplicates (standings (agent_entries rows)) ++ duplicates (standings (value_entries rows)))
+    each-both (IsDeclaredTwice rows) (duplicates (standings (signal_entries rows))
+    ++ duplicates (standings (list_entries rows)) ++ duplicates (standings (channel_entries rows))
+    ++ duplicates (standings (agent_entries rows)) ++ duplicates (standings (value_entries rows)))
     (duplicates (standings (label_entries rows)))
-    (each-both (IsDeclaredTwice rows) (duplicates (standings (signal_entries rows)) ++ duplicates (standings (list_entries rows)) ++ duplicates (standings (channel_entries rows)) ++ duplicates (standings (agent_entries rows)))
+    (each-both (IsDeclaredTwice rows) (duplicates (standings (signal_entries rows))
+    ++ duplicates (standings (list_entries rows)) ++ duplicates (standings (channel_entries rows))
+    ++ duplicates (standings (agent_entries rows)))
     (duplicates (standings (value_entries rows)))
-    (each-both (IsDeclaredTwice rows) (duplicates (standings (signal_entries rows)) ++ duplicates (standings (list_entries rows)) ++ duplicates (standings (channel_entries rows)))
+    (each-both (IsDeclaredTwice rows) (duplicates (standings (signal_entries rows))
+    ++ duplicates (standings (list_entries rows)) ++ duplicates (standings (channel_entries rows)))
     (duplicates (standings (agent_entries rows)))
-    (each-both (IsDeclaredTwice rows) (duplicates (standings (signal_entries rows)) ++ duplicates (standings (list_entries rows)))
+    (each-both (IsDeclaredTwice rows) (duplicates (standings (signal_entries rows))
+    ++ duplicates (standings (list_entries rows)))
     (duplicates (standings (channel_entries rows)))
     (each-both (IsDeclaredTwice rows) (duplicates (standings (signal_entries rows)))
     (duplicates (standings (list_entries rows)))
@@ -173,13 +179,17 @@ listed-broken rows =
     (in-space rows (standings (value_entries rows)) (λ fault is. way.variable_or_synonym is)))
     (in-space rows (standings (label_entries rows)) (λ fault is. way.label is))
 
-pub broken-listed : (rows : Rows) (fault : Told) → IsDeclaredTwice rows fault → In fault (duplicate_faults rows)
+pub broken-listed : (rows : Rows) (fault : Diagnostic) → IsDeclaredTwice rows fault → In fault (duplicate_faults rows)
 broken-listed rows fault (way.signal_or_timer is) =
-    in-left fault (duplicates (standings (signal_entries rows)) ++ duplicates (standings (list_entries rows)) ++ duplicates (standings (channel_entries rows)) ++ duplicates (standings (agent_entries rows)) ++ duplicates (standings (value_entries rows)))
+    in-left fault (duplicates (standings (signal_entries rows)) ++ duplicates (standings (list_entries rows))
+    ++ duplicates (standings (channel_entries rows)) ++ duplicates (standings (agent_entries rows))
+    ++ duplicates (standings (value_entries rows)))
     (duplicates (standings (label_entries rows)))
-    (in-left fault (duplicates (standings (signal_entries rows)) ++ duplicates (standings (list_entries rows)) ++ duplicates (standings (channel_entries rows)) ++ duplicates (standings (agent_entries rows)))
+    (in-left fault (duplicates (standings (signal_entries rows)) ++ duplicates (standings (list_entries rows))
+    ++ duplicates (standings (channel_entries rows)) ++ duplicates (standings (agent_entries rows)))
     (duplicates (standings (value_entries rows)))
-    (in-left fault (duplicates (standings (signal_entries rows)) ++ duplicates (standings (list_entries rows)) ++ duplicates (standings (channel_entries rows)))
+    (in-left fault (duplicates (standings (signal_entries rows)) ++ duplicates (standings (list_entries rows))
+    ++ duplicates (standings (channel_entries rows)))
     (duplicates (standings (agent_entries rows)))
     (in-left fault (duplicates (standings (signal_entries rows)) ++ duplicates (standings (list_entries rows)))
     (duplicates (standings (channel_entries rows)))
@@ -187,37 +197,54 @@ broken-listed rows fault (way.signal_or_timer is) =
     (duplicates (standings (list_entries rows)))
     (duplicate-listed (standings (signal_entries rows)) fault is)))))
 broken-listed rows fault (way.signal_list is) =
-    in-left fault (duplicates (standings (signal_entries rows)) ++ duplicates (standings (list_entries rows)) ++ duplicates (standings (channel_entries rows)) ++ duplicates (standings (agent_entries rows)) ++ duplicates (standings (value_entries rows)))
+    in-left fault (duplicates (standings (signal_entries rows)) ++ duplicates (standings (list_entries rows))
+    ++ duplicates (standings (channel_entries rows)) ++ duplicates (standings (agent_entries rows))
+    ++ duplicates (standings (value_entries rows)))
     (duplicates (standings (label_entries rows)))
-    (in-left fault (duplicates (standings (signal_entries rows)) ++ duplicates (standings (list_entries rows)) ++ duplicates (standings (channel_entries rows)) ++ duplicates (standings (agent_entries rows)))
+    (in-left fault (duplicates (standings (signal_entries rows)) ++ duplicates (standings (list_entries rows))
+    ++ duplicates (standings (channel_entries rows)) ++ duplicates (standings (agent_entries rows)))
     (duplicates (standings (value_entries rows)))
-    (in-left fault (duplicates (standings (signal_entries rows)) ++ duplicates (standings (list_entries rows)) ++ duplicates (standings (channel_entries rows)))
+    (in-left fault (duplicates (standings (signal_entries rows)) ++ duplicates (standings (list_entries rows))
+    ++ duplicates (standings (channel_entries rows)))
     (duplicates (standings (agent_entries rows)))
     (in-left fault (duplicates (standings (signal_entries rows)) ++ duplicates (standings (list_entries rows)))
     (duplicates (standings (channel_entries rows)))
     (in-right fault (duplicates (standings (signal_entries rows)))
     (duplicates (standings (list_entries rows))) (duplicate-listed (standings (list_entries rows)) fault is)))))
 broken-listed rows fault (way.channel is) =
-    in-left fault (duplicates (standings (signal_entries rows)) ++ duplicates (standings (list_entries rows)) ++ duplicates (standings (channel_entries rows)) ++ duplicates (standings (agent_entries rows)) ++ duplicates (standings (value_entries rows)))
+    in-left fault (duplicates (standings (signal_entries rows)) ++ duplicates (standings (list_entries rows))
+    ++ duplicates (standings (channel_entries rows)) ++ duplicates (standings (agent_entries rows))
+    ++ duplicates (standings (value_entries rows)))
     (duplicates (standings (label_entries rows)))
-    (in-left fault (duplicates (standings (signal_entries rows)) ++ duplicates (standings (list_entries rows)) ++ duplicates (standings (channel_entries rows)) ++ duplicates (standings (agent_entries rows)))
+    (in-left fault (duplicates (standings (signal_entries rows)) ++ duplicates (standings (list_entries rows))
+    ++ duplicates (standings (channel_entries rows)) ++ duplicates (standings (agent_entries rows)))
     (duplicates (standings (value_entries rows)))
-    (in-left fault (duplicates (standings (signal_entries rows)) ++ duplicates (standings (list_entries rows)) ++ duplicates (standings (channel_entries rows)))
+    (in-left fault (duplicates (standings (signal_entries rows)) ++ duplicates (standings (list_entries rows))
+    ++ duplicates (standings (channel_entries rows)))
     (duplicates (standings (agent_entries rows)))
     (in-right fault (duplicates (standings (signal_entries rows)) ++ duplicates (standings (list_entries rows)))
     (duplicates (standings (channel_entries rows))) (duplicate-listed (standings (channel_entries rows)) fault is))))
 broken-listed rows fault (way.block_or_process is) =
-    in-left fault (duplicates (standings (signal_entries rows)) ++ duplicates (standings (list_entries rows)) ++ duplicates (standings (channel_entries rows)) ++ duplicates (standings (agent_entries rows)) ++ duplicates (standings (value_entries rows)))
+    in-left fault (duplicates (standings (signal_entries rows)) ++ duplicates (standings (list_entries rows))
+    ++ duplicates (standings (channel_entries rows)) ++ duplicates (standings (agent_entries rows))
+    ++ duplicates (standings (value_entries rows)))
     (duplicates (standings (label_entries rows)))
-    (in-left fault (duplicates (standings (signal_entries rows)) ++ duplicates (standings (list_entries rows)) ++ duplicates (standings (channel_entries rows)) ++ duplicates (standings (agent_entries rows)))
+    (in-left fault (duplicates (standings (signal_entries rows)) ++ duplicates (standings (list_entries rows))
+    ++ duplicates (standings (channel_entries rows)) ++ duplicates (standings (agent_entries rows)))
     (duplicates (standings (value_entries rows)))
-    (in-right fault (duplicates (standings (signal_entries rows)) ++ duplicates (standings (list_entries rows)) ++ duplicates (standings (channel_entries rows)))
+    (in-right fault (duplicates (standings (signal_entries rows)) ++ duplicates (standings (list_entries rows))
+    ++ duplicates (standings (channel_entries rows)))
     (duplicates (standings (agent_entries rows))) (duplicate-listed (standings (agent_entries rows)) fault is)))
 broken-listed rows fault (way.variable_or_synonym is) =
-    in-left fault (duplicates (standings (signal_entries rows)) ++ duplicates (standings (list_entries rows)) ++ duplicates (standings (channel_entries rows)) ++ duplicates (standings (agent_entries rows)) ++ duplicates (standings (value_entries rows)))
+    in-left fault (duplicates (standings (signal_entries rows)) ++ duplicates (standings (list_entries rows))
+    ++ duplicates (standings (channel_entries rows)) ++ duplicates (standings (agent_entries rows))
+    ++ duplicates (standings (value_entries rows)))
     (duplicates (standings (label_entries rows)))
-    (in-right fault (duplicates (standings (signal_entries rows)) ++ duplicates (standings (list_entries rows)) ++ duplicates (standings (channel_entries rows)) ++ duplicates (standings (agent_entries rows)))
+    (in-right fault (duplicates (standings (signal_entries rows)) ++ duplicates (standings (list_entries rows))
+    ++ duplicates (standings (channel_entries rows)) ++ duplicates (standings (agent_entries rows)))
     (duplicates (standings (value_entries rows))) (duplicate-listed (standings (value_entries rows)) fault is))
 broken-listed rows fault (way.label is) =
-    in-right fault (duplicates (standings (signal_entries rows)) ++ duplicates (standings (list_entries rows)) ++ duplicates (standings (channel_entries rows)) ++ duplicates (standings (agent_entries rows)) ++ duplicates (standings (value_entries rows)))
+    in-right fault (duplicates (standings (signal_entries rows)) ++ duplicates (standings (list_entries rows))
+    ++ duplicates (standings (channel_entries rows)) ++ duplicates (standings (agent_entries rows))
+    ++ duplicates (standings (value_entries rows)))
     (duplicates (standings (label_entries rows))) (duplicate-listed (standings (label_entries rows)) fault is)

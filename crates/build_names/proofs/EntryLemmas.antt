@@ -7,9 +7,9 @@ use Rattle.std.proofs.lemmas.List.{append-nil, append_assoc, map-append}
 use Rattle.build_names.specs.Entries.{Entry, Standing, duplicates_behind, entries_in, entries_of, entry_in, entry_of, entry_seen, is_same_name, standing, standings}
 use Rattle.build_names.specs.declared.declaration.Declaration.{Declaration}
 use Rattle.build_faults.proofs.FaultLemmas.{both_noted}
-use Rattle.build_faults.specs.Faults.{Told, fault_if, least_of}
-use Rattle.build_limits.specs.Names.{first_of}
-use Rattle.build_faults.specs.declared.fault.Kind.TheVariants.{Duplicate}
+use Rattle.build_faults.specs.Faults.{Diagnostic, fault_if, least_of}
+use Rattle.build_scopes.specs.Names.{first_of}
+use Rattle.build_faults.specs.declared.fault.Rule.TheVariants.{Duplicate}
 use Rattle.build_expressions.specs.Scope.{meaning}
 use Rattle.build_scopes.specs.Spaces.{entry_if, is_same_scope}
 use Rattle.build_scopes.specs.declared.scope.ScopeId.{ScopeId}
@@ -17,12 +17,13 @@ use Rattle.build_scopes.specs.declared.scope.ScopeId.{ScopeId}
 -- ---- what is noted
 
 -- one part of the checks, and then another
-pub noted-then : (old mid new : Option Told) (xs ys : List Told) → mid ≡ least_of old xs → new ≡ least_of mid ys →
+pub noted-then : (old mid new : Option Diagnostic) (xs ys : List Diagnostic) → mid ≡ least_of old xs →
+    new ≡ least_of mid ys →
     new ≡ least_of old (xs ++ ys)
 noted-then old mid new xs ys first second = second ∙ ap (λ m. least_of m ys) first ∙ both_noted old xs ys
 
 -- and then two others
-pub noted-both : (old mid new : Option Told) (xs ys zs : List Told) → mid ≡ least_of old xs →
+pub noted-both : (old mid new : Option Diagnostic) (xs ys zs : List Diagnostic) → mid ≡ least_of old xs →
     new ≡ least_of mid (ys ++ zs) → new ≡ least_of old (xs ++ ys ++ zs)
 noted-both old mid new xs ys zs first second =
     noted-then old mid new xs (ys ++ zs) first second ∙ ap (λ faults. least_of old faults) (sym (append_assoc xs ys zs))
@@ -56,7 +57,7 @@ entries_in-more place entries entry =
     flat_map-append (entry_in place) entries (entry ∷ [])
     ∙ ap (λ names. entries_in place entries ++ names) (append-nil (entry_in place entry))
 
-pub noted-more : {T : Type 0} (old new : Option Told) (before : List (Entry T)) (entry : Entry T)
+pub noted-more : {T : Type 0} (old new : Option Diagnostic) (before : List (Entry T)) (entry : Entry T)
     (after : List Standing) (names : List (List ℕ × T)) → names ≡ entries_in entry.scope before →
     new ≡ least_of old (fault_if (is_some (first_of names entry.name.text)) Duplicate entry.name) →
     least_of new (duplicates_behind (standings (before ++ entry ∷ [])) after)

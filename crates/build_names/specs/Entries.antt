@@ -3,8 +3,8 @@ use Rattle.std.specs.Prelude.{◌≡◌, ◌&&◌, ◌++◌, ℕ, Bool, List, []
 use Rattle.std.specs.List.{list_any}
 use Rattle.std.specs.Str.{bytes_eq}
 use Rattle.build_names.specs.declared.declaration.Declaration.{Declaration}
-use Rattle.build_faults.specs.Faults.{Told, fault_if}
-use Rattle.build_faults.specs.declared.fault.Kind.TheVariants.{Duplicate}
+use Rattle.build_faults.specs.Faults.{Diagnostic, fault_if}
+use Rattle.build_faults.specs.declared.fault.Rule.TheVariants.{Duplicate}
 use Rattle.build_expressions.specs.Scope.{meaning}
 use Rattle.build_scopes.specs.Spaces.{entry_if, is_same_scope, names_of}
 use Rattle.build_scopes.specs.declared.scope.ScopeId.{ScopeId}
@@ -51,13 +51,13 @@ abbrev pub is_same_name : Standing → Standing → Bool
 is_same_name name other = is_same_scope other.scope name.scope && bytes_eq name.name.text other.name.text
 
 -- Duplicate at each name that stands in its scope already, with the names that stand before
-abbrev pub duplicates_behind : List Standing → List Standing → List Told
+abbrev pub duplicates_behind : List Standing → List Standing → List Diagnostic
 duplicates_behind before [] = []
 duplicates_behind before (name ∷ names) =
     fault_if (list_any (is_same_name name) before) Duplicate name.name
     ++ duplicates_behind (before ++ name ∷ []) names
 
-abbrev pub duplicates : List Standing → List Told
+abbrev pub duplicates : List Standing → List Diagnostic
 duplicates names = duplicates_behind [] names
 
 -- ---- what the code keeps

@@ -1,13 +1,13 @@
 -- What the names of a specification stand for, where its tables have these rows.
 use Rattle.std.specs.Prelude.{ℕ, ◌+◌, ◌++◌, List, [], ◌∷◌, Option, None, Some, is_some, map, slice_get}
 use Rattle.build_definitions.specs.Rows.{AgentRow, ChannelRow, LabelRow, ProcessRow, SignalKind, OrdinarySignal, OrdinaryTimer, SignalListRow, SignalRow, StateRow, ValueRow}
-use Rattle.build_definitions.specs.Tables.{Rows}
+use Rattle.build_definitions.specs.Definitions.{Rows}
 use Rattle.build_definitions.specs.declared.entries.Agent.{Agent}
 use Rattle.build_definitions.specs.declared.entries.Agent.TheVariants as agent
 use Rattle.build_definitions.specs.declared.entries.ChannelId.{ChannelId}
 use Rattle.build_definitions.specs.declared.entries.SignalListId.{SignalListId}
 use Rattle.build_names.specs.Entries.{Entry, duplicates, standings}
-use Rattle.build_faults.specs.Faults.{Told}
+use Rattle.build_faults.specs.Faults.{Diagnostic}
 use Rattle.build_expressions.specs.Scope as meant
 use Rattle.build_expressions.specs.declared.scope.ValueEntry.{ValueEntry}
 use Rattle.build_scopes.specs.declared.scope.ScopeId.TheVariants as scope
@@ -102,7 +102,7 @@ state_entries rows = map state_entry rows.states
 
 -- ---- names that are declared twice, by their name spaces; a state may be named again
 
-abbrev pub duplicate_faults : Rows → List Told
+abbrev pub duplicate_faults : Rows → List Diagnostic
 duplicate_faults rows =
     duplicates (standings (signal_entries rows))
     ++ duplicates (standings (list_entries rows))

@@ -2,14 +2,14 @@
 
 ghost use Rattle.std.specs.Prelude.{◌≡◌, map, IfOk};
 ghost use Rattle.build_definitions.specs.Seen.{agent_seen, process_seen};
-ghost use Rattle.build_definitions.specs.Tables.{rows_of};
+ghost use Rattle.build_definitions.specs.Definitions.{rows_of};
 ghost use Rattle.build_names.specs.Entries.{HasMeant, duplicates, entry_seen, standings};
 ghost use Rattle.build_names.specs.Meanings.{agent_entries, agent_entry, agent_means, sorts_of};
-ghost use Rattle.build_faults.specs.Faults.{least_of, told};
+ghost use Rattle.build_faults.specs.Faults.{Notes};
 ghost use Rattle.build_expressions.specs.Scope.{agent_meaning};
 
 use crate::declaration::{Declaration, add, declare_all};
-use build_definitions::{Agent, AgentEntry, ProcessEntry, Tables};
+use build_definitions::{Agent, AgentEntry, Definitions, ProcessEntry};
 use build_expressions::AgentMeaning;
 use build_faults::Faults;
 use build_scopes::Spaces;
@@ -19,14 +19,14 @@ use std::alloc::{AllocError, Global};
 /// The names of blocks and processes, by their scopes.
 pub fn declare_agents<'s, 't>(
     alloc: Global,
-    tables: &'s Tables<'t>,
+    definitions: &'s Definitions<'t>,
     faults: &mut Faults<'t>,
 ) -> Result<Spaces<'t, AgentMeaning<'s>>, AllocError>
-    ensures spaces { IfOk result (λ spaces. HasMeant agent_meaning spaces (agent_entries (rows_of tables.now))) }
-    ensures noted { IfOk result (λ spaces. told faults.new
-        ≡ least_of (told faults.old) (duplicates (standings (agent_entries (rows_of tables.now))))) }
+    ensures spaces { IfOk result (λ spaces. HasMeant agent_meaning spaces (agent_entries (rows_of definitions.now))) }
+    ensures noted { IfOk result (λ spaces. Notes faults.old faults.new
+        (duplicates (standings (agent_entries (rows_of definitions.now))))) }
 {
-    let declarations = agent_declarations(alloc, &tables.processes, &tables.agents)?;
+    let declarations = agent_declarations(alloc, &definitions.processes, &definitions.agents)?;
     declare_all(alloc, &declarations, faults)
 }
 

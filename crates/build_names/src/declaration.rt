@@ -2,7 +2,7 @@
 
 ghost use Rattle.std.specs.Prelude.{◌≡◌, ◌++◌, ◌∷◌, [], IfOk, OnOk};
 ghost use Rattle.build_names.specs.Entries.{Has, duplicates, entries_of, standings};
-ghost use Rattle.build_faults.specs.Faults.{least_of, told};
+ghost use Rattle.build_faults.specs.Faults.{Notes};
 
 use build_faults::Faults;
 use build_scopes::{ScopeId, Spaces};
@@ -32,8 +32,8 @@ pub fn declare_all<'t, T: Copy>(
     faults: &mut Faults<'t>,
 ) -> Result<Spaces<'t, T>, AllocError>
     ensures spaces { IfOk result (λ spaces. Has spaces (entries_of declarations.now)) }
-    ensures noted { IfOk result (λ spaces. told faults.new
-        ≡ least_of (told faults.old) (duplicates (standings (entries_of declarations.now)))) }
+    ensures noted { IfOk result (λ spaces. Notes faults.old faults.new
+        (duplicates (standings (entries_of declarations.now)))) }
 {
     let mut spaces = Spaces::new(alloc);
     for declaration in declarations {

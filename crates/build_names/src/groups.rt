@@ -1,10 +1,10 @@
 //! Groups of name spaces: each is made by a function of its own, so that few spaces are at stake where memory runs out.
 
-ghost use Rattle.std.specs.Prelude.{◌≡◌, ◌++◌, IfOk};
-ghost use Rattle.build_definitions.specs.Tables.{rows_of};
+ghost use Rattle.std.specs.Prelude.{◌++◌, IfOk};
+ghost use Rattle.build_definitions.specs.Definitions.{rows_of};
 ghost use Rattle.build_names.specs.Entries.{Has, HasMeant, duplicates, standings};
 ghost use Rattle.build_names.specs.Meanings.{agent_entries, channel_entries, label_entries, list_entries, signal_entries, state_entries, value_entries};
-ghost use Rattle.build_faults.specs.Faults.{least_of, told};
+ghost use Rattle.build_faults.specs.Faults.{Notes};
 ghost use Rattle.build_expressions.specs.Scope.{agent_meaning, signal_meaning};
 
 use crate::agents::declare_agents;
@@ -14,7 +14,7 @@ use crate::lists::declare_lists;
 use crate::signals::declare_signals;
 use crate::states::declare_states;
 use crate::values::declare_values;
-use build_definitions::{ChannelId, SignalListId, Tables};
+use build_definitions::{ChannelId, Definitions, SignalListId};
 use build_expressions::{AgentMeaning, SignalMeaning, ValueEntry};
 use build_faults::Faults;
 use build_scopes::Spaces;
@@ -45,52 +45,53 @@ pub struct BodyNames<'t> {
 
 pub fn signal_names<'s, 't>(
     alloc: Global,
-    tables: &'s Tables<'t>,
+    definitions: &'s Definitions<'t>,
     faults: &mut Faults<'t>,
 ) -> Result<SignalNames<'s, 't>, AllocError>
     ensures signals { IfOk result (λ names. HasMeant signal_meaning names.signals
-        (signal_entries (rows_of tables.now))) }
-    ensures lists { IfOk result (λ names. Has names.lists (list_entries (rows_of tables.now))) }
-    ensures noted { IfOk result (λ names. told faults.new ≡ least_of (told faults.old)
-        (duplicates (standings (signal_entries (rows_of tables.now)))
-        ++ duplicates (standings (list_entries (rows_of tables.now))))) }
+        (signal_entries (rows_of definitions.now))) }
+    ensures lists { IfOk result (λ names. Has names.lists (list_entries (rows_of definitions.now))) }
+    ensures noted { IfOk result (λ names. Notes faults.old faults.new
+        (duplicates (standings (signal_entries (rows_of definitions.now)))
+        ++ duplicates (standings (list_entries (rows_of definitions.now))))) }
 {
-    let signals = declare_signals(alloc, tables, faults)?;
-    let lists = declare_lists(alloc, tables, faults)?;
+    let signals = declare_signals(alloc, definitions, faults)?;
+    let lists = declare_lists(alloc, definitions, faults)?;
     Ok(SignalNames { signals, lists })
 }
 
 pub fn agent_names<'s, 't>(
     alloc: Global,
-    tables: &'s Tables<'t>,
+    definitions: &'s Definitions<'t>,
     faults: &mut Faults<'t>,
 ) -> Result<AgentNames<'s, 't>, AllocError>
-    ensures channels { IfOk result (λ names. Has names.channels (channel_entries (rows_of tables.now))) }
-    ensures agents { IfOk result (λ names. HasMeant agent_meaning names.agents (agent_entries (rows_of tables.now))) }
-    ensures noted { IfOk result (λ names. told faults.new ≡ least_of (told faults.old)
-        (duplicates (standings (channel_entries (rows_of tables.now)))
-        ++ duplicates (standings (agent_entries (rows_of tables.now))))) }
+    ensures channels { IfOk result (λ names. Has names.channels (channel_entries (rows_of definitions.now))) }
+    ensures agents { IfOk result (λ names. HasMeant agent_meaning names.agents
+        (agent_entries (rows_of definitions.now))) }
+    ensures noted { IfOk result (λ names. Notes faults.old faults.new
+        (duplicates (standings (channel_entries (rows_of definitions.now)))
+        ++ duplicates (standings (agent_entries (rows_of definitions.now))))) }
 {
-    let channels = declare_channels(alloc, tables, faults)?;
-    let agents = declare_agents(alloc, tables, faults)?;
+    let channels = declare_channels(alloc, definitions, faults)?;
+    let agents = declare_agents(alloc, definitions, faults)?;
     Ok(AgentNames { channels, agents })
 }
 
 pub fn body_names<'t>(
     alloc: Global,
-    tables: &Tables<'t>,
+    definitions: &Definitions<'t>,
     faults: &mut Faults<'t>,
 ) -> Result<BodyNames<'t>, AllocError>
-    ensures values { IfOk result (λ names. Has names.values (value_entries (rows_of tables.now))) }
-    ensures labels { IfOk result (λ names. Has names.labels (label_entries (rows_of tables.now))) }
-    ensures states { IfOk result (λ names. Has names.states (state_entries (rows_of tables.now))) }
-    ensures noted { IfOk result (λ names. told faults.new ≡ least_of (told faults.old)
-        (duplicates (standings (value_entries (rows_of tables.now)))
-        ++ duplicates (standings (label_entries (rows_of tables.now))))) }
+    ensures values { IfOk result (λ names. Has names.values (value_entries (rows_of definitions.now))) }
+    ensures labels { IfOk result (λ names. Has names.labels (label_entries (rows_of definitions.now))) }
+    ensures states { IfOk result (λ names. Has names.states (state_entries (rows_of definitions.now))) }
+    ensures noted { IfOk result (λ names. Notes faults.old faults.new
+        (duplicates (standings (value_entries (rows_of definitions.now)))
+        ++ duplicates (standings (label_entries (rows_of definitions.now))))) }
 {
-    let values = declare_values(alloc, tables, faults)?;
-    let labels = declare_labels(alloc, tables, faults)?;
-    let states = declare_states(alloc, tables)?;
+    let values = declare_values(alloc, definitions, faults)?;
+    let labels = declare_labels(alloc, definitions, faults)?;
+    let states = declare_states(alloc, definitions)?;
     Ok(BodyNames {
         values,
         labels,

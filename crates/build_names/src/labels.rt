@@ -2,13 +2,13 @@
 
 ghost use Rattle.std.specs.Prelude.{◌≡◌, map, IfOk};
 ghost use Rattle.build_definitions.specs.Seen.{label_seen};
-ghost use Rattle.build_definitions.specs.Tables.{rows_of};
+ghost use Rattle.build_definitions.specs.Definitions.{rows_of};
 ghost use Rattle.build_names.specs.Entries.{Has, duplicates, entries_of, standings};
 ghost use Rattle.build_names.specs.Meanings.{label_entries, label_entry};
-ghost use Rattle.build_faults.specs.Faults.{least_of, told};
+ghost use Rattle.build_faults.specs.Faults.{Notes};
 
 use crate::declaration::{Declaration, add, declare_all};
-use build_definitions::{LabelEntry, Tables};
+use build_definitions::{Definitions, LabelEntry};
 use build_faults::Faults;
 use build_scopes::{ScopeId, Spaces};
 use sdl_system::LabelId;
@@ -17,14 +17,14 @@ use std::alloc::{AllocError, Global};
 /// The names of labels, by their processes.
 pub fn declare_labels<'t>(
     alloc: Global,
-    tables: &Tables<'t>,
+    definitions: &Definitions<'t>,
     faults: &mut Faults<'t>,
 ) -> Result<Spaces<'t, LabelId>, AllocError>
-    ensures spaces { IfOk result (λ spaces. Has spaces (label_entries (rows_of tables.now))) }
-    ensures noted { IfOk result (λ spaces. told faults.new
-        ≡ least_of (told faults.old) (duplicates (standings (label_entries (rows_of tables.now))))) }
+    ensures spaces { IfOk result (λ spaces. Has spaces (label_entries (rows_of definitions.now))) }
+    ensures noted { IfOk result (λ spaces. Notes faults.old faults.new
+        (duplicates (standings (label_entries (rows_of definitions.now))))) }
 {
-    let declarations = label_declarations(alloc, &tables.labels)?;
+    let declarations = label_declarations(alloc, &definitions.labels)?;
     declare_all(alloc, &declarations, faults)
 }
 

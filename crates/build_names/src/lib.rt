@@ -8,13 +8,13 @@
 mod agents;
 mod channels;
 mod declaration;
-mod declared;
 mod groups;
 mod labels;
 pub mod laws;
 mod lists;
 mod signals;
 mod states;
+mod symbol_table;
 mod values;
 
-pub use declared::Declared;
+pub use symbol_table::SymbolTable;

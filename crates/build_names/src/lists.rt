@@ -2,13 +2,13 @@
 
 ghost use Rattle.std.specs.Prelude.{◌≡◌, map, IfOk};
 ghost use Rattle.build_definitions.specs.Seen.{signal_list_seen};
-ghost use Rattle.build_definitions.specs.Tables.{rows_of};
+ghost use Rattle.build_definitions.specs.Definitions.{rows_of};
 ghost use Rattle.build_names.specs.Entries.{Has, duplicates, entries_of, standings};
 ghost use Rattle.build_names.specs.Meanings.{list_entries, lists_from};
-ghost use Rattle.build_faults.specs.Faults.{least_of, told};
+ghost use Rattle.build_faults.specs.Faults.{Notes};
 
 use crate::declaration::{Declaration, add, declare_all};
-use build_definitions::{SignalListEntry, SignalListId, Tables, next_number};
+use build_definitions::{Definitions, SignalListEntry, SignalListId, next_number};
 use build_faults::Faults;
 use build_scopes::Spaces;
 use std::alloc::{AllocError, Global};
@@ -16,14 +16,14 @@ use std::alloc::{AllocError, Global};
 /// The names of signal lists, by their scopes.
 pub fn declare_lists<'t>(
     alloc: Global,
-    tables: &Tables<'t>,
+    definitions: &Definitions<'t>,
     faults: &mut Faults<'t>,
 ) -> Result<Spaces<'t, SignalListId>, AllocError>
-    ensures spaces { IfOk result (λ spaces. Has spaces (list_entries (rows_of tables.now))) }
-    ensures noted { IfOk result (λ spaces. told faults.new
-        ≡ least_of (told faults.old) (duplicates (standings (list_entries (rows_of tables.now))))) }
+    ensures spaces { IfOk result (λ spaces. Has spaces (list_entries (rows_of definitions.now))) }
+    ensures noted { IfOk result (λ spaces. Notes faults.old faults.new
+        (duplicates (standings (list_entries (rows_of definitions.now))))) }
 {
-    let declarations = list_declarations(alloc, &tables.lists)?;
+    let declarations = list_declarations(alloc, &definitions.lists)?;
     declare_all(alloc, &declarations, faults)
 }
 

@@ -2,14 +2,14 @@
 
 ghost use Rattle.std.specs.Prelude.{◌≡◌, map, IfOk};
 ghost use Rattle.build_definitions.specs.Seen.{kind_seen, signal_seen};
-ghost use Rattle.build_definitions.specs.Tables.{rows_of};
+ghost use Rattle.build_definitions.specs.Definitions.{rows_of};
 ghost use Rattle.build_names.specs.Entries.{HasMeant, duplicates, entry_seen, standings};
 ghost use Rattle.build_names.specs.Meanings.{signal_entries, signal_means, signals_from};
-ghost use Rattle.build_faults.specs.Faults.{least_of, told};
+ghost use Rattle.build_faults.specs.Faults.{Notes};
 ghost use Rattle.build_expressions.specs.Scope.{signal_meaning};
 
 use crate::declaration::{Declaration, add, declare_all};
-use build_definitions::{SignalEntry, SignalKind, Tables, next_number};
+use build_definitions::{Definitions, SignalEntry, SignalKind, next_number};
 use build_expressions::SignalMeaning;
 use build_faults::Faults;
 use build_scopes::Spaces;
@@ -20,14 +20,14 @@ use std::alloc::{AllocError, Global};
 /// The names of signals and timers, by their scopes.
 pub fn declare_signals<'s, 't>(
     alloc: Global,
-    tables: &'s Tables<'t>,
+    definitions: &'s Definitions<'t>,
     faults: &mut Faults<'t>,
 ) -> Result<Spaces<'t, SignalMeaning<'s>>, AllocError>
-    ensures spaces { IfOk result (λ spaces. HasMeant signal_meaning spaces (signal_entries (rows_of tables.now))) }
-    ensures noted { IfOk result (λ spaces. told faults.new
-        ≡ least_of (told faults.old) (duplicates (standings (signal_entries (rows_of tables.now))))) }
+    ensures spaces { IfOk result (λ spaces. HasMeant signal_meaning spaces (signal_entries (rows_of definitions.now))) }
+    ensures noted { IfOk result (λ spaces. Notes faults.old faults.new
+        (duplicates (standings (signal_entries (rows_of definitions.now))))) }
 {
-    let declarations = signal_declarations(alloc, &tables.signals)?;
+    let declarations = signal_declarations(alloc, &definitions.signals)?;
     declare_all(alloc, &declarations, faults)
 }
 

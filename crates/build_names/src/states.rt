@@ -2,12 +2,12 @@
 
 ghost use Rattle.std.specs.Prelude.{◌≡◌, map, IfOk};
 ghost use Rattle.build_definitions.specs.Seen.{state_seen};
-ghost use Rattle.build_definitions.specs.Tables.{rows_of};
+ghost use Rattle.build_definitions.specs.Definitions.{rows_of};
 ghost use Rattle.build_names.specs.Entries.{Has, entries_of};
 ghost use Rattle.build_names.specs.Meanings.{state_entries, state_entry};
 
 use crate::declaration::{Declaration, add, declare_all};
-use build_definitions::{StateEntry, Tables};
+use build_definitions::{Definitions, StateEntry};
 use build_faults::Faults;
 use build_scopes::{ScopeId, Spaces};
 use sdl_system::StateId;
@@ -16,11 +16,11 @@ use std::alloc::{AllocError, Global};
 /// The names of states, by their processes. The table has each once.
 pub fn declare_states<'t>(
     alloc: Global,
-    tables: &Tables<'t>,
+    definitions: &Definitions<'t>,
 ) -> Result<Spaces<'t, StateId>, AllocError>
-    ensures { IfOk result (λ spaces. Has spaces (state_entries (rows_of tables.now))) }
+    ensures { IfOk result (λ spaces. Has spaces (state_entries (rows_of definitions.now))) }
 {
-    let declarations = state_declarations(alloc, &tables.states)?;
+    let declarations = state_declarations(alloc, &definitions.states)?;
     declare_all(alloc, &declarations, &mut Faults::new())
 }
 

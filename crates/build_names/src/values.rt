@@ -2,13 +2,13 @@
 
 ghost use Rattle.std.specs.Prelude.{◌≡◌, map, IfOk};
 ghost use Rattle.build_definitions.specs.Seen.{value_seen};
-ghost use Rattle.build_definitions.specs.Tables.{rows_of};
+ghost use Rattle.build_definitions.specs.Definitions.{rows_of};
 ghost use Rattle.build_names.specs.Entries.{Has, duplicates, entries_of, standings};
 ghost use Rattle.build_names.specs.Meanings.{value_entries, value_entry};
-ghost use Rattle.build_faults.specs.Faults.{least_of, told};
+ghost use Rattle.build_faults.specs.Faults.{Notes};
 
 use crate::declaration::{Declaration, add, declare_all};
-use build_definitions::{Tables, ValueName};
+use build_definitions::{Definitions, ValueName};
 use build_expressions::ValueEntry;
 use build_faults::Faults;
 use build_scopes::Spaces;
@@ -17,14 +17,14 @@ use std::alloc::{AllocError, Global};
 /// The names of variables, formal parameters and synonyms, by their scopes.
 pub fn declare_values<'t>(
     alloc: Global,
-    tables: &Tables<'t>,
+    definitions: &Definitions<'t>,
     faults: &mut Faults<'t>,
 ) -> Result<Spaces<'t, ValueEntry>, AllocError>
-    ensures spaces { IfOk result (λ spaces. Has spaces (value_entries (rows_of tables.now))) }
-    ensures noted { IfOk result (λ spaces. told faults.new
-        ≡ least_of (told faults.old) (duplicates (standings (value_entries (rows_of tables.now))))) }
+    ensures spaces { IfOk result (λ spaces. Has spaces (value_entries (rows_of definitions.now))) }
+    ensures noted { IfOk result (λ spaces. Notes faults.old faults.new
+        (duplicates (standings (value_entries (rows_of definitions.now))))) }
 {
-    let declarations = value_declarations(alloc, &tables.values)?;
+    let declarations = value_declarations(alloc, &definitions.values)?;
     declare_all(alloc, &declarations, faults)
 }
 

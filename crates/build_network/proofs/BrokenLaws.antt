@@ -2,8 +2,8 @@
 use Rattle.std.proofs.Common.{◌≡◌, ◌∙◌, ◌++◌, ℕ, ◌+◌, true, List, [], ◌∷◌, Option, None, Some, flat_map, is_none, inl, inr, sym, ap, subst}
 use Rattle.std.proofs.lemmas.List.Concat.{flat_map-append}
 use Rattle.build_definitions.specs.Rows.{ChannelRow, ConnectionRow}
-use Rattle.build_definitions.specs.Tables.{Rows, path_of}
-use Rattle.build_names.specs.declared.declared.Declared.{Declared}
+use Rattle.build_definitions.specs.Definitions.{Rows, path_of}
+use Rattle.build_names.specs.declared.symbol_table.SymbolTable.{SymbolTable}
 use Rattle.build_network.specs.Agents.{agent_end, block_names, end_faults}
 use Rattle.build_network.specs.Broken.{HasNumber, IsBroken, IsNoAgent, IsNoItem, IsPathOf}
 use Rattle.build_network.specs.Broken as broken
@@ -16,9 +16,9 @@ use Rattle.build_network.specs.Processes.{faults_of, processes_faults, seen_with
 use Rattle.build_network.specs.Seen.{Seen, item_faults, item_in, item_name, items_faults, list_item, seen_at, signal_item}
 use Rattle.build_faults.proofs.FaultLemmas.{in-each, in-if, in-left, in-right}
 use Rattle.build_faults.specs.FaultLaws.{In}
-use Rattle.build_faults.specs.Faults.{Told, told_at}
-use Rattle.build_limits.specs.Names.{first_of}
-use Rattle.build_faults.specs.declared.fault.Kind.TheVariants.{Unknown}
+use Rattle.build_faults.specs.Faults.{Diagnostic, diagnostic_at}
+use Rattle.build_scopes.specs.Names.{first_of}
+use Rattle.build_faults.specs.declared.fault.Rule.TheVariants.{Unknown}
 use Rattle.build_expressions.specs.declared.scope.AgentMeaning.TheVariants as agent
 use Rattle.build_scopes.specs.Spaces.{names_of}
 use Rattle.build_scopes.specs.declared.scope.ScopeId.{ScopeId}
@@ -60,25 +60,25 @@ is-none-item seen listed (broken.no_signal name isnt) = ap (λ found. is_none (s
 is-none-item seen listed (broken.no_list name isnt) = ap (λ found. is_none (list_item found)) isnt
 
 in-items : (seen : Seen) (items : List SignalListItem) (listed : SignalListItem) → In listed items →
-    IsNoItem seen listed → In (told_at Unknown (item_name listed)) (items_faults seen items)
+    IsNoItem seen listed → In (diagnostic_at Unknown (item_name listed)) (items_faults seen items)
 in-items seen items listed at isnt =
-    in-each (told_at Unknown (item_name listed)) (item_faults seen) items listed at
+    in-each (diagnostic_at Unknown (item_name listed)) (item_faults seen) items listed at
     (in-if (is_none (item_in seen listed)) Unknown (item_name listed) (is-none-item seen listed isnt))
 
-module _ (rows : Rows) (declared : Declared) where
-  abbrev ends : ScopeId → ChannelEnd → List Told
-  ends place end = end_faults (block_names rows.blocks) (names_of declared.agents place) end
+module _ (rows : Rows) (symbols : SymbolTable) where
+  abbrev ends : ScopeId → ChannelEnd → List Diagnostic
+  ends place end = end_faults (block_names rows.blocks) (names_of symbols.agents place) end
 
-  abbrev carries : ScopeId → ChannelPath → List Told
-  carries place path = items_faults (seen_from declared place) path.signals
+  abbrev carries : ScopeId → ChannelPath → List Diagnostic
+  carries place path = items_faults (seen_from symbols place) path.signals
 
-  abbrev of_path : ScopeId → ChannelPath → List Told
-  of_path place path = path_faults declared (block_names rows.blocks) (record { scope = place; path = path })
+  abbrev of_path : ScopeId → ChannelPath → List Diagnostic
+  of_path place path = path_faults symbols (block_names rows.blocks) (record { scope = place; path = path })
 
   -- ---- ends
 
-  is-none-end : (place : ScopeId) (name : Spot) → IsNoAgent rows declared place name →
-      is_none (agent_end (first_of (block_names rows.blocks) name.text) (first_of (names_of declared.agents place)
+  is-none-end : (place : ScopeId) (name : Spot) → IsNoAgent rows symbols place name →
+      is_none (agent_end (first_of (block_names rows.blocks) name.text) (first_of (names_of symbols.agents place)
       name.text)) ≡ true
   is-none-end place name (broken.no_agent isnt) =
       ap (λ found. is_none (agent_end (first_of (block_names rows.blocks) name.text) found)) isnt
@@ -86,119 +86,119 @@ module _ (rows : Rows) (declared : Declared) where
       ap (λ found. is_none (agent_end (first_of (block_names rows.blocks) name.text) found)) is
       ∙ ap (λ block. is_none (agent_end block (Some agent.Block))) isnt
 
-  in-end : (place : ScopeId) (end : ChannelEnd) (name : Spot) → end ≡ Agent name → IsNoAgent rows declared place name →
-      In (told_at Unknown name) (ends place end)
+  in-end : (place : ScopeId) (end : ChannelEnd) (name : Spot) → end ≡ Agent name → IsNoAgent rows symbols place name →
+      In (diagnostic_at Unknown name) (ends place end)
   in-end place end name is isnt =
-      subst (λ e. In (told_at Unknown name) (ends place e)) (sym is)
+      subst (λ e. In (diagnostic_at Unknown name) (ends place e)) (sym is)
       (in-if (is_none (agent_end (first_of (block_names rows.blocks) name.text)
-      (first_of (names_of declared.agents place) name.text))) Unknown name (is-none-end place name isnt))
+      (first_of (names_of symbols.agents place) name.text))) Unknown name (is-none-end place name isnt))
 
   -- ---- paths
 
   in-second : (place : ScopeId) (second : Option ChannelPath) (path : ChannelPath) → second ≡ Some path →
-      (fault : Told) → In fault (of_path place path) →
-      In fault (flat_map (path_faults declared (block_names rows.blocks)) (second_path place second))
+      (fault : Diagnostic) → In fault (of_path place path) →
+      In fault (flat_map (path_faults symbols (block_names rows.blocks)) (second_path place second))
   in-second place second path is fault here =
-      subst (λ s. In fault (flat_map (path_faults declared (block_names rows.blocks)) (second_path place s))) (sym is)
+      subst (λ s. In fault (flat_map (path_faults symbols (block_names rows.blocks)) (second_path place s))) (sym is)
       (in-left fault (of_path place path) [] here)
 
-  in-channel : (channel : ChannelRow) (path : ChannelPath) → IsPathOf channel.definition path → (fault : Told) →
+  in-channel : (channel : ChannelRow) (path : ChannelPath) → IsPathOf channel.definition path → (fault : Diagnostic) →
       In fault (of_path channel.scope path) →
-      In fault (flat_map (path_faults declared (block_names rows.blocks)) (channel_paths channel))
+      In fault (flat_map (path_faults symbols (block_names rows.blocks)) (channel_paths channel))
   in-channel channel path (broken.is_first is) fault here =
       in-left fault (of_path channel.scope channel.definition.first)
-      (flat_map (path_faults declared (block_names rows.blocks)) (second_path channel.scope channel.definition.second))
+      (flat_map (path_faults symbols (block_names rows.blocks)) (second_path channel.scope channel.definition.second))
       (subst (λ p. In fault (of_path channel.scope p)) (sym is) here)
   in-channel channel path (broken.is_second is) fault here =
       in-right fault (of_path channel.scope channel.definition.first)
-      (flat_map (path_faults declared (block_names rows.blocks)) (second_path channel.scope channel.definition.second))
+      (flat_map (path_faults symbols (block_names rows.blocks)) (second_path channel.scope channel.definition.second))
       (in-second channel.scope channel.definition.second path is fault here)
 
   -- ---- the four parts of the list
 
-  abbrev of_lists : List Told
-  of_lists = flat_map (list_faults declared rows.processes) rows.lists
+  abbrev of_lists : List Diagnostic
+  of_lists = flat_map (list_faults symbols rows.processes) rows.lists
 
-  abbrev of_paths : List Told
-  of_paths = flat_map (path_faults declared (block_names rows.blocks)) (all_paths rows)
+  abbrev of_paths : List Diagnostic
+  of_paths = flat_map (path_faults symbols (block_names rows.blocks)) (all_paths rows)
 
-  abbrev of_sets : List Told
-  of_sets = processes_faults declared rows.processes
+  abbrev of_sets : List Diagnostic
+  of_sets = processes_faults symbols rows.processes
 
-  abbrev of_connects : List Told
-  of_connects = flat_map (connect_faults declared) rows.connections
+  abbrev of_connects : List Diagnostic
+  of_connects = flat_map (connect_faults symbols) rows.connections
 
   in-paths : (channel : ChannelRow) → In channel rows.channels → (path : ChannelPath) →
-      IsPathOf channel.definition path → (fault : Told) → In fault (of_path channel.scope path) →
-      In fault (network_faults rows declared)
+      IsPathOf channel.definition path → (fault : Diagnostic) → In fault (of_path channel.scope path) →
+      In fault (network_faults rows symbols)
   in-paths channel at path is fault here =
       in-right fault of_lists (of_paths ++ (of_sets ++ of_connects))
       (in-left fault of_paths (of_sets ++ of_connects)
-      (in-made fault channel_paths (path_faults declared (block_names rows.blocks)) rows.channels channel at
+      (in-made fault channel_paths (path_faults symbols (block_names rows.blocks)) rows.channels channel at
       (in-channel channel path is fault here)))
 
-  in-connects : (connection : ConnectionRow) → In connection rows.connections → (fault : Told) →
-      In fault (connect_faults declared connection) → In fault (network_faults rows declared)
+  in-connects : (connection : ConnectionRow) → In connection rows.connections → (fault : Diagnostic) →
+      In fault (connect_faults symbols connection) → In fault (network_faults rows symbols)
   in-connects connection at fault here =
       in-right fault of_lists (of_paths ++ (of_sets ++ of_connects))
       (in-right fault of_paths (of_sets ++ of_connects)
       (in-right fault of_sets of_connects
-      (in-each fault (connect_faults declared) rows.connections connection at here)))
+      (in-each fault (connect_faults symbols) rows.connections connection at here)))
 
   in-names : (place : ScopeId) (names : List Spot) (name : Spot) → In name names →
-      first_of (names_of declared.channels place) name.text ≡ None →
-      In (told_at Unknown name) (flat_map (channel_faults (names_of declared.channels place)) names)
+      first_of (names_of symbols.channels place) name.text ≡ None →
+      In (diagnostic_at Unknown name) (flat_map (channel_faults (names_of symbols.channels place)) names)
   in-names place names name at isnt =
-      in-each (told_at Unknown name) (channel_faults (names_of declared.channels place)) names name at
-      (in-if (is_none (first_of (names_of declared.channels place) name.text)) Unknown name (ap is_none isnt))
+      in-each (diagnostic_at Unknown name) (channel_faults (names_of symbols.channels place)) names name at
+      (in-if (is_none (first_of (names_of symbols.channels place) name.text)) Unknown name (ap is_none isnt))
 
   -- ---- each rule
 
-  in-network : (fault : Told) → IsBroken rows declared fault → In fault (network_faults rows declared)
+  in-network : (fault : Diagnostic) → IsBroken rows symbols fault → In fault (network_faults rows symbols)
   in-network fault (broken.in_list list at listed among isnt) =
-      let told : Told = told_at Unknown (item_name listed) in
+      let told : Diagnostic = diagnostic_at Unknown (item_name listed) in
       in-left told of_lists (of_paths ++ (of_sets ++ of_connects))
-      (in-each told (list_faults declared rows.processes) rows.lists list at
-      (in-items (seen_at declared (path_of rows.processes list.scope)) list.definition.items listed among isnt))
+      (in-each told (list_faults symbols rows.processes) rows.lists list at
+      (in-items (seen_at symbols (path_of rows.processes list.scope)) list.definition.items listed among isnt))
   in-network fault (broken.no_beginning channel at path is name from isnt) =
-      let told : Told = told_at Unknown name in
+      let told : Diagnostic = diagnostic_at Unknown name in
       in-paths channel at path is told
       (in-left told (ends channel.scope path.from) (ends channel.scope path.to ++ carries channel.scope path)
       (in-end channel.scope path.from name from isnt))
   in-network fault (broken.no_end channel at path is name to isnt) =
-      let told : Told = told_at Unknown name in
+      let told : Diagnostic = diagnostic_at Unknown name in
       in-paths channel at path is told
       (in-right told (ends channel.scope path.from) (ends channel.scope path.to ++ carries channel.scope path)
       (in-left told (ends channel.scope path.to) (carries channel.scope path)
       (in-end channel.scope path.to name to isnt)))
   in-network fault (broken.carried channel at path is listed among isnt) =
-      let told : Told = told_at Unknown (item_name listed) in
+      let told : Diagnostic = diagnostic_at Unknown (item_name listed) in
       in-paths channel at path is told
       (in-right told (ends channel.scope path.from) (ends channel.scope path.to ++ carries channel.scope path)
       (in-right told (ends channel.scope path.to) (carries channel.scope path)
-      (in-items (seen_from declared channel.scope) path.signals listed among isnt)))
+      (in-items (seen_from symbols channel.scope) path.signals listed among isnt)))
   in-network fault (broken.in_set number process at signals among listed in_it isnt) =
-      let told : Told = told_at Unknown (item_name listed) in
+      let told : Diagnostic = diagnostic_at Unknown (item_name listed) in
       in-right told of_lists (of_paths ++ (of_sets ++ of_connects))
       (in-right told of_paths (of_sets ++ of_connects)
       (in-left told of_sets of_connects
-      (in-numbered told (faults_of declared) 0 rows.processes number process at
-      (in-each told (set_faults (seen_within declared number process)) process.definition.definitions
+      (in-numbered told (faults_of symbols) 0 rows.processes number process at
+      (in-each told (set_faults (seen_within symbols number process)) process.definition.definitions
       (LocalSignalSet signals) among
-      (in-items (seen_within declared number process) signals.items listed in_it isnt)))))
+      (in-items (seen_within symbols number process) signals.items listed in_it isnt)))))
   in-network fault (broken.no_outer connection at name among isnt) =
-      let told : Told = told_at Unknown name in
+      let told : Diagnostic = diagnostic_at Unknown name in
       in-connects connection at told
-      (in-left told (flat_map (channel_faults (names_of declared.channels scope.System)) connection.definition.outer)
-      (flat_map (channel_faults (names_of declared.channels connection.scope)) connection.definition.inner)
+      (in-left told (flat_map (channel_faults (names_of symbols.channels scope.System)) connection.definition.outer)
+      (flat_map (channel_faults (names_of symbols.channels connection.scope)) connection.definition.inner)
       (in-names scope.System connection.definition.outer name among isnt))
   in-network fault (broken.no_inner connection at name among isnt) =
-      let told : Told = told_at Unknown name in
+      let told : Diagnostic = diagnostic_at Unknown name in
       in-connects connection at told
-      (in-right told (flat_map (channel_faults (names_of declared.channels scope.System)) connection.definition.outer)
-      (flat_map (channel_faults (names_of declared.channels connection.scope)) connection.definition.inner)
+      (in-right told (flat_map (channel_faults (names_of symbols.channels scope.System)) connection.definition.outer)
+      (flat_map (channel_faults (names_of symbols.channels connection.scope)) connection.definition.inner)
       (in-names connection.scope connection.definition.inner name among isnt))
 
-pub broken-listed : (rows : Rows) (declared : Declared) (fault : Told) → IsBroken rows declared fault →
-    In fault (network_faults rows declared)
-broken-listed rows declared fault is = in-network rows declared fault is
+pub broken-listed : (rows : Rows) (symbols : SymbolTable) (fault : Diagnostic) → IsBroken rows symbols fault →
+    In fault (network_faults rows symbols)
+broken-listed rows symbols fault is = in-network rows symbols fault is

@@ -3,9 +3,9 @@ use Rattle.std.specs.Prelude.{ℕ, List, [], Option, None, Some, is_none}
 use Rattle.build_network.specs.Numbered.{numbered}
 use Rattle.route_network.specs.declared.network.End.{End}
 use Rattle.route_network.specs.declared.network.End.TheVariants as at
-use Rattle.build_faults.specs.Faults.{Told, fault_if}
-use Rattle.build_limits.specs.Names.{first_of}
-use Rattle.build_faults.specs.declared.fault.Kind.TheVariants.{Unknown}
+use Rattle.build_faults.specs.Faults.{Diagnostic, fault_if}
+use Rattle.build_scopes.specs.Names.{first_of}
+use Rattle.build_faults.specs.declared.fault.Rule.TheVariants.{Unknown}
 use Rattle.build_expressions.specs.declared.scope.AgentMeaning.{AgentMeaning}
 use Rattle.build_expressions.specs.declared.scope.AgentMeaning.TheVariants as agent
 use Rattle.sdl_system.specs.declared.id.BlockId.{BlockId}
@@ -33,7 +33,7 @@ end_in blocks agents (Env word) = Some at.Env
 end_in blocks agents (Agent name) = agent_end (first_of blocks name.text) (first_of agents name.text)
 
 -- an agent that its scope doesn't have
-abbrev pub end_faults : List (List ℕ × BlockId) → List (List ℕ × AgentMeaning) → ChannelEnd → List Told
+abbrev pub end_faults : List (List ℕ × BlockId) → List (List ℕ × AgentMeaning) → ChannelEnd → List Diagnostic
 end_faults blocks agents (Env word) = []
 end_faults blocks agents (Agent name) =
     fault_if (is_none (agent_end (first_of blocks name.text) (first_of agents name.text))) Unknown name

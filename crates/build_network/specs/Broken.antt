@@ -1,18 +1,18 @@
--- When a rule is broken in what joins the agents, and at which word: said of the definitions that stand in the text, and
--- not of what is noted (Z.101: signal list, channel, channel connection, valid input signal set).
+-- When a rule is broken in what joins the agents, and at which word: said of the definitions that stand in the text,
+-- and not of what is noted (Z.101: signal list, channel, channel connection, valid input signal set).
 use Rattle.std.specs.Prelude.{◌≡◌, ◌⊎◌, ℕ, ◌+◌, List, [], ◌∷◌, None, Some}
 use Rattle.build_definitions.specs.Rows.{ChannelRow, ConnectionRow, ProcessRow, SignalListRow}
-use Rattle.build_definitions.specs.Tables.{Rows, path_of}
-use Rattle.build_names.specs.declared.declared.Declared.{Declared}
+use Rattle.build_definitions.specs.Definitions.{Rows, path_of}
+use Rattle.build_names.specs.declared.symbol_table.SymbolTable.{SymbolTable}
 use Rattle.build_network.specs.Agents.{block_names}
 use Rattle.build_network.specs.Network.{network_faults}
 use Rattle.build_network.specs.Paths.{seen_from}
 use Rattle.build_network.specs.Processes.{seen_within}
 use Rattle.build_network.specs.Seen.{Seen, item_name, seen_at}
 use Rattle.build_faults.specs.FaultLaws.{Each, In}
-use Rattle.build_faults.specs.Faults.{Told, told_at}
-use Rattle.build_limits.specs.Names.{first_of}
-use Rattle.build_faults.specs.declared.fault.Kind.TheVariants.{Unknown}
+use Rattle.build_faults.specs.Faults.{Diagnostic, diagnostic_at}
+use Rattle.build_scopes.specs.Names.{first_of}
+use Rattle.build_faults.specs.declared.fault.Rule.TheVariants.{Unknown}
 use Rattle.build_expressions.specs.declared.scope.AgentMeaning.TheVariants as agent
 use Rattle.build_scopes.specs.Spaces.{names_of}
 use Rattle.build_scopes.specs.declared.scope.ScopeId.{ScopeId}
@@ -40,64 +40,64 @@ pub data IsNoItem (seen : Seen) : SignalListItem → Type 0 where
   no_list : (name : Spot) → first_of seen.lists name.text ≡ None → IsNoItem seen (ListItem name)
 
 -- the scope has no process and no block of this name
-pub data IsNoAgent (rows : Rows) (declared : Declared) (place : ScopeId) (name : Spot) : Type 0 where
-  no_agent : first_of (names_of declared.agents place) name.text ≡ None → IsNoAgent rows declared place name
+pub data IsNoAgent (rows : Rows) (symbols : SymbolTable) (place : ScopeId) (name : Spot) : Type 0 where
+  no_agent : first_of (names_of symbols.agents place) name.text ≡ None → IsNoAgent rows symbols place name
   no_block :
-      first_of (names_of declared.agents place) name.text ≡ Some agent.Block
-      → first_of (block_names rows.blocks) name.text ≡ None → IsNoAgent rows declared place name
+      first_of (names_of symbols.agents place) name.text ≡ Some agent.Block
+      → first_of (block_names rows.blocks) name.text ≡ None → IsNoAgent rows symbols place name
 
 -- the scope has no channel of this name
-abbrev pub IsNoChannel : Declared → ScopeId → Spot → Type 0
-IsNoChannel declared place name = first_of (names_of declared.channels place) name.text ≡ None
+abbrev pub IsNoChannel : SymbolTable → ScopeId → Spot → Type 0
+IsNoChannel symbols place name = first_of (names_of symbols.channels place) name.text ≡ None
 
 -- ---- rules
 
--- a rule is broken in what joins the agents of the definitions, where names stand for what `declared` says
-pub data IsBroken (rows : Rows) (declared : Declared) : Told → Type 0 where
+-- a rule is broken in what joins the agents of the definitions, where names stand for what `symbols` says
+pub data IsBroken (rows : Rows) (symbols : SymbolTable) : Diagnostic → Type 0 where
   -- a signal list names what is no signal, no timer and no signal list
   in_list :
       (list : SignalListRow) → In list rows.lists → (listed : SignalListItem) → In listed list.definition.items
-      → IsNoItem (seen_at declared (path_of rows.processes list.scope)) listed
-      → IsBroken rows declared (told_at Unknown (item_name listed))
+      → IsNoItem (seen_at symbols (path_of rows.processes list.scope)) listed
+      → IsBroken rows symbols (diagnostic_at Unknown (item_name listed))
   -- a path of a channel begins at no agent of the scope of the channel
   no_beginning :
       (channel : ChannelRow) → In channel rows.channels → (path : ChannelPath) → IsPathOf channel.definition path
-      → (name : Spot) → path.from ≡ Agent name → IsNoAgent rows declared channel.scope name
-      → IsBroken rows declared (told_at Unknown name)
+      → (name : Spot) → path.from ≡ Agent name → IsNoAgent rows symbols channel.scope name
+      → IsBroken rows symbols (diagnostic_at Unknown name)
   -- a path of a channel leads to no agent of the scope of the channel
   no_end :
       (channel : ChannelRow) → In channel rows.channels → (path : ChannelPath) → IsPathOf channel.definition path
-      → (name : Spot) → path.to ≡ Agent name → IsNoAgent rows declared channel.scope name
-      → IsBroken rows declared (told_at Unknown name)
+      → (name : Spot) → path.to ≡ Agent name → IsNoAgent rows symbols channel.scope name
+      → IsBroken rows symbols (diagnostic_at Unknown name)
   -- a path of a channel is said to carry what is no signal, no timer and no signal list
   carried :
       (channel : ChannelRow) → In channel rows.channels → (path : ChannelPath) → IsPathOf channel.definition path
-      → (listed : SignalListItem) → In listed path.signals → IsNoItem (seen_from declared channel.scope) listed
-      → IsBroken rows declared (told_at Unknown (item_name listed))
+      → (listed : SignalListItem) → In listed path.signals → IsNoItem (seen_from symbols channel.scope) listed
+      → IsBroken rows symbols (diagnostic_at Unknown (item_name listed))
   -- the signal set of a process names what is no signal, no timer and no signal list
   in_set :
       (number : ℕ) (process : ProcessRow) → HasNumber 0 rows.processes number process
       → (signals : SignalSet) → In (LocalSignalSet signals) process.definition.definitions
-      → (listed : SignalListItem) → In listed signals.items → IsNoItem (seen_within declared number process) listed
-      → IsBroken rows declared (told_at Unknown (item_name listed))
+      → (listed : SignalListItem) → In listed signals.items → IsNoItem (seen_within symbols number process) listed
+      → IsBroken rows symbols (diagnostic_at Unknown (item_name listed))
   -- a connect names before `and` what is no channel of the system
   no_outer :
       (connection : ConnectionRow) → In connection rows.connections
-      → (name : Spot) → In name connection.definition.outer → IsNoChannel declared scope.System name
-      → IsBroken rows declared (told_at Unknown name)
+      → (name : Spot) → In name connection.definition.outer → IsNoChannel symbols scope.System name
+      → IsBroken rows symbols (diagnostic_at Unknown name)
   -- a connect names behind `and` what is no channel of its own scope
   no_inner :
       (connection : ConnectionRow) → In connection rows.connections
-      → (name : Spot) → In name connection.definition.inner → IsNoChannel declared connection.scope name
-      → IsBroken rows declared (told_at Unknown name)
+      → (name : Spot) → In name connection.definition.inner → IsNoChannel symbols connection.scope name
+      → IsBroken rows symbols (diagnostic_at Unknown name)
 
 -- ---- laws
 
 -- Each fault of the list is broken.
 abbrev pub ListedBroken : Type 0
-ListedBroken = (rows : Rows) (declared : Declared) → Each (IsBroken rows declared) (network_faults rows declared)
+ListedBroken = (rows : Rows) (symbols : SymbolTable) → Each (IsBroken rows symbols) (network_faults rows symbols)
 
 -- Each rule that is broken is in the list.
 abbrev pub BrokenListed : Type 0
-BrokenListed = (rows : Rows) (declared : Declared) (fault : Told) → IsBroken rows declared fault →
-    In fault (network_faults rows declared)
+BrokenListed = (rows : Rows) (symbols : SymbolTable) (fault : Diagnostic) → IsBroken rows symbols fault →
+    In fault (network_faults rows symbols)

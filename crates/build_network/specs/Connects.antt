@@ -2,14 +2,14 @@
 use Rattle.std.specs.Prelude.{◌++◌, ℕ, List, [], ◌∷◌, Option, None, Some, flat_map, is_none, slice_get}
 use Rattle.build_definitions.specs.Rows.{ConnectionRow}
 use Rattle.build_definitions.specs.declared.entries.ChannelId.{ChannelId}
-use Rattle.build_names.specs.declared.declared.Declared.{Declared}
+use Rattle.build_names.specs.declared.symbol_table.SymbolTable.{SymbolTable}
 use Rattle.build_network.specs.Seen.{listed}
 use Rattle.build_network.specs.declared.paths.ChannelPaths.{ChannelPaths}
 use Rattle.route_network.specs.declared.network.Connect as routes
 use Rattle.route_network.specs.declared.network.PathId.{PathId}
-use Rattle.build_faults.specs.Faults.{Told, fault_if}
-use Rattle.build_limits.specs.Names.{first_of}
-use Rattle.build_faults.specs.declared.fault.Kind.TheVariants.{Unknown}
+use Rattle.build_faults.specs.Faults.{Diagnostic, fault_if}
+use Rattle.build_scopes.specs.Names.{first_of}
+use Rattle.build_faults.specs.declared.fault.Rule.TheVariants.{Unknown}
 use Rattle.build_scopes.specs.Spaces.{names_of}
 use Rattle.build_scopes.specs.declared.scope.ScopeId.{ScopeId}
 use Rattle.build_scopes.specs.declared.scope.ScopeId.TheVariants as scope
@@ -37,28 +37,28 @@ numbers_at numbers (Some channel) = slice_get numbers channel.0
 abbrev pub named_paths : List ChannelPaths → List (List ℕ × ChannelId) → Spot → List PathId
 named_paths numbers channels name = ids_of (numbers_at numbers (first_of channels name.text))
 
-abbrev pub channel_faults : List (List ℕ × ChannelId) → Spot → List Told
+abbrev pub channel_faults : List (List ℕ × ChannelId) → Spot → List Diagnostic
 channel_faults channels name = fault_if (is_none (first_of channels name.text)) Unknown name
 
 -- the first names are those of channels of the system, the others of the block
-abbrev pub connect_in : Declared → List ChannelPaths → BlockId → Connection → Connect
-connect_in declared numbers block connection = record {
+abbrev pub connect_in : SymbolTable → List ChannelPaths → BlockId → Connection → Connect
+connect_in symbols numbers block connection = record {
   block = block;
-  outer = flat_map (named_paths numbers (names_of declared.channels scope.System)) connection.outer;
-  inner = flat_map (named_paths numbers (names_of declared.channels (scope.Block block))) connection.inner;
+  outer = flat_map (named_paths numbers (names_of symbols.channels scope.System)) connection.outer;
+  inner = flat_map (named_paths numbers (names_of symbols.channels (scope.Block block))) connection.inner;
 }
 
 -- a connect stands in a block alone
-abbrev pub connects_at : Declared → List ChannelPaths → ScopeId → Connection → List Connect
-connects_at declared numbers scope.System connection = []
-connects_at declared numbers (scope.Block block) connection = connect_in declared numbers block connection ∷ []
-connects_at declared numbers (scope.Process process) connection = []
+abbrev pub connects_at : SymbolTable → List ChannelPaths → ScopeId → Connection → List Connect
+connects_at symbols numbers scope.System connection = []
+connects_at symbols numbers (scope.Block block) connection = connect_in symbols numbers block connection ∷ []
+connects_at symbols numbers (scope.Process process) connection = []
 
-abbrev pub connects_of : Declared → List ChannelPaths → ConnectionRow → List Connect
-connects_of declared numbers row = connects_at declared numbers row.scope row.definition
+abbrev pub connects_of : SymbolTable → List ChannelPaths → ConnectionRow → List Connect
+connects_of symbols numbers row = connects_at symbols numbers row.scope row.definition
 
 -- the names that are no channel's
-abbrev pub connect_faults : Declared → ConnectionRow → List Told
-connect_faults declared row =
-    flat_map (channel_faults (names_of declared.channels scope.System)) row.definition.outer
-    ++ flat_map (channel_faults (names_of declared.channels row.scope)) row.definition.inner
+abbrev pub connect_faults : SymbolTable → ConnectionRow → List Diagnostic
+connect_faults symbols row =
+    flat_map (channel_faults (names_of symbols.channels scope.System)) row.definition.outer
+    ++ flat_map (channel_faults (names_of symbols.channels row.scope)) row.definition.inner

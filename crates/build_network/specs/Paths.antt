@@ -2,8 +2,8 @@
 use Rattle.std.specs.Prelude.{◌++◌, ◌&&◌, ℕ, ◌+◌, Bool, List, [], ◌∷◌, Option, None, Some, is_some, length, if◌then◌else◌}
 use Rattle.std.specs.Option.{unwrap_or}
 use Rattle.build_definitions.specs.Rows.{ChannelRow}
-use Rattle.build_definitions.specs.Tables.{path_of as scopes_round}
-use Rattle.build_names.specs.declared.declared.Declared.{Declared}
+use Rattle.build_definitions.specs.Definitions.{path_of as scopes_round}
+use Rattle.build_names.specs.declared.symbol_table.SymbolTable.{SymbolTable}
 use Rattle.build_network.specs.Agents.{end_faults, end_in}
 use Rattle.build_network.specs.Numbered.{numbered}
 use Rattle.build_network.specs.Processes.{scope_of}
@@ -15,7 +15,7 @@ use Rattle.route_network.specs.declared.network.ChannelPath as routes
 use Rattle.route_network.specs.declared.network.End.{End}
 use Rattle.route_network.specs.declared.network.End.TheVariants as at
 use Rattle.route_network.specs.declared.network.PathId.{PathId}
-use Rattle.build_faults.specs.Faults.{Told}
+use Rattle.build_faults.specs.Faults.{Diagnostic}
 use Rattle.build_scopes.specs.Spaces.{names_of}
 use Rattle.build_scopes.specs.declared.scope.ScopeId.{ScopeId}
 use Rattle.sdl_system.specs.declared.id.BlockId.{BlockId}
@@ -66,26 +66,26 @@ abbrev pub items_if : Bool → Seen → List SignalListItem → List Item
 items_if is seen items = if is then items_in seen items else []
 
 -- what is seen at a channel of this scope
-abbrev pub seen_from : Declared → ScopeId → Seen
-seen_from declared scope = seen_at declared (scopes_round [] scope)
+abbrev pub seen_from : SymbolTable → ScopeId → Seen
+seen_from symbols scope = seen_at symbols (scopes_round [] scope)
 
 -- where names of agents stand for these
-module _ (declared : Declared) (blocks : List (List ℕ × BlockId)) where
+module _ (symbols : SymbolTable) (blocks : List (List ℕ × BlockId)) where
   abbrev pub path_end : ScopeId → ChannelEnd → Option End
-  path_end scope end = end_in blocks (names_of declared.agents scope) end
+  path_end scope end = end_in blocks (names_of symbols.agents scope) end
 
   abbrev pub has_ends : Placed → Bool
   has_ends placed = is_some (path_end placed.scope placed.path.from) && is_some (path_end placed.scope placed.path.to)
 
   -- what it carries
   abbrev pub carried : Placed → List Item
-  carried placed = items_if (has_ends placed) (seen_from declared placed.scope) placed.path.signals
+  carried placed = items_if (has_ends placed) (seen_from symbols placed.scope) placed.path.signals
 
-  abbrev pub path_faults : Placed → List Told
+  abbrev pub path_faults : Placed → List Diagnostic
   path_faults placed =
-      end_faults blocks (names_of declared.agents placed.scope) placed.path.from
-      ++ (end_faults blocks (names_of declared.agents placed.scope) placed.path.to
-      ++ items_faults (seen_from declared placed.scope) placed.path.signals)
+      end_faults blocks (names_of symbols.agents placed.scope) placed.path.from
+      ++ (end_faults blocks (names_of symbols.agents placed.scope) placed.path.to
+      ++ items_faults (seen_from symbols placed.scope) placed.path.signals)
 
   -- the path, where what it carries is the list of this number
   abbrev pub path_of : ℕ → Placed → routes.ChannelPath

@@ -1,14 +1,14 @@
 -- The signals that a process names (Z.101: valid input signal set; Z.102: input, save), and its timers.
 use Rattle.std.specs.Prelude.{◌++◌, ℕ, ◌+◌, ◌*◌, List, [], ◌∷◌, flat_map}
 use Rattle.build_definitions.specs.Rows.{ProcessRow}
-use Rattle.build_names.specs.declared.declared.Declared.{Declared}
+use Rattle.build_names.specs.declared.symbol_table.SymbolTable.{SymbolTable}
 use Rattle.build_network.specs.Numbered.{joined, numbered}
 use Rattle.build_network.specs.Seen.{Seen, items_faults, items_in, listed, path_within, seen_at, signal_in, timer_in}
 use Rattle.route_network.specs.declared.list.Item.{Item}
 use Rattle.route_network.specs.declared.network.Process.{Process}
 use Rattle.route_network.specs.declared.network.Scope as networks
 use Rattle.route_network.specs.declared.network.Scope.TheVariants as its
-use Rattle.build_faults.specs.Faults.{Told}
+use Rattle.build_faults.specs.Faults.{Diagnostic}
 use Rattle.build_scopes.specs.declared.scope.ScopeId.{ScopeId}
 use Rattle.build_scopes.specs.declared.scope.ScopeId.TheVariants as scope
 use Rattle.sdl_tree.specs.Tree.{BodyPart, StatePart, FreeAction, Input, Inputs, InputList, InputAll, LocalDefinition, LocalSignals, LocalSignalList, LocalSynonyms, LocalSignalSet, Variables, Timers, ProcessDefinition, Saved, SaveList, SaveAll, Stimulus, InputPart, PriorityInput, SavePart, ContinuousSignal, TimerDefinition}
@@ -46,7 +46,7 @@ set_items seen (LocalSynonyms synonyms) = []
 set_items seen (Variables groups) = []
 set_items seen (Timers timers) = []
 
-abbrev pub set_faults : Seen → LocalDefinition → List Told
+abbrev pub set_faults : Seen → LocalDefinition → List Diagnostic
 set_faults seen (LocalSignalSet signals) = items_faults seen signals.items
 set_faults seen (LocalSignals signals) = []
 set_faults seen (LocalSignalList list) = []
@@ -75,28 +75,28 @@ abbrev pub timers_items : Seen → ProcessDefinition → List Item
 timers_items seen process = flat_map (local_timers seen) process.definitions
 
 -- names in its signal set that stand for nothing
-abbrev pub process_faults : Seen → ProcessDefinition → List Told
+abbrev pub process_faults : Seen → ProcessDefinition → List Diagnostic
 process_faults seen process = flat_map (set_faults seen) process.definitions
 
 -- what is seen in the process of this number
-abbrev pub seen_within : Declared → ℕ → ProcessRow → Seen
-seen_within declared number process = seen_at declared (path_within (record { 0 = number }) process.scope)
+abbrev pub seen_within : SymbolTable → ℕ → ProcessRow → Seen
+seen_within symbols number process = seen_at symbols (path_within (record { 0 = number }) process.scope)
 
 -- the two lists of a process
 abbrev pub two_lists : Seen → ProcessDefinition → List (List Item)
 two_lists seen process = named_items seen process ∷ timers_items seen process ∷ []
 
-abbrev pub lists_of : Declared → ℕ → ProcessRow → List (List Item)
-lists_of declared number process = two_lists (seen_within declared number process) process.definition
+abbrev pub lists_of : SymbolTable → ℕ → ProcessRow → List (List Item)
+lists_of symbols number process = two_lists (seen_within symbols number process) process.definition
 
-abbrev pub process_lists : Declared → List ProcessRow → List (List Item)
-process_lists declared processes = joined (numbered (lists_of declared) 0 processes)
+abbrev pub process_lists : SymbolTable → List ProcessRow → List (List Item)
+process_lists symbols processes = joined (numbered (lists_of symbols) 0 processes)
 
-abbrev pub faults_of : Declared → ℕ → ProcessRow → List Told
-faults_of declared number process = process_faults (seen_within declared number process) process.definition
+abbrev pub faults_of : SymbolTable → ℕ → ProcessRow → List Diagnostic
+faults_of symbols number process = process_faults (seen_within symbols number process) process.definition
 
-abbrev pub processes_faults : Declared → List ProcessRow → List Told
-processes_faults declared processes = joined (numbered (faults_of declared) 0 processes)
+abbrev pub processes_faults : SymbolTable → List ProcessRow → List Diagnostic
+processes_faults symbols processes = joined (numbered (faults_of symbols) 0 processes)
 
 -- channels and agents stand in the system or in a block, and never in a process
 abbrev pub scope_of : ScopeId → networks.Scope

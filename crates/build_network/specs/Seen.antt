@@ -1,15 +1,15 @@
 -- What stands in lists of signals, by the names that are seen at their place (Z.101: signal list).
 use Rattle.std.specs.Prelude.{ℕ, List, [], ◌∷◌, Option, None, Some, flat_map, is_none}
-use Rattle.build_definitions.specs.Tables.{block_of}
+use Rattle.build_definitions.specs.Definitions.{block_of}
 use Rattle.build_definitions.specs.declared.entries.SignalListId.{SignalListId}
-use Rattle.build_names.specs.declared.declared.Declared.{Declared}
+use Rattle.build_names.specs.declared.symbol_table.SymbolTable.{SymbolTable}
 use Rattle.build_network.specs.declared.seen.Seen as the_seen
 use Rattle.route_network.specs.declared.list.Item.{Item}
 use Rattle.route_network.specs.declared.list.Item.TheVariants as item
 use Rattle.route_network.specs.declared.list.SignalList.{SignalList}
-use Rattle.build_faults.specs.Faults.{Told, fault_if}
-use Rattle.build_limits.specs.Names.{first_of}
-use Rattle.build_faults.specs.declared.fault.Kind.TheVariants.{Unknown}
+use Rattle.build_faults.specs.Faults.{Diagnostic, fault_if}
+use Rattle.build_scopes.specs.Names.{first_of}
+use Rattle.build_faults.specs.declared.fault.Rule.TheVariants.{Unknown}
 use Rattle.build_expressions.specs.Scope.{visible}
 use Rattle.build_expressions.specs.declared.scope.SignalMeaning.{SignalMeaning}
 use Rattle.build_expressions.specs.declared.scope.SignalMeaning.TheVariants.{Signal, Timer}
@@ -28,8 +28,8 @@ pub record Seen : Type 0 where
 abbrev pub seen_of : the_seen.Seen → Seen
 seen_of seen = record { signals = visible seen.signals; lists = visible seen.lists }
 
-abbrev pub seen_at : Declared → ScopePath → Seen
-seen_at declared path = record { signals = seen_in declared.signals path; lists = seen_in declared.lists path }
+abbrev pub seen_at : SymbolTable → ScopePath → Seen
+seen_at symbols path = record { signals = seen_in symbols.signals path; lists = seen_in symbols.lists path }
 
 -- the scopes round what stands in a process of this number, in this scope
 abbrev pub path_within : ProcessId → ScopeId → ScopePath
@@ -81,10 +81,10 @@ item_name (SignalItem name) = name
 item_name (ListItem name) = name
 
 -- the names that stand for nothing
-abbrev pub item_faults : Seen → SignalListItem → List Told
+abbrev pub item_faults : Seen → SignalListItem → List Diagnostic
 item_faults seen listed_item = fault_if (is_none (item_in seen listed_item)) Unknown (item_name listed_item)
 
-abbrev pub items_faults : Seen → List SignalListItem → List Told
+abbrev pub items_faults : Seen → List SignalListItem → List Diagnostic
 items_faults seen items = flat_map (item_faults seen) items
 
 abbrev pub list_items : SignalList → List Item

@@ -3,8 +3,8 @@
 ghost use Rattle.std.specs.Prelude.{◌≡◌, ◌==◌, length, map, IfOk};
 ghost use Rattle.build_definitions.specs.Seen.{block_seen};
 ghost use Rattle.build_network.specs.Agents.{agent_end, block_end, block_names, end_faults, end_in};
-ghost use Rattle.build_faults.specs.Faults.{least_of, told};
-ghost use Rattle.build_limits.specs.Names.{first_of, names_in};
+ghost use Rattle.build_faults.specs.Faults.{Notes};
+ghost use Rattle.build_scopes.specs.Names.{first_of, names_in};
 ghost use Rattle.build_scopes.specs.Spaces.{names_of};
 ghost use Rattle.sdl_tree.specs.Views.{end_value};
 
@@ -12,8 +12,7 @@ use crate::seen::{note_unknown, path_at};
 use build_definitions::BlockEntry;
 use build_expressions::AgentMeaning;
 use build_faults::{Faults, Token};
-use build_limits::Names;
-use build_scopes::{ScopeId, Spaces};
+use build_scopes::{Names, ScopeId, Spaces};
 use route_network::{End, counted};
 use sdl_system::BlockId;
 use sdl_tree::ChannelEnd;
@@ -99,8 +98,7 @@ pub fn note_end<'t>(
     end: &'t ChannelEnd,
     faults: &mut Faults<'t>,
 )
-    ensures { told faults.new ≡ least_of (told faults.old)
-        (end_faults blocks.now (names_of agents.now scope) (end_value end.now)) }
+    ensures { Notes faults.old faults.new (end_faults blocks.now (names_of agents.now scope) (end_value end.now)) }
 {
     if let ChannelEnd::Agent(name) = end {
         let found = agent_end(blocks.get(&name.text), get_at(agents, scope, &name.text));

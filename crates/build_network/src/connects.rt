@@ -3,7 +3,7 @@
 ghost use Rattle.std.specs.Prelude.{◌≡◌, ◌++◌, flat_map, map, IfOk, OnOk};
 ghost use Rattle.build_definitions.specs.Seen.{connection_seen};
 ghost use Rattle.build_network.specs.Connects.{channel_faults, connect_faults, connect_in, connect_value, connects_of, ids_of, named_paths, numbers_at};
-ghost use Rattle.build_faults.specs.Faults.{least_of, told};
+ghost use Rattle.build_faults.specs.Faults.{Notes};
 ghost use Rattle.build_scopes.specs.Spaces.{names_of};
 ghost use Rattle.sdl_tree.specs.Views.{connection_value, name_value, names_value};
 
@@ -12,7 +12,7 @@ use crate::paths::ChannelPaths;
 use crate::seen::note_unknown;
 use build_definitions::{ChannelId, ConnectionEntry};
 use build_faults::{Faults, Token};
-use build_names::Declared;
+use build_names::SymbolTable;
 use build_scopes::{ScopeId, Spaces};
 use route_network::{Connect, PathId};
 use sdl_system::BlockId;
@@ -22,47 +22,46 @@ use std::alloc::{AllocError, Global};
 /// The connects as a network has them.
 pub fn all_connects<'t>(
     alloc: Global,
-    declared: &Declared<'_, 't>,
+    symbols: &SymbolTable<'_, 't>,
     numbers: &[ChannelPaths],
     entries: &[ConnectionEntry<'t>],
 ) -> Result<Vec<Connect>, AllocError>
     ensures { IfOk result (λ connects. map connect_value connects.items
-        ≡ flat_map (connects_of declared.now numbers.now) (map connection_seen entries.now)) }
+        ≡ flat_map (connects_of symbols.now numbers.now) (map connection_seen entries.now)) }
 {
     let mut connects = Vec::new(alloc);
     for entry in entries {
-        add_connect(alloc, declared, numbers, entry, &mut connects)?;
+        add_connect(alloc, symbols, numbers, entry, &mut connects)?;
     }
     Ok(connects)
 }
 
 /// Notes the names that stand for no channel.
 pub fn note_connects<'t>(
-    declared: &Declared<'_, 't>,
+    symbols: &SymbolTable<'_, 't>,
     entries: &[ConnectionEntry<'t>],
     faults: &mut Faults<'t>,
 )
-    ensures { told faults.new ≡ least_of (told faults.old)
-        (flat_map (connect_faults declared.now) (map connection_seen entries.now)) }
+    ensures { Notes faults.old faults.new (flat_map (connect_faults symbols.now) (map connection_seen entries.now)) }
 {
     for entry in entries {
-        note_connect(declared, entry, faults);
+        note_connect(symbols, entry, faults);
     }
 }
 
 fn add_connect<'t>(
     alloc: Global,
-    declared: &Declared<'_, 't>,
+    symbols: &SymbolTable<'_, 't>,
     numbers: &[ChannelPaths],
     entry: &ConnectionEntry<'t>,
     connects: &mut Vec<Connect>,
 ) -> Result<(), AllocError>
     ensures { OnOk result (map connect_value connects.new.items
-        ≡ map connect_value connects.old.items ++ connects_of declared.now numbers.now (connection_seen entry.now)) }
+        ≡ map connect_value connects.old.items ++ connects_of symbols.now numbers.now (connection_seen entry.now)) }
 {
     match entry.scope {
         ScopeId::Block(block) => {
-            let connect = connect_in(alloc, declared, numbers, block, entry.definition)?;
+            let connect = connect_in(alloc, symbols, numbers, block, entry.definition)?;
             connects.push(connect)?;
             Ok(())
         }
@@ -72,15 +71,15 @@ fn add_connect<'t>(
 
 fn connect_in<'t>(
     alloc: Global,
-    declared: &Declared<'_, 't>,
+    symbols: &SymbolTable<'_, 't>,
     numbers: &[ChannelPaths],
     block: BlockId,
     connection: &ChannelConnection,
 ) -> Result<Connect, AllocError>
     ensures { IfOk result (λ connect. connect_value connect
-        ≡ connect_in declared.now numbers.now block (connection_value connection.now)) }
+        ≡ connect_in symbols.now numbers.now block (connection_value connection.now)) }
 {
-    let channels = &declared.channels;
+    let channels = &symbols.channels;
     let outer = named_paths(alloc, numbers, channels, ScopeId::System, &connection.outer)?;
     let inner = named_paths(
         alloc,
@@ -137,20 +136,20 @@ fn add_ids(found: Option<ChannelPaths>, paths: &mut Vec<PathId>) -> Result<(), A
 }
 
 fn note_connect<'t>(
-    declared: &Declared<'_, 't>,
+    symbols: &SymbolTable<'_, 't>,
     entry: &ConnectionEntry<'t>,
     faults: &mut Faults<'t>,
 )
-    ensures { told faults.new ≡ least_of (told faults.old) (connect_faults declared.now (connection_seen entry.now)) }
+    ensures { Notes faults.old faults.new (connect_faults symbols.now (connection_seen entry.now)) }
 {
     let definition = entry.definition;
     note_channels(
-        &declared.channels,
+        &symbols.channels,
         ScopeId::System,
         &definition.outer,
         faults,
     );
-    note_channels(&declared.channels, entry.scope, &definition.inner, faults);
+    note_channels(&symbols.channels, entry.scope, &definition.inner, faults);
 }
 
 fn note_channels<'t>(
@@ -159,7 +158,7 @@ fn note_channels<'t>(
     names: &'t [Name],
     faults: &mut Faults<'t>,
 )
-    ensures { told faults.new ≡ least_of (told faults.old)
+    ensures { Notes faults.old faults.new
         (flat_map (channel_faults (names_of channels.now scope)) (names_value names.now)) }
 {
     for name in names {
@@ -173,8 +172,7 @@ fn note_channel<'t>(
     name: &'t Name,
     faults: &mut Faults<'t>,
 )
-    ensures { told faults.new ≡ least_of (told faults.old)
-        (channel_faults (names_of channels.now scope) (name_value name.now)) }
+    ensures { Notes faults.old faults.new (channel_faults (names_of channels.now scope) (name_value name.now)) }
 {
     let found = get_at(channels, scope, &name.text);
     note_unknown(found.is_none(), Token::of_name(name), faults);

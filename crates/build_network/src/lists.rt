@@ -2,15 +2,15 @@
 
 ghost use Rattle.std.specs.Prelude.{◌≡◌, ◌++◌, ◌+◌, ◌∷◌, [], flat_map, length, map, IfOk, OnOk};
 ghost use Rattle.build_definitions.specs.Seen.{signal_list_seen};
-ghost use Rattle.build_definitions.specs.Tables.{rows_of};
+ghost use Rattle.build_definitions.specs.Definitions.{rows_of};
 ghost use Rattle.build_network.specs.Lists.{list_at, list_faults};
 ghost use Rattle.build_network.specs.Seen.{list_items};
-ghost use Rattle.build_faults.specs.Faults.{least_of, told};
+ghost use Rattle.build_faults.specs.Faults.{Notes};
 
 use crate::seen::seen_at;
-use build_definitions::{SignalListEntry, Tables};
+use build_definitions::{Definitions, SignalListEntry};
 use build_faults::Faults;
-use build_names::Declared;
+use build_names::SymbolTable;
 use route_network::{Item, ListId, SignalList, counted};
 use std::alloc::{AllocError, Global};
 
@@ -28,16 +28,16 @@ pub fn add_list(items: Vec<Item>, lists: &mut Vec<SignalList>) -> Result<ListId,
 /// The lists that have names, by their numbers.
 pub fn named_lists<'t>(
     alloc: Global,
-    declared: &Declared<'_, 't>,
-    tables: &Tables<'t>,
+    symbols: &SymbolTable<'_, 't>,
+    definitions: &Definitions<'t>,
 ) -> Result<Vec<SignalList>, AllocError>
     ensures lists { IfOk result (λ lists. map list_items lists.items
-        ≡ map (list_at declared.now (rows_of tables.now).processes) (rows_of tables.now).lists) }
-    ensures count { IfOk result (λ lists. length lists.items ≡ length (rows_of tables.now).lists) }
+        ≡ map (list_at symbols.now (rows_of definitions.now).processes) (rows_of definitions.now).lists) }
+    ensures count { IfOk result (λ lists. length lists.items ≡ length (rows_of definitions.now).lists) }
 {
     let mut lists = Vec::new(alloc);
-    for entry in &tables.lists {
-        let items = items_of(alloc, declared, tables, entry)?;
+    for entry in &definitions.lists {
+        let items = items_of(alloc, symbols, definitions, entry)?;
         lists.push(SignalList { items })?;
     }
     Ok(lists)
@@ -45,39 +45,43 @@ pub fn named_lists<'t>(
 
 fn items_of<'t>(
     alloc: Global,
-    declared: &Declared<'_, 't>,
-    tables: &Tables<'t>,
+    symbols: &SymbolTable<'_, 't>,
+    definitions: &Definitions<'t>,
     entry: &SignalListEntry<'t>,
 ) -> Result<Vec<Item>, AllocError>
-    ensures { IfOk result (λ items. items.items ≡ list_at declared.now (rows_of tables.now).processes
+    ensures { IfOk result (λ items. items.items ≡ list_at symbols.now (rows_of definitions.now).processes
         (signal_list_seen entry.now)) }
 {
     let mut items = Vec::new(alloc);
-    let seen = seen_at(declared, tables.path_of(entry.scope));
+    let seen = seen_at(symbols, definitions.path_of(entry.scope));
     seen.add_items(&entry.definition.items, &mut items)?;
     Ok(items)
 }
 
 /// Notes the names in these lists that stand for nothing.
-pub fn note_lists<'t>(declared: &Declared<'_, 't>, tables: &Tables<'t>, faults: &mut Faults<'t>)
-    ensures { told faults.new ≡ least_of (told faults.old)
-        (flat_map (list_faults declared.now (rows_of tables.now).processes) (rows_of tables.now).lists) }
+pub fn note_lists<'t>(
+    symbols: &SymbolTable<'_, 't>,
+    definitions: &Definitions<'t>,
+    faults: &mut Faults<'t>,
+)
+    ensures { Notes faults.old faults.new
+        (flat_map (list_faults symbols.now (rows_of definitions.now).processes) (rows_of definitions.now).lists) }
 {
-    for entry in &tables.lists {
-        note_list(declared, tables, entry, faults);
+    for entry in &definitions.lists {
+        note_list(symbols, definitions, entry, faults);
     }
 }
 
 fn note_list<'t>(
-    declared: &Declared<'_, 't>,
-    tables: &Tables<'t>,
+    symbols: &SymbolTable<'_, 't>,
+    definitions: &Definitions<'t>,
     entry: &SignalListEntry<'t>,
     faults: &mut Faults<'t>,
 )
-    ensures { told faults.new ≡ least_of (told faults.old)
-        (list_faults declared.now (rows_of tables.now).processes (signal_list_seen entry.now)) }
+    ensures { Notes faults.old faults.new
+        (list_faults symbols.now (rows_of definitions.now).processes (signal_list_seen entry.now)) }
 {
     let definition = entry.definition;
-    let seen = seen_at(declared, tables.path_of(entry.scope));
+    let seen = seen_at(symbols, definitions.path_of(entry.scope));
     seen.note_items(&definition.items, faults);
 }

@@ -3,7 +3,7 @@
 ghost use Rattle.std.specs.Prelude.{◌≡◌, ◌++◌, flat_map, map, OnOk};
 ghost use Rattle.build_network.specs.Processes.{input_item, inputs_items, local_timers, named_items, part_items, process_faults, saved_items, set_faults, set_items, stimulus_items, timer_items, timers_items};
 ghost use Rattle.build_network.specs.Seen.{seen_of};
-ghost use Rattle.build_faults.specs.Faults.{least_of, told};
+ghost use Rattle.build_faults.specs.Faults.{Notes};
 ghost use Rattle.sdl_tree.specs.Views.{body_part_value, input_value, inputs_value, local_value, process_value, saved_value, stimulus_value, timer_value};
 
 use crate::seen::{Seen, add_found};
@@ -163,8 +163,7 @@ pub fn note_sets<'t>(
     process: &'t ProcessDefinition,
     faults: &mut Faults<'t>,
 )
-    ensures { told faults.new ≡ least_of (told faults.old)
-        (process_faults (seen_of seen.now) (process_value process.now)) }
+    ensures { Notes faults.old faults.new (process_faults (seen_of seen.now) (process_value process.now)) }
 {
     for definition in &process.definitions {
         note_set(seen, definition, faults);
@@ -172,8 +171,7 @@ pub fn note_sets<'t>(
 }
 
 fn note_set<'t>(seen: &Seen<'_, '_, 't>, definition: &'t LocalDefinition, faults: &mut Faults<'t>)
-    ensures { told faults.new ≡ least_of (told faults.old)
-        (set_faults (seen_of seen.now) (local_value definition.now)) }
+    ensures { Notes faults.old faults.new (set_faults (seen_of seen.now) (local_value definition.now)) }
 {
     if let LocalDefinition::SignalSet(signals) = definition {
         seen.note_items(&signals.items, faults);

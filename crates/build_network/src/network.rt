@@ -2,13 +2,13 @@
 
 ghost use Rattle.std.specs.Prelude.{◌≡◌, ◌++◌, ◌+◌, flat_map, length, map, IfOk, OnOk};
 ghost use Rattle.build_definitions.specs.Seen.{block_seen, channel_seen};
-ghost use Rattle.build_definitions.specs.Tables.{rows_of};
+ghost use Rattle.build_definitions.specs.Definitions.{rows_of};
 ghost use Rattle.build_network.specs.Agents.{block_names};
 ghost use Rattle.build_network.specs.Connects.{connect_value};
 ghost use Rattle.build_network.specs.Network.{all_paths, blocks_in, has_no_channel, network_connects, network_faults, network_lists, network_paths, network_processes};
 ghost use Rattle.build_network.specs.Seen.{list_items};
 ghost use Rattle.build_network.specs.Paths.{carried, channel_paths, path_faults, paths_from};
-ghost use Rattle.build_faults.specs.Faults.{least_of, told};
+ghost use Rattle.build_faults.specs.Faults.{Notes};
 ghost use Rattle.build_scopes.specs.declared.scope.ScopeId.TheVariants as scope;
 
 use crate::agents::{block_names, is_empty_at};
@@ -16,11 +16,10 @@ use crate::connects::{all_connects, note_connects};
 use crate::lists::{named_lists, note_lists};
 use crate::paths::{add_paths, all_paths, note_paths};
 use crate::processes::{add_processes, note_processes};
-use build_definitions::{BlockEntry, ChannelEntry, Tables};
+use build_definitions::{BlockEntry, ChannelEntry, Definitions};
 use build_faults::Faults;
-use build_limits::Names;
-use build_names::Declared;
-use build_scopes::ScopeId;
+use build_names::SymbolTable;
+use build_scopes::{Names, ScopeId};
 use route_network::{Block, ChannelPath, Connect, Network, Process, SignalList, counted};
 use sdl_system::BlockId;
 use std::alloc::{AllocError, Global};
@@ -33,36 +32,36 @@ struct Listed {
     processes: Vec<Process>,
 }
 
-/// What joins the agents of a specification with these tables and names.
+/// What joins the agents of a specification with these definitions and names.
 ///
 /// Its lists are the signal lists by their numbers, then what each path of a channel carries, in the order of the text,
 /// then two for each process: what it inputs, saves or has in its signal sets by name, and its timers. A path one of
 /// whose ends is unknown carries nothing.
 pub fn network_of<'t>(
     alloc: Global,
-    tables: &Tables<'t>,
-    declared: &Declared<'_, 't>,
+    definitions: &Definitions<'t>,
+    symbols: &SymbolTable<'_, 't>,
 ) -> Result<Network, AllocError>
-    ensures signals { IfOk result (λ network. network.signals ≡ length (rows_of tables.now).signals) }
+    ensures signals { IfOk result (λ network. network.signals ≡ length (rows_of definitions.now).signals) }
     ensures lists { IfOk result (λ network. map list_items network.lists.items
-        ≡ network_lists (rows_of tables.now) declared.now) }
-    ensures is_implied { IfOk result (λ network. network.is_implied ≡ has_no_channel declared.now scope.System) }
-    ensures processes { IfOk result (λ network. network.processes.items ≡ network_processes (rows_of tables.now)) }
+        ≡ network_lists (rows_of definitions.now) symbols.now) }
+    ensures is_implied { IfOk result (λ network. network.is_implied ≡ has_no_channel symbols.now scope.System) }
+    ensures processes { IfOk result (λ network. network.processes.items ≡ network_processes (rows_of definitions.now)) }
     ensures blocks { IfOk result (λ network. network.blocks.items
-        ≡ blocks_in declared.now (rows_of tables.now).blocks) }
-    ensures paths { IfOk result (λ network. network.paths.items ≡ network_paths (rows_of tables.now) declared.now) }
+        ≡ blocks_in symbols.now (rows_of definitions.now).blocks) }
+    ensures paths { IfOk result (λ network. network.paths.items ≡ network_paths (rows_of definitions.now) symbols.now) }
     ensures connects { IfOk result (λ network. map connect_value network.connects.items
-        ≡ network_connects (rows_of tables.now) declared.now) }
+        ≡ network_connects (rows_of definitions.now) symbols.now) }
 {
-    let signals = counted(tables.signals.len())?;
-    let is_implied = is_empty_at(&declared.channels, ScopeId::System);
-    let blocks = blocks_in(alloc, declared, &tables.blocks)?;
-    let connects = connects_in(alloc, tables, declared)?;
+    let signals = counted(definitions.signals.len())?;
+    let is_implied = is_empty_at(&symbols.channels, ScopeId::System);
+    let blocks = blocks_in(alloc, symbols, &definitions.blocks)?;
+    let connects = connects_in(alloc, definitions, symbols)?;
     let Listed {
         lists,
         paths,
         processes,
-    } = listed_in(alloc, tables, declared)?;
+    } = listed_in(alloc, definitions, symbols)?;
     Ok(Network {
         signals,
         lists,
@@ -77,30 +76,30 @@ pub fn network_of<'t>(
 /// The connects, by the numbers of the paths that they name.
 fn connects_in<'t>(
     alloc: Global,
-    tables: &Tables<'t>,
-    declared: &Declared<'_, 't>,
+    definitions: &Definitions<'t>,
+    symbols: &SymbolTable<'_, 't>,
 ) -> Result<Vec<Connect>, AllocError>
     ensures { IfOk result (λ connects. map connect_value connects.items
-        ≡ network_connects (rows_of tables.now) declared.now) }
+        ≡ network_connects (rows_of definitions.now) symbols.now) }
 {
-    let paths = all_paths(alloc, &tables.channels)?;
-    all_connects(alloc, declared, &paths.numbers, &tables.connections)
+    let paths = all_paths(alloc, &definitions.channels)?;
+    all_connects(alloc, symbols, &paths.numbers, &definitions.connections)
 }
 
 /// The lists, with the paths and the processes, each of which has numbers of lists.
 fn listed_in<'t>(
     alloc: Global,
-    tables: &Tables<'t>,
-    declared: &Declared<'_, 't>,
+    definitions: &Definitions<'t>,
+    symbols: &SymbolTable<'_, 't>,
 ) -> Result<Listed, AllocError>
     ensures lists { IfOk result (λ listed. map list_items listed.lists.items
-        ≡ network_lists (rows_of tables.now) declared.now) }
-    ensures paths { IfOk result (λ listed. listed.paths.items ≡ network_paths (rows_of tables.now) declared.now) }
-    ensures processes { IfOk result (λ listed. listed.processes.items ≡ network_processes (rows_of tables.now)) }
+        ≡ network_lists (rows_of definitions.now) symbols.now) }
+    ensures paths { IfOk result (λ listed. listed.paths.items ≡ network_paths (rows_of definitions.now) symbols.now) }
+    ensures processes { IfOk result (λ listed. listed.processes.items ≡ network_processes (rows_of definitions.now)) }
 {
-    let mut lists = named_lists(alloc, declared, tables)?;
-    let paths = paths_in(alloc, tables, declared, &mut lists)?;
-    let processes = add_processes(alloc, declared, &tables.processes, &mut lists)?;
+    let mut lists = named_lists(alloc, symbols, definitions)?;
+    let paths = paths_in(alloc, definitions, symbols, &mut lists)?;
+    let processes = add_processes(alloc, symbols, &definitions.processes, &mut lists)?;
     Ok(Listed {
         lists,
         paths,
@@ -111,53 +110,54 @@ fn listed_in<'t>(
 /// Adds what the paths carry to the lists, and answers the paths.
 fn paths_in<'t>(
     alloc: Global,
-    tables: &Tables<'t>,
-    declared: &Declared<'_, 't>,
+    definitions: &Definitions<'t>,
+    symbols: &SymbolTable<'_, 't>,
     lists: &mut Vec<SignalList>,
 ) -> Result<Vec<ChannelPath>, AllocError>
     ensures paths { IfOk result (λ paths. paths.items
-        ≡ paths_from declared.now (block_names (rows_of tables.now).blocks) (length lists.old.items)
-        (all_paths (rows_of tables.now))) }
-    ensures lists { OnOk result (map list_items lists.new.items ≡ map list_items lists.old.items
-        ++ map (carried declared.now (block_names (rows_of tables.now).blocks)) (all_paths (rows_of tables.now))) }
+        ≡ paths_from symbols.now (block_names (rows_of definitions.now).blocks) (length lists.old.items)
+        (all_paths (rows_of definitions.now))) }
+    ensures lists { OnOk result (map list_items lists.new.items
+        ≡ map list_items lists.old.items ++ map (carried symbols.now (block_names (rows_of definitions.now).blocks))
+        (all_paths (rows_of definitions.now))) }
     ensures count { OnOk result (length lists.new.items
-        ≡ length lists.old.items + length (all_paths (rows_of tables.now))) }
+        ≡ length lists.old.items + length (all_paths (rows_of definitions.now))) }
 {
-    let names = block_names(alloc, &tables.blocks)?;
-    paths_of(alloc, declared, &names, &tables.channels, lists)
+    let names = block_names(alloc, &definitions.blocks)?;
+    paths_of(alloc, symbols, &names, &definitions.channels, lists)
 }
 
 /// Adds what the paths of these channels carry to the lists, and answers the paths.
 fn paths_of<'t>(
     alloc: Global,
-    declared: &Declared<'_, 't>,
+    symbols: &SymbolTable<'_, 't>,
     blocks: &Names<'_, BlockId>,
     channels: &[ChannelEntry<'t>],
     lists: &mut Vec<SignalList>,
 ) -> Result<Vec<ChannelPath>, AllocError>
     ensures paths { IfOk result (λ paths. paths.items
-        ≡ paths_from declared.now blocks.now (length lists.old.items)
+        ≡ paths_from symbols.now blocks.now (length lists.old.items)
         (flat_map channel_paths (map channel_seen channels.now))) }
     ensures lists { OnOk result (map list_items lists.new.items ≡ map list_items lists.old.items
-        ++ map (carried declared.now blocks.now) (flat_map channel_paths (map channel_seen channels.now))) }
+        ++ map (carried symbols.now blocks.now) (flat_map channel_paths (map channel_seen channels.now))) }
     ensures count { OnOk result (length lists.new.items
         ≡ length lists.old.items + length (flat_map channel_paths (map channel_seen channels.now))) }
 {
     let paths = all_paths(alloc, channels)?;
-    add_paths(alloc, declared, blocks, &paths.entries, lists)
+    add_paths(alloc, symbols, blocks, &paths.entries, lists)
 }
 
 fn blocks_in<'t>(
     alloc: Global,
-    declared: &Declared<'_, 't>,
+    symbols: &SymbolTable<'_, 't>,
     entries: &[BlockEntry<'t>],
 ) -> Result<Vec<Block>, AllocError>
-    ensures { IfOk result (λ blocks. blocks.items ≡ blocks_in declared.now (map block_seen entries.now)) }
+    ensures { IfOk result (λ blocks. blocks.items ≡ blocks_in symbols.now (map block_seen entries.now)) }
 {
     let mut blocks = Vec::new(alloc);
     for (index, _entry) in entries.iter().enumerate() {
         let number = counted(index)?;
-        let is_implied = is_empty_at(&declared.channels, ScopeId::Block(BlockId(number)));
+        let is_implied = is_empty_at(&symbols.channels, ScopeId::Block(BlockId(number)));
         blocks.push(Block { is_implied })?;
     }
     Ok(blocks)
@@ -167,33 +167,32 @@ fn blocks_in<'t>(
 /// set or in a connect.
 pub fn note_network<'t>(
     alloc: Global,
-    tables: &Tables<'t>,
-    declared: &Declared<'_, 't>,
+    definitions: &Definitions<'t>,
+    symbols: &SymbolTable<'_, 't>,
     faults: &mut Faults<'t>,
 ) -> Result<(), AllocError>
-    ensures { OnOk result (told faults.new ≡ least_of (told faults.old)
-        (network_faults (rows_of tables.now) declared.now)) }
+    ensures { OnOk result (Notes faults.old faults.new (network_faults (rows_of definitions.now) symbols.now)) }
 {
-    note_lists(declared, tables, faults);
-    note_channels(alloc, tables, declared, faults)?;
-    note_processes(declared, &tables.processes, faults)?;
-    note_connects(declared, &tables.connections, faults);
+    note_lists(symbols, definitions, faults);
+    note_channels(alloc, definitions, symbols, faults)?;
+    note_processes(symbols, &definitions.processes, faults)?;
+    note_connects(symbols, &definitions.connections, faults);
     Ok(())
 }
 
 /// Notes each name that stands for nothing at an end of a channel or among its signals.
 fn note_channels<'t>(
     alloc: Global,
-    tables: &Tables<'t>,
-    declared: &Declared<'_, 't>,
+    definitions: &Definitions<'t>,
+    symbols: &SymbolTable<'_, 't>,
     faults: &mut Faults<'t>,
 ) -> Result<(), AllocError>
-    ensures { OnOk result (told faults.new ≡ least_of (told faults.old)
-        (flat_map (path_faults declared.now (block_names (rows_of tables.now).blocks))
-        (all_paths (rows_of tables.now)))) }
+    ensures { OnOk result (Notes faults.old faults.new
+        (flat_map (path_faults symbols.now (block_names (rows_of definitions.now).blocks))
+        (all_paths (rows_of definitions.now)))) }
 {
-    let names = block_names(alloc, &tables.blocks)?;
-    let paths = all_paths(alloc, &tables.channels)?;
-    note_paths(declared, &names, &paths.entries, faults);
+    let names = block_names(alloc, &definitions.blocks)?;
+    let paths = all_paths(alloc, &definitions.channels)?;
+    note_paths(symbols, &names, &paths.entries, faults);
     Ok(())
 }

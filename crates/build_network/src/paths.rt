@@ -4,7 +4,7 @@ ghost use Rattle.std.specs.Prelude.{◌≡◌, ◌++◌, ◌+◌, ◌∷◌, [],
 ghost use Rattle.build_definitions.specs.Seen.{channel_seen};
 ghost use Rattle.build_network.specs.Paths.{carried, channel_paths, items_if, numbers_from, numbers_of, path_faults, path_of, paths_from, placed_value, second_number, second_path, seen_from};
 ghost use Rattle.build_network.specs.Seen.{items_faults, list_items};
-ghost use Rattle.build_faults.specs.Faults.{least_of, told};
+ghost use Rattle.build_faults.specs.Faults.{Notes};
 ghost use Rattle.sdl_tree.specs.Views.{path_value};
 
 use crate::agents::{end_in, note_end};
@@ -12,9 +12,8 @@ use crate::processes::scope_of;
 use crate::seen::{path_at, seen_at};
 use build_definitions::ChannelEntry;
 use build_faults::Faults;
-use build_limits::Names;
-use build_names::Declared;
-use build_scopes::ScopeId;
+use build_names::SymbolTable;
+use build_scopes::{Names, ScopeId};
 use route_network::{ChannelPath, End, Item, ListId, PathId, SignalList, counted};
 use sdl_system::BlockId;
 use sdl_tree::ChannelPath as PathDefinition;
@@ -108,20 +107,20 @@ fn add_second<'t>(
 /// Adds what these paths carry to the lists, and answers the paths as a network has them.
 pub fn add_paths<'t>(
     alloc: Global,
-    declared: &Declared<'_, 't>,
+    symbols: &SymbolTable<'_, 't>,
     blocks: &Names<'_, BlockId>,
     entries: &[PathEntry<'t>],
     lists: &mut Vec<SignalList>,
 ) -> Result<Vec<ChannelPath>, AllocError>
     ensures paths { IfOk result (λ paths. paths.items
-        ≡ paths_from declared.now blocks.now (length lists.old.items) (map placed_value entries.now)) }
+        ≡ paths_from symbols.now blocks.now (length lists.old.items) (map placed_value entries.now)) }
     ensures lists { OnOk result (map list_items lists.new.items
-        ≡ map list_items lists.old.items ++ map (carried declared.now blocks.now) (map placed_value entries.now)) }
+        ≡ map list_items lists.old.items ++ map (carried symbols.now blocks.now) (map placed_value entries.now)) }
     ensures count { OnOk result (length lists.new.items ≡ length lists.old.items + length entries.now) }
 {
     let mut paths = Vec::new(alloc);
     for entry in entries {
-        let path = add_path(alloc, declared, blocks, entry, lists)?;
+        let path = add_path(alloc, symbols, blocks, entry, lists)?;
         paths.push(path)?;
     }
     Ok(paths)
@@ -129,36 +128,36 @@ pub fn add_paths<'t>(
 
 /// Notes the names of ends, of signals and of signal lists that stand for nothing.
 pub fn note_paths<'t>(
-    declared: &Declared<'_, 't>,
+    symbols: &SymbolTable<'_, 't>,
     blocks: &Names<'_, BlockId>,
     entries: &[PathEntry<'t>],
     faults: &mut Faults<'t>,
 )
-    ensures { told faults.new ≡ least_of (told faults.old)
-        (flat_map (path_faults declared.now blocks.now) (map placed_value entries.now)) }
+    ensures { Notes faults.old faults.new
+        (flat_map (path_faults symbols.now blocks.now) (map placed_value entries.now)) }
 {
     for entry in entries {
-        note_path(declared, blocks, entry, faults);
+        note_path(symbols, blocks, entry, faults);
     }
 }
 
 fn add_path<'t>(
     alloc: Global,
-    declared: &Declared<'_, 't>,
+    symbols: &SymbolTable<'_, 't>,
     blocks: &Names<'_, BlockId>,
     entry: &PathEntry<'t>,
     lists: &mut Vec<SignalList>,
 ) -> Result<ChannelPath, AllocError>
     ensures path { IfOk result (λ path. path
-        ≡ path_of declared.now blocks.now (length lists.old.items) (placed_value entry.now)) }
+        ≡ path_of symbols.now blocks.now (length lists.old.items) (placed_value entry.now)) }
     ensures lists { OnOk result (map list_items lists.new.items
-        ≡ map list_items lists.old.items ++ carried declared.now blocks.now (placed_value entry.now) ∷ []) }
+        ≡ map list_items lists.old.items ++ carried symbols.now blocks.now (placed_value entry.now) ∷ []) }
     ensures count { OnOk result (length lists.new.items ≡ length lists.old.items + 1) }
 {
     let number = counted(lists.len())?;
-    let from = end_in(blocks, &declared.agents, entry.scope, &entry.path.from);
-    let to = end_in(blocks, &declared.agents, entry.scope, &entry.path.to);
-    let items = carried(alloc, declared, entry, from.is_some() && to.is_some())?;
+    let from = end_in(blocks, &symbols.agents, entry.scope, &entry.path.from);
+    let to = end_in(blocks, &symbols.agents, entry.scope, &entry.path.to);
+    let items = carried(alloc, symbols, entry, from.is_some() && to.is_some())?;
     lists.push(SignalList { items })?;
     Ok(ChannelPath {
         scope: scope_of(entry.scope),
@@ -171,45 +170,43 @@ fn add_path<'t>(
 /// What a path carries, where it has both ends.
 fn carried<'t>(
     alloc: Global,
-    declared: &Declared<'_, 't>,
+    symbols: &SymbolTable<'_, 't>,
     entry: &PathEntry<'t>,
     has_ends: bool,
 ) -> Result<Vec<Item>, AllocError>
     ensures { IfOk result (λ items. items.items
-        ≡ items_if has_ends (seen_from declared.now entry.now.scope) (placed_value entry.now).path.signals) }
+        ≡ items_if has_ends (seen_from symbols.now entry.now.scope) (placed_value entry.now).path.signals) }
 {
     let mut items = Vec::new(alloc);
     if has_ends {
-        let seen = seen_at(declared, path_at(entry.scope));
+        let seen = seen_at(symbols, path_at(entry.scope));
         seen.add_items(&entry.path.signals, &mut items)?;
     }
     Ok(items)
 }
 
 fn note_path<'t>(
-    declared: &Declared<'_, 't>,
+    symbols: &SymbolTable<'_, 't>,
     blocks: &Names<'_, BlockId>,
     entry: &PathEntry<'t>,
     faults: &mut Faults<'t>,
 )
-    ensures { told faults.new ≡ least_of (told faults.old)
-        (path_faults declared.now blocks.now (placed_value entry.now)) }
+    ensures { Notes faults.old faults.new (path_faults symbols.now blocks.now (placed_value entry.now)) }
 {
     let path = entry.path;
-    note_end(blocks, &declared.agents, entry.scope, &path.from, faults);
-    note_end(blocks, &declared.agents, entry.scope, &path.to, faults);
-    note_signals(declared, entry.scope, path, faults);
+    note_end(blocks, &symbols.agents, entry.scope, &path.from, faults);
+    note_end(blocks, &symbols.agents, entry.scope, &path.to, faults);
+    note_signals(symbols, entry.scope, path, faults);
 }
 
 fn note_signals<'t>(
-    declared: &Declared<'_, 't>,
+    symbols: &SymbolTable<'_, 't>,
     scope: ScopeId,
     path: &'t PathDefinition,
     faults: &mut Faults<'t>,
 )
-    ensures { told faults.new ≡ least_of (told faults.old)
-        (items_faults (seen_from declared.now scope) (path_value path.now).signals) }
+    ensures { Notes faults.old faults.new (items_faults (seen_from symbols.now scope) (path_value path.now).signals) }
 {
-    let seen = seen_at(declared, path_at(scope));
+    let seen = seen_at(symbols, path_at(scope));
     seen.note_items(&path.signals, faults);
 }

@@ -4,7 +4,7 @@ ghost use Rattle.std.specs.Prelude.{◌≡◌, ◌++◌, ◌+◌, ◌^◌, ◌<�
 ghost use Rattle.build_definitions.specs.Seen.{process_seen};
 ghost use Rattle.build_network.specs.Processes.{faults_of, lists_of, named_items, process_at, process_lists, processes_faults, processes_from, scope_of, timers_items, two_lists};
 ghost use Rattle.build_network.specs.Seen.{list_items, seen_of};
-ghost use Rattle.build_faults.specs.Faults.{least_of, told};
+ghost use Rattle.build_faults.specs.Faults.{Notes};
 ghost use Rattle.sdl_tree.specs.Views.{process_value};
 
 use crate::lists::add_list;
@@ -12,7 +12,7 @@ use crate::mentions::{add_named, add_timers, note_sets};
 use crate::seen::{Seen, path_within, seen_at};
 use build_definitions::ProcessEntry;
 use build_faults::Faults;
-use build_names::Declared;
+use build_names::SymbolTable;
 use build_scopes::ScopeId;
 use route_network::{Item, Process, Scope, SignalList, counted};
 use sdl_system::ProcessId;
@@ -22,18 +22,18 @@ use std::alloc::{AllocError, Global};
 /// Adds two lists for each process, what it names and its timers, and answers the processes as a network has them.
 pub fn add_processes<'t>(
     alloc: Global,
-    declared: &Declared<'_, 't>,
+    symbols: &SymbolTable<'_, 't>,
     entries: &[ProcessEntry<'t>],
     lists: &mut Vec<SignalList>,
 ) -> Result<Vec<Process>, AllocError>
     ensures processes { IfOk result (λ processes. processes.items
         ≡ processes_from (length lists.old.items) (map process_seen entries.now)) }
     ensures lists { OnOk result (map list_items lists.new.items
-        ≡ map list_items lists.old.items ++ process_lists declared.now (map process_seen entries.now)) }
+        ≡ map list_items lists.old.items ++ process_lists symbols.now (map process_seen entries.now)) }
 {
     let mut processes = Vec::new(alloc);
     for (index, entry) in entries.iter().enumerate() {
-        let process = add_process(alloc, declared, index, entry, lists)?;
+        let process = add_process(alloc, symbols, index, entry, lists)?;
         processes.push(process)?;
     }
     Ok(processes)
@@ -41,18 +41,18 @@ pub fn add_processes<'t>(
 
 fn add_process<'t>(
     alloc: Global,
-    declared: &Declared<'_, 't>,
+    symbols: &SymbolTable<'_, 't>,
     index: usize,
     entry: &ProcessEntry<'t>,
     lists: &mut Vec<SignalList>,
 ) -> Result<Process, AllocError>
     ensures process { IfOk result (λ process. process ≡ process_at (length lists.old.items) (process_seen entry.now)) }
     ensures lists { OnOk result (map list_items lists.new.items
-        ≡ map list_items lists.old.items ++ lists_of declared.now index (process_seen entry.now)) }
+        ≡ map list_items lists.old.items ++ lists_of symbols.now index (process_seen entry.now)) }
     ensures count { OnOk result (length lists.new.items ≡ length lists.old.items + 2) }
 {
     let number = counted(index)?;
-    let seen = seen_at(declared, path_within(ProcessId(number), entry.scope));
+    let seen = seen_at(symbols, path_within(ProcessId(number), entry.scope));
     add_lists(alloc, &seen, entry, lists)
 }
 
@@ -103,33 +103,32 @@ fn timer_list(
 /// Notes the names in the signal sets of the processes that stand for nothing. Refused only where there are more
 /// processes than numbers of 32 bits.
 pub fn note_processes<'t>(
-    declared: &Declared<'_, 't>,
+    symbols: &SymbolTable<'_, 't>,
     entries: &[ProcessEntry<'t>],
     faults: &mut Faults<'t>,
 ) -> Result<(), AllocError>
-    ensures noted { OnOk result (told faults.new ≡ least_of (told faults.old)
-        (processes_faults declared.now (map process_seen entries.now))) }
+    ensures noted { OnOk result (Notes faults.old faults.new
+        (processes_faults symbols.now (map process_seen entries.now))) }
     ensures few { length entries.now ≤ 2 ^ 32 → IsOk result }
 {
     for (index, entry) in entries.iter().enumerate() {
-        note_process(declared, index, entry, faults)?;
+        note_process(symbols, index, entry, faults)?;
     }
     Ok(())
 }
 
 fn note_process<'t>(
-    declared: &Declared<'_, 't>,
+    symbols: &SymbolTable<'_, 't>,
     index: usize,
     entry: &ProcessEntry<'t>,
     faults: &mut Faults<'t>,
 ) -> Result<(), AllocError>
-    ensures noted { OnOk result (told faults.new ≡ least_of (told faults.old)
-        (faults_of declared.now index (process_seen entry.now))) }
+    ensures noted { OnOk result (Notes faults.old faults.new (faults_of symbols.now index (process_seen entry.now))) }
     ensures few { index < 2 ^ 32 → IsOk result }
 {
     let number = counted(index)?;
     let definition = entry.definition;
-    let seen = seen_at(declared, path_within(ProcessId(number), entry.scope));
+    let seen = seen_at(symbols, path_within(ProcessId(number), entry.scope));
     note_sets(&seen, definition, faults);
     Ok(())
 }

@@ -1,19 +1,18 @@
 //! What stands in lists of signals, by the names that are seen at their place.
 
 ghost use Rattle.std.specs.Prelude.{◌≡◌, ◌++◌, [], OnOk};
-ghost use Rattle.build_definitions.specs.Tables.{block_of, path_of};
+ghost use Rattle.build_definitions.specs.Definitions.{block_of, path_of};
 ghost use Rattle.build_network.specs.Seen.{found_item, item_faults, item_in, item_name, items_faults, items_in, list_in, list_item, listed, path_within, seen_at, seen_of, signal_in, signal_item, timer_in, timer_item};
-ghost use Rattle.build_faults.specs.Faults.{fault_if, least_of, told, token_word};
-ghost use Rattle.build_limits.specs.Names.{first_of};
-ghost use Rattle.build_faults.specs.declared.fault.Kind.TheVariants.{Unknown};
+ghost use Rattle.build_faults.specs.Faults.{Notes, fault_if, token_word};
+ghost use Rattle.build_scopes.specs.Names.{first_of};
+ghost use Rattle.build_faults.specs.declared.fault.Rule.TheVariants.{Unknown};
 ghost use Rattle.sdl_tree.specs.Views.{item_value, items_value, name_value};
 
 use build_definitions::SignalListId;
 use build_expressions::SignalMeaning;
-use build_faults::{Faults, Kind, Token};
-use build_limits::Outward;
-use build_names::Declared;
-use build_scopes::{ScopeId, ScopePath};
+use build_faults::{Faults, Rule, Token};
+use build_names::SymbolTable;
+use build_scopes::{Outward, ScopeId, ScopePath};
 use route_network::{Item, ListId};
 use sdl_system::{BlockId, ProcessId};
 use sdl_tree::{Name, SignalListItem};
@@ -27,12 +26,12 @@ pub struct Seen<'a, 's, 't> {
 }
 
 /// Those that are seen on this path.
-pub fn seen_at<'a, 's, 't>(declared: &'a Declared<'s, 't>, path: ScopePath) -> Seen<'a, 's, 't>
-    ensures { seen_of result ≡ seen_at declared.now path }
+pub fn seen_at<'a, 's, 't>(symbols: &'a SymbolTable<'s, 't>, path: ScopePath) -> Seen<'a, 's, 't>
+    ensures { seen_of result ≡ seen_at symbols.now path }
 {
     Seen {
-        signals: declared.signals.outward(path),
-        lists: declared.lists.outward(path),
+        signals: symbols.signals.outward(path),
+        lists: symbols.lists.outward(path),
     }
 }
 
@@ -140,8 +139,7 @@ impl<'a, 's, 't> Seen<'a, 's, 't> {
 
     /// Notes the names that stand for nothing.
     pub fn note_items(&self, items: &'t [SignalListItem], faults: &mut Faults<'t>)
-        ensures { told faults.new ≡ least_of (told faults.old)
-            (items_faults (seen_of self.now) (items_value items.now)) }
+        ensures { Notes faults.old faults.new (items_faults (seen_of self.now) (items_value items.now)) }
     {
         for item in items {
             self.note_item(item, faults);
@@ -149,7 +147,7 @@ impl<'a, 's, 't> Seen<'a, 's, 't> {
     }
 
     fn note_item(&self, item: &'t SignalListItem, faults: &mut Faults<'t>)
-        ensures { told faults.new ≡ least_of (told faults.old) (item_faults (seen_of self.now) (item_value item.now)) }
+        ensures { Notes faults.old faults.new (item_faults (seen_of self.now) (item_value item.now)) }
     {
         note_unknown(self.item(item).is_none(), item_token(item), faults);
     }
@@ -165,10 +163,10 @@ fn item_token(item: &SignalListItem) -> Token<'_>
 
 /// Notes a name that stands for nothing.
 pub fn note_unknown<'t>(is_unknown: bool, token: Token<'t>, faults: &mut Faults<'t>)
-    ensures { told faults.new ≡ least_of (told faults.old) (fault_if is_unknown Unknown (token_word token.entry)) }
+    ensures { Notes faults.old faults.new (fault_if is_unknown Unknown (token_word token.entry)) }
 {
     if is_unknown {
-        faults.note(Kind::Unknown, token);
+        faults.note(Rule::Unknown, token);
     }
 }
 

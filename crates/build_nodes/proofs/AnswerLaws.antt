@@ -5,19 +5,19 @@ use Rattle.build_nodes.specs.BrokenAnswers.{operator_word, BreaksAnswer, BreaksV
 use Rattle.build_nodes.specs.BrokenAnswers as broken
 use Rattle.build_faults.proofs.FaultLemmas.{each-both, each-if, in-if, in-left, in-right}
 use Rattle.build_faults.specs.FaultLaws.{Each, In}
-use Rattle.build_faults.specs.Faults.{Told, fault_if, told_at}
-use Rattle.build_faults.specs.declared.fault.Kind.TheVariants.{BadCount, Sort}
+use Rattle.build_faults.specs.Faults.{Diagnostic, fault_if, diagnostic_at}
+use Rattle.build_faults.specs.declared.fault.Rule.TheVariants.{BadCount, Sort}
 use Rattle.build_expressions.specs.Answers.{answer_faults, answer_value_faults, comparable_in, compared_faults, comparison_for, has_order, is_incomparable}
 use Rattle.build_expressions.specs.Broken as sorted
 use Rattle.build_expressions.specs.Constants.{counted_faults, is_miscounted, value_of}
-use Rattle.build_operators.specs.Kinds.{result_of}
+use Rattle.build_operators.specs.OperandSorts.{result_of}
 use Rattle.build_expressions.specs.Misused.{expression_faults}
 use Rattle.build_expressions.specs.Scope.{Scope}
 use Rattle.build_expressions.specs.Typing.{Typed, typed_in}
 use Rattle.build_expressions.specs.Words.{first_word}
 use Rattle.build_expressions.specs.declared.context.Context.TheVariants.{Constant}
-use Rattle.build_operators.specs.declared.kind.Kind.{Kind}
-use Rattle.build_operators.specs.declared.kind.Kind.TheVariants as kind
+use Rattle.build_operators.specs.declared.operand_sort.OperandSort.{OperandSort}
+use Rattle.build_operators.specs.declared.operand_sort.OperandSort.TheVariants as kind
 use Rattle.build_operators.specs.declared.operator.TypedOperation.{TypedOperation}
 use Rattle.build_expressions.proofs.BrokenLaws.{broken-listed}
 use Rattle.build_expressions.proofs.ListedLaws.{each-weaker, listed-broken, not-true}
@@ -36,7 +36,8 @@ without None is = refl
 without (Some v) is = cc
 
 module _ (scope : Scope) where
-  each-counted : (question : Option Kind) (value : Expr) (typed : Typed) → typed_in Constant scope value ≡ Some typed →
+  each-counted : (question : Option OperandSort) (value : Expr) (typed : Typed) →
+      typed_in Constant scope value ≡ Some typed →
       IsComparable question typed.kind → (refused : Bool) → typed.is_refused ≡ refused →
       Each (BreaksValue scope question value) (if refused
       then []
@@ -52,7 +53,7 @@ module _ (scope : Scope) where
         lacks = without (option_and_then value_of typed.term) lacking;
       }))
 
-  each-asked : (asked : Kind) (value : Expr) (typed : Typed) → typed_in Constant scope value ≡ Some typed →
+  each-asked : (asked : OperandSort) (value : Expr) (typed : Typed) → typed_in Constant scope value ≡ Some typed →
       (found : Option TypedOperation) → result_of operators.Equal asked typed.kind ≡ found →
       Each (BreaksValue scope (Some asked) value) (fault_if (is_none found) Sort (first_word value)
       ++ counted_faults None (first_word value) (if is_some found then Some typed else None))
@@ -61,7 +62,7 @@ module _ (scope : Scope) where
       each-counted (Some asked) value typed typed_is (broken.with_asked asked typed.kind operation is) typed.is_refused
       refl
 
-  each-compared : (question : Option Kind) (value : Expr) (typed : Option Typed) →
+  each-compared : (question : Option OperandSort) (value : Expr) (typed : Option Typed) →
       typed_in Constant scope value ≡ typed →
       Each (BreaksValue scope question value) (compared_faults question (first_word value) typed)
   each-compared None value None is = tt
@@ -71,10 +72,10 @@ module _ (scope : Scope) where
   each-compared (Some asked) value (Some typed) is =
       each-asked asked value typed is (result_of operators.Equal asked typed.kind) refl
 
-  each-value : (question : Option Kind) (value : Expr) →
+  each-value : (question : Option OperandSort) (value : Expr) →
       Each (BreaksValue scope question value) (answer_value_faults scope question value)
   each-value question value =
-      let P : Told → Type 0 = BreaksValue scope question value in
+      let P : Diagnostic → Type 0 = BreaksValue scope question value in
       each-both P (expression_faults Constant scope value)
       (compared_faults question (first_word value) (typed_in Constant scope value))
       (each-weaker (sorted.IsBroken Constant scope value) P (expression_faults Constant scope value)
@@ -83,12 +84,12 @@ module _ (scope : Scope) where
 
 -- ---- order
 
-record Unordered (question : Option Kind) : Type 0 where
-  asked : Kind
+record Unordered (question : Option OperandSort) : Type 0 where
+  asked : OperandSort
   is : question ≡ Some asked
   unordered : IsUnordered asked
 
-unordered-of : (question : Option Kind) → has_order question ≡ false → Unordered question
+unordered-of : (question : Option OperandSort) → has_order question ≡ false → Unordered question
 unordered-of None isnt = cc
 unordered-of (Some kind.Boolean) isnt = record { asked = kind.Boolean; is = refl; unordered = broken.truth }
 unordered-of (Some kind.Pid) isnt = record { asked = kind.Pid; is = refl; unordered = broken.instance }
@@ -97,11 +98,11 @@ unordered-of (Some kind.Integer) isnt = cc
 unordered-of (Some kind.Time) isnt = cc
 unordered-of (Some kind.Duration) isnt = cc
 
-no-order : (question : Option Kind) (asked : Kind) → question ≡ Some asked → IsUnordered asked →
+no-order : (question : Option OperandSort) (asked : OperandSort) → question ≡ Some asked → IsUnordered asked →
     has_order question ≡ false
 no-order question asked is unordered = ap has_order is ∙ one asked unordered
   where
-    one : (k : Kind) → IsUnordered k → has_order (Some k) ≡ false
+    one : (k : OperandSort) → IsUnordered k → has_order (Some k) ≡ false
     one k broken.truth = refl
     one k broken.instance = refl
 
@@ -138,21 +139,21 @@ compares-not operator isnt is = let never : false ≡ true = sym isnt ∙ is-com
 
 -- ---- answers
 
-module _ (scope : Scope) (question : Option Kind) where
+module _ (scope : Scope) (question : Option OperandSort) where
   by-order : (operator : Operator) (word : Spelling) (value : Expr) (c : Comparison) → IsOrdering operator →
       is_none (if has_order question then Some c else None) ≡ true →
-      BreaksAnswer scope question (Compared operator word value) (told_at Sort (operator_word operator word))
+      BreaksAnswer scope question (Compared operator word value) (diagnostic_at Sort (operator_word operator word))
   by-order operator word value c ordering is =
       let un = unordered-of question (no-comparison (has_order question) c is) in
       broken.unordered operator word value un.asked un.is un.unordered ordering
 
   uncompared : (operator : Operator) (word : Spelling) (value : Expr) → compares operator ≡ false →
-      BreaksAnswer scope question (Compared operator word value) (told_at Sort (operator_word operator word))
+      BreaksAnswer scope question (Compared operator word value) (diagnostic_at Sort (operator_word operator word))
   uncompared operator word value isnt = broken.no_comparison operator word value (compares-not operator isnt)
 
   compared-broken : (operator : Operator) (word : Spelling) (value : Expr) →
       is_none (comparison_for question operator) ≡ true →
-      BreaksAnswer scope question (Compared operator word value) (told_at Sort (operator_word operator word))
+      BreaksAnswer scope question (Compared operator word value) (diagnostic_at Sort (operator_word operator word))
   compared-broken operators.Equal word value is = cc
   compared-broken operators.NotEqual word value is = cc
   compared-broken operators.Less word value is = by-order operators.Less word value _ broken.less is
@@ -183,7 +184,7 @@ module _ (scope : Scope) (question : Option Kind) where
       Each (BreaksAnswer scope question answer) (answer_faults scope question answer)
   each-answer (Value value) = each-part (Value value) value (broken.alone value)
   each-answer (Range low high) =
-      let P : Told → Type 0 = BreaksAnswer scope question (Range low high) in
+      let P : Diagnostic → Type 0 = BreaksAnswer scope question (Range low high) in
       each-both P (fault_if (not (has_order question)) Sort (first_word low))
       (answer_value_faults scope question low ++ answer_value_faults scope question high)
       (each-if P (not (has_order question)) Sort (first_word low) (λ isnt.
@@ -193,21 +194,22 @@ module _ (scope : Scope) (question : Option Kind) where
       (each-part (Range low high) low (broken.lower low high))
       (each-part (Range low high) high (broken.upper low high)))
   each-answer (Compared operator word value) =
-      let P : Told → Type 0 = BreaksAnswer scope question (Compared operator word value) in
+      let P : Diagnostic → Type 0 = BreaksAnswer scope question (Compared operator word value) in
       each-both P (fault_if (is_none (comparison_for question operator)) Sort (operator_word operator word))
       (answer_value_faults scope question value)
       (each-if P (is_none (comparison_for question operator)) Sort (operator_word operator word)
       (compared-broken operator word value))
       (each-part (Compared operator word value) value (broken.behind_operator operator word value))
 
-pub listed-answer : (scope : Scope) (question : Option Kind) (answer : Answer) →
+pub listed-answer : (scope : Scope) (question : Option OperandSort) (answer : Answer) →
     Each (BreaksAnswer scope question answer) (answer_faults scope question answer)
 listed-answer scope question answer = each-answer scope question answer
 
 -- ---- the other way
 
-in-compared : (question : Option Kind) (k : Kind) → IsComparable question k → (typed : Typed) → k ≡ typed.kind →
-    (word : Spot) (fault : Told) → In fault (counted_faults None word (Some typed)) →
+in-compared : (question : Option OperandSort) (k : OperandSort) → IsComparable question k → (typed : Typed) →
+    k ≡ typed.kind →
+    (word : Spot) (fault : Diagnostic) → In fault (counted_faults None word (Some typed)) →
     In fault (compared_faults question word (Some typed))
 in-compared question k (broken.with_any same) typed is word fault at = at
 in-compared question k (broken.with_asked asked same operation found_is) typed is word fault at =
@@ -217,22 +219,22 @@ in-compared question k (broken.with_asked asked same operation found_is) typed i
 
 in-counted : (typed : Typed) (word : Spot) (refused : Bool) → refused ≡ false →
     option_and_then value_of typed.term ≡ None →
-    In (told_at BadCount word) (if refused
+    In (diagnostic_at BadCount word) (if refused
     then []
     else fault_if (is_miscounted None (option_and_then value_of typed.term)) BadCount word)
 in-counted typed word true accepted is = cc
 in-counted typed word false accepted is =
     in-if (is_miscounted None (option_and_then value_of typed.term)) BadCount word (ap (is_miscounted None) is)
 
-module _ (scope : Scope) (question : Option Kind) where
-  in-value : (value : Expr) (fault : Told) → BreaksValue scope question value fault →
+module _ (scope : Scope) (question : Option OperandSort) where
+  in-value : (value : Expr) (fault : Diagnostic) → BreaksValue scope question value fault →
       In fault (answer_value_faults scope question value)
   in-value value fault (broken.inside told is) =
       in-left told (expression_faults Constant scope value)
       (compared_faults question (first_word value) (typed_in Constant scope value))
       (broken-listed Constant scope value told is)
   in-value value fault (broken.incomparable asked question_is typed typed_is none) =
-      let told = told_at Sort (first_word value) in
+      let told = diagnostic_at Sort (first_word value) in
       in-right told (expression_faults Constant scope value)
       (compared_faults question (first_word value) (typed_in Constant scope value))
       (subst (λ q. In told (compared_faults q (first_word value) (typed_in Constant scope value))) (sym question_is)
@@ -241,14 +243,14 @@ module _ (scope : Scope) (question : Option Kind) where
       (counted_faults None (first_word value) (comparable_in (Some asked) (Some typed)))
       (in-if (is_incomparable (Some asked) (Some typed)) Sort (first_word value) (ap is_none none)))))
   in-value value fault (broken.no_value at) =
-      let told = told_at BadCount (first_word value) in
+      let told = diagnostic_at BadCount (first_word value) in
       in-right told (expression_faults Constant scope value)
       (compared_faults question (first_word value) (typed_in Constant scope value))
       (subst (λ found. In told (compared_faults question (first_word value) found)) (sym at.typed_is)
       (in-compared question at.typed.kind at.comparable at.typed refl (first_word value) told
       (in-counted at.typed (first_word value) at.typed.is_refused at.accepted at.lacks)))
 
-  in-part : (answer : Answer) (value : Expr) → IsValueOf answer value → (fault : Told) →
+  in-part : (answer : Answer) (value : Expr) → IsValueOf answer value → (fault : Diagnostic) →
       In fault (answer_value_faults scope question value) → In fault (answer_faults scope question answer)
   in-part answer value (broken.alone v) fault at = at
   in-part answer value (broken.lower low high) fault at =
@@ -294,20 +296,20 @@ module _ (scope : Scope) (question : Option Kind) where
 
   in-operator : (operator : Operator) (word : Spelling) (value : Expr) →
       is_none (comparison_for question operator) ≡ true →
-      In (told_at Sort (operator_word operator word))
+      In (diagnostic_at Sort (operator_word operator word))
       (answer_faults scope question (Compared operator word value))
   in-operator operator word value none =
-      in-left (told_at Sort (operator_word operator word))
+      in-left (diagnostic_at Sort (operator_word operator word))
       (fault_if (is_none (comparison_for question operator)) Sort (operator_word operator word))
       (answer_value_faults scope question value)
       (in-if (is_none (comparison_for question operator)) Sort (operator_word operator word) none)
 
-  in-answer : (answer : Answer) (fault : Told) → BreaksAnswer scope question answer fault →
+  in-answer : (answer : Answer) (fault : Diagnostic) → BreaksAnswer scope question answer fault →
       In fault (answer_faults scope question answer)
   in-answer answer fault (broken.in_value value is told breaks) =
       in-part answer value is told (in-value value told breaks)
   in-answer answer fault (broken.unordered_range low high asked is unordered) =
-      in-left (told_at Sort (first_word low)) (fault_if (not (has_order question)) Sort (first_word low))
+      in-left (diagnostic_at Sort (first_word low)) (fault_if (not (has_order question)) Sort (first_word low))
       (answer_value_faults scope question low ++ answer_value_faults scope question high)
       (in-if (not (has_order question)) Sort (first_word low) (ap not (no-order question asked is unordered)))
   in-answer answer fault (broken.unordered operator word value asked is unordered ordering) =
@@ -315,6 +317,6 @@ module _ (scope : Scope) (question : Option Kind) where
   in-answer answer fault (broken.no_comparison operator word value isnt) =
       in-operator operator word value (compared-none operator isnt)
 
-pub answer-listed : (scope : Scope) (question : Option Kind) (answer : Answer) (fault : Told) →
+pub answer-listed : (scope : Scope) (question : Option OperandSort) (answer : Answer) (fault : Diagnostic) →
     BreaksAnswer scope question answer fault → In fault (answer_faults scope question answer)
 answer-listed scope question answer fault breaks = in-answer scope question answer fault breaks

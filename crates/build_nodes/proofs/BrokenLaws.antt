@@ -11,8 +11,8 @@ use Rattle.build_statements.specs.Statements.{agent_name, asked_in, kind_in, sor
 use Rattle.build_nodes.specs.Transitions.{action_faults, ending_faults, other_faults, parts_faults, steps_faults, transition_faults}
 use Rattle.build_faults.proofs.FaultLemmas.{in-each, in-if, in-left, in-right}
 use Rattle.build_faults.specs.FaultLaws.{In}
-use Rattle.build_faults.specs.Faults.{Told, fault_if, told_at}
-use Rattle.build_faults.specs.declared.fault.Kind.TheVariants.{NoLabel, NoRoute, NoState, Sort, Unknown}
+use Rattle.build_faults.specs.Faults.{Diagnostic, fault_if, diagnostic_at}
+use Rattle.build_faults.specs.declared.fault.Rule.TheVariants.{NoLabel, NoRoute, NoState, Sort, Unknown}
 use Rattle.build_expressions.proofs.BrokenLaws as expressions
 use Rattle.build_expressions.specs.Answers.{answer_faults}
 use Rattle.build_expressions.specs.Broken as sorted
@@ -20,7 +20,7 @@ use Rattle.build_expressions.specs.Broken.{IsMisfit, IsNoTimer, TimerMeaning}
 use Rattle.build_expressions.specs.Scope.{AgentMeaning, SignalMeaning, agent_in, block, process, signal, signal_in, timer, value_in}
 use Rattle.build_expressions.specs.Words.{first_word}
 use Rattle.build_expressions.specs.declared.context.Context.TheVariants as place
-use Rattle.build_operators.specs.declared.kind.Kind.{Kind}
+use Rattle.build_operators.specs.declared.operand_sort.OperandSort.{OperandSort}
 use Rattle.build_expressions.specs.declared.scope.ValueMeaning.{ValueMeaning}
 use Rattle.sdl_system.specs.declared.sort.Sort as sorts
 use Rattle.sdl_system.specs.declared.sort.Sort.TheVariants as the_sort
@@ -30,39 +30,41 @@ use Rattle.sdl_tree.specs.declared.name.Spelling.{Spelling}
 
 module _ (context : Context) where
   -- a rule is broken in the expression
-  abbrev BreaksIn : Expr → Told → Type 0
+  abbrev BreaksIn : Expr → Diagnostic → Type 0
   BreaksIn value fault = sorted.IsBroken place.Transition context.scope value fault
 
   -- ---- expressions and values
 
-  in-asked : (value : Expr) (fault : Told) → BreaksIn value fault → In fault (asked_faults context value)
+  in-asked : (value : Expr) (fault : Diagnostic) → BreaksIn value fault → In fault (asked_faults context value)
   in-asked value fault is = expressions.broken-listed place.Transition context.scope value fault is
 
-  in-value : (sort : Option sorts.Sort) (value : Expr) (fault : Told) → BreaksIn value fault →
+  in-value : (sort : Option sorts.Sort) (value : Expr) (fault : Diagnostic) → BreaksIn value fault →
       In fault (value_faults context sort value)
   in-value sort value fault is =
       expressions.broken-listed-at place.Transition context.scope sort value fault (sorted.inside fault is)
 
   in-misfit : (sort : sorts.Sort) (value : Expr) → IsMisfit place.Transition context.scope sort value →
-      In (told_at Sort (first_word value)) (value_faults context (Some sort) value)
+      In (diagnostic_at Sort (first_word value)) (value_faults context (Some sort) value)
   in-misfit sort value misfit =
-      expressions.broken-listed-at place.Transition context.scope (Some sort) value (told_at Sort (first_word value))
+      expressions.broken-listed-at place.Transition context.scope (Some sort) value
+      (diagnostic_at Sort (first_word value))
       (sorted.misfit sort refl misfit)
 
   in-values : (applied : Applied) (places : List (Option sorts.Sort)) (value : Expr) → In value applied.values →
-      (fault : Told) → BreaksIn value fault → In fault (values_faults context applied.name places applied.values)
+      (fault : Diagnostic) → BreaksIn value fault → In fault (values_faults context applied.name places applied.values)
   in-values applied places value at fault is =
       expressions.broken-listed-in place.Transition context.scope applied.name places applied.values fault
       (sorted.inside fault value at is)
 
-  in-places : (applied : Applied) (places : List (Option sorts.Sort)) (fault : Told) →
+  in-places : (applied : Applied) (places : List (Option sorts.Sort)) (fault : Diagnostic) →
       BreaksValues context applied places fault →
       In fault (values_faults context applied.name places applied.values)
   in-places applied places fault breaks =
       expressions.broken-listed-in place.Transition context.scope applied.name places applied.values fault
       (sorted.at_places fault breaks)
 
-  in-unknown : (applied : Applied) (value : Expr) → In value applied.values → (fault : Told) → BreaksIn value fault →
+  in-unknown : (applied : Applied) (value : Expr) → In value applied.values → (fault : Diagnostic) →
+      BreaksIn value fault →
       In fault (unknown_faults context applied.name applied.values)
   in-unknown applied value at fault is =
       inr (in-each fault (asked_faults context) applied.values value at (in-asked value fault is))
@@ -70,12 +72,12 @@ module _ (context : Context) where
   -- ---- where faults of a part stand
 
   in-task : (word : Spelling) (assignments : List Assignment) (assignment : Assignment) → In assignment assignments →
-      (fault : Told) → In fault (assignment_faults context assignment) →
+      (fault : Diagnostic) → In fault (assignment_faults context assignment) →
       In fault (action_faults context (Task word assignments))
   in-task word assignments assignment at fault here =
       in-each fault (assignment_faults context) assignments assignment at here
 
-  in-assigned : (assignment : Assignment) (fault : Told) →
+  in-assigned : (assignment : Assignment) (fault : Diagnostic) →
       In fault (value_faults context (sort_of (target_in context assignment.variable)) assignment.value) →
       In fault (assignment_faults context assignment)
   in-assigned assignment fault here =
@@ -83,32 +85,32 @@ module _ (context : Context) where
       (value_faults context (sort_of (target_in context assignment.variable)) assignment.value) here
 
   in-sent : (outputs : List Applied) (destination : Option Destination) (output : Applied) → In output outputs →
-      (fault : Told) → In fault (sending_faults context (has_destination destination) output) →
+      (fault : Diagnostic) → In fault (sending_faults context (has_destination destination) output) →
       In fault (output_faults context outputs destination)
   in-sent outputs destination output at fault here =
       in-left fault (flat_map (sending_faults context (has_destination destination)) outputs)
       (destination_faults context destination)
       (in-each fault (sending_faults context (has_destination destination)) outputs output at here)
 
-  in-destined : (outputs : List Applied) (destination : Destination) (fault : Told) →
+  in-destined : (outputs : List Applied) (destination : Destination) (fault : Diagnostic) →
       In fault (destination_faults context (Some destination)) →
       In fault (output_faults context outputs (Some destination))
   in-destined outputs destination fault here =
       in-right fault (flat_map (sending_faults context true) outputs) (destination_faults context (Some destination))
       here
 
-  in-clause : (clauses : List SetClause) (clause : SetClause) → In clause clauses → (fault : Told) →
+  in-clause : (clauses : List SetClause) (clause : SetClause) → In clause clauses → (fault : Diagnostic) →
       In fault (setting_faults context clause) → In fault (flat_map (setting_faults context) clauses)
   in-clause clauses clause at fault here = in-each fault (setting_faults context) clauses clause at here
 
-  in-time : (clause : SetClause) (time : Expr) → clause.time ≡ Some time → (fault : Told) →
+  in-time : (clause : SetClause) (time : Expr) → clause.time ≡ Some time → (fault : Diagnostic) →
       In fault (value_faults context (Some the_sort.Time) time) → In fault (setting_faults context clause)
   in-time clause time is fault here =
       in-left fault (time_faults context clause.time)
       (default_faults context clause.timer.name clause.time ++ timing_faults context clause.timer)
       (subst (λ t. In fault (time_faults context t)) (sym is) here)
 
-  in-timer : (clause : SetClause) (fault : Told) → In fault (timing_faults context clause.timer) →
+  in-timer : (clause : SetClause) (fault : Diagnostic) → In fault (timing_faults context clause.timer) →
       In fault (setting_faults context clause)
   in-timer clause fault here =
       in-right fault (time_faults context clause.time)
@@ -116,7 +118,7 @@ module _ (context : Context) where
       (in-right fault (default_faults context clause.timer.name clause.time) (timing_faults context clause.timer) here)
 
   in-reset : (groups : List (List Applied)) (group : List Applied) → In group groups → (reset : Applied) →
-      In reset group → (fault : Told) → In fault (timing_faults context reset) →
+      In reset group → (fault : Diagnostic) → In fault (timing_faults context reset) →
       In fault (flat_map (flat_map (timing_faults context)) groups)
   in-reset groups group at reset among fault here =
       in-each fault (flat_map (timing_faults context)) groups group at
@@ -124,7 +126,7 @@ module _ (context : Context) where
 
   -- ---- expressions of actions
 
-  in-sending : (has : Bool) (output : Applied) (value : Expr) → In value output.values → (fault : Told) →
+  in-sending : (has : Bool) (output : Applied) (value : Expr) → In value output.values → (fault : Diagnostic) →
       BreaksIn value fault → In fault (sending_faults context has output)
   in-sending has output value at fault is = by (signal_in context.scope output.name.text)
     where
@@ -135,7 +137,8 @@ module _ (context : Context) where
           in-right fault (fault_if (is_lost context has number) NoRoute output.name)
           (values_faults context output.name places output.values) (in-values output places value at fault is)
 
-  in-timing : (applied : Applied) (value : Expr) → In value applied.values → (fault : Told) → BreaksIn value fault →
+  in-timing : (applied : Applied) (value : Expr) → In value applied.values → (fault : Diagnostic) →
+      BreaksIn value fault →
       In fault (timing_faults context applied)
   in-timing applied value at fault is = by (signal_in context.scope applied.name.text)
     where
@@ -144,7 +147,8 @@ module _ (context : Context) where
       by (Some (signal number places)) = in-unknown applied value at fault is
       by (Some (timer number places has_default)) = in-values applied places value at fault is
 
-  in-created : (created : Applied) (value : Expr) → In value created.values → (fault : Told) → BreaksIn value fault →
+  in-created : (created : Applied) (value : Expr) → In value created.values → (fault : Diagnostic) →
+      BreaksIn value fault →
       In fault (create_faults context created)
   in-created created value at fault is = by (agent_in context.scope created.name.text)
     where
@@ -167,14 +171,14 @@ module _ (context : Context) where
   no-agent (Unary operator word operand) pid = refl
   no-agent (Chain first rest) pid = refl
 
-  in-pid : (destination : Destination) → IsPidPlace context.scope destination.value → (fault : Told) →
+  in-pid : (destination : Destination) → IsPidPlace context.scope destination.value → (fault : Diagnostic) →
       In fault (value_faults context (Some the_sort.Pid) destination.value) →
       In fault (destination_faults context (Some destination))
   in-pid destination pid fault here =
       subst (λ found. In fault (whither_faults context destination.value found)) (sym (no-agent destination.value pid))
       here
 
-  in-expression : (action : Action) (value : Expr) → IsAskedBy context.scope action value → (fault : Told) →
+  in-expression : (action : Action) (value : Expr) → IsAskedBy context.scope action value → (fault : Diagnostic) →
       BreaksIn value fault → In fault (action_faults context action)
   in-expression action value (stands.assigned {word} {assignments} assignment at) fault is =
       in-task word assignments assignment at fault
@@ -205,26 +209,26 @@ module _ (context : Context) where
   no-target found (broken.a_synonym sort value) = refl
 
   no-signal : (has : Bool) (output : Applied) (found : Option SignalMeaning) → IsNoSignal found →
-      In (told_at Unknown output.name) (sent_faults context has output.name output.values found)
+      In (diagnostic_at Unknown output.name) (sent_faults context has output.name output.values found)
   no-signal has output found broken.no_signal = inl refl
   no-signal has output found (broken.a_timer number places has_default) = inl refl
 
   no-timer : (applied : Applied) (found : Option SignalMeaning) → IsNoTimer found →
-      In (told_at Unknown applied.name) (timed_faults context applied.name applied.values found)
+      In (diagnostic_at Unknown applied.name) (timed_faults context applied.name applied.values found)
   no-timer applied found sorted.nothing = inl refl
   no-timer applied found (sorted.a_signal number places) = inl refl
 
   no-process : (created : Applied) (found : Option AgentMeaning) → IsNoProcess found →
-      In (told_at Unknown created.name) (created_faults context created.name created.values found)
+      In (diagnostic_at Unknown created.name) (created_faults context created.name created.values found)
   no-process created found broken.no_agent = inl refl
   no-process created found broken.a_block = inl refl
 
   no-receiver : (name : Spot) (found : Option AgentMeaning) → IsNoProcess found →
-      In (told_at Unknown name) (process_faults name found)
+      In (diagnostic_at Unknown name) (process_faults name found)
   no-receiver name found broken.no_agent = inl refl
   no-receiver name found broken.a_block = inl refl
 
-  in-timed : (applied : Applied) (meaning : TimerMeaning context.scope applied.name) (fault : Told) →
+  in-timed : (applied : Applied) (meaning : TimerMeaning context.scope applied.name) (fault : Diagnostic) →
       BreaksValues context applied meaning.places fault → In fault (timing_faults context applied)
   in-timed applied meaning fault breaks =
       subst (λ found. In fault (timed_faults context applied.name applied.values found)) (sym meaning.meant)
@@ -232,7 +236,7 @@ module _ (context : Context) where
 
   -- the name of an agent behind `to`
   in-named : (destination : Destination) (name : Spot) → destination.value ≡ Named name →
-      value_in context.scope name.text ≡ None → (fault : Told) →
+      value_in context.scope name.text ≡ None → (fault : Diagnostic) →
       In fault (process_faults name (agent_in context.scope name.text)) →
       In fault (destination_faults context (Some destination))
   in-named destination name is free fault here =
@@ -241,7 +245,8 @@ module _ (context : Context) where
 
   -- ---- the parts of a decision
 
-  in-answers : (asked : Option Kind) (parts : Parts) (part : Part) → In part (parts_in parts) → (fault : Told) →
+  in-answers : (asked : Option OperandSort) (parts : Parts) (part : Part) → In part (parts_in parts) →
+      (fault : Diagnostic) →
       In fault (answers_faults context asked part.answers) → In fault (parts_faults context asked parts)
   in-answers asked NoPart part at fault here = absurd at
   in-answers asked (AndPart answers transition rest) part at fault here =
@@ -254,7 +259,8 @@ module _ (context : Context) where
             (parts_faults context asked rest) (in-answers asked rest part later fault here)
       ]
 
-  in-branch : (asked : Option Kind) (parts : Parts) (part : Part) → In part (parts_in parts) → (fault : Told) →
+  in-branch : (asked : Option OperandSort) (parts : Parts) (part : Part) → In part (parts_in parts) →
+      (fault : Diagnostic) →
       In fault (transition_faults context part.transition) → In fault (parts_faults context asked parts)
   in-branch asked NoPart part at fault here = absurd at
   in-branch asked (AndPart answers transition rest) part at fault here =
@@ -269,27 +275,27 @@ module _ (context : Context) where
 
   -- ---- each rule
 
-  in-action : (action : Action) (fault : Told) → BreaksAction context action fault →
+  in-action : (action : Action) (fault : Diagnostic) → BreaksAction context action fault →
       In fault (action_faults context action)
   in-action action fault (broken.expression asked is told breaks) = in-expression action asked is told breaks
   in-action action fault (broken.no_variable {word} {assignments} assignment at isnt) =
-      in-task word assignments assignment at (told_at Unknown assignment.variable)
-      (in-left (told_at Unknown assignment.variable)
+      in-task word assignments assignment at (diagnostic_at Unknown assignment.variable)
+      (in-left (diagnostic_at Unknown assignment.variable)
       (fault_if (is_none (target_in context assignment.variable)) Unknown assignment.variable)
       (value_faults context (sort_of (target_in context assignment.variable)) assignment.value)
       (in-if (is_none (target_in context assignment.variable)) Unknown assignment.variable
       (no-target (value_in context.scope assignment.variable.text) isnt)))
   in-action action fault (broken.no_fit {word} {assignments} assignment at sort variable misfit) =
-      let told = told_at Sort (first_word assignment.value) in
+      let told = diagnostic_at Sort (first_word assignment.value) in
       in-task word assignments assignment at told
       (in-assigned assignment told
       (subst (λ found. In told (value_faults context (sort_of (target_of found)) assignment.value))
       (sym variable.meant) (in-misfit sort assignment.value misfit)))
   in-action action fault (broken.no_output {word} {outputs} {destination} output at isnt) =
-      in-sent outputs destination output at (told_at Unknown output.name)
+      in-sent outputs destination output at (diagnostic_at Unknown output.name)
       (no-signal (has_destination destination) output (signal_in context.scope output.name.text) isnt)
   in-action action fault (broken.no_route {word} {outputs} output at meaning unreached) =
-      let told = told_at NoRoute output.name in
+      let told = diagnostic_at NoRoute output.name in
       in-sent outputs None output at told
       (subst (λ found. In told (sent_faults context false output.name output.values found)) (sym meaning.meant)
       (in-left told (fault_if (is_lost context false meaning.number) NoRoute output.name)
@@ -303,24 +309,24 @@ module _ (context : Context) where
       (values_faults context output.name meaning.places output.values)
       (in-places output meaning.places told breaks)))
   in-action action fault (broken.no_receiver {word} {outputs} destination name is free isnt) =
-      in-destined outputs destination (told_at Unknown name)
-      (in-named destination name is free (told_at Unknown name)
+      in-destined outputs destination (diagnostic_at Unknown name)
+      (in-named destination name is free (diagnostic_at Unknown name)
       (no-receiver name (agent_in context.scope name.text) isnt))
   in-action action fault (broken.no_pid {word} {outputs} destination pid misfit) =
-      let told = told_at Sort (first_word destination.value) in
+      let told = diagnostic_at Sort (first_word destination.value) in
       in-destined outputs destination told
       (in-pid destination pid told (in-misfit the_sort.Pid destination.value misfit))
   in-action action fault (broken.no_timer {word} {clauses} clause at isnt) =
-      in-clause clauses clause at (told_at Unknown clause.timer.name)
-      (in-timer clause (told_at Unknown clause.timer.name)
+      in-clause clauses clause at (diagnostic_at Unknown clause.timer.name)
+      (in-timer clause (diagnostic_at Unknown clause.timer.name)
       (no-timer clause.timer (signal_in context.scope clause.timer.name.text) isnt))
   in-action action fault (broken.set_values {word} {clauses} clause at meaning told breaks) =
       in-clause clauses clause at told (in-timer clause told (in-timed clause.timer meaning told breaks))
   in-action action fault (broken.no_time {word} {clauses} clause at time is misfit) =
-      let told = told_at Sort (first_word time) in
+      let told = diagnostic_at Sort (first_word time) in
       in-clause clauses clause at told (in-time clause time is told (in-misfit the_sort.Time time misfit))
   in-action action fault (broken.no_default {word} {clauses} clause at none number places meant) =
-      let told = told_at Sort clause.timer.name in
+      let told = diagnostic_at Sort clause.timer.name in
       in-clause clauses clause at told
       (in-right told (time_faults context clause.time)
       (default_faults context clause.timer.name clause.time ++ timing_faults context clause.timer)
@@ -329,7 +335,7 @@ module _ (context : Context) where
       (in-if (lacks_default (signal_in context.scope clause.timer.name.text)) Sort clause.timer.name
       (ap lacks_default meant)))))
   in-action action fault (broken.no_reset {word} {groups} group at reset among isnt) =
-      in-reset groups group at reset among (told_at Unknown reset.name)
+      in-reset groups group at reset among (diagnostic_at Unknown reset.name)
       (no-timer reset (signal_in context.scope reset.name.text) isnt)
   in-action action fault (broken.reset_values {word} {groups} group at reset among meaning told breaks) =
       in-reset groups group at reset among told (in-timed reset meaning told breaks)
@@ -339,14 +345,14 @@ module _ (context : Context) where
       subst (λ found. In told (created_faults context created.name created.values found)) (sym meaning.meant)
       (in-places created meaning.places told breaks)
   in-action action fault (broken.answer {word} {question} {parts} {otherwise} part at said among told breaks) =
-      let asked : Option Kind = kind_in (asked_in context question) in
+      let asked : Option OperandSort = kind_in (asked_in context question) in
       in-right told (asked_faults context question) (parts_faults context asked parts ++ other_faults context otherwise)
       (in-left told (parts_faults context asked parts) (other_faults context otherwise)
       (in-answers asked parts part at told
       (in-each told (answer_faults context.scope asked) part.answers said among
       (answer-listed context.scope asked said told breaks))))
 
-  in-terminator : (terminator : Terminator) (fault : Told) → BreaksTerminator context terminator fault →
+  in-terminator : (terminator : Terminator) (fault : Diagnostic) → BreaksTerminator context terminator fault →
       In fault (terminator_faults context terminator)
   in-terminator terminator fault (broken.no_state word state none) =
       in-if (is_none (state_in context state.text)) NoState state (ap is_none none)
@@ -355,7 +361,7 @@ module _ (context : Context) where
 
   -- ---- whole transitions
 
-  in-steps : (actions : Actions) (statement : Statement) → In statement (statements_in actions) → (fault : Told) →
+  in-steps : (actions : Actions) (statement : Statement) → In statement (statements_in actions) → (fault : Diagnostic) →
       In fault (action_faults context statement.action) → In fault (steps_faults context actions)
   in-steps NoAction statement at fault here = absurd at
   in-steps (AndAction label first rest) statement at fault here =
@@ -366,21 +372,21 @@ module _ (context : Context) where
             (in-steps rest statement later fault here)
       ]
 
-  in-part : (part : Transition) (action : Action) → IsPart part action → (fault : Told) →
+  in-part : (part : Transition) (action : Action) → IsPart part action → (fault : Diagnostic) →
       In fault (transition_faults context part) → In fault (action_faults context action)
   in-part t action (stands.behind_answers {word} {question} {parts} {otherwise} part at) fault here =
-      let asked : Option Kind = kind_in (asked_in context question) in
+      let asked : Option OperandSort = kind_in (asked_in context question) in
       in-right fault (asked_faults context question)
       (parts_faults context asked parts ++ other_faults context otherwise)
       (in-left fault (parts_faults context asked parts) (other_faults context otherwise)
       (in-branch asked parts part at fault here))
   in-part t action (stands.behind_else {word} {question} {parts} other) fault here =
-      let asked : Option Kind = kind_in (asked_in context question) in
+      let asked : Option OperandSort = kind_in (asked_in context question) in
       in-right fault (asked_faults context question)
       (parts_faults context asked parts ++ transition_faults context other)
       (in-right fault (parts_faults context asked parts) (transition_faults context other) here)
 
-  in-whole : (whole part : Transition) → Within whole part → (fault : Told) →
+  in-whole : (whole part : Transition) → Within whole part → (fault : Diagnostic) →
       In fault (transition_faults context part) → In fault (transition_faults context whole)
   in-whole whole t stands.itself fault here = here
   in-whole whole t (stands.in_decision {actions} {ending} {part} statement within among is) fault here =
@@ -388,7 +394,7 @@ module _ (context : Context) where
       (in-left fault (steps_faults context actions) (ending_faults context ending)
       (in-steps actions statement among fault (in-part part statement.action is fault here)))
 
-  in-transition : (whole : Transition) (fault : Told) → IsBroken context whole fault →
+  in-transition : (whole : Transition) (fault : Diagnostic) → IsBroken context whole fault →
       In fault (transition_faults context whole)
   in-transition whole fault (broken.in_action action stand told breaks) =
       in-whole whole (Steps stand.actions stand.ending) stand.within told
@@ -400,6 +406,7 @@ module _ (context : Context) where
       (in-right told (steps_faults context ends.actions) (terminator_faults context ends.ending.terminator)
       (subst (λ t. In told (terminator_faults context t)) (sym ends.is) (in-terminator terminator told breaks)))
 
-pub broken-listed : (context : Context) (transition : Transition) (fault : Told) → IsBroken context transition fault →
+pub broken-listed : (context : Context) (transition : Transition) (fault : Diagnostic) →
+    IsBroken context transition fault →
     In fault (transition_faults context transition)
 broken-listed context transition fault is = in-transition context transition fault is

@@ -12,8 +12,8 @@ use Rattle.build_statements.specs.Statements.{agent_name, asked_in, kind_in, sor
 use Rattle.build_nodes.specs.Transitions.{action_faults, ending_faults, other_faults, parts_faults, steps_faults, transition_faults}
 use Rattle.build_faults.proofs.FaultLemmas.{each-both, each-if, each-of}
 use Rattle.build_faults.specs.FaultLaws.{Each, In}
-use Rattle.build_faults.specs.Faults.{Told, fault_if, told_at}
-use Rattle.build_faults.specs.declared.fault.Kind.TheVariants.{NoLabel, NoRoute, NoState, Sort, Unknown}
+use Rattle.build_faults.specs.Faults.{Diagnostic, fault_if, diagnostic_at}
+use Rattle.build_faults.specs.declared.fault.Rule.TheVariants.{NoLabel, NoRoute, NoState, Sort, Unknown}
 use Rattle.build_expressions.proofs.ListedLaws as expressions
 use Rattle.build_expressions.proofs.ListedLaws.{each-weaker, none-is, not-true}
 use Rattle.build_expressions.specs.Answers.{answer_faults}
@@ -22,7 +22,7 @@ use Rattle.build_expressions.specs.Broken.{IsBrokenAt, IsBrokenIn, IsMisfit, IsN
 use Rattle.build_expressions.specs.Scope.{AgentMeaning, SignalMeaning, agent_in, block, process, signal, signal_in, timer, value_in}
 use Rattle.build_expressions.specs.Words.{first_word}
 use Rattle.build_expressions.specs.declared.context.Context.TheVariants as place
-use Rattle.build_operators.specs.declared.kind.Kind.{Kind}
+use Rattle.build_operators.specs.declared.operand_sort.OperandSort.{OperandSort}
 use Rattle.build_expressions.specs.declared.scope.ValueMeaning.{ValueMeaning}
 use Rattle.build_expressions.specs.declared.scope.ValueMeaning.TheVariants as meant
 use Rattle.sdl_system.specs.declared.sort.Sort as sorts
@@ -43,20 +43,20 @@ module _ (context : Context) where
 
   each-value : (action : Action) (sort : Option sorts.Sort) (value : Expr) → IsAskedBy context.scope action value →
       ((s : sorts.Sort) → sort ≡ Some s → IsMisfit place.Transition context.scope s value →
-      BreaksAction context action (told_at Sort (first_word value))) →
+      BreaksAction context action (diagnostic_at Sort (first_word value))) →
       Each (BreaksAction context action) (value_faults context sort value)
   each-value action sort value asked misfit =
       each-weaker (IsBrokenAt place.Transition context.scope sort value) (BreaksAction context action)
       (value_faults context sort value) one (expressions.listed-broken-at place.Transition context.scope sort value)
     where
-      one : (fault : Told) → IsBrokenAt place.Transition context.scope sort value fault →
+      one : (fault : Diagnostic) → IsBrokenAt place.Transition context.scope sort value fault →
           BreaksAction context action fault
       one fault (sorted.inside told is) = broken.expression value asked told is
       one fault (sorted.misfit s is at) = misfit s is at
 
   each-of-sort : (action : Action) (sort : sorts.Sort) (value : Expr) → IsAskedBy context.scope action value →
       (IsMisfit place.Transition context.scope sort value →
-      BreaksAction context action (told_at Sort (first_word value))) →
+      BreaksAction context action (diagnostic_at Sort (first_word value))) →
       Each (BreaksAction context action) (value_faults context (Some sort) value)
   each-of-sort action sort value asked misfit =
       each-value action (Some sort) value asked (λ s is at.
@@ -65,19 +65,20 @@ module _ (context : Context) where
 
   each-values : (action : Action) (applied : Applied) (places : List (Option sorts.Sort)) →
       ((value : Expr) → In value applied.values → IsAskedBy context.scope action value) →
-      ((fault : Told) → BreaksValues context applied places fault → BreaksAction context action fault) →
+      ((fault : Diagnostic) → BreaksValues context applied places fault → BreaksAction context action fault) →
       Each (BreaksAction context action) (values_faults context applied.name places applied.values)
   each-values action applied places asked breaks =
       each-weaker (IsBrokenIn place.Transition context.scope applied.name places applied.values)
       (BreaksAction context action) (values_faults context applied.name places applied.values) one
       (expressions.listed-broken-in place.Transition context.scope applied.name places applied.values)
     where
-      one : (fault : Told) → IsBrokenIn place.Transition context.scope applied.name places applied.values fault →
+      one : (fault : Diagnostic) → IsBrokenIn place.Transition context.scope applied.name places applied.values fault →
           BreaksAction context action fault
       one fault (sorted.inside told value at is) = broken.expression value (asked value at) told is
       one fault (sorted.at_places told is) = breaks told is
 
-  each-unknown : (action : Action) (applied : Applied) → BreaksAction context action (told_at Unknown applied.name) →
+  each-unknown : (action : Action) (applied : Applied) →
+      BreaksAction context action (diagnostic_at Unknown applied.name) →
       ((value : Expr) → In value applied.values → IsAskedBy context.scope action value) →
       Each (BreaksAction context action) (unknown_faults context applied.name applied.values)
   each-unknown action applied unknown asked = (
@@ -146,7 +147,7 @@ module _ (context : Context) where
   module _ (word : Spelling) (outputs : List Applied) where
     each-route : (output : Applied) → In output outputs → (meaning : IsSignal context.scope output.name) →
         (destination : Option Destination) → is_lost context (has_destination destination) meaning.number ≡ true →
-        BreaksAction context (Output word outputs destination) (told_at NoRoute output.name)
+        BreaksAction context (Output word outputs destination) (diagnostic_at NoRoute output.name)
     each-route output at meaning None lost = broken.no_route output at meaning (not-true _ lost)
     each-route output at meaning (Some destination) lost = cc
 
@@ -215,9 +216,9 @@ module _ (context : Context) where
 
   timed-as : (action : Action) (applied : Applied) →
       (IsNoTimer (signal_in context.scope applied.name.text) →
-      BreaksAction context action (told_at Unknown applied.name)) →
+      BreaksAction context action (diagnostic_at Unknown applied.name)) →
       ((value : Expr) → In value applied.values → IsAskedBy context.scope action value) →
-      ((meaning : TimerMeaning context.scope applied.name) (fault : Told) →
+      ((meaning : TimerMeaning context.scope applied.name) (fault : Diagnostic) →
       BreaksValues context applied meaning.places fault → BreaksAction context action fault) →
       (found : Option SignalMeaning) → signal_in context.scope applied.name.text ≡ found →
       Each (BreaksAction context action) (timed_faults context applied.name applied.values found)
@@ -318,7 +319,7 @@ module _ (context : Context) where
   -- ---- whole transitions
 
   module _ (whole : Transition) where
-    of-action : (action : Action) → StandsIn whole action → (faults : List Told) →
+    of-action : (action : Action) → StandsIn whole action → (faults : List Diagnostic) →
         Each (BreaksAction context action) faults → Each (IsBroken context whole) faults
     of-action action stand faults each =
         each-weaker (BreaksAction context action) (IsBroken context whole) faults
@@ -339,7 +340,7 @@ module _ (context : Context) where
         Each (IsBroken context whole) (answers_faults context (kind_in (asked_in context question)) part.answers)
     of-answers word question parts otherwise stand part at =
         let action : Action = Decision word question parts otherwise in
-        let asked : Option Kind = kind_in (asked_in context question) in
+        let asked : Option OperandSort = kind_in (asked_in context question) in
         of-action action stand (answers_faults context asked part.answers)
         (each-of (BreaksAction context action) (answer_faults context.scope asked) part.answers (λ said among.
         each-weaker (BreaksAnswer context.scope asked said) (BreaksAction context action)
@@ -389,7 +390,7 @@ module _ (context : Context) where
           of-action (Create word created) stand (create_faults context created)
           (created-as word created (agent_in context.scope created.name.text) refl)
       of-one (Decision word question parts otherwise) stand =
-          let asked : Option Kind = kind_in (asked_in context question) in
+          let asked : Option OperandSort = kind_in (asked_in context question) in
           each-both (IsBroken context whole) (asked_faults context question)
           (parts_faults context asked parts ++ other_faults context otherwise)
           (of-action (Decision word question parts otherwise) stand (asked_faults context question)
@@ -401,7 +402,7 @@ module _ (context : Context) where
           (of-other otherwise (λ other is. part-within (Decision word question parts otherwise) other stand
           (subst (λ o. IsPart other (Decision word question parts o)) (sym is) (stands.behind_else other)))))
 
-      of-parts : (asked : Option Kind) (parts : Parts) →
+      of-parts : (asked : Option OperandSort) (parts : Parts) →
           ((part : Part) → In part (parts_in parts) →
           Each (IsBroken context whole) (answers_faults context asked part.answers)) →
           ((part : Part) → In part (parts_in parts) → Within whole part.transition) →

@@ -8,7 +8,7 @@ use Rattle.build_nodes.proofs.CountLemmas.{in-append}
 use Rattle.build_faults.specs.FaultLaws.{In}
 use Rattle.build_expressions.specs.Partial.{both}
 use Rattle.build_expressions.specs.Typing.{term_in}
-use Rattle.build_operators.specs.declared.kind.Kind.{Kind}
+use Rattle.build_operators.specs.declared.operand_sort.OperandSort.{OperandSort}
 use Rattle.sdl_system.specs.Body as body
 use Rattle.sdl_system.specs.Body.{Action, Body}
 use Rattle.sdl_system.specs.Term.{Term}
@@ -143,7 +143,7 @@ module _ (context : Context) where
         (pieces_in context (kind_in (asked_in context question)) parts) (other_in context other)
         (pieces-named (kind_in (asked_in context question)) parts) (other-named other)
 
-    pieces-named : (question : Option Kind) (parts : tree.Parts) → NamedPieces (pieces_in context question parts)
+    pieces-named : (question : Option OperandSort) (parts : tree.Parts) → NamedPieces (pieces_in context question parts)
     pieces-named question tree.NoPart = λ p at. absurd at
     pieces-named question (tree.AndPart list transition rest) =
         more-named (answers_in context question list) (body_in context transition) (pieces_in context question rest)

@@ -3,7 +3,7 @@ use Rattle.std.proofs.Common.{◌≡◌, ◌∙◌, ◌++◌, List, [], ◌∷�
 use Rattle.build_statements.specs.Contexts.{Context}
 use Rattle.build_nodes.specs.Transitions.{part_faults, parts_faults, piece_in, pieces_in}
 use Rattle.build_expressions.specs.Partial.{all_some, both}
-use Rattle.build_operators.specs.declared.kind.Kind.{Kind}
+use Rattle.build_operators.specs.declared.operand_sort.OperandSort.{OperandSort}
 use Rattle.sdl_tree.proofs.ViewLemmas.{answered_value, steps_value}
 use Rattle.sdl_tree.specs.Tree as tree
 use Rattle.sdl_tree.specs.Tree.{actions_of, parts_of}
@@ -27,13 +27,13 @@ part-tree p =
     ap answer_part_value (sym (roll-out-AnswerPart p))
     ∙ answered_value (out-AnswerPart p).answers (out-AnswerPart p).transition
 
-pub pieces-list : (context : Context) (question : Option Kind) (list : List tree.Part) →
+pub pieces-list : (context : Context) (question : Option OperandSort) (list : List tree.Part) →
     pieces_in context question (parts_of list) ≡ all_some (map (piece_in context question) list)
 pieces-list context question [] = refl
 pieces-list context question (part ∷ rest) =
     ap (both ◌∷◌ (piece_in context question part)) (pieces-list context question rest)
 
-pub part_faults-list : (context : Context) (question : Option Kind) (list : List tree.Part) →
+pub part_faults-list : (context : Context) (question : Option OperandSort) (list : List tree.Part) →
     parts_faults context question (parts_of list) ≡ flat_map (part_faults context question) list
 part_faults-list context question [] = refl
 part_faults-list context question (part ∷ rest) =

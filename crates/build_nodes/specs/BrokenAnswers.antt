@@ -2,18 +2,18 @@
 -- of what is noted (Z.102: decision).
 use Rattle.std.specs.Prelude.{◌≡◌, false, Option, None, Some, option_and_then}
 use Rattle.build_faults.specs.FaultLaws.{Each, In}
-use Rattle.build_faults.specs.Faults.{Told, told_at, mark_word}
-use Rattle.build_faults.specs.declared.fault.Kind.TheVariants.{BadCount, Sort}
+use Rattle.build_faults.specs.Faults.{Diagnostic, diagnostic_at, mark_word}
+use Rattle.build_faults.specs.declared.fault.Rule.TheVariants.{BadCount, Sort}
 use Rattle.build_expressions.specs.Answers.{answer_faults}
 use Rattle.build_expressions.specs.Broken.{IsBroken}
 use Rattle.build_expressions.specs.Constants.{value_of}
-use Rattle.build_operators.specs.Kinds.{result_of}
+use Rattle.build_operators.specs.OperandSorts.{result_of}
 use Rattle.build_expressions.specs.Scope.{Scope}
 use Rattle.build_expressions.specs.Typing.{Typed, typed_in}
 use Rattle.build_expressions.specs.Words.{first_word}
 use Rattle.build_expressions.specs.declared.context.Context.TheVariants.{Constant}
-use Rattle.build_operators.specs.declared.kind.Kind.{Kind}
-use Rattle.build_operators.specs.declared.kind.Kind.TheVariants.{Boolean, Pid}
+use Rattle.build_operators.specs.declared.operand_sort.OperandSort.{OperandSort}
+use Rattle.build_operators.specs.declared.operand_sort.OperandSort.TheVariants.{Boolean, Pid}
 use Rattle.build_operators.specs.declared.operator.TypedOperation.{TypedOperation}
 use Rattle.sdl_tree.specs.Spells.Expressions.{operator_mark}
 use Rattle.sdl_tree.specs.Tree.{Answer, Compared, Expr, Range, Value}
@@ -37,7 +37,7 @@ pub data IsValueOf : Answer → Expr → Type 0 where
       (operator : Operator) (word : Spelling) (value : Expr) → IsValueOf (Compared operator word value) value
 
 -- values of the kind have no order
-pub data IsUnordered : Kind → Type 0 where
+pub data IsUnordered : OperandSort → Type 0 where
   truth : IsUnordered Boolean
   instance : IsUnordered Pid
 
@@ -55,16 +55,16 @@ pub data IsComparison : Operator → Type 0 where
   by_order : (operator : Operator) → IsOrdering operator → IsComparison operator
 
 -- values of the kind can be compared with those of the question; where the question has no kind, all can
-pub data IsComparable : Option Kind → Kind → Type 0 where
-  with_any : (kind : Kind) → IsComparable None kind
+pub data IsComparable : Option OperandSort → OperandSort → Type 0 where
+  with_any : (kind : OperandSort) → IsComparable None kind
   with_asked :
-      (asked kind : Kind) (operation : TypedOperation) → result_of Equal asked kind ≡ Some operation
+      (asked kind : OperandSort) (operation : TypedOperation) → result_of Equal asked kind ≡ Some operation
       → IsComparable (Some asked) kind
 
 -- ---- rules
 
 -- the value can be compared with the question's and rests on no refused synonym, but there is none
-pub record IsWithoutValue (scope : Scope) (question : Option Kind) (value : Expr) : Type 0 where
+pub record IsWithoutValue (scope : Scope) (question : Option OperandSort) (value : Expr) : Type 0 where
   pub typed : Typed
   pub typed_is : typed_in Constant scope value ≡ Some typed
   pub comparable : IsComparable question typed.kind
@@ -72,44 +72,45 @@ pub record IsWithoutValue (scope : Scope) (question : Option Kind) (value : Expr
   pub lacks : option_and_then value_of typed.term ≡ None
 
 -- a rule is broken in a value of an answer of this question
-pub data BreaksValue (scope : Scope) (question : Option Kind) (value : Expr) : Told → Type 0 where
+pub data BreaksValue (scope : Scope) (question : Option OperandSort) (value : Expr) : Diagnostic → Type 0 where
   -- an expression's rule: a name stands for nothing, an operator doesn't fit, it is no constant
-  inside : (fault : Told) → IsBroken Constant scope value fault → BreaksValue scope question value fault
+  inside : (fault : Diagnostic) → IsBroken Constant scope value fault → BreaksValue scope question value fault
   -- it has a kind that can't be compared with the question's
   incomparable :
-      (asked : Kind) → question ≡ Some asked → (typed : Typed) → typed_in Constant scope value ≡ Some typed
-      → result_of Equal asked typed.kind ≡ None → BreaksValue scope question value (told_at Sort (first_word value))
+      (asked : OperandSort) → question ≡ Some asked → (typed : Typed) → typed_in Constant scope value ≡ Some typed
+      → result_of Equal asked typed.kind ≡ None → BreaksValue scope question value
+      (diagnostic_at Sort (first_word value))
   -- it comes to no value
   no_value :
-      IsWithoutValue scope question value → BreaksValue scope question value (told_at BadCount (first_word value))
+      IsWithoutValue scope question value → BreaksValue scope question value (diagnostic_at BadCount (first_word value))
 
 -- a rule is broken in an answer of this question
-pub data BreaksAnswer (scope : Scope) (question : Option Kind) : Answer → Told → Type 0 where
+pub data BreaksAnswer (scope : Scope) (question : Option OperandSort) : Answer → Diagnostic → Type 0 where
   in_value :
-      {answer : Answer} (value : Expr) → IsValueOf answer value → (fault : Told)
+      {answer : Answer} (value : Expr) → IsValueOf answer value → (fault : Diagnostic)
       → BreaksValue scope question value fault → BreaksAnswer scope question answer fault
   -- a range, where the values of the question have no order
   unordered_range :
-      (low high : Expr) (asked : Kind) → question ≡ Some asked → IsUnordered asked
-      → BreaksAnswer scope question (Range low high) (told_at Sort (first_word low))
+      (low high : Expr) (asked : OperandSort) → question ≡ Some asked → IsUnordered asked
+      → BreaksAnswer scope question (Range low high) (diagnostic_at Sort (first_word low))
   -- an operator that asks for an order, where they have none
   unordered :
-      (operator : Operator) (word : Spelling) (value : Expr) (asked : Kind) → question ≡ Some asked
+      (operator : Operator) (word : Spelling) (value : Expr) (asked : OperandSort) → question ≡ Some asked
       → IsUnordered asked → IsOrdering operator
-      → BreaksAnswer scope question (Compared operator word value) (told_at Sort (operator_word operator word))
+      → BreaksAnswer scope question (Compared operator word value) (diagnostic_at Sort (operator_word operator word))
   -- an operator that doesn't compare
   no_comparison :
       (operator : Operator) (word : Spelling) (value : Expr) → (IsComparison operator → ⊥)
-      → BreaksAnswer scope question (Compared operator word value) (told_at Sort (operator_word operator word))
+      → BreaksAnswer scope question (Compared operator word value) (diagnostic_at Sort (operator_word operator word))
 
 -- ---- laws
 
 -- Each fault of the list is broken.
 abbrev pub ListedBrokenAnswer : Type 0
-ListedBrokenAnswer = (scope : Scope) (question : Option Kind) (answer : Answer) →
+ListedBrokenAnswer = (scope : Scope) (question : Option OperandSort) (answer : Answer) →
     Each (BreaksAnswer scope question answer) (answer_faults scope question answer)
 
 -- Each that is broken is in the list.
 abbrev pub BrokenListedAnswer : Type 0
-BrokenListedAnswer = (scope : Scope) (question : Option Kind) (answer : Answer) (fault : Told) →
+BrokenListedAnswer = (scope : Scope) (question : Option OperandSort) (answer : Answer) (fault : Diagnostic) →
     BreaksAnswer scope question answer fault → In fault (answer_faults scope question answer)

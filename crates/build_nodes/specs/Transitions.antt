@@ -3,10 +3,10 @@ use Rattle.std.specs.Prelude.{◌++◌, List, [], ◌∷◌, Option, None, Some,
 use Rattle.build_statements.specs.Contexts.{Context, label_in}
 use Rattle.build_statements.specs.Faulty.{answers_faults, asked_faults, assignment_faults, create_faults, output_faults, setting_faults, terminator_faults, timing_faults}
 use Rattle.build_statements.specs.Statements.{answers_in, asked_in, create_in, kind_in, output_in, reset_in, set_in, task_in, terminator_in}
-use Rattle.build_faults.specs.Faults.{Told}
+use Rattle.build_faults.specs.Faults.{Diagnostic}
 use Rattle.build_expressions.specs.Partial.{both}
 use Rattle.build_expressions.specs.Typing.{Typed, term_in}
-use Rattle.build_operators.specs.declared.kind.Kind.{Kind}
+use Rattle.build_operators.specs.declared.operand_sort.OperandSort.{OperandSort}
 use Rattle.sdl_system.specs.Body as body
 use Rattle.sdl_system.specs.Body.{Body}
 use Rattle.sdl_system.specs.Term.{Term}
@@ -72,7 +72,7 @@ abbrev mutual
       asks_in (asked_in context question) (pieces_in context (kind_in (asked_in context question)) parts)
       (other_in context other)
 
-  pub pieces_in : Context → Option Kind → tree.Parts → Option (List Piece)
+  pub pieces_in : Context → Option OperandSort → tree.Parts → Option (List Piece)
   pieces_in context question NoPart = Some []
   pieces_in context question (AndPart answers transition rest) =
       both ◌∷◌ (both piece (answers_in context question answers) (body_in context transition))
@@ -84,25 +84,25 @@ abbrev mutual
   other_in context (Else transition) = option_map Some (body_in context transition)
 
 -- the answers of a part of a decision with what it does
-abbrev pub piece_in : Context → Option Kind → tree.Part → Option Piece
+abbrev pub piece_in : Context → Option OperandSort → tree.Part → Option Piece
 piece_in context question part =
     both piece (answers_in context question part.answers) (body_in context part.transition)
 
 -- ---- rules that are broken, in the order of the text
 
-abbrev pub ending_faults : Context → Option Ending → List Told
+abbrev pub ending_faults : Context → Option Ending → List Diagnostic
 ending_faults context None = []
 ending_faults context (Some ending) = terminator_faults context ending.terminator
 
 abbrev mutual
-  pub transition_faults : Context → Transition → List Told
+  pub transition_faults : Context → Transition → List Diagnostic
   transition_faults context (Steps actions ending) = steps_faults context actions ++ ending_faults context ending
 
-  pub steps_faults : Context → Actions → List Told
+  pub steps_faults : Context → Actions → List Diagnostic
   steps_faults context NoAction = []
   steps_faults context (AndAction name first rest) = action_faults context first ++ steps_faults context rest
 
-  pub action_faults : Context → tree.Action → List Told
+  pub action_faults : Context → tree.Action → List Diagnostic
   action_faults context (tree.Task word assignments) = flat_map (assignment_faults context) assignments
   action_faults context (tree.Output word outputs destination) = output_faults context outputs destination
   action_faults context (tree.Set word clauses) = flat_map (setting_faults context) clauses
@@ -112,16 +112,16 @@ abbrev mutual
       asked_faults context question
       ++ (parts_faults context (kind_in (asked_in context question)) parts ++ other_faults context other)
 
-  pub parts_faults : Context → Option Kind → tree.Parts → List Told
+  pub parts_faults : Context → Option OperandSort → tree.Parts → List Diagnostic
   parts_faults context question NoPart = []
   parts_faults context question (AndPart answers transition rest) =
       (answers_faults context question answers ++ transition_faults context transition)
       ++ parts_faults context question rest
 
-  pub other_faults : Context → Otherwise → List Told
+  pub other_faults : Context → Otherwise → List Diagnostic
   other_faults context NoElse = []
   other_faults context (Else transition) = transition_faults context transition
 
-abbrev pub part_faults : Context → Option Kind → tree.Part → List Told
+abbrev pub part_faults : Context → Option OperandSort → tree.Part → List Diagnostic
 part_faults context question part =
     answers_faults context question part.answers ++ transition_faults context part.transition

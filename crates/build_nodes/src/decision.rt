@@ -5,7 +5,7 @@ ghost use Rattle.build_statements.specs.Contexts.{context_of};
 ghost use Rattle.build_nodes.specs.Decided.{IsDecisionOrNone, branch_of};
 ghost use Rattle.build_statements.specs.Faulty.{answers_faults};
 ghost use Rattle.build_statements.specs.Statements.{answers_in, kind_in};
-ghost use Rattle.build_faults.specs.Faults.{least_of, told};
+ghost use Rattle.build_faults.specs.Faults.{Notes};
 ghost use Rattle.build_expressions.specs.Resolved.{typed_of};
 ghost use Rattle.build_expressions.specs.Typing.{term_in};
 ghost use Rattle.sdl_system.specs.Term.{term_of};
@@ -13,7 +13,7 @@ ghost use Rattle.sdl_tree.specs.Views.{answer_value};
 
 use build_expressions::{Typed, resolve_answer};
 use build_faults::Faults;
-use build_operators::Kind;
+use build_operators::OperandSort;
 use build_statements::Context;
 use build_statements::list::all_there;
 use sdl_system::{Branch, Decision, Expression, Statement, Way};
@@ -21,7 +21,7 @@ use sdl_tree::Answer;
 use std::alloc::{AllocError, Global};
 
 /// The kind of the values of a question.
-pub fn kind_of(question: &Option<Typed>) -> Option<Kind>
+pub fn kind_of(question: &Option<Typed>) -> Option<OperandSort>
     ensures { result ≡ kind_in (option_map typed_of question.now) }
 {
     match question {
@@ -34,13 +34,13 @@ pub fn kind_of(question: &Option<Typed>) -> Option<Kind>
 pub fn resolve_answers<'t>(
     alloc: Global,
     context: &Context<'_, '_, 't>,
-    question: Option<Kind>,
+    question: Option<OperandSort>,
     answers: &'t [Answer],
     faults: &mut Faults<'t>,
 ) -> Result<Option<Vec<sdl_system::Answer>>, AllocError>
     ensures answers { IfOk result (λ found. option_map (λ list. list.items) found
         ≡ answers_in (context_of context.now) question (map answer_value answers.now)) }
-    ensures noted { OnOk result (told faults.new ≡ least_of (told faults.old)
+    ensures noted { OnOk result (Notes faults.old faults.new
         (answers_faults (context_of context.now) question (map answer_value answers.now))) }
 {
     let mut found = Vec::new(alloc);

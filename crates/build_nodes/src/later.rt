@@ -2,15 +2,15 @@
 
 ghost use Rattle.std.specs.Prelude.{◌≡◌};
 ghost use Rattle.build_nodes.specs.Later.{with_later};
-ghost use Rattle.build_faults.specs.Faults.{told};
+ghost use Rattle.build_faults.specs.Faults.{Notes};
 
 use build_faults::Faults;
 
 /// Notes the faults of a later part behind those of the parts before it.
 pub fn note_later<'t>(later: &Faults<'t>, faults: &mut Faults<'t>)
-    ensures { told faults.new ≡ with_later (told faults.old) (told later.now) }
+    ensures { faults.new ≡ with_later faults.old later.now }
 {
-    if let Some(fault) = later.least() {
-        faults.note(fault.kind, fault.token);
+    if let Some(fault) = later.first() {
+        faults.note(fault.rule, fault.token);
     }
 }

@@ -1,12 +1,12 @@
 //! Whole transitions (Z.102: transition). What stands behind a statement is added before it, so that each node has the
 //! place at which the flow goes on when it is added.
 
-ghost use Rattle.std.specs.Prelude.{◌≡◌, ◌++◌, Option, Some, flat_map, map, option_map, IfOk, OnOk};
+ghost use Rattle.std.specs.Prelude.{◌++◌, Option, Some, flat_map, map, option_map, IfOk, OnOk};
 ghost use Rattle.build_nodes.specs.Built.{BuiltIf, Table, table_of};
 ghost use Rattle.build_statements.specs.Contexts.{context_of};
 ghost use Rattle.build_nodes.specs.Decided.{BuiltOtherIf, BuiltPieceIf, BuiltPiecesIf, HeadIf};
 ghost use Rattle.build_nodes.specs.Transitions.{action_faults, before, body_in, ending_faults, ending_in, head_in, labelled, other_faults, other_in, part_faults, piece_in, steps_faults, steps_in, transition_faults};
-ghost use Rattle.build_faults.specs.Faults.{least_of, told};
+ghost use Rattle.build_faults.specs.Faults.{Notes};
 ghost use Rattle.build_expressions.specs.Partial.{all_some, both};
 ghost use Rattle.sdl_system.specs.Body.{Body};
 ghost use Rattle.sdl_system.specs.declared.id.NodeId as ids;
@@ -18,7 +18,7 @@ use crate::later::note_later;
 use crate::table::NodeTable;
 use build_expressions::resolve;
 use build_faults::Faults;
-use build_operators::Kind;
+use build_operators::OperandSort;
 use build_statements::list::and_last;
 use build_statements::{
     Context, resolve_create, resolve_output, resolve_reset, resolve_set, resolve_task,
@@ -44,7 +44,7 @@ pub fn add<'t>(
 ) -> Result<Option<NodeId>, AllocError>
     ensures built { IfOk result (λ place. BuiltIf (table_of table.old) (table_of table.new) place
         (body_in (context_of context.now) (transition_value transition.now)) next) }
-    ensures noted { OnOk result (told faults.new ≡ least_of (told faults.old)
+    ensures noted { OnOk result (Notes faults.old faults.new
         (transition_faults (context_of context.now) (transition_value transition.now))) }
 {
     add_steps(
@@ -72,7 +72,7 @@ fn add_steps<'t>(
     ensures built { IfOk result (λ place. BuiltIf (table_of table.old) (table_of table.new) place
         (steps_in (context_of context.now) (actions_of (map statement_value steps.now))
         (ending_in (context_of context.now) (option_map ending_value ending.now))) next) }
-    ensures noted { OnOk result (told faults.new ≡ least_of (told faults.old)
+    ensures noted { OnOk result (Notes faults.old faults.new
         (steps_faults (context_of context.now) (actions_of (map statement_value steps.now))
         ++ ending_faults (context_of context.now) (option_map ending_value ending.now))) }
 {
@@ -104,7 +104,7 @@ fn add_step<'t>(
         → BuiltIf first (table_of table.old) next behind to
         → BuiltIf first (table_of table.new) place (labelled (context_of context.now) (statement_value step.now).label
         (both before (head_in (context_of context.now) (statement_value step.now).action) behind)) to) }
-    ensures noted { OnOk result (told faults.new ≡ least_of (told faults.old)
+    ensures noted { OnOk result (Notes faults.old faults.new
         (action_faults (context_of context.now) (statement_value step.now).action)) }
 {
     let statement = add_head(alloc, context, table, &step.action, next, faults)?;
@@ -123,7 +123,7 @@ fn add_head<'t>(
 ) -> Result<Option<Statement>, AllocError>
     ensures head { IfOk result (λ statement. HeadIf (table_of table.old) (table_of table.new) statement
         (head_in (context_of context.now) (action_value action.now)) next) }
-    ensures noted { OnOk result (told faults.new ≡ least_of (told faults.old)
+    ensures noted { OnOk result (Notes faults.old faults.new
         (action_faults (context_of context.now) (action_value action.now))) }
 {
     match action {
@@ -157,7 +157,7 @@ fn add_parts<'t>(
     alloc: Global,
     context: &Context<'_, '_, 't>,
     table: &mut NodeTable,
-    question: Option<Kind>,
+    question: Option<OperandSort>,
     parts: &'t [AnswerPart],
     next: Option<NodeId>,
     faults: &mut Faults<'t>,
@@ -165,7 +165,7 @@ fn add_parts<'t>(
     ensures built { IfOk result (λ found. BuiltPiecesIf (table_of table.old) (table_of table.new)
         (option_map (λ list. list.items) found)
         (all_some (map (piece_in (context_of context.now) question) (map answer_part_value parts.now))) next) }
-    ensures noted { OnOk result (told faults.new ≡ least_of (told faults.old)
+    ensures noted { OnOk result (Notes faults.old faults.new
         (flat_map (part_faults (context_of context.now) question) (map answer_part_value parts.now))) }
 {
     let mut found = Some(Vec::new(alloc));
@@ -181,14 +181,14 @@ fn add_part<'t>(
     alloc: Global,
     context: &Context<'_, '_, 't>,
     table: &mut NodeTable,
-    question: Option<Kind>,
+    question: Option<OperandSort>,
     part: &'t AnswerPart,
     next: Option<NodeId>,
     faults: &mut Faults<'t>,
 ) -> Result<Option<Branch>, AllocError>
     ensures built { IfOk result (λ found. BuiltPieceIf (table_of table.old) (table_of table.new) found
         (piece_in (context_of context.now) question (answer_part_value part.now)) next) }
-    ensures noted { OnOk result (told faults.new ≡ least_of (told faults.old)
+    ensures noted { OnOk result (Notes faults.old faults.new
         (part_faults (context_of context.now) question (answer_part_value part.now))) }
 {
     let answers = resolve_answers(alloc, context, question, &part.answers, faults)?;
@@ -208,7 +208,7 @@ fn add_other<'t>(
 ) -> Result<Option<Way>, AllocError>
     ensures built { IfOk result (λ way. BuiltOtherIf (table_of table.old) (table_of table.new) way
         (other_in (context_of context.now) (else_of (option_map transition_value otherwise.now))) next) }
-    ensures noted { OnOk result (told faults.new ≡ least_of (told faults.old)
+    ensures noted { OnOk result (Notes faults.old faults.new
         (other_faults (context_of context.now) (else_of (option_map transition_value otherwise.now)))) }
 {
     match otherwise {
@@ -230,7 +230,7 @@ fn add_ending<'t>(
 ) -> Result<Option<NodeId>, AllocError>
     ensures built { IfOk result (λ place. BuiltIf (table_of table.old) (table_of table.new) place
         (ending_in (context_of context.now) (option_map ending_value ending.now)) next) }
-    ensures noted { OnOk result (told faults.new ≡ least_of (told faults.old)
+    ensures noted { OnOk result (Notes faults.old faults.new
         (ending_faults (context_of context.now) (option_map ending_value ending.now))) }
 {
     match ending {
@@ -248,7 +248,7 @@ fn add_terminator<'t>(
 ) -> Result<Option<NodeId>, AllocError>
     ensures built { IfOk result (λ place. BuiltIf (table_of table.old) (table_of table.new) place
         (ending_in (context_of context.now) (Some (ending_value ending.now))) next) }
-    ensures noted { OnOk result (told faults.new ≡ least_of (told faults.old)
+    ensures noted { OnOk result (Notes faults.old faults.new
         (ending_faults (context_of context.now) (Some (ending_value ending.now)))) }
 {
     let statement = resolve_terminator(context, &ending.terminator, faults);

@@ -1,29 +1,33 @@
-//! The operations that operators stand for, by the kinds of their operands.
+//! The operations that operators stand for, by the sorts of their operands.
 
 ghost use Rattle.std.specs.Prelude.{◌≡◌};
-ghost use Rattle.build_operators.specs.Kinds as kinds;
+ghost use Rattle.build_operators.specs.OperandSorts as kinds;
 
-use crate::kind::Kind;
+use crate::operand_sort::OperandSort;
 use sdl_system::{Arithmetic, Comparison, Logic, NumberSort, Operation};
 use sdl_tree::{Operator, UnaryOperator};
 
-/// An operation on two values, and the kind of what it gives.
+/// An operation on two values, and the sort of what it gives.
 #[derive(Clone, Copy, Debug, PartialEq, Eq)]
 pub struct TypedOperation {
     pub operation: Operation,
-    pub kind: Kind,
+    pub kind: OperandSort,
 }
 
-/// An operation on one value, and the kind of what it gives.
+/// An operation on one value, and the sort of what it gives.
 #[derive(Clone, Copy, Debug, PartialEq, Eq)]
 pub struct TypedUnaryOperation {
     pub operation: sdl_system::UnaryOperation,
-    pub kind: Kind,
+    pub kind: OperandSort,
 }
 
-/// The operation of an operator between operands of these kinds. None where it is no operation (Z.104: the operators of
+/// The operation of an operator between operands of these sorts. None where it is no operation (Z.104: the operators of
 /// the predefined sorts).
-pub fn result_of(operator: Operator, left: Kind, right: Kind) -> Option<TypedOperation>
+pub fn result_of(
+    operator: Operator,
+    left: OperandSort,
+    right: OperandSort,
+) -> Option<TypedOperation>
     ensures { result ≡ kinds.result_of operator left right }
 {
     match operator {
@@ -46,18 +50,18 @@ pub fn result_of(operator: Operator, left: Kind, right: Kind) -> Option<TypedOpe
     }
 }
 
-/// The operation of an operator before an operand of this kind. None where it is no operation.
-pub fn unary_result_of(operator: UnaryOperator, operand: Kind) -> Option<TypedUnaryOperation>
+/// The operation of an operator before an operand of this sort. None where it is no operation.
+pub fn unary_result_of(operator: UnaryOperator, operand: OperandSort) -> Option<TypedUnaryOperation>
     ensures { result ≡ kinds.unary_result_of operator operand }
 {
     let operation = match (operator, operand) {
-        (UnaryOperator::Minus, Kind::Free | Kind::Integer) => {
+        (UnaryOperator::Minus, OperandSort::Free | OperandSort::Integer) => {
             sdl_system::UnaryOperation::Minus(NumberSort::Integer)
         }
-        (UnaryOperator::Minus, Kind::Duration) => {
+        (UnaryOperator::Minus, OperandSort::Duration) => {
             sdl_system::UnaryOperation::Minus(NumberSort::Duration)
         }
-        (UnaryOperator::Not, Kind::Boolean) => sdl_system::UnaryOperation::Not,
+        (UnaryOperator::Not, OperandSort::Boolean) => sdl_system::UnaryOperation::Not,
         _ => return None,
     };
     Some(TypedUnaryOperation {
@@ -66,7 +70,7 @@ pub fn unary_result_of(operator: UnaryOperator, operand: Kind) -> Option<TypedUn
     })
 }
 
-fn arithmetic(operation: Arithmetic, sort: NumberSort, kind: Kind) -> Option<TypedOperation>
+fn arithmetic(operation: Arithmetic, sort: NumberSort, kind: OperandSort) -> Option<TypedOperation>
     ensures { result ≡ kinds.arithmetic operation sort kind }
 {
     Some(TypedOperation {
@@ -80,83 +84,97 @@ fn truth(operation: Operation) -> Option<TypedOperation>
 {
     Some(TypedOperation {
         operation,
-        kind: Kind::Boolean,
+        kind: OperandSort::Boolean,
     })
 }
 
-fn scaled(operation: Arithmetic, left: Kind, right: Kind) -> Option<TypedOperation>
+fn scaled(operation: Arithmetic, left: OperandSort, right: OperandSort) -> Option<TypedOperation>
     ensures { result ≡ kinds.scaled operation left right }
 {
     match (left, right) {
-        (Kind::Free, Kind::Free) => arithmetic(operation, NumberSort::Integer, Kind::Free),
-        (Kind::Free | Kind::Integer, Kind::Free | Kind::Integer) => {
-            arithmetic(operation, NumberSort::Integer, Kind::Integer)
+        (OperandSort::Free, OperandSort::Free) => arithmetic(
+            operation,
+            NumberSort::Integer,
+            OperandSort::Free,
+        ),
+        (OperandSort::Free | OperandSort::Integer, OperandSort::Free | OperandSort::Integer) => {
+            arithmetic(operation, NumberSort::Integer, OperandSort::Integer)
         }
         _ => None,
     }
 }
 
-fn added(left: Kind, right: Kind) -> Option<TypedOperation>
+fn added(left: OperandSort, right: OperandSort) -> Option<TypedOperation>
     ensures { result ≡ kinds.added left right }
 {
     match (left, right) {
-        (Kind::Time, Kind::Duration | Kind::Free) | (Kind::Duration | Kind::Free, Kind::Time) => {
-            arithmetic(Arithmetic::Plus, NumberSort::Time, Kind::Time)
+        (OperandSort::Time, OperandSort::Duration | OperandSort::Free)
+        | (OperandSort::Duration | OperandSort::Free, OperandSort::Time) => {
+            arithmetic(Arithmetic::Plus, NumberSort::Time, OperandSort::Time)
         }
-        (Kind::Duration, Kind::Duration | Kind::Free) | (Kind::Free, Kind::Duration) => {
-            arithmetic(Arithmetic::Plus, NumberSort::Duration, Kind::Duration)
+        (OperandSort::Duration, OperandSort::Duration | OperandSort::Free)
+        | (OperandSort::Free, OperandSort::Duration) => {
+            arithmetic(
+                Arithmetic::Plus,
+                NumberSort::Duration,
+                OperandSort::Duration,
+            )
         }
         _ => scaled(Arithmetic::Plus, left, right),
     }
 }
 
-fn subtracted(left: Kind, right: Kind) -> Option<TypedOperation>
+fn subtracted(left: OperandSort, right: OperandSort) -> Option<TypedOperation>
     ensures { result ≡ kinds.subtracted left right }
 {
     match (left, right) {
-        (Kind::Time, Kind::Duration | Kind::Free) => {
-            arithmetic(Arithmetic::Minus, NumberSort::Time, Kind::Time)
+        (OperandSort::Time, OperandSort::Duration | OperandSort::Free) => {
+            arithmetic(Arithmetic::Minus, NumberSort::Time, OperandSort::Time)
         }
-        (Kind::Time | Kind::Free, Kind::Time)
-        | (Kind::Duration, Kind::Duration | Kind::Free)
-        | (Kind::Free, Kind::Duration) => {
-            arithmetic(Arithmetic::Minus, NumberSort::Duration, Kind::Duration)
+        (OperandSort::Time | OperandSort::Free, OperandSort::Time)
+        | (OperandSort::Duration, OperandSort::Duration | OperandSort::Free)
+        | (OperandSort::Free, OperandSort::Duration) => {
+            arithmetic(
+                Arithmetic::Minus,
+                NumberSort::Duration,
+                OperandSort::Duration,
+            )
         }
         _ => scaled(Arithmetic::Minus, left, right),
     }
 }
 
-fn ordered(comparison: Comparison, left: Kind, right: Kind) -> Option<TypedOperation>
+fn ordered(comparison: Comparison, left: OperandSort, right: OperandSort) -> Option<TypedOperation>
     ensures { result ≡ kinds.ordered comparison left right }
 {
     match (left, right) {
-        (Kind::Free, Kind::Free)
-        | (Kind::Free | Kind::Integer, Kind::Integer)
-        | (Kind::Integer, Kind::Free)
-        | (Kind::Free | Kind::Time, Kind::Time)
-        | (Kind::Time, Kind::Free)
-        | (Kind::Free | Kind::Duration, Kind::Duration)
-        | (Kind::Duration, Kind::Free) => truth(Operation::Comparison(comparison)),
+        (OperandSort::Free, OperandSort::Free)
+        | (OperandSort::Free | OperandSort::Integer, OperandSort::Integer)
+        | (OperandSort::Integer, OperandSort::Free)
+        | (OperandSort::Free | OperandSort::Time, OperandSort::Time)
+        | (OperandSort::Time, OperandSort::Free)
+        | (OperandSort::Free | OperandSort::Duration, OperandSort::Duration)
+        | (OperandSort::Duration, OperandSort::Free) => truth(Operation::Comparison(comparison)),
         _ => None,
     }
 }
 
-fn compared(comparison: Comparison, left: Kind, right: Kind) -> Option<TypedOperation>
+fn compared(comparison: Comparison, left: OperandSort, right: OperandSort) -> Option<TypedOperation>
     ensures { result ≡ kinds.compared comparison left right }
 {
     match (left, right) {
-        (Kind::Boolean, Kind::Boolean) | (Kind::Pid, Kind::Pid) => {
+        (OperandSort::Boolean, OperandSort::Boolean) | (OperandSort::Pid, OperandSort::Pid) => {
             truth(Operation::Comparison(comparison))
         }
         _ => ordered(comparison, left, right),
     }
 }
 
-fn joined(logic: Logic, left: Kind, right: Kind) -> Option<TypedOperation>
+fn joined(logic: Logic, left: OperandSort, right: OperandSort) -> Option<TypedOperation>
     ensures { result ≡ kinds.joined logic left right }
 {
     match (left, right) {
-        (Kind::Boolean, Kind::Boolean) => truth(Operation::Logic(logic)),
+        (OperandSort::Boolean, OperandSort::Boolean) => truth(Operation::Logic(logic)),
         _ => None,
     }
 }

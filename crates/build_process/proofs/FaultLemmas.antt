@@ -1,8 +1,8 @@
 -- Passes one behind another.
 use Rattle.std.proofs.Common.{◌≡◌, ◌∙◌, ◌++◌, ℕ, Bool, List, Option, OnOk, Result, Ok, Err, ap, append_assoc, flat_map}
 use Rattle.build_faults.proofs.FaultLemmas.{both_noted}
-use Rattle.build_faults.specs.Faults.{Told, least_of}
-use Rattle.build_limits.specs.Limits.{different}
+use Rattle.build_faults.specs.Faults.{Diagnostic, least_of}
+use Rattle.build_labels.specs.States.{different}
 use Rattle.build_states.specs.States.{is_named, left_out_faults, named_faults, names_in, process_faults}
 use Rattle.build_states.proofs.ProcessLemmas.{left_out-same}
 use Rattle.build_stimuli.specs.Context.{Context}
@@ -10,9 +10,9 @@ use Rattle.build_stimuli.specs.Reading.{Part, body_faults, process_read}
 use Rattle.sdl_tree.specs.Tree.{ProcessDefinition}
 use Rattle.sdl_tree.specs.Words.{Spot}
 use Rattle.build_process.specs.Faulty.{NotesBody, NotesFlow, flow_faults}
-use Rattle.build_process.specs.Surroundings.{Surroundings, for_stimuli}
+use Rattle.build_process.specs.ProcessScope.{ProcessScope, for_stimuli}
 
-pub two-noted : (old first second : Option Told) (xs ys : List Told) → first ≡ least_of old xs →
+pub two-noted : (old first second : Option Diagnostic) (xs ys : List Diagnostic) → first ≡ least_of old xs →
     second ≡ least_of first ys → second ≡ least_of old (xs ++ ys)
 two-noted old first second xs ys one two = two ∙ ap (λ t. least_of t ys) one ∙ both_noted old xs ys
 
@@ -23,7 +23,7 @@ on-ok (Err e) p = tt
 
 -- the faults of stimuli and of names behind asterisks, then those of the states
 pub states-noted : (context : Context) (process : ProcessDefinition) (test : List ℕ → Bool) (parts : List Part)
-    (names : List Spot) (old first second : Option Told) →
+    (names : List Spot) (old first second : Option Diagnostic) →
     ((text : List ℕ) → test text ≡ is_named (names_in process.body) text) →
     parts ≡ (process_read context process).parts → names ≡ different (names_in process.body) →
     first ≡ least_of old (body_faults context process.body ++ flat_map (left_out_faults test) process.body) →
@@ -37,13 +37,14 @@ states-noted context process test parts names old first second same parts-are na
     ∙ ap (λ list. least_of old ((faults ++ list) ++ flat_map (named_faults parts) names))
     (left_out-same test (is_named (names_in process.body)) same process.body)
     ∙ ap (λ list. least_of old ((faults ++ left_out) ++ flat_map (named_faults list) names)) parts-are
-    ∙ ap (λ list. least_of old ((faults ++ left_out) ++ flat_map (named_faults (process_read context process).parts) list))
+    ∙ ap (λ list. least_of old ((faults ++ left_out)
+    ++ flat_map (named_faults (process_read context process).parts) list))
     names-are
     ∙ ap (least_of old) (append_assoc faults left_out
     (flat_map (named_faults (process_read context process).parts) (different (names_in process.body))))
 
 -- the faults of the transitions behind those of the states
-pub body-noted : (around : Surroundings) (process : ProcessDefinition) (old first second : Option Told) →
+pub body-noted : (around : ProcessScope) (process : ProcessDefinition) (old first second : Option Diagnostic) →
     first ≡ least_of old (process_faults (for_stimuli around) process) → NotesFlow around process first second →
     NotesBody around process old second
 body-noted around process old first second one flow = record {

@@ -20,7 +20,7 @@ use Rattle.build_state_tables.proofs.MeaningLemmas.{states-mean}
 use Rattle.sdl_tree.specs.Tree.{ProcessDefinition}
 use Rattle.build_process.specs.Made.{IsMade, MadeOf, Said}
 use Rattle.build_process.specs.Meant.{IsBehaviour}
-use Rattle.build_process.specs.Surroundings.{Surroundings, for_stimuli, for_transitions}
+use Rattle.build_process.specs.ProcessScope.{ProcessScope, for_stimuli, for_transitions}
 use Rattle.build_process.specs.declared.heading.Heading.{Heading}
 use Rattle.build_process.proofs.WithinLemmas.{meanings-within, names-within, table_within, tables-within}
 
@@ -29,10 +29,11 @@ terms-listed : (list : List Expression) →
 terms-listed [] = refl
 terms-listed (expression ∷ list) = ap (λ rest. Some (term_of expression) ∷ rest) (terms-listed list)
 
-module _ (around : Surroundings) (definition : ProcessDefinition) (heading : Heading) (said : Said)
+module _ (around : ProcessScope) (definition : ProcessDefinition) (heading : Heading) (said : Said)
     (transitions : Transitions) (flow : AreTransitionsOf (for_transitions around) definition (Some transitions))
     (each : length transitions.entries.items ≡ length (beginnings definition))
-    (conditions : conditions_listed said.conditions ≡ (process_read (for_stimuli around) definition).numbering.conditions)
+    (conditions : conditions_listed said.conditions
+    ≡ (process_read (for_stimuli around) definition).numbering.conditions)
     (says : meanings_at said.names (tables_at said.tables said.numbers)
     ≡ map Some (states_of (for_stimuli around) definition.body)) where
   process-means : (process : Process) → IsMade around.signals said transitions heading process →

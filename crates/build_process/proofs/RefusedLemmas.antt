@@ -16,7 +16,7 @@ use Rattle.sdl_tree.specs.Tree.{ProcessDefinition}
 use Rattle.build_process.specs.Made.{IsMissing, MadeOf, Said, no_condition, no_entry, no_start}
 use Rattle.build_process.specs.Refused as refused
 use Rattle.build_process.specs.Refused.{IsRefused}
-use Rattle.build_process.specs.Surroundings.{Surroundings, for_stimuli, for_transitions}
+use Rattle.build_process.specs.ProcessScope.{ProcessScope, for_stimuli, for_transitions}
 use Rattle.build_process.specs.declared.heading.Heading.{Heading}
 
 no-term : (conditions : List (Option Expression)) → Contains conditions None →
@@ -32,7 +32,7 @@ has-first n (entry ∷ entries) long none = let never : true ≡ false = ap is_s
 each-listed : {A : Type 0} (P : A → Type 0) (xs : List A) (x : A) → All P xs → Contains xs x → P x
 each-listed P xs x all (k, less, is) = subst P is (all k x less)
 
-module _ (around : Surroundings) (process : ProcessDefinition) where
+module _ (around : ProcessScope) (process : ProcessDefinition) where
   pub no-flow : (found : Option Transitions) → found ≡ None →
       AreTransitionsOf (for_transitions around) process found → IsRefused around process
   no-flow found none flow =
@@ -40,7 +40,8 @@ module _ (around : Surroundings) (process : ProcessDefinition) where
 
   module _ (said : Said) (transitions : Transitions)
       (each : length transitions.entries.items ≡ length (beginnings process))
-      (conditions : conditions_listed said.conditions ≡ (process_read (for_stimuli around) process).numbering.conditions)
+      (conditions : conditions_listed said.conditions
+      ≡ (process_read (for_stimuli around) process).numbering.conditions)
       (tables : All (IsOfName (process_read (for_stimuli around) process).parts) said.tables) where
     missing-refused : IsMissing said transitions.entries.items → IsRefused around process
     missing-refused (no_condition listed) =

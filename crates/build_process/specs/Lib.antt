@@ -3,4 +3,4 @@ pub mod Faulty
 pub mod Made
 pub mod Meant
 pub mod Refused
-pub mod Surroundings
+pub mod ProcessScope

@@ -11,7 +11,7 @@ use Rattle.sdl_system.specs.Behaviour.{Behaviour, variable_meaning}
 use Rattle.sdl_system.specs.Signal.{is_member}
 use Rattle.build_state_tables.specs.Meant.{IsMeaning}
 use Rattle.sdl_tree.specs.Tree.{ProcessDefinition}
-use Rattle.build_process.specs.Surroundings.{Surroundings, for_stimuli, for_transitions}
+use Rattle.build_process.specs.ProcessScope.{ProcessScope, for_stimuli, for_transitions}
 use Rattle.build_process.specs.declared.heading.Heading.{Heading}
 
 -- a state names no other signals than so many
@@ -20,7 +20,7 @@ NamesSignals count state = (signal : SignalId) → count ≤ signal.0 → state.
 
 -- Its transitions do what their bodies say: each has one, and each path through them ends; the transition of the start
 -- has the number 0. Its states mean what they say, where each condition stands for what it comes to.
-pub record IsBehaviour (around : Surroundings) (process : ProcessDefinition) (heading : Heading)
+pub record IsBehaviour (around : ProcessScope) (process : ProcessDefinition) (heading : Heading)
     (behaviour : Behaviour) : Type 0 where
   pub variables : map variable_meaning heading.variables.items ≡ behaviour.variables
   pub parameters : heading.parameters ≡ behaviour.parameters

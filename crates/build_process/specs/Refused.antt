@@ -11,9 +11,9 @@ use Rattle.sdl_system.specs.declared.id.NodeId.{NodeId}
 use Rattle.build_signal_classes.specs.Linked.{Lacks}
 use Rattle.sdl_tree.specs.Tree.{ProcessDefinition}
 use Rattle.sdl_tree.specs.Words.{Spot}
-use Rattle.build_process.specs.Surroundings.{Surroundings, for_stimuli, for_transitions}
+use Rattle.build_process.specs.ProcessScope.{ProcessScope, for_stimuli, for_transitions}
 
-pub data IsRefused (around : Surroundings) (process : ProcessDefinition) : Type 0 where
+pub data IsRefused (around : ProcessScope) (process : ProcessDefinition) : Type 0 where
   -- a transition has no body or a path without an end, or the labels aren't numbered
   no_flow : ((bodies : List Body) → bodies_of (for_transitions around) process ≡ map Some bodies
       → ends_faults process ≡ [] → AreNumbered (for_transitions around) process → ⊥) → IsRefused around process

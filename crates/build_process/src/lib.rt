@@ -10,8 +10,8 @@ mod condition;
 mod heading;
 mod making;
 mod process;
-mod surroundings;
+mod process_scope;
 
 pub use heading::Heading;
 pub use process::make_process;
-pub use surroundings::Surroundings;
+pub use process_scope::ProcessScope;

@@ -6,8 +6,8 @@ ghost use Rattle.build_process.specs.Made.{MadeOf};
 
 use crate::condition::whole;
 use crate::heading::Heading;
-use crate::surroundings::Surroundings;
-use build_signal_classes::Basis;
+use crate::process_scope::ProcessScope;
+use build_signal_classes::TableParts;
 use build_state_tables::make_tables;
 use build_states::StateTables;
 use build_stimuli::TransitionId;
@@ -19,7 +19,7 @@ use std::alloc::{AllocError, Global};
 /// in a condition, or a transition has no entry.
 pub(crate) fn process_of(
     alloc: Global,
-    around: &Surroundings<'_, '_, '_>,
+    around: &ProcessScope<'_, '_, '_>,
     heading: Heading,
     said: &StateTables<'_>,
     conditions: Vec<Option<Expression>>,
@@ -38,12 +38,12 @@ pub(crate) fn process_of(
     let Some(start) = transitions.entry(TransitionId(0)) else {
         return Ok(None);
     };
-    let basis = Basis {
+    let parts = TableParts {
         entries: &transitions.entries,
         valid: &heading.valid,
         signals: around.signals,
     };
-    let Some(tables) = make_tables(alloc, basis, around.states.names, said)? else {
+    let Some(tables) = make_tables(alloc, parts, around.states.names, said)? else {
         return Ok(None);
     };
     Ok(Some(Process {

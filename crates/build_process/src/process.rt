@@ -4,8 +4,8 @@ ghost use Rattle.std.specs.Prelude.{◌≡◌, ◌≤◌, ◌++◌, ℕ, All, Li
 ghost use Rattle.build_transitions.specs.Added.{HasEach};
 ghost use Rattle.build_transitions.specs.Sound.{AreTransitionsOf};
 ghost use Rattle.flow_paths.specs.Beginnings.{beginnings};
-ghost use Rattle.build_faults.specs.Faults.{least_of, told};
-ghost use Rattle.build_limits.specs.Limits.{different};
+ghost use Rattle.build_faults.specs.Faults.{Notes};
+ghost use Rattle.build_labels.specs.States.{different};
 ghost use Rattle.build_states.specs.States.{is_named, left_out_faults, names_in};
 ghost use Rattle.build_states.specs.Tabled.{is_state, names_listed};
 ghost use Rattle.build_stimuli.specs.Listed.{reading_value};
@@ -17,11 +17,11 @@ ghost use Rattle.build_process.specs.Faulty.{NotesBody, NotesFlow};
 ghost use Rattle.build_process.specs.Made.{IsHeaded};
 ghost use Rattle.build_process.specs.Meant.{IsBehaviour};
 ghost use Rattle.build_process.specs.Refused.{IsRefused};
-ghost use Rattle.build_process.specs.Surroundings.{for_stimuli, for_transitions, surroundings_of};
+ghost use Rattle.build_process.specs.ProcessScope.{for_stimuli, for_transitions, process_scope_of};
 
 use crate::heading::Heading;
 use crate::making::process_of;
-use crate::surroundings::Surroundings;
+use crate::process_scope::ProcessScope;
 use build_faults::Faults;
 use build_states::{note_left_out, read_states};
 use build_stimuli::{Reading, read_body};
@@ -41,7 +41,7 @@ use std::alloc::{AllocError, Global};
 /// `nextstate -` that the start reaches.
 pub fn make_process<'t>(
     alloc: Global,
-    around: &Surroundings<'_, '_, 't>,
+    around: &ProcessScope<'_, '_, 't>,
     heading: Heading,
     definition: &'t ProcessDefinition,
     faults: &mut Faults<'t>,
@@ -50,13 +50,13 @@ pub fn make_process<'t>(
         ≡ different (names_in (process_value definition.now).body) }
     requires table { (text : List ℕ) → is_state around.now.states.table.now text
         ≡ is_named (names_in (process_value definition.now).body) text }
-    ensures noted { OnOk result (NotesBody (surroundings_of around.now) (process_value definition.now)
-        (told faults.old) (told faults.new)) }
+    ensures noted { OnOk result (NotesBody (process_scope_of around.now) (process_value definition.now)
+        faults.old faults.new) }
     ensures there { IfOk result (λ made. IfNone made
-        (IsRefused (surroundings_of around.now) (process_value definition.now))) }
+        (IsRefused (process_scope_of around.now) (process_value definition.now))) }
     ensures headed { IfOk result (λ made. IfSome made (IsHeaded heading)) }
     ensures means { IfOk result (λ made. IfSome made (λ process. (behaviour : Behaviour)
-        → IsBehaviour (surroundings_of around.now) (process_value definition.now) heading behaviour
+        → IsBehaviour (process_scope_of around.now) (process_value definition.now) heading behaviour
         → Means process behaviour)) }
     ensures keeps { IfOk result (λ made. IfSome made (λ process. length heading.valid ≤ around.now.signals
         → All (Keeps around.now.signals process) process.tables.items)) }
@@ -79,14 +79,14 @@ pub fn make_process<'t>(
 /// The parts of the process. Noted are the faults of its stimuli, and `NoState` at names behind asterisks.
 fn read_parts<'t>(
     alloc: Global,
-    around: &Surroundings<'_, '_, 't>,
+    around: &ProcessScope<'_, '_, 't>,
     definition: &'t ProcessDefinition,
     faults: &mut Faults<'t>,
 ) -> Result<Reading<'t>, AllocError>
     ensures read { IfOk result (λ read. reading_value read
-        ≡ reading.process_read (for_stimuli (surroundings_of around.now)) (process_value definition.now)) }
-    ensures noted { OnOk result (told faults.new ≡ least_of (told faults.old)
-        (reading.body_faults (for_stimuli (surroundings_of around.now)) (process_value definition.now).body
+        ≡ reading.process_read (for_stimuli (process_scope_of around.now)) (process_value definition.now)) }
+    ensures noted { OnOk result (Notes faults.old faults.new
+        (reading.body_faults (for_stimuli (process_scope_of around.now)) (process_value definition.now).body
         ++ flat_map (left_out_faults (is_state around.now.states.table.now)) (process_value definition.now).body)) }
 {
     let context = around.for_stimuli();
@@ -98,16 +98,16 @@ fn read_parts<'t>(
 /// The transitions of the process. Noted are the faults of their statements and of how they end.
 fn read_flow<'t>(
     alloc: Global,
-    around: &Surroundings<'_, '_, 't>,
+    around: &ProcessScope<'_, '_, 't>,
     definition: &'t ProcessDefinition,
     faults: &mut Faults<'t>,
 ) -> Result<Option<Transitions>, AllocError>
-    ensures table { IfOk result (λ transitions. AreTransitionsOf (for_transitions (surroundings_of around.now))
+    ensures table { IfOk result (λ transitions. AreTransitionsOf (for_transitions (process_scope_of around.now))
         (process_value definition.now) transitions) }
     ensures entries { IfOk result (λ transitions.
         HasEach (length (beginnings (process_value definition.now))) transitions) }
-    ensures noted { OnOk result (NotesFlow (surroundings_of around.now) (process_value definition.now)
-        (told faults.old) (told faults.new)) }
+    ensures noted { OnOk result (NotesFlow (process_scope_of around.now) (process_value definition.now)
+        faults.old faults.new) }
 {
     let context = around.for_transitions();
     let transitions = transitions_of(alloc, &context, definition, faults)?;

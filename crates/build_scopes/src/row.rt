@@ -1,14 +1,14 @@
 //! The names of scopes that are numbered.
 
 ghost use Rattle.std.specs.Prelude.{◌≡◌, ◌==◌, ◌++◌, ℕ, ◌<◌, [], is_some, length, string_bytes, OnOk};
-ghost use Rattle.build_faults.specs.Faults.{fault_if, least_of, told};
-ghost use Rattle.build_limits.specs.Names.{first_of, names_in};
-ghost use Rattle.build_faults.specs.declared.fault.Kind.TheVariants.{Duplicate};
+ghost use Rattle.build_faults.specs.Faults.{Notes, fault_if};
+ghost use Rattle.build_scopes.specs.Names.{first_of, names_in};
+ghost use Rattle.build_faults.specs.declared.fault.Rule.TheVariants.{Duplicate};
 ghost use Rattle.build_scopes.specs.Spaces.{entry_if, names_at};
 ghost use Rattle.sdl_tree.specs.Views.{name_value};
 
+use crate::names::Names;
 use build_faults::Faults;
-use build_limits::Names;
 use sdl_tree::Name;
 use std::alloc::{AllocError, Global};
 
@@ -51,7 +51,7 @@ impl<'t, T: Copy> Row<'t, T> {
     ) -> Result<(), AllocError>
         ensures declared { OnOk result ((other : ℕ) → names_at self.new other
             ≡ names_at self.old other ++ entry_if (number == other) (string_bytes name.now.text) what) }
-        ensures noted { OnOk result (told faults.new ≡ least_of (told faults.old)
+        ensures noted { OnOk result (Notes faults.old faults.new
             (fault_if (is_some (first_of (names_at self.old number) (string_bytes name.now.text))) Duplicate
             (name_value name.now))) }
     {

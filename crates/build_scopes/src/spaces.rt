@@ -1,18 +1,18 @@
 //! The names of one name space, by their scopes.
 
 ghost use Rattle.std.specs.Prelude.{◌≡◌, ◌++◌, [], is_some, string_bytes, OnOk};
-ghost use Rattle.build_faults.specs.Faults.{fault_if, least_of, told};
-ghost use Rattle.build_limits.specs.Names.{first_of, names_in};
-ghost use Rattle.build_faults.specs.declared.fault.Kind.TheVariants.{Duplicate};
+ghost use Rattle.build_faults.specs.Faults.{Notes, fault_if};
+ghost use Rattle.build_scopes.specs.Names.{first_of, names_in};
+ghost use Rattle.build_faults.specs.declared.fault.Rule.TheVariants.{Duplicate};
 ghost use Rattle.build_scopes.specs.Spaces.{block_names, entry_if, is_same_scope, names_of, process_names, seen_in};
 ghost use Rattle.build_scopes.specs.declared.scope.ScopeId as scopes;
 ghost use Rattle.build_scopes.specs.declared.scope.ScopeId.TheVariants as scope;
 ghost use Rattle.sdl_tree.specs.Views.{name_value};
 
+use crate::names::{Names, Outward};
 use crate::row::Row;
 use crate::scope::{ScopeId, ScopePath};
 use build_faults::Faults;
-use build_limits::{Names, Outward};
 use sdl_system::{BlockId, ProcessId};
 use sdl_tree::Name;
 use std::alloc::{AllocError, Global};
@@ -58,7 +58,7 @@ impl<'t, T: Copy> Spaces<'t, T> {
     ) -> Result<(), AllocError>
         ensures declared { OnOk result ((other : scopes.ScopeId) → names_of self.new other
             ≡ names_of self.old other ++ entry_if (is_same_scope scope other) (string_bytes name.now.text) what) }
-        ensures noted { OnOk result (told faults.new ≡ least_of (told faults.old)
+        ensures noted { OnOk result (Notes faults.old faults.new
             (fault_if (is_some (first_of (names_of self.old scope) (string_bytes name.now.text))) Duplicate
             (name_value name.now))) }
     {

@@ -2,8 +2,8 @@
 //! true (Z.101: input, save; Z.102: priority input, enabling condition).
 #![tactic(auto)]
 
-mod basis;
 mod selection;
+mod table_parts;
 
-pub use basis::Basis;
 pub use selection::selection_of;
+pub use table_parts::TableParts;

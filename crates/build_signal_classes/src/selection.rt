@@ -3,7 +3,7 @@
 ghost use Rattle.std.specs.Prelude.{◌≡◌, IfOk, option_copied};
 ghost use Rattle.build_signal_classes.specs.Linked.{AreClasses, choice_by};
 
-use crate::basis::Basis;
+use crate::table_parts::TableParts;
 use port_model::Selection;
 use port_values::SignalId;
 use sdl_system::{Choice, Reaction, Reactions, SignalSet};
@@ -13,16 +13,16 @@ use std::alloc::{AllocError, Global};
 /// the others of the valid input set.
 pub fn selection_of(
     alloc: Global,
-    basis: Basis<'_>,
+    parts: TableParts<'_>,
     reactions: &Reactions,
     rest: Option<&Reaction>,
 ) -> Result<Selection, AllocError>
-    ensures { IfOk result (AreClasses basis.entry.signals basis.entry.valid.now reactions.now
+    ensures { IfOk result (AreClasses parts.entry.signals parts.entry.valid.now reactions.now
         (option_copied rest.entry)) }
 {
     let mut classes = Vec::new(alloc);
-    for number in 0..basis.signals {
-        let choice = choice_by(basis.valid, reactions, rest, SignalId(number));
+    for number in 0..parts.signals {
+        let choice = choice_by(parts.valid, reactions, rest, SignalId(number));
         classes.push(choice.class)?;
     }
     Ok(Selection::new(classes))

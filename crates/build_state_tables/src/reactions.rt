@@ -7,7 +7,7 @@ ghost use Rattle.sdl_system.specs.State.{named_reaction, same_signal};
 ghost use Rattle.build_signal_classes.specs.Linked.{ReactionsOf, RestOf};
 
 use crate::reaction::reaction_of;
-use build_signal_classes::Basis;
+use build_signal_classes::TableParts;
 use build_states::Named;
 use build_stimuli::Response;
 use indexmap::IndexMap;
@@ -18,16 +18,16 @@ use std::alloc::{AllocError, Global};
 /// The reactions to the signals that a state names. None where a transition has no entry.
 pub fn reactions_of(
     alloc: Global,
-    basis: Basis<'_>,
+    parts: TableParts<'_>,
     named: &Named<'_>,
 ) -> Result<Option<Reactions>, AllocError>
-    ensures { IfOk result (ReactionsOf basis.entry.entries.now basis.entry.signals named.now) }
+    ensures { IfOk result (ReactionsOf parts.entry.entries.now parts.entry.signals named.now) }
 {
     let mut by_signal = IndexMap::new(alloc);
-    for number in 0..basis.signals {
+    for number in 0..parts.signals {
         let signal = SignalId(number);
         if let Some(response) = named.get(signal) {
-            let Some(reaction) = reaction_of(alloc, basis.entries, response)? else {
+            let Some(reaction) = reaction_of(alloc, parts.entries, response)? else {
                 return Ok(None);
             };
             add(&mut by_signal, signal, reaction)?;

@@ -7,7 +7,7 @@ ghost use Rattle.build_state_tables.specs.Meant.{StatesMean};
 ghost use Rattle.build_state_tables.specs.Stated.{TablesOf, state_value, states_listed};
 
 use crate::table::make_table;
-use build_signal_classes::Basis;
+use build_signal_classes::TableParts;
 use build_states::{StateTables, Table};
 use sdl_system::{State, StateTable, TableId};
 use sdl_tree::Name;
@@ -27,21 +27,21 @@ pub struct Tables {
 /// A table costs a step for each signal of the system, and one for each condition and continuous signal.
 pub fn make_tables(
     alloc: Global,
-    basis: Basis<'_>,
+    parts: TableParts<'_>,
     names: &[&Name],
     said: &StateTables<'_>,
 ) -> Result<Option<Tables>, AllocError>
-    ensures tables { IfOk result (λ made. TablesOf basis.entry.entries.now basis.entry.valid.now basis.entry.signals
+    ensures tables { IfOk result (λ made. TablesOf parts.entry.entries.now parts.entry.valid.now parts.entry.signals
         (map table_value said.now.tables.items) (option_map (λ made. made.tables.items) made)) }
     ensures states { IfOk result (λ made. IfSome made (λ made. map state_value made.states.items
         ≡ states_listed (names_listed names.now) said.now.of_states.items)) }
-    ensures means { IfOk result (λ made. IfSome made (λ made. StatesMean basis.entry.entries.now basis.entry.signals
+    ensures means { IfOk result (λ made. IfSome made (λ made. StatesMean parts.entry.entries.now parts.entry.signals
         (names_listed names.now) (map table_value said.now.tables.items) said.now.of_states.items made.states.items
         made.tables.items)) }
-    ensures agree { IfOk result (λ made. IfSome made (λ made. TablesAgree basis.entry.valid.now basis.entry.signals
+    ensures agree { IfOk result (λ made. IfSome made (λ made. TablesAgree parts.entry.valid.now parts.entry.signals
         (map table_value said.now.tables.items) made.tables.items)) }
 {
-    let Some(tables) = tables_of(alloc, basis, &said.tables)? else {
+    let Some(tables) = tables_of(alloc, parts, &said.tables)? else {
         return Ok(None);
     };
     let states = states_of(alloc, names, &said.of_states)?;
@@ -50,15 +50,15 @@ pub fn make_tables(
 
 fn tables_of(
     alloc: Global,
-    basis: Basis<'_>,
+    parts: TableParts<'_>,
     said: &[Table<'_>],
 ) -> Result<Option<Vec<StateTable>>, AllocError>
-    ensures { IfOk result (λ made. TablesOf basis.entry.entries.now basis.entry.valid.now basis.entry.signals
+    ensures { IfOk result (λ made. TablesOf parts.entry.entries.now parts.entry.valid.now parts.entry.signals
         (map table_value said.now) (option_map (λ made. made.items) made)) }
 {
     let mut tables = Vec::new(alloc);
     for one in said {
-        let Some(table) = make_table(alloc, basis, one)? else {
+        let Some(table) = make_table(alloc, parts, one)? else {
             return Ok(None);
         };
         tables.push(table)?;

@@ -7,7 +7,7 @@ ghost use Rattle.build_signal_classes.specs.Linked.{AreClasses, TableOf, enablin
 use crate::condition::conditions_of;
 use crate::continuous::continuous_of;
 use crate::reactions::{reactions_of, rest_of};
-use build_signal_classes::{Basis, selection_of};
+use build_signal_classes::{TableParts, selection_of};
 use build_states::Table;
 use sdl_system::{ConditionId, Continuous, Reaction, Reactions, StateTable};
 use std::alloc::{AllocError, Global};
@@ -15,44 +15,44 @@ use std::alloc::{AllocError, Global};
 /// What the states do that say this. None where a transition has no entry.
 pub fn make_table(
     alloc: Global,
-    basis: Basis<'_>,
+    parts: TableParts<'_>,
     said: &Table<'_>,
 ) -> Result<Option<StateTable>, AllocError>
-    ensures { IfOk result (TableOf basis.entry.entries.now basis.entry.valid.now basis.entry.signals
+    ensures { IfOk result (TableOf parts.entry.entries.now parts.entry.valid.now parts.entry.signals
         (table_value said.now)) }
 {
-    let Some(reactions) = reactions_of(alloc, basis, &said.answers.named)? else {
+    let Some(reactions) = reactions_of(alloc, parts, &said.answers.named)? else {
         return Ok(None);
     };
-    let Some(rest) = rest_of(alloc, basis.entries, said.answers.rest)? else {
+    let Some(rest) = rest_of(alloc, parts.entries, said.answers.rest)? else {
         return Ok(None);
     };
-    let Some(continuous) = continuous_of(alloc, basis.entries, &said.continuous)? else {
+    let Some(continuous) = continuous_of(alloc, parts.entries, &said.continuous)? else {
         return Ok(None);
     };
-    let table = table_with(alloc, basis, reactions, rest, continuous, &said.enabling)?;
+    let table = table_with(alloc, parts, reactions, rest, continuous, &said.enabling)?;
     Ok(Some(table))
 }
 
 /// The table in which this is done with the signals that are named, with the others, and by continuous signals.
 fn table_with(
     alloc: Global,
-    basis: Basis<'_>,
+    parts: TableParts<'_>,
     reactions: Reactions,
     rest: Option<Reaction>,
     continuous: Vec<Continuous>,
     enabling: &[ConditionId],
 ) -> Result<StateTable, AllocError>
-    ensures classes { IfOk result (λ table. AreClasses basis.entry.signals basis.entry.valid.now reactions rest
+    ensures classes { IfOk result (λ table. AreClasses parts.entry.signals parts.entry.valid.now reactions rest
         table.selection) }
     ensures conditions { IfOk result (λ table. map enabling_value table.conditions.items
-        ≡ map (waits_for reactions basis.entry.signals rest) enabling.now) }
+        ≡ map (waits_for reactions parts.entry.signals rest) enabling.now) }
     ensures reactions { IfOk result (λ table. table.reactions ≡ reactions) }
     ensures rest { IfOk result (λ table. table.rest ≡ rest) }
     ensures continuous { IfOk result (λ table. table.continuous ≡ continuous) }
 {
-    let selection = selection_of(alloc, basis, &reactions, rest.as_ref())?;
-    let conditions = conditions_of(alloc, basis.signals, &reactions, rest.as_ref(), enabling)?;
+    let selection = selection_of(alloc, parts, &reactions, rest.as_ref())?;
+    let conditions = conditions_of(alloc, parts.signals, &reactions, rest.as_ref(), enabling)?;
     Ok(StateTable {
         selection,
         reactions,

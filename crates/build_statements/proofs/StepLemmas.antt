@@ -3,7 +3,7 @@ use Rattle.std.proofs.Common.{◌≡◌, ◌∙◌, ℕ, ◌+◌, ◌<◌, ◌++
 use Rattle.std.proofs.lemmas.Grind.{take_at_read}
 use Rattle.std.proofs.lemmas.List.{map-append}
 use Rattle.build_faults.proofs.FaultLemmas.{both_noted}
-use Rattle.build_faults.specs.Faults.{Told, least_of}
+use Rattle.build_faults.specs.Faults.{Diagnostic, least_of}
 use Rattle.build_statements.proofs.ListLemmas.{flat_map-last}
 
 module _ {A B : Type 0} (g : A → B) (xs : List A) (i : ℕ) (x : A) (below : i < length xs) (is : x ≡ get_or xs i x) where
@@ -47,7 +47,7 @@ module _ {A B : Type 0} (g : A → B) (xs : List A) (i : ℕ) (x : A) (below : i
       ∙ ap (map f) taken-next)
 
   -- its faults are noted behind those of the others
-  pub noted-next : (faults : B → List Told) (old before after : Option Told) →
+  pub noted-next : (faults : B → List Diagnostic) (old before after : Option Diagnostic) →
       before ≡ least_of old (flat_map faults (map g (take i xs))) → after ≡ least_of before (faults (g x)) →
       after ≡ least_of old (flat_map faults (map g (take (i + 1) xs)))
   noted-next faults old before after noted here =

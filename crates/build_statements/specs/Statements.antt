@@ -10,7 +10,7 @@ use Rattle.build_expressions.specs.Partial.{all_some, both}
 use Rattle.build_expressions.specs.Scope.{AgentMeaning, Scope, SignalMeaning, agent_in, block, process, signal, signal_in, timer, value_in}
 use Rattle.build_expressions.specs.Typing.{Typed, argument_in, taken_term, taken_terms, typed_in}
 use Rattle.build_expressions.specs.declared.context.Context.TheVariants.{Transition}
-use Rattle.build_operators.specs.declared.kind.Kind.{Kind}
+use Rattle.build_operators.specs.declared.operand_sort.OperandSort.{OperandSort}
 use Rattle.build_expressions.specs.declared.scope.ValueMeaning.{ValueMeaning}
 use Rattle.build_expressions.specs.declared.scope.ValueMeaning.TheVariants as meant
 use Rattle.sdl_system.specs.Body as body
@@ -161,12 +161,12 @@ create_in context applied = created_as context applied.values (agent_in context.
 -- ---- decision
 
 -- the kind of the values of a question
-abbrev pub kind_in : Option Typed → Option Kind
+abbrev pub kind_in : Option Typed → Option OperandSort
 kind_in None = None
 kind_in (Some typed) = Some typed.kind
 
 -- the answers that lead to one part
-abbrev pub answers_in : Context → Option Kind → List tree.Answer → Option (List answers.Answer)
+abbrev pub answers_in : Context → Option OperandSort → List tree.Answer → Option (List answers.Answer)
 answers_in context question list = all_some (map (answer_in context.scope question) list)
 
 -- ---- terminators

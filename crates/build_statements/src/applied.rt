@@ -1,14 +1,14 @@
 //! Names with values behind them.
 
-ghost use Rattle.std.specs.Prelude.{◌≡◌, flat_map, map, OnOk};
+ghost use Rattle.std.specs.Prelude.{flat_map, map, OnOk};
 ghost use Rattle.build_statements.specs.Contexts.{context_of};
 ghost use Rattle.build_statements.specs.Faulty.{asked_faults, unknown_faults};
-ghost use Rattle.build_faults.specs.Faults.{least_of, told};
+ghost use Rattle.build_faults.specs.Faults.{Notes};
 ghost use Rattle.sdl_tree.specs.Views.{applied_value, expr_value};
 
 use crate::context::Context;
 use build_expressions::resolve;
-use build_faults::{Faults, Kind, Token};
+use build_faults::{Faults, Rule, Token};
 use sdl_tree::{Applied, Expression};
 use std::alloc::{AllocError, Global};
 
@@ -19,10 +19,10 @@ pub fn note_unknown<'t>(
     applied: &'t Applied,
     faults: &mut Faults<'t>,
 ) -> Result<(), AllocError>
-    ensures { OnOk result (told faults.new ≡ least_of (told faults.old) (unknown_faults (context_of context.now)
-        (applied_value applied.now).name (applied_value applied.now).values)) }
+    ensures { OnOk result (Notes faults.old faults.new
+        (unknown_faults (context_of context.now) (applied_value applied.now).name (applied_value applied.now).values)) }
 {
-    faults.note(Kind::Unknown, Token::of_name(&applied.name));
+    faults.note(Rule::Unknown, Token::of_name(&applied.name));
     note_each(alloc, context, &applied.values, faults)
 }
 
@@ -32,7 +32,7 @@ fn note_each<'t>(
     values: &'t [Expression],
     faults: &mut Faults<'t>,
 ) -> Result<(), AllocError>
-    ensures { OnOk result (told faults.new ≡ least_of (told faults.old)
+    ensures { OnOk result (Notes faults.old faults.new
         (flat_map (asked_faults (context_of context.now)) (map expr_value values.now))) }
 {
     for value in values {

@@ -4,7 +4,7 @@ ghost use Rattle.std.specs.Prelude.{◌≡◌, map, option_and_then, option_map,
 ghost use Rattle.build_statements.specs.Contexts.{context_of};
 ghost use Rattle.build_statements.specs.Faulty.{create_faults};
 ghost use Rattle.build_statements.specs.Statements.{create_in};
-ghost use Rattle.build_faults.specs.Faults.{least_of, told};
+ghost use Rattle.build_faults.specs.Faults.{Notes};
 ghost use Rattle.sdl_system.specs.Body.{create};
 ghost use Rattle.sdl_system.specs.Table.{action_of};
 ghost use Rattle.sdl_system.specs.Term.{term_of};
@@ -28,7 +28,7 @@ pub fn resolve_create<'t>(
 ) -> Result<Option<Statement>, AllocError>
     ensures create { IfOk result (λ found. option_and_then action_of found
         ≡ create_in (context_of context.now) (applied_value applied.now)) }
-    ensures noted { OnOk result (told faults.new ≡ least_of (told faults.old)
+    ensures noted { OnOk result (Notes faults.old faults.new
         (create_faults (context_of context.now) (applied_value applied.now))) }
 {
     let Some(AgentMeaning::Process { number, sorts }) = context.scope.agent(&applied.name.text)

@@ -4,8 +4,8 @@ ghost use Rattle.std.specs.Prelude.{◌≡◌, flat_map, map, option_and_then, o
 ghost use Rattle.build_statements.specs.Contexts.{context_of};
 ghost use Rattle.build_statements.specs.Faulty.{destination_faults, is_lost, output_faults, process_faults, sending_faults, whither_faults};
 ghost use Rattle.build_statements.specs.Statements.{agent_name, output_in, process_of, sending_in, sent_to, sent, whither_in};
-ghost use Rattle.build_faults.specs.Faults.{fault_if, least_of, told};
-ghost use Rattle.build_faults.specs.declared.fault.Kind.TheVariants.{NoRoute};
+ghost use Rattle.build_faults.specs.Faults.{Notes, fault_if};
+ghost use Rattle.build_faults.specs.declared.fault.Rule.TheVariants.{NoRoute};
 ghost use Rattle.build_expressions.specs.Partial.{all_some, both};
 ghost use Rattle.build_expressions.specs.Scope.{agent_in};
 ghost use Rattle.sdl_system.specs.Body.{output, to_pid};
@@ -18,7 +18,7 @@ use crate::applied::note_unknown;
 use crate::context::Context;
 use crate::list::all_there;
 use build_expressions::{AgentMeaning, SignalMeaning, resolve_for, resolve_values};
-use build_faults::{Faults, Kind, Token};
+use build_faults::{Faults, Rule, Token};
 use port_values::SignalId;
 use sdl_system::{Output, Sending, Sort, Statement};
 use sdl_tree::{Applied, Destination, Expression, Name};
@@ -38,8 +38,9 @@ pub fn resolve_output<'t>(
     ensures output { IfOk result (λ found. option_and_then action_of found
         ≡ output_in (context_of context.now) (map applied_value outputs.now)
         (option_map destination_value destination.now)) }
-    ensures noted { OnOk result (told faults.new ≡ least_of (told faults.old) (output_faults (context_of context.now)
-        (map applied_value outputs.now) (option_map destination_value destination.now))) }
+    ensures noted { OnOk result (Notes faults.old faults.new
+        (output_faults (context_of context.now) (map applied_value outputs.now)
+        (option_map destination_value destination.now))) }
 {
     let signals = resolve_signals(alloc, context, outputs, destination.is_some(), faults)?;
     let to = resolve_destination(alloc, context, destination, faults)?;
@@ -68,7 +69,7 @@ fn resolve_signals<'t>(
 ) -> Result<Option<Vec<Sending>>, AllocError>
     ensures signals { IfOk result (λ found. option_map (λ list. map sending list.items) found
         ≡ all_some (map (sending_in (context_of context.now)) (map applied_value outputs.now))) }
-    ensures noted { OnOk result (told faults.new ≡ least_of (told faults.old)
+    ensures noted { OnOk result (Notes faults.old faults.new
         (flat_map (sending_faults (context_of context.now) has_destination) (map applied_value outputs.now))) }
 {
     let mut found = Vec::new(alloc);
@@ -87,7 +88,7 @@ fn resolve_signal<'t>(
 ) -> Result<Option<Sending>, AllocError>
     ensures signal { IfOk result (λ found. option_map sending found
         ≡ sending_in (context_of context.now) (applied_value applied.now)) }
-    ensures noted { OnOk result (told faults.new ≡ least_of (told faults.old)
+    ensures noted { OnOk result (Notes faults.old faults.new
         (sending_faults (context_of context.now) has_destination (applied_value applied.now))) }
 {
     let Some(SignalMeaning::Signal { number, sorts }) = context.scope.signal(&applied.name.text)
@@ -125,11 +126,11 @@ fn note_lost<'t>(
     name: &'t Name,
     faults: &mut Faults<'t>,
 )
-    ensures { told faults.new ≡ least_of (told faults.old)
+    ensures { Notes faults.old faults.new
         (fault_if (is_lost (context_of context.now) has_destination signal) NoRoute (name_value name.now)) }
 {
     if !has_destination && !context.is_reaching(signal) {
-        faults.note(Kind::NoRoute, Token::of_name(name));
+        faults.note(Rule::NoRoute, Token::of_name(name));
     }
 }
 
@@ -141,7 +142,7 @@ fn resolve_destination<'t>(
 ) -> Result<Option<Option<sdl_system::Destination>>, AllocError>
     ensures to { IfOk result (λ found. option_map (option_map whither_view) found
         ≡ sent_to (context_of context.now) (option_map destination_value destination.now)) }
-    ensures noted { OnOk result (told faults.new ≡ least_of (told faults.old)
+    ensures noted { OnOk result (Notes faults.old faults.new
         (destination_faults (context_of context.now) (option_map destination_value destination.now))) }
 {
     match destination {
@@ -161,8 +162,9 @@ fn resolve_whither<'t>(
 ) -> Result<Option<sdl_system::Destination>, AllocError>
     ensures to { IfOk result (λ found. option_map whither_view found
         ≡ whither_in (context_of context.now) (expr_value value.now)) }
-    ensures noted { OnOk result (told faults.new ≡ least_of (told faults.old) (whither_faults (context_of context.now)
-        (expr_value value.now) (agent_name (context_of context.now).scope (expr_value value.now)))) }
+    ensures noted { OnOk result (Notes faults.old faults.new
+        (whither_faults (context_of context.now) (expr_value value.now)
+        (agent_name (context_of context.now).scope (expr_value value.now)))) }
 {
     match agent_name(context, value) {
         Some(name) => Ok(resolve_process(context, name, faults)),
@@ -218,11 +220,11 @@ fn resolve_process<'t>(
 ) -> Option<sdl_system::Destination>
     ensures to { option_map whither_view result
         ≡ process_of (agent_in (context_of context.now).scope (name_value name.now).text) }
-    ensures noted { told faults.new ≡ least_of (told faults.old)
+    ensures noted { Notes faults.old faults.new
         (process_faults (name_value name.now) (agent_in (context_of context.now).scope (name_value name.now).text)) }
 {
     let Some(AgentMeaning::Process { number, .. }) = context.scope.agent(&name.text) else {
-        faults.note(Kind::Unknown, Token::of_name(name));
+        faults.note(Rule::Unknown, Token::of_name(name));
         return None;
     };
     Some(sdl_system::Destination::Process(number))

@@ -4,8 +4,8 @@ ghost use Rattle.std.specs.Prelude.{◌≡◌, flat_map, is_none, map, option_an
 ghost use Rattle.build_statements.specs.Contexts.{context_of};
 ghost use Rattle.build_statements.specs.Faulty.{assignment_faults};
 ghost use Rattle.build_statements.specs.Statements.{assigned, assigning_in, sort_of, target_in, target_of, task_in};
-ghost use Rattle.build_faults.specs.Faults.{fault_if, least_of, told};
-ghost use Rattle.build_faults.specs.declared.fault.Kind.TheVariants.{Unknown};
+ghost use Rattle.build_faults.specs.Faults.{Notes, fault_if};
+ghost use Rattle.build_faults.specs.declared.fault.Rule.TheVariants.{Unknown};
 ghost use Rattle.build_expressions.specs.Partial.{all_some, both};
 ghost use Rattle.sdl_system.specs.Body.{task};
 ghost use Rattle.sdl_system.specs.Table.{action_of, assigning};
@@ -15,7 +15,7 @@ ghost use Rattle.sdl_tree.specs.Views.{assignment_value, name_value};
 use crate::context::Context;
 use crate::list::all_there;
 use build_expressions::{ValueMeaning, resolve_for};
-use build_faults::{Faults, Kind, Token};
+use build_faults::{Faults, Rule, Token};
 use sdl_system::{Expression, Sort, Statement, VariableId};
 use sdl_tree::{Assignment, Name};
 use std::alloc::{AllocError, Global};
@@ -37,7 +37,7 @@ pub fn resolve_task<'t>(
 ) -> Result<Option<Statement>, AllocError>
     ensures task { IfOk result (λ found. option_and_then action_of found
         ≡ task_in (context_of context.now) (map assignment_value assignments.now)) }
-    ensures noted { OnOk result (told faults.new ≡ least_of (told faults.old)
+    ensures noted { OnOk result (Notes faults.old faults.new
         (flat_map (assignment_faults (context_of context.now)) (map assignment_value assignments.now))) }
 {
     let list = resolve_assignments(alloc, context, assignments, faults)?;
@@ -62,7 +62,7 @@ fn resolve_assignments<'t>(
 ) -> Result<Option<Vec<sdl_system::Assignment>>, AllocError>
     ensures assignments { IfOk result (λ found. option_map (λ list. map assigning list.items) found
         ≡ all_some (map (assigning_in (context_of context.now)) (map assignment_value assignments.now))) }
-    ensures noted { OnOk result (told faults.new ≡ least_of (told faults.old)
+    ensures noted { OnOk result (Notes faults.old faults.new
         (flat_map (assignment_faults (context_of context.now)) (map assignment_value assignments.now))) }
 {
     let mut found = Vec::new(alloc);
@@ -80,7 +80,7 @@ fn resolve_assignment<'t>(
 ) -> Result<Option<sdl_system::Assignment>, AllocError>
     ensures assignment { IfOk result (λ found. option_map assigning found
         ≡ assigning_in (context_of context.now) (assignment_value assignment.now)) }
-    ensures noted { OnOk result (told faults.new ≡ least_of (told faults.old)
+    ensures noted { OnOk result (Notes faults.old faults.new
         (assignment_faults (context_of context.now) (assignment_value assignment.now))) }
 {
     let target = resolve_target(context, &assignment.variable, faults);
@@ -96,12 +96,12 @@ fn resolve_target<'t>(
     faults: &mut Faults<'t>,
 ) -> Option<Target>
     ensures target { result ≡ target_in (context_of context.now) (name_value name.now) }
-    ensures noted { told faults.new ≡ least_of (told faults.old)
+    ensures noted { Notes faults.old faults.new
         (fault_if (is_none (target_in (context_of context.now) (name_value name.now))) Unknown (name_value name.now)) }
 {
     let target = target_of(context.scope.value(&name.text));
     if target.is_none() {
-        faults.note(Kind::Unknown, Token::of_name(name));
+        faults.note(Rule::Unknown, Token::of_name(name));
     }
     target
 }

@@ -4,14 +4,14 @@ ghost use Rattle.std.specs.Prelude.{◌≡◌, is_none, option_and_then, option_
 ghost use Rattle.build_statements.specs.Contexts.{context_of, label_in, state_in};
 ghost use Rattle.build_statements.specs.Faulty.{terminator_faults};
 ghost use Rattle.build_statements.specs.Statements.{terminator_in};
-ghost use Rattle.build_faults.specs.Faults.{fault_if, least_of, told};
-ghost use Rattle.build_faults.specs.declared.fault.Kind.TheVariants.{NoLabel, NoState};
+ghost use Rattle.build_faults.specs.Faults.{Notes, fault_if};
+ghost use Rattle.build_faults.specs.declared.fault.Rule.TheVariants.{NoLabel, NoState};
 ghost use Rattle.sdl_system.specs.Body.{join, to_state};
 ghost use Rattle.sdl_system.specs.Table.{terminator_of};
 ghost use Rattle.sdl_tree.specs.Views.{name_value, terminator_value};
 
 use crate::context::Context;
-use build_faults::{Faults, Kind, Token};
+use build_faults::{Faults, Rule, Token};
 use sdl_system::Statement;
 use sdl_tree::{Name, NextState, Terminator};
 
@@ -24,7 +24,7 @@ pub fn resolve_terminator<'t>(
 ) -> Option<Statement>
     ensures terminator { option_and_then terminator_of result
         ≡ terminator_in (context_of context.now) (terminator_value terminator.now) }
-    ensures noted { told faults.new ≡ least_of (told faults.old)
+    ensures noted { Notes faults.old faults.new
         (terminator_faults (context_of context.now) (terminator_value terminator.now)) }
 {
     match terminator {
@@ -48,14 +48,14 @@ fn resolve_state<'t>(
 ) -> Option<Statement>
     ensures terminator { option_and_then terminator_of result
         ≡ option_map to_state (state_in (context_of context.now) (name_value name.now).text) }
-    ensures noted { told faults.new ≡ least_of (told faults.old)
+    ensures noted { Notes faults.old faults.new
         (fault_if (is_none (state_in (context_of context.now) (name_value name.now).text)) NoState
         (name_value name.now)) }
 {
     match context.states.get(&name.text) {
         Some(state) => Some(Statement::NextState(state)),
         None => {
-            faults.note(Kind::NoState, Token::of_name(name));
+            faults.note(Rule::NoState, Token::of_name(name));
             None
         }
     }
@@ -68,14 +68,14 @@ fn resolve_join<'t>(
 ) -> Option<Statement>
     ensures terminator { option_and_then terminator_of result
         ≡ option_map join (label_in (context_of context.now) (name_value name.now).text) }
-    ensures noted { told faults.new ≡ least_of (told faults.old)
+    ensures noted { Notes faults.old faults.new
         (fault_if (is_none (label_in (context_of context.now) (name_value name.now).text)) NoLabel
         (name_value name.now)) }
 {
     match context.labels.get(&name.text) {
         Some(label) => Some(Statement::Join(label)),
         None => {
-            faults.note(Kind::NoLabel, Token::of_name(name));
+            faults.note(Rule::NoLabel, Token::of_name(name));
             None
         }
     }

@@ -4,8 +4,8 @@ ghost use Rattle.std.specs.Prelude.{◌≡◌, ◌++◌, flat_map, map, option_a
 ghost use Rattle.build_statements.specs.Contexts.{context_of};
 ghost use Rattle.build_statements.specs.Faulty.{default_faults, lacks_default, setting_faults, time_faults, timing_faults};
 ghost use Rattle.build_statements.specs.Statements.{default_of, reset_in, set_for, set_in, setting_in, timed, timing_in, when_in};
-ghost use Rattle.build_faults.specs.Faults.{fault_if, least_of, told};
-ghost use Rattle.build_faults.specs.declared.fault.Kind.TheVariants.{Sort};
+ghost use Rattle.build_faults.specs.Faults.{Notes, fault_if};
+ghost use Rattle.build_faults.specs.declared.fault.Rule.TheVariants.{Sort};
 ghost use Rattle.build_expressions.specs.Partial.{all_some, both};
 ghost use Rattle.build_expressions.specs.Scope.{signal_in};
 ghost use Rattle.sdl_system.specs.Body.{after, at, reset, set};
@@ -17,7 +17,7 @@ use crate::applied::note_unknown;
 use crate::context::Context;
 use crate::list::all_there;
 use build_expressions::{SignalMeaning, resolve_for, resolve_values};
-use build_faults::{Faults, Kind, Token};
+use build_faults::{Faults, Rule, Token};
 use port_values::SignalId;
 use sdl_system::{Due, Setting, Statement, TimerUse};
 use sdl_tree::{Applied, Expression, Name, ResetGroup, SetClause};
@@ -35,7 +35,7 @@ pub fn resolve_set<'t>(
 ) -> Result<Option<Statement>, AllocError>
     ensures set { IfOk result (λ found. option_and_then action_of found
         ≡ set_in (context_of context.now) (map clause_value clauses.now)) }
-    ensures noted { OnOk result (told faults.new ≡ least_of (told faults.old)
+    ensures noted { OnOk result (Notes faults.old faults.new
         (flat_map (setting_faults (context_of context.now)) (map clause_value clauses.now))) }
 {
     let list = resolve_settings(alloc, context, clauses, faults)?;
@@ -60,7 +60,7 @@ fn resolve_settings<'t>(
 ) -> Result<Option<Vec<Setting>>, AllocError>
     ensures settings { IfOk result (λ found. option_map (λ list. map setting list.items) found
         ≡ all_some (map (setting_in (context_of context.now)) (map clause_value clauses.now))) }
-    ensures noted { OnOk result (told faults.new ≡ least_of (told faults.old)
+    ensures noted { OnOk result (Notes faults.old faults.new
         (flat_map (setting_faults (context_of context.now)) (map clause_value clauses.now))) }
 {
     let mut found = Vec::new(alloc);
@@ -78,7 +78,7 @@ fn resolve_clause<'t>(
 ) -> Result<Option<Setting>, AllocError>
     ensures setting { IfOk result (λ found. option_map setting found
         ≡ setting_in (context_of context.now) (clause_value clause.now)) }
-    ensures noted { OnOk result (told faults.new ≡ least_of (told faults.old)
+    ensures noted { OnOk result (Notes faults.old faults.new
         (setting_faults (context_of context.now) (clause_value clause.now))) }
 {
     let due = resolve_due(alloc, context, &clause.timer.name, &clause.time, faults)?;
@@ -105,7 +105,7 @@ fn resolve_due<'t>(
 ) -> Result<Option<Due>, AllocError>
     ensures due { IfOk result (λ found. option_map when_due found
         ≡ when_in (context_of context.now) (name_value name.now) (option_map expr_value time.now)) }
-    ensures noted { OnOk result (told faults.new ≡ least_of (told faults.old)
+    ensures noted { OnOk result (Notes faults.old faults.new
         (time_faults (context_of context.now) (option_map expr_value time.now)
         ++ default_faults (context_of context.now) (name_value name.now) (option_map expr_value time.now))) }
 {
@@ -141,7 +141,7 @@ fn resolve_default<'t>(
 ) -> Option<Due>
     ensures due { option_map when_due result ≡ option_map after (default_of (context_of context.now)
         (signal_in (context_of context.now).scope (name_value name.now).text)) }
-    ensures noted { told faults.new ≡ least_of (told faults.old)
+    ensures noted { Notes faults.old faults.new
         (fault_if (lacks_default (signal_in (context_of context.now).scope (name_value name.now).text)) Sort
         (name_value name.now)) }
 {
@@ -156,7 +156,7 @@ fn resolve_default<'t>(
         return None;
     };
     if !has_default {
-        faults.note(Kind::Sort, Token::of_name(name));
+        faults.note(Rule::Sort, Token::of_name(name));
     }
     due_after(context.duration(number))
 }
@@ -179,7 +179,7 @@ pub fn resolve_reset<'t>(
 ) -> Result<Option<Statement>, AllocError>
     ensures reset { IfOk result (λ found. option_and_then action_of found
         ≡ reset_in (context_of context.now) (map group_value groups.now)) }
-    ensures noted { OnOk result (told faults.new ≡ least_of (told faults.old)
+    ensures noted { OnOk result (Notes faults.old faults.new
         (flat_map (flat_map (timing_faults (context_of context.now))) (map group_value groups.now))) }
 {
     let list = resolve_timers(alloc, context, groups, faults)?;
@@ -204,7 +204,7 @@ fn resolve_timers<'t>(
 ) -> Result<Option<Vec<TimerUse>>, AllocError>
     ensures timers { IfOk result (λ found. option_map (λ list. map timing list.items) found
         ≡ all_some (flat_map (map (timing_in (context_of context.now))) (map group_value groups.now))) }
-    ensures noted { OnOk result (told faults.new ≡ least_of (told faults.old)
+    ensures noted { OnOk result (Notes faults.old faults.new
         (flat_map (flat_map (timing_faults (context_of context.now))) (map group_value groups.now))) }
 {
     let mut found = Vec::new(alloc);
@@ -224,7 +224,7 @@ fn resolve_group<'t>(
 ) -> Result<(), AllocError>
     ensures timers { OnOk result (map (option_map timing) found.new.items ≡ map (option_map timing) found.old.items
         ++ map (timing_in (context_of context.now)) (map applied_value timers.now)) }
-    ensures noted { OnOk result (told faults.new ≡ least_of (told faults.old)
+    ensures noted { OnOk result (Notes faults.old faults.new
         (flat_map (timing_faults (context_of context.now)) (map applied_value timers.now))) }
 {
     for applied in timers {
@@ -241,7 +241,7 @@ fn resolve_timer<'t>(
 ) -> Result<Option<TimerUse>, AllocError>
     ensures timer { IfOk result (λ found. option_map timing found
         ≡ timing_in (context_of context.now) (applied_value applied.now)) }
-    ensures noted { OnOk result (told faults.new ≡ least_of (told faults.old)
+    ensures noted { OnOk result (Notes faults.old faults.new
         (timing_faults (context_of context.now) (applied_value applied.now))) }
 {
     let Some(SignalMeaning::Timer { number, sorts, .. }) = context.scope.signal(&applied.name.text)

@@ -6,8 +6,8 @@ use Rattle.std.proofs.lemmas.List.{append_assoc, map-append, take_more}
 use Rattle.std.proofs.lemmas.List.Sums.{fold-append}
 use Rattle.port_values.specs.declared.item.SignalId.{SignalId}
 use Rattle.build_faults.proofs.FaultLemmas.{both_noted}
-use Rattle.build_faults.specs.Faults.{Told, fault_if, least_of}
-use Rattle.build_faults.specs.declared.fault.Kind.TheVariants.{TwiceInState}
+use Rattle.build_faults.specs.Faults.{Diagnostic, fault_if, least_of}
+use Rattle.build_faults.specs.declared.fault.Rule.TheVariants.{TwiceInState}
 use Rattle.sdl_system.specs.State.{same_signal}
 use Rattle.build_stimuli.specs.Listed.{mention_value, mentions_listed, named_value, rest_value}
 use Rattle.build_stimuli.specs.Mentions as plain
@@ -99,15 +99,17 @@ module _ (first : Answers) (xs : List Mention) (i : ℕ) (x : Mention) (below : 
       ∙ sym (ap (with_mentions first) (taken-more mention_value xs i x below is)
       ∙ fold-append with_mention first (mentions_listed (take i xs)) (mention_value x ∷ []))
 
-  pub mention-noted : (old now new : Option Told) →
+  pub mention-noted : (old now new : Option Diagnostic) →
       now ≡ least_of old (twice_faults first (mentions_listed (take i xs))) →
       new ≡ least_of now (fault_if (is_again self (mention_value x)) TwiceInState (mention_value x).word) →
       new ≡ least_of old (twice_faults first (mentions_listed (take (i + 1) xs)))
   mention-noted old now new noted here =
       let done = mentions_listed (take i xs) in
-      let again = λ (answers : Answers). fault_if (is_again answers (mention_value x)) TwiceInState (mention_value x).word in
+      let again = λ (answers : Answers). fault_if (is_again answers (mention_value x)) TwiceInState
+      (mention_value x).word in
       here ∙ ap (λ answers. least_of now (again answers)) before
       ∙ ap (λ told. least_of told (again (with_mentions first done))) noted
       ∙ both_noted old (twice_faults first done) (again (with_mentions first done))
       ∙ ap (least_of old)
-      (sym (ap (twice_faults first) (taken-more mention_value xs i x below is) ∙ twice-last first done (mention_value x)))
+      (sym (ap (twice_faults first) (taken-more mention_value xs i x below is)
+      ∙ twice-last first done (mention_value x)))

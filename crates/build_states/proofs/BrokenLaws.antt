@@ -4,9 +4,9 @@ use Rattle.std.specs.List.{list_any}
 use Rattle.std.proofs.lemmas.Slice.Eq.{bytes_eq-Decides}
 use Rattle.build_faults.proofs.FaultLemmas.{each-both, each-if, each-of, in-each, in-if, in-left, in-right}
 use Rattle.build_faults.specs.FaultLaws.{Each, In}
-use Rattle.build_faults.specs.Faults.{Told, told_at}
-use Rattle.build_limits.specs.Limits.{different, is_same_text, with_new}
-use Rattle.build_faults.specs.declared.fault.Kind.TheVariants.{NoState, TwiceInState}
+use Rattle.build_faults.specs.Faults.{Diagnostic, diagnostic_at}
+use Rattle.build_labels.specs.States.{different, is_same_text, with_new}
+use Rattle.build_faults.specs.declared.fault.Rule.TheVariants.{NoState, TwiceInState}
 use Rattle.sdl_tree.specs.Tree.{BodyPart, FreeAction, StateAll, StateList, StatePart}
 use Rattle.sdl_tree.specs.Words.{Spot}
 use Rattle.build_stimuli.specs.Context.{Context}
@@ -69,7 +69,8 @@ any-text (x ∷ words) word h = by (is_same_text word x) refl (λ later. any-tex
 has-new : (words : List Spot) (word : Spot) → HasText (with_new words word) word.text
 has-new words word = by (list_any (is_same_text word) words) refl
   where
-    by : (b : Bool) → list_any (is_same_text word) words ≡ b → HasText (if b then words else words ++ word ∷ []) word.text
+    by : (b : Bool) → list_any (is_same_text word) words ≡ b →
+        HasText (if b then words else words ++ word ∷ []) word.text
     by true is = any-text words word is
     by false isnt = record { word = word; among = in-right word words (word ∷ []) (inl refl); same = refl }
 
@@ -117,21 +118,22 @@ module _ (context : Context) (body : List BodyPart) where
       (each-of (IsBroken context body) (left_out_faults (is_named (names_in body))) body part-broken)
       (each-of (IsBroken context body) (named_faults parts) (different (names_in body)) name-broken)
 
-  all-listed : (fault : Told) → IsBroken context body fault → In fault (states_faults context body)
+  all-listed : (fault : Diagnostic) → IsBroken context body fault → In fault (states_faults context body)
   all-listed fault (twice name word among is) =
       let has = in-different [] (names_in body) name among in
       let here = listed-twice (mentions_in (parts_of name.text parts)) word is in
-      in-right (told_at TwiceInState word) (flat_map (left_out_faults (is_named (names_in body))) body)
+      in-right (diagnostic_at TwiceInState word) (flat_map (left_out_faults (is_named (names_in body))) body)
       (flat_map (named_faults parts) (different (names_in body)))
-      (in-each (told_at TwiceInState word) (named_faults parts) (different (names_in body)) has.word has.among
-      (subst (λ text. In (told_at TwiceInState word) (named_faults parts (record { text = text; place = has.word.place })))
+      (in-each (diagnostic_at TwiceInState word) (named_faults parts) (different (names_in body)) has.word has.among
+      (subst (λ text. In (diagnostic_at TwiceInState word)
+      (named_faults parts (record { text = text; place = has.word.place })))
       (sym has.same) here))
   all-listed fault (no_state asterisk except stimuli name at among isnt) =
-      in-left (told_at NoState name) (flat_map (left_out_faults (is_named (names_in body))) body)
+      in-left (diagnostic_at NoState name) (flat_map (left_out_faults (is_named (names_in body))) body)
       (flat_map (named_faults parts) (different (names_in body)))
-      (in-each (told_at NoState name) (left_out_faults (is_named (names_in body))) body
+      (in-each (diagnostic_at NoState name) (left_out_faults (is_named (names_in body))) body
       (StatePart (StateAll asterisk except) stimuli) at
-      (in-each (told_at NoState name) (unnamed_faults (is_named (names_in body))) except name among
+      (in-each (diagnostic_at NoState name) (unnamed_faults (is_named (names_in body))) except name among
       (in-if (not (is_named (names_in body) name.text)) NoState name (ap not isnt))))
 
 pub listed-broken : ListedBroken

@@ -3,7 +3,7 @@ use Rattle.std.proofs.Common.{◌≡◌, ◌∙◌, ◌==◌, ◌||◌, ◌++◌
 use Rattle.std.specs.List.{list_any}
 use Rattle.std.specs.Option.{option_or}
 use Rattle.port_values.specs.declared.item.SignalId.{SignalId}
-use Rattle.build_limits.proofs.NameLemmas.{lookup-append}
+use Rattle.build_scopes.proofs.NameLemmas.{lookup-append}
 use Rattle.sdl_system.specs.State.{same_signal}
 use Rattle.build_states.specs.FirstMention.{FirstMentionCounts, first_said, said, same_subject, speaks_of}
 use Rattle.build_stimuli.specs.Mentions.{Mention, Response}

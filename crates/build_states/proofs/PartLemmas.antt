@@ -4,7 +4,7 @@ use Rattle.std.proofs.lemmas.Grind.{flat_map-append}
 use Rattle.std.proofs.lemmas.List.Elements.{filter-append}
 use Rattle.std.proofs.lemmas.List.Sums.{fold-append}
 use Rattle.build_faults.proofs.FaultLemmas.{both_noted}
-use Rattle.build_faults.specs.Faults.{Told, least_of}
+use Rattle.build_faults.specs.Faults.{Diagnostic, least_of}
 use Rattle.build_stimuli.specs.Listed.{part_value}
 use Rattle.build_stimuli.specs.Reading as plain
 use Rattle.build_states.specs.States.{Table, answers_in, continuous_in, enabling_in, is_part_of, mentions_in, no_answers, parts_of, state_faults, table_of, twice_faults, with_mention, with_parts}
@@ -17,14 +17,29 @@ mentions-append xs ys = flat_map-append (λ part. part.mentions) xs ys
 pub with_parts-append : (xs ys : List plain.Part) → with_parts (table_of xs) ys ≡ table_of (xs ++ ys)
 with_parts-append xs ys =
     let answers =
-    sym (ap answers_in (mentions-append xs ys) ∙ fold-append with_mention no_answers (mentions_in xs) (mentions_in ys)) in
+    sym (ap answers_in (mentions-append xs ys) ∙ fold-append with_mention no_answers (mentions_in xs)
+    (mentions_in ys)) in
     let enabling = sym (flat_map-append (λ part. part.enabling) xs ys) in
     let continuous = sym (flat_map-append (λ part. part.continuous) xs ys) in
-    ap (λ a. record { answers = a; enabling = enabling_in xs ++ enabling_in ys; continuous = continuous_in xs ++ continuous_in ys })
+    ap (λ a. record {
+      answers = a;
+      enabling = enabling_in xs ++ enabling_in ys;
+      continuous = continuous_in xs
+          ++ continuous_in ys;
+    })
     answers
-    ∙ ap (λ e. record { answers = answers_in (mentions_in (xs ++ ys)); enabling = e; continuous = continuous_in xs ++ continuous_in ys })
+    ∙ ap (λ e. record {
+      answers = answers_in (mentions_in (xs ++ ys));
+      enabling = e;
+      continuous = continuous_in xs
+          ++ continuous_in ys;
+    })
     enabling
-    ∙ ap (λ s. record { answers = answers_in (mentions_in (xs ++ ys)); enabling = enabling_in (xs ++ ys); continuous = s })
+    ∙ ap (λ s. record {
+      answers = answers_in (mentions_in (xs ++ ys));
+      enabling = enabling_in (xs ++ ys);
+      continuous = s;
+    })
     continuous
 
 pub state_faults-append : (xs ys : List plain.Part) →
@@ -52,7 +67,7 @@ module _ (name : List ℕ) (xs : List Part) (i : ℕ) (x : Part) (below : i < le
       ∙ with_parts-append (parts_of name (map part_value (take i xs))) here
       ∙ ap table_of (sym parts-more)
 
-  pub part-noted : (old now new : Option Told) →
+  pub part-noted : (old now new : Option Diagnostic) →
       now ≡ least_of old (state_faults (parts_of name (map part_value (take i xs)))) →
       new ≡ least_of now (twice_faults table.answers (mentions_in (if test then part_value x ∷ [] else []))) →
       new ≡ least_of old (state_faults (parts_of name (map part_value (take (i + 1) xs))))

@@ -9,8 +9,8 @@ use Rattle.std.proofs.lemmas.Grind.{flat_map-append}
 use Rattle.std.proofs.lemmas.List.{length-map, map-append, take_more}
 use Rattle.std.proofs.lemmas.Slice.Eq.{bytes_eq-Decides}
 use Rattle.build_faults.proofs.FaultLemmas.{both_noted}
-use Rattle.build_limits.proofs.NameLemmas.{lookup-append}
-use Rattle.build_faults.specs.Faults.{Told, least_of}
+use Rattle.build_scopes.proofs.NameLemmas.{lookup-append}
+use Rattle.build_faults.specs.Faults.{Diagnostic, least_of}
 use Rattle.sdl_system.specs.declared.id.TableId.{TableId}
 use Rattle.sdl_tree.specs.Words.{Spot}
 use Rattle.build_stimuli.specs.Reading.{Part}
@@ -82,7 +82,8 @@ turn-added name text pushed turn before old is new = by (bytes_eq name text) ref
 
 -- ---- the parts of a table
 
-pub part-mapped : {A B : Type 0} (f : A → B) (xs : List A) (n : ℕ) → slice_get (map f xs) n ≡ option_map f (slice_get xs n)
+pub part-mapped : {A B : Type 0} (f : A → B) (xs : List A) (n : ℕ) →
+    slice_get (map f xs) n ≡ option_map f (slice_get xs n)
 part-mapped f [] n = refl
 part-mapped f (x ∷ xs) zero = refl
 part-mapped f (x ∷ xs) (suc n) = part-mapped f xs n
@@ -108,7 +109,7 @@ module _ (all : List Part) (numbers : List ℕ) (i : ℕ) (d : ℕ) (below : i <
       ∙ with_parts-append (parts_at all (take i numbers)) (listed_part found)
       ∙ ap table_of (sym one-more)
 
-  pub listed-noted : (old now new : Option Told) →
+  pub listed-noted : (old now new : Option Diagnostic) →
       now ≡ least_of old (state_faults (parts_at all (take i numbers))) →
       new ≡ least_of now (twice_faults table.answers (mentions_in (listed_part found))) →
       new ≡ least_of old (state_faults (parts_at all (take (i + 1) numbers)))
@@ -174,7 +175,7 @@ found-either None false x y h = cc
 found-either (Some z) same x y h = inl h
 
 module _ (parts : List Part) (stars : List ℕ) (turns : List Turn) (known : List (List Turn × TableId))
-    (tables : List Table) (old : Option Told) (number : TableId) (at : number.0 ≡ length tables)
+    (tables : List Table) (old : Option Diagnostic) (number : TableId) (at : number.0 ≡ length tables)
     (before : IsKnown parts stars known tables old) where
   pub added-read : (table : Table) → table ≡ table_by parts stars turns →
       table_at (tables ++ table ∷ []) number ≡ Some (table_by parts stars turns)
@@ -187,7 +188,7 @@ module _ (parts : List Part) (stars : List ℕ) (turns : List Turn) (known : Lis
       found-either (known_in known other) (same_turns other turns) number found
       (sym (lookup-append (same_turns other) known ((turns, number) ∷ [])) ∙ h)
 
-  pub known-more : (table : Table) (new : Option Told) → table ≡ table_by parts stars turns →
+  pub known-more : (table : Table) (new : Option Diagnostic) → table ≡ table_by parts stars turns →
       new ≡ least_of old (faults_by parts stars turns) →
       IsKnown parts stars (known ++ (turns, number) ∷ []) (tables ++ table ∷ []) new
   known-more table new is told = record {
@@ -221,7 +222,7 @@ module _ (known : List (List Turn × TableId)) (turns : List Turn) (number : Tab
       ∙ ap (λ b. cond b (Some number) None) (turns-themselves turns)
 
 -- nothing is known yet
-pub nothing-known : (parts : List Part) (stars : List ℕ) (told : Option Told) → IsKnown parts stars [] [] told
+pub nothing-known : (parts : List Part) (stars : List ℕ) (told : Option Diagnostic) → IsKnown parts stars [] [] told
 nothing-known parts stars told =
     record { right = λ turns number h. never h; noted = λ turns number h. absurd (never-at h) }
   where
@@ -268,7 +269,7 @@ states-more parts done name old new numbers number keeps before here =
     ∙ sym (ap (map (λ t. Some t)) (map-append (table_named parts) done (name ∷ []))
     ∙ map-append (λ t. Some t) (tables_of parts done) (table_named parts name ∷ []))
 
-pub states-noted : (parts : List Part) (done : List Spot) (name : Spot) (old now new : Option Told) →
+pub states-noted : (parts : List Part) (done : List Spot) (name : Spot) (old now new : Option Diagnostic) →
     now ≡ least_of old (flat_map (named_faults parts) done) →
     new ≡ least_of now (named_faults parts name) →
     new ≡ least_of old (flat_map (named_faults parts) (done ++ name ∷ []))
@@ -278,7 +279,7 @@ states-noted parts done name old now new before here =
     ∙ ap (λ list. least_of old (flat_map (named_faults parts) done ++ list)) (sym (alone (named_faults parts name)))
     ∙ ap (least_of old) (sym (flat_map-append (named_faults parts) done (name ∷ [])))
   where
-    alone : (xs : List Told) → xs ++ [] ≡ xs
+    alone : (xs : List Diagnostic) → xs ++ [] ≡ xs
     alone [] = refl
     alone (x ∷ xs) = ap (λ ys. x ∷ ys) (alone xs)
 

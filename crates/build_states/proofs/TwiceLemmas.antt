@@ -5,8 +5,8 @@ use Rattle.std.proofs.lemmas.List.{append_assoc}
 use Rattle.std.proofs.lemmas.List.Sums.{fold-append}
 use Rattle.build_faults.proofs.FaultLemmas.{each-both, each-if, in-if, in-left, in-right}
 use Rattle.build_faults.specs.FaultLaws.{Each, In}
-use Rattle.build_faults.specs.Faults.{Told, fault_if, told_at}
-use Rattle.build_faults.specs.declared.fault.Kind.TheVariants.{TwiceInState}
+use Rattle.build_faults.specs.Faults.{Diagnostic, fault_if, diagnostic_at}
+use Rattle.build_faults.specs.declared.fault.Rule.TheVariants.{TwiceInState}
 use Rattle.sdl_tree.specs.Words.{Spot}
 use Rattle.build_stimuli.specs.Mentions.{Mention, Response}
 use Rattle.build_stimuli.specs.declared.subject.Subject.{Subject}
@@ -108,9 +108,9 @@ found-first (mention ∷ mentions) subject earlier at spoken =
 
 -- ---- both directions
 
-record IsTold (mentions : List Mention) (fault : Told) : Type 0 where
+record IsTold (mentions : List Mention) (fault : Diagnostic) : Type 0 where
   word : Spot
-  is : fault ≡ told_at TwiceInState word
+  is : fault ≡ diagnostic_at TwiceInState word
   twice : IsTwice mentions word
 
 twice-here : (mentions before after : List Mention) (mention : Mention) → mentions ≡ before ++ mention ∷ after →
@@ -145,18 +145,19 @@ each-twice mentions before (mention ∷ after) are =
     (each-twice mentions (before ++ mention ∷ []) after (are ∙ sym (append_assoc before (mention ∷ []) after))))
 
 -- each fault of a state is something that is mentioned twice
-pub twice-listed : (P : Told → Type 0) (mentions : List Mention) →
-    ((word : Spot) → IsTwice mentions word → P (told_at TwiceInState word)) → Each P (twice_faults no_answers mentions)
+pub twice-listed : (P : Diagnostic → Type 0) (mentions : List Mention) →
+    ((word : Spot) → IsTwice mentions word → P (diagnostic_at TwiceInState word)) →
+    Each P (twice_faults no_answers mentions)
 twice-listed P mentions is = through (twice_faults no_answers mentions) (each-twice mentions [] mentions refl)
   where
-    through : (faults : List Told) → Each (IsTold mentions) faults → Each P faults
+    through : (faults : List Diagnostic) → Each (IsTold mentions) faults → Each P faults
     through [] each = tt
     through (fault ∷ faults) each =
         (subst P (sym each.0.is) (is each.0.word each.0.twice), through faults each.1)
 
 -- and each of those is a fault
 pub listed-twice : (mentions : List Mention) (word : Spot) → IsTwice mentions word →
-    In (told_at TwiceInState word) (twice_faults no_answers mentions)
+    In (diagnostic_at TwiceInState word) (twice_faults no_answers mentions)
 listed-twice mentions word is =
     let answers = answers_in is.before in
     let found = found-in (same_subject is.subject) is.mention.subjects is.again in
@@ -166,15 +167,15 @@ listed-twice mentions word is =
     ∙ found-first is.before is.subject is.earlier is.stands_before is.spoken in
     let again : is_again answers is.mention ≡ true =
     any-in (is_answered answers) is.mention.subjects found.item found.among answered in
-    let here : In (told_at TwiceInState is.mention.word)
+    let here : In (diagnostic_at TwiceInState is.mention.word)
     (fault_if (is_again answers is.mention) TwiceInState is.mention.word) =
     in-if (is_again answers is.mention) TwiceInState is.mention.word again in
-    subst (λ faults. In (told_at TwiceInState word) faults)
+    subst (λ faults. In (diagnostic_at TwiceInState word) faults)
     (sym (ap (twice_faults no_answers) is.mentions_are ∙ twice-append no_answers is.before (is.mention ∷ is.after)))
-    (subst (λ w. In (told_at TwiceInState w)
+    (subst (λ w. In (diagnostic_at TwiceInState w)
     (twice_faults no_answers is.before ++ twice_faults answers (is.mention ∷ is.after))) (sym is.at_word)
-    (in-right (told_at TwiceInState is.mention.word) (twice_faults no_answers is.before)
+    (in-right (diagnostic_at TwiceInState is.mention.word) (twice_faults no_answers is.before)
     (twice_faults answers (is.mention ∷ is.after))
-    (in-left (told_at TwiceInState is.mention.word)
+    (in-left (diagnostic_at TwiceInState is.mention.word)
     (fault_if (is_again answers is.mention) TwiceInState is.mention.word)
     (twice_faults (with_mention answers is.mention) is.after) here)))

@@ -1,8 +1,9 @@
--- When a rule is broken in what the states of a process say, and at which word: said of the text, and not of what is noted.
+-- When a rule is broken in what the states of a process say, and at which word: said of the text, and not of what is
+-- noted.
 use Rattle.std.specs.Prelude.{◌≡◌, ◌++◌, true, false, List, ◌∷◌}
 use Rattle.build_faults.specs.FaultLaws.{Each, In}
-use Rattle.build_faults.specs.Faults.{Told, told_at}
-use Rattle.build_faults.specs.declared.fault.Kind.TheVariants.{NoState, TwiceInState}
+use Rattle.build_faults.specs.Faults.{Diagnostic, diagnostic_at}
+use Rattle.build_faults.specs.declared.fault.Rule.TheVariants.{NoState, TwiceInState}
 use Rattle.sdl_tree.specs.Tree.{BodyPart, StateAll, StatePart, Stimulus}
 use Rattle.sdl_tree.specs.Words.{Spot}
 use Rattle.sdl_tree.specs.declared.name.Spelling.{Spelling}
@@ -27,17 +28,17 @@ pub record IsTwice (mentions : List Mention) (word : Spot) : Type 0 where
   pub spoken : speaks_of earlier subject ≡ true
 
 -- a rule is broken in the states of a process, beside those of its stimuli
-pub data IsBroken (context : Context) (body : List BodyPart) : Told → Type 0 where
+pub data IsBroken (context : Context) (body : List BodyPart) : Diagnostic → Type 0 where
   -- something is mentioned twice in a state
   twice :
       (name : Spot) (word : Spot) → In name (names_in body)
       → IsTwice (mentions_in (parts_of name.text (body_read context body).parts)) word
-      → IsBroken context body (told_at TwiceInState word)
+      → IsBroken context body (diagnostic_at TwiceInState word)
   -- an asterisk leaves out a name that no state list has
   no_state :
       (asterisk : Spelling) (except : List Spot) (stimuli : List Stimulus) (name : Spot)
       → In (StatePart (StateAll asterisk except) stimuli) body → In name except
-      → is_named (names_in body) name.text ≡ false → IsBroken context body (told_at NoState name)
+      → is_named (names_in body) name.text ≡ false → IsBroken context body (diagnostic_at NoState name)
 
 -- Each fault of the list is broken.
 abbrev pub ListedBroken : Type 0
@@ -45,5 +46,5 @@ ListedBroken = (context : Context) (body : List BodyPart) → Each (IsBroken con
 
 -- Each rule that is broken is in the list.
 abbrev pub BrokenListed : Type 0
-BrokenListed = (context : Context) (body : List BodyPart) (fault : Told) → IsBroken context body fault →
+BrokenListed = (context : Context) (body : List BodyPart) (fault : Diagnostic) → IsBroken context body fault →
     In fault (states_faults context body)

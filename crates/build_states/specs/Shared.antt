@@ -2,7 +2,7 @@
 use Rattle.std.specs.Prelude.{◌≡◌, ℕ, Bool, List, Option, Some, map, slice_get}
 use Rattle.std.specs.Map.{lookup}
 use Rattle.std.specs.Cmp.Lexicographic.{pointwise}
-use Rattle.build_faults.specs.Faults.{Told, least_of}
+use Rattle.build_faults.specs.Faults.{Diagnostic, least_of}
 use Rattle.sdl_system.specs.declared.id.TableId.{TableId}
 use Rattle.sdl_tree.specs.Tree.{States}
 use Rattle.sdl_tree.specs.Words.{Spot}
@@ -54,12 +54,12 @@ parts_by parts stars turns = parts_at parts (chosen (record { stars = stars; tur
 abbrev pub table_by : List Part → List ℕ → List Turn → Table
 table_by parts stars turns = table_of (parts_by parts stars turns)
 
-abbrev pub faults_by : List Part → List ℕ → List Turn → List Told
+abbrev pub faults_by : List Part → List ℕ → List Turn → List Diagnostic
 faults_by parts stars turns = state_faults (parts_by parts stars turns)
 
 -- each table that is known is there, and its faults are noted
 pub record IsKnown (parts : List Part) (stars : List ℕ) (known : List (List Turn × TableId)) (tables : List Table)
-    (told : Option Told) : Type 0 where
+    (told : Option Diagnostic) : Type 0 where
   pub right : (turns : List Turn) (number : TableId) → known_in known turns ≡ Some number →
       table_at tables number ≡ Some (table_by parts stars turns)
   pub noted : (turns : List Turn) (number : TableId) → known_in known turns ≡ Some number →

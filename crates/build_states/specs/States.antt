@@ -5,9 +5,9 @@ use Rattle.std.specs.Map.{lookup}
 use Rattle.std.specs.Option.{option_or}
 use Rattle.std.specs.Str.{bytes_eq}
 use Rattle.port_values.specs.declared.item.SignalId.{SignalId}
-use Rattle.build_faults.specs.Faults.{Told, fault_if}
-use Rattle.build_limits.specs.Limits.{different, part_states}
-use Rattle.build_faults.specs.declared.fault.Kind.TheVariants.{NoState, TwiceInState}
+use Rattle.build_faults.specs.Faults.{Diagnostic, fault_if}
+use Rattle.build_labels.specs.States.{different, part_states}
+use Rattle.build_faults.specs.declared.fault.Rule.TheVariants.{NoState, TwiceInState}
 use Rattle.sdl_system.specs.State.{same_signal}
 use Rattle.sdl_system.specs.declared.id.ConditionId.{ConditionId}
 use Rattle.sdl_tree.specs.Tree.{BodyPart, FreeAction, ProcessDefinition, StateAll, StateList, StatePart, States}
@@ -85,13 +85,14 @@ abbrev pub is_again : Answers → Mention → Bool
 is_again answers mention = list_any (is_answered answers) mention.subjects
 
 -- the mentions that speak of something that is mentioned before, behind those that gave these answers
-abbrev pub twice_faults : Answers → List Mention → List Told
+abbrev pub twice_faults : Answers → List Mention → List Diagnostic
 twice_faults answers [] = []
 twice_faults answers (mention ∷ mentions) =
-    fault_if (is_again answers mention) TwiceInState mention.word ++ twice_faults (with_mention answers mention) mentions
+    fault_if (is_again answers mention) TwiceInState mention.word
+    ++ twice_faults (with_mention answers mention) mentions
 
 -- of a state with these parts
-abbrev pub state_faults : List Part → List Told
+abbrev pub state_faults : List Part → List Diagnostic
 state_faults parts = twice_faults no_answers (mentions_in parts)
 
 -- ---- continuous signals
@@ -195,27 +196,27 @@ abbrev pub states_of : Context → List BodyPart → List StateMeaning
 states_of context body = map (state_of (body_read context body).parts) (different (names_in body))
 
 -- a name in parentheses behind an asterisk that is no state's, by what tells the names of the states
-abbrev pub unnamed_faults : (List ℕ → Bool) → Spot → List Told
+abbrev pub unnamed_faults : (List ℕ → Bool) → Spot → List Diagnostic
 unnamed_faults is_state name = fault_if (not (is_state name.text)) NoState name
 
-abbrev pub except_faults : (List ℕ → Bool) → States → List Told
+abbrev pub except_faults : (List ℕ → Bool) → States → List Diagnostic
 except_faults is_state (StateList names) = []
 except_faults is_state (StateAll asterisk except) = flat_map (unnamed_faults is_state) except
 
 -- the names that the asterisk of a part leaves out, and that are no state's
-abbrev pub left_out_faults : (List ℕ → Bool) → BodyPart → List Told
+abbrev pub left_out_faults : (List ℕ → Bool) → BodyPart → List Diagnostic
 left_out_faults is_state (StatePart listed stimuli) = except_faults is_state listed
 left_out_faults is_state (FreeAction word label transition) = []
 
-abbrev pub named_faults : List Part → Spot → List Told
+abbrev pub named_faults : List Part → Spot → List Diagnostic
 named_faults parts name = state_faults (parts_of name.text parts)
 
 -- what is broken in the states of a process, beside the faults of its stimuli
-abbrev pub states_faults : Context → List BodyPart → List Told
+abbrev pub states_faults : Context → List BodyPart → List Diagnostic
 states_faults context body =
     flat_map (left_out_faults (is_named (names_in body))) body
     ++ flat_map (named_faults (body_read context body).parts) (different (names_in body))
 
 -- all that is broken in what the states of a process say
-abbrev pub process_faults : Context → ProcessDefinition → List Told
+abbrev pub process_faults : Context → ProcessDefinition → List Diagnostic
 process_faults context process = body_faults context process.body ++ states_faults context process.body

@@ -1,7 +1,7 @@
 -- What the tables of the code stand for.
 use Rattle.std.specs.Prelude.{ℕ, Bool, List, [], ◌∷◌, Option, None, Some, is_some, map}
 use Rattle.std.specs.Borrow.{Bor}
-use Rattle.build_limits.specs.Names.{first_of}
+use Rattle.build_scopes.specs.Names.{first_of}
 use Rattle.sdl_system.specs.declared.id.StateId.{StateId}
 use Rattle.sdl_tree.specs.Views.{name_value}
 use Rattle.sdl_tree.specs.Words.{Spot}

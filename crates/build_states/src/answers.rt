@@ -2,14 +2,14 @@
 
 ghost use Rattle.std.specs.Prelude.{◌≡◌, ◌||◌, OnOk};
 ghost use Rattle.std.specs.List.{list_any};
-ghost use Rattle.build_faults.specs.Faults.{fault_if, least_of, told};
-ghost use Rattle.build_faults.specs.declared.fault.Kind.TheVariants.{TwiceInState};
+ghost use Rattle.build_faults.specs.Faults.{Notes, fault_if};
+ghost use Rattle.build_faults.specs.declared.fault.Rule.TheVariants.{TwiceInState};
 ghost use Rattle.build_states.specs.Answered.{answers_value};
 ghost use Rattle.build_stimuli.specs.Listed.{mention_value, mentions_listed, response_value};
 ghost use Rattle.build_states.specs.States.{is_again, is_answered, no_answers, twice_faults, with_answer, with_mention, with_mentions, with_subjects};
 
 use crate::named::Named;
-use build_faults::{Faults, Kind};
+use build_faults::{Faults, Rule};
 use build_stimuli::{Mention, Response, Subject};
 use std::alloc::{AllocError, Global};
 
@@ -42,7 +42,7 @@ impl<'m> Answers<'m> {
     ) -> Result<(), AllocError>
         ensures added { OnOk result (answers_value self.new
             ≡ with_mentions (answers_value self.old) (mentions_listed mentions.now)) }
-        ensures noted { OnOk result (told faults.new ≡ least_of (told faults.old)
+        ensures noted { OnOk result (Notes faults.old faults.new
             (twice_faults (answers_value self.old) (mentions_listed mentions.now))) }
     {
         for mention in mentions {
@@ -58,12 +58,12 @@ impl<'m> Answers<'m> {
     ) -> Result<(), AllocError>
         ensures added { OnOk result (answers_value self.new
             ≡ with_mention (answers_value self.old) (mention_value mention.now)) }
-        ensures noted { OnOk result (told faults.new ≡ least_of (told faults.old)
+        ensures noted { OnOk result (Notes faults.old faults.new
             (fault_if (is_again (answers_value self.old) (mention_value mention.now)) TwiceInState
             (mention_value mention.now).word)) }
     {
         if self.is_again(&mention.subjects) {
-            faults.note(Kind::TwiceInState, mention.token);
+            faults.note(Rule::TwiceInState, mention.token);
         }
         self.add_subjects(&mention.subjects, &mention.response)
     }

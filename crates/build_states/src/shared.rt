@@ -1,7 +1,7 @@
 //! What the states of a process say. States with the same parts share a table.
 
 ghost use Rattle.std.specs.Prelude.{◌≡◌, ◌<◌, ◌^◌, ℕ, All, List, None, Some, IfOk, IsOk, OnOk, flat_map, length, map};
-ghost use Rattle.build_faults.specs.Faults.{least_of, told};
+ghost use Rattle.build_faults.specs.Faults.{Notes};
 ghost use Rattle.build_stimuli.specs.Listed.{part_value};
 ghost use Rattle.build_states.specs.Outlined.{seen_in};
 ghost use Rattle.build_states.specs.Shared.{AreShared, IsKnown, IsOfName, Keeps, KeepsKnown, faults_by, known_in, seen_of, state_tables, states_listed, table_at, table_by};
@@ -53,7 +53,7 @@ pub fn read_states<'m, 't>(
         (map table_value states.tables.items)) }
     ensures shared { IfOk result (λ states. AreShared (map part_value parts.now) (names_listed names.now)
         states.of_states.items) }
-    ensures noted { OnOk result (told faults.new ≡ least_of (told faults.old)
+    ensures noted { OnOk result (Notes faults.old faults.new
         (flat_map (named_faults (map part_value parts.now)) (names_listed names.now))) }
 {
     let outline = Outline::of(alloc, parts)?;
@@ -74,7 +74,7 @@ fn share<'m, 't>(
         (map table_value states.tables.items)) }
     ensures shared { IfOk result (λ states. AreShared (map part_value parts.now) (names_listed names.now)
         states.of_states.items) }
-    ensures noted { OnOk result (told faults.new ≡ least_of (told faults.old)
+    ensures noted { OnOk result (Notes faults.old faults.new
         (flat_map (named_faults (map part_value parts.now)) (names_listed names.now))) }
 {
     let mut known = Known::new(alloc);
@@ -100,11 +100,11 @@ fn table_of<'l, 'm, 't>(
     faults: &mut Faults<'t>,
 ) -> Result<TableId, AllocError>
     requires { IsKnown (map part_value parts.now) stars.now known.old (map table_value tables.old.items)
-        (told faults.old) }
+        faults.old }
     ensures read { IfOk result (λ number. table_at (map table_value tables.new.items) number
         ≡ Some (table_by (map part_value parts.now) stars.now turns.now)) }
     ensures known { OnOk result (IsKnown (map part_value parts.now) stars.now known.new
-        (map table_value tables.new.items) (told faults.new)) }
+        (map table_value tables.new.items) faults.new) }
     ensures found { IfOk result (λ number. known_in known.new turns.now ≡ Some number) }
     ensures stays { OnOk result (KeepsKnown known.old known.new) }
     ensures kept { OnOk result (Keeps (map table_value tables.old.items) (map table_value tables.new.items)) }
@@ -112,7 +112,7 @@ fn table_of<'l, 'm, 't>(
         (table_by (map part_value parts.now) stars.now turns.now)
         → All (IsOfName (map part_value parts.now)) (map table_value tables.old.items)
         → All (IsOfName (map part_value parts.now)) (map table_value tables.new.items)) }
-    ensures noted { OnOk result (told faults.new ≡ least_of (told faults.old)
+    ensures noted { OnOk result (Notes faults.old faults.new
         (faults_by (map part_value parts.now) stars.now turns.now)) }
 {
     match known.get(turns) {
@@ -131,12 +131,12 @@ fn add_table<'l, 'm, 't>(
     faults: &mut Faults<'t>,
 ) -> Result<TableId, AllocError>
     requires before { IsKnown (map part_value parts.now) stars.now known.old (map table_value tables.old.items)
-        (told faults.old) }
+        faults.old }
     requires is_new { known_in known.old turns.now ≡ None }
     ensures read { IfOk result (λ number. table_at (map table_value tables.new.items) number
         ≡ Some (table_by (map part_value parts.now) stars.now turns.now)) }
     ensures known { OnOk result (IsKnown (map part_value parts.now) stars.now known.new
-        (map table_value tables.new.items) (told faults.new)) }
+        (map table_value tables.new.items) faults.new) }
     ensures found { IfOk result (λ number. known_in known.new turns.now ≡ Some number) }
     ensures stays { OnOk result (KeepsKnown known.old known.new) }
     ensures kept { OnOk result (Keeps (map table_value tables.old.items) (map table_value tables.new.items)) }
@@ -144,7 +144,7 @@ fn add_table<'l, 'm, 't>(
         (table_by (map part_value parts.now) stars.now turns.now)
         → All (IsOfName (map part_value parts.now)) (map table_value tables.old.items)
         → All (IsOfName (map part_value parts.now)) (map table_value tables.new.items)) }
-    ensures noted { OnOk result (told faults.new ≡ least_of (told faults.old)
+    ensures noted { OnOk result (Notes faults.old faults.new
         (faults_by (map part_value parts.now) stars.now turns.now)) }
 {
     let numbers = chosen(alloc, stars, turns)?;

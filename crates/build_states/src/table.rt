@@ -1,7 +1,7 @@
 //! What a state says, by its parts.
 
 ghost use Rattle.std.specs.Prelude.{◌≡◌, ◌++◌, ◌∷◌, [], IfOk, OnOk, map, option_map, slice_get};
-ghost use Rattle.build_faults.specs.Faults.{least_of, told};
+ghost use Rattle.build_faults.specs.Faults.{Notes};
 ghost use Rattle.build_stimuli.specs.Listed.{continuous_value, part_value};
 ghost use Rattle.build_states.specs.States.{mentions_in, no_table, state_faults, table_of, twice_faults, with_parts};
 ghost use Rattle.build_states.specs.Outlined.{listed_part, parts_at};
@@ -33,7 +33,7 @@ pub fn read_table<'m, 't>(
 ) -> Result<Table<'m>, AllocError>
     ensures read { IfOk result (λ table. table_value table
         ≡ table_of (parts_at (map part_value parts.now) numbers.now)) }
-    ensures noted { OnOk result (told faults.new ≡ least_of (told faults.old)
+    ensures noted { OnOk result (Notes faults.old faults.new
         (state_faults (parts_at (map part_value parts.now) numbers.now))) }
 {
     let mut table = Table::new(alloc);
@@ -69,7 +69,7 @@ impl<'m> Table<'m> {
     ) -> Result<(), AllocError>
         ensures added { OnOk result (table_value self.new
             ≡ with_parts (table_value self.old) (listed_part (option_map part_seen part.entry))) }
-        ensures noted { OnOk result (told faults.new ≡ least_of (told faults.old)
+        ensures noted { OnOk result (Notes faults.old faults.new
             (twice_faults (table_value self.old).answers
             (mentions_in (listed_part (option_map part_seen part.entry))))) }
     {
@@ -86,7 +86,7 @@ impl<'m> Table<'m> {
     ) -> Result<(), AllocError>
         ensures added { OnOk result (table_value self.new
             ≡ with_parts (table_value self.old) (part_value part.now ∷ [])) }
-        ensures noted { OnOk result (told faults.new ≡ least_of (told faults.old)
+        ensures noted { OnOk result (Notes faults.old faults.new
             (twice_faults (table_value self.old).answers (mentions_in (part_value part.now ∷ [])))) }
     {
         self.answers.add_mentions(&part.mentions, faults)?;

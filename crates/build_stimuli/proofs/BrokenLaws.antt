@@ -4,12 +4,12 @@ use Rattle.std.proofs.lemmas.Bool.Decides.{nat_tests}
 use Rattle.std.proofs.lemmas.List.{append_assoc, length-append}
 use Rattle.build_faults.proofs.FaultLemmas.{each-both, each-if, each-of, in-each, in-if, in-left, in-right}
 use Rattle.build_faults.specs.FaultLaws.{Each, In}
-use Rattle.build_faults.specs.Faults.{Told, told_at}
-use Rattle.build_faults.specs.declared.fault.Kind.TheVariants as kind
+use Rattle.build_faults.specs.Faults.{Diagnostic, diagnostic_at}
+use Rattle.build_faults.specs.declared.fault.Rule.TheVariants as kind
 use Rattle.build_expressions.proofs.BrokenLaws.{broken-listed-at}
 use Rattle.build_expressions.proofs.ListedLaws.{each-weaker, listed-broken-at, none-is, not-true}
 use Rattle.build_expressions.specs.Broken.{IsBrokenAt}
-use Rattle.build_operators.specs.Kinds.{fits, kind_of}
+use Rattle.build_operators.specs.OperandSorts.{fits, kind_of}
 use Rattle.build_expressions.specs.Scope.{Scope, SignalMeaning, signal_in, value_in}
 use Rattle.build_expressions.specs.declared.context.Context.TheVariants as at
 use Rattle.build_expressions.specs.declared.scope.ValueMeaning.{ValueMeaning}
@@ -49,7 +49,7 @@ unfit-is (Some parameter) (Some variable) h =
     }
 
 module _ (scope : Scope) (parameters : List (Option Sort)) (variables : List (Option Spot)) where
-  abbrev Breaks : Told → Type 0
+  abbrev Breaks : Diagnostic → Type 0
   Breaks = BreaksPlaces scope parameters variables
 
   taken-broken : (name : Spot) (place : ℕ) (takes : TakesAt variables name place) (meaning : Option ValueMeaning) →
@@ -94,7 +94,7 @@ sort-first : (sorts : List (Option Sort)) → sort_at sorts 0 ≡ first_sort sor
 sort-first [] = refl
 sort-first (sort ∷ sorts) = refl
 
-module _ (scope : Scope) (name : Spot) (after : List (Option Spot)) (fault : Told) where
+module _ (scope : Scope) (name : Spot) (after : List (Option Spot)) (fault : Diagnostic) where
   in-places : (parameters : List (Option Sort)) (before : List (Option Spot)) →
       In fault (taken_faults (sort_at parameters (length before)) name (value_in scope name.text)) →
       In fault (variables_faults scope parameters (before ++ Some name ∷ after))
@@ -110,12 +110,12 @@ module _ (scope : Scope) (name : Spot) (after : List (Option Spot)) (fault : Tol
       (sort-later parameters (length before)) here))
 
 no-variable : (parameter : Option Sort) (name : Spot) (meaning : Option ValueMeaning) → IsNoVariable meaning →
-    In (told_at kind.Unknown name) (taken_faults parameter name meaning)
+    In (diagnostic_at kind.Unknown name) (taken_faults parameter name meaning)
 no-variable parameter name meaning nothing = inl refl
 no-variable parameter name meaning (a_synonym sort value) = inl refl
 
 module _ (scope : Scope) (parameters : List (Option Sort)) (variables : List (Option Spot)) where
-  placed : (name : Spot) (place : ℕ) (fault : Told) (takes : TakesAt variables name place) →
+  placed : (name : Spot) (place : ℕ) (fault : Diagnostic) (takes : TakesAt variables name place) →
       In fault (taken_faults (sort_at parameters place) name (value_in scope name.text)) →
       In fault (variables_faults scope parameters variables)
   placed name place fault takes here =
@@ -123,14 +123,15 @@ module _ (scope : Scope) (parameters : List (Option Sort)) (variables : List (Op
       (in-places scope name takes.after fault parameters takes.before
       (subst (λ n. In fault (taken_faults (sort_at parameters n) name (value_in scope name.text))) takes.counted here))
 
-  listed-places : (fault : Told) → BreaksPlaces scope parameters variables fault →
+  listed-places : (fault : Diagnostic) → BreaksPlaces scope parameters variables fault →
       In fault (variables_faults scope parameters variables)
   listed-places fault (unknown name place takes isnt) =
-      placed name place (told_at kind.Unknown name) takes
+      placed name place (diagnostic_at kind.Unknown name) takes
       (no-variable (sort_at parameters place) name (value_in scope name.text) isnt)
   listed-places fault (unfit name place takes number sort parameter is taken bad) =
-      placed name place (told_at kind.Sort name) takes
-      (subst (λ meaning. In (told_at kind.Sort name) (taken_faults (sort_at parameters place) name meaning)) (sym is)
+      placed name place (diagnostic_at kind.Sort name) takes
+      (subst (λ meaning. In (diagnostic_at kind.Sort name) (taken_faults (sort_at parameters place) name meaning))
+      (sym is)
       (in-if (is_unfit (sort_at parameters place) (Some sort)) kind.Sort name
       (ap (λ p. is_unfit p (Some sort)) taken ∙ ap not bad)))
 
@@ -161,18 +162,18 @@ module _ (context : Context) where
       (variables_faults context.scope (parameters_of meaning) input.variables) (λ fault h. at_place fault h)
       (each-places context.scope (parameters_of meaning) input.variables [] input.variables refl))
 
-  listed-input : (input : Input) (fault : Told) → BreaksInput context input fault →
+  listed-input : (input : Input) (fault : Diagnostic) → BreaksInput context input fault →
       In fault (input_faults context input)
   listed-input input fault (unknown_signal is) =
       let meaning = signal_in context.scope input.signal.text in
-      in-left (told_at kind.Unknown input.signal) (named_faults input meaning)
+      in-left (diagnostic_at kind.Unknown input.signal) (named_faults input meaning)
       (variables_faults context.scope (parameters_of meaning) input.variables)
-      (subst (λ m. In (told_at kind.Unknown input.signal) (named_faults input m)) (sym is) (inl refl))
+      (subst (λ m. In (diagnostic_at kind.Unknown input.signal) (named_faults input m)) (sym is) (inl refl))
   listed-input input fault (more_places means is more) =
       let meaning = signal_in context.scope input.signal.text in
-      in-left (told_at kind.Sort input.signal) (named_faults input meaning)
+      in-left (diagnostic_at kind.Sort input.signal) (named_faults input meaning)
       (variables_faults context.scope (parameters_of meaning) input.variables)
-      (subst (λ m. In (told_at kind.Sort input.signal) (named_faults input m)) (sym is)
+      (subst (λ m. In (diagnostic_at kind.Sort input.signal) (named_faults input m)) (sym is)
       (in-if (nat_lt (length (sorts_of means)) (length input.variables)) kind.Sort input.signal
       (is-less (length (sorts_of means)) (length input.variables) more)))
   listed-input input fault (at_place told h) =
@@ -189,7 +190,7 @@ module _ (context : Context) where
       each-if (BreaksItem context (ListItem name)) (is_none (list_in context name.text)) kind.Unknown name
       (λ h. no_list name (none-is (list_in context name.text) h))
 
-  listed-item : (item : SignalListItem) (fault : Told) → BreaksItem context item fault →
+  listed-item : (item : SignalListItem) (fault : Diagnostic) → BreaksItem context item fault →
       In fault (item_faults context item)
   listed-item item fault (no_signal name is) =
       in-if (is_none (signal_in context.scope name.text)) kind.Unknown name (ap is_none is)
@@ -240,7 +241,7 @@ module _ (context : Context) where
       (expression_faults context condition) (λ fault h. of_continuous word condition priority transition fault h)
       (listed-broken-at at.Condition context.scope (Some Boolean) condition)
 
-  listed-stimulus : (stimulus : Stimulus) (fault : Told) → BreaksStimulus context stimulus fault →
+  listed-stimulus : (stimulus : Stimulus) (fault : Diagnostic) → BreaksStimulus context stimulus fault →
       In fault (stimulus_faults context stimulus)
   listed-stimulus stimulus fault (of_input word inputs condition transition one told among h) =
       in-left fault (list_faults context inputs) (condition_faults context condition)

@@ -4,7 +4,7 @@ use Rattle.std.specs.Borrow.{Bor}
 use Rattle.std.specs.Global.{Vec}
 use Rattle.port_values.specs.declared.item.SignalId.{SignalId}
 use Rattle.build_definitions.specs.declared.entries.SignalListId.{SignalListId}
-use Rattle.build_limits.specs.Names.{first_of}
+use Rattle.build_scopes.specs.Names.{first_of}
 use Rattle.build_expressions.specs.Scope.{Scope, meaning, scope_of, visible}
 use Rattle.build_stimuli.specs.declared.context.Context as contexts
 

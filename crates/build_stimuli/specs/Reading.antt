@@ -1,7 +1,7 @@
 -- What the parts of a process say, in the order of the text (Z.101: state; Z.102: continuous signal, enabling
 -- condition).
 use Rattle.std.specs.Prelude.{◌+◌, ℤ, ◌++◌, List, [], ◌∷◌, Option, None, Some, flat_map, fold, length}
-use Rattle.build_faults.specs.Faults.{Told}
+use Rattle.build_faults.specs.Faults.{Diagnostic}
 use Rattle.build_expressions.specs.Typing.{taken_term, typed_in}
 use Rattle.build_expressions.specs.declared.context.Context.TheVariants as at
 use Rattle.sdl_system.specs.Term.{Term}
@@ -183,13 +183,13 @@ process_read context process = body_read context process.body
 
 -- ---- faults
 
-abbrev pub stimuli_faults : Context → List Stimulus → List Told
+abbrev pub stimuli_faults : Context → List Stimulus → List Diagnostic
 stimuli_faults context stimuli = flat_map (stimulus_faults context) stimuli
 
-abbrev pub part_faults : Context → BodyPart → List Told
+abbrev pub part_faults : Context → BodyPart → List Diagnostic
 part_faults context (StatePart states stimuli) = stimuli_faults context stimuli
 part_faults context (FreeAction word label transition) = []
 
 -- of what the stimuli of a process name; those of its states stand apart
-abbrev pub body_faults : Context → List BodyPart → List Told
+abbrev pub body_faults : Context → List BodyPart → List Diagnostic
 body_faults context body = flat_map (part_faults context) body

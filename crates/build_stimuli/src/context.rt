@@ -5,7 +5,7 @@ ghost use Rattle.build_stimuli.specs.Context.{listed_members, members_of};
 
 use build_definitions::SignalListId;
 use build_expressions::Scope;
-use build_limits::Outward;
+use build_scopes::Outward;
 use port_values::SignalId;
 
 /// What the stimuli of a process can name.

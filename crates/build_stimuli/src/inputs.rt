@@ -1,7 +1,7 @@
 //! Inputs, and what they say of their signals.
 
 ghost use Rattle.std.specs.Prelude.{◌≡◌, ◌++◌, ◌∷◌, [], IfOk, OnOk, map, option_map};
-ghost use Rattle.build_faults.specs.Faults.{least_of, told};
+ghost use Rattle.build_faults.specs.Faults.{Notes};
 ghost use Rattle.build_stimuli.specs.Context.{context_of};
 ghost use Rattle.build_expressions.specs.Scope.{signal_meaning};
 ghost use Rattle.build_stimuli.specs.Faulty.{input_faults, inputs_faults, list_faults, named_faults};
@@ -17,7 +17,7 @@ use crate::subject::Subject;
 use crate::transition::TransitionId;
 use crate::variables::read_variables;
 use build_expressions::SignalMeaning;
-use build_faults::{Faults, Kind, Token};
+use build_faults::{Faults, Rule, Token};
 use sdl_tree::{Input, Inputs, Mark, Spelling};
 use std::alloc::{AllocError, Global};
 
@@ -33,7 +33,7 @@ pub fn add_inputs<'t>(
 ) -> Result<(), AllocError>
     ensures read { OnOk result (mentions_listed mentions.new.items ≡ mentions_listed mentions.old.items
         ++ inputs_mentions (context_of context.now) manner begin (inputs_value inputs.now)) }
-    ensures noted { OnOk result (told faults.new ≡ least_of (told faults.old)
+    ensures noted { OnOk result (Notes faults.old faults.new
         (inputs_faults (context_of context.now) (inputs_value inputs.now))) }
 {
     match inputs {
@@ -59,7 +59,7 @@ pub fn add_list<'t>(
 ) -> Result<(), AllocError>
     ensures read { OnOk result (mentions_listed mentions.new.items ≡ mentions_listed mentions.old.items
         ++ list_mentions (context_of context.now) manner begin (map input_value inputs.now)) }
-    ensures noted { OnOk result (told faults.new ≡ least_of (told faults.old)
+    ensures noted { OnOk result (Notes faults.old faults.new
         (list_faults (context_of context.now) (map input_value inputs.now))) }
 {
     for input in inputs {
@@ -79,7 +79,7 @@ fn add_input<'t>(
 ) -> Result<(), AllocError>
     ensures read { OnOk result (mentions_listed mentions.new.items ≡ mentions_listed mentions.old.items
         ++ input_mention (context_of context.now) manner begin (input_value input.now) ∷ []) }
-    ensures noted { OnOk result (told faults.new ≡ least_of (told faults.old)
+    ensures noted { OnOk result (Notes faults.old faults.new
         (input_faults (context_of context.now) (input_value input.now))) }
 {
     let mention = read_input(alloc, context, manner, begin, input, faults)?;
@@ -97,7 +97,7 @@ fn read_input<'t>(
 ) -> Result<Mention<'t>, AllocError>
     ensures read { IfOk result (λ mention. mention_value mention
         ≡ input_mention (context_of context.now) manner begin (input_value input.now)) }
-    ensures noted { OnOk result (told faults.new ≡ least_of (told faults.old)
+    ensures noted { OnOk result (Notes faults.old faults.new
         (input_faults (context_of context.now) (input_value input.now))) }
 {
     let meaning = context.scope.signal(&input.signal.text);
@@ -114,15 +114,15 @@ fn read_input<'t>(
 /// Notes a name that is no signal's and no timer's as `Unknown`, and one with more places for variables than
 /// parameters as `Sort`.
 fn note_signal<'t>(meaning: Option<SignalMeaning<'_>>, input: &'t Input, faults: &mut Faults<'t>)
-    ensures { told faults.new ≡ least_of (told faults.old)
+    ensures { Notes faults.old faults.new
         (named_faults (input_value input.now) (option_map signal_meaning meaning.entry)) }
 {
     let name = Token::of_name(&input.signal);
     match meaning {
-        None => faults.note(Kind::Unknown, name),
+        None => faults.note(Rule::Unknown, name),
         Some(_) => {
             if parameters(meaning).len() < input.variables.len() {
-                faults.note(Kind::Sort, name);
+                faults.note(Rule::Sort, name);
             }
         }
     }

@@ -1,7 +1,7 @@
 //! The parts of a process, in the order of the text.
 
 ghost use Rattle.std.specs.Prelude.{◌≡◌, ◌<◌, ◌∷◌, ◌++◌, ◌^◌, [], IfOk, IsOk, OnOk, length, map, option_map};
-ghost use Rattle.build_faults.specs.Faults.{least_of, told};
+ghost use Rattle.build_faults.specs.Faults.{Notes};
 ghost use Rattle.build_stimuli.specs.Context.{context_of};
 ghost use Rattle.build_stimuli.specs.Faulty.{condition_faults, expression_faults, inputs_faults, list_faults, stimulus_faults};
 ghost use Rattle.build_stimuli.specs.Listed.{begun_value, conditions_listed, numbering_value, reading_value};
@@ -65,7 +65,7 @@ pub fn read_body<'t>(
 ) -> Result<Reading<'t>, AllocError>
     ensures read { IfOk result (λ reading. reading_value reading
         ≡ body_read (context_of context.now) (map body_part_value body.now)) }
-    ensures noted { OnOk result (told faults.new ≡ least_of (told faults.old)
+    ensures noted { OnOk result (Notes faults.old faults.new
         (body_faults (context_of context.now) (map body_part_value body.now))) }
 {
     let mut reading = Reading {
@@ -90,7 +90,7 @@ fn add_part<'t>(
 ) -> Result<(), AllocError>
     ensures read { OnOk result (reading_value reading.new
         ≡ with_part (context_of context.now) (reading_value reading.old) (body_part_value part.now)) }
-    ensures noted { OnOk result (told faults.new ≡ least_of (told faults.old)
+    ensures noted { OnOk result (Notes faults.old faults.new
         (part_faults (context_of context.now) (body_part_value part.now))) }
 {
     match part {
@@ -113,7 +113,7 @@ fn read_part<'t>(
     ensures read { IfOk result (λ read. begun_value numbering.new read
         ≡ part_read (context_of context.now) (numbering_value numbering.old) (states_value part.now.states)
         (map stimulus_value part.now.stimuli.items)) }
-    ensures noted { OnOk result (told faults.new ≡ least_of (told faults.old)
+    ensures noted { OnOk result (Notes faults.old faults.new
         (stimuli_faults (context_of context.now) (map stimulus_value part.now.stimuli.items))) }
 {
     let mut read = Part {
@@ -138,7 +138,7 @@ fn add_stimulus<'t>(
 ) -> Result<(), AllocError>
     ensures read { OnOk result (begun_value numbering.new part.new
         ≡ with_stimulus (context_of context.now) (begun_value numbering.old part.old) (stimulus_value stimulus.now)) }
-    ensures noted { OnOk result (told faults.new ≡ least_of (told faults.old)
+    ensures noted { OnOk result (Notes faults.old faults.new
         (stimulus_faults (context_of context.now) (stimulus_value stimulus.now))) }
 {
     match stimulus {
@@ -164,7 +164,7 @@ fn add_input<'t>(
     ensures read { OnOk result (begun_value numbering.new part.new
         ≡ with_input (context_of context.now) (begun_value numbering.old part.old) (inputs_value input.now.inputs)
         (option_map condition_value input.now.condition)) }
-    ensures noted { OnOk result (told faults.new ≡ least_of (told faults.old)
+    ensures noted { OnOk result (Notes faults.old faults.new
         (inputs_faults (context_of context.now) (inputs_value input.now.inputs)
         ++ condition_faults (context_of context.now) (option_map condition_value input.now.condition))) }
 {
@@ -227,7 +227,7 @@ fn add_condition<'t>(
 ) -> Result<(), AllocError>
     ensures read { OnOk result (conditions_listed conditions.new.items ≡ with_condition (context_of context.now)
         (conditions_listed conditions.old.items) (option_map condition_value condition.now)) }
-    ensures noted { OnOk result (told faults.new ≡ least_of (told faults.old)
+    ensures noted { OnOk result (Notes faults.old faults.new
         (condition_faults (context_of context.now) (option_map condition_value condition.now))) }
 {
     match condition {
@@ -245,7 +245,7 @@ fn add_expression<'t>(
 ) -> Result<(), AllocError>
     ensures read { OnOk result (conditions_listed conditions.new.items ≡ conditions_listed conditions.old.items
         ++ condition_term (context_of context.now) (expr_value condition.now) ∷ []) }
-    ensures noted { OnOk result (told faults.new ≡ least_of (told faults.old)
+    ensures noted { OnOk result (Notes faults.old faults.new
         (expression_faults (context_of context.now) (expr_value condition.now))) }
 {
     let resolved = resolve_condition(alloc, &context.scope, condition, faults)?;
@@ -276,7 +276,7 @@ fn add_priority<'t>(
     ensures read { OnOk result (begun_value numbering.new part.new
         ≡ with_priority (context_of context.now) (begun_value numbering.old part.old)
         (map input_value input.now.inputs.items)) }
-    ensures noted { OnOk result (told faults.new ≡ least_of (told faults.old)
+    ensures noted { OnOk result (Notes faults.old faults.new
         (list_faults (context_of context.now) (map input_value input.now.inputs.items))) }
 {
     let inputs = &input.inputs;
@@ -305,7 +305,7 @@ fn add_continuous<'t>(
     ensures read { OnOk result (begun_value numbering.new part.new
         ≡ with_continuous (context_of context.now) (begun_value numbering.old part.old)
         (expr_value signal.now.condition) (option_map number_value signal.now.priority)) }
-    ensures noted { OnOk result (told faults.new ≡ least_of (told faults.old)
+    ensures noted { OnOk result (Notes faults.old faults.new
         (expression_faults (context_of context.now) (expr_value signal.now.condition))) }
 {
     part.continuous.push(ContinuousSignal {

@@ -1,8 +1,8 @@
 //! Saves, and what they say of their signals.
 
 ghost use Rattle.std.specs.Prelude.{◌≡◌, ◌++◌, ◌∷◌, [], IfOk, OnOk, map};
-ghost use Rattle.build_faults.specs.Faults.{fault_if, least_of, told};
-ghost use Rattle.build_faults.specs.declared.fault.Kind.TheVariants.{Unknown};
+ghost use Rattle.build_faults.specs.Faults.{Notes, fault_if};
+ghost use Rattle.build_faults.specs.declared.fault.Rule.TheVariants.{Unknown};
 ghost use Rattle.build_stimuli.specs.Context.{context_of};
 ghost use Rattle.build_stimuli.specs.Faulty.{item_faults, saved_faults};
 ghost use Rattle.build_stimuli.specs.Listed.{mentions_listed};
@@ -15,7 +15,7 @@ use crate::inputs::add_rest;
 use crate::mention::{Mention, Response};
 use crate::signals::{list_subjects, subjects};
 use crate::subject::Subject;
-use build_faults::{Faults, Kind, Token};
+use build_faults::{Faults, Rule, Token};
 use sdl_tree::{Name, Saved, SignalListItem};
 use std::alloc::{AllocError, Global};
 
@@ -29,7 +29,7 @@ pub fn add_saved<'t>(
 ) -> Result<(), AllocError>
     ensures read { OnOk result (mentions_listed mentions.new.items ≡ mentions_listed mentions.old.items
         ++ saved_mentions (context_of context.now) (saved_value saved.now)) }
-    ensures noted { OnOk result (told faults.new ≡ least_of (told faults.old)
+    ensures noted { OnOk result (Notes faults.old faults.new
         (saved_faults (context_of context.now) (saved_value saved.now))) }
 {
     match saved {
@@ -47,7 +47,7 @@ fn add_items<'t>(
 ) -> Result<(), AllocError>
     ensures read { OnOk result (mentions_listed mentions.new.items ≡ mentions_listed mentions.old.items
         ++ saved_mentions (context_of context.now) (SaveList (map item_value items.now))) }
-    ensures noted { OnOk result (told faults.new ≡ least_of (told faults.old)
+    ensures noted { OnOk result (Notes faults.old faults.new
         (saved_faults (context_of context.now) (SaveList (map item_value items.now)))) }
 {
     for item in items {
@@ -65,7 +65,7 @@ fn add_item<'t>(
 ) -> Result<(), AllocError>
     ensures read { OnOk result (mentions_listed mentions.new.items ≡ mentions_listed mentions.old.items
         ++ item_mention (context_of context.now) (item_value item.now) ∷ []) }
-    ensures noted { OnOk result (told faults.new ≡ least_of (told faults.old)
+    ensures noted { OnOk result (Notes faults.old faults.new
         (item_faults (context_of context.now) (item_value item.now))) }
 {
     let subjects = read_item(alloc, context, item, faults)?;
@@ -95,7 +95,7 @@ fn read_item<'t>(
 ) -> Result<Vec<Subject>, AllocError>
     ensures read { IfOk result (λ subjects. subjects.items
         ≡ item_subjects (context_of context.now) (item_value item.now)) }
-    ensures noted { OnOk result (told faults.new ≡ least_of (told faults.old)
+    ensures noted { OnOk result (Notes faults.old faults.new
         (item_faults (context_of context.now) (item_value item.now))) }
 {
     match item {
@@ -113,9 +113,9 @@ fn read_item<'t>(
 }
 
 fn note_unknown<'t>(is_unknown: bool, name: &'t Name, faults: &mut Faults<'t>)
-    ensures { told faults.new ≡ least_of (told faults.old) (fault_if is_unknown Unknown (name_value name.now)) }
+    ensures { Notes faults.old faults.new (fault_if is_unknown Unknown (name_value name.now)) }
 {
     if is_unknown {
-        faults.note(Kind::Unknown, Token::of_name(name));
+        faults.note(Rule::Unknown, Token::of_name(name));
     }
 }

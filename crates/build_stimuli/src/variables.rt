@@ -1,7 +1,7 @@
 //! The variables that take the values of an input.
 
 ghost use Rattle.std.specs.Prelude.{◌≡◌, IfOk, OnOk, map, option_map};
-ghost use Rattle.build_faults.specs.Faults.{least_of, told};
+ghost use Rattle.build_faults.specs.Faults.{Notes};
 ghost use Rattle.build_expressions.specs.Scope.{scope_of};
 ghost use Rattle.build_stimuli.specs.Faulty.{is_unfit, variable_faults, variables_faults};
 ghost use Rattle.build_stimuli.specs.Mentions.{variable_in, variables_in};
@@ -9,7 +9,7 @@ ghost use Rattle.build_stimuli.specs.Places.{sort_at};
 ghost use Rattle.sdl_tree.specs.Views.{name_value};
 
 use build_expressions::{Scope, ValueMeaning};
-use build_faults::{Faults, Kind, Token};
+use build_faults::{Faults, Rule, Token};
 use sdl_system::{Sort, VariableId};
 use sdl_tree::Name;
 use std::alloc::{AllocError, Global};
@@ -25,7 +25,7 @@ pub fn read_variables<'t>(
 ) -> Result<Vec<Option<VariableId>>, AllocError>
     ensures read { IfOk result (λ list. list.items
         ≡ variables_in (scope_of scope.now) (map (option_map name_value) variables.now)) }
-    ensures noted { OnOk result (told faults.new ≡ least_of (told faults.old)
+    ensures noted { OnOk result (Notes faults.old faults.new
         (variables_faults (scope_of scope.now) parameters.now (map (option_map name_value) variables.now))) }
 {
     let mut read = Vec::new(alloc);
@@ -53,19 +53,19 @@ fn read_variable<'t>(
     faults: &mut Faults<'t>,
 ) -> Option<VariableId>
     ensures read { result ≡ variable_in (scope_of scope.now) (option_map name_value variable.now) }
-    ensures noted { told faults.new ≡ least_of (told faults.old)
+    ensures noted { Notes faults.old faults.new
         (variable_faults (scope_of scope.now) parameter (option_map name_value variable.now)) }
 {
     let name = variable.as_ref()?;
     match scope.value(&name.text) {
         Some(ValueMeaning::Variable { number, sort }) => {
             if is_unfit(parameter, sort) {
-                faults.note(Kind::Sort, Token::of_name(name));
+                faults.note(Rule::Sort, Token::of_name(name));
             }
             Some(number)
         }
         _ => {
-            faults.note(Kind::Unknown, Token::of_name(name));
+            faults.note(Rule::Unknown, Token::of_name(name));
             None
         }
     }
@@ -76,7 +76,7 @@ fn is_unfit(parameter: Option<Sort>, variable: Option<Sort>) -> bool
     ensures { result ≡ is_unfit parameter variable }
 {
     match (parameter, variable) {
-        (Some(parameter), Some(variable)) => !build_operators::Kind::of_sort(parameter).fits(
+        (Some(parameter), Some(variable)) => !build_operators::OperandSort::of_sort(parameter).fits(
             variable,
         ),
         _ => false,

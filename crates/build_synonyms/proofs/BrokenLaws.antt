@@ -4,8 +4,8 @@ use Rattle.std.specs.List.{slice_get}
 use Rattle.std.specs.Option.{unwrap_or}
 use Rattle.build_faults.proofs.FaultLemmas.{each-of, in-each}
 use Rattle.build_faults.specs.FaultLaws.{Each, In}
-use Rattle.build_faults.specs.Faults.{Told}
-use Rattle.build_limits.specs.Names.{first_of}
+use Rattle.build_faults.specs.Faults.{Diagnostic}
+use Rattle.build_scopes.specs.Names.{first_of}
 use Rattle.build_expressions.proofs.ConstantLaws.{broken-listed-constant, listed-broken-constant}
 use Rattle.build_expressions.proofs.ListedLaws.{each-weaker}
 use Rattle.build_expressions.specs.Broken.{IsBrokenConstant, InLinks, InValues, Within}
@@ -79,7 +79,8 @@ module _ (values : List (List ℕ × ValueEntry)) (number : ℕ) where
           | inr later ↦ let f = found-values rest later in (f.0, broken.behind_value f.1, f.2)
         ]
 
-pub listed-named : (values : List (List ℕ × ValueEntry)) (whole : Expr) (number : ℕ) → In number (named_in values whole) →
+pub listed-named : (values : List (List ℕ × ValueEntry)) (whole : Expr) (number : ℕ) →
+    In number (named_in values whole) →
     Names values whole number
 listed-named values whole number at =
     let f = found values number whole at in record { name = f.0; within = f.1; stands_for = f.2 }
@@ -156,7 +157,8 @@ listed-broken list table =
     (λ fault is. record { synonym = synonym; listed = at; broken = is })
     (listed-broken-constant (scope_with table synonym) synonym.sort (expr_value synonym.expression.now)))
 
-pub broken-listed : (list : List Synonym) (table : List Constant) (fault : Told) → IsBrokenSynonym list table fault →
+pub broken-listed : (list : List Synonym) (table : List Constant) (fault : Diagnostic) →
+    IsBrokenSynonym list table fault →
     In fault (flat_map (synonym_faults table) list)
 broken-listed list table fault at =
     in-each fault (synonym_faults table) list at.synonym at.listed

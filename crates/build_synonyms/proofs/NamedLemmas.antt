@@ -4,7 +4,7 @@ use Rattle.std.proofs.lemmas.Option.{unwrap_or-slice_get}
 use Rattle.build_expressions.specs.declared.scope.Constant.TheVariants.{NoValue}
 use Rattle.build_faults.proofs.FaultLemmas.{in-left, in-right}
 use Rattle.build_faults.specs.FaultLaws.{In}
-use Rattle.build_limits.specs.Names.{first_of, first_outward}
+use Rattle.build_scopes.specs.Names.{first_of, first_outward}
 use Rattle.build_expressions.proofs.ScopeLemmas.{meaning-first, outward-first}
 use Rattle.build_expressions.specs.Broken.{Within, InLinks, InValues}
 use Rattle.build_expressions.specs.Broken as broken

@@ -3,14 +3,14 @@ use Rattle.std.proofs.Common.{◌≡◌, ◌∙◌, ◌&&◌, ℕ, Bool, true, f
 use Rattle.std.proofs.lemmas.Option.{unwrap_or-slice_get}
 use Rattle.std.specs.Option.{option_and_then}
 use Rattle.build_faults.specs.FaultLaws.{In}
-use Rattle.build_faults.specs.Faults.{told_at}
-use Rattle.build_faults.specs.declared.fault.Kind.TheVariants.{BadCount}
+use Rattle.build_faults.specs.Faults.{diagnostic_at}
+use Rattle.build_faults.specs.declared.fault.Rule.TheVariants.{BadCount}
 use Rattle.build_expressions.proofs.ConstantLaws.{broken-listed-constant}
 use Rattle.build_expressions.proofs.ScopeLemmas.{meaning-first}
 use Rattle.build_expressions.specs.Broken.{InLinks, LacksValue, TakesKind, Within}
 use Rattle.build_expressions.specs.Broken as broken
 use Rattle.build_expressions.specs.Constants.{value_of}
-use Rattle.build_operators.specs.Kinds.{result_of, unary_result_of}
+use Rattle.build_operators.specs.OperandSorts.{result_of, unary_result_of}
 use Rattle.build_expressions.specs.Partial.{both}
 use Rattle.build_expressions.specs.Scope.{Scope, SignalMeaning, signal, timer, signal_in, value_in, value_meaning, visible}
 use Rattle.build_expressions.specs.Typing.{Argument, Typed, active_typed, activity, are_taken, arguments_in, binary_typed, chain_typed, joined_by, name_typed, of_synonym, typed_in, unary_typed, with_operation}
@@ -92,7 +92,8 @@ synonym-lacks None = tt
 synonym-lacks (Some sort) = refl
 
 module _ (scope : Scope) where
-  chain-lacks : (links : Links) (left : Option Typed) → LacksTerm left → LacksTerm (chain_typed Constant scope left links)
+  chain-lacks : (links : Links) (left : Option Typed) → LacksTerm left →
+      LacksTerm (chain_typed Constant scope left links)
   chain-lacks NoLink left lacks = lacks
   chain-lacks (AndLink operator word operand rest) left lacks =
       let right = typed_in Constant scope operand in
@@ -122,7 +123,8 @@ module _ (scope : Scope) where
 
 -- ---- synonyms that rest on one that doesn't settle
 
-lacks-value : (place : Option Sort) (term : Option Term) → term ≡ None → LacksValue place (option_and_then value_of term)
+lacks-value : (place : Option Sort) (term : Option Term) → term ≡ None →
+    LacksValue place (option_and_then value_of term)
 lacks-value place term is =
     subst (λ t. LacksValue place (option_and_then value_of t)) (sym is) (broken.no_value place)
 
@@ -131,7 +133,7 @@ pub unvalued-noted : (list : List Synonym) (table : List constants.Constant) →
     (Settles list named → ⊥) → (typed : Typed) →
     typed_in Constant (scope_with table synonym) (expr_value synonym.expression.now) ≡ Some typed →
     TakesKind synonym.sort typed.kind → typed.is_refused ≡ false →
-    In (told_at BadCount (first_word (expr_value synonym.expression.now))) (synonym_faults table synonym)
+    In (diagnostic_at BadCount (first_word (expr_value synonym.expression.now))) (synonym_faults table synonym)
 unvalued-noted list table are synonym named names unsettled typed typed_is taken accepted =
     let values = visible synonym.values in
     let whole = expr_value synonym.expression.now in
@@ -146,7 +148,7 @@ unvalued-noted list table are synonym named names unsettled typed typed_is taken
     let name_lacks : LacksTerm (typed_in Constant scope (Named names.name)) =
     subst (λ found. LacksTerm (name_typed Constant found)) (sym meaning) (synonym-lacks at.sort) in
     let term_is : typed.term ≡ None = subst LacksTerm typed_is (whole-lacks scope names.within name_lacks) in
-    broken-listed-constant scope synonym.sort whole (told_at BadCount (first_word whole))
+    broken-listed-constant scope synonym.sort whole (diagnostic_at BadCount (first_word whole))
     (broken.count (record {
       typed = typed;
       typed_is = typed_is;

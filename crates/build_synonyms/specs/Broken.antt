@@ -1,9 +1,9 @@
--- Which synonyms an expression names, which one rests on, and when a rule is broken in their definitions: said of the parts of the
--- expressions, and not of lists.
+-- Which synonyms an expression names, which one rests on, and when a rule is broken in their definitions: said of the
+-- parts of the expressions, and not of lists.
 use Rattle.std.specs.Prelude.{◌≡◌, ℕ, List, Option, Some, slice_get}
 use Rattle.build_faults.specs.FaultLaws.{In}
-use Rattle.build_faults.specs.Faults.{Told}
-use Rattle.build_limits.specs.Names.{first_of}
+use Rattle.build_faults.specs.Faults.{Diagnostic}
+use Rattle.build_scopes.specs.Names.{first_of}
 use Rattle.build_expressions.specs.Broken.{IsBrokenConstant, Within}
 use Rattle.build_expressions.specs.Scope.{visible}
 use Rattle.build_expressions.specs.declared.scope.Constant.{Constant}
@@ -41,7 +41,7 @@ pub data LeadsTo (synonyms : List Synonym) (other : ℕ) : ℕ → Type 0 where
       → LeadsTo synonyms other number
 
 -- a rule is broken in the definition of one of them, where the synonyms come to the constants of the table
-pub record IsBrokenSynonym (synonyms : List Synonym) (table : List Constant) (fault : Told) : Type 0 where
+pub record IsBrokenSynonym (synonyms : List Synonym) (table : List Constant) (fault : Diagnostic) : Type 0 where
   pub synonym : Synonym
   pub listed : In synonym synonyms
   pub broken :

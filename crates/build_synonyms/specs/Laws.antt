@@ -1,8 +1,8 @@
 -- What holds of synonyms and of what they come to.
 use Rattle.std.specs.Prelude.{◌≡◌, ℕ, false, List, Some, flat_map}
 use Rattle.build_faults.specs.FaultLaws.{Each, In}
-use Rattle.build_faults.specs.Faults.{Told, told_at}
-use Rattle.build_faults.specs.declared.fault.Kind.TheVariants.{BadCount}
+use Rattle.build_faults.specs.Faults.{Diagnostic, diagnostic_at}
+use Rattle.build_faults.specs.declared.fault.Rule.TheVariants.{BadCount}
 use Rattle.build_expressions.specs.Broken.{TakesKind, Within}
 use Rattle.build_expressions.specs.Scope.{Scope, signal_in, value_in, visible}
 use Rattle.build_expressions.specs.Typing.{Typed, typed_in}
@@ -19,7 +19,8 @@ use Rattle.sdl_tree.specs.Tree.{Expr, Named}
 use Rattle.sdl_tree.specs.Views.{expr_value}
 use Rattle.sdl_tree.specs.Words.{Spot}
 
--- The kind and the term of an expression rest on what signals and the names within it stand for, and on nothing else of the scope.
+-- The kind and the term of an expression rest on what signals and the names within it stand for, and on nothing else of
+-- the scope.
 abbrev pub TypedByNames : Type 0
 TypedByNames = (context : Context) (one other : Scope) (whole : Expr) →
     ((text : List ℕ) → signal_in one text ≡ signal_in other text) →
@@ -28,7 +29,8 @@ TypedByNames = (context : Context) (one other : Scope) (whole : Expr) →
 
 -- All tables of what the synonyms come to agree on each that settles, and have no value for the others.
 abbrev pub SettledOnce : Type 0
-SettledOnce = (synonyms : List Synonym) (one other : List Constant) → AreConstants synonyms one → AreConstants synonyms other →
+SettledOnce = (synonyms : List Synonym) (one other : List Constant) → AreConstants synonyms one →
+    AreConstants synonyms other →
     (number : ℕ) → Settles synonyms number → constant_of one number ≡ constant_of other number
 
 -- The list of synonyms that an expression names has those that a name within it stands for.
@@ -51,15 +53,15 @@ ListedBroken = (synonyms : List Synonym) (table : List Constant) →
     Each (IsBrokenSynonym synonyms table) (flat_map (synonym_faults table) synonyms)
 
 abbrev pub BrokenListed : Type 0
-BrokenListed = (synonyms : List Synonym) (table : List Constant) (fault : Told) →
+BrokenListed = (synonyms : List Synonym) (table : List Constant) (fault : Diagnostic) →
     IsBrokenSynonym synonyms table fault → In fault (flat_map (synonym_faults table) synonyms)
 
--- One that names a synonym that doesn't settle is BadCount at its first word, unless it breaks another rule or rests on a refused
--- synonym.
+-- One that names a synonym that doesn't settle is BadCount at its first word, unless it breaks another rule or rests on
+-- a refused synonym.
 abbrev pub UnvaluedNoted : Type 0
 UnvaluedNoted = (synonyms : List Synonym) (table : List Constant) → AreConstants synonyms table →
     (synonym : Synonym) (named : ℕ) → Names (visible synonym.values) (expr_value synonym.expression.now) named →
     (Settles synonyms named → ⊥) → (typed : Typed) →
     typed_in context.Constant (scope_with table synonym) (expr_value synonym.expression.now) ≡ Some typed →
     TakesKind synonym.sort typed.kind → typed.is_refused ≡ false →
-    In (told_at BadCount (first_word (expr_value synonym.expression.now))) (synonym_faults table synonym)
+    In (diagnostic_at BadCount (first_word (expr_value synonym.expression.now))) (synonym_faults table synonym)

@@ -1,8 +1,8 @@
--- What the synonyms of a specification come to (Z.104: synonyms). A synonym may be used before the place of its definition; one
--- that is defined by itself, directly or by others, has no value, nor has one that rests on such a one.
+-- What the synonyms of a specification come to (Z.104: synonyms). A synonym may be used before the place of its
+-- definition; one that is defined by itself, directly or by others, has no value, nor has one that rests on such a one.
 use Rattle.std.specs.Prelude.{◌≡◌, ℕ, List, Some, length, slice_get, slice_index_or}
 use Rattle.build_faults.specs.FaultLaws.{In}
-use Rattle.build_faults.specs.Faults.{Told}
+use Rattle.build_faults.specs.Faults.{Diagnostic}
 use Rattle.build_expressions.specs.Constants.{constant_faults, constant_in}
 use Rattle.build_expressions.specs.Scope.{Scope, agent_meaning, meaning, signal_meaning, value_meaning, visible}
 use Rattle.build_expressions.specs.declared.scope.Constant.{Constant}
@@ -23,14 +23,16 @@ scope_with table synonym = record {
 abbrev pub constant_with : List Constant → Synonym → Constant
 constant_with table synonym = constant_in (scope_with table synonym) synonym.sort (expr_value synonym.expression.now)
 
-abbrev pub synonym_faults : List Constant → Synonym → List Told
-synonym_faults table synonym = constant_faults (scope_with table synonym) synonym.sort (expr_value synonym.expression.now)
+abbrev pub synonym_faults : List Constant → Synonym → List Diagnostic
+synonym_faults table synonym = constant_faults (scope_with table synonym) synonym.sort
+    (expr_value synonym.expression.now)
 
 -- the synonyms that it names, by their numbers
 abbrev pub named_by : Synonym → List ℕ
 named_by synonym = named_in (visible synonym.values) (expr_value synonym.expression.now)
 
--- A synonym settles where each that it names does: those with no synonym in them, those that name none but such ones, and so on.
+-- A synonym settles where each that it names does: those with no synonym in them, those that name none but such ones,
+-- and so on.
 pub data Settles (synonyms : List Synonym) : ℕ → Type 0 where
   settles :
       (number : ℕ) (synonym : Synonym) → slice_get synonyms number ≡ Some synonym

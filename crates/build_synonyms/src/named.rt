@@ -2,13 +2,13 @@
 
 ghost use Rattle.std.specs.Prelude.{◌≡◌, ◌++◌, [], ◌∷◌, map, MatchOption, OnOk};
 ghost use Rattle.build_expressions.specs.Scope.{visible};
-ghost use Rattle.build_limits.specs.Names.{first_of};
+ghost use Rattle.build_scopes.specs.Names.{first_of};
 ghost use Rattle.build_synonyms.specs.Named.{named_in, named_in_values, synonym_in};
 ghost use Rattle.sdl_tree.specs.Tree.{exprs_of};
 ghost use Rattle.sdl_tree.specs.Views.{chain_value, expr_value, name_value};
 
 use build_expressions::ValueEntry;
-use build_limits::Outward;
+use build_scopes::Outward;
 use sdl_tree::{Chain, Expression, Name};
 use std::alloc::AllocError;
 

@@ -1,13 +1,13 @@
 //! The definition of a synonym.
 
 ghost use Rattle.std.specs.Prelude.{◌≡◌, IfOk, OnOk};
-ghost use Rattle.build_faults.specs.Faults.{least_of, told};
+ghost use Rattle.build_faults.specs.Faults.{Notes};
 ghost use Rattle.build_synonyms.specs.Synonyms.{constant_with, named_by, synonym_faults};
 
 use crate::named::add_named;
 use build_expressions::{AgentMeaning, Constant, Scope, SignalMeaning, ValueEntry, constant};
 use build_faults::Faults;
-use build_limits::Outward;
+use build_scopes::Outward;
 use sdl_system::Sort;
 use sdl_tree::Expression;
 use std::alloc::{AllocError, Global};
@@ -35,8 +35,7 @@ impl<'a, 's, 't> Synonym<'a, 's, 't> {
         faults: &mut Faults<'t>,
     ) -> Result<Constant, AllocError>
         ensures constant { IfOk result (λ constant. constant ≡ constant_with constants.now self.now) }
-        ensures noted { OnOk result (told faults.new
-            ≡ least_of (told faults.old) (synonym_faults constants.now self.now)) }
+        ensures noted { OnOk result (Notes faults.old faults.new (synonym_faults constants.now self.now)) }
     {
         let scope = Scope {
             values: self.values,

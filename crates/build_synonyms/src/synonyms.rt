@@ -1,7 +1,7 @@
 //! What all synonyms of a specification come to, and the faults in their definitions.
 
 ghost use Rattle.std.specs.Prelude.{◌≡◌, flat_map, map, IfOk, OnOk};
-ghost use Rattle.build_faults.specs.Faults.{least_of, told};
+ghost use Rattle.build_faults.specs.Faults.{Notes};
 ghost use Rattle.build_synonyms.specs.Synonyms.{AreConstants, named_by, synonym_faults};
 
 use crate::known::settle_all;
@@ -21,7 +21,7 @@ pub fn synonym_constants<'t>(
     faults: &mut Faults<'t>,
 ) -> Result<Vec<Constant>, AllocError>
     ensures constants { IfOk result (λ constants. AreConstants synonyms.now constants.items) }
-    ensures noted { IfOk result (λ constants. told faults.new ≡ least_of (told faults.old)
+    ensures noted { IfOk result (λ constants. Notes faults.old faults.new
         (flat_map (synonym_faults constants.items) synonyms.now)) }
 {
     let named = all_named(alloc, synonyms)?;
@@ -48,8 +48,7 @@ fn note_faults<'t>(
     constants: &[Constant],
     faults: &mut Faults<'t>,
 ) -> Result<(), AllocError>
-    ensures { OnOk result (told faults.new ≡ least_of (told faults.old)
-        (flat_map (synonym_faults constants.now) synonyms.now)) }
+    ensures { OnOk result (Notes faults.old faults.new (flat_map (synonym_faults constants.now) synonyms.now)) }
 {
     for synonym in synonyms {
         synonym.constant(alloc, constants, faults)?;

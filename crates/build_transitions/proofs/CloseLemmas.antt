@@ -21,8 +21,8 @@ use Rattle.build_nodes.specs.Labels.{itself, joined, no_label, not_joined, times
 use Rattle.build_nodes.specs.Made.{Closed, all_joins, all_labels}
 use Rattle.build_nodes.specs.Transitions.{body_in}
 use Rattle.build_faults.specs.FaultLaws.{In}
-use Rattle.build_faults.specs.Faults.{Told, fault_if}
-use Rattle.build_faults.specs.declared.fault.Kind.{Kind}
+use Rattle.build_faults.specs.Faults.{Diagnostic, fault_if}
+use Rattle.build_faults.specs.declared.fault.Rule.{Rule}
 use Rattle.sdl_system.specs.Body as body
 use Rattle.sdl_system.specs.Body.{Body, Ends, FromLabel}
 use Rattle.sdl_system.specs.Table.{LabelOf}
@@ -32,7 +32,8 @@ use Rattle.sdl_tree.specs.Words.{Spot}
 
 -- ---- transitions that end
 
-pub no-fault : (broken : Bool) (kind : Kind) (word : Spot) (rest : List Told) → fault_if broken kind word ++ rest ≡ [] →
+pub no-fault : (broken : Bool) (kind : Rule) (word : Spot) (rest : List Diagnostic) →
+    fault_if broken kind word ++ rest ≡ [] →
     (broken ≡ false) × (rest ≡ [])
 no-fault true kind word rest is = cc
 no-fault false kind word rest is = (refl, is)

@@ -5,8 +5,8 @@ use Rattle.std.specs.Str.{bytes_eq}
 use Rattle.build_transitions.proofs.CloseLemmas.{no-fault}
 use Rattle.build_transitions.proofs.EndLemmas.{some-same}
 use Rattle.build_transitions.specs.Numbered.{AreDifferent, declared_faults}
-use Rattle.build_limits.specs.Names.{first_of}
-use Rattle.build_faults.specs.declared.fault.Kind.TheVariants.{Duplicate}
+use Rattle.build_scopes.specs.Names.{first_of}
+use Rattle.build_faults.specs.declared.fault.Rule.TheVariants.{Duplicate}
 use Rattle.sdl_system.specs.declared.id.LabelId.{LabelId}
 use Rattle.sdl_tree.specs.Words.{Spot}
 

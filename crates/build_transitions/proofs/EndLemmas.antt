@@ -7,7 +7,7 @@ use Rattle.build_statements.specs.Statements.{answers_in, asked_in, create_in, k
 use Rattle.build_nodes.specs.Transitions.{Head, Piece, acts, asks, before, body_in, ending_in, head_in, labelled, other_in, parts_of, piece, pieces_in, steps_in}
 use Rattle.build_expressions.specs.Partial.{both}
 use Rattle.build_expressions.specs.Typing.{term_in}
-use Rattle.build_operators.specs.declared.kind.Kind.{Kind}
+use Rattle.build_operators.specs.declared.operand_sort.OperandSort.{OperandSort}
 use Rattle.sdl_system.proofs.BodyLemmas.{Ends-first, Ends-second}
 use Rattle.sdl_system.specs.Body as body
 use Rattle.sdl_system.specs.Body.{AllEnd, Body, Ends, FromLabel, InParts, followed, here, in_first, in_later, in_otherwise, past_action, past_decision, past_label, within}
@@ -144,7 +144,7 @@ module _ (context : Context) (enters : Spot → Bool) where
         subst (λ (x : Head). Ends (before x behind)) (sym (r.4 ∙ ap (asks r.0) s.4))
         (inl (parts-end (kind_in typed) parts s.0 s.1 s.2 no.0 (otherwise-ends other s.1 s.3 no.1)))
 
-    parts-end : (kind : Option Kind) (parts : Parts) (pieces : List Piece) (other : Option Body) →
+    parts-end : (kind : Option OperandSort) (parts : Parts) (pieces : List Piece) (other : Option Body) →
         pieces_in context kind parts ≡ Some pieces → parts_passed enters parts true ≡ false → EndsBehind other →
         AllEnd (parts_of pieces other)
     parts-end kind NoPart pieces other is stops ends =
@@ -332,7 +332,7 @@ module _ (context : Context) (enters : Spot → Bool) (l : LabelId)
         parts-onward (kind_in typed) parts comes s.0 s.1 s.2 (otherwise_passed enters other comes)
         (other-onward other comes s.1 s.3) inner (subst (λ (ps : body.Parts). InParts l ps inner) same at)
 
-    parts-onward : (kind : Option Kind) (parts : Parts) (comes : Bool) (pieces : List Piece) (o : Option Body) →
+    parts-onward : (kind : Option OperandSort) (parts : Parts) (comes : Bool) (pieces : List Piece) (o : Option Body) →
         pieces_in context kind parts ≡ Some pieces → (passed : Bool) →
         ((inner : Body) → InParts l (parts_of [] o) inner → Ends inner ⊎ (passed ≡ true)) → (inner : Body) →
         InParts l (parts_of pieces o) inner → Ends inner ⊎ ((parts_passed enters parts comes || passed) ≡ true)

@@ -12,7 +12,7 @@ use Rattle.build_statements.specs.Statements.{answers_in, asked_in, create_in, k
 use Rattle.build_nodes.specs.Transitions.{Head, Piece, acts, asks, before, body_in, ending_in, head_in, other_in, parts_of, piece, pieces_in, steps_in}
 use Rattle.build_expressions.specs.Partial.{both}
 use Rattle.build_expressions.specs.Typing.{term_in}
-use Rattle.build_operators.specs.declared.kind.Kind.{Kind}
+use Rattle.build_operators.specs.declared.operand_sort.OperandSort.{OperandSort}
 use Rattle.sdl_system.specs.Body as body
 use Rattle.sdl_system.specs.Body.{Body}
 use Rattle.sdl_system.specs.declared.id.LabelId.{LabelId}
@@ -128,7 +128,7 @@ module _ (context : Context) (f : LabelId → List LabelId) (g : body.Terminator
         (parts-gathers (kind_in typed) parts s.0 s.1 s.2 (of_all (otherwise_mentions other))
         (other-gathers other s.1 s.3) ∙ sym (of-append (parts_mentions parts) (otherwise_mentions other)))
 
-    parts-gathers : (kind : Option Kind) (parts : Parts) (pieces : List Piece) (other : Option Body) →
+    parts-gathers : (kind : Option OperandSort) (parts : Parts) (pieces : List Piece) (other : Option Body) →
         pieces_in context kind parts ≡ Some pieces → (last : List LabelId) →
         gathered_in f g (parts_of [] other) ≡ last →
         gathered_in f g (parts_of pieces other) ≡ of_all (parts_mentions parts) ++ last

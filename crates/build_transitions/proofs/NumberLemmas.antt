@@ -10,7 +10,7 @@ use Rattle.build_labels.specs.Labels.{process_labels}
 use Rattle.build_statements.specs.Contexts.{Context, label_in}
 use Rattle.build_nodes.specs.Labels.{times}
 use Rattle.build_faults.specs.FaultLaws.{In}
-use Rattle.build_limits.specs.Names.{first_of}
+use Rattle.build_scopes.specs.Names.{first_of}
 use Rattle.sdl_system.specs.declared.id.LabelId.{LabelId}
 use Rattle.sdl_tree.specs.Tree.{ProcessDefinition}
 use Rattle.sdl_tree.specs.Words.{Spot}

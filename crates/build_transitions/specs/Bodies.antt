@@ -4,7 +4,7 @@ use Rattle.std.specs.Prelude.{List, Option, flat_map, map}
 use Rattle.flow_paths.specs.Beginnings.{Beginning, beginnings}
 use Rattle.build_statements.specs.Contexts.{Context}
 use Rattle.build_nodes.specs.Transitions.{body_in, labelled, transition_faults}
-use Rattle.build_faults.specs.Faults.{Told}
+use Rattle.build_faults.specs.Faults.{Diagnostic}
 use Rattle.sdl_system.specs.Body.{Body}
 use Rattle.sdl_tree.specs.Tree.{ProcessDefinition}
 
@@ -22,11 +22,11 @@ bodies_of context process = bodies_among context (beginnings process)
 
 -- ---- rules that are broken, in the order of the text
 
-abbrev pub statement_faults : Context → Beginning → List Told
+abbrev pub statement_faults : Context → Beginning → List Diagnostic
 statement_faults context beginning = transition_faults context beginning.transition
 
-abbrev pub faults_among : Context → List Beginning → List Told
+abbrev pub faults_among : Context → List Beginning → List Diagnostic
 faults_among context list = flat_map (statement_faults context) list
 
-abbrev pub bodies_faults : Context → ProcessDefinition → List Told
+abbrev pub bodies_faults : Context → ProcessDefinition → List Diagnostic
 bodies_faults context process = faults_among context (beginnings process)

@@ -2,9 +2,9 @@
 use Rattle.std.specs.Prelude.{◌≡◌, ◌+◌, ◌++◌, ℕ, List, [], ◌∷◌, Some, is_some, slice_get}
 use Rattle.build_labels.specs.Labels.{process_labels}
 use Rattle.build_statements.specs.Contexts.{Context}
-use Rattle.build_faults.specs.Faults.{Told, fault_if}
-use Rattle.build_limits.specs.Names.{first_of}
-use Rattle.build_faults.specs.declared.fault.Kind.TheVariants.{Duplicate}
+use Rattle.build_faults.specs.Faults.{Diagnostic, fault_if}
+use Rattle.build_scopes.specs.Names.{first_of}
+use Rattle.build_faults.specs.declared.fault.Rule.TheVariants.{Duplicate}
 use Rattle.sdl_system.specs.declared.id.LabelId.{LabelId}
 use Rattle.sdl_tree.specs.Tree.{ProcessDefinition}
 use Rattle.sdl_tree.specs.Words.{Spot}
@@ -28,7 +28,7 @@ pub record AreNumbered (context : Context) (process : ProcessDefinition) : Type 
 -- ---- where labels are declared one after the other
 
 -- Duplicate at each label whose name stands among these or before it
-abbrev pub declared_faults : List (List ℕ × LabelId) → ℕ → List Spot → List Told
+abbrev pub declared_faults : List (List ℕ × LabelId) → ℕ → List Spot → List Diagnostic
 declared_faults names number [] = []
 declared_faults names number (label ∷ labels) =
     fault_if (is_some (first_of names label.text)) Duplicate label

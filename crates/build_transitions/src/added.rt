@@ -1,13 +1,13 @@
 //! Transitions that were added to a table of nodes.
 
-ghost use Rattle.std.specs.Prelude.{◌≡◌, ◌++◌, ◌∷◌, [], List, Option, None, Some, flat_map, map, OnOk};
+ghost use Rattle.std.specs.Prelude.{◌++◌, ◌∷◌, [], List, Option, None, Some, flat_map, map, OnOk};
 ghost use Rattle.build_transitions.specs.Added.{Enters, Holds, Stand};
 ghost use Rattle.build_transitions.specs.Bodies.{bodies_among, faults_among};
 ghost use Rattle.flow_paths.specs.Beginnings.{part_beginnings, stimulus_beginnings};
 ghost use Rattle.build_nodes.specs.Built.{BuiltIf, Table, table_of};
 ghost use Rattle.build_statements.specs.Contexts.{context_of};
 ghost use Rattle.build_nodes.specs.Transitions.{body_in, labelled, transition_faults};
-ghost use Rattle.build_faults.specs.Faults.{least_of, told};
+ghost use Rattle.build_faults.specs.Faults.{Notes};
 ghost use Rattle.sdl_system.specs.Body.{Body};
 ghost use Rattle.sdl_tree.specs.Views.{body_part_value, name_value, stimulus_value, transition_value};
 
@@ -49,7 +49,7 @@ pub(crate) fn add_parts<'t>(
 ) -> Result<(), AllocError>
     ensures added { OnOk result ((found : List (Option Body)) → Holds added.old found → Holds added.new (found
         ++ bodies_among (context_of context.now) (flat_map part_beginnings (map body_part_value parts.now)))) }
-    ensures noted { OnOk result (told faults.new ≡ least_of (told faults.old)
+    ensures noted { OnOk result (Notes faults.old faults.new
         (faults_among (context_of context.now) (flat_map part_beginnings (map body_part_value parts.now)))) }
 {
     for part in parts {
@@ -67,7 +67,7 @@ fn add_part<'t>(
 ) -> Result<(), AllocError>
     ensures added { OnOk result ((found : List (Option Body)) → Holds added.old found → Holds added.new (found
         ++ bodies_among (context_of context.now) (part_beginnings (body_part_value part.now)))) }
-    ensures noted { OnOk result (told faults.new ≡ least_of (told faults.old)
+    ensures noted { OnOk result (Notes faults.old faults.new
         (faults_among (context_of context.now) (part_beginnings (body_part_value part.now)))) }
 {
     match part {
@@ -85,7 +85,7 @@ fn add_stimuli<'t>(
 ) -> Result<(), AllocError>
     ensures added { OnOk result ((found : List (Option Body)) → Holds added.old found → Holds added.new (found
         ++ bodies_among (context_of context.now) (flat_map stimulus_beginnings (map stimulus_value stimuli.now)))) }
-    ensures noted { OnOk result (told faults.new ≡ least_of (told faults.old)
+    ensures noted { OnOk result (Notes faults.old faults.new
         (faults_among (context_of context.now) (flat_map stimulus_beginnings (map stimulus_value stimuli.now)))) }
 {
     for stimulus in stimuli {
@@ -103,7 +103,7 @@ fn add_stimulus<'t>(
 ) -> Result<(), AllocError>
     ensures added { OnOk result ((found : List (Option Body)) → Holds added.old found → Holds added.new (found
         ++ bodies_among (context_of context.now) (stimulus_beginnings (stimulus_value stimulus.now)))) }
-    ensures noted { OnOk result (told faults.new ≡ least_of (told faults.old)
+    ensures noted { OnOk result (Notes faults.old faults.new
         (faults_among (context_of context.now) (stimulus_beginnings (stimulus_value stimulus.now)))) }
 {
     match stimulus {
@@ -126,7 +126,7 @@ pub(crate) fn add_transition<'t>(
 ) -> Result<(), AllocError>
     ensures added { OnOk result ((found : List (Option Body)) → Holds added.old found → Holds added.new (found
         ++ body_in (context_of context.now) (transition_value transition.now) ∷ [])) }
-    ensures noted { OnOk result (told faults.new ≡ least_of (told faults.old)
+    ensures noted { OnOk result (Notes faults.old faults.new
         (transition_faults (context_of context.now) (transition_value transition.now))) }
 {
     let place = add(alloc, context, &mut added.table, transition, None, faults)?;
@@ -144,7 +144,7 @@ fn add_connection<'t>(
     ensures added { OnOk result ((found : List (Option Body)) → Holds added.old found → Holds added.new (found
         ++ labelled (context_of context.now) (Some (name_value action.now.label))
         (body_in (context_of context.now) (transition_value action.now.transition)) ∷ [])) }
-    ensures noted { OnOk result (told faults.new ≡ least_of (told faults.old)
+    ensures noted { OnOk result (Notes faults.old faults.new
         (transition_faults (context_of context.now) (transition_value action.now.transition))) }
 {
     let place = add(

@@ -8,7 +8,7 @@ ghost use Rattle.flow_paths.specs.Beginnings.{beginnings};
 ghost use Rattle.build_nodes.specs.Built.{table_of};
 ghost use Rattle.build_statements.specs.Contexts.{context_of};
 ghost use Rattle.build_nodes.specs.Made.{Closed};
-ghost use Rattle.build_faults.specs.Faults.{least_of, told};
+ghost use Rattle.build_faults.specs.Faults.{Notes};
 ghost use Rattle.sdl_system.specs.Body.{Body};
 ghost use Rattle.sdl_tree.specs.Views.{process_value};
 
@@ -50,7 +50,7 @@ pub fn transitions_of<'t>(
         AreTransitionsOf (context_of context.now) (process_value process.now) transitions) }
     ensures entries { IfOk result (λ transitions.
         HasEach (length (beginnings (process_value process.now))) transitions) }
-    ensures noted { OnOk result (told faults.new ≡ least_of (told faults.old)
+    ensures noted { OnOk result (Notes faults.old faults.new
         (bodies_faults (context_of context.now) (process_value process.now))) }
 {
     let added = add_process(alloc, context, process, faults)?;
@@ -65,7 +65,7 @@ fn add_process<'t>(
 ) -> Result<Added, AllocError>
     ensures added { IfOk result (λ added. Holds added (bodies_of (context_of context.now)
         (process_value process.now))) }
-    ensures noted { OnOk result (told faults.new ≡ least_of (told faults.old)
+    ensures noted { OnOk result (Notes faults.old faults.new
         (bodies_faults (context_of context.now) (process_value process.now))) }
 {
     let mut added = nothing_added(alloc);

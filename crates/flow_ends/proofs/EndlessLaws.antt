@@ -4,8 +4,8 @@ use Rattle.std.proofs.lemmas.Slice.Eq.{bytes_eq-Decides}
 use Rattle.std.specs.Str.{bytes_eq}
 use Rattle.build_faults.proofs.FaultLemmas.{each-if, each-of, in-each, in-if}
 use Rattle.build_faults.specs.FaultLaws.{Each, In}
-use Rattle.build_faults.specs.Faults.{Told, told_at}
-use Rattle.build_faults.specs.declared.fault.Kind.TheVariants.{NoEnd}
+use Rattle.build_faults.specs.Faults.{Diagnostic, diagnostic_at}
+use Rattle.build_faults.specs.declared.fault.Rule.TheVariants.{NoEnd}
 use Rattle.sdl_tree.specs.Tree.{ProcessDefinition}
 use Rattle.sdl_tree.specs.Words.{Spot}
 use Rattle.flow_paths.specs.Beginnings.{Beginning, beginnings}
@@ -56,7 +56,7 @@ there-begins process from (broken.joined label name at same) =
 
 endless : (process : ProcessDefinition) (beginning : Beginning) → In beginning (beginnings process) →
     transition_passed (enters_named (process_joins process)) beginning.transition true ≡ true →
-    IsEndless process (told_at NoEnd beginning.word)
+    IsEndless process (diagnostic_at NoEnd beginning.word)
 endless process beginning at is =
     let f = runs (enters_named (process_joins process)) beginning.transition true is in
     record {
@@ -75,7 +75,7 @@ listed-endless process =
     (transition_passed (enters_named (process_joins process)) beginning.transition true) NoEnd beginning.word
     (endless process beginning at))
 
-pub endless-listed : (process : ProcessDefinition) (fault : Told) → IsEndless process fault →
+pub endless-listed : (process : ProcessDefinition) (fault : Diagnostic) → IsEndless process fault →
     In fault (ends_faults process)
 endless-listed process fault at =
     let enters = enters_named (process_joins process) in

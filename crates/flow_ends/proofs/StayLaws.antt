@@ -2,7 +2,7 @@
 use Rattle.std.proofs.Common.{ℕ, inl, List, refl}
 use Rattle.build_faults.proofs.FaultLemmas.{each-of, in-each}
 use Rattle.build_faults.specs.FaultLaws.{Each, In}
-use Rattle.build_faults.specs.Faults.{Told}
+use Rattle.build_faults.specs.Faults.{Diagnostic}
 use Rattle.sdl_tree.specs.Tree.{Join, Next, ProcessDefinition, Same, Stop, Terminator, To}
 use Rattle.flow_paths.specs.Beginnings.{beginnings}
 use Rattle.flow_reach.specs.Broken.{IsStay}
@@ -25,7 +25,7 @@ listed-stays process names are =
     (met-reached (beginnings process) names are.each terminator at))
 
 pub stays-listed : (process : ProcessDefinition) (names : List (List ℕ)) → AreReached (beginnings process) names →
-    (fault : Told) → IsStay process fault → In fault (stay_faults (beginnings process) names)
+    (fault : Diagnostic) → IsStay process fault → In fault (stay_faults (beginnings process) names)
 stays-listed process names are fault is =
     in-each fault stay_fault (met_from (beginnings process) names) (Next is.word (Same is.dash))
     (reached-listed (beginnings process) names are (Next is.word (Same is.dash)) is.reached)

@@ -1,7 +1,7 @@
 -- Names of joins, each with a turn, that were found by a quick search: a test shows that the start reaches them.
 use Rattle.std.specs.Prelude.{◌&&◌, ℕ, Bool, true, false, List, [], ◌∷◌, Option, None, Some, flat_map, map, nat_lt, if◌then◌else◌}
 use Rattle.std.specs.Borrow.{Bor}
-use Rattle.build_limits.specs.Names.{first_of}
+use Rattle.build_scopes.specs.Names.{first_of}
 use Rattle.sdl_tree.specs.Tree.{Join, Next, Stop, Terminator}
 use Rattle.sdl_tree.specs.Views.{name_value}
 use Rattle.sdl_tree.specs.declared.name.Name.{Name}

@@ -4,11 +4,11 @@ ghost use Rattle.std.specs.Prelude.{◌≡◌, flat_map, true, IfOk, OnOk};
 ghost use Rattle.flow_reach.specs.Ends.{beginning_faults, ends_faults, enters_named};
 ghost use Rattle.flow_paths.specs.Listed.{beginning_value, beginnings_listed, texts};
 ghost use Rattle.flow_paths.specs.Passing.{transition_passed};
-ghost use Rattle.build_faults.specs.Faults.{least_of, told};
+ghost use Rattle.build_faults.specs.Faults.{Notes};
 ghost use Rattle.sdl_tree.specs.Views.{process_value, transition_value};
 
-use build_faults::{Faults, Kind};
-use build_limits::Names;
+use build_faults::{Faults, Rule};
+use build_scopes::Names;
 use flow_paths::{Beginning, Entries, beginnings_of, joins_in, walk_transition};
 use sdl_tree::{ProcessDefinition, Transition};
 use std::alloc::{AllocError, Global};
@@ -21,7 +21,7 @@ pub fn note_ends<'t>(
     process: &'t ProcessDefinition,
     faults: &mut Faults<'t>,
 ) -> Result<(), AllocError>
-    ensures { OnOk result (told faults.new ≡ least_of (told faults.old) (ends_faults (process_value process.now))) }
+    ensures { OnOk result (Notes faults.old faults.new (ends_faults (process_value process.now))) }
 {
     let beginnings = beginnings_of(alloc, process)?;
     let joins = joins_in(alloc, &beginnings)?;
@@ -34,7 +34,7 @@ fn note_all<'t>(
     beginnings: &[Beginning<'t>],
     faults: &mut Faults<'t>,
 ) -> Result<(), AllocError>
-    ensures { OnOk result (told faults.new ≡ least_of (told faults.old)
+    ensures { OnOk result (Notes faults.old faults.new
         (flat_map (beginning_faults (texts joins.now)) (beginnings_listed beginnings.now))) }
 {
     for beginning in beginnings {
@@ -49,11 +49,11 @@ fn note<'t>(
     beginning: &Beginning<'t>,
     faults: &mut Faults<'t>,
 ) -> Result<(), AllocError>
-    ensures { OnOk result (told faults.new ≡ least_of (told faults.old)
+    ensures { OnOk result (Notes faults.old faults.new
         (beginning_faults (texts joins.now) (beginning_value beginning.now))) }
 {
     if passes(alloc, joins, beginning.transition)? {
-        faults.note(Kind::NoEnd, beginning.word);
+        faults.note(Rule::NoEnd, beginning.word);
     }
     Ok(())
 }

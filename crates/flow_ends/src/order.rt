@@ -2,7 +2,7 @@
 //! proved rests on it.
 
 use build_faults::Faults;
-use build_limits::Names;
+use build_scopes::Names;
 use flow_paths::Beginning;
 use sdl_tree::{
     Action, ActionStatement, AnswerPart, Name, Terminator, TerminatorStatement, Transition,

@@ -10,7 +10,7 @@ ghost use Rattle.sdl_tree.specs.Views.{name_value};
 
 use crate::order::order;
 use build_faults::Faults;
-use build_limits::Names;
+use build_scopes::Names;
 use flow_paths::{Beginning, Entries, Found};
 use flow_reach::found_from;
 use sdl_lex::Place;

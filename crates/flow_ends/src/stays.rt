@@ -1,14 +1,14 @@
 //! `nextstate -` that the start can reach.
 
-ghost use Rattle.std.specs.Prelude.{◌≡◌, flat_map, IfOk, OnOk};
+ghost use Rattle.std.specs.Prelude.{flat_map, IfOk, OnOk};
 ghost use Rattle.flow_paths.specs.Joins.{AreAllMet};
 ghost use Rattle.flow_paths.specs.Listed.{beginnings_listed, terminators_listed};
 ghost use Rattle.flow_reach.specs.Stays.{NotesStays, stay_fault};
-ghost use Rattle.build_faults.specs.Faults.{least_of, told};
+ghost use Rattle.build_faults.specs.Faults.{Notes};
 ghost use Rattle.sdl_tree.specs.Views.{process_value, terminator_value};
 
 use crate::quick::quick_names;
-use build_faults::{Faults, Kind, Token};
+use build_faults::{Faults, Rule, Token};
 use flow_paths::{Beginning, Found, beginnings_of, labels_in};
 use flow_reach::reach;
 use sdl_tree::{Mark, NextState, ProcessDefinition, Terminator};
@@ -21,7 +21,7 @@ pub fn note_stays<'t>(
     process: &'t ProcessDefinition,
     faults: &mut Faults<'t>,
 ) -> Result<(), AllocError>
-    ensures { OnOk result (NotesStays (process_value process.now) (told faults.old) (told faults.new)) }
+    ensures { OnOk result (NotesStays (process_value process.now) faults.old faults.new) }
 {
     let beginnings = beginnings_of(alloc, process)?;
     let found = reached(alloc, &beginnings)?;
@@ -39,7 +39,7 @@ fn reached<'t>(alloc: Global, beginnings: &[Beginning<'t>]) -> Result<Vec<Found<
 }
 
 fn note_found<'t>(found: &[Found<'t>], faults: &mut Faults<'t>)
-    ensures { told faults.new ≡ least_of (told faults.old) (flat_map stay_fault (terminators_listed found.now)) }
+    ensures { Notes faults.old faults.new (flat_map stay_fault (terminators_listed found.now)) }
 {
     for one in found {
         note_stay(one.terminator, faults);
@@ -47,13 +47,13 @@ fn note_found<'t>(found: &[Found<'t>], faults: &mut Faults<'t>)
 }
 
 fn note_stay<'t>(terminator: &'t Terminator, faults: &mut Faults<'t>)
-    ensures { told faults.new ≡ least_of (told faults.old) (stay_fault (terminator_value terminator.now)) }
+    ensures { Notes faults.old faults.new (stay_fault (terminator_value terminator.now)) }
 {
     if let Terminator::NextState {
         state: NextState::Same(dash),
         ..
     } = terminator
     {
-        faults.note(Kind::NoState, Token::of_mark(Mark::Minus, *dash));
+        faults.note(Rule::NoState, Token::of_mark(Mark::Minus, *dash));
     }
 }

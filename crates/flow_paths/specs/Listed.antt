@@ -12,7 +12,7 @@ use Rattle.flow_paths.specs.declared.walk.Entries.TheVariants as entries
 use Rattle.flow_paths.specs.declared.walk.Found.{Found}
 use Rattle.sdl_lex.specs.declared.place.Place.{Place}
 use Rattle.build_faults.specs.Faults.{token_word}
-use Rattle.build_limits.specs.Names.{first_of}
+use Rattle.build_scopes.specs.Names.{first_of}
 use Rattle.sdl_tree.specs.Tree as tree
 use Rattle.sdl_tree.specs.Views.{name_value, terminator_value, transition_value}
 use Rattle.sdl_tree.specs.Words.{Spot}

@@ -2,7 +2,7 @@
 use Rattle.std.specs.Prelude.{◌≡◌, ◌==◌, ◌&&◌, ◌||◌, ℕ, Bool, true, false, List, Option, None, Some, flat_map}
 use Rattle.sdl_lex.specs.declared.place.Place.{Place}
 use Rattle.build_faults.specs.FaultLaws.{In}
-use Rattle.build_limits.specs.Names.{first_of}
+use Rattle.build_scopes.specs.Names.{first_of}
 use Rattle.sdl_tree.specs.Tree.{Join, Terminator}
 use Rattle.sdl_tree.specs.Words.{Spot}
 use Rattle.sdl_tree.specs.declared.name.Spelling.{Spelling}

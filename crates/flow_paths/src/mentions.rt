@@ -11,7 +11,7 @@ ghost use Rattle.sdl_tree.specs.Views.{action_value, answer_part_value, ending_v
 
 use crate::beginnings::Beginning;
 use build_faults::Faults;
-use build_limits::Names;
+use build_scopes::Names;
 use sdl_lex::Place;
 use sdl_tree::{
     Action, ActionStatement, AnswerPart, Name, Terminator, TerminatorStatement, Transition,

@@ -7,7 +7,7 @@ ghost use Rattle.flow_paths.specs.Turns.{action_found, action_turn, actions_foun
 ghost use Rattle.sdl_tree.specs.Tree as tree;
 ghost use Rattle.sdl_tree.specs.Views.{action_value, answer_part_value, ending_value, name_value, statement_value, terminator_value, transition_value};
 
-use build_limits::Names;
+use build_scopes::Names;
 use sdl_lex::Place;
 use sdl_tree::{
     Action, ActionStatement, AnswerPart, Name, Terminator, TerminatorStatement, Transition,

@@ -3,7 +3,7 @@ use Rattle.std.proofs.Common.{◌≡◌, ◌∙◌, ◌&&◌, ◌||◌, ℕ, Boo
 use Rattle.std.proofs.Math.Path.{fun_ext}
 use Rattle.std.specs.Str.{bytes_eq}
 use Rattle.sdl_lex.specs.declared.place.Place.{Place}
-use Rattle.build_limits.specs.Names.{first_of}
+use Rattle.build_scopes.specs.Names.{first_of}
 use Rattle.sdl_tree.specs.Tree.{Transition}
 use Rattle.sdl_tree.specs.Views.{terminator_value}
 use Rattle.sdl_tree.specs.Words.{Spot}

@@ -2,8 +2,8 @@
 use Rattle.std.proofs.Common.{◌≡◌, ◌∙◌, ◌<◌, ℕ, inl, inr, Bool, true, false, if◌then◌else◌, List, [], ◌∷◌, ◌++◌, Option, is_some, flat_map, ap, sym, subst}
 use Rattle.std.proofs.lemmas.List.{map-append}
 use Rattle.build_faults.specs.FaultLaws.{In}
-use Rattle.build_faults.specs.Faults.{Told, least_of}
-use Rattle.build_limits.specs.Names.{first_of}
+use Rattle.build_faults.specs.Faults.{Diagnostic, least_of}
+use Rattle.build_scopes.specs.Names.{first_of}
 use Rattle.sdl_tree.specs.Tree.{Join, ProcessDefinition, Terminator}
 use Rattle.flow_paths.specs.Beginnings.{Beginning, beginnings}
 use Rattle.flow_paths.specs.Joins.{AreAllMet, any_new, count_open, joins_in, with_joins, with_name}
@@ -61,7 +61,7 @@ name-known names text is = ap (λ (b : Bool). if b then texts names else texts n
 -- ---- what is noted at the end
 
 pub stays-noted : (process : ProcessDefinition) (all : List Beginning) (terminators : List Terminator)
-    (old new : Option Told) →
+    (old new : Option Diagnostic) →
     all ≡ beginnings process → AreAllMet all terminators → new ≡ least_of old (flat_map stay_fault terminators) →
     NotesStays process old new
 stays-noted process all terminators old new same are is = record {

@@ -1,8 +1,8 @@
 -- When a rule on the ends of transitions is broken: said of paths, and not of lists.
 use Rattle.std.specs.Prelude.{◌≡◌}
 use Rattle.build_faults.specs.FaultLaws.{In}
-use Rattle.build_faults.specs.Faults.{Told, told_at, mark_word}
-use Rattle.build_faults.specs.declared.fault.Kind.TheVariants.{NoEnd, NoState}
+use Rattle.build_faults.specs.Faults.{Diagnostic, diagnostic_at, mark_word}
+use Rattle.build_faults.specs.declared.fault.Rule.TheVariants.{NoEnd, NoState}
 use Rattle.sdl_tree.specs.Tree.{Next, ProcessDefinition, Same}
 use Rattle.sdl_tree.specs.Words.{Spot}
 use Rattle.sdl_tree.specs.declared.mark.Mark.TheVariants as mark
@@ -21,17 +21,17 @@ pub data Begins (process : ProcessDefinition) : Origin → Type 0 where
       → Begins process (AtLabel label)
 
 -- NoEnd: a path through the transition of a start, a stimulus or a connection runs off its end
-pub record IsEndless (process : ProcessDefinition) (fault : Told) : Type 0 where
+pub record IsEndless (process : ProcessDefinition) (fault : Diagnostic) : Type 0 where
   pub beginning : Beginning
   pub of_process : In beginning (beginnings process)
   pub from : Origin
   pub begins : Begins process from
   pub runs_off : RunsOff from beginning.transition
-  pub told_is : fault ≡ told_at NoEnd beginning.word
+  pub told_is : fault ≡ diagnostic_at NoEnd beginning.word
 
 -- NoState: the start can reach a `nextstate -`
-pub record IsStay (process : ProcessDefinition) (fault : Told) : Type 0 where
+pub record IsStay (process : ProcessDefinition) (fault : Diagnostic) : Type 0 where
   pub word : Spelling
   pub dash : Spelling
   pub reached : StartReaches (beginnings process) (Next word (Same dash))
-  pub told_is : fault ≡ told_at NoState (mark_word mark.Minus dash)
+  pub told_is : fault ≡ diagnostic_at NoState (mark_word mark.Minus dash)

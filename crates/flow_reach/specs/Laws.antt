@@ -1,7 +1,7 @@
 -- What holds of paths and of what is noted.
 use Rattle.std.specs.Prelude.{◌≡◌, ℕ, Bool, true, List}
 use Rattle.build_faults.specs.FaultLaws.{Each, In}
-use Rattle.build_faults.specs.Faults.{Told}
+use Rattle.build_faults.specs.Faults.{Diagnostic}
 use Rattle.sdl_tree.specs.Tree.{ProcessDefinition, Terminator, Transition}
 use Rattle.sdl_tree.specs.Words.{Spot}
 use Rattle.flow_paths.specs.Beginnings.{Beginning, beginnings}
@@ -44,7 +44,8 @@ abbrev pub ListedEndless : Type 0
 ListedEndless = (process : ProcessDefinition) → Each (IsEndless process) (ends_faults process)
 
 abbrev pub EndlessListed : Type 0
-EndlessListed = (process : ProcessDefinition) (fault : Told) → IsEndless process fault → In fault (ends_faults process)
+EndlessListed = (process : ProcessDefinition) (fault : Diagnostic) → IsEndless process fault →
+    In fault (ends_faults process)
 
 -- Where the names are those of the joins that the start reaches, it reaches each terminator that is met, and no other.
 abbrev pub MetReached : Type 0
@@ -62,4 +63,4 @@ ListedStays = (process : ProcessDefinition) (names : List (List ℕ)) → AreRea
 
 abbrev pub StaysListed : Type 0
 StaysListed = (process : ProcessDefinition) (names : List (List ℕ)) → AreReached (beginnings process) names →
-    (fault : Told) → IsStay process fault → In fault (stay_faults (beginnings process) names)
+    (fault : Diagnostic) → IsStay process fault → In fault (stay_faults (beginnings process) names)

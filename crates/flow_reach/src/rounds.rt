@@ -9,7 +9,7 @@ ghost use Rattle.flow_paths.specs.Turns.{beginning_found, entry_turn, first_turn
 ghost use Rattle.sdl_tree.specs.Views.{name_value, terminator_value};
 
 use build_faults::Faults;
-use build_limits::Names;
+use build_scopes::Names;
 use flow_paths::{Beginning, Entries, Found, walk_transition};
 use sdl_lex::Place;
 use sdl_tree::{Name, Terminator};

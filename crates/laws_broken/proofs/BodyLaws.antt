@@ -14,10 +14,10 @@ use Rattle.build_nodes.proofs.BrokenLaws as node_laws
 use Rattle.build_nodes.proofs.ListedLaws as node_listed
 use Rattle.build_nodes.specs.Broken as transitions
 use Rattle.build_process.specs.Faulty.{body_faults}
-use Rattle.build_process.specs.Surroundings.{Surroundings, for_stimuli, for_transitions}
+use Rattle.build_process.specs.ProcessScope.{ProcessScope, for_stimuli, for_transitions}
 use Rattle.build_faults.proofs.FaultLemmas.{each-both, each-of, in-each, in-left, in-right}
 use Rattle.build_faults.specs.FaultLaws.{Each, In}
-use Rattle.build_faults.specs.Faults.{Told}
+use Rattle.build_faults.specs.Faults.{Diagnostic}
 use Rattle.build_expressions.proofs.ListedLaws.{each-weaker}
 use Rattle.build_states.proofs.BrokenLaws as state_laws
 use Rattle.build_states.specs.Broken as states
@@ -27,24 +27,24 @@ use Rattle.build_stimuli.specs.Broken as stimuli
 use Rattle.build_stimuli.specs.Reading as reading
 use Rattle.sdl_tree.specs.Tree.{ProcessDefinition}
 
-module _ (around : Surroundings) (process : ProcessDefinition) (names : List (List ℕ))
+module _ (around : ProcessScope) (process : ProcessDefinition) (names : List (List ℕ))
     (are : AreReached (beginnings process) names) where
-  abbrev Breaks : Told → Type 0
+  abbrev Breaks : Diagnostic → Type 0
   Breaks fault = BrokenBody around process fault
 
-  abbrev of_stimuli : List Told
+  abbrev of_stimuli : List Diagnostic
   of_stimuli = reading.body_faults (for_stimuli around) process.body
 
-  abbrev of_states : List Told
+  abbrev of_states : List Diagnostic
   of_states = states_faults (for_stimuli around) process.body
 
-  abbrev of_transitions : List Told
+  abbrev of_transitions : List Diagnostic
   of_transitions = bodies_faults (for_transitions around) process
 
-  abbrev of_ends : List Told
+  abbrev of_ends : List Diagnostic
   of_ends = ends_faults process
 
-  abbrev of_stays : List Told
+  abbrev of_stays : List Diagnostic
   of_stays = stay_faults (beginnings process) names
 
   -- ---- each fault is broken
@@ -80,14 +80,14 @@ module _ (around : Surroundings) (process : ProcessDefinition) (names : List (Li
 
   -- ---- each that is broken is listed
 
-  in-states : (fault : Told) → In fault (of_stimuli ++ of_states) → In fault (body_faults around process names)
+  in-states : (fault : Diagnostic) → In fault (of_stimuli ++ of_states) → In fault (body_faults around process names)
   in-states fault at = in-left fault (of_stimuli ++ of_states) (of_transitions ++ (of_ends ++ of_stays)) at
 
-  in-flow : (fault : Told) → In fault (of_transitions ++ (of_ends ++ of_stays)) →
+  in-flow : (fault : Diagnostic) → In fault (of_transitions ++ (of_ends ++ of_stays)) →
       In fault (body_faults around process names)
   in-flow fault at = in-right fault (of_stimuli ++ of_states) (of_transitions ++ (of_ends ++ of_stays)) at
 
-  in-body : (fault : Told) → BrokenBody around process fault → In fault (body_faults around process names)
+  in-body : (fault : Diagnostic) → BrokenBody around process fault → In fault (body_faults around process names)
   in-body fault (broken.stimulus told breaks) =
       in-states told
       (in-left told of_stimuli of_states (stimulus_laws.broken-listed (for_stimuli around) process.body told breaks))

@@ -4,13 +4,13 @@ use Rattle.std.proofs.lemmas.Int.{ints}
 use Rattle.laws_broken.specs.Instances.{HasTooMany, all_at_start, at_start}
 use Rattle.build_constants.specs.declared.counts.InstanceCounts.{InstanceCounts}
 use Rattle.build_definitions.specs.Rows.{ProcessRow}
-use Rattle.build_definitions.specs.Tables.{Rows}
-use Rattle.build_constants.specs.Figures.{all_counts, counts_at}
+use Rattle.build_definitions.specs.Definitions.{Rows}
+use Rattle.build_constants.specs.ConstantTable.{all_counts, counts_at}
 use Rattle.build_constants.specs.Limit.{limit_faults, limit_from, most_instances, taken_by}
-use Rattle.build_names.specs.declared.declared.Declared.{Declared}
+use Rattle.build_names.specs.declared.symbol_table.SymbolTable.{SymbolTable}
 use Rattle.build_faults.specs.FaultLaws.{Each, In}
-use Rattle.build_faults.specs.Faults.{Told, told_at}
-use Rattle.build_faults.specs.declared.fault.Kind.TheVariants.{Limit}
+use Rattle.build_faults.specs.Faults.{Diagnostic, diagnostic_at}
+use Rattle.build_faults.specs.declared.fault.Rule.TheVariants.{Limit}
 use Rattle.build_expressions.specs.declared.scope.Constant.{Constant}
 
 -- ---- numbers
@@ -73,32 +73,34 @@ some-taken (Some counts) = some-initial counts.initial (int_lt counts.initial (p
 
 -- ---- lists
 
-each-test : (P : Told → Type 0) (told : Told) (rest : List Told) (a b : ℤ) (test : Bool) → int_lt a b ≡ test →
+each-test : (P : Diagnostic → Type 0) (told : Diagnostic) (rest : List Diagnostic) (a b : ℤ) (test : Bool) →
+    int_lt a b ≡ test →
     (a <ℤ b → P told) → (b ≤ℤ a → Each P rest) → Each P (if test then told ∷ [] else rest)
 each-test P told rest a b true is past below = (past (less-holds a b is), tt)
 each-test P told rest a b false is past below = below (less-fails a b is)
 
-in-now : (told : Told) (rest : List Told) (test : Bool) → test ≡ true → In told (if test then told ∷ [] else rest)
+in-now : (told : Diagnostic) (rest : List Diagnostic) (test : Bool) → test ≡ true →
+    In told (if test then told ∷ [] else rest)
 in-now told rest true is = inl refl
 in-now told rest false is = cc
 
-in-later : (fault told : Told) (rest : List Told) (test : Bool) → test ≡ false → In fault rest →
+in-later : (fault told : Diagnostic) (rest : List Diagnostic) (test : Bool) → test ≡ false → In fault rest →
     In fault (if test then told ∷ [] else rest)
 in-later fault told rest true is at = cc
 in-later fault told rest false is at = at
 
-module _ (rows : Rows) (declared : Declared) (constants : List Constant) where
+module _ (rows : Rows) (symbols : SymbolTable) (constants : List Constant) where
   abbrev one : ProcessRow → ℤ
-  one process = at_start rows declared constants process
+  one process = at_start rows symbols constants process
 
   abbrev all : List ProcessRow → ℤ
-  all processes = all_at_start rows declared constants processes
+  all processes = all_at_start rows symbols constants processes
 
   abbrev counted : List ProcessRow → List (Option InstanceCounts)
-  counted processes = map (counts_at rows declared constants) processes
+  counted processes = map (counts_at rows symbols constants) processes
 
-  abbrev Breaks : Told → Type 0
-  Breaks fault = HasTooMany rows declared constants fault
+  abbrev Breaks : Diagnostic → Type 0
+  Breaks fault = HasTooMany rows symbols constants fault
 
   all-behind : (before : List ProcessRow) (process : ProcessRow) →
       all (before ++ process ∷ []) ≡ all before +ℤ one process
@@ -109,14 +111,14 @@ module _ (rows : Rows) (declared : Declared) (constants : List Constant) where
   all-some : (processes : List ProcessRow) → pos 0 ≤ℤ all processes
   all-some [] = some-taken None
   all-some (first ∷ processes) =
-      add-some (one first) (all processes) (some-taken (counts_at rows declared constants first)) (all-some processes)
+      add-some (one first) (all processes) (some-taken (counts_at rows symbols constants first)) (all-some processes)
 
   each-process : (after before : List ProcessRow) (left : ℤ) → rows.processes ≡ before ++ after →
       left +ℤ all before ≡ most_instances → all before ≤ℤ most_instances →
       Each Breaks (limit_from left after (counted after))
   each-process [] before left is left_is enough = tt
   each-process (process ∷ after) before left is left_is enough =
-      each-test Breaks (told_at Limit process.definition.name)
+      each-test Breaks (diagnostic_at Limit process.definition.name)
       (limit_from (left -ℤ one process) after (counted after)) left (one process) (int_lt left (one process)) refl
       (λ past. record {
         before = before;
@@ -136,14 +138,14 @@ module _ (rows : Rows) (declared : Declared) (constants : List Constant) where
 
   in-process : (before : List ProcessRow) (process : ProcessRow) (after : List ProcessRow) (left : ℤ) →
       all before ≤ℤ left → left <ℤ (all before +ℤ one process) →
-      In (told_at Limit process.definition.name)
+      In (diagnostic_at Limit process.definition.name)
       (limit_from left (before ++ process ∷ after) (counted (before ++ process ∷ after)))
   in-process [] process after left enough past =
-      in-now (told_at Limit process.definition.name) (limit_from (left -ℤ one process) after (counted after))
+      in-now (diagnostic_at Limit process.definition.name) (limit_from (left -ℤ one process) after (counted after))
       (int_lt left (one process))
       (true-if left (one process) (int_lt left (one process)) refl (past-none (one process) left past))
   in-process (first ∷ before) process after left enough past =
-      in-later (told_at Limit process.definition.name) (told_at Limit first.definition.name)
+      in-later (diagnostic_at Limit process.definition.name) (diagnostic_at Limit first.definition.name)
       (limit_from (left -ℤ one first) (before ++ process ∷ after) (counted (before ++ process ∷ after)))
       (int_lt left (one first))
       (false-if left (one first) (int_lt left (one first)) refl
@@ -151,17 +153,18 @@ module _ (rows : Rows) (declared : Declared) (constants : List Constant) where
       (in-process before process after (left -ℤ one first) (rest-below (one first) (all before) left enough)
       (rest-past (one first) (all before) (one process) left past))
 
-pub listed-instances : (rows : Rows) (declared : Declared) (constants : List Constant) →
-    Each (HasTooMany rows declared constants) (limit_faults rows.processes (all_counts rows declared constants))
-listed-instances rows declared constants =
-    each-process rows declared constants rows.processes [] most_instances refl (start-none most_instances)
+pub listed-instances : (rows : Rows) (symbols : SymbolTable) (constants : List Constant) →
+    Each (HasTooMany rows symbols constants) (limit_faults rows.processes (all_counts rows symbols constants))
+listed-instances rows symbols constants =
+    each-process rows symbols constants rows.processes [] most_instances refl (start-none most_instances)
     (omega (arith, ints))
 
-pub instances-listed : (rows : Rows) (declared : Declared) (constants : List Constant) (fault : Told) →
-    HasTooMany rows declared constants fault →
-    In fault (limit_faults rows.processes (all_counts rows declared constants))
-instances-listed rows declared constants fault many =
-    subst (λ (told : Told). In told (limit_faults rows.processes (all_counts rows declared constants))) (sym many.told)
-    (subst (λ (list : List ProcessRow). In (told_at Limit many.process.definition.name)
-    (limit_from most_instances list (map (counts_at rows declared constants) list))) (sym many.in_text)
-    (in-process rows declared constants many.before many.process many.after most_instances many.enough many.too_many))
+pub instances-listed : (rows : Rows) (symbols : SymbolTable) (constants : List Constant) (fault : Diagnostic) →
+    HasTooMany rows symbols constants fault →
+    In fault (limit_faults rows.processes (all_counts rows symbols constants))
+instances-listed rows symbols constants fault many =
+    subst (λ (told : Diagnostic). In told (limit_faults rows.processes (all_counts rows symbols constants)))
+        (sym many.told)
+    (subst (λ (list : List ProcessRow). In (diagnostic_at Limit many.process.definition.name)
+    (limit_from most_instances list (map (counts_at rows symbols constants) list))) (sym many.in_text)
+    (in-process rows symbols constants many.before many.process many.after most_instances many.enough many.too_many))

@@ -3,11 +3,11 @@ use Rattle.std.proofs.Common.{◌≡◌, ◌∙◌, ◌==◌, ◌&&◌, ◌||◌
 use Rattle.std.proofs.lemmas.Bool.Decides.{nat_tests}
 use Rattle.laws_broken.specs.Limits.{IsNoLimit, LimitFirst, LimitStays}
 use Rattle.build_faults.proofs.FaultLemmas.{both_noted}
-use Rattle.build_faults.specs.Faults.{Told, is_less, least_of, phase, precedes, rank}
-use Rattle.build_faults.specs.declared.fault.Kind.{Kind}
-use Rattle.build_faults.specs.declared.fault.Kind.TheVariants.{BadCount, Duplicate, Limit, NoEnd, NoLabel, NoRoute, NoState, Sort, TwiceInState, Unknown}
+use Rattle.build_faults.specs.Faults.{Diagnostic, is_less, least_of, phase, precedes, rank}
+use Rattle.build_faults.specs.declared.fault.Rule.{Rule}
+use Rattle.build_faults.specs.declared.fault.Rule.TheVariants.{BadCount, Duplicate, Limit, NoEnd, NoLabel, NoRoute, NoState, Sort, TwiceInState, Unknown}
 
-no-phase : (kind : Kind) → (kind ≡ Limit → ⊥) → phase kind ≡ 1
+no-phase : (rule : Rule) → (rule ≡ Limit → ⊥) → phase rule ≡ 1
 no-phase Unknown isnt = refl
 no-phase Duplicate isnt = refl
 no-phase Sort isnt = refl
@@ -22,12 +22,12 @@ no-phase Limit isnt = absurd (isnt refl)
 behind : (x y : ℕ) (rest : Bool) → x ≡ 1 → y ≡ 0 → (nat_lt x y || (x == y && rest)) ≡ false
 behind x y rest one none = grind (arith, nat_tests)
 
-later : (limit fault : Told) → limit.kind ≡ Limit → IsNoLimit fault → precedes fault limit ≡ false
+later : (limit fault : Diagnostic) → limit.rule ≡ Limit → IsNoLimit fault → precedes fault limit ≡ false
 later limit fault is isnt =
-    behind (phase fault.kind) (phase limit.kind)
-    (is_less (fault.place.line ∷ fault.place.column ∷ rank fault.kind ∷ [])
-    (limit.place.line ∷ limit.place.column ∷ rank limit.kind ∷ []))
-    (no-phase fault.kind isnt) (ap phase is)
+    behind (phase fault.rule) (phase limit.rule)
+    (is_less (fault.place.line ∷ fault.place.column ∷ rank fault.rule ∷ [])
+    (limit.place.line ∷ limit.place.column ∷ rank limit.rule ∷ []))
+    (no-phase fault.rule isnt) (ap phase is)
 
 pub limit-stays : LimitStays
 limit-stays limit [] is none = refl

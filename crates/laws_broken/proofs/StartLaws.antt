@@ -8,8 +8,8 @@ use Rattle.build_constants.specs.Counts.{accepted, allows_none, are_misfit, coun
 use Rattle.build_constants.specs.Limit.{taken_by}
 use Rattle.build_constants.specs.Scopes.{scope_in}
 use Rattle.build_faults.proofs.FaultLemmas.{each-in, in-if, in-right}
-use Rattle.build_faults.specs.Faults.{Told, fault_if, told_at, mark_word}
-use Rattle.build_faults.specs.declared.fault.Kind.TheVariants.{BadCount}
+use Rattle.build_faults.specs.Faults.{Diagnostic, fault_if, diagnostic_at, mark_word}
+use Rattle.build_faults.specs.declared.fault.Rule.TheVariants.{BadCount}
 use Rattle.build_expressions.specs.Scope.{Scope}
 use Rattle.build_expressions.specs.declared.scope.Constant.TheVariants as constants
 use Rattle.sdl_system.specs.Operation.{number_of}
@@ -105,16 +105,16 @@ module _ (scope : Scope) where
 
   -- ---- where no rule is broken
 
-  broken-counts : (counts : Counts) (fault : Told) → IsBrokenInCounts scope (Some counts) fault →
+  broken-counts : (counts : Counts) (fault : Diagnostic) → IsBrokenInCounts scope (Some counts) fault →
       BreaksCounts scope counts fault
   broken-counts counts fault breaks =
       let same : counts ≡ breaks.written = cc in
       subst (λ (c : Counts). BreaksCounts scope c fault) (sym same) breaks.broken
 
-  are-fit : (counts : Counts) → ((fault : Told) → BreaksCounts scope counts fault → ⊥) → (test : Bool) →
+  are-fit : (counts : Counts) → ((fault : Diagnostic) → BreaksCounts scope counts fault → ⊥) → (test : Bool) →
       are_misfit (part_in scope counts.initial) (part_in scope (maximum_in counts.bound)) ≡ test → test ≡ false
   are-fit counts unbroken true misfit =
-      let told : Told = told_at BadCount (mark_word mark.Open counts.parenthesis) in
+      let told : Diagnostic = diagnostic_at BadCount (mark_word mark.Open counts.parenthesis) in
       let test : Bool = are_misfit (part_in scope counts.initial) (part_in scope (maximum_in counts.bound)) in
       absurd (unbroken told (broken-counts counts told
       (each-in (IsBrokenInCounts scope (Some counts)) (counts_faults scope (Some counts)) told
@@ -134,5 +134,5 @@ module _ (scope : Scope) where
       (are-fit said unbroken (are_misfit (part_in scope said.initial) (part_in scope (maximum_in said.bound))) refl)
 
 pub initial-counted : InitialCounted
-initial-counted rows declared constants process number starts =
-    starts-with (scope_in rows declared constants process.scope) process.definition.counts number starts
+initial-counted rows symbols constants process number starts =
+    starts-with (scope_in rows symbols constants process.scope) process.definition.counts number starts

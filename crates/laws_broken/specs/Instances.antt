@@ -4,38 +4,39 @@ use Rattle.std.specs.Prelude.{◌≡◌, ◌≤ℤ◌, ◌<ℤ◌, ◌++◌, ◌
 use Rattle.build_constants.specs.Broken.{BreaksCounts, IsInitial, IsMaximum}
 use Rattle.build_constants.specs.Counts.{maximum_in}
 use Rattle.build_definitions.specs.Rows.{ProcessRow}
-use Rattle.build_definitions.specs.Tables.{Rows}
-use Rattle.build_constants.specs.Figures.{counts_at}
+use Rattle.build_definitions.specs.Definitions.{Rows}
+use Rattle.build_constants.specs.ConstantTable.{counts_at}
 use Rattle.build_constants.specs.Limit.{most_instances, taken_by}
 use Rattle.build_constants.specs.Scopes.{scope_in}
-use Rattle.build_names.specs.declared.declared.Declared.{Declared}
-use Rattle.build_faults.specs.Faults.{Told, told_at}
-use Rattle.build_faults.specs.declared.fault.Kind.TheVariants.{Limit}
+use Rattle.build_names.specs.declared.symbol_table.SymbolTable.{SymbolTable}
+use Rattle.build_faults.specs.Faults.{Diagnostic, diagnostic_at}
+use Rattle.build_faults.specs.declared.fault.Rule.TheVariants.{Limit}
 use Rattle.build_expressions.specs.Scope.{Scope}
 use Rattle.build_expressions.specs.declared.scope.Constant.{Constant}
 use Rattle.sdl_tree.specs.Tree.{Counts}
 
 -- so many instances of the process are counted at the start; none where its numbers of instances come to nothing
-abbrev pub at_start : Rows → Declared → List Constant → ProcessRow → ℤ
-at_start rows declared constants process = taken_by (counts_at rows declared constants process)
+abbrev pub at_start : Rows → SymbolTable → List Constant → ProcessRow → ℤ
+at_start rows symbols constants process = taken_by (counts_at rows symbols constants process)
 
 -- so many there are of all these processes together
-abbrev pub all_at_start : Rows → Declared → List Constant → List ProcessRow → ℤ
-all_at_start rows declared constants [] = pos 0
-all_at_start rows declared constants (process ∷ more) =
-    at_start rows declared constants process +ℤ all_at_start rows declared constants more
+abbrev pub all_at_start : Rows → SymbolTable → List Constant → List ProcessRow → ℤ
+all_at_start rows symbols constants [] = pos 0
+all_at_start rows symbols constants (process ∷ more) =
+    at_start rows symbols constants process +ℤ all_at_start rows symbols constants more
 
 -- with this process there are more than 1,000, and with those that stand before it there are not
-pub record HasTooMany (rows : Rows) (declared : Declared) (constants : List Constant) (fault : Told) : Type 0 where
+pub record HasTooMany (rows : Rows) (symbols : SymbolTable) (constants : List Constant) (fault : Diagnostic) :
+    Type 0 where
   pub before : List ProcessRow
   pub process : ProcessRow
   pub after : List ProcessRow
   pub in_text : rows.processes ≡ before ++ process ∷ after
-  pub enough : all_at_start rows declared constants before ≤ℤ most_instances
+  pub enough : all_at_start rows symbols constants before ≤ℤ most_instances
   pub too_many :
       most_instances
-      <ℤ (all_at_start rows declared constants before +ℤ at_start rows declared constants process)
-  pub told : fault ≡ told_at Limit process.definition.name
+      <ℤ (all_at_start rows symbols constants before +ℤ at_start rows symbols constants process)
+  pub told : fault ≡ diagnostic_at Limit process.definition.name
 
 -- ---- how many one process has
 
@@ -49,11 +50,11 @@ pub data StartsWith (scope : Scope) : Option Counts → ℤ → Type 0 where
   unwritten : StartsWith scope None (pos 1)
   written :
       (counts : Counts) (number : ℤ) → IsInitial scope counts number → IsBounded scope counts
-      → ((fault : Told) → BreaksCounts scope counts fault → ⊥) → StartsWith scope (Some counts) number
+      → ((fault : Diagnostic) → BreaksCounts scope counts fault → ⊥) → StartsWith scope (Some counts) number
 
 -- As many are counted of it.
 abbrev pub InitialCounted : Type 0
 InitialCounted =
-    (rows : Rows) (declared : Declared) (constants : List Constant) (process : ProcessRow) (number : ℤ)
-    → StartsWith (scope_in rows declared constants process.scope) process.definition.counts number
-    → at_start rows declared constants process ≡ number
+    (rows : Rows) (symbols : SymbolTable) (constants : List Constant) (process : ProcessRow) (number : ℤ)
+    → StartsWith (scope_in rows symbols constants process.scope) process.definition.counts number
+    → at_start rows symbols constants process ≡ number

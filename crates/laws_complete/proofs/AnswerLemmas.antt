@@ -4,17 +4,17 @@ use Rattle.port_values.specs.declared.value.Value.{Value}
 use Rattle.laws_complete.specs.Complete.{HasValue, IsComplete, IsThere}
 use Rattle.laws_complete.specs.Expressions.{HasTerm}
 use Rattle.build_faults.specs.Faults.{fault_if, mark_word}
-use Rattle.build_faults.specs.declared.fault.Kind.TheVariants as broken
+use Rattle.build_faults.specs.declared.fault.Rule.TheVariants as broken
 use Rattle.build_expressions.specs.Answers.{answer_constant, answer_faults, answer_in, answer_value, answer_value_faults, comparable_in, compared_faults, comparison_for, has_order, is_comparable, is_incomparable, known}
 use Rattle.build_expressions.specs.Constants.{constant_faults, constant_in, counted, counted_faults, is_miscounted, value_of, with_value}
-use Rattle.build_operators.specs.Kinds.{result_of}
+use Rattle.build_operators.specs.OperandSorts.{result_of}
 use Rattle.build_expressions.specs.Misused.{expression_faults, place_faults}
 use Rattle.build_expressions.specs.Partial.{both}
 use Rattle.build_expressions.specs.Scope.{Scope}
 use Rattle.build_expressions.specs.Typing.{Typed, taken_in, typed_in}
 use Rattle.build_expressions.specs.Words.{first_word}
 use Rattle.build_expressions.specs.declared.context.Context.TheVariants as at
-use Rattle.build_operators.specs.declared.kind.Kind.{Kind}
+use Rattle.build_operators.specs.declared.operand_sort.OperandSort.{OperandSort}
 use Rattle.build_expressions.specs.declared.scope.Constant.{Constant}
 use Rattle.build_expressions.specs.declared.scope.Constant.TheVariants as constants
 use Rattle.sdl_system.specs.declared.answer.Answer.TheVariants as answers
@@ -63,19 +63,20 @@ some-there : {A : Type 0} (found : Option A) → is_none found ≡ false → is_
 some-there None is = cc
 some-there (Some x) is = refl
 
-comparable : (question : Option Kind) (typed : Option Typed) → HasTerm typed → is_incomparable question typed ≡ false →
+comparable : (question : Option OperandSort) (typed : Option Typed) → HasTerm typed →
+    is_incomparable question typed ≡ false →
     is_comparable question typed ≡ true
 comparable question None has is = absurd has
 comparable None (Some typed) has is = refl
 comparable (Some asked) (Some typed) has is = some-there (result_of operator.Equal asked typed.kind) is
 
 -- a value that can be compared stays what it is
-comparable-is : (question : Option Kind) (typed : Option Typed) → HasTerm typed →
+comparable-is : (question : Option OperandSort) (typed : Option Typed) → HasTerm typed →
     is_incomparable question typed ≡ false → comparable_in question typed ≡ typed
 comparable-is question typed has is =
     if-so (λ found. found ≡ typed) (is_comparable question typed) typed None (comparable question typed has is) refl
 
-compared-given : (question : Option Kind) (word : Spot) (typed : Option Typed) → HasTerm typed →
+compared-given : (question : Option OperandSort) (word : Spot) (typed : Option Typed) → HasTerm typed →
     compared_faults question word typed ≡ [] → HasValue (counted None (comparable_in question typed))
 compared-given question word typed has is =
     let unfit = fault_if (is_incomparable question typed) broken.Sort word in
@@ -86,7 +87,7 @@ compared-given question word typed has is =
     counted-given None word (comparable_in question typed) (subst HasTerm (sym same) has)
     (empty-right unfit uncounted is)
 
-module _ (scope : Scope) (question : Option Kind) (complete : IsComplete scope) where
+module _ (scope : Scope) (question : Option OperandSort) (complete : IsComplete scope) where
   answer-value : (value : Expr) → answer_value_faults scope question value ≡ [] →
       IsThere (answer_value scope question value)
   answer-value value is =

@@ -2,7 +2,7 @@
 use Rattle.std.proofs.Common.{◌≡◌, ◌++◌, Bool, true, false, List, [], ◌∷◌, flat_map, refl, sym, subst, inl, inr}
 use Rattle.build_faults.specs.FaultLaws.{In}
 use Rattle.build_faults.specs.Faults.{fault_if}
-use Rattle.build_faults.specs.declared.fault.Kind.{Kind}
+use Rattle.build_faults.specs.declared.fault.Rule.{Rule}
 use Rattle.sdl_tree.specs.Words.{Spot}
 
 pub left-empty : {A : Type 0} (xs ys : List A) → xs ++ ys ≡ [] → xs ≡ []
@@ -21,6 +21,6 @@ none-empty f (y ∷ xs) is x at =
       | inr later ↦ none-empty f xs (right-empty (f y) (flat_map f xs) is) x later
     ]
 
-pub not-broken : (broken : Bool) (kind : Kind) (word : Spot) → fault_if broken kind word ≡ [] → broken ≡ false
+pub not-broken : (broken : Bool) (kind : Rule) (word : Spot) → fault_if broken kind word ≡ [] → broken ≡ false
 not-broken true kind word is = cc
 not-broken false kind word is = refl

@@ -3,11 +3,11 @@ use Rattle.std.proofs.Common.{◌≡◌, ◌&&◌, ◌||◌, ◌==◌, ◌++◌,
 use Rattle.std.proofs.lemmas.Bool.{eqb-true}
 use Rattle.laws_complete.specs.Complete.{HasValue, IsComplete, IsCompleteValue, IsThere}
 use Rattle.laws_complete.specs.Expressions.{HasTerm}
-use Rattle.build_faults.specs.Faults.{fault_if, told_at, mark_word}
-use Rattle.build_faults.specs.declared.fault.Kind as faults
-use Rattle.build_faults.specs.declared.fault.Kind.TheVariants as broken
+use Rattle.build_faults.specs.Faults.{fault_if, diagnostic_at, mark_word}
+use Rattle.build_faults.specs.declared.fault.Rule as faults
+use Rattle.build_faults.specs.declared.fault.Rule.TheVariants as broken
 use Rattle.build_expressions.specs.Contexts.{allows_instance, allows_word}
-use Rattle.build_operators.specs.Kinds.{fits, result_of, unary_result_of}
+use Rattle.build_operators.specs.OperandSorts.{fits, result_of, unary_result_of}
 use Rattle.build_expressions.specs.Misused.{active_faults, binary_faults, expression_faults, fault_of_place, links_faults, list_faults, misplaced, name_faults, place_faults, places_faults, timer_faults, unary_faults, values_faults}
 use Rattle.build_expressions.specs.Partial.{both}
 use Rattle.build_expressions.specs.Scope.{Scope, SignalMeaning, signal, timer, signal_in, value_in}
@@ -178,7 +178,7 @@ all-taken (place ∷ places) (argument ∷ arguments) same has is =
 
 counted-taken : (name : Spot) (places : List (Option Sort)) (arguments : List Argument) (same : Bool) →
     (length arguments == length places) ≡ same → AllGiven arguments →
-    (if same then misplaced places arguments else told_at broken.Sort name ∷ []) ≡ [] →
+    (if same then misplaced places arguments else diagnostic_at broken.Sort name ∷ []) ≡ [] →
     are_taken places arguments ≡ true
 counted-taken name places arguments true same has is =
     all-taken places arguments (eqb-true (length arguments) (length places) same) has is

@@ -16,12 +16,12 @@ use Rattle.build_definitions.specs.Rows.{ProcessRow, label_rows, placed_labels, 
 use Rattle.build_labels.specs.Labels.{process_labels}
 use Rattle.build_names.specs.Entries.{Entry, Standing, duplicates, duplicates_behind, entries_in, entry_in, is_same_name, standing, standings}
 use Rattle.build_names.specs.Meanings.{label_entries, label_entry, state_entries, state_entry}
-use Rattle.build_names.specs.declared.declared.Declared.{Declared}
+use Rattle.build_names.specs.declared.symbol_table.SymbolTable.{SymbolTable}
 use Rattle.build_faults.proofs.FaultLemmas.{in-left, in-right}
 use Rattle.build_faults.specs.FaultLaws.{In}
 use Rattle.build_faults.specs.Faults.{fault_if}
-use Rattle.build_limits.specs.Limits.{different, state_names}
-use Rattle.build_faults.specs.declared.fault.Kind.TheVariants.{Duplicate}
+use Rattle.build_labels.specs.States.{different, state_names}
+use Rattle.build_faults.specs.declared.fault.Rule.TheVariants.{Duplicate}
 use Rattle.build_expressions.specs.declared.scope.Constant.{Constant}
 use Rattle.build_scopes.specs.Spaces.{entry_if, names_of}
 use Rattle.build_scopes.specs.declared.scope.ScopeId.{ScopeId}
@@ -293,11 +293,11 @@ differ-in (process n m place d rest groups run) before none i row at =
     differ-here n place d before rest both.0 i row at
     (λ k found. differ-in run (before ++ standings (map label_entry own)) both.1 k row found)
 
-pub labels-given : (tree : Tree) (declared : Declared) (constants : List Constant) →
-    IsFaultless tree declared constants →
+pub labels-given : (tree : Tree) (symbols : SymbolTable) (constants : List Constant) →
+    IsFaultless tree symbols constants →
     (number : ℕ) (row : ProcessRow) → slice_get (rows_of_tree tree).processes number ≡ Some row →
-    HasLabels declared number row
-labels-given tree declared constants is number row at =
+    HasLabels symbols number row
+labels-given tree symbols constants is number row at =
     record {
       numbers = is.named.labels (scope.Process (the_process number)) ∙ labels-are tree number row at;
       different =
@@ -305,10 +305,10 @@ labels-given tree declared constants is number row at =
           (right-empty _ (duplicates (standings (label_entries (rows_of_tree tree)))) is.duplicates) number row at;
     }
 
-pub states-given : (tree : Tree) (declared : Declared) (constants : List Constant) →
-    IsFaultless tree declared constants →
+pub states-given : (tree : Tree) (symbols : SymbolTable) (constants : List Constant) →
+    IsFaultless tree symbols constants →
     (number : ℕ) (row : ProcessRow) → slice_get (rows_of_tree tree).processes number ≡ Some row →
-    names_of declared.states (scope.Process (record { 0 = number }))
+    names_of symbols.states (scope.Process (record { 0 = number }))
     ≡ numbered_states 0 (different (state_names row.definition))
-states-given tree declared constants is number row at =
+states-given tree symbols constants is number row at =
     is.named.states (scope.Process (the_process number)) ∙ states-are tree number row at

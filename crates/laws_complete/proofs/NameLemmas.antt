@@ -3,7 +3,7 @@ use Rattle.std.proofs.Common.{◌≡◌, ◌++◌, ℕ, Bool, true, false, cond,
 use Rattle.std.specs.Str.{bytes_eq}
 use Rattle.build_names.specs.Entries.{Entry, Has, HasMeant, entries_in, entry_in}
 use Rattle.build_faults.specs.FaultLaws.{Each}
-use Rattle.build_limits.specs.Names.{first_of}
+use Rattle.build_scopes.specs.Names.{first_of}
 use Rattle.build_expressions.specs.Scope.{meaning}
 use Rattle.build_scopes.specs.Spaces.{block_names, entry_if, is_same_scope, names_of, process_names, seen_in}
 use Rattle.build_scopes.specs.declared.scope.ScopeId.{ScopeId}

@@ -13,9 +13,9 @@ use Rattle.flow_reach.specs.Ends.{ends_faults}
 use Rattle.flow_reach.specs.Stays.{stay_faults}
 use Rattle.build_process.specs.Faulty.{flow_faults}
 use Rattle.build_process.specs.Refused.{no_condition, no_entry, no_flow}
-use Rattle.build_process.specs.Surroundings.{Surroundings, for_stimuli, for_transitions}
-use Rattle.build_faults.specs.Faults.{Told}
-use Rattle.build_limits.specs.Limits.{different}
+use Rattle.build_process.specs.ProcessScope.{ProcessScope, for_stimuli, for_transitions}
+use Rattle.build_faults.specs.Faults.{Diagnostic}
+use Rattle.build_labels.specs.States.{different}
 use Rattle.build_states.specs.States.{names_in, process_faults, states_faults}
 use Rattle.build_stimuli.specs.Reading.{body_faults, process_read}
 use Rattle.sdl_system.specs.Behaviour.{variable_meaning}
@@ -23,9 +23,9 @@ use Rattle.sdl_system.specs.Body.{Body}
 use Rattle.sdl_system.specs.Signal.{is_member}
 use Rattle.sdl_tree.specs.Tree.{ProcessDefinition}
 
-module _ (around : Surroundings) (process : ProcessDefinition) (names : List (List ℕ))
+module _ (around : ProcessScope) (process : ProcessDefinition) (names : List (List ℕ))
     (given : IsGiven around process names) where
-  abbrev ends : List Told
+  abbrev ends : List Diagnostic
   ends = ends_faults process ++ stay_faults (beginnings process) names
 
   no-flow-fault : flow_faults around process names ≡ []

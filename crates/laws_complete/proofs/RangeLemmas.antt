@@ -8,7 +8,7 @@ use Rattle.laws_complete.specs.Ranges.{EntriesReach, IsBelow, SignalsWithin}
 use Rattle.flow_paths.specs.Beginnings.{beginnings}
 use Rattle.build_process.specs.Meant.{NamesSignals}
 use Rattle.build_faults.specs.FaultLaws.{Each}
-use Rattle.build_limits.specs.Limits.{different}
+use Rattle.build_labels.specs.States.{different}
 use Rattle.build_states.specs.States.{Numbered, Table, named_in, names_in, state_of, states_of, table_named}
 use Rattle.build_stimuli.specs.Mentions.{Response, input, priority_input, save}
 use Rattle.build_stimuli.specs.Reading.{Part, process_read}

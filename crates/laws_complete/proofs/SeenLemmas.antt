@@ -15,20 +15,20 @@ use Rattle.laws_complete.specs.Names.{HaveSorts, IsFaultless, number_of_signal, 
 use Rattle.build_constants.specs.Timers.{duration_faults, duration_in, ticks_of}
 use Rattle.build_definitions.specs.Parts.{Part, OfBlock, OfProcess, OfChannel, OfConnection, OfSignals, OfTimers, OfSignalList, OfSynonyms, OfSignalSet, OfParameters, OfVariables, Placed, parts_in}
 use Rattle.build_definitions.specs.Rows.{AgentRow, ProcessRow, SignalKind, OrdinarySignal, OrdinaryTimer, SignalRow, ValueRow, after_synonyms, after_variables, placed_synonyms, synonym_row, synonym_values, synonyms_of, value_rows, values_of, variable_rows}
-use Rattle.build_definitions.specs.Tables.{path_of}
+use Rattle.build_definitions.specs.Definitions.{path_of}
 use Rattle.build_definitions.specs.declared.entries.Agent.{Agent}
 use Rattle.build_definitions.specs.declared.entries.Agent.TheVariants as agent
 use Rattle.build_constants.proofs.SynonymLemmas.{faults-of}
-use Rattle.build_constants.specs.Figures.{all_durations, duration_at, duration_faults_at, duration_of, sort_of_entry}
+use Rattle.build_constants.specs.ConstantTable.{all_durations, duration_at, duration_faults_at, duration_of, sort_of_entry}
 use Rattle.build_constants.specs.Scopes.{scope_in}
 use Rattle.build_constants.specs.Synonyms.{IsSynonym, faults_in_row}
 use Rattle.build_names.specs.Entries.{Entry}
 use Rattle.build_names.specs.Meanings.{agent_entries, agent_entry, agent_means, signal_entries, signal_means, signals_from, sorts_of_row, value_entries, value_entry}
-use Rattle.build_names.specs.declared.declared.Declared.{Declared}
+use Rattle.build_names.specs.declared.symbol_table.SymbolTable.{SymbolTable}
 use Rattle.build_statements.specs.Contexts.{Context}
 use Rattle.build_faults.proofs.FaultLemmas.{each-both}
 use Rattle.build_faults.specs.FaultLaws.{Each, In}
-use Rattle.build_limits.specs.Names.{first_of}
+use Rattle.build_scopes.specs.Names.{first_of}
 use Rattle.build_expressions.specs.Constants.{constant_in}
 use Rattle.build_expressions.specs.Scope.{AgentMeaning, SignalMeaning, agent_meaning, meaning, signal, signal_in, signal_meaning, timer, value_in, value_meaning}
 use Rattle.build_expressions.specs.declared.scope.Constant.{Constant}
@@ -239,15 +239,15 @@ zip-right R (x ∷ xs) [] all y at = absurd all
 zip-right R (x ∷ xs) (z ∷ ys) all y at =
     elim at [ inl same ↦ (x, subst (R x) (sym same) all.0) | inr later ↦ zip-right R xs ys all.1 y later ]
 
-module _ (tree : Tree) (declared : Declared) (constants : List Constant) (is : IsFaultless tree declared constants)
+module _ (tree : Tree) (symbols : SymbolTable) (constants : List Constant) (is : IsFaultless tree symbols constants)
   where
     have : HaveSorts (rows_of_tree tree)
     have = sorts-given tree is.sorts
 
     -- sorts of synonyms
-    entries-sorted : AllMean (λ (one : ValueEntry). SortThere (value_meaning constants one)) declared.values
+    entries-sorted : AllMean (λ (one : ValueEntry). SortThere (value_meaning constants one)) symbols.values
     entries-sorted =
-        has-mean (λ (one : ValueEntry). SortThere (value_meaning constants one)) declared.values
+        has-mean (λ (one : ValueEntry). SortThere (value_meaning constants one)) symbols.values
         (value_entries (rows_of_tree tree)) is.named.values
         (each-map (λ (row : ValueRow). IsThere (sort_of_entry row.entry))
         (λ (one : Entry ValueEntry). SortThere (value_meaning constants one.what)) value_entry
@@ -255,20 +255,20 @@ module _ (tree : Tree) (declared : Declared) (constants : List Constant) (is : I
 
     synonym-sorted : (one : Synonym) → In one is.valued.synonyms → HaveSynonymSorts (scope_with constants one)
     synonym-sorted one at text sort constant found =
-        let row = zip-right (IsSynonym declared (rows_of_tree tree).processes) (rows_of_tree tree).synonyms
+        let row = zip-right (IsSynonym symbols (rows_of_tree tree).processes) (rows_of_tree tree).synonyms
         is.valued.synonyms
         is.valued.listed one at in
-        seen-is (value_meaning constants) SortThere declared.values (path_of (rows_of_tree tree).processes row.0.scope)
+        seen-is (value_meaning constants) SortThere symbols.values (path_of (rows_of_tree tree).processes row.0.scope)
         entries-sorted text (meant.Synonym sort constant)
         (sym (ap (λ names. first_of (meaning (value_meaning constants) names) text) row.1.values) ∙ found)
 
     synonym-faultless : (one : Synonym) → In one is.valued.synonyms → synonym_faults constants one ≡ []
     synonym-faultless one at =
         let list = (rows_of_tree tree).synonyms in
-        let none = left-empty (flat_map (faults_in_row (rows_of_tree tree) declared constants) list) _
-        (left-empty _ _ (left-empty _ _ (left-empty _ _ is.figures))) in
+        let none = left-empty (flat_map (faults_in_row (rows_of_tree tree) symbols constants) list) _
+        (left-empty _ _ (left-empty _ _ (left-empty _ _ is.constant_table))) in
         none-empty (synonym_faults constants) is.valued.synonyms
-        (faults-of (rows_of_tree tree) declared constants list is.valued.synonyms is.valued.listed ∙ none) one at
+        (faults-of (rows_of_tree tree) symbols constants list is.valued.synonyms is.valued.listed ∙ none) one at
 
     pub all-valued : Each HasValue constants
     all-valued =
@@ -277,14 +277,14 @@ module _ (tree : Tree) (declared : Declared) (constants : List Constant) (is : I
     as-many : length constants ≡ length (rows_of_tree tree).synonyms
     as-many =
         is.valued.come_to.all
-        ∙ AllZip-long (IsSynonym declared (rows_of_tree tree).processes) (rows_of_tree tree).synonyms is.valued.synonyms
+        ∙ AllZip-long (IsSynonym symbols (rows_of_tree tree).processes) (rows_of_tree tree).synonyms is.valued.synonyms
         is.valued.listed
 
     -- what names stand for
-    entries-complete : AllMean (λ (one : ValueEntry). IsCompleteValue (value_meaning constants one)) declared.values
+    entries-complete : AllMean (λ (one : ValueEntry). IsCompleteValue (value_meaning constants one)) symbols.values
     entries-complete =
         let many = as-many in
-        has-mean (λ (one : ValueEntry). IsCompleteValue (value_meaning constants one)) declared.values
+        has-mean (λ (one : ValueEntry). IsCompleteValue (value_meaning constants one)) symbols.values
         (value_entries (rows_of_tree tree)) is.named.values
         (each-map
         (λ (row : ValueRow). IsThere (sort_of_entry row.entry) × IsBelow (length constants) row.entry)
@@ -294,74 +294,75 @@ module _ (tree : Tree) (declared : Declared) (constants : List Constant) (is : I
         (rows_of_tree tree).values have.values
         (values-below (length constants) 0 0 (parts_in tree) (omega (arith, many)))))
 
-    signals-complete : AllMean (λ one. IsCompleteSignal (signal_meaning one)) declared.signals
+    signals-complete : AllMean (λ one. IsCompleteSignal (signal_meaning one)) symbols.signals
     signals-complete =
-        meant-mean signal_meaning IsCompleteSignal declared.signals (signal_entries (rows_of_tree tree)) is.named.signals
+        meant-mean signal_meaning IsCompleteSignal symbols.signals (signal_entries (rows_of_tree tree)) is.named.signals
         (complete-signals 0 (rows_of_tree tree).signals have.signals)
 
-    agents-complete : AllMean (λ one. IsCompleteAgent (agent_meaning one)) declared.agents
+    agents-complete : AllMean (λ one. IsCompleteAgent (agent_meaning one)) symbols.agents
     agents-complete =
-        meant-mean agent_meaning IsCompleteAgent declared.agents (agent_entries (rows_of_tree tree)) is.named.agents
+        meant-mean agent_meaning IsCompleteAgent symbols.agents (agent_entries (rows_of_tree tree)) is.named.agents
         (complete-agents (rows_of_tree tree).processes have.processes (rows_of_tree tree).agents)
 
-    pub scopes-complete : (place : ScopeId) → IsComplete (scope_in (rows_of_tree tree) declared constants place)
+    pub scopes-complete : (place : ScopeId) → IsComplete (scope_in (rows_of_tree tree) symbols constants place)
     scopes-complete place =
         let path = path_of (rows_of_tree tree).processes place in
         record {
-          values = seen-is (value_meaning constants) IsCompleteValue declared.values path entries-complete;
-          signals = seen-is signal_meaning IsCompleteSignal declared.signals path signals-complete;
-          agents = seen-is agent_meaning IsCompleteAgent declared.agents path agents-complete;
+          values = seen-is (value_meaning constants) IsCompleteValue symbols.values path entries-complete;
+          signals = seen-is signal_meaning IsCompleteSignal symbols.signals path signals-complete;
+          agents = seen-is agent_meaning IsCompleteAgent symbols.agents path agents-complete;
         }
 
     pub signals-below : (place : ScopeId) (text : List ℕ) (found : SignalMeaning) →
-        signal_in (scope_in (rows_of_tree tree) declared constants place) text ≡ Some found →
+        signal_in (scope_in (rows_of_tree tree) symbols constants place) text ≡ Some found →
         (number_of_signal found).0 < length (rows_of_tree tree).signals
     signals-below place text found at =
         let list = (rows_of_tree tree).signals in
-        seen-is signal_meaning (SignalBelow (length list)) declared.signals
+        seen-is signal_meaning (SignalBelow (length list)) symbols.signals
         (path_of (rows_of_tree tree).processes place)
-        (meant-mean signal_meaning (SignalBelow (length list)) declared.signals (signal_entries (rows_of_tree tree))
+        (meant-mean signal_meaning (SignalBelow (length list)) symbols.signals (signal_entries (rows_of_tree tree))
         is.named.signals (signals-under (length list) 0 list (omega arith))) text found at
 
     -- durations
     none-refused : (place : ScopeId) (text : List ℕ) (sort : Option Sort) →
-        value_in (scope_in (rows_of_tree tree) declared constants place) text ≡ Some
+        value_in (scope_in (rows_of_tree tree) symbols constants place) text ≡ Some
         (meant.Synonym sort value.Refused) → ⊥
-    none-refused place text sort found = ((scopes-complete place).values text (meant.Synonym sort value.Refused) found).1
+    none-refused place text sort found = ((scopes-complete place).values text (meant.Synonym sort value.Refused)
+    found).1
 
-    sorts-seen : (place : ScopeId) → HaveSynonymSorts (scope_in (rows_of_tree tree) declared constants place)
+    sorts-seen : (place : ScopeId) → HaveSynonymSorts (scope_in (rows_of_tree tree) symbols constants place)
     sorts-seen place text sort constant found =
         ((scopes-complete place).values text (meant.Synonym sort constant) found).0
 
     duration-valued : (place : ScopeId) (expression : Expr) →
-        duration_faults (scope_in (rows_of_tree tree) declared constants place) (Some expression) ≡ [] →
-        IsThere (duration_in (scope_in (rows_of_tree tree) declared constants place) (Some expression))
+        duration_faults (scope_in (rows_of_tree tree) symbols constants place) (Some expression) ≡ [] →
+        IsThere (duration_in (scope_in (rows_of_tree tree) symbols constants place) (Some expression))
     duration-valued place expression none =
-        let scope = scope_in (rows_of_tree tree) declared constants place in
+        let scope = scope_in (rows_of_tree tree) symbols constants place in
         ticks-there (constant_in scope (Some the_sort.Duration) expression)
         (constant-valued scope (sorts-seen place) (Some the_sort.Duration) expression
         (λ name at sort found. none-refused place name.text sort found) none)
 
     duration-there : (row : SignalRow) → In row (rows_of_tree tree).signals → (expression : Expr) →
-        duration_of row.kind ≡ Some expression → IsThere (duration_at (rows_of_tree tree) declared constants row)
+        duration_of row.kind ≡ Some expression → IsThere (duration_at (rows_of_tree tree) symbols constants row)
     duration-there row at expression stands =
-        let scope = scope_in (rows_of_tree tree) declared constants row.scope in
-        let none = none-empty (duration_faults_at (rows_of_tree tree) declared constants) (rows_of_tree tree).signals
-        (right-empty _ (flat_map (duration_faults_at (rows_of_tree tree) declared constants) (rows_of_tree tree).signals)
-        is.figures) row at in
+        let scope = scope_in (rows_of_tree tree) symbols constants row.scope in
+        let none = none-empty (duration_faults_at (rows_of_tree tree) symbols constants) (rows_of_tree tree).signals
+        (right-empty _ (flat_map (duration_faults_at (rows_of_tree tree) symbols constants) (rows_of_tree tree).signals)
+        is.constant_table) row at in
         subst (λ found. IsThere (duration_in scope found)) (sym stands)
         (duration-valued row.scope expression (sym (ap (duration_faults scope) stands) ∙ none))
 
     pub durations-given : (place : ScopeId) (context : Context) →
-        context.scope ≡ scope_in (rows_of_tree tree) declared constants place →
-        context.durations ≡ all_durations (rows_of_tree tree) declared constants → HasDurations context
+        context.scope ≡ scope_in (rows_of_tree tree) symbols constants place →
+        context.durations ≡ all_durations (rows_of_tree tree) symbols constants → HasDurations context
     durations-given place context scope_is durations_are text number sorts found =
         let list = (rows_of_tree tree).signals in
-        let durations = all_durations (rows_of_tree tree) declared constants in
+        let durations = all_durations (rows_of_tree tree) symbols constants in
         subst (λ all. IsThere (unwrap_or (slice_get all number.0) None)) (sym durations_are)
-        (seen-is signal_meaning (DefaultThere durations) declared.signals (path_of (rows_of_tree tree).processes place)
-        (meant-mean signal_meaning (DefaultThere durations) declared.signals (signal_entries (rows_of_tree tree))
+        (seen-is signal_meaning (DefaultThere durations) symbols.signals (path_of (rows_of_tree tree).processes place)
+        (meant-mean signal_meaning (DefaultThere durations) symbols.signals (signal_entries (rows_of_tree tree))
         is.named.signals
-        (defaults-there (duration_at (rows_of_tree tree) declared constants) durations [] 0 list refl refl
+        (defaults-there (duration_at (rows_of_tree tree) symbols constants) durations [] 0 list refl refl
         duration-there))
         text (timer number sorts true) (sym (ap (λ scope. signal_in scope text) scope_is) ∙ found))

@@ -4,9 +4,9 @@ use Rattle.std.proofs.lemmas.Option.{unwrap_or-slice_get}
 use Rattle.laws_complete.proofs.ValueLemmas.{HaveSynonymSorts, IsAccepted, accepted-typed, constant-valued, fits-place}
 use Rattle.laws_complete.specs.Complete.{HasValue}
 use Rattle.build_faults.specs.FaultLaws.{Each, In}
-use Rattle.build_faults.specs.Faults.{told_at}
-use Rattle.build_limits.specs.Names.{first_of}
-use Rattle.build_faults.specs.declared.fault.Kind.TheVariants.{BadCount}
+use Rattle.build_faults.specs.Faults.{diagnostic_at}
+use Rattle.build_scopes.specs.Names.{first_of}
+use Rattle.build_faults.specs.declared.fault.Rule.TheVariants.{BadCount}
 use Rattle.build_expressions.proofs.ScopeLemmas.{meaning-first}
 use Rattle.build_expressions.specs.Broken.{Within}
 use Rattle.build_expressions.specs.Scope.{constant_at, value_in, value_meaning, visible}
@@ -111,7 +111,7 @@ module _ (list : List Synonym) (table : List Constant) (are : AreConstants list 
       let scope = scope_with table one in
       let whole = expression_of one in
       let fitting = fits-place scope (sorted one listed) one.sort whole (faultless one listed) in
-      subst (In (told_at BadCount (first_word whole))) (faultless one listed)
+      subst (In (diagnostic_at BadCount (first_word whole))) (faultless one listed)
       (unvalued-noted list table are one number (listed-named (visible one.values) whole number at) unsettled
       fitting.typed
       fitting.typed_is fitting.taken

@@ -6,14 +6,14 @@ use Rattle.laws_complete.specs.Complete.{HasDurations, IsComplete, IsThere}
 use Rattle.build_statements.specs.Contexts.{Context}
 use Rattle.build_statements.specs.Faulty.{answers_faults, asked_faults, assignment_faults, create_faults, created_faults, default_faults, destination_faults, has_destination, is_lost, lacks_default, output_faults, process_faults, sending_faults, sent_faults, setting_faults, time_faults, timed_faults, timing_faults, unknown_faults, value_faults, values_faults, whither_faults}
 use Rattle.build_statements.specs.Statements.{agent_name, answers_in, assigned, assigning_in, create_in, created_as, default_of, output_in, process_of, reset_in, sending_in, sent, sent_as, sent_to, set_for, set_in, setting_in, sort_of, target_in, task_in, timed, timed_as, timing_in, value_for, values_for, when_in, whither_in, whither_of}
-use Rattle.build_faults.specs.Faults.{fault_if, told_at}
-use Rattle.build_faults.specs.declared.fault.Kind.TheVariants.{NoRoute, Unknown}
-use Rattle.build_faults.specs.declared.fault.Kind.TheVariants as broken
+use Rattle.build_faults.specs.Faults.{fault_if, diagnostic_at}
+use Rattle.build_faults.specs.declared.fault.Rule.TheVariants.{NoRoute, Unknown}
+use Rattle.build_faults.specs.declared.fault.Rule.TheVariants as broken
 use Rattle.build_expressions.specs.Answers.{answer_faults, answer_in}
 use Rattle.build_expressions.specs.Partial.{all_some, both}
 use Rattle.build_expressions.specs.Scope.{AgentMeaning, SignalMeaning, agent_in, block, process, signal, signal_in, timer}
 use Rattle.build_expressions.specs.declared.context.Context.TheVariants.{Transition}
-use Rattle.build_operators.specs.declared.kind.Kind.{Kind}
+use Rattle.build_operators.specs.declared.operand_sort.OperandSort.{OperandSort}
 use Rattle.sdl_system.specs.Body as body
 use Rattle.sdl_system.specs.declared.sort.Sort.{Sort}
 use Rattle.sdl_system.specs.declared.sort.Sort.TheVariants as sorts
@@ -92,7 +92,7 @@ module _ (context : Context) (complete : IsComplete context.scope) where
 
   -- a name that means nothing is a fault
   not-unknown : (name : Spot) (values : List Expr) → unknown_faults context name values ≡ [] → ⊥
-  not-unknown name values none = one-none (told_at Unknown name) (flat_map (asked_faults context) values) none
+  not-unknown name values none = one-none (diagnostic_at Unknown name) (flat_map (asked_faults context) values) none
 
   sent-there : (has : Bool) (name : Spot) (values : List Expr) (found : Option SignalMeaning) →
       sent_faults context has name values found ≡ [] → IsThere (sent_as context values found)
@@ -110,9 +110,9 @@ module _ (context : Context) (complete : IsComplete context.scope) where
 
   process-there : (name : Spot) (found : Option AgentMeaning) → process_faults name found ≡ [] →
       IsThere (process_of found)
-  process-there name None none = one-none (told_at Unknown name) [] none
+  process-there name None none = one-none (diagnostic_at Unknown name) [] none
   process-there name (Some (process number places)) none = tt
-  process-there name (Some block) none = one-none (told_at Unknown name) [] none
+  process-there name (Some block) none = one-none (diagnostic_at Unknown name) [] none
 
   whither-there : (value : Expr) (name : Option Spot) → whither_faults context value name ≡ [] →
       IsThere (whither_of context value name)
@@ -208,7 +208,7 @@ module _ (context : Context) (complete : IsComplete context.scope) where
 
   -- ---- decision
 
-  pub answers-there : (question : Option Kind) (list : List tree.Answer) →
+  pub answers-there : (question : Option OperandSort) (list : List tree.Answer) →
       answers_faults context question list ≡ [] → IsThere (answers_in context question list)
   answers-there question list none =
       all-there (answer_in context.scope question) (answer_faults context.scope question)

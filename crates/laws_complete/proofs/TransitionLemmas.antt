@@ -18,12 +18,12 @@ use Rattle.build_statements.specs.Statements.{answers_in, asked_in, create_in, k
 use Rattle.build_nodes.specs.Transitions.{acts, action_faults, asks, before, body_in, ending_faults, ending_in, head_in, labelled, other_faults, other_in, parts_faults, parts_of, piece, pieces_in, steps_faults, steps_in, transition_faults}
 use Rattle.build_faults.proofs.FaultLemmas.{in-left, in-right}
 use Rattle.build_faults.specs.FaultLaws.{In}
-use Rattle.build_limits.specs.Names.{first_of}
-use Rattle.build_faults.specs.declared.fault.Kind.TheVariants.{NoLabel, NoState}
+use Rattle.build_scopes.specs.Names.{first_of}
+use Rattle.build_faults.specs.declared.fault.Rule.TheVariants.{NoLabel, NoState}
 use Rattle.build_expressions.specs.Partial.{both}
 use Rattle.build_expressions.specs.Typing.{Typed, term_in}
 use Rattle.build_expressions.specs.declared.context.Context.TheVariants.{Transition}
-use Rattle.build_operators.specs.declared.kind.Kind.{Kind}
+use Rattle.build_operators.specs.declared.operand_sort.OperandSort.{OperandSort}
 use Rattle.sdl_system.specs.Body as body
 use Rattle.sdl_system.specs.Body.{Body}
 use Rattle.sdl_system.specs.declared.id.LabelId.{LabelId}
@@ -129,7 +129,7 @@ module _ (context : Context) (complete : IsComplete context.scope) (durations : 
         (other-there other (empty-right within behind follow)
         (right-numbers context (parts_labels parts) (otherwise_labels other) have)))
 
-    pieces-there : (question : Option Kind) (parts : Parts) →
+    pieces-there : (question : Option OperandSort) (parts : Parts) →
         parts_faults context question parts ≡ [] → HaveNumbers context (parts_labels parts) →
         IsThere (pieces_in context question parts)
     pieces-there question tree.NoPart none have = tt

@@ -1,5 +1,5 @@
--- Expressions, answers and conditions that break no rule have a meaning (Z.104: expressions; Z.102: decision, continuous
--- signal, enabling condition).
+-- Expressions, answers and conditions that break no rule have a meaning (Z.104: expressions; Z.102: decision,
+-- continuous signal, enabling condition).
 use Rattle.std.specs.Prelude.{◌≡◌, false, Contains, List, [], Option, None, Some, map}
 use Rattle.laws_complete.specs.Complete.{HasValue, IsComplete, IsThere}
 use Rattle.build_expressions.specs.Answers.{answer_faults, answer_in}
@@ -8,7 +8,7 @@ use Rattle.build_expressions.specs.Misused.{expression_faults, list_faults, plac
 use Rattle.build_expressions.specs.Scope.{Scope}
 use Rattle.build_expressions.specs.Typing.{Typed, argument_in, taken_term, taken_terms, typed_in}
 use Rattle.build_expressions.specs.declared.context.Context as contexts
-use Rattle.build_operators.specs.declared.kind.Kind.{Kind}
+use Rattle.build_operators.specs.declared.operand_sort.OperandSort.{OperandSort}
 use Rattle.build_stimuli.specs.Context.{Context}
 use Rattle.build_stimuli.specs.Reading.{body_faults, body_read}
 use Rattle.sdl_system.specs.declared.sort.Sort.{Sort}
@@ -39,7 +39,7 @@ ListsGiven = (context : contexts.Context) (scope : Scope) (name : Spot) (places 
 
 -- An answer of a decision has its values, and can be compared so with the question's.
 abbrev pub AnswersGiven : Type 0
-AnswersGiven = (scope : Scope) (question : Option Kind) (answer : Answer) → IsComplete scope →
+AnswersGiven = (scope : Scope) (question : Option OperandSort) (answer : Answer) → IsComplete scope →
     answer_faults scope question answer ≡ [] → IsThere (answer_in scope question answer)
 
 -- A constant expression has a value.

@@ -5,17 +5,17 @@ use Rattle.build_transitions.specs.Numbered.{AreDifferent, numbered}
 use Rattle.laws_complete.specs.Complete.{AreThere, HasDurations, HasValue, IsComplete, IsThere}
 use Rattle.build_definitions.specs.Parts.{all_sort_faults, parts_in}
 use Rattle.build_definitions.specs.Rows.{ProcessRow, SignalRow, SynonymRow, ValueRow}
-use Rattle.build_definitions.specs.Tables.{Rows, rows_in}
-use Rattle.build_constants.specs.Figures.{all_durations, figures_faults, sort_of_entry}
+use Rattle.build_definitions.specs.Definitions.{Rows, rows_in}
+use Rattle.build_constants.specs.ConstantTable.{all_durations, constant_table_faults, sort_of_entry}
 use Rattle.build_constants.specs.Scopes.{scope_in}
 use Rattle.build_constants.specs.Synonyms.{AreSynonymConstants}
 use Rattle.build_labels.specs.Labels.{process_labels}
 use Rattle.build_names.specs.Meanings.{duplicate_faults}
 use Rattle.build_names.specs.Spaces.{AreNamesOf}
-use Rattle.build_names.specs.declared.declared.Declared.{Declared}
+use Rattle.build_names.specs.declared.symbol_table.SymbolTable.{SymbolTable}
 use Rattle.build_statements.specs.Contexts.{Context}
 use Rattle.build_faults.specs.FaultLaws.{Each}
-use Rattle.build_limits.specs.Limits.{different, state_names}
+use Rattle.build_labels.specs.States.{different, state_names}
 use Rattle.build_expressions.specs.Scope.{SignalMeaning, signal, timer, signal_in}
 use Rattle.build_expressions.specs.declared.scope.Constant.{Constant}
 use Rattle.build_scopes.specs.Spaces.{names_of}
@@ -31,11 +31,11 @@ rows_of_tree tree = rows_in (parts_in tree)
 
 -- No rule is broken in the definitions of the tree, which declare these names, and whose synonyms come to these
 -- constants.
-pub record IsFaultless (tree : Tree) (declared : Declared) (constants : List Constant) : Type 0 where
-  pub named : AreNamesOf (rows_of_tree tree) declared
-  pub valued : AreSynonymConstants (rows_of_tree tree) declared constants
+pub record IsFaultless (tree : Tree) (symbols : SymbolTable) (constants : List Constant) : Type 0 where
+  pub named : AreNamesOf (rows_of_tree tree) symbols
+  pub valued : AreSynonymConstants (rows_of_tree tree) symbols constants
   pub sorts : all_sort_faults tree ≡ []
-  pub figures : figures_faults (rows_of_tree tree) declared constants ≡ []
+  pub constant_table : constant_table_faults (rows_of_tree tree) symbols constants ≡ []
   pub duplicates : duplicate_faults (rows_of_tree tree) ≡ []
 
 -- ---- sorts
@@ -54,21 +54,24 @@ SortsGiven = (tree : Tree) → all_sort_faults tree ≡ [] → HaveSorts (rows_o
 
 -- Each synonym has a value: none is defined by itself.
 abbrev pub SynonymsValued : Type 0
-SynonymsValued = (tree : Tree) (declared : Declared) (constants : List Constant) → IsFaultless tree declared constants →
+SynonymsValued = (tree : Tree) (symbols : SymbolTable) (constants : List Constant) →
+    IsFaultless tree symbols constants →
     Each HasValue constants
 
 -- ---- scopes
 
 -- Whatever the place, what is seen there lacks nothing.
 abbrev pub ScopesComplete : Type 0
-ScopesComplete = (tree : Tree) (declared : Declared) (constants : List Constant) → IsFaultless tree declared constants →
-    (place : ScopeId) → IsComplete (scope_in (rows_of_tree tree) declared constants place)
+ScopesComplete = (tree : Tree) (symbols : SymbolTable) (constants : List Constant) →
+    IsFaultless tree symbols constants →
+    (place : ScopeId) → IsComplete (scope_in (rows_of_tree tree) symbols constants place)
 
 -- Each default duration has its ticks.
 abbrev pub DurationsGiven : Type 0
-DurationsGiven = (tree : Tree) (declared : Declared) (constants : List Constant) → IsFaultless tree declared constants →
-    (place : ScopeId) (context : Context) → context.scope ≡ scope_in (rows_of_tree tree) declared constants place →
-    context.durations ≡ all_durations (rows_of_tree tree) declared constants → HasDurations context
+DurationsGiven = (tree : Tree) (symbols : SymbolTable) (constants : List Constant) →
+    IsFaultless tree symbols constants →
+    (place : ScopeId) (context : Context) → context.scope ≡ scope_in (rows_of_tree tree) symbols constants place →
+    context.durations ≡ all_durations (rows_of_tree tree) symbols constants → HasDurations context
 
 -- the number of a signal or a timer
 abbrev pub number_of_signal : SignalMeaning → SignalId
@@ -77,23 +80,23 @@ number_of_signal (timer number sorts has_default) = number
 
 -- Each signal that is seen has a place in the table of signals.
 abbrev pub SignalsBelow : Type 0
-SignalsBelow = (tree : Tree) (declared : Declared) (constants : List Constant) → IsFaultless tree declared constants →
+SignalsBelow = (tree : Tree) (symbols : SymbolTable) (constants : List Constant) → IsFaultless tree symbols constants →
     (place : ScopeId) (text : List ℕ) (meaning : SignalMeaning) →
-    signal_in (scope_in (rows_of_tree tree) declared constants place) text ≡ Some meaning →
+    signal_in (scope_in (rows_of_tree tree) symbols constants place) text ≡ Some meaning →
     (number_of_signal meaning).0 < length (rows_of_tree tree).signals
 
 -- ---- labels and states of a process
 
 -- The labels of a process are numbered in the order of the text, and no two of them have one name.
-pub record HasLabels (declared : Declared) (number : ℕ) (row : ProcessRow) : Type 0 where
-  pub numbers : names_of declared.labels (scope.Process (record { 0 = number }))
+pub record HasLabels (symbols : SymbolTable) (number : ℕ) (row : ProcessRow) : Type 0 where
+  pub numbers : names_of symbols.labels (scope.Process (record { 0 = number }))
       ≡ numbered 0 (process_labels row.definition)
   pub different : AreDifferent (process_labels row.definition)
 
 abbrev pub LabelsGiven : Type 0
-LabelsGiven = (tree : Tree) (declared : Declared) (constants : List Constant) → IsFaultless tree declared constants →
+LabelsGiven = (tree : Tree) (symbols : SymbolTable) (constants : List Constant) → IsFaultless tree symbols constants →
     (number : ℕ) (row : ProcessRow) → slice_get (rows_of_tree tree).processes number ≡ Some row →
-    HasLabels declared number row
+    HasLabels symbols number row
 
 -- names of states, numbered from this number on
 abbrev pub numbered_states : ℕ → List Spot → List (List ℕ × StateId)
@@ -102,7 +105,7 @@ numbered_states number (name ∷ names) = (name.text, record { 0 = number }) ∷
 
 -- The states of a process are numbered in the order of their first names.
 abbrev pub StatesGiven : Type 0
-StatesGiven = (tree : Tree) (declared : Declared) (constants : List Constant) → IsFaultless tree declared constants →
+StatesGiven = (tree : Tree) (symbols : SymbolTable) (constants : List Constant) → IsFaultless tree symbols constants →
     (number : ℕ) (row : ProcessRow) → slice_get (rows_of_tree tree).processes number ≡ Some row →
-    names_of declared.states (scope.Process (record { 0 = number }))
+    names_of symbols.states (scope.Process (record { 0 = number }))
     ≡ numbered_states 0 (different (state_names row.definition))

@@ -11,9 +11,9 @@ use Rattle.flow_paths.specs.Reach.{AreReached}
 use Rattle.flow_reach.specs.Stays.{stay_faults}
 use Rattle.build_process.specs.Faulty.{body_faults, flow_faults}
 use Rattle.build_process.specs.Meant.{IsBehaviour}
-use Rattle.build_process.specs.Surroundings.{Surroundings, for_stimuli, for_transitions}
+use Rattle.build_process.specs.ProcessScope.{ProcessScope, for_stimuli, for_transitions}
 use Rattle.build_process.specs.declared.heading.Heading.{Heading}
-use Rattle.build_limits.specs.Limits.{different}
+use Rattle.build_labels.specs.States.{different}
 use Rattle.laws_sound_processes.proofs.StartLemmas.{start-leads-on}
 use Rattle.laws_sound_processes.proofs.TypedLemmas.{bodies-are-typed}
 use Rattle.laws_sound_processes.specs.Typed.{HasSomeKind, IsSoundContext, IsTypedAction, IsTypedBody, IsTypedTerminator}
@@ -67,7 +67,7 @@ module _ (system : SystemValue) (process : Process) (count : ℕ) (same : count 
 
 -- ---- the whole
 
-module _ (system : SystemValue) (process : Process) (around : Surroundings) (definition : ProcessDefinition)
+module _ (system : SystemValue) (process : Process) (around : ProcessScope) (definition : ProcessDefinition)
     (heading : Heading) (behaviour : Behaviour) (names : List (List ℕ))
     (sound : IsSoundAround system process around) (is : IsBehaviour around definition heading behaviour)
     (means : Means process behaviour) (reached : AreReached (beginnings definition) names)

@@ -7,9 +7,9 @@ use Rattle.port_values.specs.declared.item.SignalId.{SignalId}
 use Rattle.build_faults.proofs.FaultLemmas.{each-both, each-in, each-of}
 use Rattle.build_faults.specs.FaultLaws.{Each}
 use Rattle.build_faults.specs.Faults.{fault_if}
-use Rattle.build_faults.specs.declared.fault.Kind as faults
-use Rattle.build_faults.specs.declared.fault.Kind.TheVariants as broken
-use Rattle.build_operators.specs.Kinds.{fits, kind_of}
+use Rattle.build_faults.specs.declared.fault.Rule as faults
+use Rattle.build_faults.specs.declared.fault.Rule.TheVariants as broken
+use Rattle.build_operators.specs.OperandSorts.{fits, kind_of}
 use Rattle.build_expressions.specs.Scope as names
 use Rattle.build_expressions.specs.Scope.{SignalMeaning, signal_in, value_in}
 use Rattle.build_expressions.specs.declared.scope.ValueMeaning.{ValueMeaning}

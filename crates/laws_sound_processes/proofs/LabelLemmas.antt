@@ -12,7 +12,7 @@ use Rattle.build_faults.proofs.FaultLemmas.{in-left, in-right}
 use Rattle.build_faults.specs.FaultLaws.{In}
 use Rattle.build_expressions.specs.Partial.{both}
 use Rattle.build_expressions.specs.Typing.{term_in}
-use Rattle.build_operators.specs.declared.kind.Kind.{Kind}
+use Rattle.build_operators.specs.declared.operand_sort.OperandSort.{OperandSort}
 use Rattle.laws_sound_processes.proofs.MeetLemmas.{Leaves, LeavesBehind, LeavesPart, closed, meeting, meets-head, meets-steps, step-left, through-part}
 use Rattle.laws_sound_runs.specs.Paths.{Meets}
 use Rattle.sdl_system.proofs.BodyLemmas.{followed-assoc}
@@ -335,7 +335,7 @@ module _ (context : Context) (l : LabelId) where
               (λ f. from-other word question parts other s.1 on inner.0 behind s.3 inner.2 f))
         ]
 
-    from-parts : (kind : Option Kind) (parts : Parts) (pieces : List Piece) (o : Option Body) (inner : Body) →
+    from-parts : (kind : Option OperandSort) (parts : Parts) (pieces : List Piece) (o : Option Body) (inner : Body) →
         pieces_in context kind parts ≡ Some pieces → InParts l (parts_of pieces o) inner →
         FromAnswered context l inner parts ⊎ FromLast l inner o
     from-parts kind NoPart pieces o inner is at =

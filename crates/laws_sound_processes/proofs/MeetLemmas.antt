@@ -8,7 +8,7 @@ use Rattle.build_statements.specs.Statements.{answers_in, asked_in, create_in, k
 use Rattle.build_nodes.specs.Transitions.{Head, Piece, effects, asks, before, body_in, ending_in, head_in, other_in, parts_of, piece, pieces_in, steps_in}
 use Rattle.build_expressions.specs.Partial.{both}
 use Rattle.build_expressions.specs.Typing.{term_in}
-use Rattle.build_operators.specs.declared.kind.Kind.{Kind}
+use Rattle.build_operators.specs.declared.operand_sort.OperandSort.{OperandSort}
 use Rattle.laws_sound_runs.specs.Paths.{IsPartOf, Meets, at_end, behind_action, behind_else, behind_label, by_part, first_part, later_part}
 use Rattle.sdl_system.specs.Body as body
 use Rattle.sdl_system.specs.Body.{Body, followed}
@@ -253,7 +253,8 @@ module _ (context : Context) (x : body.Terminator) where
         (meets-parts (kind_in typed) parts s.0 s.1 through.one (followed behind rest) s.2 through.part through.on)
         (λ same. meets-other word question parts other s.1 through.one (followed behind rest) s.3 same through.on))
 
-    pub meets-parts : (kind : Option Kind) (parts : Parts) (pieces : List Piece) (o : Option Body) (one rest : Body) →
+    pub meets-parts : (kind : Option OperandSort) (parts : Parts) (pieces : List Piece) (o : Option Body)
+        (one rest : Body) →
         pieces_in context kind parts ≡ Some pieces → IsPartOf one (parts_of pieces o) → Meets x (followed one rest) →
         LeavesAnswered context x AtFirst parts rest ⊎ (o ≡ Some one)
     meets-parts kind NoPart pieces o one rest is part on =

@@ -22,9 +22,9 @@ use Rattle.build_statements.specs.Statements.{terminator_in}
 use Rattle.build_nodes.specs.Transitions.{body_in, labelled}
 use Rattle.build_faults.proofs.FaultLemmas.{in-each, in-right}
 use Rattle.build_faults.specs.FaultLaws.{In}
-use Rattle.build_faults.specs.Faults.{Told, told_at, mark_word}
-use Rattle.build_limits.specs.Names.{first_of}
-use Rattle.build_faults.specs.declared.fault.Kind.TheVariants.{NoState}
+use Rattle.build_faults.specs.Faults.{Diagnostic, diagnostic_at, mark_word}
+use Rattle.build_scopes.specs.Names.{first_of}
+use Rattle.build_faults.specs.declared.fault.Rule.TheVariants.{NoState}
 use Rattle.laws_sound_processes.proofs.LabelLemmas.{FromTransition, from-transition}
 use Rattle.laws_sound_processes.proofs.MeetLemmas.{Leaves, meeting, meets-transition}
 use Rattle.laws_sound_processes.specs.BodyLaws.{StartLeadsOn}
@@ -141,8 +141,8 @@ join-of context l (tree.Join word name) is =
     record { word = word; name = name; is = refl; found = r.1 ∙ ap (λ (n : LabelId). Some n) same }
 
 stay-of : (context : Context) (term : Terminator) → terminator_in context term ≡ Some body.to_same →
-    (fault : Told) × In fault (stay_fault term)
-stay-of context (tree.Next word (tree.Same dash)) is = (told_at NoState (mark_word mark.Minus dash), inl refl)
+    (fault : Diagnostic) × In fault (stay_fault term)
+stay-of context (tree.Next word (tree.Same dash)) is = (diagnostic_at NoState (mark_word mark.Minus dash), inl refl)
 stay-of context (tree.Next word (tree.To state)) is =
     let r = map-some body.to_state (state_in context state.text) body.to_same is in
     let same : body.to_same ≡ body.to_state r.0 = r.2 in
@@ -299,7 +299,7 @@ module _ (context : Context) (definition : ProcessDefinition) (bodies : List Bod
   all-reached x b each (paths.by_join _ on l meets label onward) =
       all-reached x on (joined-reached l on (leads-from l on label) (each (body.join l) meets)) onward
 
-  none-in : (faults : List Told) (fault : Told) → In fault faults → faults ≡ [] → ⊥
+  none-in : (faults : List Diagnostic) (fault : Diagnostic) → In fault faults → faults ≡ [] → ⊥
   none-in [] fault at none = at
   none-in (x ∷ faults) fault at none = cc
 

@@ -13,7 +13,7 @@ use Rattle.build_expressions.specs.Scope as names
 use Rattle.build_expressions.specs.Scope.{AgentMeaning, SignalMeaning, agent_in, signal_in, value_in}
 use Rattle.build_expressions.specs.Typing.{Typed, term_in}
 use Rattle.build_expressions.specs.declared.context.Context.TheVariants.{Transition}
-use Rattle.build_operators.specs.declared.kind.Kind.{Kind}
+use Rattle.build_operators.specs.declared.operand_sort.OperandSort.{OperandSort}
 use Rattle.build_expressions.specs.declared.scope.ValueMeaning.{ValueMeaning}
 use Rattle.build_expressions.specs.declared.scope.ValueMeaning.TheVariants as meant
 use Rattle.laws_sound_processes.specs.BodyLaws.{BodiesAreTyped, TransitionsAreTyped}
@@ -316,7 +316,7 @@ module _ (system : SystemValue) (process : Process) (context : Context)
   question-kinded None has = tt
   question-kinded (Some typed) has = of-term typed.kind typed.term has
     where
-      of-term : (kind : Kind) (term : Option Term) →
+      of-term : (kind : OperandSort) (term : Option Term) →
           TermOf system process kind term →
           Holds (HasSomeKind system process) term
       of-term kind None has = tt
@@ -361,7 +361,7 @@ module _ (system : SystemValue) (process : Process) (context : Context)
         (holds-both ArePieces (Holds (IsTypedBody system process)) IsTypedParts parts_of pieces (other_in context other)
         parts-typed (pieces-typed (kind_in typed) parts) (other-typed other))
 
-    pieces-typed : (kind : Option Kind) (parts : tree.Parts) → Holds ArePieces (pieces_in context kind parts)
+    pieces-typed : (kind : Option OperandSort) (parts : tree.Parts) → Holds ArePieces (pieces_in context kind parts)
     pieces-typed kind tree.NoPart = tt
     pieces-typed kind (tree.AndPart answers transition rest) =
         let first = both piece (answers_in context kind answers) (body_in context transition) in

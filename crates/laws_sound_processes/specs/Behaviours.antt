@@ -1,8 +1,8 @@
 -- When what a process does is sound: each number that stands in it is that of something, and each value fits its place
 -- (Z.101: process).
 use Rattle.std.specs.Prelude.{◌≡◌, ◌<◌, ℕ, All, List, Some, length, slice_get}
-use Rattle.build_process.specs.Surroundings.{Surroundings}
-use Rattle.build_limits.specs.Names.{first_of}
+use Rattle.build_process.specs.ProcessScope.{ProcessScope}
+use Rattle.build_scopes.specs.Names.{first_of}
 use Rattle.laws_sound_processes.specs.Typed.{IsTypedBody}
 use Rattle.laws_sound_runs.specs.States.{LeadsToStates}
 use Rattle.laws_sound_processes.specs.States.{IsSoundState}
@@ -15,7 +15,7 @@ use Rattle.sdl_system.specs.declared.id.StateId.{StateId}
 use Rattle.sdl_system.specs.declared.process.Process.{Process}
 
 -- each name around the process stands for what is there
-pub record IsSoundAround (system : SystemValue) (process : Process) (around : Surroundings) : Type 0 where
+pub record IsSoundAround (system : SystemValue) (process : Process) (around : ProcessScope) : Type 0 where
   pub scope : IsSoundScope system process around.scope
   pub states : (text : List ℕ) (state : StateId) → first_of around.states text ≡ Some state → IsState process state
   pub signals : around.signals ≡ length system.signals

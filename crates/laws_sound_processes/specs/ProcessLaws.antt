@@ -12,12 +12,12 @@ use Rattle.run_evaluation.specs.declared.identity.Identity.{Identity}
 use Rattle.run_evaluation.specs.declared.store.Store.{Store}
 use Rattle.build_process.specs.Faulty.{body_faults}
 use Rattle.build_process.specs.Meant.{IsBehaviour}
-use Rattle.build_process.specs.Surroundings.{Surroundings}
+use Rattle.build_process.specs.ProcessScope.{ProcessScope}
 use Rattle.build_process.specs.declared.heading.Heading.{Heading}
 use Rattle.run_semantics.specs.Effect.{Deed}
 use Rattle.run_semantics.specs.ControlPoint.{Definition, ControlPoint}
 use Rattle.run_semantics.specs.Runs.{Runs}
-use Rattle.build_operators.specs.declared.kind.Kind.{Kind}
+use Rattle.build_operators.specs.declared.operand_sort.OperandSort.{OperandSort}
 use Rattle.laws_sound_runs.specs.Sorts.{HaveSorts}
 use Rattle.laws_sound_processes.specs.Behaviours.{IsSoundAround, IsSoundBehaviour}
 use Rattle.laws_sound_runs.specs.Kinds.{HasKind, has_kind}
@@ -31,7 +31,7 @@ use Rattle.sdl_tree.specs.Tree.{ProcessDefinition}
 -- sound. `names` are those of the joins that its start reaches.
 abbrev pub BehavioursAreSound : Type 0
 BehavioursAreSound =
-    (system : SystemValue) (process : Process) (around : Surroundings) (definition : ProcessDefinition)
+    (system : SystemValue) (process : Process) (around : ProcessScope) (definition : ProcessDefinition)
     (heading : Heading) (behaviour : Behaviour) (names : List (List ℕ)) → IsSoundAround system process around
     → IsBehaviour around definition heading behaviour → Means process behaviour
     → AreReached (beginnings definition) names → body_faults around definition names ≡ []
@@ -42,7 +42,8 @@ BehavioursAreSound =
 abbrev pub RunsHaveKinds : Type 0
 RunsHaveKinds =
     (d : Definition) (process : Process) (who : Identity) (from place : ControlPoint) (s t : Store) (q r : PortState)
-    (deeds : List Deed) (history : List PortEvent) (kind : Kind) (term : Term) (v : Value) → Means process d.behaviour
+    (deeds : List Deed) (history : List PortEvent) (kind : OperandSort) (term : Term) (v : Value) →
+    Means process d.behaviour
     → HaveSorts d.behaviour s.variables → Runs d who from s q deeds history place t r
     → HasKind d.system process kind term → value_of (environment d.system who t r) term ≡ Ok v
     → has_kind kind v ≡ true

@@ -2,7 +2,7 @@
 -- decision, nextstate).
 use Rattle.std.specs.Prelude.{◌≡◌, ℕ, All, IfSome, List, None, Some, length, slice_get}
 use Rattle.build_statements.specs.Contexts.{Context, state_in}
-use Rattle.build_operators.specs.declared.kind.Kind.{Kind}
+use Rattle.build_operators.specs.declared.operand_sort.OperandSort.{OperandSort}
 use Rattle.laws_sound_runs.specs.Paths.{Every}
 use Rattle.laws_sound_runs.specs.Kinds.{FitPlaces, FitsPlace, HasKind}
 use Rattle.laws_sound_runs.specs.Scopes.{IsSoundScope, parameter_sorts}
@@ -70,7 +70,7 @@ IsTypedAction system process (body.create number values) = IsTypedCreate system 
 
 -- a question is of some kind
 pub record HasSomeKind (system : SystemValue) (process : Process) (question : Term) : Type 0 where
-  pub kind : Kind
+  pub kind : OperandSort
   pub is : HasKind system process kind question
 
 -- a state of the process, where one is named

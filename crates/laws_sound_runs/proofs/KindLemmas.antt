@@ -4,13 +4,13 @@ use Rattle.port_values.specs.declared.item.SignalId.{SignalId}
 use Rattle.port_values.specs.declared.pid.Pid.TheVariants.{Null}
 use Rattle.port_values.specs.declared.value.Value.TheVariants as value
 use Rattle.build_expressions.specs.Contexts.{allows_instance, allows_word}
-use Rattle.build_operators.specs.Kinds.{fits, kind_of, result_of, unary_result_of}
+use Rattle.build_operators.specs.OperandSorts.{fits, kind_of, result_of, unary_result_of}
 use Rattle.build_expressions.specs.Partial.{both}
 use Rattle.build_expressions.specs.Scope.{Scope, SignalMeaning, signal, timer, signal_in, value_in}
 use Rattle.build_expressions.specs.Typing.{Argument, Typed, active_term, active_typed, activity, are_taken, argument_in, argument_terms, arguments_in, binary_typed, chain_typed, is_taken, joined_by, name_typed, of_variable as typed_variable, taken_term, term_in, typed_in, unary_typed, with_operation, word_typed}
 use Rattle.build_expressions.specs.declared.context.Context as contexts
-use Rattle.build_operators.specs.declared.kind.Kind.{Kind}
-use Rattle.build_operators.specs.declared.kind.Kind.TheVariants.{Free, Boolean, Pid}
+use Rattle.build_operators.specs.declared.operand_sort.OperandSort.{OperandSort}
+use Rattle.build_operators.specs.declared.operand_sort.OperandSort.TheVariants.{Free, Boolean, Pid}
 use Rattle.build_operators.specs.declared.operator.TypedOperation.{TypedOperation}
 use Rattle.build_operators.specs.declared.operator.TypedUnaryOperation.{TypedUnaryOperation}
 use Rattle.build_expressions.specs.declared.scope.Constant.TheVariants as constants
@@ -37,7 +37,7 @@ and-true false b is = absurd (let never : ⊥ = cc in never)
 module _ (system : SystemValue) (process : Process) where
   -- ---- what is there is of its kind
 
-  abbrev pub TermOf : Kind → Option Term → Type 0
+  abbrev pub TermOf : OperandSort → Option Term → Type 0
   TermOf kind None = Unit {0}
   TermOf kind (Some term) = HasKind system process kind term
 
@@ -82,7 +82,7 @@ module _ (system : SystemValue) (process : Process) where
 
   -- ---- operators
 
-  unary-term : (operator : UnaryOperator) (kind : Kind) (result : TypedUnaryOperation) (operand : Option Term) →
+  unary-term : (operator : UnaryOperator) (kind : OperandSort) (result : TypedUnaryOperation) (operand : Option Term) →
       unary_result_of operator kind ≡ Some result → TermOf kind operand →
       TermOf result.kind (option_map (unary result.operation) operand)
   unary-term operator kind result None is has = tt
@@ -100,7 +100,7 @@ module _ (system : SystemValue) (process : Process) where
   unary-kinded operator (Some operand) has =
       unary-result operator operand (unary_result_of operator operand.kind) refl has
 
-  binary-term : (operator : Operator) (one other : Kind) (result : TypedOperation) (left right : Option Term) →
+  binary-term : (operator : Operator) (one other : OperandSort) (result : TypedOperation) (left right : Option Term) →
       result_of operator one other ≡ Some result → TermOf one left → TermOf other right →
       TermOf result.kind (both (binary result.operation) left right)
   binary-term operator one other result None right is has also = tt
@@ -138,7 +138,7 @@ module _ (system : SystemValue) (process : Process) where
   fit-both sort sorts None rest taken has also = absurd (let never : ⊥ = cc in never)
   fit-both sort sorts (Some typed) rest taken has also = fit-term typed.kind typed.term rest taken has also
     where
-      fit-term : (kind : Kind) (first : Option Term) (rest : Option (List Term)) → fits kind sort ≡ true →
+      fit-term : (kind : OperandSort) (first : Option Term) (rest : Option (List Term)) → fits kind sort ≡ true →
           TermOf kind first → FitIf sorts rest → FitIf (sort ∷ sorts) (both ◌∷◌ first rest)
       fit-term kind None rest taken has also = tt
       fit-term kind (Some first) None taken has also = tt

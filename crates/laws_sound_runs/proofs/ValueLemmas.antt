@@ -7,9 +7,9 @@ use Rattle.run_evaluation.specs.Environment.{Environment}
 use Rattle.run_evaluation.specs.Value.{accessed, asked, given, keyed, operated, operated_on, value_of, values_of}
 use Rattle.run_evaluation.specs.Variables.{value_in}
 use Rattle.run_record.specs.declared.failure.Failure.{Failure}
-use Rattle.build_operators.specs.Kinds.{added, compared, fits, joined, kind_of, ordered, result_of, scaled, subtracted, unary_result_of}
-use Rattle.build_operators.specs.declared.kind.Kind.{Kind}
-use Rattle.build_operators.specs.declared.kind.Kind.TheVariants.{Free, Integer, Time, Duration, Boolean, Pid}
+use Rattle.build_operators.specs.OperandSorts.{added, compared, fits, joined, kind_of, ordered, result_of, scaled, subtracted, unary_result_of}
+use Rattle.build_operators.specs.declared.operand_sort.OperandSort.{OperandSort}
+use Rattle.build_operators.specs.declared.operand_sort.OperandSort.TheVariants.{Free, Integer, Time, Duration, Boolean, Pid}
 use Rattle.build_operators.specs.declared.operator.TypedOperation.{TypedOperation}
 use Rattle.build_operators.specs.declared.operator.TypedUnaryOperation.{TypedUnaryOperation}
 use Rattle.laws_sound_runs.specs.Kinds.{HasKind, has_kind, of_binary, of_now, of_pid, of_timer, of_unary, of_value, of_variable}
@@ -39,13 +39,13 @@ use Rattle.sdl_tree.specs.declared.expressions.UnaryOperator.{UnaryOperator}
 use Rattle.sdl_tree.specs.declared.expressions.UnaryOperator.TheVariants as unary
 
 -- where there is a value, it is of the kind
-abbrev IsOf : Kind → Result Value Failure → Type 0
+abbrev IsOf : OperandSort → Result Value Failure → Type 0
 IsOf kind (Ok v) = has_kind kind v ≡ true
 IsOf kind (Err why) = Unit {0}
 
 -- ---- what operations give
 
-number-of : (kind : Kind) (one : NumberSort) (answer : Result ℤ operation.Failure) →
+number-of : (kind : OperandSort) (one : NumberSort) (answer : Result ℤ operation.Failure) →
     ((n : ℤ) → has_kind kind (number_in one n) ≡ true) → IsOf kind (given (operations.value_in one answer))
 number-of kind one (Ok n) each = each n
 number-of kind one (Err why) each = tt
@@ -54,7 +54,7 @@ abbrev GivesOne : Option TypedUnaryOperation → Type 0
 GivesOne None = Unit {0}
 GivesOne (Some result) = (v : Value) → IsOf result.kind (given (applied_to_one result.operation v))
 
-unary-gives : (one : UnaryOperator) (kind : Kind) → GivesOne (unary_result_of one kind)
+unary-gives : (one : UnaryOperator) (kind : OperandSort) → GivesOne (unary_result_of one kind)
 unary-gives unary.Minus Free = λ v. number-of Free number.Integer (ranged (neg_ℤ (number_of v))) (λ n. refl)
 unary-gives unary.Minus Integer = λ v. number-of Integer number.Integer (ranged (neg_ℤ (number_of v))) (λ n. refl)
 unary-gives unary.Minus Duration = λ v. number-of Duration number.Duration (ranged (neg_ℤ (number_of v))) (λ n. refl)
@@ -65,18 +65,19 @@ abbrev Gives : Option TypedOperation → Type 0
 Gives None = Unit {0}
 Gives (Some result) = (v w : Value) → IsOf result.kind (given (applied result.operation v w))
 
-calculated-of : (kind : Kind) (a : Arithmetic) (one : NumberSort) → ((n : ℤ) → has_kind kind (number_in one n) ≡ true) →
+calculated-of : (kind : OperandSort) (a : Arithmetic) (one : NumberSort) →
+    ((n : ℤ) → has_kind kind (number_in one n) ≡ true) →
     (v w : Value) → IsOf kind (given (operations.value_in one (calculated a (number_of v) (number_of w))))
 calculated-of kind a one each v w = number-of kind one (calculated a (number_of v) (number_of w)) each
 
-scaled-gives : (a : Arithmetic) (left right : Kind) → Gives (scaled a left right)
+scaled-gives : (a : Arithmetic) (left right : OperandSort) → Gives (scaled a left right)
 scaled-gives a Free Free = calculated-of Free a number.Integer (λ n. refl)
 scaled-gives a Free Integer = calculated-of Integer a number.Integer (λ n. refl)
 scaled-gives a Integer Free = calculated-of Integer a number.Integer (λ n. refl)
 scaled-gives a Integer Integer = calculated-of Integer a number.Integer (λ n. refl)
 scaled-gives a _ _ = tt
 
-added-gives : (left right : Kind) → Gives (added left right)
+added-gives : (left right : OperandSort) → Gives (added left right)
 added-gives Time Duration = calculated-of Time arithmetics.Plus number.Time (λ n. refl)
 added-gives Time Free = calculated-of Time arithmetics.Plus number.Time (λ n. refl)
 added-gives Duration Time = calculated-of Time arithmetics.Plus number.Time (λ n. refl)
@@ -86,7 +87,7 @@ added-gives Duration Free = calculated-of Duration arithmetics.Plus number.Durat
 added-gives Free Duration = calculated-of Duration arithmetics.Plus number.Duration (λ n. refl)
 added-gives left right = scaled-gives arithmetics.Plus left right
 
-subtracted-gives : (left right : Kind) → Gives (subtracted left right)
+subtracted-gives : (left right : OperandSort) → Gives (subtracted left right)
 subtracted-gives Time Duration = calculated-of Time arithmetics.Minus number.Time (λ n. refl)
 subtracted-gives Time Free = calculated-of Time arithmetics.Minus number.Time (λ n. refl)
 subtracted-gives Time Time = calculated-of Duration arithmetics.Minus number.Duration (λ n. refl)
@@ -96,7 +97,7 @@ subtracted-gives Duration Free = calculated-of Duration arithmetics.Minus number
 subtracted-gives Free Duration = calculated-of Duration arithmetics.Minus number.Duration (λ n. refl)
 subtracted-gives left right = scaled-gives arithmetics.Minus left right
 
-ordered-gives : (c : Comparison) (left right : Kind) → Gives (ordered c left right)
+ordered-gives : (c : Comparison) (left right : OperandSort) → Gives (ordered c left right)
 ordered-gives c Free Free = λ v w. refl
 ordered-gives c Free Integer = λ v w. refl
 ordered-gives c Free Time = λ v w. refl
@@ -109,16 +110,16 @@ ordered-gives c Time Time = λ v w. refl
 ordered-gives c Duration Duration = λ v w. refl
 ordered-gives c _ _ = tt
 
-compared-gives : (c : Comparison) (left right : Kind) → Gives (compared c left right)
+compared-gives : (c : Comparison) (left right : OperandSort) → Gives (compared c left right)
 compared-gives c Boolean Boolean = λ v w. refl
 compared-gives c Pid Pid = λ v w. refl
 compared-gives c left right = ordered-gives c left right
 
-joined-gives : (l : Logic) (left right : Kind) → Gives (joined l left right)
+joined-gives : (l : Logic) (left right : OperandSort) → Gives (joined l left right)
 joined-gives l Boolean Boolean = λ v w. refl
 joined-gives l _ _ = tt
 
-gives : (one : Operator) (left right : Kind) → Gives (result_of one left right)
+gives : (one : Operator) (left right : OperandSort) → Gives (result_of one left right)
 gives operator.Implies left right = joined-gives logic.Implies left right
 gives operator.Or left right = joined-gives logic.Or left right
 gives operator.Xor left right = joined-gives logic.Xor left right
@@ -156,12 +157,12 @@ asked-of : (here : Environment) (key : Result TimerKey Failure) → IsOf Boolean
 asked-of here (Ok key) = refl
 asked-of here (Err why) = tt
 
-operated-on-of : (kind : Kind) (o : UnaryOperation) (operand : Result Value Failure) →
+operated-on-of : (kind : OperandSort) (o : UnaryOperation) (operand : Result Value Failure) →
     ((v : Value) → IsOf kind (given (applied_to_one o v))) → IsOf kind (operated_on o operand)
 operated-on-of kind o (Ok v) each = each v
 operated-on-of kind o (Err why) each = tt
 
-operated-of : (kind : Kind) (o : Operation) (left right : Result Value Failure) →
+operated-of : (kind : OperandSort) (o : Operation) (left right : Result Value Failure) →
     ((v w : Value) → IsOf kind (given (applied o v w))) → IsOf kind (operated o left right)
 operated-of kind o (Err why) right each = tt
 operated-of kind o (Ok v) (Err why) each = tt
@@ -169,7 +170,7 @@ operated-of kind o (Ok v) (Ok w) each = each v w
 
 module _ (system : SystemValue) (process : Process) (here : Environment)
     (sorted : HaveSorts process here.variables) where
-  value-kinded : (kind : Kind) (term : Term) → HasKind system process kind term → IsOf kind (value_of here term)
+  value-kinded : (kind : OperandSort) (term : Term) → HasKind system process kind term → IsOf kind (value_of here term)
   value-kinded _ _ (of_value kind v is) = is
   value-kinded _ _ (of_variable n v listed) =
       accessed-of v.sort (value_in here.variables n) (λ w is. sorted n v w listed is)
@@ -240,7 +241,7 @@ truth-same sort.Pid truth fitting = cc
 truth-same sort.Time truth fitting = cc
 truth-same sort.Duration truth fitting = cc
 
-same : (kind : Kind) (one : Sort) (v : Value) → has_kind kind v ≡ true → fits kind one ≡ true →
+same : (kind : OperandSort) (one : Sort) (v : Value) → has_kind kind v ≡ true → fits kind one ≡ true →
     IsSame v (as_sort one v)
 same Free one (value.Int n) has fitting = int-same one n fitting
 same Integer one (value.Int n) has fitting = int-same one n (integer-fits one fitting)

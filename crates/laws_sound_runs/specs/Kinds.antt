@@ -3,9 +3,9 @@ use Rattle.std.specs.Prelude.{◌≡◌, Bool, true, false, List, [], ◌∷◌,
 use Rattle.port_values.specs.declared.item.SignalId.{SignalId}
 use Rattle.port_values.specs.declared.value.Value.{Value}
 use Rattle.port_values.specs.declared.value.Value.TheVariants as value
-use Rattle.build_operators.specs.Kinds.{fits, kind_of, result_of, unary_result_of}
-use Rattle.build_operators.specs.declared.kind.Kind.{Kind}
-use Rattle.build_operators.specs.declared.kind.Kind.TheVariants.{Free, Integer, Time, Duration, Boolean, Pid}
+use Rattle.build_operators.specs.OperandSorts.{fits, kind_of, result_of, unary_result_of}
+use Rattle.build_operators.specs.declared.operand_sort.OperandSort.{OperandSort}
+use Rattle.build_operators.specs.declared.operand_sort.OperandSort.TheVariants.{Free, Integer, Time, Duration, Boolean, Pid}
 use Rattle.build_operators.specs.declared.operator.TypedOperation.{TypedOperation}
 use Rattle.build_operators.specs.declared.operator.TypedUnaryOperation.{TypedUnaryOperation}
 use Rattle.sdl_system.specs.System.{SystemValue}
@@ -21,7 +21,7 @@ use Rattle.sdl_tree.specs.declared.expressions.Operator.{Operator}
 use Rattle.sdl_tree.specs.declared.expressions.UnaryOperator.{UnaryOperator}
 
 -- whether a value is one of this kind; a number whose sort its place decides is an Integer meanwhile
-abbrev pub has_kind : Kind → Value → Bool
+abbrev pub has_kind : OperandSort → Value → Bool
 has_kind Free (value.Int number) = true
 has_kind Integer (value.Int number) = true
 has_kind Time (value.Time number) = true
@@ -34,8 +34,8 @@ mutual
   -- The term is of the kind in the process. Its variables are those of the process, and its timers those of the system,
   -- with as many values as they take, each of which fits its place; each operation is the one of an operator between
   -- operands of these kinds.
-  pub data HasKind (system : SystemValue) (process : Process) : Kind → Term → Type 0 where
-    of_value : (kind : Kind) (v : Value) → has_kind kind v ≡ true → HasKind system process kind (constant v)
+  pub data HasKind (system : SystemValue) (process : Process) : OperandSort → Term → Type 0 where
+    of_value : (kind : OperandSort) (v : Value) → has_kind kind v ≡ true → HasKind system process kind (constant v)
     of_variable : (number : VariableId) (v : Variable) → slice_get process.variables.items number.0 ≡ Some v
         → HasKind system process (kind_of v.sort) (variable number)
     of_now : HasKind system process Time now
@@ -43,10 +43,10 @@ mutual
     of_timer : (number : SignalId) (signal : Signal) (timer : Timer) (values : Terms)
         → slice_get system.signals number.0 ≡ Some signal → signal.timer ≡ Some timer
         → FitPlaces system process signal.sorts.items values → HasKind system process Boolean (active number values)
-    of_unary : (operator : UnaryOperator) (kind : Kind) (operand : Term) (result : TypedUnaryOperation)
+    of_unary : (operator : UnaryOperator) (kind : OperandSort) (operand : Term) (result : TypedUnaryOperation)
         → unary_result_of operator kind ≡ Some result → HasKind system process kind operand
         → HasKind system process result.kind (unary result.operation operand)
-    of_binary : (operator : Operator) (one other : Kind) (left right : Term) (result : TypedOperation)
+    of_binary : (operator : Operator) (one other : OperandSort) (left right : Term) (result : TypedOperation)
         → result_of operator one other ≡ Some result → HasKind system process one left
         → HasKind system process other right
         → HasKind system process result.kind (binary result.operation left right)
@@ -54,12 +54,13 @@ mutual
   -- there are as many terms as places of these sorts, and each is of a kind that fits its place
   pub data FitPlaces (system : SystemValue) (process : Process) : List Sort → Terms → Type 0 where
     no_place : FitPlaces system process [] no_term
-    and_place : (kind : Kind) (sort : Sort) (sorts : List Sort) (first : Term) (rest : Terms) → fits kind sort ≡ true
+    and_place : (kind : OperandSort) (sort : Sort) (sorts : List Sort) (first : Term) (rest : Terms) →
+        fits kind sort ≡ true
         → HasKind system process kind first → FitPlaces system process sorts rest
         → FitPlaces system process (sort ∷ sorts) (and_term first rest)
 
 -- the term is of a kind that fits a place of this sort
 pub record FitsPlace (system : SystemValue) (process : Process) (sort : Sort) (term : Term) : Type 0 where
-  pub kind : Kind
+  pub kind : OperandSort
   pub fitting : fits kind sort ≡ true
   pub is : HasKind system process kind term

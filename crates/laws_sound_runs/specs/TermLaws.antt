@@ -4,11 +4,11 @@ use Rattle.port_values.specs.declared.value.Value.{Value}
 use Rattle.run_evaluation.specs.Environment.{Environment}
 use Rattle.run_evaluation.specs.Value.{value_of}
 use Rattle.run_evaluation.specs.Variables.{VariableList, value_in}
-use Rattle.build_operators.specs.Kinds.{fits}
+use Rattle.build_operators.specs.OperandSorts.{fits}
 use Rattle.build_expressions.specs.Scope.{Scope}
 use Rattle.build_expressions.specs.Typing.{Typed, argument_in, taken_term, taken_terms, typed_in}
 use Rattle.build_expressions.specs.declared.context.Context.{Context}
-use Rattle.build_operators.specs.declared.kind.Kind.{Kind}
+use Rattle.build_operators.specs.declared.operand_sort.OperandSort.{OperandSort}
 use Rattle.laws_sound_runs.specs.Kinds.{FitPlaces, FitsPlace, HasKind, has_kind}
 use Rattle.laws_sound_runs.specs.Scopes.{IsSoundScope}
 use Rattle.sdl_system.specs.Operation.{unsorted}
@@ -49,7 +49,7 @@ ListedTermsFit =
 -- What is of a kind names variables and timers that are there, with as many values as they take.
 abbrev pub KindedTermsAreSound : Type 0
 KindedTermsAreSound =
-    (system : SystemValue) (process : Process) (kind : Kind) (term : Term) → HasKind system process kind term
+    (system : SystemValue) (process : Process) (kind : OperandSort) (term : Term) → HasKind system process kind term
     → IsSoundTerm system process term
 
 -- So do terms that fit places, and they are as many as the places.
@@ -69,7 +69,7 @@ HaveSorts process variables =
 -- Where variables have values of their sorts, what a term of a kind comes to is a value of that kind.
 abbrev pub ValuesHaveKinds : Type 0
 ValuesHaveKinds =
-    (system : SystemValue) (process : Process) (here : Environment) (kind : Kind) (term : Term) (v : Value)
+    (system : SystemValue) (process : Process) (here : Environment) (kind : OperandSort) (term : Term) (v : Value)
     → HasKind system process kind term → HaveSorts process here.variables → value_of here term ≡ Ok v
     → has_kind kind v ≡ true
 
@@ -77,5 +77,5 @@ ValuesHaveKinds =
 -- counts as 0 there, and nothing that is no truth as false.
 abbrev pub StaysWhatItIs : Type 0
 StaysWhatItIs =
-    (kind : Kind) (sort : Sort) (v there : Value) → has_kind kind v ≡ true → fits kind sort ≡ true
+    (kind : OperandSort) (sort : Sort) (v there : Value) → has_kind kind v ≡ true → fits kind sort ≡ true
     → as_sort sort v ≡ Some there → unsorted there ≡ unsorted v

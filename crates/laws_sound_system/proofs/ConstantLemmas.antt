@@ -11,11 +11,11 @@ use Rattle.build_definitions.specs.Parts.{Part, OfBlock, OfProcess, OfChannel, O
 use Rattle.build_definitions.specs.Rows.{SynonymRow, ValueRow, after_synonyms, after_variables, placed_synonyms, synonym_row, synonym_values, synonyms_of, value_rows, values_of, variable_rows}
 use Rattle.build_constants.proofs.SynonymLemmas.{faults-of}
 use Rattle.build_constants.specs.Synonyms.{IsSynonym, faults_in_row}
-use Rattle.build_names.specs.declared.declared.Declared.{Declared}
+use Rattle.build_names.specs.declared.symbol_table.SymbolTable.{SymbolTable}
 use Rattle.build_faults.proofs.FaultLemmas.{each-both}
 use Rattle.build_faults.specs.FaultLaws.{Each, In}
 use Rattle.build_faults.specs.Faults.{fault_if}
-use Rattle.build_faults.specs.declared.fault.Kind.TheVariants.{BadCount}
+use Rattle.build_faults.specs.declared.fault.Rule.TheVariants.{BadCount}
 use Rattle.build_expressions.specs.Constants.{constant_faults, constant_in, counted, counted_faults, is_miscounted, value_of, with_value}
 use Rattle.build_expressions.specs.Misused.{place_faults}
 use Rattle.build_expressions.specs.Scope.{Scope, constant_at}
@@ -177,14 +177,14 @@ slice-in [] (suc n) x at = absurd (let never : ⊥ = cc in never)
 slice-in (y ∷ xs) zero x at = let same : x ≡ y = cc in inl same
 slice-in (y ∷ xs) (suc n) x at = inr (slice-in xs n x at)
 
-module _ (tree : Tree) (declared : Declared) (table : List Constant) (is : IsFaultless tree declared table) where
+module _ (tree : Tree) (symbols : SymbolTable) (table : List Constant) (is : IsFaultless tree symbols table) where
   faultless : (one : Synonym) → In one is.valued.synonyms → synonym_faults table one ≡ []
   faultless one at =
       let list = (rows_of_tree tree).synonyms in
-      let none = left-empty (flat_map (faults_in_row (rows_of_tree tree) declared table) list) _
-      (left-empty _ _ (left-empty _ _ (left-empty _ _ is.figures))) in
+      let none = left-empty (flat_map (faults_in_row (rows_of_tree tree) symbols table) list) _
+      (left-empty _ _ (left-empty _ _ (left-empty _ _ is.constant_table))) in
       none-empty (synonym_faults table) is.valued.synonyms
-      (faults-of (rows_of_tree tree) declared table list is.valued.synonyms is.valued.listed ∙ none) one at
+      (faults-of (rows_of_tree tree) symbols table list is.valued.synonyms is.valued.listed ∙ none) one at
 
   -- one that settles has its sort
   settled-sorted : (number : ℕ) (one : Synonym) (sort : Sort) (v : Value) →
@@ -217,7 +217,7 @@ module _ (tree : Tree) (declared : Declared) (table : List Constant) (is : IsFau
   constant-sound number row sort constants.Refused at sort_is c_is = tt
   constant-sound number row None (constants.Value v) at sort_is c_is = tt
   constant-sound number row (Some sort) (constants.Value v) at sort_is c_is =
-      let one = zip-get (IsSynonym declared (rows_of_tree tree).processes) (rows_of_tree tree).synonyms
+      let one = zip-get (IsSynonym symbols (rows_of_tree tree).processes) (rows_of_tree tree).synonyms
       is.valued.synonyms number.0 row is.valued.listed at in
       let value_is : constant_of table number.0 ≡ constants.Value v =
       sym (unwrap_or-slice_get table number.0 constants.NoValue) ∙ c_is in

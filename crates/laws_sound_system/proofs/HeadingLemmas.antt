@@ -9,7 +9,7 @@ use Rattle.sdl_build.proofs.MadeLemmas.{get-below}
 use Rattle.sdl_build.proofs.WholeLemmas.{faultless}
 use Rattle.sdl_build.specs.Built.{IsBuilt}
 use Rattle.build_context.specs.Headings.{IsBound, IsInitial, IsMaximum, value_in, variable_in, variable_of, variable_sort, variables_in}
-use Rattle.build_context.specs.Survey.{Survey}
+use Rattle.build_context.specs.Context.{Context}
 use Rattle.laws_complete.proofs.AnswerLemmas.{constant-given}
 use Rattle.laws_complete.proofs.EmptyLemmas.{left-empty, not-broken, right-empty}
 use Rattle.laws_complete.proofs.SeenLemmas.{scopes-complete}
@@ -19,16 +19,16 @@ use Rattle.build_constants.specs.Counts.{accepted, are_misfit, counts_faults, co
 use Rattle.build_constants.specs.Variables.{initial_faults, initial_in}
 use Rattle.build_constants.specs.declared.counts.InstanceCounts.{InstanceCounts}
 use Rattle.build_definitions.specs.Rows.{ProcessRow, ValueRow}
-use Rattle.build_definitions.specs.Tables.{Rows}
-use Rattle.build_constants.specs.Figures.{counts_at, counts_faults_at, duration_faults_at, initial_at, initial_faults_at, sort_of_entry}
+use Rattle.build_definitions.specs.Definitions.{Rows}
+use Rattle.build_constants.specs.ConstantTable.{counts_at, counts_faults_at, duration_faults_at, initial_at, initial_faults_at, sort_of_entry}
 use Rattle.build_constants.specs.Scopes.{scope_in}
-use Rattle.build_names.specs.declared.declared.Declared.{Declared}
+use Rattle.build_names.specs.declared.symbol_table.SymbolTable.{SymbolTable}
 use Rattle.run_semantics.specs.Instance.{first_store}
 use Rattle.run_semantics.specs.ControlPoint.{AtStart}
 use Rattle.build_faults.proofs.FaultLemmas.{each-both}
 use Rattle.build_faults.specs.FaultLaws.{Each}
 use Rattle.build_faults.specs.Faults.{fault_if, mark_word}
-use Rattle.build_faults.specs.declared.fault.Kind.TheVariants.{BadCount}
+use Rattle.build_faults.specs.declared.fault.Rule.TheVariants.{BadCount}
 use Rattle.build_expressions.specs.Constants.{constant_faults, constant_in}
 use Rattle.build_expressions.specs.Scope.{Scope}
 use Rattle.build_expressions.specs.declared.scope.Constant.{Constant}
@@ -104,17 +104,17 @@ each-if : (b : Bool) (list : List VariableMeaning) → Each IsSoundMeaning list 
 each-if true list each = each
 each-if false list each = tt
 
-rows-initial : (all : Rows) (declared : Declared) (table : List Constant) (k : ℕ) (rows : List ValueRow) →
-    Each (λ row. initial_faults_at all declared table row ≡ []) rows →
-    Each IsSoundMeaning (variables_in (the_process k) rows (map (initial_at all declared table) rows))
-rows-initial all declared table k [] none = tt
-rows-initial all declared table k (row ∷ rows) none =
-    each-both IsSoundMeaning (variable_in (the_process k) row (initial_at all declared table row))
-    (variables_in (the_process k) rows (map (initial_at all declared table) rows))
+rows-initial : (all : Rows) (symbols : SymbolTable) (table : List Constant) (k : ℕ) (rows : List ValueRow) →
+    Each (λ row. initial_faults_at all symbols table row ≡ []) rows →
+    Each IsSoundMeaning (variables_in (the_process k) rows (map (initial_at all symbols table) rows))
+rows-initial all symbols table k [] none = tt
+rows-initial all symbols table k (row ∷ rows) none =
+    each-both IsSoundMeaning (variable_in (the_process k) row (initial_at all symbols table row))
+    (variables_in (the_process k) rows (map (initial_at all symbols table) rows))
     (each-if (is_same_scope row.scope (scope_of_process k))
-    (variable_of row (initial_at all declared table row) (variable_sort row.entry))
-    (entry-initial (scope_in all declared table row.scope) row row.entry row.initial none.0))
-    (rows-initial all declared table k rows none.1)
+    (variable_of row (initial_at all symbols table row) (variable_sort row.entry))
+    (entry-initial (scope_in all symbols table row.scope) row row.entry row.initial none.0))
+    (rows-initial all symbols table k rows none.1)
 
 -- ---- counts
 
@@ -248,43 +248,45 @@ parameters-fit few many sorts more all is both long =
 
 module _ (tree : Tree) (system : SystemValue) (built : IsBuilt tree system) (number : ProcessId) (process : Process)
     (at : slice_get system.processes number.0 ≡ Some process) where
-  abbrev survey : Survey
-  survey = built.survey
+  abbrev context : Context
+  context = built.context
 
   abbrev rows : Rows
   rows = rows_of_tree tree
 
-  is : IsFaultless tree survey.declared survey.constants
-  is = faultless tree survey built.defined built.unbroken
+  is : IsFaultless tree context.symbols context.constants
+  is = faultless tree context built.defined built.unbroken
 
-  facts : IsKnown survey.declared survey.constants system rows
-  facts = subst (IsKnown survey.declared survey.constants system) built.defined.rows (known survey system built.built)
+  facts : IsKnown context.symbols context.constants system rows
+  facts = subst (IsKnown context.symbols context.constants system) built.defined.rows (known context system built.built)
 
   its : (row : ProcessRow) × (slice_get rows.processes number.0 ≡ Some row)
   its = get-below rows.processes system.processes number.0 process facts.size at
 
-  heading : HasHeading survey.declared survey.constants rows number.0 its.0 process
+  heading : HasHeading context.symbols context.constants rows number.0 its.0 process
   heading = facts.each number.0 its.0 process its.1 at
 
-  initials-none : Each (λ one. initial_faults_at rows survey.declared survey.constants one ≡ []) rows.values
+  initials-none : Each (λ one. initial_faults_at rows context.symbols context.constants one ≡ []) rows.values
   initials-none =
-      each-empty (initial_faults_at rows survey.declared survey.constants) rows.values
-      (right-empty _ (flat_map (initial_faults_at rows survey.declared survey.constants) rows.values)
-      (left-empty _ (flat_map (duration_faults_at rows survey.declared survey.constants) rows.signals) is.figures))
+      each-empty (initial_faults_at rows context.symbols context.constants) rows.values
+      (right-empty _ (flat_map (initial_faults_at rows context.symbols context.constants) rows.values)
+      (left-empty _ (flat_map (duration_faults_at rows context.symbols context.constants) rows.signals)
+      is.constant_table))
 
   variables-sound : All IsSoundVariable process.variables.items
   variables-sound =
       each-all IsSoundVariable process.variables.items
       (unmapped variable_meaning IsSoundMeaning process.variables.items
       (subst (Each IsSoundMeaning) (sym heading.variables)
-      (rows-initial rows survey.declared survey.constants number.0 rows.values initials-none)))
+      (rows-initial rows context.symbols context.constants number.0 rows.values initials-none)))
 
-  counts-none : Each (λ one. counts_faults_at rows survey.declared survey.constants one ≡ []) rows.processes
+  counts-none : Each (λ one. counts_faults_at rows context.symbols context.constants one ≡ []) rows.processes
   counts-none =
-      each-empty (counts_faults_at rows survey.declared survey.constants) rows.processes
-      (right-empty _ (flat_map (counts_faults_at rows survey.declared survey.constants) rows.processes)
+      each-empty (counts_faults_at rows context.symbols context.constants) rows.processes
+      (right-empty _ (flat_map (counts_faults_at rows context.symbols context.constants) rows.processes)
       (left-empty _ _ (left-empty _ _
-      (left-empty _ (flat_map (duration_faults_at rows survey.declared survey.constants) rows.signals) is.figures))))
+      (left-empty _ (flat_map (duration_faults_at rows context.symbols context.constants) rows.signals)
+      is.constant_table))))
 
   parameters-sound : process.parameters ≤ length process.variables.items
   parameters-sound =
@@ -297,11 +299,11 @@ module _ (tree : Tree) (system : SystemValue) (built : IsBuilt tree system) (num
 
   counts-sound : IfSome process.maximum (λ maximum. (1 ≤ maximum) × (process.initial ≤ maximum))
   counts-sound =
-      let scope = scope_in rows survey.declared survey.constants (its.0).scope in
-      counts-fit (counts_at rows survey.declared survey.constants its.0) process.initial process.maximum
-      (counts-good scope (scopes-complete tree survey.declared survey.constants is (its.0).scope)
+      let scope = scope_in rows context.symbols context.constants (its.0).scope in
+      counts-fit (counts_at rows context.symbols context.constants its.0) process.initial process.maximum
+      (counts-good scope (scopes-complete tree context.symbols context.constants is (its.0).scope)
       (its.0).definition.counts
-      (each-at (λ (one : ProcessRow). counts_faults_at rows survey.declared survey.constants one ≡ []) rows.processes
+      (each-at (λ (one : ProcessRow). counts_faults_at rows context.symbols context.constants one ≡ []) rows.processes
       number.0 its.0 counts-none its.1)) heading.initial heading.maximum
 
 pub headings-are-sound : HeadingsAreSound

@@ -9,14 +9,14 @@ use Rattle.laws_complete.proofs.SortLemmas.{sorts-given}
 use Rattle.laws_complete.specs.Names.{IsFaultless, rows_of_tree}
 use Rattle.build_definitions.specs.Parts.{parts_in}
 use Rattle.build_definitions.specs.Rows.{ProcessRow, ValueRow}
-use Rattle.build_definitions.specs.Tables.{Rows, path_of}
-use Rattle.build_constants.specs.Figures.{all_durations, duration_at}
+use Rattle.build_definitions.specs.Definitions.{Rows, path_of}
+use Rattle.build_constants.specs.ConstantTable.{all_durations, duration_at}
 use Rattle.build_constants.specs.Scopes.{scope_in}
 use Rattle.build_names.specs.Entries.{Entry, entries_in, entry_in}
 use Rattle.build_names.specs.Meanings.{agent_entries, signal_entries, value_entries, value_entry}
-use Rattle.build_names.specs.declared.declared.Declared.{Declared}
+use Rattle.build_names.specs.declared.symbol_table.SymbolTable.{SymbolTable}
 use Rattle.build_faults.specs.FaultLaws.{Each}
-use Rattle.build_limits.specs.Names.{first_of}
+use Rattle.build_scopes.specs.Names.{first_of}
 use Rattle.build_expressions.specs.Scope.{agent_meaning, meaning, signal_meaning, value_meaning}
 use Rattle.build_expressions.specs.declared.scope.Constant.{Constant}
 use Rattle.build_expressions.specs.declared.scope.ValueEntry.{ValueEntry}
@@ -74,13 +74,13 @@ found-mean f P (name ∷ names) text found each is =
 -- ---- what is known of a system
 
 -- it has the signals of these rows, and the processes, with their variables
-pub record IsOfRows (tree : Tree) (declared : Declared) (constants : List Constant) (system : SystemValue)
+pub record IsOfRows (tree : Tree) (symbols : SymbolTable) (constants : List Constant) (system : SystemValue)
     (rows : Rows) : Type 0 where
-  pub signals : map signal_of system.signals ≡ signals_from rows.signals (all_durations rows declared constants)
+  pub signals : map signal_of system.signals ≡ signals_from rows.signals (all_durations rows symbols constants)
   pub processes : AreProcesses system rows.processes (λ k. sorts_in k (parts_in tree))
 
-module _ (tree : Tree) (declared : Declared) (constants : List Constant) (is : IsFaultless tree declared constants)
-    (system : SystemValue) (known : IsOfRows tree declared constants system (rows_of_tree tree)) where
+module _ (tree : Tree) (symbols : SymbolTable) (constants : List Constant) (is : IsFaultless tree symbols constants)
+    (system : SystemValue) (known : IsOfRows tree symbols constants system (rows_of_tree tree)) where
   abbrev rows : Rows
   rows = rows_of_tree tree
 
@@ -129,7 +129,7 @@ module _ (tree : Tree) (declared : Declared) (constants : List Constant) (is : I
         (ap (λ s. is_same_scope s place) (sym both.0.1) ∙ same) in
         variable-sound n.0 sort (ap (λ j. slice_get (sorts_in j (parts_in tree)) n.0) (sym here) ∙ both.0.2)
     entry-sound place own (entry.Synonym n sort) round both same =
-        synonym-sound tree declared constants is n sort both.1
+        synonym-sound tree symbols constants is n sort both.1
 
     rows-sound : (place : ScopeId) → IsRound place →
         Each (λ (one : Entry ValueEntry). is_same_scope one.scope place ≡ true → IsSoundEntry one.what)
@@ -141,44 +141,44 @@ module _ (tree : Tree) (declared : Declared) (constants : List Constant) (is : I
         (each-and (IsPlacedRow (parts_in tree)) (IsListedRow rows.synonyms) rows.values
         (all-placed (parts_in tree) (tree-walk tree)) (values-listed 0 0 (parts_in tree) [] rows.synonyms refl refl))
 
-    names-sound : (place : ScopeId) → IsRound place → EachMeans IsSoundEntry (names_of declared.values place)
+    names-sound : (place : ScopeId) → IsRound place → EachMeans IsSoundEntry (names_of symbols.values place)
     names-sound place round =
         subst (EachMeans IsSoundEntry) (sym (is.named.values place))
         (entries-at IsSoundEntry place (value_entries rows) (rows-sound place round))
 
-    block-sound : (block : Option BlockId) → EachMeans IsSoundEntry (block_names declared.values block)
+    block-sound : (block : Option BlockId) → EachMeans IsSoundEntry (block_names symbols.values block)
     block-sound None = tt
     block-sound (Some block) = names-sound (scope.Block block) tt
 
     values-sound : (block : Option BlockId) → EachMeans IsSoundEntry
-        (process_names declared.values (Some (the_process number))
-        ++ (block_names declared.values block ++ names_of declared.values scope.System))
+        (process_names symbols.values (Some (the_process number))
+        ++ (block_names symbols.values block ++ names_of symbols.values scope.System))
     values-sound block =
-        means-both IsSoundEntry (process_names declared.values (Some (the_process number)))
-        (block_names declared.values block ++ names_of declared.values scope.System)
+        means-both IsSoundEntry (process_names symbols.values (Some (the_process number)))
+        (block_names symbols.values block ++ names_of symbols.values scope.System)
         (names-sound (scope_of_process number) refl)
-        (means-both IsSoundEntry (block_names declared.values block) (names_of declared.values scope.System)
+        (means-both IsSoundEntry (block_names symbols.values block) (names_of symbols.values scope.System)
         (block-sound block) (names-sound scope.System tt))
 
     -- ---- all names
 
-    pub scope-sound : IsSoundScope system process (scope_in rows declared constants (scope_of_process number))
+    pub scope-sound : IsSoundScope system process (scope_in rows symbols constants (scope_of_process number))
     scope-sound =
         let path = path_of rows.processes (scope_of_process number) in
         let sorts = sorts-given tree is.sorts in
         record {
           values = λ text found.
-              found-mean (value_meaning constants) (IsSoundValue process) (seen_in declared.values path) text found
+              found-mean (value_meaning constants) (IsSoundValue process) (seen_in symbols.values path) text found
               (values-sound path.block);
           signals =
-              seen-is signal_meaning (IsSoundSignal system) declared.signals path
-              (meant-mean signal_meaning (IsSoundSignal system) declared.signals (signal_entries rows) is.named.signals
-              (signals-sound system (length rows.processes) rows.signals (all_durations rows declared constants)
-              (length-map rows.signals (duration_at rows declared constants)) known.signals sorts.signals
+              seen-is signal_meaning (IsSoundSignal system) symbols.signals path
+              (meant-mean signal_meaning (IsSoundSignal system) symbols.signals (signal_entries rows) is.named.signals
+              (signals-sound system (length rows.processes) rows.signals (all_durations rows symbols constants)
+              (length-map rows.signals (duration_at rows symbols constants)) known.signals sorts.signals
               (walk-timed (tree-walk tree) (length rows.processes) counted)));
           agents =
-              seen-is agent_meaning (IsSoundAgent system) declared.agents path
-              (meant-mean agent_meaning (IsSoundAgent system) declared.agents (agent_entries rows) is.named.agents
+              seen-is agent_meaning (IsSoundAgent system) symbols.agents path
+              (meant-mean agent_meaning (IsSoundAgent system) symbols.agents (agent_entries rows) is.named.agents
               (agents-sound system rows.processes (λ k. sorts_in k (parts_in tree)) known.processes rows.agents
               (walk-agents (tree-walk tree) (length rows.processes) counted)));
         }

@@ -16,26 +16,26 @@ use Rattle.build_context.specs.Headings.{IsInitial, IsMaximum, variables_in}
 use Rattle.sdl_build.specs.Laws.{CanRun}
 use Rattle.sdl_build.specs.Signals.{signal_of, signals_from, timer_at, timer_of}
 use Rattle.sdl_build.specs.Signals as made
-use Rattle.build_context.specs.Surroundings.{numbered_states, surroundings}
-use Rattle.build_context.specs.Survey.{Survey}
+use Rattle.build_context.specs.ProcessScope.{numbered_states, process_scope}
+use Rattle.build_context.specs.Context.{Context}
 use Rattle.laws_complete.proofs.SortLemmas.{sorts-given}
 use Rattle.laws_complete.proofs.NameLemmas.{EachMeans}
 use Rattle.laws_complete.specs.Complete.{IsThere}
 use Rattle.laws_complete.specs.Names.{rows_of_tree}
 use Rattle.build_definitions.specs.Parts.{parts_in}
 use Rattle.build_definitions.specs.Rows.{OrdinarySignal, OrdinaryTimer, ProcessRow, SignalKind, SignalRow, ValueRow}
-use Rattle.build_definitions.specs.Tables.{Rows}
+use Rattle.build_definitions.specs.Definitions.{Rows}
 use Rattle.flow_paths.specs.Beginnings.{beginnings}
 use Rattle.flow_paths.specs.Reach.{AreReached}
-use Rattle.build_constants.specs.Figures.{all_durations, all_initials, counts_at, duration_at, initial_at, sort_of_entry}
+use Rattle.build_constants.specs.ConstantTable.{all_durations, all_initials, counts_at, duration_at, initial_at, sort_of_entry}
 use Rattle.build_constants.specs.Scopes.{scope_in}
-use Rattle.build_names.specs.declared.declared.Declared.{Declared}
+use Rattle.build_names.specs.declared.symbol_table.SymbolTable.{SymbolTable}
 use Rattle.build_process.specs.Faulty.{body_faults}
-use Rattle.build_process.specs.Surroundings.{for_stimuli}
+use Rattle.build_process.specs.ProcessScope.{for_stimuli}
 use Rattle.build_faults.specs.FaultLaws.{Each}
-use Rattle.build_faults.specs.Faults.{Told}
-use Rattle.build_limits.specs.Limits.{different, state_names}
-use Rattle.build_limits.specs.Names.{first_of}
+use Rattle.build_faults.specs.Faults.{Diagnostic}
+use Rattle.build_labels.specs.States.{different, state_names}
+use Rattle.build_scopes.specs.Names.{first_of}
 use Rattle.build_expressions.specs.declared.scope.Constant.{Constant}
 use Rattle.laws_sound_system.proofs.AgentLemmas.{meant-sorts}
 use Rattle.laws_sound_system.proofs.ScopeLemmas.{IsOfRows, counted, scope-sound}
@@ -65,10 +65,10 @@ use Rattle.sdl_tree.specs.Words.{Spot}
 
 -- ---- no rule is broken in a process
 
-record IsUnbroken (survey : Survey) (number : ℕ) (row : ProcessRow) : Type 0 where
+record IsUnbroken (context : Context) (number : ℕ) (row : ProcessRow) : Type 0 where
   names : List (List ℕ)
   reached : AreReached (beginnings row.definition) names
-  none : body_faults (surroundings survey (the_process number) row.definition) row.definition names ≡ []
+  none : body_faults (process_scope context (the_process number) row.definition) row.definition names ≡ []
 
 below-or-last : (n count : ℕ) → n < suc count → (n < count) ⊎ (n ≡ count)
 below-or-last n count below = by (n == count) refl
@@ -77,48 +77,51 @@ below-or-last n count below = by (n == count) refl
     by true is = inr (eqb-true n count is)
     by false is = inl (omega (arith, below, eqb-false n count is))
 
-unbroken-at : (survey : Survey) (old : Option Told) (count : ℕ) (new : Option Told) → NotesBodies survey old count new →
+unbroken-at : (context : Context) (old : Option Diagnostic) (count : ℕ) (new : Option Diagnostic) →
+    NotesBodies context old count new →
     new ≡ None → (number : ℕ) (row : ProcessRow) → number < count →
-    slice_get survey.rows.processes number ≡ Some row → IsUnbroken survey number row
-unbroken-at survey old count new notes.none is number row below listed = absurd (omega (arith, below))
-unbroken-at survey old count new (notes.more before mid last other stands there body) is number row below listed =
-    let both = told-none mid (body_faults (surroundings survey (the_process before) other.definition)
+    slice_get context.rows.processes number ≡ Some row → IsUnbroken context number row
+unbroken-at context old count new notes.none is number row below listed = absurd (omega (arith, below))
+unbroken-at context old count new (notes.more before mid last other stands there body) is number row below listed =
+    let both = told-none mid (body_faults (process_scope context (the_process before) other.definition)
     other.definition body.names) (sym body.noted ∙ is) in
     elim (below-or-last number before below) [
-      | inl less ↦ unbroken-at survey old before mid stands both.0 number row less listed
+      | inl less ↦ unbroken-at context old before mid stands both.0 number row less listed
       | inr same ↦
           let rows : other ≡ row =
-          same-one other row (sym there ∙ ap (slice_get survey.rows.processes) (sym same) ∙ listed) in
-          subst (IsUnbroken survey number) rows
-          (subst (λ n. IsUnbroken survey n other) (sym same)
+          same-one other row (sym there ∙ ap (slice_get context.rows.processes) (sym same) ∙ listed) in
+          subst (IsUnbroken context number) rows
+          (subst (λ n. IsUnbroken context n other) (sym same)
           (record { names = body.names; reached = body.are_reached; none = both.1 }))
     ]
 
-unbroken : (survey : Survey) (mid : Option Told) → NotesBodies survey mid (length survey.rows.processes) None →
-    (number : ℕ) (row : ProcessRow) → slice_get survey.rows.processes number ≡ Some row → IsUnbroken survey number row
-unbroken survey mid bodies number row listed =
-    unbroken-at survey mid (length survey.rows.processes) None bodies refl number row
-    (slice_get_within survey.rows.processes number row listed) listed
+unbroken : (context : Context) (mid : Option Diagnostic) →
+    NotesBodies context mid (length context.rows.processes) None →
+    (number : ℕ) (row : ProcessRow) → slice_get context.rows.processes number ≡ Some row → IsUnbroken context number row
+unbroken context mid bodies number row listed =
+    unbroken-at context mid (length context.rows.processes) None bodies refl number row
+    (slice_get_within context.rows.processes number row listed) listed
 
 -- ---- what is known of a system, by its rows
 
-pub record HasHeading (declared : Declared) (constants : List Constant) (rows : Rows) (number : ℕ) (row : ProcessRow)
+pub record HasHeading (symbols : SymbolTable) (constants : List Constant) (rows : Rows) (number : ℕ) (row : ProcessRow)
     (process : Process) : Type 0 where
   pub parameters : process.parameters ≡ length row.sorts
   pub variables : map variable_meaning process.variables.items
-      ≡ variables_in (the_process number) rows.values (all_initials rows declared constants)
-  pub initial : IsInitial (counts_at rows declared constants row) process.initial
-  pub maximum : IsMaximum (counts_at rows declared constants row) process.maximum
+      ≡ variables_in (the_process number) rows.values (all_initials rows symbols constants)
+  pub initial : IsInitial (counts_at rows symbols constants row) process.initial
+  pub maximum : IsMaximum (counts_at rows symbols constants row) process.maximum
 
-pub record IsKnown (declared : Declared) (constants : List Constant) (system : SystemValue) (rows : Rows) : Type 0 where
-  pub signals : map signal_of system.signals ≡ signals_from rows.signals (all_durations rows declared constants)
+pub record IsKnown (symbols : SymbolTable) (constants : List Constant) (system : SystemValue) (rows : Rows) :
+    Type 0 where
+  pub signals : map signal_of system.signals ≡ signals_from rows.signals (all_durations rows symbols constants)
   pub size : length system.processes ≡ length rows.processes
   pub each : (number : ℕ) (row : ProcessRow) (process : Process) → slice_get rows.processes number ≡ Some row
-      → slice_get system.processes number ≡ Some process → HasHeading declared constants rows number row process
+      → slice_get system.processes number ≡ Some process → HasHeading symbols constants rows number row process
 
-pub known : (survey : Survey) (system : SystemValue) → IsSystem survey system →
-    IsKnown survey.declared survey.constants system survey.rows
-known survey system is = record {
+pub known : (context : Context) (system : SystemValue) → IsSystem context system →
+    IsKnown context.symbols context.constants system context.rows
+known context system is = record {
   signals = is.signals;
   size = is.processes.size;
   each = λ number row process listed at.
@@ -126,18 +129,18 @@ known survey system is = record {
       record {
         parameters = own.headed.parameters ∙ own.said.parameters;
         variables = ap (λ v. map variable_meaning v.items) own.headed.variables ∙ own.said.variables;
-        initial = subst (IsInitial (counts_at survey.rows survey.declared survey.constants row))
+        initial = subst (IsInitial (counts_at context.rows context.symbols context.constants row))
             (sym own.headed.initial) own.said.initial;
-        maximum = subst (IsMaximum (counts_at survey.rows survey.declared survey.constants row))
+        maximum = subst (IsMaximum (counts_at context.rows context.symbols context.constants row))
             (sym own.headed.maximum) own.said.maximum;
       };
 }
 
-of-rows : (tree : Tree) (declared : Declared) (constants : List Constant) (system : SystemValue) →
+of-rows : (tree : Tree) (symbols : SymbolTable) (constants : List Constant) (system : SystemValue) →
     Each (λ (row : ValueRow). IsThere (sort_of_entry row.entry)) (rows_of_tree tree).values →
-    IsKnown declared constants system (rows_of_tree tree) →
-    IsOfRows tree declared constants system (rows_of_tree tree)
-of-rows tree declared constants system there is = record {
+    IsKnown symbols constants system (rows_of_tree tree) →
+    IsOfRows tree symbols constants system (rows_of_tree tree)
+of-rows tree symbols constants system there is = record {
   signals = is.signals;
   processes = record {
     size = is.size;
@@ -146,7 +149,7 @@ of-rows tree declared constants system there is = record {
         record {
           parameters = own.parameters;
           variables = sym (meant-sorts process.variables.items) ∙ ap (map sort_meant) own.variables
-              ∙ heading-variables number (initial_at (rows_of_tree tree) declared constants) (parts_in tree) there;
+              ∙ heading-variables number (initial_at (rows_of_tree tree) symbols constants) (parts_in tree) there;
         };
     begins = λ number row listed. begins-with (parts_in tree) (tree-walk tree) number row listed;
   };
@@ -199,40 +202,40 @@ length-from [] durations same = refl
 length-from (row ∷ rows) [] same = absurd (omega (arith, same))
 length-from (row ∷ rows) (duration ∷ durations) same = ap suc (length-from rows durations (omega (arith, same)))
 
-signals-many : (survey : Survey) (system : SystemValue) → IsSystem survey system →
-    length survey.rows.signals ≡ length system.signals
-signals-many survey system is =
-    let many = length-from survey.rows.signals (all_durations survey.rows survey.declared survey.constants)
-    (length-map survey.rows.signals (duration_at survey.rows survey.declared survey.constants)) in
+signals-many : (context : Context) (system : SystemValue) → IsSystem context system →
+    length context.rows.signals ≡ length system.signals
+signals-many context system is =
+    let many = length-from context.rows.signals (all_durations context.rows context.symbols context.constants)
+    (length-map context.rows.signals (duration_at context.rows context.symbols context.constants)) in
     sym (sym (length-map system.signals signal_of) ∙ ap length is.signals ∙ many)
 
 -- ---- processes
 
 module _ (tree : Tree) (system : SystemValue) (built : IsBuilt tree system) where
-  abbrev survey : Survey
-  survey = built.survey
+  abbrev context : Context
+  context = built.context
 
-  pub rows-known : IsOfRows tree survey.declared survey.constants system (rows_of_tree tree)
+  pub rows-known : IsOfRows tree context.symbols context.constants system (rows_of_tree tree)
   rows-known =
-      of-rows tree survey.declared survey.constants system
-      (sorts-given tree (faultless tree survey built.defined built.unbroken).sorts).values
-      (subst (IsKnown survey.declared survey.constants system) built.defined.rows (known survey system built.built))
+      of-rows tree context.symbols context.constants system
+      (sorts-given tree (faultless tree context built.defined built.unbroken).sorts).values
+      (subst (IsKnown context.symbols context.constants system) built.defined.rows (known context system built.built))
 
   scope-there : (number : ProcessId) (row : ProcessRow) (process : Process) →
-      slice_get survey.rows.processes number.0 ≡ Some row → slice_get system.processes number.0 ≡ Some process →
-      IsSoundScope system process (scope_in survey.rows survey.declared survey.constants (scope.Process number))
+      slice_get context.rows.processes number.0 ≡ Some row → slice_get system.processes number.0 ≡ Some process →
+      IsSoundScope system process (scope_in context.rows context.symbols context.constants (scope.Process number))
   scope-there number row process listed at =
       subst (λ rows. IsSoundScope system process
-      (scope_in rows survey.declared survey.constants (scope.Process number))) (sym built.defined.rows)
-      (scope-sound tree survey.declared survey.constants (faultless tree survey built.defined built.unbroken) system
+      (scope_in rows context.symbols context.constants (scope.Process number))) (sym built.defined.rows)
+      (scope-sound tree context.symbols context.constants (faultless tree context built.defined built.unbroken) system
       rows-known number.0 row process
       (subst (λ (rows : Rows). slice_get rows.processes number.0 ≡ Some row) built.defined.rows listed) at)
 
-  states-many : (number : ProcessId) (process : Process) (can : CanRun survey system number process) →
+  states-many : (number : ProcessId) (process : Process) (can : CanRun context system number process) →
       length (different (state_names can.row.definition)) ≡ length process.states.items
   states-many number process can =
-      let context = for_stimuli (surroundings survey number can.row.definition) in
-      let read = process_read context can.row.definition in
+      let stimuli = for_stimuli (process_scope context number can.row.definition) in
+      let read = process_read stimuli can.row.definition in
       let means = can.means can.behaviour can.is in
       sym (AllZip-long (IsMeaning read.numbering.conditions)
       (map (state_of read.parts) (different (names_in can.row.definition.body))) can.behaviour.states can.is.states
@@ -245,14 +248,15 @@ names-are-sound tree system built number process can at = record {
   states = λ text state found.
       subst (λ n. state.0 < n) (states-many tree system built number process can)
       (state-found (different (state_names can.row.definition)) text state found);
-  signals = signals-many built.survey system built.built;
+  signals = signals-many built.context system built.built;
 }
 
 pub built-processes-are-sound : BuiltProcessesAreSound
 built-processes-are-sound tree system built number process can at behaviour is =
-    let own = unbroken built.survey built.unbroken.of_rest.mid built.unbroken.of_rest.bodies number.0 can.row can.listed
+    let own = unbroken built.context built.unbroken.of_rest.mid built.unbroken.of_rest.bodies number.0 can.row
+        can.listed
     in
-    behaviours-are-sound system process (surroundings built.survey number can.row.definition) can.row.definition
+    behaviours-are-sound system process (process_scope built.context number can.row.definition) can.row.definition
     can.heading behaviour own.names (names-are-sound tree system built number process can at) is
     (can.means behaviour is) own.reached own.none
 
@@ -281,16 +285,16 @@ signals-owned count (row ∷ rows) (duration ∷ durations) timed =
 
 pub timers-belong : TimersBelong
 timers-belong tree system built =
-    let survey = built.survey in
+    let context = built.context in
     let rows = rows_of_tree tree in
-    let is = faultless tree survey built.defined built.unbroken in
+    let is = faultless tree context built.defined built.unbroken in
     let of = rows-known tree system built in
     let many = of.processes.size in
     let owned = subst (λ n. Each (HasOwner n) (map signal_of system.signals)) (sym many)
     (subst (Each (HasOwner (length rows.processes))) (sym of.signals)
-    (signals-owned (length rows.processes) rows.signals (all_durations rows survey.declared survey.constants)
+    (signals-owned (length rows.processes) rows.signals (all_durations rows context.symbols context.constants)
     (walk-timed (tree-walk tree) (length rows.processes)
-    (counted tree survey.declared survey.constants is system of)))) in
+    (counted tree context.symbols context.constants is system of)))) in
     each-all (λ (signal : Signal). IfSome signal.timer (λ timer. IsProcess system timer.process)) system.signals
     (unmapped signal_of (HasOwner (length system.processes)) system.signals owned)
 
@@ -317,18 +321,18 @@ named-below count number (row ∷ rows) many =
 
 pub names-are-there : NamesAreThere
 names-are-there tree system built text =
-    let survey = built.survey in
+    let context = built.context in
     let is = built.built in
-    let signals = signals-many survey system is in
+    let signals = signals-many context system is in
     let processes = is.processes.size in
     record {
       signal = subst (λ o. IfSome o (λ number. number.0 < length system.signals)) (sym (is.own_signals text))
-          (found-in (λ (number : SignalId). number.0 < length system.signals) (own_from 0 survey.rows.signals) text
-          (own-below (length system.signals) 0 survey.rows.signals (omega (arith, signals))));
+          (found-in (λ (number : SignalId). number.0 < length system.signals) (own_from 0 context.rows.signals) text
+          (own-below (length system.signals) 0 context.rows.signals (omega (arith, signals))));
       process = subst (λ o. IfSome o (IsProcess system)) (sym (is.process_names text))
           (found-in (λ (number : ProcessId). number.0 < length system.processes)
-          (named_processes 0 survey.rows.processes) text
-          (named-below (length system.processes) 0 survey.rows.processes (omega (arith, processes))));
+          (named_processes 0 context.rows.processes) text
+          (named-below (length system.processes) 0 context.rows.processes (omega (arith, processes))));
     }
 
 -- ---- receivers
@@ -340,14 +344,14 @@ numbered-many f number (x ∷ xs) = ap suc (numbered-many f (number + 1) xs)
 
 pub receivers-are-there : ReceiversAreThere
 receivers-are-there tree system built from source signal sends below = λ k d within.
-    let survey = built.survey in
-    let signals = signals-many survey system built.built in
-    let known = built.joined.network.signals in
+    let context = built.context in
+    let signals = signals-many context system built.built in
+    let known = built.connections.network.signals in
     let processes = built.built.processes.size in
-    let many : length survey.network.processes.items ≡ length survey.rows.processes =
-    ap length built.joined.network.processes ∙ numbered-many _ 0 survey.rows.processes in
-    let list = receivers survey.routes from signal in
-    let are = built.joined.routes.processes from source signal sends (omega (arith, below, signals, known)) in
+    let many : length context.network.processes.items ≡ length context.rows.processes =
+    ap length built.connections.network.processes ∙ numbered-many _ 0 context.rows.processes in
+    let list = receivers context.routes from signal in
+    let are = built.connections.routes.processes from source signal sends (omega (arith, below, signals, known)) in
     subst (λ routes. All (IsProcess system) (receivers routes from signal)) (sym built.built.routes)
     (λ j e less.
     let reached = ((are.reached (slice_index_or list j e)).0 (Contains-get_or list j e less)).0 in

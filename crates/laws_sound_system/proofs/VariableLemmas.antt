@@ -9,7 +9,7 @@ use Rattle.laws_complete.specs.Complete.{IsThere}
 use Rattle.build_definitions.specs.Parts.{Part, OfBlock, OfProcess, OfChannel, OfConnection, OfSignals, OfTimers, OfSignalList, OfSynonyms, OfSignalSet, OfParameters, OfVariables, Placed, groups_of, parameter_part, placed}
 use Rattle.build_definitions.specs.Rows.{ProcessRow, ValueRow, after_synonyms, after_variables, group_sorts, process_row, repeated, synonym_values, value_rows, values_of, variable_rows}
 use Rattle.build_definitions.specs.Sorts.{sort_at}
-use Rattle.build_constants.specs.Figures.{sort_of_entry}
+use Rattle.build_constants.specs.ConstantTable.{sort_of_entry}
 use Rattle.build_faults.proofs.FaultLemmas.{each-both}
 use Rattle.build_faults.specs.FaultLaws.{Each}
 use Rattle.build_expressions.specs.declared.scope.Constant.{Constant}

@@ -6,7 +6,7 @@ use Rattle.port_values.specs.declared.item.SignalId.{SignalId}
 use Rattle.port_values.specs.declared.value.Value.{Value}
 use Rattle.sdl_build.specs.Built.{IsBuilt}
 use Rattle.sdl_build.specs.Laws.{CanRun}
-use Rattle.build_context.specs.Surroundings.{surroundings}
+use Rattle.build_context.specs.ProcessScope.{process_scope}
 use Rattle.route_network.specs.declared.network.Source.{Source}
 use Rattle.run_evaluation.specs.declared.identity.Identity.{Identity}
 use Rattle.run_evaluation.specs.declared.store.Store.{Store}
@@ -37,26 +37,26 @@ use Rattle.sdl_tree.specs.Tree.{Tree}
 abbrev pub NamesAreSound : Type 0
 NamesAreSound =
     (tree : Tree) (system : SystemValue) (built : IsBuilt tree system) (number : ProcessId) (process : Process)
-    (can : CanRun built.survey system number process) → slice_get system.processes number.0 ≡ Some process
-    → IsSoundAround system process (surroundings built.survey number can.row.definition)
+    (can : CanRun built.context system number process) → slice_get system.processes number.0 ≡ Some process
+    → IsSoundAround system process (process_scope built.context number can.row.definition)
 
 -- Each behaviour that the text of a process has is sound: each number in it is that of something, and each value fits
 -- its place.
 abbrev pub BuiltProcessesAreSound : Type 0
 BuiltProcessesAreSound =
     (tree : Tree) (system : SystemValue) (built : IsBuilt tree system) (number : ProcessId) (process : Process)
-    (can : CanRun built.survey system number process) → slice_get system.processes number.0 ≡ Some process
+    (can : CanRun built.context system number process) → slice_get system.processes number.0 ≡ Some process
     → (behaviour : Behaviour)
-    → IsBehaviour (surroundings built.survey number can.row.definition) can.row.definition can.heading behaviour
+    → IsBehaviour (process_scope built.context number can.row.definition) can.row.definition can.heading behaviour
     → IsSoundBehaviour system process behaviour
 
 -- So in a run of the process a transition fails as Undefined only where a variable is asked for that has no value.
 abbrev pub BuiltRunsLeadToStates : Type 0
 BuiltRunsLeadToStates =
     (tree : Tree) (system : SystemValue) (built : IsBuilt tree system) (number : ProcessId) (process : Process)
-    (can : CanRun built.survey system number process) → slice_get system.processes number.0 ≡ Some process
+    (can : CanRun built.context system number process) → slice_get system.processes number.0 ≡ Some process
     → (d : Definition)
-    → IsBehaviour (surroundings built.survey number can.row.definition) can.row.definition can.heading d.behaviour
+    → IsBehaviour (process_scope built.context number can.row.definition) can.row.definition can.heading d.behaviour
     → (who : Identity) (place : ControlPoint) (s t : Store) (q r : PortState) (deeds : List Deed) (history : List PortEvent)
     → Runs d who AtStart s q deeds history place t r → HasCause d who r place t Undefined
     → IsUnassigned t.variables place
@@ -66,9 +66,9 @@ BuiltRunsLeadToStates =
 abbrev pub BuiltRunsHaveSorts : Type 0
 BuiltRunsHaveSorts =
     (tree : Tree) (system : SystemValue) (built : IsBuilt tree system) (number : ProcessId) (process : Process)
-    (can : CanRun built.survey system number process) → slice_get system.processes number.0 ≡ Some process
+    (can : CanRun built.context system number process) → slice_get system.processes number.0 ≡ Some process
     → (d : Definition)
-    → IsBehaviour (surroundings built.survey number can.row.definition) can.row.definition can.heading d.behaviour
+    → IsBehaviour (process_scope built.context number can.row.definition) can.row.definition can.heading d.behaviour
     → (who : Identity) (place : ControlPoint) (values : List Value) (t : Store) (q r : PortState) (deeds : List Deed)
     (history : List PortEvent) → FitParameters d.behaviour values
     → Runs d who AtStart (first_store d.behaviour values) q deeds history place t r → HaveSorts d.behaviour t.variables
@@ -105,5 +105,5 @@ NamesAreThere = (tree : Tree) (system : SystemValue) → IsBuilt tree system →
 abbrev pub ReceiversAreThere : Type 0
 ReceiversAreThere =
     (tree : Tree) (system : SystemValue) (built : IsBuilt tree system) (from : sender.Source) (source : Source)
-    (signal : SignalId) → SendsFrom built.survey.network from source → signal.0 < length system.signals
+    (signal : SignalId) → SendsFrom built.context.network from source → signal.0 < length system.signals
     → All (IsProcess system) (receivers system.routes from signal)

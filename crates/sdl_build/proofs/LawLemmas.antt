@@ -8,8 +8,8 @@ use Rattle.sdl_build.specs.Built.{IsSystem, IsTold}
 use Rattle.sdl_build.specs.Laws.{ProcessesCanRun}
 use Rattle.sdl_build.specs.Signals.{signal_of, signals_from}
 use Rattle.build_context.specs.Lists.{AreMembers}
-use Rattle.build_context.specs.Surroundings.{surroundings}
-use Rattle.build_context.specs.Survey.{AreDefinitions, IsJoined, Survey, definitions_of}
+use Rattle.build_context.specs.ProcessScope.{process_scope}
+use Rattle.build_context.specs.Context.{IsResolved, AreConnections, Context, resolved_of}
 use Rattle.sdl_build.proofs.MadeLemmas.{get-below, same-one}
 use Rattle.sdl_build.proofs.WholeLemmas.{faultless, is-given}
 use Rattle.route_network.specs.declared.network.Network.{Network}
@@ -17,13 +17,13 @@ use Rattle.laws_complete.proofs.ProcessLemmas.{behaviour-given}
 use Rattle.laws_complete.proofs.SeenLemmas.{signals-below}
 use Rattle.laws_complete.specs.Names.{number_of_signal}
 use Rattle.laws_complete.specs.Ranges.{AreBelow, IsBelow}
-use Rattle.build_definitions.specs.Tables.{Rows}
+use Rattle.build_definitions.specs.Definitions.{Rows}
 use Rattle.build_definitions.specs.declared.entries.SignalListId.{SignalListId}
 use Rattle.build_definitions.specs.Rows.{SignalRow}
-use Rattle.build_constants.specs.Figures.{all_durations, duration_at}
+use Rattle.build_constants.specs.ConstantTable.{all_durations, duration_at}
 use Rattle.build_constants.specs.Scopes.{scope_in}
-use Rattle.build_process.specs.Surroundings.{for_stimuli}
-use Rattle.build_limits.specs.Names.{first_of}
+use Rattle.build_process.specs.ProcessScope.{for_stimuli}
+use Rattle.build_scopes.specs.Names.{first_of}
 use Rattle.build_expressions.specs.Scope.{SignalMeaning, meaning, signal, signal_in, timer}
 use Rattle.build_scopes.specs.declared.scope.ScopeId.TheVariants as scope
 use Rattle.build_stimuli.specs.Context.{members_of}
@@ -39,11 +39,11 @@ length-from [] durations same = refl
 length-from (row ∷ rows) [] same = absurd (omega (arith, same))
 length-from (row ∷ rows) (duration ∷ durations) same = ap suc (length-from rows durations (omega (arith, same)))
 
-signals-many : (survey : Survey) (system : SystemValue) → IsSystem survey system →
-    length survey.rows.signals ≡ length system.signals
-signals-many survey system is =
-    let many = length-from survey.rows.signals (all_durations survey.rows survey.declared survey.constants)
-    (length-map survey.rows.signals (duration_at survey.rows survey.declared survey.constants)) in
+signals-many : (context : Context) (system : SystemValue) → IsSystem context system →
+    length context.rows.signals ≡ length system.signals
+signals-many context system is =
+    let many = length-from context.rows.signals (all_durations context.rows context.symbols context.constants)
+    (length-map context.rows.signals (duration_at context.rows context.symbols context.constants)) in
     sym (sym (length-map system.signals signal_of) ∙ ap length is.signals ∙ many)
 
 -- ---- names around a process stand for signals of the system
@@ -70,31 +70,31 @@ members-below network count members are list = by (slice_get members list.0) ref
     by (Some signals) is =
         λ k d less. ((are.each (record { 0 = list.0 }) signals is _).0 (Contains-get_or signals k d less)).0
 
-module _ (tree : Tree) (survey : Survey) (defined : AreDefinitions tree (definitions_of survey))
-    (unbroken : IsTold tree survey None) where
+module _ (tree : Tree) (context : Context) (defined : IsResolved tree (resolved_of context))
+    (unbroken : IsTold tree context None) where
   signals-seen : (number : ℕ) (text : List ℕ) (found : SignalMeaning) →
-      signal_in (scope_in survey.rows survey.declared survey.constants (scope.Process (record { 0 = number }))) text
-      ≡ Some found → (number_of found).0 < length survey.rows.signals
+      signal_in (scope_in context.rows context.symbols context.constants (scope.Process (record { 0 = number }))) text
+      ≡ Some found → (number_of found).0 < length context.rows.signals
   signals-seen number =
       subst (λ (rows : Rows). (text : List ℕ) (found : SignalMeaning) →
-      signal_in (scope_in rows survey.declared survey.constants (scope.Process (record { 0 = number }))) text
+      signal_in (scope_in rows context.symbols context.constants (scope.Process (record { 0 = number }))) text
       ≡ Some found → (number_of found).0 < length rows.signals) (sym defined.rows)
-      (λ text found at. same _ found (signals-below tree survey.declared survey.constants
-      (faultless tree survey defined unbroken) (scope.Process (record { 0 = number })) text found at))
+      (λ text found at. same _ found (signals-below tree context.symbols context.constants
+      (faultless tree context defined unbroken) (scope.Process (record { 0 = number })) text found at))
     where
       same : (count : ℕ) (found : SignalMeaning) → (number_of_signal found).0 < count → (number_of found).0 < count
       same count (signal number sorts) below = below
       same count (timer number sorts has_default) below = below
 
-  names-below : IsJoined survey → (number : ℕ) (definition : ProcessDefinition) →
-      AreBelow (length survey.rows.signals) (for_stimuli (surroundings survey (record { 0 = number }) definition))
-  names-below joined number definition = record {
+  names-below : AreConnections context → (number : ℕ) (definition : ProcessDefinition) →
+      AreBelow (length context.rows.signals) (for_stimuli (process_scope context (record { 0 = number }) definition))
+  names-below connections number definition = record {
     signals = signals-seen number;
     lists = λ text signals found.
-        let own = first-meaning (members_of survey.members) _ text signals found in
-        subst (All (IsBelow (length survey.rows.signals))) own.1
-        (subst (λ count. All (IsBelow count) (members_of survey.members own.0)) joined.network.signals
-        (members-below survey.network (length survey.rows.lists) survey.members joined.members own.0));
+        let own = first-meaning (members_of context.members) _ text signals found in
+        subst (All (IsBelow (length context.rows.signals))) own.1
+        (subst (λ count. All (IsBelow count) (members_of context.members own.0)) connections.network.signals
+        (members-below context.network (length context.rows.lists) context.members connections.members own.0));
   }
 
 -- ---- the law
@@ -102,11 +102,11 @@ module _ (tree : Tree) (survey : Survey) (defined : AreDefinitions tree (definit
 pub processes-can-run : ProcessesCanRun
 processes-can-run tree system built number process stands =
     let processes = built.built.processes in
-    let row = get-below built.survey.rows.processes system.processes number.0 process processes.size stands in
+    let row = get-below built.context.rows.processes system.processes number.0 process processes.size stands in
     let is = processes.each number row.0 process row.1 stands in
-    let given = is-given tree built.survey built.defined built.unbroken number.0 row.0 row.1 in
-    let does = behaviour-given (surroundings built.survey number row.0.definition) row.0.definition given.0 is.heading
-    given.1 (names-below tree built.survey built.defined built.unbroken built.joined number.0 row.0.definition) in
+    let given = is-given tree built.context built.defined built.unbroken number.0 row.0 row.1 in
+    let does = behaviour-given (process_scope built.context number row.0.definition) row.0.definition given.0 is.heading
+    given.1 (names-below tree built.context built.defined built.unbroken built.connections number.0 row.0.definition) in
     record {
       row = row.0;
       listed = row.1;
@@ -117,5 +117,5 @@ processes-can-run tree system built number process stands =
       is = does.1;
       means = is.means;
       keeps = subst (λ count. All (Keeps count process) process.tables.items)
-          (signals-many built.survey system built.built) is.keeps;
+          (signals-many built.context system built.built) is.keeps;
     }

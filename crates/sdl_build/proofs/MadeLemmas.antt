@@ -8,14 +8,14 @@ use Rattle.sdl_build.specs.Faulty.{NotesAt, NotesBodies}
 use Rattle.sdl_build.specs.Faulty as notes
 use Rattle.build_context.proofs.ProcessLemmas.{length-map}
 use Rattle.build_context.specs.Headings.{IsValidSet}
-use Rattle.build_context.specs.Surroundings.{surroundings}
-use Rattle.build_context.specs.Survey.{IsNetwork, Survey}
+use Rattle.build_context.specs.ProcessScope.{process_scope}
+use Rattle.build_context.specs.Context.{IsNetwork, Context}
 use Rattle.build_definitions.specs.Rows.{ProcessRow}
-use Rattle.build_definitions.specs.Tables.{Rows}
-use Rattle.build_names.specs.declared.declared.Declared.{Declared}
+use Rattle.build_definitions.specs.Definitions.{Rows}
+use Rattle.build_names.specs.declared.symbol_table.SymbolTable.{SymbolTable}
 use Rattle.build_network.specs.Numbered.{numbered}
 use Rattle.build_process.specs.Faulty.{NotesBody}
-use Rattle.build_faults.specs.Faults.{Told}
+use Rattle.build_faults.specs.Faults.{Diagnostic}
 use Rattle.route_table.proofs.TableLemmas.{get_push}
 use Rattle.route_table.specs.Valid.{AreValid}
 use Rattle.route_network.specs.declared.network.Network.{Network}
@@ -38,26 +38,27 @@ same-one x y is = ap (λ o. pick o x) is
     pick None other = other
     pick (Some it) other = it
 
-pub made-more : (survey : Survey) (old new : List (Option Process)) (number : ProcessId) (row : ProcessRow)
-    (process : Option Process) → AreMade survey old → new ≡ old ++ process ∷ [] → number.0 ≡ length old →
-    slice_get survey.rows.processes number.0 ≡ Some row → IsMadeFrom survey number row process → AreMade survey new
-made-more survey old new number row process known is at listed made n other found there stands =
+pub made-more : (context : Context) (old new : List (Option Process)) (number : ProcessId) (row : ProcessRow)
+    (process : Option Process) → AreMade context old → new ≡ old ++ process ∷ [] → number.0 ≡ length old →
+    slice_get context.rows.processes number.0 ≡ Some row → IsMadeFrom context number row process → AreMade context new
+made-more context old new number row process known is at listed made n other found there stands =
     elim (get_push old process n.0 found (subst (λ list. slice_get list n.0 ≡ Some found) is stands)) [
       | inl was ↦ known n other found there was
       | inr last ↦
           let same : number ≡ n = ap (λ k. record { 0 = k }) (at ∙ sym last.0) in
           let rows : row ≡ other = same-one row other
-          (sym listed ∙ ap (λ k. slice_get survey.rows.processes k) (at ∙ sym last.0) ∙ there) in
-          subst (IsMadeFrom survey n other) last.1
-          (subst (λ r. IsMadeFrom survey n r process) rows
-          (subst (λ k. IsMadeFrom survey k row process) same made))
+          (sym listed ∙ ap (λ k. slice_get context.rows.processes k) (at ∙ sym last.0) ∙ there) in
+          subst (IsMadeFrom context n other) last.1
+          (subst (λ r. IsMadeFrom context n r process) rows
+          (subst (λ k. IsMadeFrom context k row process) same made))
     ]
 
 -- the place of one that isn't there
 missing-at : (made : List (Option Process)) → Contains made None → (n : ℕ) × (slice_get made n ≡ Some None)
 missing-at made has = (has.0, slice_get-get_or made has.0 None has.1 ∙ ap Some has.2)
 
-get-map : {A : Type 0} (xs : List A) (n : ℕ) (x : A) → slice_get xs n ≡ Some x → slice_get (map Some xs) n ≡ Some (Some x)
+get-map : {A : Type 0} (xs : List A) (n : ℕ) (x : A) → slice_get xs n ≡ Some x →
+    slice_get (map Some xs) n ≡ Some (Some x)
 get-map [] zero x is = absurd (none-some x is)
 get-map [] (suc n) x is = absurd (none-some x is)
 get-map (y ∷ ys) zero x is = ap Some is
@@ -80,19 +81,19 @@ get-below (x ∷ xs) [] (suc n) y same is = absurd (none-some y is)
 get-below (x ∷ xs) (z ∷ zs) zero y same is = (x, refl)
 get-below (x ∷ xs) (z ∷ zs) (suc n) y same is = get-below xs zs n y (omega (arith, same)) is
 
-pub all-or : (survey : Survey) (made : List (Option Process)) (result : Option (Vec Process)) →
-    length made ≡ length survey.rows.processes → AreMade survey made → WholeList made result →
-    AreProcessesOr survey result
-all-or survey made None size known lacks =
+pub all-or : (context : Context) (made : List (Option Process)) (result : Option (Vec Process)) →
+    length made ≡ length context.rows.processes → AreMade context made → WholeList made result →
+    AreProcessesOr context result
+all-or context made None size known lacks =
     let at = missing-at made lacks in
-    let row = get-below survey.rows.processes made at.0 None size at.1 in
+    let row = get-below context.rows.processes made at.0 None size at.1 in
     record {
       number = record { 0 = at.0 };
       row = row.0;
       listed = row.1;
       refused = known (record { 0 = at.0 }) row.0 None row.1 at.1;
     }
-all-or survey made (Some list) size known whole = record {
+all-or context made (Some list) size known whole = record {
   size = sym (length-map Some list.items) ∙ ap length whole ∙ size;
   each = λ number row process listed stands.
       known number row (Some process) listed
@@ -106,10 +107,10 @@ length-numbered make n [] = refl
 length-numbered make n (x ∷ xs) = ap suc (length-numbered make (n + 1) xs)
 
 -- as many valid input sets as rows of processes
-pub as-many : (rows : Rows) (declared : Declared) (network : Network) (valid : List (List Bool)) →
-    IsNetwork rows declared network → AreValid network (length network.processes.items) valid →
+pub as-many : (rows : Rows) (symbols : SymbolTable) (network : Network) (valid : List (List Bool)) →
+    IsNetwork rows symbols network → AreValid network (length network.processes.items) valid →
     length valid ≡ length rows.processes
-as-many rows declared network valid is are =
+as-many rows symbols network valid is are =
     are.size ∙ ap length is.processes ∙ length-numbered _ 0 rows.processes
 
 -- ---- the one at a place
@@ -121,68 +122,73 @@ pub below-at : (place yielded many : ℕ) → place ≡ yielded → yielded < ma
 below-at place yielded many at below = omega (arith, at, below)
 
 -- a valid input set of the network is one for the process at its place
-pub valid-at : (survey : Survey) (valid : List (List Bool)) (yielded place : ℕ) (set : List Bool) →
-    AreValid survey.network (length survey.network.processes.items) valid →
-    survey.network.signals ≡ length survey.rows.signals → place ≡ yielded → slice_get valid yielded ≡ Some set →
-    IsValidSet survey (record { 0 = place }) set
-valid-at survey valid yielded place set are signals at stands =
+pub valid-at : (context : Context) (valid : List (List Bool)) (yielded place : ℕ) (set : List Bool) →
+    AreValid context.network (length context.network.processes.items) valid →
+    context.network.signals ≡ length context.rows.signals → place ≡ yielded → slice_get valid yielded ≡ Some set →
+    IsValidSet context (record { 0 = place }) set
+valid-at context valid yielded place set are signals at stands =
     let listed : slice_get valid place ≡ Some set = ap (slice_get valid) at ∙ stands in
     record {
       size = are.places (record { 0 = place }) set listed ∙ signals;
       members = λ is signal found below. are.each (record { 0 = place }) is set signal found listed below;
     }
 
-pub made-at-if : {E : Type 0} (survey : Survey) (number place : ℕ) (row : ProcessRow) (result : Result (Option Process) E) →
-    number ≡ place → slice_get survey.rows.processes place ≡ Some row →
-    IfOk result (IsMadeFrom survey (record { 0 = number }) row) → IfOk result (IsMadeAt survey place)
-made-at-if survey number place row (Ok process) at listed made = record {
+pub made-at-if : {E : Type 0} (context : Context) (number place : ℕ) (row : ProcessRow)
+    (result : Result (Option Process) E) →
+    number ≡ place → slice_get context.rows.processes place ≡ Some row →
+    IfOk result (IsMadeFrom context (record { 0 = number }) row) → IfOk result (IsMadeAt context place)
+made-at-if context number place row (Ok process) at listed made = record {
   row = row;
   listed = listed;
-  made = subst (λ n. IsMadeFrom survey (record { 0 = n }) row process) at made;
+  made = subst (λ n. IsMadeFrom context (record { 0 = n }) row process) at made;
 }
-made-at-if survey number place row (Err why) at listed made = tt
+made-at-if context number place row (Err why) at listed made = tt
 
-pub noted-at : {A E : Type 0} (survey : Survey) (number place : ℕ) (row : ProcessRow) (old new : Option Told)
-    (result : Result A E) → number ≡ place → slice_get survey.rows.processes place ≡ Some row →
-    OnOk result (NotesBody (surroundings survey (record { 0 = number }) row.definition) row.definition old new) →
-    OnOk result (NotesAt survey place old new)
-noted-at survey number place row old new (Ok made) at listed notes = record {
+pub noted-at : {A E : Type 0} (context : Context) (number place : ℕ) (row : ProcessRow) (old new : Option Diagnostic)
+    (result : Result A E) → number ≡ place → slice_get context.rows.processes place ≡ Some row →
+    OnOk result (NotesBody (process_scope context (record { 0 = number }) row.definition) row.definition old new) →
+    OnOk result (NotesAt context place old new)
+noted-at context number place row old new (Ok made) at listed notes = record {
   row = row;
   listed = listed;
-  notes = subst (λ n. NotesBody (surroundings survey (record { 0 = n }) row.definition) row.definition old new) at notes;
+  notes = subst (λ n. NotesBody (process_scope context (record { 0 = n }) row.definition) row.definition old new) at
+      notes;
 }
-noted-at survey number place row old new (Err why) at listed notes = tt
+noted-at context number place row old new (Err why) at listed notes = tt
 
-pub made-next : (survey : Survey) (old new : List (Option Process)) (place : ℕ) (process : Option Process) →
-    AreMade survey old → new ≡ old ++ process ∷ [] → place ≡ length old → IsMadeAt survey place process →
-    AreMade survey new
-made-next survey old new place process known is at one =
-    made-more survey old new (record { 0 = place }) one.row process known is at one.listed one.made
+pub made-next : (context : Context) (old new : List (Option Process)) (place : ℕ) (process : Option Process) →
+    AreMade context old → new ≡ old ++ process ∷ [] → place ≡ length old → IsMadeAt context place process →
+    AreMade context new
+made-next context old new place process known is at one =
+    made-more context old new (record { 0 = place }) one.row process known is at one.listed one.made
 
 -- ---- one more is noted
 
 suc-is : (n : ℕ) → suc n ≡ n + 1
 suc-is n = omega arith
 
-pub bodies-more : (survey : Survey) (old mid new : Option Told) (number : ProcessId) (row : ProcessRow) (count : ℕ) →
-    NotesBodies survey old count mid → number.0 ≡ count → slice_get survey.rows.processes number.0 ≡ Some row →
-    NotesBody (surroundings survey number row.definition) row.definition mid new → NotesBodies survey old (count + 1) new
-bodies-more survey old mid new number row count known at listed body =
-    subst (λ n. NotesBodies survey old n new) (suc-is count)
-    (notes.more count mid new row known (ap (slice_get survey.rows.processes) (sym at) ∙ listed)
-    (subst (λ n. NotesBody (surroundings survey (record { 0 = n }) row.definition) row.definition mid new) at body))
+pub bodies-more : (context : Context) (old mid new : Option Diagnostic) (number : ProcessId) (row : ProcessRow)
+    (count : ℕ) →
+    NotesBodies context old count mid → number.0 ≡ count → slice_get context.rows.processes number.0 ≡ Some row →
+    NotesBody (process_scope context number row.definition) row.definition mid new →
+    NotesBodies context old (count + 1) new
+bodies-more context old mid new number row count known at listed body =
+    subst (λ n. NotesBodies context old n new) (suc-is count)
+    (notes.more count mid new row known (ap (slice_get context.rows.processes) (sym at) ∙ listed)
+    (subst (λ n. NotesBody (process_scope context (record { 0 = n }) row.definition) row.definition mid new) at body))
 
-pub bodies-next : (survey : Survey) (old mid new : Option Told) (place count many : ℕ) →
-    NotesBodies survey old count mid → place ≡ count → many ≡ count + 1 → NotesAt survey place mid new →
-    NotesBodies survey old many new
-bodies-next survey old mid new place count many known at grown one =
-    subst (λ n. NotesBodies survey old n new) (sym grown)
-    (bodies-more survey old mid new (record { 0 = place }) one.row count known at one.listed one.notes)
+pub bodies-next : (context : Context) (old mid new : Option Diagnostic) (place count many : ℕ) →
+    NotesBodies context old count mid → place ≡ count → many ≡ count + 1 → NotesAt context place mid new →
+    NotesBodies context old many new
+bodies-next context old mid new place count many known at grown one =
+    subst (λ n. NotesBodies context old n new) (sym grown)
+    (bodies-more context old mid new (record { 0 = place }) one.row count known at one.listed one.notes)
 
 -- ---- all of them
 
-pub all-if : {E : Type 0} (survey : Survey) (made : List (Option Process)) (result : Result (Option (Vec Process)) E) →
-    length made ≡ length survey.rows.processes → AreMade survey made → IfOk result (WholeList made) →
-    IfOk result (AreProcessesOr survey)
-all-if survey made (Ok list) size known whole = all-or survey made list size known whole
-all-if survey made (Err why) size known whole = tt
+pub all-if : {E : Type 0} (context : Context) (made : List (Option Process))
+    (result : Result (Option (Vec Process)) E) →
+    length made ≡ length context.rows.processes → AreMade context made → IfOk result (WholeList made) →
+    IfOk result (AreProcessesOr context)
+all-if context made (Ok list) size known whole = all-or context made list size known whole
+all-if context made (Err why) size known whole = tt

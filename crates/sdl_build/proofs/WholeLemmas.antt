@@ -5,8 +5,8 @@ use Rattle.std.proofs.lemmas.Option.{slice_get_within}
 use Rattle.sdl_build.specs.Built.{IsMissing, IsTold}
 use Rattle.sdl_build.specs.Faulty.{NotesBodies, definition_faults}
 use Rattle.sdl_build.specs.Faulty as notes
-use Rattle.build_context.specs.Surroundings.{surroundings}
-use Rattle.build_context.specs.Survey.{AreDefinitions, Survey, definitions_of}
+use Rattle.build_context.specs.ProcessScope.{process_scope}
+use Rattle.build_context.specs.Context.{IsResolved, Context, resolved_of}
 use Rattle.sdl_build.proofs.MadeLemmas.{same-one}
 use Rattle.laws_complete.proofs.LabelLemmas.{labels-given}
 use Rattle.laws_complete.proofs.ProcessLemmas.{process-given}
@@ -16,24 +16,25 @@ use Rattle.laws_complete.specs.Names.{IsFaultless}
 use Rattle.laws_complete.specs.Processes.{IsGiven}
 use Rattle.build_definitions.specs.Parts.{all_sort_faults}
 use Rattle.build_definitions.specs.Rows.{ProcessRow}
-use Rattle.build_definitions.specs.Tables.{Rows}
-use Rattle.build_constants.specs.Figures.{all_durations, figures_faults}
+use Rattle.build_definitions.specs.Definitions.{Rows}
+use Rattle.build_constants.specs.ConstantTable.{all_durations, constant_table_faults}
 use Rattle.build_constants.specs.Scopes.{scope_in}
 use Rattle.build_constants.specs.Synonyms.{AreSynonymConstants}
 use Rattle.build_names.specs.Meanings.{duplicate_faults}
 use Rattle.build_names.specs.Spaces.{AreNamesOf}
 use Rattle.build_network.specs.Network.{network_faults}
 use Rattle.build_process.specs.Faulty.{body_faults}
-use Rattle.build_process.specs.Surroundings.{for_transitions}
+use Rattle.build_process.specs.ProcessScope.{for_transitions}
 use Rattle.build_faults.proofs.FaultLemmas.{none_noted}
-use Rattle.build_faults.specs.Faults.{Told, least_of}
+use Rattle.build_faults.specs.Faults.{Diagnostic, least_of}
 use Rattle.build_limits.specs.Limits.{limit_faults}
 use Rattle.build_scopes.specs.declared.scope.ScopeId.TheVariants as scope
 use Rattle.sdl_tree.specs.Tree.{Tree}
 
 -- ---- nothing is told
 
-pub told-none : (old : Option Told) (faults : List Told) → least_of old faults ≡ None → (old ≡ None) × (faults ≡ [])
+pub told-none : (old : Option Diagnostic) (faults : List Diagnostic) → least_of old faults ≡ None →
+    (old ≡ None) × (faults ≡ [])
 told-none None faults is = (refl, none_noted faults is)
 told-none (Some fault) faults is = absurd (omega (arith, ap length (none_noted (fault ∷ faults) is)))
 
@@ -48,9 +49,9 @@ none-right (x ∷ xs) ys is = absurd (omega (arith, ap length is))
 -- ---- of the processes
 
 -- no rule is broken in the body of the process
-record Unbroken (survey : Survey) (number : ℕ) (row : ProcessRow) : Type 0 where
+record Unbroken (context : Context) (number : ℕ) (row : ProcessRow) : Type 0 where
   names : List (List ℕ)
-  none : body_faults (surroundings survey (record { 0 = number }) row.definition) row.definition names ≡ []
+  none : body_faults (process_scope context (record { 0 = number }) row.definition) row.definition names ≡ []
 
 below-or-last : (n count : ℕ) → n < suc count → (n < count) ⊎ (n ≡ count)
 below-or-last n count below = by (n == count) refl
@@ -59,81 +60,85 @@ below-or-last n count below = by (n == count) refl
     by true is = inr (eqb-true n count is)
     by false is = inl (omega (arith, below, eqb-false n count is))
 
-unbroken-at : (survey : Survey) (old : Option Told) (count : ℕ) (new : Option Told) → NotesBodies survey old count new →
+unbroken-at : (context : Context) (old : Option Diagnostic) (count : ℕ) (new : Option Diagnostic) →
+    NotesBodies context old count new →
     new ≡ None → (number : ℕ) (row : ProcessRow) → number < count →
-    slice_get survey.rows.processes number ≡ Some row → Unbroken survey number row
-unbroken-at survey old count new notes.none is number row below listed = absurd (omega (arith, below))
-unbroken-at survey old count new (notes.more before mid last other stands there body) is number row below listed =
-    let both = told-none mid (body_faults (surroundings survey (record { 0 = before }) other.definition)
+    slice_get context.rows.processes number ≡ Some row → Unbroken context number row
+unbroken-at context old count new notes.none is number row below listed = absurd (omega (arith, below))
+unbroken-at context old count new (notes.more before mid last other stands there body) is number row below listed =
+    let both = told-none mid (body_faults (process_scope context (record { 0 = before }) other.definition)
     other.definition body.names) (sym body.noted ∙ is) in
     elim (below-or-last number before below) [
-      | inl less ↦ unbroken-at survey old before mid stands both.0 number row less listed
+      | inl less ↦ unbroken-at context old before mid stands both.0 number row less listed
       | inr same ↦
           let rows : other ≡ row =
-          same-one other row (sym there ∙ ap (slice_get survey.rows.processes) (sym same) ∙ listed) in
-          subst (Unbroken survey number) rows
-          (subst (λ n. Unbroken survey n other) (sym same) (record { names = body.names; none = both.1 }))
+          same-one other row (sym there ∙ ap (slice_get context.rows.processes) (sym same) ∙ listed) in
+          subst (Unbroken context number) rows
+          (subst (λ n. Unbroken context n other) (sym same) (record { names = body.names; none = both.1 }))
     ]
 
-old-none : (survey : Survey) (old : Option Told) (count : ℕ) (new : Option Told) → NotesBodies survey old count new →
+old-none : (context : Context) (old : Option Diagnostic) (count : ℕ) (new : Option Diagnostic) →
+    NotesBodies context old count new →
     new ≡ None → old ≡ None
-old-none survey old count new notes.none is = is
-old-none survey old count new (notes.more before mid last other stands there body) is =
-    old-none survey old before mid stands
-    (told-none mid (body_faults (surroundings survey (record { 0 = before }) other.definition)
+old-none context old count new notes.none is = is
+old-none context old count new (notes.more before mid last other stands there body) is =
+    old-none context old before mid stands
+    (told-none mid (body_faults (process_scope context (record { 0 = before }) other.definition)
     other.definition body.names) (sym body.noted ∙ is)).0
 
 -- ---- of the whole
 
-module _ (tree : Tree) (survey : Survey) (defined : AreDefinitions tree (definitions_of survey))
-    (unbroken : IsTold tree survey None) where
+module _ (tree : Tree) (context : Context) (defined : IsResolved tree (resolved_of context))
+    (unbroken : IsTold tree context None) where
   mid-none : unbroken.mid ≡ None
   mid-none =
-      (told-none unbroken.mid (network_faults survey.rows survey.declared)
-      (sym unbroken.of_rest.joined ∙ old-none survey unbroken.of_rest.mid _ None unbroken.of_rest.bodies refl)).0
+      (told-none unbroken.mid (network_faults context.rows context.symbols)
+      (sym unbroken.of_rest.connections ∙ old-none context unbroken.of_rest.mid _ None unbroken.of_rest.bodies refl)).0
 
-  no-definition : definition_faults tree (definitions_of survey) ≡ []
+  no-definition : definition_faults tree (resolved_of context) ≡ []
   no-definition = none_noted _ (sym unbroken.of_definitions ∙ mid-none)
 
   behind-limits : all_sort_faults tree
-      ++ (duplicate_faults survey.rows ++ figures_faults survey.rows survey.declared survey.constants) ≡ []
+      ++ (duplicate_faults context.rows ++ constant_table_faults context.rows context.symbols context.constants) ≡ []
   behind-limits = none-right (limit_faults tree) _ no-definition
 
-  behind-sorts : duplicate_faults survey.rows ++ figures_faults survey.rows survey.declared survey.constants ≡ []
+  behind-sorts : duplicate_faults context.rows ++ constant_table_faults context.rows context.symbols context.constants
+      ≡ []
   behind-sorts = none-right (all_sort_faults tree) _ behind-limits
 
-  pub faultless : IsFaultless tree survey.declared survey.constants
+  pub faultless : IsFaultless tree context.symbols context.constants
   faultless = record {
-    named = subst (λ rows. AreNamesOf rows survey.declared) defined.rows defined.names;
-    valued = subst (λ rows. AreSynonymConstants rows survey.declared survey.constants) defined.rows defined.constants;
+    named = subst (λ rows. AreNamesOf rows context.symbols) defined.rows defined.names;
+    valued = subst (λ rows. AreSynonymConstants rows context.symbols context.constants) defined.rows defined.constants;
     sorts = none-left (all_sort_faults tree) _ behind-limits;
-    figures = subst (λ rows. figures_faults rows survey.declared survey.constants ≡ []) defined.rows
-        (none-right (duplicate_faults survey.rows) _ behind-sorts);
+    constant_table = subst (λ rows. constant_table_faults rows context.symbols context.constants ≡ []) defined.rows
+        (none-right (duplicate_faults context.rows) _ behind-sorts);
     duplicates = subst (λ rows. duplicate_faults rows ≡ []) defined.rows
-        (none-left (duplicate_faults survey.rows) _ behind-sorts);
+        (none-left (duplicate_faults context.rows) _ behind-sorts);
   }
 
   -- what stands around a process lacks nothing
-  pub is-given : (number : ℕ) (row : ProcessRow) → slice_get survey.rows.processes number ≡ Some row →
-      (names : List (List ℕ)) × IsGiven (surroundings survey (record { 0 = number }) row.definition) row.definition names
+  pub is-given : (number : ℕ) (row : ProcessRow) → slice_get context.rows.processes number ≡ Some row →
+      (names : List (List ℕ)) × IsGiven (process_scope context (record { 0 = number }) row.definition) row.definition
+      names
   is-given number row listed =
-      let own = unbroken-at survey unbroken.of_rest.mid _ None unbroken.of_rest.bodies refl number row
-      (slice_get_within survey.rows.processes number row listed) listed in (
+      let own = unbroken-at context unbroken.of_rest.mid _ None unbroken.of_rest.bodies refl number row
+      (slice_get_within context.rows.processes number row listed) listed in (
         own.names,
         record {
-          complete = subst (λ rows. IsComplete (scope_in rows survey.declared survey.constants
+          complete = subst (λ rows. IsComplete (scope_in rows context.symbols context.constants
               (scope.Process (record { 0 = number })))) (sym defined.rows)
-              (scopes-complete tree survey.declared survey.constants faultless
+              (scopes-complete tree context.symbols context.constants faultless
               (scope.Process (record { 0 = number })));
-          durations = durations-given tree survey.declared survey.constants faultless
+          durations = durations-given tree context.symbols context.constants faultless
               (scope.Process (record { 0 = number }))
-              (for_transitions (surroundings survey (record { 0 = number }) row.definition))
-              (ap (λ rows. scope_in rows survey.declared survey.constants (scope.Process (record { 0 = number })))
+              (for_transitions (process_scope context (record { 0 = number }) row.definition))
+              (ap (λ rows. scope_in rows context.symbols context.constants (scope.Process (record { 0 = number })))
               defined.rows)
-              (ap (λ rows. all_durations rows survey.declared survey.constants) defined.rows);
+              (ap (λ rows. all_durations rows context.symbols context.constants) defined.rows);
           labels = record {
             numbers = refl;
-            different = (labels-given tree survey.declared survey.constants faultless number row
+            different = (labels-given tree context.symbols context.constants faultless number row
                 (subst (λ (rows : Rows). slice_get rows.processes number ≡ Some row) defined.rows listed)).different;
           };
           no_fault = own.none;
@@ -141,8 +146,8 @@ module _ (tree : Tree) (survey : Survey) (defined : AreDefinitions tree (definit
       )
 
   -- so each is there
-  pub none-missing : IsMissing survey → ⊥
+  pub none-missing : IsMissing context → ⊥
   none-missing missing =
       let given = is-given missing.number.0 missing.row missing.listed in
-      process-given (surroundings survey missing.number missing.row.definition) missing.row.definition given.0 given.1
+      process-given (process_scope context missing.number missing.row.definition) missing.row.definition given.0 given.1
       missing.refused

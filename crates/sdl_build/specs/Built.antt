@@ -4,14 +4,14 @@ use Rattle.port_values.specs.declared.item.SignalId.{SignalId}
 use Rattle.sdl_build.specs.Faulty.{NotesRest, definition_faults}
 use Rattle.sdl_build.specs.Signals.{signal_of, signals_from}
 use Rattle.build_context.specs.Processes.{IsProcess}
-use Rattle.build_context.specs.Surroundings.{surroundings}
-use Rattle.build_context.specs.Survey.{AreDefinitions, Definitions, IsJoined, Survey, definitions_of}
+use Rattle.build_context.specs.ProcessScope.{process_scope}
+use Rattle.build_context.specs.Context.{IsResolved, Resolved, AreConnections, Context, resolved_of}
 use Rattle.build_definitions.specs.Rows.{ProcessRow, SignalRow}
-use Rattle.build_constants.specs.Figures.{all_durations}
+use Rattle.build_constants.specs.ConstantTable.{all_durations}
 use Rattle.build_process.specs.Refused.{IsRefused}
-use Rattle.build_faults.specs.Faults.{Told, least_of}
-use Rattle.build_limits.specs.Names.{first_of}
-use Rattle.build_faults.specs.declared.fault.Kind.TheVariants.{Limit}
+use Rattle.build_faults.specs.Faults.{Diagnostic, least_of}
+use Rattle.build_scopes.specs.Names.{first_of}
+use Rattle.build_faults.specs.declared.fault.Rule.TheVariants.{Limit}
 use Rattle.build_scopes.specs.Spaces.{entry_if, is_same_scope}
 use Rattle.build_scopes.specs.declared.scope.ScopeId.TheVariants as scope
 use Rattle.sdl_system.specs.System.{SystemValue, meaning_of}
@@ -20,18 +20,18 @@ use Rattle.sdl_system.specs.declared.process.Process.{Process}
 use Rattle.sdl_tree.specs.Tree.{Tree}
 
 -- there is one for each row, by its number
-pub record AreProcesses (survey : Survey) (processes : List Process) : Type 0 where
-  pub size : length processes ≡ length survey.rows.processes
+pub record AreProcesses (context : Context) (processes : List Process) : Type 0 where
+  pub size : length processes ≡ length context.rows.processes
   pub each : (number : ProcessId) (row : ProcessRow) (process : Process)
-      → slice_get survey.rows.processes number.0 ≡ Some row → slice_get processes number.0 ≡ Some process
-      → IsProcess survey number row process
+      → slice_get context.rows.processes number.0 ≡ Some row → slice_get processes number.0 ≡ Some process
+      → IsProcess context number row process
 
 -- why one isn't there
-pub record IsMissing (survey : Survey) : Type 0 where
+pub record IsMissing (context : Context) : Type 0 where
   pub number : ProcessId
   pub row : ProcessRow
-  pub listed : slice_get survey.rows.processes number.0 ≡ Some row
-  pub refused : IsRefused (surroundings survey number row.definition) row.definition
+  pub listed : slice_get context.rows.processes number.0 ≡ Some row
+  pub refused : IsRefused (process_scope context number row.definition) row.definition
 
 -- ---- names that the environment uses
 
@@ -49,43 +49,44 @@ named_processes number (row ∷ rows) =
 
 -- ---- the whole
 
-pub record IsSystem (survey : Survey) (system : SystemValue) : Type 0 where
+pub record IsSystem (context : Context) (system : SystemValue) : Type 0 where
   pub signals : map signal_of system.signals
-      ≡ signals_from survey.rows.signals (all_durations survey.rows survey.declared survey.constants)
-  pub processes : AreProcesses survey system.processes
-  pub routes : system.routes ≡ survey.routes
+      ≡ signals_from context.rows.signals (all_durations context.rows context.symbols context.constants)
+  pub processes : AreProcesses context system.processes
+  pub routes : system.routes ≡ context.routes
   -- the signals that the system itself defines
-  pub own_signals : (text : List ℕ) → meaning_of system.own_signals text ≡ first_of (own_from 0 survey.rows.signals) text
+  pub own_signals : (text : List ℕ) → meaning_of system.own_signals text
+      ≡ first_of (own_from 0 context.rows.signals) text
   -- the first process of the name in the text, in whatever block
   pub process_names : (text : List ℕ)
-      → meaning_of system.process_names text ≡ first_of (named_processes 0 survey.rows.processes) text
+      → meaning_of system.process_names text ≡ first_of (named_processes 0 context.rows.processes) text
 
 -- it, or why there is none
-abbrev pub IsSystemOr : Survey → Option SystemValue → Type 0
-IsSystemOr survey None = IsMissing survey
-IsSystemOr survey (Some system) = IsSystem survey system
+abbrev pub IsSystemOr : Context → Option SystemValue → Type 0
+IsSystemOr context None = IsMissing context
+IsSystemOr context (Some system) = IsSystem context system
 
 -- ---- what is told
 
 -- Of all rules that are broken this is told: None where none is.
-pub record IsTold (tree : Tree) (survey : Survey) (fault : Option Told) : Type 0 where
-  pub mid : Option Told
-  pub of_definitions : mid ≡ least_of None (definition_faults tree (definitions_of survey))
-  pub of_rest : NotesRest survey mid fault
+pub record IsTold (tree : Tree) (context : Context) (fault : Option Diagnostic) : Type 0 where
+  pub mid : Option Diagnostic
+  pub of_definitions : mid ≡ least_of None (definition_faults tree (resolved_of context))
+  pub of_rest : NotesRest context mid fault
 
 -- The system is what the specification says, and no rule is broken in it.
 pub record IsBuilt (tree : Tree) (system : SystemValue) : Type 0 where
-  pub survey : Survey
-  pub defined : AreDefinitions tree (definitions_of survey)
-  pub joined : IsJoined survey
-  pub unbroken : IsTold tree survey None
-  pub built : IsSystem survey system
+  pub context : Context
+  pub defined : IsResolved tree (resolved_of context)
+  pub connections : AreConnections context
+  pub unbroken : IsTold tree context None
+  pub built : IsSystem context system
 
 -- The fault is the one that is told. Where it is a limit, it is the least of those in the definitions.
-pub data IsBroken (tree : Tree) (fault : Told) : Type 0 where
+pub data IsBroken (tree : Tree) (fault : Diagnostic) : Type 0 where
   past_limit :
-      (definitions : Definitions) → AreDefinitions tree definitions
-      → least_of None (definition_faults tree definitions) ≡ Some fault → fault.kind ≡ Limit → IsBroken tree fault
+      (resolved : Resolved) → IsResolved tree resolved
+      → least_of None (definition_faults tree resolved) ≡ Some fault → fault.rule ≡ Limit → IsBroken tree fault
   broken :
-      (survey : Survey) → AreDefinitions tree (definitions_of survey) → IsJoined survey
-      → IsTold tree survey (Some fault) → IsBroken tree fault
+      (context : Context) → IsResolved tree (resolved_of context) → AreConnections context
+      → IsTold tree context (Some fault) → IsBroken tree fault

@@ -2,8 +2,8 @@
 use Rattle.std.specs.Prelude.{◌≡◌, All, Some, length, slice_get}
 use Rattle.sdl_build.specs.Built.{IsBuilt}
 use Rattle.build_context.specs.Headings.{IsHeading}
-use Rattle.build_context.specs.Surroundings.{surroundings}
-use Rattle.build_context.specs.Survey.{Survey}
+use Rattle.build_context.specs.ProcessScope.{process_scope}
+use Rattle.build_context.specs.Context.{Context}
 use Rattle.build_definitions.specs.Rows.{ProcessRow}
 use Rattle.build_process.specs.Made.{IsHeaded}
 use Rattle.build_process.specs.Meant.{IsBehaviour}
@@ -17,16 +17,16 @@ use Rattle.sdl_tree.specs.Tree.{Tree}
 
 -- The process of this number can be run: the text of its definition has a behaviour, the process means each that it
 -- has, and its tables agree with one another, for the signals of the system.
-pub record CanRun (survey : Survey) (system : SystemValue) (number : ProcessId) (process : Process) : Type 0 where
+pub record CanRun (context : Context) (system : SystemValue) (number : ProcessId) (process : Process) : Type 0 where
   pub row : ProcessRow
-  pub listed : slice_get survey.rows.processes number.0 ≡ Some row
+  pub listed : slice_get context.rows.processes number.0 ≡ Some row
   pub heading : Heading
-  pub said : IsHeading survey number row heading
+  pub said : IsHeading context number row heading
   pub headed : IsHeaded heading process
   pub behaviour : Behaviour
-  pub is : IsBehaviour (surroundings survey number row.definition) row.definition heading behaviour
+  pub is : IsBehaviour (process_scope context number row.definition) row.definition heading behaviour
   pub means : (other : Behaviour)
-      → IsBehaviour (surroundings survey number row.definition) row.definition heading other
+      → IsBehaviour (process_scope context number row.definition) row.definition heading other
       → Means process other
   pub keeps : All (Keeps (length system.signals) process) process.tables.items
 
@@ -34,4 +34,4 @@ pub record CanRun (survey : Survey) (system : SystemValue) (number : ProcessId) 
 abbrev pub ProcessesCanRun : Type 0
 ProcessesCanRun =
     (tree : Tree) (system : SystemValue) (built : IsBuilt tree system) (number : ProcessId) (process : Process)
-    → slice_get system.processes number.0 ≡ Some process → CanRun built.survey system number process
+    → slice_get system.processes number.0 ≡ Some process → CanRun built.context system number process

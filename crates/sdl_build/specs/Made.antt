@@ -4,36 +4,36 @@ use Rattle.std.specs.Global.{Vec}
 use Rattle.sdl_build.specs.Built.{AreProcesses, IsMissing, named_processes, own_from}
 use Rattle.build_context.specs.Processes.{IsMadeFrom}
 use Rattle.sdl_build.specs.Signals.{signal_of, signals_from}
-use Rattle.build_context.specs.Survey.{Survey}
+use Rattle.build_context.specs.Context.{Context}
 use Rattle.build_definitions.specs.Rows.{ProcessRow}
-use Rattle.build_definitions.specs.Tables.{Rows}
-use Rattle.build_limits.specs.Names.{first_of}
+use Rattle.build_definitions.specs.Definitions.{Rows}
+use Rattle.build_scopes.specs.Names.{first_of}
 use Rattle.sdl_system.specs.System.{SystemValue, meaning_of}
 use Rattle.sdl_system.specs.declared.id.ProcessId.{ProcessId}
 use Rattle.sdl_system.specs.declared.process.Process.{Process}
 use Rattle.sdl_system.specs.declared.route.Routes.{Routes}
 
 -- each is the process of its number, or there is none
-abbrev pub AreMade : Survey → List (Option Process) → Type 0
-AreMade survey made =
+abbrev pub AreMade : Context → List (Option Process) → Type 0
+AreMade context made =
     (number : ProcessId) (row : ProcessRow) (process : Option Process)
-    → slice_get survey.rows.processes number.0 ≡ Some row → slice_get made number.0 ≡ Some process
-    → IsMadeFrom survey number row process
+    → slice_get context.rows.processes number.0 ≡ Some row → slice_get made number.0 ≡ Some process
+    → IsMadeFrom context number row process
 
 -- what the process at this place is made of, as its row says
-pub record IsMadeAt (survey : Survey) (place : ℕ) (process : Option Process) : Type 0 where
+pub record IsMadeAt (context : Context) (place : ℕ) (process : Option Process) : Type 0 where
   pub row : ProcessRow
-  pub listed : slice_get survey.rows.processes place ≡ Some row
-  pub made : IsMadeFrom survey (record { 0 = place }) row process
+  pub listed : slice_get context.rows.processes place ≡ Some row
+  pub made : IsMadeFrom context (record { 0 = place }) row process
 
 -- the list has each of these, or one of them isn't there
 abbrev pub WholeList : List (Option Process) → Option (Vec Process) → Type 0
 WholeList made None = Contains made None
 WholeList made (Some list) = map Some list.items ≡ made
 
-abbrev pub AreProcessesOr : Survey → Option (Vec Process) → Type 0
-AreProcessesOr survey None = IsMissing survey
-AreProcessesOr survey (Some list) = AreProcesses survey list.items
+abbrev pub AreProcessesOr : Context → Option (Vec Process) → Type 0
+AreProcessesOr context None = IsMissing context
+AreProcessesOr context (Some list) = AreProcesses context list.items
 
 -- the system has what these rows define, with these default durations, processes and routes
 pub record IsComposed (rows : Rows) (durations : List (Option ℤ)) (processes : Vec Process) (routes : Routes)

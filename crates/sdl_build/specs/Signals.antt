@@ -3,7 +3,7 @@ use Rattle.std.specs.Prelude.{ℕ, ℤ, List, [], ◌∷◌, Option, None, Some,
 use Rattle.build_definitions.specs.Rows.{OrdinarySignal, OrdinaryTimer, SignalKind, SignalRow}
 use Rattle.build_scopes.specs.declared.scope.ScopeId.{ScopeId}
 use Rattle.build_scopes.specs.declared.scope.ScopeId.TheVariants as scope
-use Rattle.sdl_system.specs.declared.signal.Signal as declared
+use Rattle.sdl_system.specs.declared.signal.Signal as symbols
 use Rattle.sdl_system.specs.declared.signal.Timer.{Timer}
 use Rattle.sdl_system.specs.declared.sort.Sort.{Sort}
 
@@ -13,7 +13,7 @@ pub record Signal : Type 0 where
   pub sorts : List Sort
   pub timer : Option Timer
 
-abbrev pub signal_of : declared.Signal → Signal
+abbrev pub signal_of : symbols.Signal → Signal
 signal_of signal =
     record { name = string_bytes signal.name; sorts = signal.sorts.items; timer = signal.timer }
 

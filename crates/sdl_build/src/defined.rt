@@ -3,14 +3,14 @@
 ghost use Rattle.std.specs.Prelude.{◌≡◌, ℕ, List, map, IfOk};
 ghost use Rattle.sdl_build.specs.Built.{named_processes, own_from};
 ghost use Rattle.sdl_build.specs.Signals.{signal_of, signals_from};
-ghost use Rattle.build_definitions.specs.Tables.{rows_of};
-ghost use Rattle.build_limits.specs.Names.{first_of};
+ghost use Rattle.build_definitions.specs.Definitions.{rows_of};
+ghost use Rattle.build_scopes.specs.Names.{first_of};
 ghost use Rattle.sdl_system.specs.System.{meaning_of, named};
 
 use crate::own::{own_signals, process_names};
 use crate::signals::signals_of;
-use build_constants::Figures;
-use build_definitions::Tables;
+use build_constants::ConstantTable;
+use build_definitions::Definitions;
 use indexmap::IndexMap;
 use port_values::SignalId;
 use sdl_system::{ProcessId, Signal};
@@ -27,18 +27,22 @@ pub struct Defined {
 }
 
 impl Defined {
-    /// What these tables define, with the default durations of timers among these figures.
-    pub fn of(alloc: Global, tables: &Tables<'_>, figures: &Figures) -> Result<Self, AllocError>
+    /// What these definitions say, with the default durations of timers among these constants.
+    pub fn of(
+        alloc: Global,
+        definitions: &Definitions<'_>,
+        constant_table: &ConstantTable,
+    ) -> Result<Self, AllocError>
         ensures signals { IfOk result (λ defined. map signal_of defined.signals.items
-            ≡ signals_from (rows_of tables.now).signals figures.now.durations.items) }
+            ≡ signals_from (rows_of definitions.now).signals constant_table.now.durations.items) }
         ensures own_signals { IfOk result (λ defined. (text : List ℕ) → meaning_of (named defined.own_signals) text
-            ≡ first_of (own_from 0 (rows_of tables.now).signals) text) }
+            ≡ first_of (own_from 0 (rows_of definitions.now).signals) text) }
         ensures process_names { IfOk result (λ defined. (text : List ℕ) → meaning_of (named defined.process_names) text
-            ≡ first_of (named_processes 0 (rows_of tables.now).processes) text) }
+            ≡ first_of (named_processes 0 (rows_of definitions.now).processes) text) }
     {
-        let signals = signals_of(alloc, &tables.signals, &figures.durations)?;
-        let own_signals = own_signals(alloc, &tables.signals)?;
-        let process_names = process_names(alloc, &tables.processes)?;
+        let signals = signals_of(alloc, &definitions.signals, &constant_table.durations)?;
+        let own_signals = own_signals(alloc, &definitions.signals)?;
+        let process_names = process_names(alloc, &definitions.processes)?;
         Ok(Defined {
             signals,
             own_signals,

@@ -1,11 +1,11 @@
 //! Why there is no system of a specification.
 
 ghost use Rattle.std.specs.Prelude.{◌≡◌, IfOk};
-ghost use Rattle.sdl_build.specs.ErrorText.{kind_text};
+ghost use Rattle.sdl_build.specs.ErrorText.{rule_text};
 ghost use Rattle.sdl_build.specs.Outcome.{Tells};
-ghost use Rattle.build_faults.specs.Faults.{told_of};
+ghost use Rattle.build_faults.specs.Faults.{diagnostic_of};
 
-use build_faults::{Fault, Kind};
+use build_faults::{Fault, Rule};
 use sdl_tree::Name;
 use std::alloc::{AllocError, Global};
 use std::error::Error;
@@ -15,7 +15,7 @@ use std::fmt;
 #[derive(Debug, Drop)]
 pub enum BuildError {
     /// A rule is broken at a word of the text.
-    Broken { kind: Kind, word: Name },
+    Broken { rule: Rule, word: Name },
     /// A growth was refused.
     Memory,
 }
@@ -23,14 +23,14 @@ pub enum BuildError {
 impl BuildError {
     /// The error that tells this fault.
     pub(crate) fn of(alloc: Global, fault: Fault<'_>) -> Result<Self, AllocError>
-        ensures { IfOk result (Tells (told_of fault.entry)) }
+        ensures { IfOk result (Tells (diagnostic_of fault.entry)) }
     {
         let word = Name {
             text: String::from_str(alloc, fault.token.text)?,
             place: fault.token.place,
         };
         Ok(BuildError::Broken {
-            kind: fault.kind,
+            rule: fault.rule,
             word,
         })
     }
@@ -45,9 +45,9 @@ impl fmt::Display for BuildError {
 
     fn fmt<W: fmt::Write>(&self, f: &mut fmt::Formatter<W>) -> fmt::Result {
         match self {
-            BuildError::Broken { kind, word } => {
+            BuildError::Broken { rule, word } => {
                 let Name { text, place } = word;
-                let check = kind_text(*kind);
+                let check = rule_text(*rule);
                 write!(f, "build {place} {check} {text}")
             }
             BuildError::Memory => write!(f, "build Memory"),
@@ -68,19 +68,19 @@ impl From<AllocError> for BuildError {
 }
 
 /// The name of a rule.
-fn kind_text(kind: Kind) -> &'static str
-    ensures { result.now ≡ kind_text kind }
+fn rule_text(rule: Rule) -> &'static str
+    ensures { result.now ≡ rule_text rule }
 {
-    match kind {
-        Kind::Unknown => "Unknown",
-        Kind::Duplicate => "Duplicate",
-        Kind::Sort => "Sort",
-        Kind::TwiceInState => "TwiceInState",
-        Kind::NoState => "NoState",
-        Kind::NoLabel => "NoLabel",
-        Kind::NoRoute => "NoRoute",
-        Kind::BadCount => "BadCount",
-        Kind::NoEnd => "NoEnd",
-        Kind::Limit => "Limit",
+    match rule {
+        Rule::Unknown => "Unknown",
+        Rule::Duplicate => "Duplicate",
+        Rule::Sort => "Sort",
+        Rule::TwiceInState => "TwiceInState",
+        Rule::NoState => "NoState",
+        Rule::NoLabel => "NoLabel",
+        Rule::NoRoute => "NoRoute",
+        Rule::BadCount => "BadCount",
+        Rule::NoEnd => "NoEnd",
+        Rule::Limit => "Limit",
     }
 }

@@ -1,6 +1,6 @@
 //! The system of a specification, with every check of it (Z.101 to Z.104).
 //!
-//! The definitions come first: their tables, their names, and what their constant expressions come to. Then what joins
+//! The definitions come first: what they are, their names, and what their constant expressions come to. Then what joins
 //! the agents, then the bodies of the processes, each in what stands around it. `specs/Faulty` has the rules that are
 //! broken, and `specs/Built` when a system is what the specification says.
 #![tactic(auto)]

@@ -4,7 +4,7 @@ ghost use Rattle.std.specs.Prelude.{◌≡◌, ℕ, List, [], ◌∷◌, map, If
 ghost use Rattle.std.specs.Option.{option_or};
 ghost use Rattle.sdl_build.specs.Built.{named_processes, own_from};
 ghost use Rattle.build_definitions.specs.Seen.{process_seen, signal_seen};
-ghost use Rattle.build_limits.specs.Names.{first_of};
+ghost use Rattle.build_scopes.specs.Names.{first_of};
 ghost use Rattle.build_scopes.specs.Spaces.{is_same_scope};
 ghost use Rattle.build_scopes.specs.declared.scope.ScopeId.TheVariants as scopes;
 ghost use Rattle.sdl_system.specs.System.{meaning_of, named};

@@ -4,14 +4,14 @@ use Rattle.std.proofs.lemmas.Option.{none-some}
 use Rattle.std.specs.List.{AllZip}
 use Rattle.sdl_build.specs.Built.{IsBuilt}
 use Rattle.sdl_build.specs.Laws.{CanRun}
-use Rattle.build_context.specs.Surroundings.{surroundings}
-use Rattle.build_context.specs.Survey.{Survey}
+use Rattle.build_context.specs.ProcessScope.{process_scope}
+use Rattle.build_context.specs.Context.{Context}
 use Rattle.sdl_build.proofs.LawLemmas.{processes-can-run}
 use Rattle.serial_order.specs.Execution.{AreBehaviours}
 use Rattle.build_definitions.specs.Rows.{ProcessRow}
 use Rattle.build_process.specs.Made.{IsHeaded}
 use Rattle.build_process.specs.Meant.{IsBehaviour}
-use Rattle.build_process.specs.Surroundings.{Surroundings}
+use Rattle.build_process.specs.ProcessScope.{ProcessScope}
 use Rattle.build_process.specs.declared.heading.Heading.{Heading}
 use Rattle.run_semantics.specs.Behaves.{Behaves}
 use Rattle.sdl_system.specs.Behaviour.{Behaviour, variable_meaning}
@@ -67,7 +67,7 @@ one-of-each P (x ∷ xs) each =
 -- ---- behaviours
 
 -- two headings of one process give it the same behaviours
-same-behaviour : (around : Surroundings) (definition : ProcessDefinition) (one other : Heading) (process : Process) →
+same-behaviour : (around : ProcessScope) (definition : ProcessDefinition) (one other : Heading) (process : Process) →
     IsHeaded one process → IsHeaded other process → (p : Behaviour) → IsBehaviour around definition one p →
     IsBehaviour around definition other p
 same-behaviour around definition one other process a b p is = record {
@@ -83,34 +83,36 @@ same-behaviour around definition one other process a b p is = record {
 }
 
 -- the process behaves as its text says
-behaves : (survey : Survey) (system : SystemValue) (number : ProcessId) (process : Process) (p : Behaviour) →
-    CanRun survey system number process → IsOfText survey number process p → Behaves system process p
-behaves survey system number process p can of = record {
+behaves : (context : Context) (system : SystemValue) (number : ProcessId) (process : Process) (p : Behaviour) →
+    CanRun context system number process → IsOfText context number process p → Behaves system process p
+behaves context system number process p can of = record {
   means = can.means p
-      (same-behaviour (surroundings survey number can.row.definition) can.row.definition of.heading can.heading process
+      (same-behaviour (process_scope context number can.row.definition) can.row.definition of.heading can.heading
+      process
       of.headed can.headed p
-      (subst (λ (row : ProcessRow). IsBehaviour (surroundings survey number row.definition) row.definition of.heading p)
+      (subst (λ (row : ProcessRow). IsBehaviour (process_scope context number row.definition) row.definition of.heading
+      p)
       (some-same of.row can.row (sym of.listed ∙ can.listed)) of.is));
   keeps = can.keeps;
 }
 
 pub behaviours_of_text : (tree : Tree) (system : SystemValue) (built : IsBuilt tree system) (ps : List Behaviour) →
-    AreOfText built.survey system ps → AreBehaviours system ps
+    AreOfText built.context system ps → AreBehaviours system ps
 behaviours_of_text tree system built ps are =
     by-place (Behaves system) system.processes ps are.count
-    (λ n process p at at'. behaves built.survey system (record { 0 = n }) process p
+    (λ n process p at at'. behaves built.context system (record { 0 = n }) process p
     (processes-can-run tree system built (record { 0 = n }) process at)
     (are.each (record { 0 = n }) process p at at'))
 
 -- each process has a behaviour
 pub some_behaviours : (tree : Tree) (system : SystemValue) (built : IsBuilt tree system) →
-    (ps : List Behaviour) × AreOfText built.survey system ps
+    (ps : List Behaviour) × AreOfText built.context system ps
 some_behaviours tree system built = (found.0, record { count = found.1.0; each = λ number. found.1.1 number.0 })
   where
     found : (ps : List Behaviour) × ((length ps ≡ length system.processes)
         × ((n : ℕ) (process : Process) (p : Behaviour) → slice_get system.processes n ≡ Some process
-        → slice_get ps n ≡ Some p → IsOfText built.survey (record { 0 = n }) process p))
-    found = one-of-each (λ n process p. IsOfText built.survey (record { 0 = n }) process p) system.processes
+        → slice_get ps n ≡ Some p → IsOfText built.context (record { 0 = n }) process p))
+    found = one-of-each (λ n process p. IsOfText built.context (record { 0 = n }) process p) system.processes
         (λ n process at.
         let can = processes-can-run tree system built (record { 0 = n }) process at in (
           can.behaviour,

@@ -56,8 +56,8 @@ pub record IsRunOf (input : List ℕ) (limit : ℕ) (system : SystemValue) (repo
   pub tree : Tree
   pub lines : List ScriptLine
   pub accepted : IsAccepted input tree system lines
-  pub behaves : (ps : List Behaviour) × AreOfText accepted.built.survey system ps
-  pub ran : (ps : List Behaviour) → AreOfText accepted.built.survey system ps
+  pub behaves : (ps : List Behaviour) × AreOfText accepted.built.context system ps
+  pub ran : (ps : List Behaviour) → AreOfText accepted.built.context system ps
       → IsSerialReport ps system lines limit report
 
 -- the text of the report of such a run, of one that is whole or of one that was cut

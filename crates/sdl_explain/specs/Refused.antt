@@ -38,7 +38,7 @@ parse_place parse.Memory = None
 
 -- where a rule is broken
 abbrev pub build_place : BuildError → Option Place
-build_place (build.Broken kind word) = Some word.place
+build_place (build.Broken rule word) = Some word.place
 build_place build.Memory = None
 
 -- the number of the line of a script that is refused
@@ -71,7 +71,7 @@ repeated_in error = None
 
 -- the word at which a rule is broken
 abbrev pub repeated_by : BuildError → Option (List ℕ)
-repeated_by (build.Broken kind word) = Some (string_bytes word.text)
+repeated_by (build.Broken rule word) = Some (string_bytes word.text)
 repeated_by build.Memory = None
 
 -- the other place stands before that of the refusal, and the same word stands there

@@ -11,7 +11,7 @@ use crate::explanation::{Explanation, Other, Source};
 use crate::mention::first_mention;
 use crate::parse::shown_at;
 use crate::sentence::build_advice;
-use build_faults::Kind;
+use build_faults::Rule;
 use sdl_build::BuildError;
 use sdl_lex::Place;
 use sdl_parse::parse;
@@ -57,14 +57,14 @@ fn other_of<'t>(
 {
     match error {
         BuildError::Broken {
-            kind: Kind::Duplicate,
+            rule: Rule::Duplicate,
             word,
         } => {
             let place = definition_in(alloc, text, word)?;
             Ok(other_at(text, place, word, "It is defined first here:"))
         }
         BuildError::Broken {
-            kind: Kind::TwiceInState,
+            rule: Rule::TwiceInState,
             word,
         } => {
             let place = mention_in(alloc, text, word)?;

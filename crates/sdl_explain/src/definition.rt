@@ -3,7 +3,7 @@
 //! The names of a specification stand in six spaces, as in the look-up of names: signals with timers; signal lists;
 //! channels; blocks with processes; variables, parameters and synonyms; labels.
 
-use build_definitions::Tables;
+use build_definitions::Definitions;
 use build_faults::Faults;
 use build_scopes::ScopeId;
 use sdl_lex::Place;
@@ -43,7 +43,7 @@ pub fn first_definition(
     told: &Name,
 ) -> Result<Option<Place>, AllocError> {
     let mut faults = Faults::new();
-    let tables = Tables::of(alloc, tree, &mut faults)?;
+    let tables = Definitions::of(alloc, tree, &mut faults)?;
     let definitions = definitions_in(alloc, &tables)?;
     Ok(first_of(&definitions, told))
 }
@@ -72,7 +72,7 @@ fn definition_at<'t>(definitions: &[Definition<'t>], place: Place) -> Option<Def
 /// All definitions, those of each space in the order of the text.
 fn definitions_in<'t>(
     alloc: Global,
-    tables: &Tables<'t>,
+    tables: &Definitions<'t>,
 ) -> Result<Vec<Definition<'t>>, AllocError> {
     let mut found = Vec::new(alloc);
     add_signals(&mut found, tables)?;
@@ -84,7 +84,10 @@ fn definitions_in<'t>(
     Ok(found)
 }
 
-fn add_signals<'t>(found: &mut Vec<Definition<'t>>, tables: &Tables<'t>) -> Result<(), AllocError> {
+fn add_signals<'t>(
+    found: &mut Vec<Definition<'t>>,
+    tables: &Definitions<'t>,
+) -> Result<(), AllocError> {
     for entry in &tables.signals {
         add(found, Space::Signals, entry.scope, entry.name)?;
     }
@@ -93,7 +96,7 @@ fn add_signals<'t>(found: &mut Vec<Definition<'t>>, tables: &Tables<'t>) -> Resu
 
 fn add_signal_lists<'t>(
     found: &mut Vec<Definition<'t>>,
-    tables: &Tables<'t>,
+    tables: &Definitions<'t>,
 ) -> Result<(), AllocError> {
     for entry in &tables.lists {
         add(
@@ -108,7 +111,7 @@ fn add_signal_lists<'t>(
 
 fn add_channels<'t>(
     found: &mut Vec<Definition<'t>>,
-    tables: &Tables<'t>,
+    tables: &Definitions<'t>,
 ) -> Result<(), AllocError> {
     for entry in &tables.channels {
         add(found, Space::Channels, entry.scope, &entry.definition.name)?;
@@ -116,21 +119,30 @@ fn add_channels<'t>(
     Ok(())
 }
 
-fn add_agents<'t>(found: &mut Vec<Definition<'t>>, tables: &Tables<'t>) -> Result<(), AllocError> {
+fn add_agents<'t>(
+    found: &mut Vec<Definition<'t>>,
+    tables: &Definitions<'t>,
+) -> Result<(), AllocError> {
     for entry in &tables.agents {
         add(found, Space::Agents, entry.scope, entry.name)?;
     }
     Ok(())
 }
 
-fn add_values<'t>(found: &mut Vec<Definition<'t>>, tables: &Tables<'t>) -> Result<(), AllocError> {
+fn add_values<'t>(
+    found: &mut Vec<Definition<'t>>,
+    tables: &Definitions<'t>,
+) -> Result<(), AllocError> {
     for entry in &tables.values {
         add(found, Space::Values, entry.scope, entry.name)?;
     }
     Ok(())
 }
 
-fn add_labels<'t>(found: &mut Vec<Definition<'t>>, tables: &Tables<'t>) -> Result<(), AllocError> {
+fn add_labels<'t>(
+    found: &mut Vec<Definition<'t>>,
+    tables: &Definitions<'t>,
+) -> Result<(), AllocError> {
     for entry in &tables.labels {
         add(
             found,

@@ -1,6 +1,6 @@
 //! The first mention of a signal that a state mentions twice.
 
-use build_definitions::Tables;
+use build_definitions::Definitions;
 use build_faults::{Faults, Token};
 use build_labels::states_of;
 use sdl_lex::Place;
@@ -21,7 +21,7 @@ struct Mention<'t> {
 /// its place. A signal that is mentioned in a list is not found.
 pub fn first_mention(alloc: Global, tree: &Tree, told: &Name) -> Result<Option<Place>, AllocError> {
     let mut faults = Faults::new();
-    let tables = Tables::of(alloc, tree, &mut faults)?;
+    let tables = Definitions::of(alloc, tree, &mut faults)?;
     for process in &tables.processes {
         let mentions = mentions_in(alloc, process.definition)?;
         if let Some(again) = mention_at(&mentions, told.place) {

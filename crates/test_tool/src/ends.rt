@@ -1,6 +1,6 @@
 //! How far joins are followed.
 
-use build_faults::{Faults, Kind};
+use build_faults::{Faults, Rule};
 use flow_ends::note_stays;
 use sdl_parse::parse;
 use sdl_tree::{Definition, ProcessDefinition, SystemDefinition, Tree};
@@ -27,8 +27,8 @@ fn no_state(alloc: Global, text: &str) -> Result<Option<usize>, Fail> {
 fn first_stay(alloc: Global, process: &ProcessDefinition) -> Result<Option<usize>, AllocError> {
     let mut faults = Faults::new();
     note_stays(alloc, process, &mut faults)?;
-    match faults.least() {
-        Some(fault) if fault.kind == Kind::NoState => Ok(Some(fault.token.place.column)),
+    match faults.first() {
+        Some(fault) if fault.rule == Rule::NoState => Ok(Some(fault.token.place.column)),
         _ => Ok(None),
     }
 }

@@ -1,53 +1,53 @@
 //! What is said of the rules that a specification breaks.
 
 use crate::advice::Advice;
-use build_faults::Kind;
+use build_faults::Rule;
 use sdl_build::BuildError;
 
 /// What is said of a specification that has no system.
 pub fn build_advice(error: &BuildError) -> Advice<'_> {
     match error {
-        BuildError::Broken { kind, word } => {
+        BuildError::Broken { rule, word } => {
             let word = word.text.as_str();
-            Advice::about(word, broken_sentence(*kind, word))
+            Advice::about(word, broken_sentence(*rule, word))
         }
         BuildError::Memory => Advice::alone(super::NO_MEMORY),
     }
 }
 
 /// What is said of the word at which a rule is broken.
-fn broken_sentence(kind: Kind, word: &str) -> &'static str {
-    match kind {
-        Kind::Unknown => {
+fn broken_sentence(rule: Rule, word: &str) -> &'static str {
+    match rule {
+        Rule::Unknown => {
             "stands for nothing here: no definition of the kind that is wanted has this name, in its own scope \
              or in one around it. Define it, or mend the spelling; capitals count."
         }
-        Kind::Duplicate => {
+        Rule::Duplicate => {
             "is defined in this scope already. Give one of the two another name, or take one away."
         }
-        Kind::Sort => {
+        Rule::Sort => {
             "doesn't fit here: its sort, or the number of its values, isn't what this place wants. Compare it \
              with the definition of what it is given to."
         }
-        Kind::TwiceInState => {
+        Rule::TwiceInState => {
             "stands in this state already, or a signal of it does: a state says but once what it does with a signal, by \
              an input, a priority input or a save. Take one of the two away."
         }
-        Kind::NoState => no_state(word),
-        Kind::NoLabel => {
+        Rule::NoState => no_state(word),
+        Rule::NoLabel => {
             "is no label of this process, and a join can't leave its process. Write `NAME:` before the action to \
              go on at, or a connection of this name, or mend the spelling."
         }
-        Kind::NoRoute => {
+        Rule::NoRoute => {
             "reaches nobody: no path leads it from here to a process or to the environment. Name it behind `with` \
              in a channel that begins here, or say by `to` who gets it."
         }
-        Kind::BadCount => bad_count(word),
-        Kind::NoEnd => {
+        Rule::BadCount => bad_count(word),
+        Rule::NoEnd => {
             "begins a path that runs off its end. Let each way through it end with `nextstate`, `stop` or `join`, those \
              too that go on behind an `enddecision`."
         }
-        Kind::Limit => {
+        Rule::Limit => {
             "is one more than this tool takes: 1,000 signals with timers, 16 parameters, 200 processes, 1,000 \
              instances at the start, 1,000 states of a process, 50,000 statements. Leave something out."
         }

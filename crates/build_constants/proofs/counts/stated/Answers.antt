@@ -1,7 +1,7 @@
 use Rattle.std.proofs.Common.{option_map}
 use Rattle.build_constants.proofs.CountLemmas.{counts_accepted, counts_noted}
 use Rattle.build_constants.specs.Counts.{maximum_in}
-use Rattle.build_faults.specs.Faults.{told, mark_word}
+use Rattle.build_faults.specs.Faults.{mark_word}
 use Rattle.build_expressions.specs.Scope.{scope_of}
 use Rattle.sdl_tree.specs.Views.{bound_value, expr_value}
 use Rattle.sdl_tree.specs.declared.mark.Mark.TheVariants as mark
@@ -23,6 +23,6 @@ returns-clause-noted c =
     (maximum_in (option_map bound_value counts.bound)) c.in_ok-initial.initial c.in_ok-maximum.maximum
     (option_map (λ e. expr_value e.now) c.initial_in.result) (option_map (λ e. expr_value e.now) c.maximum_in.result)
     c.initial_in.ensures c.maximum_in.ensures c.in_ok-initial.ensures.part c.in_ok-maximum.ensures.part
-    (mark_word mark.Open counts.parenthesis) (told c.args.faults.now) (told c.read_part.new.faults)
-    (told c.read_part-2.new.faults) (told c.accepted.new.faults) c.in_ok-initial.ensures.noted
+    (mark_word mark.Open counts.parenthesis) c.args.faults.now c.read_part.new.faults
+    c.read_part-2.new.faults c.accepted.new.faults c.in_ok-initial.ensures.noted
     c.in_ok-maximum.ensures.noted c.accepted.ensures.noted

@@ -1,5 +1,5 @@
 use Rattle.std.proofs.Common.{◌≡◌}
-use Rattle.build_context.specs.Surroundings.{reaching}
+use Rattle.build_context.specs.ProcessScope.{reaching}
 use Rattle.build_context.proofs.reaching.reaching.Given as goal
 
 abbrev pub invariant-loop-number : goal.invariant-loop-number

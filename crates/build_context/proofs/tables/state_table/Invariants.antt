@@ -1,6 +1,6 @@
 use Rattle.std.proofs.Common.{◌≡◌, ◌++◌, drop}
 use Rattle.build_labels.specs.Labels.{names_listed}
-use Rattle.build_context.specs.Surroundings.{numbered_states}
+use Rattle.build_context.specs.ProcessScope.{numbered_states}
 use Rattle.build_context.proofs.tables.state_table.Given as goal
 
 abbrev pub invariant-loop-name : goal.invariant-loop-name

@@ -1,9 +1,9 @@
-use Rattle.std.proofs.Common.{◌≡◌, take}
+use Rattle.std.proofs.Common.{take}
 use Rattle.build_definitions.specs.Sorts.{unknown_sorts}
-use Rattle.build_faults.specs.Faults.{least_of, told}
+use Rattle.build_faults.specs.Faults.{Notes}
 use Rattle.sdl_tree.specs.Views.{sorts_value}
 use Rattle.build_definitions.proofs.sorts.note_sorts.Given as goal
 
 abbrev pub invariant-loop-name : goal.invariant-loop-name
 invariant-loop-name l =
-    told l.faults ≡ least_of (told l.initial.faults) (unknown_sorts (sorts_value (take l.name-index l.names)))
+    Notes l.initial.faults l.faults (unknown_sorts (sorts_value (take l.name-index l.names)))

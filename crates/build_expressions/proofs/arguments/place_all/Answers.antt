@@ -1,7 +1,7 @@
 use Rattle.std.proofs.Common.{◌∙◌, ◌+◌, ◌<◌, ◌&&◌, ◌∷◌, None, ap, arith, drop, get_or, length, map, sym}
 use Rattle.std.proofs.lemmas.List.{drop_more, length-map}
 use Rattle.build_faults.proofs.FaultLemmas.{both_noted}
-use Rattle.build_faults.specs.Faults.{least_of, told}
+use Rattle.build_faults.specs.Faults.{least_of}
 use Rattle.build_expressions.specs.Misused.{fault_of_place, misplaced}
 use Rattle.build_expressions.specs.Resolved.{argument_of}
 use Rattle.build_expressions.specs.Typing.{are_taken}
@@ -27,7 +27,7 @@ loop-index-preserved c =
     let arguments_are = ap (map argument_of) (drop_more arguments i argument c.loop-index-test.true
     ∙ ap (λ x. x ∷ drop (i + 1) arguments) (sym c.index-arguments-index.is)) in
     let here = argument_of argument in
-    let old = told c.loop-index.faults in
+    let old = c.loop-index.faults in
     record {
       taken =
           are_taken-more _ c.loop-index.all c.place-is_taken.result place places_left here arguments_left

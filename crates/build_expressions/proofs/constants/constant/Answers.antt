@@ -1,6 +1,6 @@
 use Rattle.std.proofs.Common.{◌∙◌, ap, option_map}
 use Rattle.build_faults.proofs.FaultLemmas.{both_noted}
-use Rattle.build_faults.specs.Faults.{least_of, told}
+use Rattle.build_faults.specs.Faults.{least_of}
 use Rattle.build_expressions.specs.Constants.{counted_faults}
 use Rattle.build_expressions.specs.Misused.{expression_faults, fault_of_place, place_faults}
 use Rattle.build_expressions.specs.Resolved.{typed_of}
@@ -18,8 +18,8 @@ returns-clause-noted c =
     let sort = c.args.sort in
     let word = first_word value in
     let typed = typed_in Constant scope value in
-    let begun = told c.resolve_in.new.faults in
-    let placed = told c.taken-taken.new.faults in
+    let begun = c.resolve_in.new.faults in
+    let placed = c.taken-taken.new.faults in
     let misfit = fault_of_place sort word typed in
     let last = counted_faults sort word (taken_in sort typed) in
     c.counted.ensures.noted
@@ -32,5 +32,5 @@ returns-clause-noted c =
     c.first_token-token.ensures
     ∙ ap (λ value. least_of begun (fault_of_place sort word value)) c.in_ok-typed.ensures.typed
     ∙ ap (λ before. least_of before misfit) c.in_ok-typed.ensures.noted
-    ∙ both_noted (told c.args.faults.now) (expression_faults Constant scope value) misfit)
-    ∙ both_noted (told c.args.faults.now) (place_faults Constant scope sort value) last
+    ∙ both_noted c.args.faults.now (expression_faults Constant scope value) misfit)
+    ∙ both_noted c.args.faults.now (place_faults Constant scope sort value) last

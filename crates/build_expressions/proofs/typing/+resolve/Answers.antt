@@ -2,7 +2,7 @@ use Rattle.std.proofs.Common.{◌≡◌, ◌∙◌, ◌+◌, ◌++◌, ◌∷◌
 use Rattle.std.proofs.lemmas.List.{at_drop_more, drop_all}
 use Rattle.std.proofs.lemmas.Result.{IfOk-weaker, on_ok_weaker}
 use Rattle.build_faults.proofs.FaultLemmas.{both_noted}
-use Rattle.build_faults.specs.Faults.{least_of, told}
+use Rattle.build_faults.specs.Faults.{least_of}
 use Rattle.build_expressions.specs.Misused.{active_faults, binary_faults, expression_faults, links_faults, timer_faults, values_faults}
 use Rattle.build_expressions.specs.Resolved.{left_of}
 use Rattle.build_expressions.specs.Scope.{scope_of, signal_in}
@@ -40,10 +40,10 @@ resolve_chain-returns-clause-noted t c =
     let links = c.deref-link-items.result.now in
     let left = option_map left_of c.loop-link.left in
     let first = expr_value (out-Chain c.args.chain.now).first in
-    let old = told c.args.faults.now in
-    let begun = told c.resolve_in.new.faults in
+    let old = c.args.faults.now in
+    let begun = c.resolve_in.new.faults in
     on_ok c.finish.result
-    (ap (λ list. least_of (told c.loop-link.faults) (links_faults context scope left (links_of (map link_value list))))
+    (ap (λ list. least_of c.loop-link.faults (links_faults context scope left (links_of (map link_value list))))
     (sym (drop_all c.loop-link.link-index links c.loop-link-test.false))
     ∙ c.loop-link.invariant.noted
     ∙ ap (λ typed. least_of begun (links_faults context scope typed (links_of (map link_value links))))
@@ -76,23 +76,23 @@ resolve_in-returns-in_ok-arguments-in-Active-clause-noted t c =
     let a = c.in-Active in
     let context = c.args.context in
     let scope = scope_of c.args.scope.now in
-    let old = told c.args.faults.now in
+    let old = c.args.faults.now in
     let name = name_value a.timer in
     let values = exprs_of (map expr_value a.values.items) in
     let word = active_faults context a.word in
     let timers = timer_faults name (signal_in scope name.text) (arguments_in context scope values) in
     rw a.is (on_ok_weaker c.resolve_timer.result (λ is.
     is
-    ∙ ap (λ arguments. least_of (told c.resolve_each.new.faults)
+    ∙ ap (λ arguments. least_of c.resolve_each.new.faults
     (timer_faults name (signal_in scope name.text) arguments))
     (c.in_ok-arguments-in-Active.ensures.arguments
     ∙ ap (λ list. map (argument_in context scope) (map expr_value list)) c.deref.ensures.value
     ∙ sym (arguments_in-list context scope (map expr_value a.values.items)))
     ∙ ap (λ before. least_of before timers)
     (c.in_ok-arguments-in-Active.ensures.noted
-    ∙ ap (λ list. least_of (told c.note_active.new.faults) (flat_map (expression_faults context scope) (map expr_value list)))
+    ∙ ap (λ list. least_of c.note_active.new.faults (flat_map (expression_faults context scope) (map expr_value list)))
     c.deref.ensures.value
-    ∙ ap (least_of (told c.note_active.new.faults)) (sym (values_faults-list context scope (map expr_value a.values.items)))
+    ∙ ap (least_of c.note_active.new.faults) (sym (values_faults-list context scope (map expr_value a.values.items)))
     ∙ ap (λ before. least_of before (values_faults context scope values)) c.note_active.ensures)
     ∙ both_noted (least_of old word) (values_faults context scope values) timers
     ∙ both_noted old word (values_faults context scope values ++ timers)
@@ -107,7 +107,7 @@ resolve_chain-loop-link-preserved t c =
     let i = c.loop-link.link-index in
     let link = c.link-item.result in
     let left = option_map left_of c.loop-link.left in
-    let old = told c.loop-link.faults in
+    let old = c.loop-link.faults in
     let operand = expr_value link.operand in
     let joined = binary_typed link.operator left (typed_in context scope operand) in
     let rest = links_of (map link_value (drop (i + 1) links)) in
@@ -127,7 +127,7 @@ resolve_chain-loop-link-preserved t c =
           ∙ sym typed_more
           ∙ c.loop-link.invariant.typed;
       noted =
-          ap (λ first. least_of (told c.resolve_link.new.faults) (links_faults context scope first rest))
+          ap (λ first. least_of c.resolve_link.new.faults (links_faults context scope first rest))
           c.in_ok-left.ensures.typed
           ∙ ap (λ before. least_of before (links_faults context scope joined rest)) c.in_ok-left.ensures.noted
           ∙ both_noted old here (links_faults context scope joined rest)

@@ -1,5 +1,5 @@
 use Rattle.std.proofs.Common.{◌≡◌, drop, flat_map, map, option_map, take}
-use Rattle.build_faults.specs.Faults.{least_of, told}
+use Rattle.build_faults.specs.Faults.{Notes, least_of}
 use Rattle.build_expressions.specs.Misused.{expression_faults, links_faults}
 use Rattle.build_expressions.specs.Resolved.{argument_of, left_of}
 use Rattle.build_expressions.specs.Scope.{scope_of}
@@ -14,9 +14,9 @@ invariant-resolve_chain-loop-link l = record {
       (links_of (map link_value (drop l.link-index l.link-items)))
       ≡ chain_typed l.context (scope_of l.scope) (option_map left_of l.initial.left)
       (links_of (map link_value l.link-items));
-  noted : least_of (told l.faults) (links_faults l.context (scope_of l.scope) (option_map left_of l.left)
+  noted : least_of l.faults (links_faults l.context (scope_of l.scope) (option_map left_of l.left)
       (links_of (map link_value (drop l.link-index l.link-items))))
-      ≡ least_of (told l.initial.faults) (links_faults l.context (scope_of l.scope) (option_map left_of l.initial.left)
+      ≡ least_of l.initial.faults (links_faults l.context (scope_of l.scope) (option_map left_of l.initial.left)
       (links_of (map link_value l.link-items)));
 }
 
@@ -24,6 +24,6 @@ abbrev pub invariant-resolve_each-loop-value : goal.invariant-resolve_each-loop-
 invariant-resolve_each-loop-value l = record {
   arguments : map argument_of l.arguments.items
       ≡ map (argument_in l.context (scope_of l.scope)) (map expr_value (take l.value-index l.values));
-  noted : told l.faults ≡ least_of (told l.initial.faults)
+  noted : Notes l.initial.faults l.faults
       (flat_map (expression_faults l.context (scope_of l.scope)) (map expr_value (take l.value-index l.values)));
 }

@@ -1,10 +1,9 @@
 use Rattle.std.proofs.Common.{◌≡◌, ◌∙◌, ◌++◌, [], ◌∷◌, false, true, is_some, ap, sym}
 use Rattle.std.proofs.lemmas.List.{map-append}
 use Rattle.build_labels.specs.Labels.{names_listed}
-use Rattle.build_limits.proofs.StateLemmas.{with_new-known, with_new-unknown}
-use Rattle.build_limits.specs.Limits.{with_new}
-use Rattle.build_limits.specs.Listed.{entry_word}
-use Rattle.build_limits.specs.Names.{first_of}
+use Rattle.build_labels.proofs.StateLemmas.{with_new-known, with_new-unknown}
+use Rattle.build_labels.specs.States.{entry_word, with_new}
+use Rattle.build_scopes.specs.Names.{first_of}
 use Rattle.sdl_tree.specs.Views.{name_value}
 use Rattle.build_labels.proofs.states.add_state.Goals as goal
 

@@ -1,7 +1,6 @@
 use Rattle.std.proofs.Common.{◌≡◌, fold, take}
 use Rattle.build_labels.specs.Labels.{names_listed}
-use Rattle.build_limits.specs.Limits.{with_new}
-use Rattle.build_limits.specs.Listed.{words_listed}
+use Rattle.build_labels.specs.States.{with_new, words_listed}
 use Rattle.sdl_tree.specs.Views.{names_value}
 use Rattle.build_labels.proofs.states.add_states.Given as goal
 

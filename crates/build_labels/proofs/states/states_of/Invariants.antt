@@ -1,7 +1,6 @@
 use Rattle.std.proofs.Common.{◌≡◌, flat_map, map, take}
 use Rattle.build_labels.specs.Labels.{names_listed}
-use Rattle.build_limits.specs.Limits.{different, part_states}
-use Rattle.build_limits.specs.Listed.{words_listed}
+use Rattle.build_labels.specs.States.{different, part_states, words_listed}
 use Rattle.sdl_tree.specs.Views.{body_part_value}
 use Rattle.build_labels.proofs.states.states_of.Given as goal
 

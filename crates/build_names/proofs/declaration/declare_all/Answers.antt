@@ -2,7 +2,7 @@ use Rattle.std.proofs.Common.{◌≡◌, ◌∙◌, ◌+◌, ◌++◌, [], ◌�
 use Rattle.std.proofs.lemmas.List.{drop_more, map-append, take_more}
 use Rattle.build_names.proofs.EntryLemmas.{entries_in-more, noted-more}
 use Rattle.build_names.specs.Entries.{duplicates_behind, entries_in, entries_of, entry_in, entry_of, standings}
-use Rattle.build_faults.specs.Faults.{least_of, told}
+use Rattle.build_faults.specs.Faults.{least_of}
 use Rattle.build_scopes.specs.Spaces.{names_of}
 use Rattle.build_names.proofs.declaration.declare_all.Goals as goal
 
@@ -14,8 +14,8 @@ loop-declaration-preserved g c =
     let within = c.loop-declaration-test.true in
     let before = entries_of (take i all) in
     let after = standings (entries_of (drop (i + 1) all)) in
-    let old = told c.loop-declaration.faults in
-    let new = told c.declare.new.faults in
+    let old = c.loop-declaration.faults in
+    let new = c.declare.new.faults in
     let taken : entries_of (take (i + 1) all) ≡ before ++ entry_of x ∷ [] =
     ap entries_of (take_more all i x within ∙ ap (λ y. take i all ++ y ∷ []) (sym c.declaration-item.is))
     ∙ map-append entry_of (take i all) (x ∷ []) in
@@ -23,7 +23,7 @@ loop-declaration-preserved g c =
     drop_more all i x within ∙ ap (λ y. y ∷ drop (i + 1) all) (sym c.declaration-item.is) in
     record {
       spaces = λ place.
-          c.in_ok-declare.ensures.declared place
+          c.in_ok-declare.ensures.symbols place
           ∙ ap (λ names. names ++ entry_in place (entry_of x)) (c.loop-declaration.invariant.spaces place)
           ∙ sym (entries_in-more place before (entry_of x))
           ∙ ap (entries_in place) (sym taken);

@@ -1,13 +1,12 @@
-use Rattle.build_definitions.specs.Tables.{rows_of}
+use Rattle.build_definitions.specs.Definitions.{rows_of}
 use Rattle.build_names.proofs.EntryLemmas.{noted-then}
 use Rattle.build_names.specs.Entries.{duplicates, standings}
 use Rattle.build_names.specs.Meanings.{agent_entries, channel_entries}
-use Rattle.build_faults.specs.Faults.{told}
 use Rattle.build_names.proofs.groups.agent_names.Goals as goal
 
 pub returns-clause-noted : goal.returns-clause-noted
 returns-clause-noted c =
-    let rows = rows_of c.args.tables.now in
-    noted-then (told c.args.faults.now) (told c.declare_channels.new.faults) (told c.declare_agents.new.faults)
+    let rows = rows_of c.args.definitions.now in
+    noted-then c.args.faults.now c.declare_channels.new.faults c.declare_agents.new.faults
     (duplicates (standings (channel_entries rows))) (duplicates (standings (agent_entries rows)))
     c.in_ok-channels.ensures.noted c.in_ok-agents.ensures.noted

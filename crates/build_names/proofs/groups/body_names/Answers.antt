@@ -1,13 +1,12 @@
-use Rattle.build_definitions.specs.Tables.{rows_of}
+use Rattle.build_definitions.specs.Definitions.{rows_of}
 use Rattle.build_names.proofs.EntryLemmas.{noted-then}
 use Rattle.build_names.specs.Entries.{duplicates, standings}
 use Rattle.build_names.specs.Meanings.{label_entries, value_entries}
-use Rattle.build_faults.specs.Faults.{told}
 use Rattle.build_names.proofs.groups.body_names.Goals as goal
 
 pub returns-clause-noted : goal.returns-clause-noted
 returns-clause-noted c =
-    let rows = rows_of c.args.tables.now in
-    noted-then (told c.args.faults.now) (told c.declare_values.new.faults) (told c.declare_labels.new.faults)
+    let rows = rows_of c.args.definitions.now in
+    noted-then c.args.faults.now c.declare_values.new.faults c.declare_labels.new.faults
     (duplicates (standings (value_entries rows))) (duplicates (standings (label_entries rows)))
     c.in_ok-values.ensures.noted c.in_ok-labels.ensures.noted

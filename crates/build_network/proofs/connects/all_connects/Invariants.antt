@@ -5,4 +5,5 @@ use Rattle.build_network.proofs.connects.all_connects.Given as goal
 
 abbrev pub invariant-loop-entry : goal.invariant-loop-entry
 invariant-loop-entry l =
-    map connect_value l.connects.items ≡ flat_map (connects_of l.declared l.numbers) (map connection_seen (take l.entry-index l.entries))
+    map connect_value l.connects.items ≡ flat_map (connects_of l.symbols l.numbers)
+    (map connection_seen (take l.entry-index l.entries))

@@ -1,11 +1,11 @@
-use Rattle.std.proofs.Common.{◌≡◌, flat_map, take}
+use Rattle.std.proofs.Common.{flat_map, take}
 use Rattle.build_network.specs.Connects.{channel_faults}
-use Rattle.build_faults.specs.Faults.{least_of, told}
+use Rattle.build_faults.specs.Faults.{Notes}
 use Rattle.build_scopes.specs.Spaces.{names_of}
 use Rattle.sdl_tree.specs.Views.{names_value}
 use Rattle.build_network.proofs.connects.note_channels.Given as goal
 
 abbrev pub invariant-loop-name : goal.invariant-loop-name
 invariant-loop-name l =
-    told l.faults ≡ least_of (told l.initial.faults)
+    Notes l.initial.faults l.faults
     (flat_map (channel_faults (names_of l.channels l.scope)) (names_value (take l.name-index l.names)))

@@ -1,9 +1,10 @@
-use Rattle.std.proofs.Common.{◌≡◌, flat_map, map, take}
+use Rattle.std.proofs.Common.{flat_map, map, take}
 use Rattle.build_definitions.specs.Seen.{connection_seen}
 use Rattle.build_network.specs.Connects.{connect_faults}
-use Rattle.build_faults.specs.Faults.{least_of, told}
+use Rattle.build_faults.specs.Faults.{Notes}
 use Rattle.build_network.proofs.connects.note_connects.Given as goal
 
 abbrev pub invariant-loop-entry : goal.invariant-loop-entry
 invariant-loop-entry l =
-    told l.faults ≡ least_of (told l.initial.faults) (flat_map (connect_faults l.declared) (map connection_seen (take l.entry-index l.entries)))
+    Notes l.initial.faults l.faults
+    (flat_map (connect_faults l.symbols) (map connection_seen (take l.entry-index l.entries)))

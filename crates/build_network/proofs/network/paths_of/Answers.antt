@@ -12,7 +12,7 @@ returns-clause-paths c =
     let placed : map placed_value entries ≡ flat_map channel_paths (map channel_seen c.args.channels.now) =
     ap (map placed_value) c.deref.ensures.value ∙ c.in_ok-paths.ensures.entries in
     IfOk-weaker c.add_paths.result _ _
-    (λ paths is. is ∙ ap (paths_from c.args.declared.now c.args.blocks.now (length c.args.lists.now.items)) placed)
+    (λ paths is. is ∙ ap (paths_from c.args.symbols.now c.args.blocks.now (length c.args.lists.now.items)) placed)
     c.add_paths.ensures.paths
 
 pub returns-clause-lists : goal.returns-clause-lists
@@ -22,7 +22,7 @@ returns-clause-lists c =
     let placed : map placed_value entries ≡ flat_map channel_paths (map channel_seen c.args.channels.now) =
     ap (map placed_value) c.deref.ensures.value ∙ c.in_ok-paths.ensures.entries in
     on_ok_weaker c.add_paths.result
-    (λ is. is ∙ ap (λ paths. lists ++ map (carried c.args.declared.now c.args.blocks.now) paths) placed)
+    (λ is. is ∙ ap (λ paths. lists ++ map (carried c.args.symbols.now c.args.blocks.now) paths) placed)
     c.add_paths.ensures.lists
 
 pub returns-clause-count : goal.returns-clause-count
@@ -31,5 +31,6 @@ returns-clause-count c =
     let placed : map placed_value entries ≡ flat_map channel_paths (map channel_seen c.args.channels.now) =
     ap (map placed_value) c.deref.ensures.value ∙ c.in_ok-paths.ensures.entries in
     on_ok_weaker c.add_paths.result
-    (λ is. is ∙ ap (λ count. length c.args.lists.now.items + count) (sym (length-map entries placed_value) ∙ ap length placed))
+    (λ is. is ∙ ap (λ count. length c.args.lists.now.items + count)
+    (sym (length-map entries placed_value) ∙ ap length placed))
     c.add_paths.ensures.count

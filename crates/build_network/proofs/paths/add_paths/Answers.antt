@@ -7,7 +7,7 @@ use Rattle.build_network.proofs.paths.add_paths.Goals as goal
 
 pub loop-entry-preserved : goal.loop-entry-preserved
 loop-entry-preserved c =
-    let declared = c.args.declared.now in
+    let symbols = c.args.symbols.now in
     let blocks = c.args.blocks.now in
     let entries = c.args.entries.now in
     let i = c.loop-entry.entry-index in
@@ -20,16 +20,17 @@ loop-entry-preserved c =
       paths =
           c.in_ok-push.ensures.items
           ∙ ap (λ path. c.loop-entry.paths.items ++ path ∷ []) c.in_ok-path.ensures.path
-          ∙ ap (λ n. c.loop-entry.paths.items ++ path_of declared blocks n placed ∷ []) c.loop-entry.invariant.count
-          ∙ ap (λ list. list ++ path_of declared blocks (first + i) placed ∷ []) c.loop-entry.invariant.paths
+          ∙ ap (λ n. c.loop-entry.paths.items ++ path_of symbols blocks n placed ∷ []) c.loop-entry.invariant.count
+          ∙ ap (λ list. list ++ path_of symbols blocks (first + i) placed ∷ []) c.loop-entry.invariant.paths
           ∙ sym (numbered-map-step entries i entry c.loop-entry-test.true c.entry-item.is placed_value
-          (path_of declared blocks) first (first + i) (omega arith));
+          (path_of symbols blocks) first (first + i) (omega arith));
       lists =
           c.in_ok-path.ensures.lists
-          ∙ ap (λ list. list ++ carried declared blocks placed ∷ []) c.loop-entry.invariant.lists
-          ∙ append_assoc lists (map (carried declared blocks) before) (carried declared blocks placed ∷ [])
+          ∙ ap (λ list. list ++ carried symbols blocks placed ∷ []) c.loop-entry.invariant.lists
+          ∙ append_assoc lists (map (carried symbols blocks) before) (carried symbols blocks placed ∷ [])
           ∙ ap (λ list. lists ++ list)
-          (sym (ap (map (carried declared blocks)) (mapped-step entries i entry c.loop-entry-test.true c.entry-item.is placed_value)
-          ∙ map-append (carried declared blocks) before (placed ∷ [])));
+          (sym (ap (map (carried symbols blocks)) (mapped-step entries i entry c.loop-entry-test.true c.entry-item.is
+          placed_value)
+          ∙ map-append (carried symbols blocks) before (placed ∷ [])));
       count = omega (arith, c.in_ok-path.ensures.count, c.loop-entry.invariant.count);
     }

@@ -1,9 +1,9 @@
-use Rattle.std.proofs.Common.{◌≡◌, flat_map, map, take}
+use Rattle.std.proofs.Common.{flat_map, map, take}
 use Rattle.build_network.specs.Paths.{path_faults, placed_value}
-use Rattle.build_faults.specs.Faults.{least_of, told}
+use Rattle.build_faults.specs.Faults.{Notes}
 use Rattle.build_network.proofs.paths.note_paths.Given as goal
 
 abbrev pub invariant-loop-entry : goal.invariant-loop-entry
 invariant-loop-entry l =
-    told l.faults ≡ least_of (told l.initial.faults)
-    (flat_map (path_faults l.declared l.blocks) (map placed_value (take l.entry-index l.entries)))
+    Notes l.initial.faults l.faults
+    (flat_map (path_faults l.symbols l.blocks) (map placed_value (take l.entry-index l.entries)))

@@ -11,6 +11,6 @@ returns-clause-lists c =
     let lists = map list_items c.args.lists.now.items in
     on_ok_weaker c.add_lists.result
     (λ is. is ∙ ap (λ seen. lists ++ two_lists seen process) (c.seen_at-seen.ensures
-    ∙ ap (seen_at c.args.declared.now) (c.path_within.ensures
+    ∙ ap (seen_at c.args.symbols.now) (c.path_within.ensures
     ∙ ap (λ n. path_within (record { 0 = n }) c.args.entry.now.scope) c.in_ok-number.ensures.same)))
     c.add_lists.ensures.lists

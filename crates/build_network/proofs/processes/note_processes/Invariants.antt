@@ -1,9 +1,10 @@
-use Rattle.std.proofs.Common.{◌≡◌, map, take}
+use Rattle.std.proofs.Common.{map, take}
 use Rattle.build_definitions.specs.Seen.{process_seen}
 use Rattle.build_network.specs.Processes.{processes_faults}
-use Rattle.build_faults.specs.Faults.{least_of, told}
+use Rattle.build_faults.specs.Faults.{Notes}
 use Rattle.build_network.proofs.processes.note_processes.Given as goal
 
 abbrev pub invariant-loop-index : goal.invariant-loop-index
 invariant-loop-index l =
-    told l.faults ≡ least_of (told l.initial.faults) (processes_faults l.declared (map process_seen (take l.index l.entries)))
+    Notes l.initial.faults l.faults
+    (processes_faults l.symbols (map process_seen (take l.index l.entries)))

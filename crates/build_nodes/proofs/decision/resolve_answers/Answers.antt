@@ -1,5 +1,4 @@
 use Rattle.build_statements.specs.Contexts.{context_of}
-use Rattle.build_faults.specs.Faults.{told}
 use Rattle.build_expressions.specs.Answers.{answer_faults, answer_in}
 use Rattle.sdl_tree.specs.Views.{answer_value}
 use Rattle.build_statements.proofs.StepLemmas.{added-next, noted-next}
@@ -19,6 +18,6 @@ loop-answer-preserved c =
           c.in_ok-push.ensures.items;
       noted =
           noted-next answer_value list i one c.loop-answer-test.true c.answer-item.is
-          (answer_faults scope c.args.question) (told c.args.faults.now) (told c.loop-answer.faults)
-          (told c.resolve_answer.new.faults) c.loop-answer.invariant.noted c.in_ok-resolve_answer.ensures.noted;
+          (answer_faults scope c.args.question) c.args.faults.now c.loop-answer.faults
+          c.resolve_answer.new.faults c.loop-answer.invariant.noted c.in_ok-resolve_answer.ensures.noted;
     }

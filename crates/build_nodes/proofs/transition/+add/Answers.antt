@@ -14,7 +14,7 @@ use Rattle.build_statements.proofs.ListLemmas.{flat_map-last, if_on}
 use Rattle.build_nodes.proofs.TransitionLemmas.{decision-built, pieces-more, placed-built, step-built}
 use Rattle.build_nodes.proofs.TreeLemmas.{part_faults-list, pieces-list, transition-tree}
 use Rattle.build_faults.proofs.FaultLemmas.{both_noted}
-use Rattle.build_faults.specs.Faults.{least_of, told}
+use Rattle.build_faults.specs.Faults.{least_of}
 use Rattle.build_expressions.proofs.ArgumentLemmas.{all_some-last}
 use Rattle.build_expressions.specs.Partial.{all_some, and_last}
 use Rattle.build_expressions.specs.Typing.{term_in}
@@ -43,7 +43,7 @@ pub add-returns-clause-noted : goal.add-returns-clause-noted
 add-returns-clause-noted t c =
     let context = context_of c.args.context.now in
     let steps = out-Transition c.args.transition.now in
-    let old = told c.args.faults.now in
+    let old = c.args.faults.now in
     let end = ending_faults context (option_map ending_value steps.terminator) in
     on_ok_weaker c.add_steps.result (λ is.
     is
@@ -78,7 +78,7 @@ add_steps-loop-left-preserved t c =
     ∙ ap (λ n. step ∷ drop n steps) next in
     let here = action_faults context (action_value step.action) in
     let rest = steps_faults context (actions_of (map statement_value (drop left steps))) in
-    let told_here = told c.add_step.new.faults in
+    let told_here = c.add_step.new.faults in
     record {
       bound = omega (arith, c.loop-left.invariant.bound);
       built =
@@ -103,7 +103,7 @@ pub add_steps-returns-clause-noted : goal.add_steps-returns-clause-noted
 add_steps-returns-clause-noted t c =
     let context = context_of c.args.context.now in
     let steps = c.args.steps.now in
-    let old = told c.args.faults.now in
+    let old = c.args.faults.now in
     let end_faults = ending_faults context (option_map ending_value c.args.ending.now) in
     let none : c.loop-left.left ≡ 0 = omega (arith, c.loop-left-test.false) in
     c.note_later-2.ensures
@@ -122,7 +122,7 @@ add_parts-loop-part-preserved t c =
     let before = map answer_part_value (take i parts) in
     let pieces = piece_in context c.args.question in
     let faults = part_faults context c.args.question in
-    let old = told c.args.faults.now in
+    let old = c.args.faults.now in
     let listed : map answer_part_value (take (i + 1) parts) ≡ before ++ here ∷ [] =
     ap (map answer_part_value) ((take_at_read parts i part c.loop-part-test.true).1
     ∙ ap (λ x. take i parts ++ x ∷ []) (sym c.part-item.is))
@@ -184,11 +184,11 @@ add_head-returns-in_ok-other-in-Decision-clause-noted t c =
     c.kind_of-kind.ensures ∙ ap kind_in c.in_ok-asked-in-Decision.ensures.typed in
     let list = c.deref-in-Decision.result.now in
     let parts = map answer_part_value d.parts.items in
-    let old = told c.args.faults.now in
+    let old = c.args.faults.now in
     let asked = asked_faults context (expr_value d.question) in
     let inner = flat_map (part_faults context (kind_in typed)) parts in
     let last = other_faults context (else_of (option_map transition_value d.otherwise)) in
-    let begun = told c.resolve.new.faults in
+    let begun = c.resolve.new.faults in
     rw d.is (c.in_ok-other-in-Decision.ensures.noted
     ∙ ap (λ o. least_of o last) (c.in_ok-branches-in-Decision.ensures.noted
     ∙ ap (λ k. least_of begun (flat_map (part_faults context k) (map answer_part_value list))) kind_is

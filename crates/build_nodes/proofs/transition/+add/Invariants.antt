@@ -3,7 +3,7 @@ use Rattle.build_nodes.specs.Built.{BuiltIf, table_of}
 use Rattle.build_statements.specs.Contexts.{context_of}
 use Rattle.build_nodes.specs.Decided.{BuiltPiecesIf}
 use Rattle.build_nodes.specs.Transitions.{ending_faults, ending_in, part_faults, piece_in, steps_faults, steps_in}
-use Rattle.build_faults.specs.Faults.{least_of, told}
+use Rattle.build_faults.specs.Faults.{Notes, least_of}
 use Rattle.build_expressions.specs.Partial.{all_some}
 use Rattle.sdl_tree.specs.Tree.{actions_of}
 use Rattle.sdl_tree.specs.Views.{answer_part_value, ending_value, statement_value}
@@ -15,7 +15,7 @@ invariant-add_steps-loop-left l = record {
   built : BuiltIf (table_of l.fn.table) (table_of l.table) l.place
       (steps_in (context_of l.context) (actions_of (map statement_value (drop l.left l.steps)))
       (ending_in (context_of l.context) (option_map ending_value l.ending))) l.fn.next;
-  noted : told l.later ≡ least_of None
+  noted : l.later ≡ least_of None
       (steps_faults (context_of l.context) (actions_of (map statement_value (drop l.left l.steps)))
       ++ ending_faults (context_of l.context) (option_map ending_value l.ending));
 }
@@ -25,7 +25,7 @@ invariant-add_parts-loop-part l = record {
   built : BuiltPiecesIf (table_of l.initial.table) (table_of l.table) (option_map (λ list. list.items) l.found)
       (all_some (map (piece_in (context_of l.context) l.question)
       (map answer_part_value (take l.part-index l.parts)))) l.fn.next;
-  noted : told l.faults ≡ least_of (told l.initial.faults)
+  noted : Notes l.initial.faults l.faults
       (flat_map (part_faults (context_of l.context) l.question) (map answer_part_value (take l.part-index l.parts)));
 }
 

@@ -4,7 +4,6 @@ use Rattle.build_transitions.specs.Added.{HasEach}
 use Rattle.flow_paths.specs.Beginnings.{beginnings}
 use Rattle.build_states.specs.Shared.{IsOfName}
 use Rattle.build_transitions.specs.Sound.{AreTransitionsOf}
-use Rattle.build_faults.specs.Faults.{told}
 use Rattle.build_states.specs.States.{state_of, tables_of}
 use Rattle.build_states.specs.Tabled.{is_state, meanings_at, names_listed, table_value}
 use Rattle.build_states.proofs.ProcessLemmas.{meanings-read}
@@ -12,7 +11,7 @@ use Rattle.build_stimuli.specs.Listed.{part_value}
 use Rattle.build_stimuli.specs.Reading.{process_read}
 use Rattle.sdl_tree.specs.Views.{process_value}
 use Rattle.build_process.specs.Made.{Said}
-use Rattle.build_process.specs.Surroundings.{for_stimuli, for_transitions, surroundings_of}
+use Rattle.build_process.specs.ProcessScope.{for_stimuli, for_transitions, process_scope_of}
 use Rattle.build_process.proofs.FaultLemmas.{body-noted, on-ok, states-noted}
 use Rattle.build_process.proofs.KeepsLemmas.{made-keeps, named-enabling}
 use Rattle.build_process.proofs.MeaningLemmas.{made-means}
@@ -21,38 +20,38 @@ use Rattle.build_process.proofs.process.make_process.Goals as goal
 
 pub returns-in_default-clause-noted : goal.returns-in_default-clause-noted
 returns-in_default-clause-noted c =
-    let around = surroundings_of c.args.around.now in
+    let around = process_scope_of c.args.around.now in
     let process = process_value c.args.definition.now in
     let context = for_stimuli around in
-    let old = told c.args.faults.now in
-    let second = told c.read_states.new.faults in
+    let old = c.args.faults.now in
+    let second = c.read_states.new.faults in
     let are : map part_value c.deref.result.now ≡ (process_read context process).parts =
     ap (map part_value) c.deref.ensures.value
     ∙ ap (λ reading. reading.parts) c.in_ok-numbering.ensures.read in
-    body-noted around process old second (told c.read_flow.new.faults)
+    body-noted around process old second c.read_flow.new.faults
     (states-noted context process (is_state c.args.around.now.states.table.now) (map part_value c.deref.result.now)
-    (names_listed c.args.around.now.states.names.now) old (told c.read_parts.new.faults) second c.requires.table are
+    (names_listed c.args.around.now.states.names.now) old c.read_parts.new.faults second c.requires.table are
     c.requires.names c.in_ok-numbering.ensures.noted c.in_ok-said.ensures.noted) c.in_ok-transitions.ensures.noted
 
 pub returns-clause-noted : goal.returns-clause-noted
 returns-clause-noted c =
-    let around = surroundings_of c.args.around.now in
+    let around = process_scope_of c.args.around.now in
     let process = process_value c.args.definition.now in
     let context = for_stimuli around in
-    let old = told c.args.faults.now in
-    let second = told c.read_states.new.faults in
+    let old = c.args.faults.now in
+    let second = c.read_states.new.faults in
     let are : map part_value c.deref.result.now ≡ (process_read context process).parts =
     ap (map part_value) c.deref.ensures.value
     ∙ ap (λ reading. reading.parts) c.in_ok-numbering.ensures.read in
     on-ok c.process_of.result
-    (body-noted around process old second (told c.read_flow.new.faults)
+    (body-noted around process old second c.read_flow.new.faults
     (states-noted context process (is_state c.args.around.now.states.table.now) (map part_value c.deref.result.now)
-    (names_listed c.args.around.now.states.names.now) old (told c.read_parts.new.faults) second c.requires.table are
+    (names_listed c.args.around.now.states.names.now) old c.read_parts.new.faults second c.requires.table are
     c.requires.names c.in_ok-numbering.ensures.noted c.in_ok-said.ensures.noted) c.in_ok-transitions.ensures.noted)
 
 pub returns-clause-means : goal.returns-clause-means
 returns-clause-means c =
-    let around = surroundings_of c.args.around.now in
+    let around = process_scope_of c.args.around.now in
     let process = process_value c.args.definition.now in
     let context = for_stimuli around in
     let parts = (process_read context process).parts in
@@ -77,13 +76,13 @@ returns-clause-means c =
 
 pub returns-in_default-clause-there : goal.returns-in_default-clause-there
 returns-in_default-clause-there c =
-    let around = surroundings_of c.args.around.now in
+    let around = process_scope_of c.args.around.now in
     no-flow around (process_value c.args.definition.now) c.in_ok-transitions.field-0 c.in_default.is
     c.in_ok-transitions.ensures.table
 
 pub returns-clause-there : goal.returns-clause-there
 returns-clause-there c =
-    let around = surroundings_of c.args.around.now in
+    let around = process_scope_of c.args.around.now in
     let process = process_value c.args.definition.now in
     let parts = (process_read (for_stimuli around) process).parts in
     let said : Said = record {
@@ -102,7 +101,7 @@ returns-clause-there c =
 
 pub returns-clause-keeps : goal.returns-clause-keeps
 returns-clause-keeps c =
-    let around = surroundings_of c.args.around.now in
+    let around = process_scope_of c.args.around.now in
     let process = process_value c.args.definition.now in
     let context = for_stimuli around in
     let said : Said = record {

@@ -11,7 +11,7 @@ loop-number-preserved c =
       len = c.in_ok-push.ensures.len ∙ ap (λ n. n + 1) c.loop-number.invariant.len;
       each = rw c.in_ok-push.ensures.items
           (each-more classes.items c.choice_by-choice.result.class Discard c.loop-number.number
-          (λ k. (choice_by c.args.basis.valid.now c.args.reactions.now (option_copied c.args.rest)
+          (λ k. (choice_by c.args.parts.valid.now c.args.reactions.now (option_copied c.args.rest)
           (record { 0 = k })).class)
           (sym classes.ok.0 ∙ c.loop-number.invariant.len) c.loop-number.invariant.each
           (ap (λ choice. choice.class) c.choice_by-choice.ensures));

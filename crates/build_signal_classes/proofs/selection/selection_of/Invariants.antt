@@ -7,5 +7,5 @@ abbrev pub invariant-loop-number : goal.invariant-loop-number
 invariant-loop-number l = record {
   len : vec_len l.classes ≡ l.number;
   each : (k : ℕ) → k < l.number → get_or l.classes.items k Discard
-      ≡ (choice_by l.basis.valid.now l.reactions (option_copied l.rest) (record { 0 = k })).class;
+      ≡ (choice_by l.parts.valid.now l.reactions (option_copied l.rest) (record { 0 = k })).class;
 }

@@ -7,24 +7,24 @@ use Rattle.build_state_tables.proofs.state.make_tables.Goals as goal
 
 pub returns-clause-means : goal.returns-clause-means
 returns-clause-means c =
-    let basis = c.args.basis in
+    let parts = c.args.parts in
     let said = c.args.said.now in
     let names = names_listed c.args.names.now in
-    states-mean basis.entries.now basis.valid.now basis.signals names (map table_value said.tables.items)
+    states-mean parts.entries.now parts.valid.now parts.signals names (map table_value said.tables.items)
     said.of_states.items c.in_ok-states.states.items c.in-Some.tables.items
-    (subst (λ list. TablesOf basis.entries.now basis.valid.now basis.signals (map table_value list)
+    (subst (λ list. TablesOf parts.entries.now parts.valid.now parts.signals (map table_value list)
     (option_map (λ made. made.items) (Some c.in-Some.tables))) c.deref.ensures.value
-    (subst (λ made. TablesOf basis.entries.now basis.valid.now basis.signals (map table_value c.deref.result.now)
+    (subst (λ made. TablesOf parts.entries.now parts.valid.now parts.signals (map table_value c.deref.result.now)
     (option_map (λ made. made.items) made)) c.in-Some.is c.in_ok-tables.ensures))
     (c.in_ok-states.ensures ∙ ap (states_listed names) c.deref-2.ensures.value)
 
 pub returns-clause-agree : goal.returns-clause-agree
 returns-clause-agree c =
-    let basis = c.args.basis in
+    let parts = c.args.parts in
     let said = c.args.said.now in
-    tables-agree basis.entries.now basis.valid.now basis.signals (map table_value said.tables.items)
+    tables-agree parts.entries.now parts.valid.now parts.signals (map table_value said.tables.items)
     c.in-Some.tables.items
-    (subst (λ list. TablesOf basis.entries.now basis.valid.now basis.signals (map table_value list)
+    (subst (λ list. TablesOf parts.entries.now parts.valid.now parts.signals (map table_value list)
     (option_map (λ made. made.items) (Some c.in-Some.tables))) c.deref.ensures.value
-    (subst (λ made. TablesOf basis.entries.now basis.valid.now basis.signals (map table_value c.deref.result.now)
+    (subst (λ made. TablesOf parts.entries.now parts.valid.now parts.signals (map table_value c.deref.result.now)
     (option_map (λ made. made.items) made)) c.in-Some.is c.in_ok-tables.ensures))

@@ -7,12 +7,12 @@ use Rattle.build_state_tables.proofs.state.tables_of.Goals as goal
 
 pub loop-one-preserved : goal.loop-one-preserved
 loop-one-preserved c =
-    let basis = c.args.basis in
+    let parts = c.args.parts in
     let said = table_value c.one-item.result in
     rw (
       c.in_ok-push.ensures.items,
       taken-more table_value c.args.said.now c.loop-one.one-index c.one-item.result c.loop-one-test.true c.one-item.is,
     )
-    (all_zipped_more (IsTable basis.entries.now basis.valid.now basis.signals) _ _ said c.in-Some.table
+    (all_zipped_more (IsTable parts.entries.now parts.valid.now parts.signals) _ _ said c.in-Some.table
     c.loop-one.invariant
-    (subst (TableOf basis.entries.now basis.valid.now basis.signals said) c.in-Some.is c.in_ok-table.ensures))
+    (subst (TableOf parts.entries.now parts.valid.now parts.signals said) c.in-Some.is c.in_ok-table.ensures))

@@ -4,7 +4,6 @@ use Rattle.std.proofs.lemmas.Result.{IfOk-weaker}
 use Rattle.build_statements.specs.Contexts.{context_of}
 use Rattle.build_statements.specs.Faulty.{sending_faults}
 use Rattle.build_statements.specs.Statements.{sending_in}
-use Rattle.build_faults.specs.Faults.{told}
 use Rattle.sdl_system.specs.Table.{sending}
 use Rattle.sdl_tree.specs.Views.{applied_value}
 use Rattle.build_statements.proofs.ListLemmas.{all_made}
@@ -32,6 +31,6 @@ loop-applied-preserved c =
           c.loop-applied.invariant.signals c.in_ok-resolve_signal.ensures.signal c.in_ok-push.ensures.items;
       noted =
           noted-next applied_value list i one c.loop-applied-test.true c.applied-item.is
-          (sending_faults context c.args.has_destination) (told c.args.faults.now) (told c.loop-applied.faults)
-          (told c.resolve_signal.new.faults) c.loop-applied.invariant.noted c.in_ok-resolve_signal.ensures.noted;
+          (sending_faults context c.args.has_destination) c.args.faults.now c.loop-applied.faults
+          c.resolve_signal.new.faults c.loop-applied.invariant.noted c.in_ok-resolve_signal.ensures.noted;
     }

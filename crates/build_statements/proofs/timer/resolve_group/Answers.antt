@@ -2,7 +2,6 @@ use Rattle.std.proofs.Common.{map, option_map}
 use Rattle.build_statements.specs.Contexts.{context_of}
 use Rattle.build_statements.specs.Faulty.{timing_faults}
 use Rattle.build_statements.specs.Statements.{timing_in}
-use Rattle.build_faults.specs.Faults.{told}
 use Rattle.sdl_system.specs.Table.{timing}
 use Rattle.sdl_tree.specs.Views.{applied_value}
 use Rattle.build_statements.proofs.StepLemmas.{noted-next, pushed-behind}
@@ -22,6 +21,6 @@ loop-applied-preserved c =
           c.in_ok-resolve_timer.ensures.timer c.in_ok-push.ensures.items;
       noted =
           noted-next applied_value list i one c.loop-applied-test.true c.applied-item.is (timing_faults context)
-          (told c.args.faults.now) (told c.loop-applied.faults) (told c.resolve_timer.new.faults)
+          c.args.faults.now c.loop-applied.faults c.resolve_timer.new.faults
           c.loop-applied.invariant.noted c.in_ok-resolve_timer.ensures.noted;
     }

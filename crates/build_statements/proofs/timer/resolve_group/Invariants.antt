@@ -2,7 +2,7 @@ use Rattle.std.proofs.Common.{◌≡◌, ◌++◌, flat_map, map, option_map, ta
 use Rattle.build_statements.specs.Contexts.{context_of}
 use Rattle.build_statements.specs.Faulty.{timing_faults}
 use Rattle.build_statements.specs.Statements.{timing_in}
-use Rattle.build_faults.specs.Faults.{least_of, told}
+use Rattle.build_faults.specs.Faults.{Notes}
 use Rattle.sdl_system.specs.Table.{timing}
 use Rattle.sdl_tree.specs.Views.{applied_value}
 use Rattle.build_statements.proofs.timer.resolve_group.Given as goal
@@ -11,6 +11,6 @@ abbrev pub invariant-loop-applied : goal.invariant-loop-applied
 invariant-loop-applied l = record {
   timers : map (option_map timing) l.found.items ≡ map (option_map timing) l.initial.found.items
       ++ map (timing_in (context_of l.context)) (map applied_value (take l.applied-index l.timers));
-  noted : told l.faults ≡ least_of (told l.initial.faults)
+  noted : Notes l.initial.faults l.faults
       (flat_map (timing_faults (context_of l.context)) (map applied_value (take l.applied-index l.timers)));
 }

@@ -4,7 +4,6 @@ use Rattle.std.proofs.lemmas.Result.{IfOk-weaker}
 use Rattle.build_statements.specs.Contexts.{context_of}
 use Rattle.build_statements.specs.Faulty.{setting_faults}
 use Rattle.build_statements.specs.Statements.{setting_in}
-use Rattle.build_faults.specs.Faults.{told}
 use Rattle.sdl_system.specs.Table.{setting}
 use Rattle.sdl_tree.specs.Views.{clause_value}
 use Rattle.build_statements.proofs.ListLemmas.{all_made}
@@ -32,6 +31,6 @@ loop-clause-preserved c =
           c.loop-clause.invariant.settings c.in_ok-resolve_clause.ensures.setting c.in_ok-push.ensures.items;
       noted =
           noted-next clause_value list i one c.loop-clause-test.true c.clause-item.is
-          (setting_faults context) (told c.args.faults.now) (told c.loop-clause.faults)
-          (told c.resolve_clause.new.faults) c.loop-clause.invariant.noted c.in_ok-resolve_clause.ensures.noted;
+          (setting_faults context) c.args.faults.now c.loop-clause.faults
+          c.resolve_clause.new.faults c.loop-clause.invariant.noted c.in_ok-resolve_clause.ensures.noted;
     }

@@ -1,7 +1,7 @@
 use Rattle.std.proofs.Common.{◌≡◌, ◌∙◌, ◌++◌, ◌∷◌, All, [], Some, ap, length, map, subst, sym}
 use Rattle.std.proofs.lemmas.List.{length-map, map-append}
 use Rattle.std.proofs.lemmas.List.Elements.{All-push}
-use Rattle.build_faults.specs.Faults.{least_of, told}
+use Rattle.build_faults.specs.Faults.{least_of}
 use Rattle.build_stimuli.specs.Listed.{part_value}
 use Rattle.build_states.specs.Outlined.{parts_at}
 use Rattle.build_states.specs.Shared.{IsKnown, IsOfName, Keeps, KeepsKnown, faults_by, known_in, table_at, table_by}
@@ -22,8 +22,9 @@ returns-clause-read c =
     c.in_ok-table.ensures.read
     ∙ ap (λ numbers. table_of (parts_at parts numbers)) (c.deref.ensures.value ∙ c.in_ok-numbers.ensures) in
     ap (λ list. table_at list c.in_ok-number.number)
-    (ap (map table_value) c.in_ok-push.ensures.items ∙ map-append table_value c.args.tables.now.items (c.in_ok-table.table ∷ []))
-    ∙ added-read parts c.args.stars.now c.args.turns.now c.args.known.now tables (told c.args.faults.now)
+    (ap (map table_value) c.in_ok-push.ensures.items
+    ∙ map-append table_value c.args.tables.now.items (c.in_ok-table.table ∷ []))
+    ∙ added-read parts c.args.stars.now c.args.turns.now c.args.known.now tables c.args.faults.now
     c.in_ok-number.number at c.requires.before table is
 
 pub returns-clause-known : goal.returns-clause-known
@@ -39,15 +40,16 @@ returns-clause-known c =
     ∙ sym (length-map c.args.tables.now.items table_value) in
     let is : table ≡ table_by parts stars turns =
     c.in_ok-table.ensures.read ∙ ap (λ list. table_of (parts_at parts list)) numbers in
-    let noted : told c.read_table.new.faults ≡ least_of (told c.args.faults.now) (faults_by parts stars turns) =
+    let noted : c.read_table.new.faults ≡ least_of c.args.faults.now (faults_by parts stars turns) =
     c.in_ok-table.ensures.noted
-    ∙ ap (λ list. least_of (told c.args.faults.now) (state_faults (parts_at parts list))) numbers in
-    subst (λ list. IsKnown parts stars c.add.new.self list (told c.read_table.new.faults))
-    (sym (ap (map table_value) c.in_ok-push.ensures.items ∙ map-append table_value c.args.tables.now.items (c.in_ok-table.table ∷ [])))
-    (subst (λ known. IsKnown parts stars known (tables ++ table ∷ []) (told c.read_table.new.faults))
+    ∙ ap (λ list. least_of c.args.faults.now (state_faults (parts_at parts list))) numbers in
+    subst (λ list. IsKnown parts stars c.add.new.self list c.read_table.new.faults)
+    (sym (ap (map table_value) c.in_ok-push.ensures.items
+    ∙ map-append table_value c.args.tables.now.items (c.in_ok-table.table ∷ [])))
+    (subst (λ known. IsKnown parts stars known (tables ++ table ∷ []) c.read_table.new.faults)
     (sym c.in_ok-add.ensures)
-    (known-more parts stars turns c.args.known.now tables (told c.args.faults.now) c.in_ok-number.number at
-    c.requires.before table (told c.read_table.new.faults) is noted))
+    (known-more parts stars turns c.args.known.now tables c.args.faults.now c.in_ok-number.number at
+    c.requires.before table c.read_table.new.faults is noted))
 
 pub returns-clause-found : goal.returns-clause-found
 returns-clause-found c =
@@ -64,7 +66,8 @@ returns-clause-kept c =
     let tables = map table_value c.args.tables.now.items in
     let table = table_value c.in_ok-table.table in
     subst (Keeps tables)
-    (sym (ap (map table_value) c.in_ok-push.ensures.items ∙ map-append table_value c.args.tables.now.items (c.in_ok-table.table ∷ [])))
+    (sym (ap (map table_value) c.in_ok-push.ensures.items
+    ∙ map-append table_value c.args.tables.now.items (c.in_ok-table.table ∷ [])))
     (tables-kept tables table)
 
 pub returns-clause-each : goal.returns-clause-each
@@ -77,5 +80,6 @@ returns-clause-each c =
     ∙ ap (λ numbers. table_of (parts_at parts numbers)) (c.deref.ensures.value ∙ c.in_ok-numbers.ensures) in
     λ one each.
     subst (All (IsOfName parts))
-    (sym (ap (map table_value) c.in_ok-push.ensures.items ∙ map-append table_value c.args.tables.now.items (c.in_ok-table.table ∷ [])))
+    (sym (ap (map table_value) c.in_ok-push.ensures.items
+    ∙ map-append table_value c.args.tables.now.items (c.in_ok-table.table ∷ [])))
     (All-push (IsOfName parts) tables table each (subst (IsOfName parts) (sym is) one))

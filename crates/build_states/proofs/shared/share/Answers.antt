@@ -1,6 +1,6 @@
 use Rattle.std.proofs.Common.{◌≡◌, ◌∙◌, ◌++◌, ◌∷◌, [], Some, ap, flat_map, map, rules, subst, sym, take}
 use Rattle.std.proofs.lemmas.List.{take_all}
-use Rattle.build_faults.specs.Faults.{least_of, told}
+use Rattle.build_faults.specs.Faults.{least_of}
 use Rattle.sdl_tree.specs.Views.{name_value}
 use Rattle.build_stimuli.specs.Listed.{part_value}
 use Rattle.build_states.specs.Outlined.{seen_in}
@@ -31,7 +31,7 @@ loop-name-preserved c =
     let new = map table_value c.table_of.new.tables.items in
     let next = taken-more (λ one. name_value one.now) names i item c.loop-name-test.true c.name-item.is in
     record {
-      known = subst (λ list. IsKnown parts list c.table_of.new.known new (told c.table_of.new.faults)) lent
+      known = subst (λ list. IsKnown parts list c.table_of.new.known new c.table_of.new.faults) lent
           c.in_ok-table.ensures.known;
       read =
           ap (map (table_at new)) c.in_ok-push.ensures.items
@@ -47,18 +47,20 @@ loop-name-preserved c =
           }) c.loop-name.invariant.each;
       had =
           subst (HaveTables parts c.table_of.new.known c.push.new.self.items) (sym next)
-          (subst (λ list. HaveTables parts c.table_of.new.known list (done ++ name ∷ [])) (sym c.in_ok-push.ensures.items)
+          (subst (λ list. HaveTables parts c.table_of.new.known list (done ++ name ∷ []))
+          (sym c.in_ok-push.ensures.items)
           (tables-had parts c.loop-name.known c.table_of.new.known c.loop-name.of_states.items c.in_ok-table.table done
-          name c.in_ok-table.ensures.stays (as-many parts done old c.loop-name.of_states.items c.loop-name.invariant.read)
+          name c.in_ok-table.ensures.stays
+          (as-many parts done old c.loop-name.of_states.items c.loop-name.invariant.read)
           c.loop-name.invariant.had
           (subst (λ ts. known_in c.table_of.new.known ts ≡ Some c.in_ok-table.table) (ap (λ s. s.turns) seen)
           c.in_ok-table.ensures.found)));
       noted =
-          states-noted parts done name (told c.args.faults.now) (told c.loop-name.faults) (told c.table_of.new.faults)
+          states-noted parts done name c.args.faults.now c.loop-name.faults c.table_of.new.faults
           c.loop-name.invariant.noted
-          (c.in_ok-table.ensures.noted ∙ ap (λ list. least_of (told c.loop-name.faults) (faults_by parts list turns)) lent
-          ∙ ap (least_of (told c.loop-name.faults)) (own-faults parts stars turns name seen))
-          ∙ ap (λ list. least_of (told c.args.faults.now) (flat_map (named_faults parts) list)) (sym next);
+          (c.in_ok-table.ensures.noted ∙ ap (λ list. least_of c.loop-name.faults (faults_by parts list turns)) lent
+          ∙ ap (least_of c.loop-name.faults) (own-faults parts stars turns name seen))
+          ∙ ap (λ list. least_of c.args.faults.now (flat_map (named_faults parts) list)) (sym next);
     }
 
 pub returns-clause-shared : goal.returns-clause-shared

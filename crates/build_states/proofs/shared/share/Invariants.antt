@@ -1,5 +1,5 @@
 use Rattle.std.proofs.Common.{◌≡◌, All, Some, flat_map, map, take}
-use Rattle.build_faults.specs.Faults.{least_of, told}
+use Rattle.build_faults.specs.Faults.{Notes}
 use Rattle.build_stimuli.specs.Listed.{part_value}
 use Rattle.build_states.specs.Shared.{IsKnown, IsOfName, table_at}
 use Rattle.build_states.specs.States.{named_faults, tables_of}
@@ -9,11 +9,11 @@ use Rattle.build_states.proofs.shared.share.Given as goal
 
 abbrev pub invariant-loop-name : goal.invariant-loop-name
 invariant-loop-name l = record {
-  known : IsKnown (map part_value l.parts) l.outline.stars.items l.known (map table_value l.tables.items) (told l.faults);
+  known : IsKnown (map part_value l.parts) l.outline.stars.items l.known (map table_value l.tables.items) l.faults;
   read : map (table_at (map table_value l.tables.items)) l.of_states.items
       ≡ map Some (tables_of (map part_value l.parts) (names_listed (take l.name-index l.names)));
   each : All (IsOfName (map part_value l.parts)) (map table_value l.tables.items);
   had : HaveTables (map part_value l.parts) l.known l.of_states.items (names_listed (take l.name-index l.names));
-  noted : told l.faults ≡ least_of (told l.initial.faults)
+  noted : Notes l.initial.faults l.faults
       (flat_map (named_faults (map part_value l.parts)) (names_listed (take l.name-index l.names)));
 }

@@ -1,5 +1,5 @@
 use Rattle.std.proofs.Common.{◌≡◌, ◌++◌, map, take}
-use Rattle.build_faults.specs.Faults.{least_of, told}
+use Rattle.build_faults.specs.Faults.{Notes}
 use Rattle.build_stimuli.specs.Context.{context_of}
 use Rattle.build_stimuli.specs.Faulty.{list_faults}
 use Rattle.build_stimuli.specs.Listed.{mentions_listed}
@@ -11,6 +11,6 @@ abbrev pub invariant-loop-input : goal.invariant-loop-input
 invariant-loop-input l = record {
   read : mentions_listed l.mentions.items ≡ mentions_listed l.initial.mentions.items
       ++ list_mentions (context_of l.context) l.manner l.begin (map input_value (take l.input-index l.inputs));
-  noted : told l.faults ≡ least_of (told l.initial.faults)
+  noted : Notes l.initial.faults l.faults
       (list_faults (context_of l.context) (map input_value (take l.input-index l.inputs)));
 }

@@ -1,5 +1,5 @@
 use Rattle.std.proofs.Common.{◌≡◌, map, take}
-use Rattle.build_faults.specs.Faults.{least_of, told}
+use Rattle.build_faults.specs.Faults.{Notes}
 use Rattle.build_stimuli.specs.Context.{context_of}
 use Rattle.build_stimuli.specs.Listed.{reading_value}
 use Rattle.build_stimuli.specs.Reading.{body_faults, body_read}
@@ -9,6 +9,6 @@ use Rattle.build_stimuli.proofs.reading.read_body.Given as goal
 abbrev pub invariant-loop-part : goal.invariant-loop-part
 invariant-loop-part l = record {
   read : reading_value l.reading ≡ body_read (context_of l.context) (map body_part_value (take l.part-index l.body));
-  noted : told l.faults ≡ least_of (told l.initial.faults)
+  noted : Notes l.initial.faults l.faults
       (body_faults (context_of l.context) (map body_part_value (take l.part-index l.body)));
 }

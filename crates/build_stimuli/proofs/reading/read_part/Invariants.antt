@@ -1,5 +1,5 @@
 use Rattle.std.proofs.Common.{◌≡◌, map, take}
-use Rattle.build_faults.specs.Faults.{least_of, told}
+use Rattle.build_faults.specs.Faults.{Notes}
 use Rattle.build_stimuli.specs.Context.{context_of}
 use Rattle.build_stimuli.specs.Listed.{begun_value, numbering_value}
 use Rattle.build_stimuli.specs.Reading.{part_read, stimuli_faults}
@@ -11,6 +11,6 @@ invariant-loop-stimulus l = record {
   read : begun_value l.numbering l.read
       ≡ part_read (context_of l.context) (numbering_value l.initial.numbering) (states_value l.part.states)
       (map stimulus_value (take l.stimulus-index l.part.stimuli.items));
-  noted : told l.faults ≡ least_of (told l.initial.faults)
+  noted : Notes l.initial.faults l.faults
       (stimuli_faults (context_of l.context) (map stimulus_value (take l.stimulus-index l.part.stimuli.items)));
 }

@@ -1,5 +1,5 @@
 use Rattle.std.proofs.Common.{◌≡◌, ◌++◌, map, take}
-use Rattle.build_faults.specs.Faults.{least_of, told}
+use Rattle.build_faults.specs.Faults.{Notes}
 use Rattle.build_stimuli.specs.Context.{context_of}
 use Rattle.build_stimuli.specs.Faulty.{saved_faults}
 use Rattle.build_stimuli.specs.Listed.{mentions_listed}
@@ -12,6 +12,6 @@ abbrev pub invariant-loop-item : goal.invariant-loop-item
 invariant-loop-item l = record {
   read : mentions_listed l.mentions.items ≡ mentions_listed l.initial.mentions.items
       ++ saved_mentions (context_of l.context) (SaveList (map item_value (take l.item-index l.items)));
-  noted : told l.faults ≡ least_of (told l.initial.faults)
+  noted : Notes l.initial.faults l.faults
       (saved_faults (context_of l.context) (SaveList (map item_value (take l.item-index l.items))));
 }

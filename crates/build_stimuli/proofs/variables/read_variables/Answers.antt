@@ -1,7 +1,7 @@
 use Rattle.std.proofs.Common.{◌∙◌, ◌+◌, ◌++◌, ◌∷◌, [], ap, drop, map, option_map, sym, take}
 use Rattle.std.proofs.lemmas.List.{drop_more, map-append, take_more}
 use Rattle.build_faults.proofs.FaultLemmas.{both_noted}
-use Rattle.build_faults.specs.Faults.{least_of, told}
+use Rattle.build_faults.specs.Faults.{least_of}
 use Rattle.build_expressions.specs.Scope.{scope_of}
 use Rattle.sdl_tree.specs.Views.{name_value}
 use Rattle.build_stimuli.specs.Faulty.{other_sorts, variable_faults, variables_faults}
@@ -19,7 +19,7 @@ loop-index-preserved c =
     let view = option_map name_value in
     let here = view variable in
     let left = map view (drop (i + 1) variables) in
-    let old = told c.loop-index.faults in
+    let old = c.loop-index.faults in
     record {
       read =
           c.in_ok-push.ensures.items
@@ -31,7 +31,8 @@ loop-index-preserved c =
           ∙ ap (variables_in scope) (map-append view (take i variables) (variable ∷ []))
           ∙ map-append (variable_in scope) (map view (take i variables)) (here ∷ []));
       noted =
-          ap (λ before. least_of before (variables_faults scope (drop (i + 1) parameters) left)) c.read_variable.ensures.noted
+          ap (λ before. least_of before (variables_faults scope (drop (i + 1) parameters) left))
+          c.read_variable.ensures.noted
           ∙ both_noted old (variable_faults scope c.sort_at-parameter.result here)
           (variables_faults scope (drop (i + 1) parameters) left)
           ∙ ap (λ list. least_of old

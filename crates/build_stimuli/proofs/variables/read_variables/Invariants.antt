@@ -1,5 +1,5 @@
 use Rattle.std.proofs.Common.{◌≡◌, drop, map, option_map, take}
-use Rattle.build_faults.specs.Faults.{least_of, told}
+use Rattle.build_faults.specs.Faults.{least_of}
 use Rattle.build_expressions.specs.Scope.{scope_of}
 use Rattle.build_stimuli.specs.Faulty.{variables_faults}
 use Rattle.build_stimuli.specs.Mentions.{variables_in}
@@ -9,9 +9,9 @@ use Rattle.build_stimuli.proofs.variables.read_variables.Given as goal
 abbrev pub invariant-loop-index : goal.invariant-loop-index
 invariant-loop-index l = record {
   read : l.read.items ≡ variables_in (scope_of l.scope) (map (option_map name_value) (take l.index l.variables));
-  noted : least_of (told l.faults)
+  noted : least_of l.faults
       (variables_faults (scope_of l.scope) (drop l.index l.parameters)
       (map (option_map name_value) (drop l.index l.variables)))
-      ≡ least_of (told l.initial.faults)
+      ≡ least_of l.initial.faults
       (variables_faults (scope_of l.scope) l.parameters (map (option_map name_value) l.variables));
 }

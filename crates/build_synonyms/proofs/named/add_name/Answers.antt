@@ -1,6 +1,6 @@
 use Rattle.std.proofs.Common.{◌≡◌, ◌++◌, ◌∙◌, ap, sym}
 use Rattle.std.proofs.lemmas.List.{append-nil}
-use Rattle.build_limits.specs.Names.{names_in, first_of}
+use Rattle.build_scopes.specs.Names.{names_in, first_of}
 use Rattle.build_expressions.specs.Scope.{visible}
 use Rattle.build_synonyms.specs.Named.{synonym_in}
 use Rattle.build_synonyms.proofs.NamedLemmas.{named-outward}

@@ -7,7 +7,7 @@ use Rattle.build_transitions.specs.Bodies.{bodies_among, faults_among}
 use Rattle.flow_paths.specs.Beginnings.{part_beginnings}
 use Rattle.build_statements.specs.Contexts.{context_of}
 use Rattle.build_faults.proofs.FaultLemmas.{both_noted}
-use Rattle.build_faults.specs.Faults.{least_of, told}
+use Rattle.build_faults.specs.Faults.{least_of}
 use Rattle.sdl_tree.specs.Views.{body_part_value}
 use Rattle.build_transitions.proofs.added.add_parts.Goals as goal
 
@@ -19,7 +19,7 @@ loop-part-preserved c =
     let part = c.part-item.result in
     let before = map body_part_value (take i parts) in
     let here = body_part_value part in
-    let old = told c.args.faults.now in
+    let old = c.args.faults.now in
     let listed : map body_part_value (take (i + 1) parts) ≡ before ++ here ∷ [] =
     ap (map body_part_value) ((take_at_read parts i part c.loop-part-test.true).1
     ∙ ap (λ x. take i parts ++ x ∷ []) (sym c.part-item.is))

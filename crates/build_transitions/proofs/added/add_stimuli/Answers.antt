@@ -7,7 +7,7 @@ use Rattle.build_transitions.specs.Bodies.{bodies_among, faults_among}
 use Rattle.flow_paths.specs.Beginnings.{stimulus_beginnings}
 use Rattle.build_statements.specs.Contexts.{context_of}
 use Rattle.build_faults.proofs.FaultLemmas.{both_noted}
-use Rattle.build_faults.specs.Faults.{least_of, told}
+use Rattle.build_faults.specs.Faults.{least_of}
 use Rattle.sdl_tree.specs.Views.{stimulus_value}
 use Rattle.build_transitions.proofs.added.add_stimuli.Goals as goal
 
@@ -19,7 +19,7 @@ loop-stimulus-preserved c =
     let stimulus = c.stimulus-item.result in
     let before = map stimulus_value (take i stimuli) in
     let here = stimulus_value stimulus in
-    let old = told c.args.faults.now in
+    let old = c.args.faults.now in
     let listed : map stimulus_value (take (i + 1) stimuli) ≡ before ++ here ∷ [] =
     ap (map stimulus_value) ((take_at_read stimuli i stimulus c.loop-stimulus-test.true).1
     ∙ ap (λ x. take i stimuli ++ x ∷ []) (sym c.stimulus-item.is))

@@ -1,4 +1,4 @@
-use Rattle.laws_broken.proofs.KindLemmas.{body-limits, network-limits}
+use Rattle.laws_broken.proofs.RuleLemmas.{body-limits, network-limits}
 use Rattle.laws_broken.proofs.limits.only_definitions_pass_limits.Goals as goal
 
 pub returns-clause-network : goal.returns-clause-network

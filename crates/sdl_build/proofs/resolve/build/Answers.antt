@@ -2,7 +2,7 @@ use Rattle.std.proofs.Common.{None, subst, sym}
 use Rattle.sdl_build.proofs.ResolveLemmas.{is-built, not-none, refused-as}
 use Rattle.build_context.proofs.ProcessLemmas.{not-made}
 use Rattle.sdl_build.specs.Outcome.{IsMadeOf}
-use Rattle.build_faults.specs.Faults.{told_of}
+use Rattle.build_faults.specs.Faults.{diagnostic_of}
 use Rattle.sdl_tree.specs.Views.{tree_value}
 use Rattle.sdl_build.proofs.resolve.build.Goals as goal
 
@@ -15,7 +15,7 @@ returns-in_err-of-clause-built c = not-made c.from_residual-in_err-of.result _ _
 pub returns-in-Some-clause-refused : goal.returns-in-Some-clause-refused
 returns-in-Some-clause-refused c =
     let tree = tree_value c.args.tree.now in
-    refused-as tree (told_of c.in-Some.fault) c.in_ok-system.system c.in_ok-of.field-0
+    refused-as tree (diagnostic_of c.in-Some.fault) c.in_ok-system.system c.in_ok-of.field-0
     (subst (λ fault. IsMadeOf tree fault c.in_ok-system.system) (sym c.in-Some.ensures) c.in_ok-system.ensures)
     c.in_ok-of.ensures
 

@@ -1,30 +1,30 @@
 use Rattle.sdl_build.proofs.ResolveLemmas.{made-on-if}
 use Rattle.build_context.proofs.ProcessLemmas.{not-made}
-use Rattle.build_context.specs.Around.{survey_of}
-use Rattle.build_faults.specs.Faults.{told}
+use Rattle.build_context.specs.Around.{context_of}
 use Rattle.sdl_build.proofs.resolve.look_on.Goals as goal
 
 pub processes_in-requires-clause-known : goal.processes_in-requires-clause-known
 processes_in-requires-clause-known c = record {
-  are_figures = c.requires;
-  is_network = c.in_ok-joined.ensures.network;
+  is_constant_table = c.requires;
+  is_network = c.in_ok-connections.ensures.network;
 }
 
 pub processes_in-requires-clause-sets : goal.processes_in-requires-clause-sets
-processes_in-requires-clause-sets c = c.in_ok-joined.ensures.sets
+processes_in-requires-clause-sets c = c.in_ok-connections.ensures.sets
 
 pub returns : goal.returns
 returns c =
-    made-on-if (survey_of c.args.tables.now c.args.declared.now c.args.figures.now c.in_ok-joined.joined) _ _
-    c.args.figures.now.durations.items c.in_ok-processes.processes c.system_with.result
+    made-on-if (context_of c.args.definitions.now c.args.symbols.now c.args.constant_table.now
+    c.in_ok-connections.connections) _ _
+    c.args.constant_table.now.durations.items c.in_ok-processes.processes c.system_with.result
     (record {
-      network = c.in_ok-joined.ensures.network;
-      routes = c.in_ok-joined.ensures.routes;
-      members = c.in_ok-joined.ensures.members;
+      network = c.in_ok-connections.ensures.network;
+      routes = c.in_ok-connections.ensures.routes;
+      members = c.in_ok-connections.ensures.members;
     })
     (record {
-      mid = told c.of.new.faults;
-      joined = c.in_ok-joined.ensures.noted;
+      mid = c.of.new.faults;
+      connections = c.in_ok-connections.ensures.noted;
       bodies = c.in_ok-processes.ensures.noted;
     })
     c.in_ok-processes.ensures.made c.requires.durations c.system_with.ensures
@@ -33,5 +33,5 @@ pub returns-in_err-processes : goal.returns-in_err-processes
 returns-in_err-processes c =
     not-made c.from_residual-in_err-processes.result _ _ c.from_residual-in_err-processes.ensures.1
 
-pub returns-in_err-joined : goal.returns-in_err-joined
-returns-in_err-joined c = not-made c.from_residual.result _ _ c.from_residual.ensures.1
+pub returns-in_err-connections : goal.returns-in_err-connections
+returns-in_err-connections c = not-made c.from_residual.result _ _ c.from_residual.ensures.1

@@ -2,19 +2,19 @@ use Rattle.std.proofs.Common.{◌∙◌, ap, length, map, refl, slice_get, subst
 use Rattle.std.proofs.lemmas.Option.{slice_get_read}
 use Rattle.sdl_build.proofs.MadeLemmas.{less-than, made-at-if, mapped-get, noted-at}
 use Rattle.build_context.proofs.ProcessLemmas.{length-map}
-use Rattle.build_context.specs.Around.{survey_of}
+use Rattle.build_context.specs.Around.{context_of}
 use Rattle.build_context.specs.Headings.{IsValidSet}
 use Rattle.build_definitions.specs.Seen.{process_seen}
 use Rattle.sdl_build.proofs.system.process_in.Goals as goal
 
 pub index-entry-requires : goal.index-entry-requires
 index-entry-requires c =
-    less-than c.args.place _ _ _ c.requires.within (length-map process_seen c.args.tables.now.processes.items)
-    c.args.tables.now.processes.ok.0
+    less-than c.args.place _ _ _ c.requires.within (length-map process_seen c.args.definitions.now.processes.items)
+    c.args.definitions.now.processes.ok.0
 
 pub process_at-requires-clause-listed : goal.process_at-requires-clause-listed
 process_at-requires-clause-listed c =
-    let entries = c.args.tables.now.processes.items in
+    let entries = c.args.definitions.now.processes.items in
     ap (slice_get (map process_seen entries)) c.in_ok-number.ensures.same
     ∙ mapped-get process_seen entries c.args.place c.index-entry.result.now
     (slice_get_read entries (length entries) c.args.place c.index-entry.result.now refl
@@ -23,14 +23,16 @@ process_at-requires-clause-listed c =
 
 pub process_at-requires-clause-valid : goal.process_at-requires-clause-valid
 process_at-requires-clause-valid c =
-    subst (λ n. IsValidSet (survey_of c.args.tables.now c.args.declared.now c.args.figures.now c.args.joined.now)
+    subst (λ n. IsValidSet (context_of c.args.definitions.now c.args.symbols.now c.args.constant_table.now
+    c.args.connections.now)
     (record { 0 = n }) c.args.valid) (sym c.in_ok-number.ensures.same) c.requires.valid
 
 pub returns-clause-made : goal.returns-clause-made
 returns-clause-made c =
-    let entries = c.args.tables.now.processes.items in
-    made-at-if (survey_of c.args.tables.now c.args.declared.now c.args.figures.now c.args.joined.now)
-    c.in_ok-number.number c.args.place (process_seen c.index-entry.result.now) c.process_at.result c.in_ok-number.ensures.same
+    let entries = c.args.definitions.now.processes.items in
+    made-at-if (context_of c.args.definitions.now c.args.symbols.now c.args.constant_table.now c.args.connections.now)
+    c.in_ok-number.number c.args.place (process_seen c.index-entry.result.now) c.process_at.result
+    c.in_ok-number.ensures.same
     (mapped-get process_seen entries c.args.place c.index-entry.result.now
     (slice_get_read entries (length entries) c.args.place c.index-entry.result.now refl
     (less-than c.args.place _ _ (length entries) c.requires.within (length-map process_seen entries) refl)
@@ -39,8 +41,8 @@ returns-clause-made c =
 
 pub returns-clause-noted : goal.returns-clause-noted
 returns-clause-noted c =
-    let entries = c.args.tables.now.processes.items in
-    noted-at (survey_of c.args.tables.now c.args.declared.now c.args.figures.now c.args.joined.now)
+    let entries = c.args.definitions.now.processes.items in
+    noted-at (context_of c.args.definitions.now c.args.symbols.now c.args.constant_table.now c.args.connections.now)
     c.in_ok-number.number c.args.place (process_seen c.index-entry.result.now) _ _ c.process_at.result
     c.in_ok-number.ensures.same
     (mapped-get process_seen entries c.args.place c.index-entry.result.now

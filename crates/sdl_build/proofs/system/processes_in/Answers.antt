@@ -1,10 +1,10 @@
 use Rattle.sdl_build.proofs.MadeLemmas.{all-if, noted-anyhow}
-use Rattle.build_context.specs.Around.{survey_of}
+use Rattle.build_context.specs.Around.{context_of}
 use Rattle.sdl_build.proofs.system.processes_in.Goals as goal
 
 pub returns-clause-made : goal.returns-clause-made
 returns-clause-made c =
-    all-if (survey_of c.args.tables.now c.args.declared.now c.args.figures.now c.args.joined.now)
+    all-if (context_of c.args.definitions.now c.args.symbols.now c.args.constant_table.now c.args.connections.now)
     c.in_ok-made.made.items c.all_made.result c.in_ok-made.ensures.size c.in_ok-made.ensures.made c.all_made.ensures
 
 pub returns-clause-noted : goal.returns-clause-noted

@@ -1,5 +1,5 @@
 use Rattle.std.proofs.Common.{◌≡◌, take}
-use Rattle.build_faults.specs.Faults.{least_of, told}
+use Rattle.build_faults.specs.Faults.{Notes}
 use Rattle.build_states.specs.Answered.{answers_value}
 use Rattle.build_stimuli.specs.Listed.{mentions_listed}
 use Rattle.build_states.specs.States.{twice_faults, with_mentions}
@@ -9,6 +9,6 @@ abbrev pub invariant-loop-mention : goal.invariant-loop-mention
 invariant-loop-mention l = record {
   added : answers_value l.self
       ≡ with_mentions (answers_value l.initial.self) (mentions_listed (take l.mention-index l.mentions));
-  noted : told l.faults ≡ least_of (told l.initial.faults)
+  noted : Notes l.initial.faults l.faults
       (twice_faults (answers_value l.initial.self) (mentions_listed (take l.mention-index l.mentions)));
 }

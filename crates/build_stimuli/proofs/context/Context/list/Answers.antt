@@ -1,5 +1,5 @@
 use Rattle.std.proofs.Common.{◌∙◌, None, Some, ap, sym}
-use Rattle.build_limits.specs.Names.{names_in}
+use Rattle.build_scopes.specs.Names.{names_in}
 use Rattle.build_stimuli.proofs.ContextLemmas.{found-list}
 use Rattle.build_stimuli.specs.Context.{listed_members, members_of}
 use Rattle.build_stimuli.proofs.context.Context.list.Goals as goal

@@ -2,14 +2,15 @@ use Rattle.std.proofs.Common.{◌∙◌, ap, map}
 use Rattle.sdl_build.specs.Built.{named_processes, own_from}
 use Rattle.sdl_build.specs.Signals.{signals_from}
 use Rattle.build_definitions.specs.Seen.{process_seen, signal_seen}
-use Rattle.build_definitions.specs.Tables.{rows_of}
-use Rattle.build_limits.specs.Names.{first_of}
+use Rattle.build_definitions.specs.Definitions.{rows_of}
+use Rattle.build_scopes.specs.Names.{first_of}
 use Rattle.sdl_build.proofs.defined.Defined.of.Goals as goal
 
 pub returns-clause-signals : goal.returns-clause-signals
 returns-clause-signals c =
-    c.in_ok-signals.ensures ∙ ap (λ entries. signals_from (map signal_seen entries) c.deref-2.result.now) c.deref.ensures.value
-    ∙ ap (signals_from (rows_of c.args.tables.now).signals) c.deref-2.ensures.value
+    c.in_ok-signals.ensures ∙ ap (λ entries. signals_from (map signal_seen entries) c.deref-2.result.now)
+    c.deref.ensures.value
+    ∙ ap (signals_from (rows_of c.args.definitions.now).signals) c.deref-2.ensures.value
 
 pub returns-clause-own_signals : goal.returns-clause-own_signals
 returns-clause-own_signals c = λ text.

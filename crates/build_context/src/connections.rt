@@ -1,0 +1,79 @@
+//! What joins the agents of a specification.
+
+ghost use Rattle.std.specs.Prelude.{◌≡◌, length, IfOk, OnOk};
+ghost use Rattle.build_context.specs.Lists.{AreMembers};
+ghost use Rattle.build_context.specs.Context.{IsNetwork};
+ghost use Rattle.build_definitions.specs.Definitions.{rows_of};
+ghost use Rattle.build_network.specs.Network.{network_faults};
+ghost use Rattle.route_network.specs.SignalLists.{AreSets};
+ghost use Rattle.route_table.specs.Table.{AreRoutes};
+ghost use Rattle.build_faults.specs.Faults.{Notes};
+ghost use Rattle.build_stimuli.specs.Context.{listed_members};
+
+use crate::lists::members;
+use build_definitions::Definitions;
+use build_faults::Faults;
+use build_names::SymbolTable;
+use build_network::{network_of, note_network};
+use port_values::SignalId;
+use route_network::{Network, SignalSets, counted};
+use route_table::routes_of;
+use sdl_system::Routes;
+use std::alloc::{AllocError, Global};
+
+/// What joins the agents of a specification.
+#[derive(Drop)]
+pub struct Connections {
+    pub network: Network,
+    /// What the lists of the network stand for.
+    pub sets: SignalSets,
+    pub routes: Routes,
+    /// The signals that each `signallist` stands for, by its number.
+    pub members: Vec<Vec<SignalId>>,
+}
+
+impl Connections {
+    /// What joins the agents of a specification with these definitions and names. Noted is each name in it that stands
+    /// for nothing.
+    pub fn of<'t>(
+        alloc: Global,
+        definitions: &Definitions<'t>,
+        symbols: &SymbolTable<'_, 't>,
+        faults: &mut Faults<'t>,
+    ) -> Result<Self, AllocError>
+        ensures network { IfOk result (λ connections. IsNetwork (rows_of definitions.now) symbols.now
+            connections.network) }
+        ensures sets { IfOk result (λ connections. AreSets connections.network.lists.items connections.network.signals
+            connections.sets) }
+        ensures routes { IfOk result (λ connections. AreRoutes connections.network connections.routes) }
+        ensures members { IfOk result (λ connections. AreMembers connections.network
+            (length (rows_of definitions.now).lists) (listed_members connections.members.items)) }
+        ensures noted { OnOk result (Notes faults.old faults.new
+            (network_faults (rows_of definitions.now) symbols.now)) }
+    {
+        note_network(alloc, definitions, symbols, faults)?;
+        let lists = counted(definitions.lists.len())?;
+        let network = network_of(alloc, definitions, symbols)?;
+        Self::over(alloc, network, lists)
+    }
+
+    /// What joins the agents of this network, where the first so many of its lists are the `signallist`s.
+    fn over(alloc: Global, network: Network, lists: u32) -> Result<Self, AllocError>
+        ensures network { IfOk result (λ connections. connections.network ≡ network) }
+        ensures sets { IfOk result (λ connections. AreSets connections.network.lists.items connections.network.signals
+            connections.sets) }
+        ensures routes { IfOk result (λ connections. AreRoutes connections.network connections.routes) }
+        ensures members { IfOk result (λ connections. AreMembers connections.network lists
+            (listed_members connections.members.items)) }
+    {
+        let sets = SignalSets::of_lists(alloc, &network.lists, network.signals)?;
+        let routes = routes_of(alloc, &network, &sets)?;
+        let members = members(alloc, &network, &sets, lists)?;
+        Ok(Connections {
+            network,
+            sets,
+            routes,
+            members,
+        })
+    }
+}

@@ -1,0 +1,32 @@
+-- Names that are added to a list where they are new.
+use Rattle.std.proofs.Common.{◌≡◌, ◌∙◌, ℕ, ◌++◌, ◌||◌, Bool, true, false, cond, List, [], ◌∷◌, Option, Some, is_some, if◌then◌else◌, refl, ap, sym}
+use Rattle.std.specs.List.{list_any}
+use Rattle.std.specs.Str.{bytes_eq}
+use Rattle.std.proofs.lemmas.List.{map-append}
+use Rattle.sdl_lex.specs.declared.place.Place.{Place}
+use Rattle.sdl_tree.specs.Words.{Spot}
+use Rattle.build_labels.specs.States.{entry_word, is_same_text, with_new, words_listed}
+use Rattle.build_scopes.specs.Names.{first_of}
+
+any-found : {X : Type 0} (b : Bool) (x : X) (rest : Option X) (any : Bool) → any ≡ is_some rest →
+    (b || any) ≡ is_some (cond b (Some x) rest)
+any-found true x rest any h = refl
+any-found false x rest any h = h
+
+any-named : (names : List (List ℕ × Place)) (word : Spot) →
+    list_any (is_same_text word) (words_listed names) ≡ is_some (first_of names word.text)
+any-named [] word = refl
+any-named (name ∷ names) word =
+    any-found (bytes_eq word.text name.0) name.1 (first_of names word.text)
+    (list_any (is_same_text word) (words_listed names)) (any-named names word)
+
+pub with_new-known : (names : List (List ℕ × Place)) (word : Spot) → is_some (first_of names word.text) ≡ true →
+    with_new (words_listed names) word ≡ words_listed names
+with_new-known names word known =
+    ap (λ b. if b then words_listed names else words_listed names ++ word ∷ []) (any-named names word ∙ known)
+
+pub with_new-unknown : (names : List (List ℕ × Place)) (word : Spot) → is_some (first_of names word.text) ≡ false →
+    with_new (words_listed names) word ≡ words_listed (names ++ (word.text, word.place) ∷ [])
+with_new-unknown names word unknown =
+    ap (λ b. if b then words_listed names else words_listed names ++ word ∷ []) (any-named names word ∙ unknown)
+    ∙ sym (map-append entry_word names ((word.text, word.place) ∷ []))
