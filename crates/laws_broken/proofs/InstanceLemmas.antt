@@ -164,7 +164,7 @@ pub instances-listed : (rows : Rows) (symbols : SymbolTable) (constants : List C
     In fault (limit_faults rows.processes (all_counts rows symbols constants))
 instances-listed rows symbols constants fault many =
     subst (λ (told : Diagnostic). In told (limit_faults rows.processes (all_counts rows symbols constants)))
-        (sym many.told)
+    (sym many.told)
     (subst (λ (list : List ProcessRow). In (diagnostic_at Limit many.process.definition.name)
     (limit_from most_instances list (map (counts_at rows symbols constants) list))) (sym many.in_text)
     (in-process rows symbols constants many.before many.process many.after most_instances many.enough many.too_many))

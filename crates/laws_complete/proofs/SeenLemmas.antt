@@ -327,8 +327,8 @@ module _ (tree : Tree) (symbols : SymbolTable) (constants : List Constant) (is :
     none-refused : (place : ScopeId) (text : List ℕ) (sort : Option Sort) →
         value_in (scope_in (rows_of_tree tree) symbols constants place) text ≡ Some
         (meant.Synonym sort value.Refused) → ⊥
-    none-refused place text sort found = ((scopes-complete place).values text (meant.Synonym sort value.Refused)
-    found).1
+    none-refused place text sort found =
+        ((scopes-complete place).values text (meant.Synonym sort value.Refused) found).1
 
     sorts-seen : (place : ScopeId) → HaveSynonymSorts (scope_in (rows_of_tree tree) symbols constants place)
     sorts-seen place text sort constant found =

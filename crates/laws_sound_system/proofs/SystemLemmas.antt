@@ -254,7 +254,7 @@ names-are-sound tree system built number process can at = record {
 pub built-processes-are-sound : BuiltProcessesAreSound
 built-processes-are-sound tree system built number process can at behaviour is =
     let own = unbroken built.context built.unbroken.of_rest.mid built.unbroken.of_rest.bodies number.0 can.row
-        can.listed
+    can.listed
     in
     behaviours-are-sound system process (process_scope built.context number can.row.definition) can.row.definition
     can.heading behaviour own.names (names-are-sound tree system built number process can at) is
