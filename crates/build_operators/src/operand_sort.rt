@@ -2,8 +2,8 @@
 
 use sdl_system::Sort;
 
-/// The sort of an expression, where a Natural is an Integer. An expression of numbers and operators alone is free: it
-/// fits Integer, Time and Duration.
+/// The sort of an operand, its kind for short: a Natural is an Integer. An expression of numbers and operators alone is
+/// free: it fits Integer, Time and Duration.
 #[derive(Clone, Copy, Debug, PartialEq, Eq)]
 pub enum OperandSort {
     Free,

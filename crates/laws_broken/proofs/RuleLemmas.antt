@@ -105,7 +105,7 @@ module _ (context : stimulus_contexts.Context) where
 
 -- ---- transitions
 
-module _ (scope : Scope) (question : Option sort_kinds.Kind) where
+module _ (scope : Scope) (question : Option sort_kinds.OperandSort) where
   value-rule : (value : Expr) (fault : Diagnostic) → answers.BreaksValue scope question value fault → IsNoLimit fault
   value-rule value fault (answers.inside told breaks) is = expression-rule place.Constant scope value told breaks is
   value-rule value fault (answers.incomparable asked asked_is typed typed_is none) is = cc

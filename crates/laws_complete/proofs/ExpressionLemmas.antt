@@ -43,9 +43,9 @@ empty-right [] ys is = is
 empty-right (x ∷ xs) ys is = cc
 
 -- a rule that isn't noted isn't broken
-pub unbroken : (b : Bool) (kind : faults.Kind) (word : Spot) → fault_if b kind word ≡ [] → b ≡ false
-unbroken true kind word is = cc
-unbroken false kind word is = refl
+pub unbroken : (b : Bool) (rule : faults.Rule) (word : Spot) → fault_if b rule word ≡ [] → b ≡ false
+unbroken true rule word is = cc
+unbroken false rule word is = refl
 
 -- ---- booleans
 
@@ -54,8 +54,8 @@ not-false true is = refl
 not-false false is = cc
 
 -- a rule that must hold
-pub kept : (b : Bool) (kind : faults.Kind) (word : Spot) → fault_if (not b) kind word ≡ [] → b ≡ true
-kept b kind word is = not-false b (unbroken (not b) kind word is)
+pub kept : (b : Bool) (rule : faults.Rule) (word : Spot) → fault_if (not b) rule word ≡ [] → b ≡ true
+kept b rule word is = not-false b (unbroken (not b) rule word is)
 
 both-true : (a b : Bool) → a ≡ true → b ≡ true → (a && b) ≡ true
 both-true true b is also = also

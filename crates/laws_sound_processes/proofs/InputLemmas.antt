@@ -47,9 +47,9 @@ pub none-right : {A : Type 0} (xs ys : List A) → xs ++ ys ≡ [] → ys ≡ []
 none-right [] ys is = is
 none-right (x ∷ xs) ys is = absurd (let never : ⊥ = cc in never)
 
-unbroken : (b : Bool) (kind : faults.Kind) (word : Spot) → fault_if b kind word ≡ [] → b ≡ false
-unbroken true kind word is = absurd (let never : ⊥ = cc in never)
-unbroken false kind word is = refl
+unbroken : (b : Bool) (rule : faults.Rule) (word : Spot) → fault_if b rule word ≡ [] → b ≡ false
+unbroken true rule word is = absurd (let never : ⊥ = cc in never)
+unbroken false rule word is = refl
 
 not-false : (b : Bool) → not b ≡ false → b ≡ true
 not-false true is = refl
