@@ -15,7 +15,7 @@ use Rattle.run_record.specs.Event.{Event}
 use Rattle.run_semantics.specs.Effect.{Effect, Deed, Send}
 use Rattle.run_semantics.specs.Leads.{Happens}
 use Rattle.run_semantics.specs.ControlPoint.{Amid, AtStart, Closed, Definition, Doing, Ended, In, ControlPoint, Receiving}
-use Rattle.run_semantics.specs.Runs.{Runs, effects, hears, still, turns, waits}
+use Rattle.run_semantics.specs.Runs.{Runs, acts, hears, still, turns, waits}
 use Rattle.run_transitions.specs.Machine.{place_of}
 use Rattle.sdl_system.specs.Behaviour.{Behaviour}
 use Rattle.sdl_system.specs.Body as body
@@ -76,7 +76,7 @@ module _ (d : Definition) (who : Identity) (from : ControlPoint) (s : Store) (q 
   runs_sent : {deeds : List Deed} {history : List PortEvent} {to : ControlPoint} {t : Store} {r : PortState}
       → Runs d who from s q deeds history to t r → AreSent who.pid deeds
   runs_sent still = tt
-  runs_sent (effects {deeds = deeds} {at = at} {mid = mid} {port = port} before deed to t r leads legal) =
+  runs_sent (acts {deeds = deeds} {at = at} {mid = mid} {port = port} before deed to t r leads legal) =
       let sent : IsSent who.pid deed = λ signal named values target is.
       output_sends d who port signal named values target at mid deed.calls deed.effects to t
       (subst (λ (e : Event). Happens d who port at mid e deed.calls deed.effects to t) is leads) in

@@ -28,7 +28,7 @@ use Rattle.sdl_system.specs.declared.statement.Decision.{Decision}
 use Rattle.sdl_system.specs.declared.statement.Node.{Node}
 use Rattle.sdl_system.specs.declared.statement.Statement.TheVariants as kind
 use Rattle.sdl_system.specs.declared.statement.Way.{Way}
-use Rattle.laws_one_step.proofs.Inner.{Comes, did_same, ends_next, head_effects, on_false, on_ok, on_some, on_true, one_call}
+use Rattle.laws_one_step.proofs.Inner.{Comes, did_same, ends_next, head_acts, on_false, on_ok, on_some, on_true, one_call}
 use Rattle.laws_one_step.proofs.Next.{Frame, IsAt, Next, Site, amid, at_head, at_node, counting, deciding, did, doing, entering, failing, is_amid, is_doing, is_over, is_receiving, made, mark_of, next_of, node_at, nothing, on_option, on_result, over, receiving, sent, set_at, set_or_spent, turned}
 use Rattle.laws_one_step.proofs.Next as next
 use Rattle.laws_one_step.proofs.Ways.{GoesOn, at_is, decides}
@@ -115,13 +115,13 @@ module _ (f : Frame) (w : WorldValue) (s : Store) (q : PortState) where
       (at_node f origin s q) (at_is f.nodes at (kind.Decision asked) after asks.at)
 
   -- and at an action
-  pub effects_next : (origin : Option StateId) (action : Action) (at after : Option NodeId)
+  pub acts_next : (origin : Option StateId) (action : Action) (at after : Option NodeId)
       → ActsAt f.nodes at action after
       → next_of f w (doing origin at) s q ≡ counting s q (turned (amid origin action after))
-  effects_next origin action at after effects =
-      on_some (node_at f.nodes at) (record { statement = effects.statement; next = after }) nothing
-      (at_node f origin s q) (at_is f.nodes at effects.statement after effects.at)
-      ∙ ap (λ head. at_head f origin s q after head) (head_effects effects.statement action effects.effects)
+  acts_next origin action at after acts =
+      on_some (node_at f.nodes at) (record { statement = acts.statement; next = after }) nothing
+      (at_node f origin s q) (at_is f.nodes at acts.statement after acts.at)
+      ∙ ap (λ head. at_head f origin s q after head) (head_acts acts.statement action acts.acts)
 
   -- the question fails
   pub asked_wrong : (origin : Option StateId) (asked : Decision) (question : Term) (why : Failure)
@@ -203,7 +203,7 @@ module _ (f : Frame) (w : WorldValue) (s : Store) (q : PortState) where
       on_err (placed (sort_in f.d.behaviour variable) value) why (failing s q)
       (λ taken. turned (receiving origin variables values spot) (assigned variable taken s)) cause
   cause_next why _ _ (is_doing origin (body.action first rest) spot has) cause =
-      effects_next origin first spot has.0 has.1 ∙ too_long s q why (turned (amid origin first has.0)) cause
+      acts_next origin first spot has.0 has.1 ∙ too_long s q why (turned (amid origin first has.0)) cause
   cause_next why _ _ (is_doing origin (body.decision question parts rest) spot has) cause =
       asks_next origin has.0 question spot has.1 has.2 ∙ decision_wrong origin question parts rest spot why has cause
   cause_next why _ _ (is_doing origin (body.ending (body.join label)) spot has) cause =

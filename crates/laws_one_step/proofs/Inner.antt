@@ -36,7 +36,7 @@ use Rattle.sdl_system.specs.declared.route.Source.TheVariants as source
 use Rattle.sdl_system.specs.declared.route.Target.{Target}
 use Rattle.sdl_system.specs.declared.statement.Statement.{Statement}
 use Rattle.sdl_system.specs.declared.statement.Statement.TheVariants as kind
-use Rattle.laws_one_step.proofs.Next.{Frame, IsAt, Next, Site, effects, amid, at_head, at_node, at_state, did, doing, ending, ends, entering, failing, head_of, is_amid, is_doing, is_over, is_state, made, next_of, node_at, nothing, on_option, on_result, on_test, over, reached, sent, set_at, set_or_spent}
+use Rattle.laws_one_step.proofs.Next.{Frame, IsAt, Next, Site, acts, amid, at_head, at_node, at_state, did, doing, ending, ends, entering, failing, head_of, is_amid, is_doing, is_over, is_state, made, next_of, node_at, nothing, on_option, on_result, on_test, over, reached, sent, set_at, set_or_spent}
 use Rattle.laws_one_step.proofs.Ways.{at_is}
 
 -- the event is what comes next, and leads to a place that is known
@@ -78,18 +78,18 @@ one_call q r calls call one legal =
 
 -- ---- where a body has
 
-pub head_effects : (statement : Statement) (action : Action) → action_of statement ≡ Some action
+pub head_acts : (statement : Statement) (action : Action) → action_of statement ≡ Some action
     → head_of statement ≡ effects action
-head_effects (kind.Task list) action is = cc
-head_effects (kind.Output sends) action is = cc
-head_effects (kind.Set list) action is = cc
-head_effects (kind.Reset list) action is = cc
-head_effects (kind.Create creation) action is = cc
-head_effects (kind.Decision asked) action is = let wrong : ⊥ = cc in absurd wrong
-head_effects (kind.Join label) action is = let wrong : ⊥ = cc in absurd wrong
-head_effects (kind.NextState state) action is = let wrong : ⊥ = cc in absurd wrong
-head_effects kind.SameState action is = let wrong : ⊥ = cc in absurd wrong
-head_effects kind.Stop action is = let wrong : ⊥ = cc in absurd wrong
+head_acts (kind.Task list) action is = cc
+head_acts (kind.Output sends) action is = cc
+head_acts (kind.Set list) action is = cc
+head_acts (kind.Reset list) action is = cc
+head_acts (kind.Create creation) action is = cc
+head_acts (kind.Decision asked) action is = let wrong : ⊥ = cc in absurd wrong
+head_acts (kind.Join label) action is = let wrong : ⊥ = cc in absurd wrong
+head_acts (kind.NextState state) action is = let wrong : ⊥ = cc in absurd wrong
+head_acts kind.SameState action is = let wrong : ⊥ = cc in absurd wrong
+head_acts kind.Stop action is = let wrong : ⊥ = cc in absurd wrong
 
 pub head_ends : (statement : Statement) (terminator : Terminator) → terminator_of statement ≡ Some terminator
     → head_of statement ≡ ends terminator

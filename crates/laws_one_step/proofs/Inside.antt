@@ -30,7 +30,7 @@ use Rattle.sdl_system.specs.declared.id.VariableId.{VariableId}
 use Rattle.sdl_system.specs.declared.route.Dest.{Dest}
 use Rattle.sdl_system.specs.declared.route.Target.{Target}
 use Rattle.sdl_system.specs.declared.statement.Way.{Way}
-use Rattle.laws_one_step.proofs.Failed.{effects_next, asked_well, asks_next, counts_on, fails}
+use Rattle.laws_one_step.proofs.Failed.{acts_next, asked_well, asks_next, counts_on, fails}
 use Rattle.laws_one_step.proofs.Inner.{Comes, assigns, creates, ends_next, enters, on_ok, on_some, resets, sends, sets, stops}
 use Rattle.laws_one_step.proofs.Next.{Frame, IsAt, Site, amid, counted, doing, failing, is_amid, is_doing, is_receiving, mark_of, next_of, receiving, turned}
 use Rattle.laws_one_step.proofs.Ways.{GoesOn, decides, labelled}
@@ -198,13 +198,13 @@ module _ (f : Frame) (w : WorldValue) (s : Store) (q : PortState) (to : ControlP
       (on_ok (placed (sort_in f.d.behaviour variable) value) turns.1.0 (failing s q)
       (λ taken. turned (receiving origin variables values spot) (assigned variable taken s)) turns.1.1)
 
-  effects_on : (origin : Option StateId) (first : body.Action) (rest : Body) (spot : Option NodeId)
+  acts_on : (origin : Option StateId) (first : body.Action) (rest : Body) (spot : Option NodeId)
       → (has : Has f.nodes f.marks spot (body.action first rest) None)
       → (to ≡ place.Amid origin first rest) × Counts s t → TurnsTo f w (doing origin spot) s q to t
-  effects_on origin first rest spot has turns =
+  acts_on origin first rest spot has turns =
       turns_so (doing origin spot) (amid origin first has.0) (place.Amid origin first rest) (counted s) turns.0
       (is_amid origin first rest has.0 has.2) turns.1.1
-      (effects_next f w s q origin first spot has.0 has.1
+      (acts_next f w s q origin first spot has.0 has.1
       ∙ counts_on s q (turned (amid origin first has.0)) turns.1.0)
 
   -- the part that is chosen stands where the way leads
@@ -276,7 +276,7 @@ module _ (f : Frame) (w : WorldValue) (s : Store) (q : PortState) (to : ControlP
     turns_on _ _ (is_receiving origin (None ∷ variables) [] next spot has) turns =
         turns_so (receiving origin (None ∷ variables) [] spot) (doing origin spot) (place.Doing origin next) s
         turns.0 (is_doing origin next spot has) turns.1 refl
-    turns_on _ _ (is_doing origin (body.action first rest) spot has) turns = effects_on origin first rest spot has turns
+    turns_on _ _ (is_doing origin (body.action first rest) spot has) turns = acts_on origin first rest spot has turns
     turns_on _ _ (is_doing origin (body.decision question parts rest) spot has) turns =
         chooses origin question parts rest spot has turns.0 turns.1.0 turns.1.1 turns.1.2
     turns_on _ _ (is_doing origin (body.label number rest) spot has) turns = record {

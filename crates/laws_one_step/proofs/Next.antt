@@ -106,16 +106,16 @@ counting s q next =
 -- ---- at a node
 
 pub data Head : Type 0 where
-  effects : (action : Action) → Head
+  acts : (action : Action) → Head
   asks : (asked : Decision) → Head
   ends : (terminator : Terminator) → Head
 
 abbrev pub head_of : Statement → Head
-head_of (kind.Task list) = effects (body.task (map assigning list.items))
-head_of (kind.Output sends) = effects (body.output (map sending sends.signals.items) (option_map whither_of sends.to))
-head_of (kind.Set list) = effects (body.set (map setting list.items))
-head_of (kind.Reset list) = effects (body.reset (map timing list.items))
-head_of (kind.Create creation) = effects (body.create creation.process (map term_of creation.values.items))
+head_of (kind.Task list) = acts (body.task (map assigning list.items))
+head_of (kind.Output sends) = acts (body.output (map sending sends.signals.items) (option_map whither_of sends.to))
+head_of (kind.Set list) = acts (body.set (map setting list.items))
+head_of (kind.Reset list) = acts (body.reset (map timing list.items))
+head_of (kind.Create creation) = acts (body.create creation.process (map term_of creation.values.items))
 head_of (kind.Decision asked) = asks asked
 head_of (kind.Join label) = ends (body.join label)
 head_of (kind.NextState state) = ends (body.to_state state)
@@ -149,7 +149,7 @@ deciding f origin s q asked t =
     (λ value. on_option (way_of asked value) (failing s q NoAnswer) (λ way. turned (doing origin way.0) t))
 
 abbrev pub at_head : Frame → Option StateId → Store → PortState → Option NodeId → Head → Next
-at_head f origin s q after (effects action) = counting s q (turned (amid origin action after))
+at_head f origin s q after (acts action) = counting s q (turned (amid origin action after))
 at_head f origin s q after (asks asked) = counting s q (deciding f origin s q asked)
 at_head f origin s q after (ends terminator) = ending f origin s q terminator
 

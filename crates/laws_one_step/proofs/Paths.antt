@@ -9,7 +9,7 @@ use Rattle.run_semantics.proofs.Deeds.{calls_of-append}
 use Rattle.run_semantics.specs.Effect.{Deed, calls_of}
 use Rattle.run_semantics.specs.Leads.{Leads, LeadsSilently}
 use Rattle.run_semantics.specs.ControlPoint.{Definition, ControlPoint}
-use Rattle.run_semantics.specs.Runs.{Runs, effects, hears, is_outside, outside_of, own_of, still, turns, waits}
+use Rattle.run_semantics.specs.Runs.{Runs, acts, hears, is_outside, outside_of, own_of, still, turns, waits}
 
 -- from a place, what is known there and a port, by these deeds
 pub data Path (d : Definition) (who : Identity) (to : ControlPoint) (t : Store) (r : PortState)
@@ -57,7 +57,7 @@ module _ (d : Definition) (who : Identity) (from : ControlPoint) (s : Store) (q 
   calls_within : {deeds : List Deed} {history : List PortEvent} {to : ControlPoint} {t : Store} {r : PortState}
       → Runs d who from s q deeds history to t r → length (calls_of deeds) ≤ length history
   calls_within still = omega arith
-  calls_within (effects {deeds = deeds} {history = history} before deed to t r leads legal) =
+  calls_within (acts {deeds = deeds} {history = history} before deed to t r leads legal) =
       let more = calls_more deeds deed in
       let longer = more_events history deed.calls in
       let within = calls_within before in omega (arith, more, longer, within)
@@ -75,7 +75,7 @@ module _ (d : Definition) (who : Identity) (from : ControlPoint) (s : Store) (q 
       → (to : ControlPoint) (t : Store) (r : PortState) → Path d who to t r mid u m later
       → Path d who to t r from s q (deeds ++ later)
   path_from still same later to t r path = path
-  path_from (effects {deeds = deeds} {history = history} {at = at} {mid = mid} {port = port} before deed after u m leads
+  path_from (acts {deeds = deeds} {history = history} {at = at} {mid = mid} {port = port} before deed after u m leads
       legal)
       same later to t r path =
       let more = calls_more deeds deed in

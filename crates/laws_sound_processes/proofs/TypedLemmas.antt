@@ -6,7 +6,7 @@ use Rattle.build_transitions.specs.Bodies.{beginning_body, bodies_among}
 use Rattle.flow_paths.specs.Beginnings.{Beginning, beginnings}
 use Rattle.build_statements.specs.Contexts.{Context, label_in, state_in}
 use Rattle.build_statements.specs.Statements.{agent_name, answers_in, asked_in, assigned, assigning_in, create_in, created_as, default_of, kind_in, output_in, process_of, reset_in, sending_in, sent, sent_as, sent_to, set_for, set_in, setting_in, sort_of, target_of, task_in, terminator_in, timed, timed_as, timing_in, value_for, values_for, when_in, whither_in, whither_of}
-use Rattle.build_nodes.specs.Transitions.{Head, Piece, effects, asks, before, body_in, ending_in, head_in, labelled, other_in, parts_of, piece, pieces_in, steps_in}
+use Rattle.build_nodes.specs.Transitions.{Head, Piece, acts, asks, before, body_in, ending_in, head_in, labelled, other_in, parts_of, piece, pieces_in, steps_in}
 use Rattle.build_statements.specs.declared.task.Target.{Target}
 use Rattle.build_expressions.specs.Partial.{all_some, both}
 use Rattle.build_expressions.specs.Scope as names
@@ -293,12 +293,12 @@ module _ (system : SystemValue) (process : Process) (context : Context)
       EveryPart (IsTypedAction system process) (HasSomeKind system process) (IsTypedTerminator process) parts
 
   abbrev IsTypedHead : Head → Type 0
-  IsTypedHead (effects action) = IsTypedAction system process action
+  IsTypedHead (acts action) = IsTypedAction system process action
   IsTypedHead (asks question parts) = HasSomeKind system process question × IsTypedParts parts
 
   before-typed : (h : Head) (rest : Body) → IsTypedHead h → IsTypedBody system process rest →
       IsTypedBody system process (before h rest)
-  before-typed (effects action) rest has also = (has, also)
+  before-typed (acts action) rest has also = (has, also)
   before-typed (asks question parts) rest has also = (has.0, has.1, also)
 
   abbrev ArePieces : List Piece → Type 0
@@ -338,19 +338,19 @@ module _ (system : SystemValue) (process : Process) (context : Context)
 
     head-typed : (first : tree.Action) → Holds IsTypedHead (head_in context first)
     head-typed (tree.Task word assignments) =
-        holds-map (IsTypedAction system process) IsTypedHead effects (task_in context assignments) (λ action has. has)
+        holds-map (IsTypedAction system process) IsTypedHead acts (task_in context assignments) (λ action has. has)
         (task-typed assignments)
     head-typed (tree.Output word outputs destination) =
-        holds-map (IsTypedAction system process) IsTypedHead effects (output_in context outputs destination)
+        holds-map (IsTypedAction system process) IsTypedHead acts (output_in context outputs destination)
         (λ action has. has) (output-typed outputs destination)
     head-typed (tree.Set word clauses) =
-        holds-map (IsTypedAction system process) IsTypedHead effects (set_in context clauses) (λ action has. has)
+        holds-map (IsTypedAction system process) IsTypedHead acts (set_in context clauses) (λ action has. has)
         (set-typed clauses)
     head-typed (tree.Reset word groups) =
-        holds-map (IsTypedAction system process) IsTypedHead effects (reset_in context groups) (λ action has. has)
+        holds-map (IsTypedAction system process) IsTypedHead acts (reset_in context groups) (λ action has. has)
         (reset-typed groups)
     head-typed (tree.Create word applied) =
-        holds-map (IsTypedAction system process) IsTypedHead effects (create_in context applied) (λ action has. has)
+        holds-map (IsTypedAction system process) IsTypedHead acts (create_in context applied) (λ action has. has)
         (create-typed applied)
     head-typed (tree.Decision word question parts other) =
         let typed = asked_in context question in

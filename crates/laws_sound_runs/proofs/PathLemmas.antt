@@ -8,9 +8,9 @@ use Rattle.sdl_system.specs.Body.{Action, Body, FromLabel, InParts, Parts, Termi
 use Rattle.sdl_system.specs.Term.{Term}
 use Rattle.sdl_system.specs.declared.id.LabelId.{LabelId}
 
-module _ (effects : Action → Type 0) (asks : Term → Type 0) (ends : Terminator → Type 0) where
-  pub every-followed : (a b : Body) → Every effects asks ends a → Every effects asks ends b →
-      Every effects asks ends (followed a b)
+module _ (acts : Action → Type 0) (asks : Term → Type 0) (ends : Terminator → Type 0) where
+  pub every-followed : (a b : Body) → Every acts asks ends a → Every acts asks ends b →
+      Every acts asks ends (followed a b)
   every-followed body.nothing b has also = also
   every-followed (body.action first rest) b has also = (has.0, every-followed rest b has.1 also)
   every-followed (body.decision question parts rest) b has also = (has.0, has.1, every-followed rest b has.2 also)
@@ -18,8 +18,8 @@ module _ (effects : Action → Type 0) (asks : Term → Type 0) (ends : Terminat
   every-followed (body.ending terminator) b has also = has
 
   mutual
-    pub every-from : (l : LabelId) (b on : Body) → FromLabel l b on → Every effects asks ends b →
-        Every effects asks ends on
+    pub every-from : (l : LabelId) (b on : Body) → FromLabel l b on → Every acts asks ends b →
+        Every acts asks ends on
     every-from l _ _ (here rest) has = has
     every-from l _ _ (past_action first rest on from) has = every-from l rest on from has.1
     every-from l _ _ (past_label number rest on from) has = every-from l rest on from has
@@ -27,14 +27,14 @@ module _ (effects : Action → Type 0) (asks : Term → Type 0) (ends : Terminat
     every-from l _ _ (within question parts rest on from) has =
         every-followed on rest (every-in l parts on from has.1) has.2
 
-    every-in : (l : LabelId) (parts : Parts) (on : Body) → InParts l parts on → EveryPart effects asks ends parts →
-        Every effects asks ends on
+    every-in : (l : LabelId) (parts : Parts) (on : Body) → InParts l parts on → EveryPart acts asks ends parts →
+        Every acts asks ends on
     every-in l _ _ (in_otherwise b on from) has = every-from l b on from has
     every-in l _ _ (in_first answers b rest on from) has = every-from l b on from has.0
     every-in l _ _ (in_later answers b rest on from) has = every-in l rest on from has.1
 
-  pub every-part : (one : Body) (parts : Parts) → IsPartOf one parts → EveryPart effects asks ends parts →
-      Every effects asks ends one
+  pub every-part : (one : Body) (parts : Parts) → IsPartOf one parts → EveryPart acts asks ends parts →
+      Every acts asks ends one
   every-part one _ behind_else has = has
   every-part one _ (first_part answers rest) has = has.0
   every-part one _ (later_part answers other rest is) has = every-part one rest is has.1

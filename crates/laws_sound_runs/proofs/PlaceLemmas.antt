@@ -10,7 +10,7 @@ use Rattle.run_record.specs.Event.{Event}
 use Rattle.run_semantics.specs.Effect.{Effect, Deed}
 use Rattle.run_semantics.specs.Leads.{Happens, LeadsSilently}
 use Rattle.run_semantics.specs.ControlPoint.{Amid, AtStart, Closed, Definition, Doing, Ended, In, IsState, ControlPoint, Receiving}
-use Rattle.run_semantics.specs.Runs.{Runs, effects, hears, still, turns, waits}
+use Rattle.run_semantics.specs.Runs.{Runs, acts, hears, still, turns, waits}
 use Rattle.laws_sound_runs.proofs.PathLemmas.{chosen-part, every-followed, every-from, every-part, reaches-also}
 use Rattle.laws_sound_runs.specs.RunLaws.{ComesToStates}
 use Rattle.laws_sound_runs.specs.Paths.{Meets, Reaches, at_end, at_once, behind_action, behind_label, by_join, by_part}
@@ -250,7 +250,7 @@ module _ (d : Definition) (sound : LeadsToStates d.behaviour) where
     pub runs-good : {deeds : List Deed} {history : List PortEvent} {place : ControlPoint} {t : Store} {r : PortState} →
         Runs d who AtStart s q deeds history place t r → IsGoodPlace d place
     runs-good still = tt
-    runs-good (effects {at = at} {mid = mid} {port = port} before deed to t r leads legal) =
+    runs-good (acts {at = at} {mid = mid} {port = port} before deed to t r leads legal) =
         happens-good who port at mid deed.event deed.calls deed.effects to t (runs-good before) leads
     runs-good (turns {at = at} {mid = mid} {port = port} before to t turn) =
         turns-good who port at mid to t (runs-good before) turn

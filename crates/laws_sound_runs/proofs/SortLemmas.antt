@@ -20,7 +20,7 @@ use Rattle.run_semantics.specs.Instance.{parameters_from}
 use Rattle.run_semantics.specs.Leads.{Happens, LeadsSilently}
 use Rattle.run_semantics.specs.ControlPoint.{Amid, AtStart, Closed, Definition, Doing, Ended, In, ControlPoint, Receiving}
 use Rattle.run_semantics.specs.Reception.{assigned, sort_in}
-use Rattle.run_semantics.specs.Runs.{Runs, effects, hears, still, turns, waits}
+use Rattle.run_semantics.specs.Runs.{Runs, acts, hears, still, turns, waits}
 use Rattle.laws_sound_runs.specs.Sorts.{HaveSorts, RunsKeepSorts, StartsWithSorts, ValuesFitPlaces}
 use Rattle.sdl_system.proofs.OperationLemmas.{takes_sort}
 use Rattle.sdl_system.specs.Behaviour.{Behaviour, VariableMeaning}
@@ -304,7 +304,7 @@ module _ (d : Definition) (who : Identity) (from : ControlPoint) (s : Store) (q 
   runs-sorted : {deeds : List Deed} {history : List PortEvent} {place : ControlPoint} {t : Store} {r : PortState} →
       Runs d who from s q deeds history place t r → HaveSorts d.behaviour t.variables
   runs-sorted still = have
-  runs-sorted (effects {at = at} {mid = mid} {port = port} before deed to t r leads legal) =
+  runs-sorted (acts {at = at} {mid = mid} {port = port} before deed to t r leads legal) =
       happens-sorted d who port at mid deed.event deed.calls deed.effects to t (runs-sorted before) leads
   runs-sorted (turns {at = at} {mid = mid} {port = port} before to t turn) =
       turns-sorted d who port at mid to t (runs-sorted before) turn

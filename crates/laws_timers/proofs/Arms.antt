@@ -18,7 +18,7 @@ use Rattle.run_semantics.specs.Effect.{Effect, Arm, Deed, effects_of}
 use Rattle.run_semantics.specs.Fails.{FailsIn, of_condition, of_continuous, of_event, of_take, of_trying}
 use Rattle.run_semantics.specs.Leads.{Happens}
 use Rattle.run_semantics.specs.ControlPoint.{Amid, AtStart, Closed, Definition, Doing, Ended, In, ControlPoint, Receiving}
-use Rattle.run_semantics.specs.Runs.{Runs, effects, hears, still, turns, waits}
+use Rattle.run_semantics.specs.Runs.{Runs, acts, hears, still, turns, waits}
 use Rattle.sdl_system.specs.Behaviour.{Behaviour, StateMeaning}
 use Rattle.sdl_system.specs.Body as body
 
@@ -204,7 +204,7 @@ module _ (d : Definition) (who : Identity) (from : ControlPoint) (s : Store) (q 
   pub runs_fused : {deeds : List Deed} {history : List PortEvent} {to : ControlPoint} {t : Store} {r : PortState}
       → Runs d who from s q deeds history to t r → AreFused (IsArmedOr A (effects_of deeds)) who.pid r.timers
   runs_fused still = fused_more A (IsArmedOr A []) who.pid (λ fuse own is. inl is) q.timers are
-  runs_fused (effects {deeds = deeds} {at = at} {mid = mid} {port = port} before deed to t r leads legal) =
+  runs_fused (acts {deeds = deeds} {at = at} {mid = mid} {port = port} before deed to t r leads legal) =
       let one : List Effect = effects_of (deed ∷ []) in
       let now : List Effect = effects_of deeds ++ one in
       let first : AreFused (IsArmedOr A now) who.pid port.timers =

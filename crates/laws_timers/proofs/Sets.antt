@@ -21,7 +21,7 @@ use Rattle.run_semantics.proofs.Acting.{AreActs, AreActsOf, runs_effects}
 use Rattle.run_semantics.specs.Effect.{Effect, Arm, Create, Deed, Send, effects_of, calls_of}
 use Rattle.run_semantics.specs.Leads.{created}
 use Rattle.run_semantics.specs.ControlPoint.{Definition, ControlPoint}
-use Rattle.run_semantics.specs.Runs.{Runs, effects, hears, still, turns, waits}
+use Rattle.run_semantics.specs.Runs.{Runs, acts, hears, still, turns, waits}
 use Rattle.sdl_script.specs.declared.script.ScriptLine.{ScriptLine}
 use Rattle.sdl_script.specs.declared.script.ScriptSignal.{ScriptSignal}
 use Rattle.run_transitions.specs.Machine.{place_of}
@@ -109,7 +109,7 @@ module _ (d : Definition) (who : Identity) (from : ControlPoint) (s : Store) (q 
   runs_armed : {deeds : List Deed} {history : List PortEvent} {to : ControlPoint} {t : Store} {r : PortState}
       → Runs d who from s q deeds history to t r → AreArmed who.pid deeds
   runs_armed still = tt
-  runs_armed (effects {deeds = deeds} {at = at} {mid = mid} {port = port} before deed to t r leads legal) =
+  runs_armed (acts {deeds = deeds} {at = at} {mid = mid} {port = port} before deed to t r leads legal) =
       AreArmed-append who.pid deeds (deed ∷ []) (runs_armed before)
       (happens_sets d who port at mid deed.event deed.calls deed.effects to t leads, tt)
   runs_armed (turns before to t turn) = runs_armed before

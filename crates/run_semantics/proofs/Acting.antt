@@ -13,7 +13,7 @@ use Rattle.run_record.specs.Event.{Event}
 use Rattle.run_semantics.specs.Effect.{Effect, Arm, Deed, Send}
 use Rattle.run_semantics.specs.Leads.{Happens, created}
 use Rattle.run_semantics.specs.ControlPoint.{Amid, AtStart, Closed, Definition, Doing, Ended, In, ControlPoint, Receiving}
-use Rattle.run_semantics.specs.Runs.{Runs, effects, hears, still, turns, waits}
+use Rattle.run_semantics.specs.Runs.{Runs, acts, hears, still, turns, waits}
 use Rattle.sdl_system.specs.Body as body
 
 -- What an event does outside: an output sends a signal of the instance, a set arms a fuse, a create makes the instance
@@ -116,7 +116,7 @@ module _ (d : Definition) (who : Identity) (from : ControlPoint) (s : Store) (q 
   pub runs_effects : {deeds : List Deed} {history : List PortEvent} {to : ControlPoint} {t : Store} {r : PortState}
       → Runs d who from s q deeds history to t r → AreActs who.pid deeds
   runs_effects still = tt
-  runs_effects (effects {deeds = deeds} {at = at} {mid = mid} {port = port} before deed to t r leads legal) =
+  runs_effects (acts {deeds = deeds} {at = at} {mid = mid} {port = port} before deed to t r leads legal) =
       AreActs-append who.pid deeds (deed ∷ []) (runs_effects before)
       (happens_effects d who port at mid deed.event deed.calls deed.effects to t leads, tt)
   runs_effects (turns before to t turn) = runs_effects before

@@ -10,7 +10,7 @@ use Rattle.run_semantics.specs.Effect.{Effect, Deed}
 use Rattle.run_semantics.specs.Leads.{Happens, Leads, LeadsSilently}
 use Rattle.run_semantics.specs.ControlPoint.{Closed, Definition, Ended, ControlPoint}
 use Rattle.run_semantics.specs.RunLaws.{EndsForGood, GoesNoFurther}
-use Rattle.run_semantics.specs.Runs.{Runs, still, effects, turns, hears, waits}
+use Rattle.run_semantics.specs.Runs.{Runs, still, acts, turns, hears, waits}
 
 -- no failure has a cause there
 neither : {A : Type 0} → (A × ⊥) ⊎ ⊥ → ⊥
@@ -64,7 +64,7 @@ module _ (place : ControlPoint) (d : Definition) (who : Identity) (s : Store) (q
   stays : {deeds : List Deed} {history : List PortEvent} {to : ControlPoint} {t : Store} {r : PortState}
       → Runs d who place s q deeds history to t r → (deeds ≡ []) × (to ≡ place) × (t ≡ s)
   stays still = (refl, refl, refl)
-  stays (effects {mid = mid} {port = port} before deed to t r leads legal) =
+  stays (acts {mid = mid} {port = port} before deed to t r leads legal) =
       absurd (no_deed port mid deed to t
       (subst (λ (at : ControlPoint). Leads d who port at mid deed to t) (stays before).1 leads))
   stays (turns {mid = mid} {port = port} before to t turn) =

@@ -26,7 +26,7 @@ use Rattle.run_semantics.specs.Fails.{Fails}
 use Rattle.run_semantics.specs.Goes.{AreInner, Goes, GoesWrong, IsFirst, IsInner, IsOneStep, MachineValue, Waits, drawn_as, with_event}
 use Rattle.run_semantics.specs.Leads.{IsQuiet, Leads, Selecting, LeadsSilently}
 use Rattle.run_semantics.specs.ControlPoint.{Definition, Ended, In, ControlPoint}
-use Rattle.run_semantics.specs.Runs.{Runs, effects, outside_of, own_of, still, turns, waits}
+use Rattle.run_semantics.specs.Runs.{Runs, acts, outside_of, own_of, still, turns, waits}
 use Rattle.run_semantics.specs.Selection.{none_true, tried}
 use Rattle.run_semantics.specs.World.{IsTrueOfOne, WorldValue, after_effects, after_deeds, time_after, time_after_one}
 use Rattle.sdl_system.specs.Behaviour.{ContinuousSignal}

@@ -22,7 +22,7 @@ use Rattle.run_semantics.specs.Goes.{Goes, MachineValue, Waits, drawn_as}
 use Rattle.run_semantics.specs.Instance.{HasRun, first_store}
 use Rattle.run_semantics.specs.Leads.{IsQuiet, Leads}
 use Rattle.run_semantics.specs.ControlPoint.{AtStart, Closed, Definition, In, ControlPoint}
-use Rattle.run_semantics.specs.Runs.{Runs, effects, hears, outside_of, still}
+use Rattle.run_semantics.specs.Runs.{Runs, acts, hears, outside_of, still}
 use Rattle.run_semantics.specs.World.{WorldValue}
 use Rattle.sdl_system.specs.declared.id.StateId.{StateId}
 
@@ -106,7 +106,7 @@ module _ (d : Definition) where
             ∙ sym (events_of-append run.deeds (deed ∷ []));
         outside = λ is_shared. ap (λ (history : List PortEvent). outside_of history) (append-nil run.history)
             ∙ run.outside is_shared;
-        runs = effects run.runs deed Closed s owner.state leads refl;
+        runs = acts run.runs deed Closed s owner.state leads refl;
       }
 
   -- in a state in which nothing is left to do

@@ -9,7 +9,7 @@ use Rattle.run_evaluation.specs.declared.identity.Identity.{Identity}
 use Rattle.run_evaluation.specs.declared.store.Store.{Store}
 use Rattle.run_semantics.specs.Effect.{Deed}
 use Rattle.run_semantics.specs.ControlPoint.{Definition, ControlPoint}
-use Rattle.run_semantics.specs.Runs.{Runs, still, effects, turns, hears, waits}
+use Rattle.run_semantics.specs.Runs.{Runs, still, acts, turns, hears, waits}
 
 module _ (d : Definition) (who : Identity) (from : ControlPoint) (s : Store) (q : PortState) (deeds : List Deed)
     (history : List PortEvent) (mid : ControlPoint) (t : Store) (r : PortState) where
@@ -17,9 +17,9 @@ module _ (d : Definition) (who : Identity) (from : ControlPoint) (s : Store) (q 
       → Runs d who from s q deeds history mid t r → Runs d who mid t r later calls to u end
       → Runs d who from s q (deeds ++ later) (history ++ calls) to u end
   Runs-append first still = rw (append-nil deeds, append-nil history) first
-  Runs-append first (effects {deeds = ds} {history = hs} before deed to u end leads legal) =
+  Runs-append first (acts {deeds = ds} {history = hs} before deed to u end leads legal) =
       rw (← append_assoc deeds ds (deed ∷ []), ← append_assoc history hs deed.calls)
-      (effects (Runs-append first before) deed to u end leads legal)
+      (acts (Runs-append first before) deed to u end leads legal)
   Runs-append first (turns before to u turn) = turns (Runs-append first before) to u turn
   Runs-append first (hears {history = hs} before heard end outside step) =
       rw (← append_assoc history hs (heard ∷ [])) (hears (Runs-append first before) heard end outside step)

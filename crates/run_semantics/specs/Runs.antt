@@ -18,7 +18,7 @@ use Rattle.sdl_system.specs.declared.id.StateId.{StateId}
 pub data Runs (d : Definition) (who : Identity) (from : ControlPoint) (s : Store) (q : PortState)
     : List Deed → List PortEvent → ControlPoint → Store → PortState → Type 0 where
   still : Runs d who from s q [] [] from s q
-  effects : {deeds : List Deed} {history : List PortEvent} {at : ControlPoint} {mid : Store} {port : PortState}
+  acts : {deeds : List Deed} {history : List PortEvent} {at : ControlPoint} {mid : Store} {port : PortState}
       → Runs d who from s q deeds history at mid port → (deed : Deed) (to : ControlPoint) (t : Store) (r : PortState)
       → Leads d who port at mid deed to t → IsLegal port deed.calls r
       → Runs d who from s q (deeds ++ deed ∷ []) (history ++ deed.calls) to t r

@@ -31,18 +31,18 @@ use Rattle.sdl_system.specs.declared.statement.Way.{Way}
 
 -- ---- actions and ends
 
-effects_or_ends : (s : Statement) (first : Action) (last : Terminator) → action_of s ≡ Some first
+acts_or_ends : (s : Statement) (first : Action) (last : Terminator) → action_of s ≡ Some first
     → terminator_of s ≡ Some last → ⊥
-effects_or_ends (kind.Task list) first last effects ends = cc
-effects_or_ends (kind.Output sends) first last effects ends = cc
-effects_or_ends (kind.Set list) first last effects ends = cc
-effects_or_ends (kind.Reset list) first last effects ends = cc
-effects_or_ends (kind.Create creation) first last effects ends = cc
-effects_or_ends (kind.Decision asked) first last effects ends = cc
-effects_or_ends (kind.Join label) first last effects ends = cc
-effects_or_ends (kind.NextState state) first last effects ends = cc
-effects_or_ends kind.SameState first last effects ends = cc
-effects_or_ends kind.Stop first last effects ends = cc
+acts_or_ends (kind.Task list) first last acts ends = cc
+acts_or_ends (kind.Output sends) first last acts ends = cc
+acts_or_ends (kind.Set list) first last acts ends = cc
+acts_or_ends (kind.Reset list) first last acts ends = cc
+acts_or_ends (kind.Create creation) first last acts ends = cc
+acts_or_ends (kind.Decision asked) first last acts ends = cc
+acts_or_ends (kind.Join label) first last acts ends = cc
+acts_or_ends (kind.NextState state) first last acts ends = cc
+acts_or_ends kind.SameState first last acts ends = cc
+acts_or_ends kind.Stop first last acts ends = cc
 
 -- the statement is a decision, and nothing else
 asks_only : (s : Statement) (asked : Decision) → s ≡ kind.Decision asked
@@ -50,21 +50,21 @@ asks_only : (s : Statement) (asked : Decision) → s ≡ kind.Decision asked
 asks_only s asked is = (ap action_of is, ap terminator_of is)
 
 module _ (nodes : List Node) (marks : List (Option NodeId)) (node : Node) where
-  pub effects_here : (first : Action) (todo : Body) → action_of node.statement ≡ Some first → Heads nodes marks node todo
+  pub acts_here : (first : Action) (todo : Body) → action_of node.statement ≡ Some first → Heads nodes marks node todo
       → (rest : Body) × (todo ≡ body.action first rest) × Stands nodes marks node.next rest
-  effects_here first body.nothing effects heads = absurd heads
-  effects_here first (body.action one rest) effects heads =
-      let same : one ≡ first = let is = heads.effects in cc in
+  acts_here first body.nothing acts heads = absurd heads
+  acts_here first (body.action one rest) acts heads =
+      let same : one ≡ first = let is = heads.acts in cc in
       (rest, ap (λ (a : Action). body.action a rest) same, heads.goes_on)
-  effects_here first (body.decision question parts rest) effects heads =
+  acts_here first (body.decision question parts rest) acts heads =
       let none = (asks_only node.statement heads.asked heads.statement).0 in absurd (cc)
-  effects_here first (body.label number rest) effects heads = absurd heads
-  effects_here first (body.ending last) effects heads = absurd (effects_or_ends node.statement first last effects heads)
+  acts_here first (body.label number rest) acts heads = absurd heads
+  acts_here first (body.ending last) acts heads = absurd (acts_or_ends node.statement first last acts heads)
 
   pub ends_here : (last : Terminator) (todo : Body) → terminator_of node.statement ≡ Some last
       → Heads nodes marks node todo → todo ≡ body.ending last
   ends_here last body.nothing ends heads = absurd heads
-  ends_here last (body.action first rest) ends heads = absurd (effects_or_ends node.statement first last heads.effects ends)
+  ends_here last (body.action first rest) ends heads = absurd (acts_or_ends node.statement first last heads.acts ends)
   ends_here last (body.decision question parts rest) ends heads =
       let none = (asks_only node.statement heads.asked heads.statement).1 in absurd (cc)
   ends_here last (body.label number rest) ends heads = absurd heads
@@ -133,7 +133,7 @@ pub decided_here : (nodes : List Node) (marks : List (Option NodeId)) (node : No
     → node.statement ≡ kind.Decision asked → Heads nodes marks node todo → Decided nodes marks node asked todo
 decided_here nodes marks node asked body.nothing is heads = absurd heads
 decided_here nodes marks node asked (body.action first rest) is heads =
-    let effects = heads.effects in let none = (asks_only node.statement asked is).0 in absurd (cc)
+    let acts = heads.acts in let none = (asks_only node.statement asked is).0 in absurd (cc)
 decided_here nodes marks node asked (body.decision question parts rest) is heads =
     let same : heads.asked ≡ asked = let there = heads.statement in cc in
     record {

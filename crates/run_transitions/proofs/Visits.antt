@@ -15,7 +15,7 @@ use Rattle.run_semantics.specs.Leads.{Counts}
 use Rattle.run_semantics.specs.ControlPoint.{Amid, Definition, Doing, Ended, In}
 use Rattle.run_semantics.specs.World.{WorldValue}
 use Rattle.run_transitions.proofs.Deeds.{goes_ended, goes_to_same, goes_to_state}
-use Rattle.run_transitions.proofs.Heads.{Decided, IsCounted, LeadsOn, effects_here, counted_joins, decided_here, ends_here, is_state, is_there, leads_on, same_fails, undecided}
+use Rattle.run_transitions.proofs.Heads.{Decided, IsCounted, LeadsOn, acts_here, counted_joins, decided_here, ends_here, is_state, is_there, leads_on, same_fails, undecided}
 use Rattle.run_transitions.specs.Machine.{value_of}
 use Rattle.run_transitions.specs.Walk.{ActsAs, CantChoose, ChoosesWay, Enters, EntersNone, FailsToAct, IsPlain, Visits, VisitsWrong, marks_of}
 use Rattle.run_transitions.specs.Work.{Does, DoesWrong, IsIn, IsOf, Site, amid, behind}
@@ -155,7 +155,7 @@ module _ (system : SystemValue) (process : Process) (node : Node) (origin : Opti
         → Does (IsOf system process) (amid first) m w behind n v
         → Visits system process node origin l w (onward.At node.next) n v
     visits_action first n v effects does = λ d is todo number got heads.
-        let here = effects_here process.nodes.items (marks_of is) node first todo effects heads in
+        let here = acts_here process.nodes.items (marks_of is) node first todo effects heads in
         record {
           rest = here.0;
           stands = here.2;
@@ -169,7 +169,7 @@ module _ (system : SystemValue) (process : Process) (node : Node) (origin : Opti
         → action_of node.statement ≡ Some first → DoesWrong (IsOf system process) (amid first) m w n v why
         → VisitsWrong system process node origin l w n v why
     visits_action_wrong first n v why effects does = λ d is todo heads.
-        let here = effects_here process.nodes.items (marks_of is) node first todo effects heads in
+        let here = acts_here process.nodes.items (marks_of is) node first todo effects heads in
         subst (λ (b : Body). GoesWrong d (Doing origin b) l w n v why) (sym here.1)
         (wrong_on d (Doing origin (body.action first here.0)) (Amid origin first here.0) l m n w w v why
         (counted d first here.0) (does d is origin here.0))

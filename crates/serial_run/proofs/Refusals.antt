@@ -13,7 +13,7 @@ use Rattle.run_semantics.specs.Effect.{Effect, Deed, effects_of}
 use Rattle.run_semantics.specs.Goes.{IsFirst, IsOneStep}
 use Rattle.run_semantics.specs.Leads.{Happens, Leads, Turns}
 use Rattle.run_semantics.specs.ControlPoint.{Amid, AtStart, Closed, Definition, Doing, Ended, In, ControlPoint, Receiving}
-use Rattle.run_semantics.specs.Runs.{Runs, effects, hears, still, turns, waits}
+use Rattle.run_semantics.specs.Runs.{Runs, acts, hears, still, turns, waits}
 use Rattle.sdl_system.specs.Body as body
 
 module _ (d : Definition) (who : Identity) (q : PortState) (s : Store) (at : ℕ) (why : Failure)
@@ -69,7 +69,7 @@ from_ended : (d : Definition) (who : Identity) (port r : PortState) (place : Con
     (to : ControlPoint) (t : Store) → place ≡ Ended → Leads d who port place s deed to t → IsLegal port deed.calls r → ⊥
 from_ended d who port r place s deed to t is leads legal =
     let run : Runs d who Ended s port ([] ++ deed ∷ []) ([] ++ deed.calls) to t r =
-    effects still deed to t r (subst (λ (p : ControlPoint). Leads d who port p s deed to t) is leads) legal in
+    acts still deed to t r (subst (λ (p : ControlPoint). Leads d who port p s deed to t) is leads) legal in
     let none : deed ∷ [] ≡ [] = (ends_for_good.0 d who to s t port r ([] ++ deed ∷ []) ([] ++ deed.calls) run).0 in
     cc
 
@@ -85,7 +85,7 @@ module _ (d : Definition) (who : Identity) (from : ControlPoint) (s : Store) (q 
       → Runs d who from s q deeds history to t r → (first : Deed) (rest : List Deed) (at : ℕ) (why : Failure)
       → first.event ≡ event.FailedAt at why → deeds ≡ first ∷ rest → EndsThere first rest to
   refused still first rest at why is e = let no : ⊥ = cc in absurd no
-  refused (effects {deeds = deeds} {at = place} {mid = mid} {port = port} run deed to t r leads legal) first rest at why is
+  refused (acts {deeds = deeds} {at = place} {mid = mid} {port = port} run deed to t r leads legal) first rest at why is
       e =
       elim (last_of deeds deed first rest e) [
         | inl w ↦ ends_there d who port place mid first deed to t at why rest is w.1 w.2 leads

@@ -26,7 +26,7 @@ use Rattle.run_semantics.specs.Effect.{Effect, Arm, Create, Deed, Send, effects_
 use Rattle.run_semantics.specs.Goes.{Goes, IsOneStep, MachineValue, drawn_as}
 use Rattle.run_semantics.specs.Leads.{IsQuiet}
 use Rattle.run_semantics.specs.ControlPoint.{Definition, ControlPoint}
-use Rattle.run_semantics.specs.Runs.{Runs, effects, hears, outside_of, still, turns, waits}
+use Rattle.run_semantics.specs.Runs.{Runs, acts, hears, outside_of, still, turns, waits}
 use Rattle.run_semantics.specs.World as world
 use Rattle.run_semantics.specs.World.{WorldValue}
 use Rattle.serial_run.specs.ExecutionLaws.{advances_one, stays}
@@ -237,7 +237,7 @@ port_stays : {d : Definition} {who : Identity} {from : ControlPoint} {s : Store}
     {history : List PortEvent} {to : ControlPoint} {t : Store} {r : PortState} → Runs d who from s q deeds history to t r
     → deeds ≡ [] → outside_of history ≡ [] → r ≡ q
 port_stays still none quiet = refl
-port_stays (effects {deeds = deeds} run deed to t r leads legal) none quiet = absurd (snoc_none deeds deed none)
+port_stays (acts {deeds = deeds} run deed to t r leads legal) none quiet = absurd (snoc_none deeds deed none)
 port_stays (turns run to t step) none quiet = port_stays run none quiet
 port_stays (hears {history = history} run heard r outside step) none quiet =
     absurd (heard_outside heard outside

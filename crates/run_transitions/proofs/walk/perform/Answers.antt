@@ -22,9 +22,9 @@ returns-in_err-count-clause-err g c =
     (plain_counts node.statement c.requires.plain) c.in_err-count.ensures.err
     (ap (λ (x : Machine). value_of x o) c.in_err-count.ensures.same))
 
-pub returns-in_err-effect-clause-err : goal.returns-in_err-effect-clause-err
-returns-in_err-effect-clause-err g c =
-    let q = err_from_is_err_and c.from_residual-in_err-effect.result c.from_residual-in_err-effect.ensures.1 in
+pub returns-in_err-act-clause-err : goal.returns-in_err-act-clause-err
+returns-in_err-act-clause-err g c =
+    let q = err_from_is_err_and c.from_residual-in_err-act.result c.from_residual-in_err-act.ensures.1 in
     let system = c.args.system.now in
     let process = c.args.process.now in
     let node = c.args.node.now in
@@ -38,16 +38,16 @@ returns-in_err-effect-clause-err g c =
     rw (q.1, q.2) (λ origin. visits_acted_wrong system process node origin l w (value_of mid o)
     c.in_ok-count.ensures.counts
     (value_counted old mid o c.in_ok-count.ensures.trace) n v _
-    c.requires.plain c.in_err-effect.ensures.err)
+    c.requires.plain c.in_err-act.ensures.err)
 
-pub returns-in_err-effect-clause-instance : goal.returns-in_err-effect-clause-instance
-returns-in_err-effect-clause-instance g c =
+pub returns-in_err-act-clause-instance : goal.returns-in_err-act-clause-instance
+returns-in_err-act-clause-instance g c =
     let o = g.P.Inbox.owning c.args.inbox.now in
     let old = c.args.machine.now in
     let mid = c.count.new.machine in
     let n = value_of c.act.new.machine (g.P.Inbox.owning c.act.new.inbox) in
     instance_on (value_of old o) (value_of mid o) n
-    (instance_counted old mid o c.in_ok-count.ensures.trace) c.in_err-effect.ensures.instance
+    (instance_counted old mid o c.in_ok-count.ensures.trace) c.in_err-act.ensures.instance
 
 pub returns-clause-instance : goal.returns-clause-instance
 returns-clause-instance g c =
@@ -56,11 +56,11 @@ returns-clause-instance g c =
     let mid = c.count.new.machine in
     let n = value_of c.act.new.machine (g.P.Inbox.owning c.act.new.inbox) in
     instance_on (value_of old o) (value_of mid o) n
-    (instance_counted old mid o c.in_ok-count.ensures.trace) c.in_ok-effect.ensures.instance
+    (instance_counted old mid o c.in_ok-count.ensures.trace) c.in_ok-act.ensures.instance
 
 pub returns-clause-counts : goal.returns-clause-counts
 returns-clause-counts g c =
-    (c.in_ok-count.ensures.counts.0, c.in_ok-effect.ensures.done ∙ ap (λ s. s.done) c.in_ok-count.ensures.counts.1)
+    (c.in_ok-count.ensures.counts.0, c.in_ok-act.ensures.done ∙ ap (λ s. s.done) c.in_ok-count.ensures.counts.1)
 
 pub returns-clause-ok : goal.returns-clause-ok
 returns-clause-ok g c =
@@ -76,4 +76,4 @@ returns-clause-ok g c =
     let v = g.W.World.value c.act.new.world in
     λ origin. visits_acted system process node origin l w (value_of mid o) c.in_ok-count.ensures.counts
     (value_counted old mid o c.in_ok-count.ensures.trace) n v c.requires.plain
-    c.in_ok-effect.ensures.ok
+    c.in_ok-act.ensures.ok
