@@ -79,7 +79,7 @@ one_call q r calls call one legal =
 -- ---- where a body has
 
 pub head_acts : (statement : Statement) (action : Action) → action_of statement ≡ Some action
-    → head_of statement ≡ effects action
+    → head_of statement ≡ acts action
 head_acts (kind.Task list) action is = cc
 head_acts (kind.Output sends) action is = cc
 head_acts (kind.Set list) action is = cc
