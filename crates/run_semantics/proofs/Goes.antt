@@ -168,7 +168,7 @@ module _ (d : Definition) where
         world = refl;
         time = time;
         are_true = (is_true, tt);
-        runs = effects
+        runs = acts
             (Runs-drawn d m.who from m.store m.owner.state [] [] from m.store m.owner.state m.owner.pid news still)
             deed to k.store k.owner.state leads legal;
       }
