@@ -91,6 +91,7 @@ pub record Steps (ps : List Behaviour) (g : RunState) (who : Identity) (deeds : 
   pub world : WorldValue
   pub is_there : instance_at g.instances who.pid ≡ Some old
   pub is_who : old.who ≡ who
+  pub of_system : old.system ≡ g.system
   pub lives : old.position ≢ Ended
   pub meant : IsMeant ps old p
   pub turn : IsTurn ps g who.pid bound
