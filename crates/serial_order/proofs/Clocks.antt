@@ -9,7 +9,8 @@ use Rattle.serial_order.proofs.Beginnings.{first_time}
 use Rattle.serial_order.proofs.Histories.{are_followed, moment_from}
 use Rattle.serial_order.proofs.Known.{moment_of}
 use Rattle.serial_order.proofs.Numbers.{at_change, at_more, at_with}
-use Rattle.serial_order.specs.Execution.{AreBehaviours, Execution, Expired, Follows, Happening, Heard, IsNoFuseBefore, IsNoLineBefore, Moved, Steps, Ticked, Ticks, begins, goes, next_line}
+use Rattle.run_semantics.specs.Behaves.{AreBehaviours}
+use Rattle.serial_order.specs.Execution.{Execution, Expired, Follows, Happening, Heard, IsNoFuseBefore, IsNoLineBefore, Moved, Steps, Ticked, Ticks, begins, goes, next_line}
 use Rattle.serial_order.specs.RunState.{RunState, after_effect, after_effects, world_at, beginning, change_at, instance_at, instance_of, with_created, with_expiry, with_instance, with_put}
 use Rattle.serial_order.specs.Laws.{EachReadsTheClock}
 use Rattle.serial_order.specs.Times.{AreAt, AreTimed, IsAt, IsTimed}

@@ -10,7 +10,8 @@ use Rattle.serial_world.specs.StepWorld.{AreNumbered, effect_of, living_now, wor
 use Rattle.serial_world.specs.declared.step_world.SerialWorld.{SerialWorld}
 use Rattle.serial_order.proofs.Made.{MakeNext, deeds_make}
 use Rattle.serial_order.proofs.Own.{later_none}
-use Rattle.serial_order.specs.Execution.{AreBehaviours, Moved, Steps, is_transition}
+use Rattle.run_semantics.specs.Behaves.{AreBehaviours}
+use Rattle.serial_order.specs.Execution.{Moved, Steps, is_transition}
 use Rattle.serial_order.specs.RunState.{RunState, after_effects, world_at, living_of, instance_at, with_instance}
 use Rattle.serial_instances.proofs.LivingLemmas.{in_place}
 use Rattle.serial_instances.specs.Serial.{IsOfSystem, IsSerial, state_of}

@@ -1,7 +1,7 @@
 //! A serial run.
 
 ghost use Rattle.std.specs.Prelude.{◌≡◌, IfErr, IfOk, List};
-ghost use Rattle.serial_order.specs.Execution.{AreBehaviours};
+ghost use Rattle.run_semantics.specs.Behaves.{AreBehaviours};
 ghost use Rattle.serial_order.specs.Report.{IsSerialReport};
 ghost use Rattle.sdl_system.specs.Behaviour.{Behaviour};
 
