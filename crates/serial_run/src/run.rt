@@ -7,10 +7,10 @@ ghost use Rattle.sdl_system.specs.Behaviour.{Behaviour};
 
 use crate::stepping::Stepping;
 use port_values::Ticks;
-use run_record::Report;
+use run_record::{Report, RunError};
 use sdl_script::Script;
 use sdl_system::System;
-use serial_instances::{Instances, RunError};
+use serial_instances::Instances;
 use serial_sweeps::{Agenda, InstanceSet, Scheduler};
 use std::alloc::Global;
 use std::collections::VecDeque;
