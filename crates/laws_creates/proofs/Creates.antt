@@ -223,7 +223,7 @@ module _ (ps : List Behaviour) (g : RunState) (who : Identity) (deeds : List Dee
       let d : Definition = record { system = old.system; behaviour = step.p } in
       subst (λ (list : List Deed). MakeNext system (length g.instances) (effects_of list)) step.deeds_are
       (subst (λ (s : SystemValue). MakeNext s (length g.instances) (effects_of step.goes.deeds)) same
-      (deeds_make old.who (world_at g) (living_of g.system g.instances) old.store.time step.goes.deeds refl
+      (deeds_make old.system old.who (world_at g) (living_of g.system g.instances) old.store.time step.goes.deeds refl
       (runs_effects d old.who (place_of old.position) old.store old.owner.state step.goes.runs) step.goes.are_true))
 
   step_who : (system : SystemValue) → g.system ≡ system

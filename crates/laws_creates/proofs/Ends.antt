@@ -44,7 +44,7 @@ record AreEarly (g : RunState) : Type 0 where
 
 -- ---- what a step reads
 
-module _ (who : Identity) (clock : ℕ) where
+module _ (system : SystemValue) (who : Identity) (clock : ℕ) where
   reads_by : (before at : ℕ) → before ≤ clock → at ≡ max clock before → at ≤ clock
   reads_by before at less is = omega (arith, less, is)
 
@@ -60,7 +60,7 @@ module _ (who : Identity) (clock : ℕ) where
 
   -- the time of an event, and of the instance after it
   event_by : (w : WorldValue) (before : ℕ) (e : Event) → w.clock ≡ Some clock → before ≤ clock
-      → IsTrueOfOne who w before e → IsBy clock e × (time_after_one before e ≤ clock)
+      → IsTrueOfOne system who w before e → IsBy clock e × (time_after_one before e ≤ clock)
   event_by w before (event.Start at) known less is = reading_by w before at known less is
   event_by w before (event.Consumed at got) known less is = reading_by w before at known less is
   event_by w before (event.Prior at got) known less is = reading_by w before at known less is
@@ -83,7 +83,7 @@ module _ (who : Identity) (clock : ℕ) where
   clock_kept w (effect ∷ rest) = clock_kept (world.after_effect w effect) rest
 
   deeds_by : (w : WorldValue) (before : ℕ) (deeds : List Deed) → w.clock ≡ Some clock → before ≤ clock
-      → IsTrueOf who w before deeds → All (IsBy clock) (events_of deeds) × (time_after before deeds ≤ clock)
+      → IsTrueOf system who w before deeds → All (IsBy clock) (events_of deeds) × (time_after before deeds ≤ clock)
   deeds_by w before [] known less are = (All-nil (IsBy clock), less)
   deeds_by w before (deed ∷ rest) known less are =
       let first = event_by w before deed.event known less are.0 in
@@ -248,7 +248,7 @@ module _ (ps : List Behaviour) (last : ℕ) where
       let before : IsEarly g.clock old = at_number g.clock g.instances who.pid old step.is_there early.all in
       let read : All (IsBy g.clock) (events_of step.goes.deeds)
       × (time_after old.store.time step.goes.deeds ≤ g.clock) =
-      deeds_by old.who g.clock (world_at g) old.store.time step.goes.deeds refl before.read step.goes.are_true in
+      deeds_by old.system old.who g.clock (world_at g) old.store.time step.goes.deeds refl before.read step.goes.are_true in
       let now : IsEarly g.clock new = record {
         read = subst (λ k. k ≤ g.clock) (sym step.goes.time) read.1;
         events = subst (λ (list : List Event). All (IsBy g.clock) list) (sym step.goes.recorded)

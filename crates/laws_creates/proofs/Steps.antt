@@ -72,11 +72,11 @@ module _ (system : SystemValue) where
     w : WorldValue
     earlier : ℕ
     sees : Sees system w g
-    is_true : IsTrueOfOne who w earlier deed.event
+    is_true : IsTrueOfOne system who w earlier deed.event
 
   module _ (who : Identity) (deed : Deed) (after : List Deed) where
     at_deed : (before : List Deed) (w : WorldValue) (g : RunState) (earlier : ℕ) → g.system ≡ system
-        → Sees system w g → IsTrueOf who w earlier (before ++ deed ∷ after)
+        → Sees system w g → IsTrueOf system who w earlier (before ++ deed ∷ after)
         → MakeNext system (length g.instances) (effects_of (before ++ deed ∷ after))
         → AtDeed who (after_effects g (effects_of before)) deed
     at_deed [] w g earlier same sees are_true make =
@@ -98,10 +98,11 @@ step_deed : (ps : List Behaviour) (system : SystemValue) (g : RunState) (who : I
 step_deed ps system g who before deed after h same step =
     let old : InstanceValue = step.old in
     let deeds : List Deed = before ++ deed ∷ after in
-    let are_true : IsTrueOf who (world_at g) old.store.time deeds =
-    subst (λ (w : Identity). IsTrueOf w (world_at g) old.store.time deeds) step.is_who
-    (subst (λ (list : List Deed). IsTrueOf old.who (world_at g) old.store.time list) step.deeds_are
-    step.goes.are_true) in
+    let are_true : IsTrueOf system who (world_at g) old.store.time deeds =
+    subst (λ (w : Identity). IsTrueOf system w (world_at g) old.store.time deeds) step.is_who
+    (subst (λ (list : List Deed). IsTrueOf system old.who (world_at g) old.store.time list) step.deeds_are
+    (subst (λ (s : SystemValue). IsTrueOf s old.who (world_at g) old.store.time step.goes.deeds)
+    (step.of_system ∙ same) step.goes.are_true)) in
     at_deed system who deed after before (world_at g) g old.store.time same
     (record { system_is = same; living = ap (λ (s : SystemValue). Some (living_of s g.instances)) same })
     are_true (step_makes ps g who deeds h step system same)
@@ -160,8 +161,8 @@ nulls_have_cause ps system lines time happenings g h who before deed after execu
     let now : RunState = after_effects g (effects_of before) in
     let at : AtDeed system who now deed =
     step_deed ps system g who before deed after h (system_kept ps system time execution) step in
-    let says : IsTrueOfOne who at.w at.earlier (event.Create id None) =
-    subst (λ (e : Event). IsTrueOfOne who at.w at.earlier e) is at.is_true in
+    let says : IsTrueOfOne system who at.w at.earlier (event.Create id None) =
+    subst (λ (e : Event). IsTrueOfOne system who at.w at.earlier e) is at.is_true in
     let by_living : None ≡ number_for at.w.system (living_of system now.instances) id =
     subst (λ (o : Option Living). IfSome o (λ living. None ≡ number_for at.w.system living id)) at.sees.living says in
     no_number system now.instances id
@@ -176,12 +177,9 @@ outputs_are_meant ps system lines time happenings g h who before deed after exec
     let now : RunState = after_effects g (effects_of before) in
     let at : AtDeed system who now deed =
     step_deed ps system g who before deed after h (system_kept ps system time execution) step in
-    let says : IsRouteBy at.w.system at.w.living signal who.process to target =
-    subst (λ (e : Event). IsTrueOfOne who at.w at.earlier e) is at.is_true in
-    let by_living : IsRouteBy at.w.system (Some (living_of system now.instances)) signal who.process to target =
-    subst (λ (o : Option Living). IsRouteBy at.w.system o signal who.process to target) at.sees.living says in (
-      subst (λ (s : SystemValue). IsRouteBy s (Some (living_of system now.instances)) signal who.process to target)
-          at.sees.system_is by_living,
+    let says : IsRouteBy system at.w.living signal who.process to target =
+    subst (λ (e : Event). IsTrueOfOne system who at.w at.earlier e) is at.is_true in (
+      subst (λ (o : Option Living). IsRouteBy system o signal who.process to target) at.sees.living says,
       step_sent ps g who before deed after h step signal to values target is,
     )
 

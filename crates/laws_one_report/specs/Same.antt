@@ -1,7 +1,8 @@
 -- What two executions of a system, and two serial reports, have in common (Z.101: system).
 use Rattle.std.specs.Prelude.{◌≡◌, ℕ, List, [], All, length, map}
 use Rattle.port_inbox.specs.Ends.{single}
-use Rattle.serial_order.specs.Execution.{AreBehaviours, Execution, Expired, Happening, Heard, Moved, Ticked}
+use Rattle.run_semantics.specs.Behaves.{AreBehaviours}
+use Rattle.serial_order.specs.Execution.{Execution, Expired, Happening, Heard, Moved, Ticked}
 use Rattle.serial_order.specs.RunState.{RunState}
 use Rattle.serial_order.specs.Report.{IsSerialReport}
 use Rattle.sdl_interp.specs.Instance.{InstanceValue}

@@ -144,7 +144,7 @@ module _ (f : Frame) (w : WorldValue) (s : Store) (q : PortState) (calls : List 
 
   pub sends : (origin : Option StateId) (one : Sending) (more : List Sending) (whom : Option Whither) (rest : Body)
       (spot : Option NodeId) (signal : SignalId) (named : Dest) (values : List Value) (target : Target)
-      (living : Living) → w.living ≡ Some living → IsRoute w signal f.who.process named target
+      (living : Living) → w.living ≡ Some living → IsRoute f.d.system w signal f.who.process named target
       → Has f.nodes f.marks spot rest None
       → Happens f.d f.who q (place.Amid origin (body.output (one ∷ more) whom) rest) s
       (event.Output signal named values target) calls done to t
@@ -153,11 +153,11 @@ module _ (f : Frame) (w : WorldValue) (s : Store) (q : PortState) (calls : List 
   sends origin one more whom rest spot signal named values target living known route has h =
       let sends : Sends f.d f.who q whom one s signal named values target done = h.3 in
       let site : Site = amid origin (body.output more whom) spot in
-      let routed : target ≡ target_in w.system.routes signal (source.Process f.who.process) named living.least =
-      subst (λ o. IsRouteBy w.system o signal f.who.process named target) known route in
+      let routed : target ≡ target_in f.d.system.routes signal (source.Process f.who.process) named living.least =
+      subst (λ o. IsRouteBy f.d.system o signal f.who.process named target) known route in
       let aim : target ≡ reached f w living one named =
       routed
-      ∙ ap (λ x. target_in w.system.routes x (source.Process f.who.process) named living.least) sends.is in
+      ∙ ap (λ x. target_in f.d.system.routes x (source.Process f.who.process) named living.least) sends.is in
       record {
         after = site;
         at = subst (λ p. IsAt f.nodes f.marks p site) (sym h.1)

@@ -56,7 +56,7 @@ module _ (f : Frame) (w : WorldValue) (s : Store) (q : PortState) (calls : List 
 
   output_comes : (signal : SignalId) (named : Dest) (values : List Value) (target : Target) (living : Living)
       → w.living ≡ Some living → (earlier : ℕ)
-      → IsTrueOfOne f.who w earlier (event.Output signal named values target) → (at : ControlPoint) (site : Site)
+      → IsTrueOfOne f.d.system f.who w earlier (event.Output signal named values target) → (at : ControlPoint) (site : Site)
       → IsAt f.nodes f.marks at site
       → Happens f.d f.who q at s (event.Output signal named values target) calls done to t
       → Comes f w site s q (event.Output signal named values target) done to t r
@@ -100,7 +100,7 @@ module _ (f : Frame) (w : WorldValue) (s : Store) (q : PortState) (calls : List 
   reset_comes key _ _ at h = absurd h
 
   create_comes : (process : ProcessId) (number : Option ℕ) (living : Living) → w.living ≡ Some living → (earlier : ℕ)
-      → IsTrueOfOne f.who w earlier (event.Create process number) → (at : ControlPoint) (site : Site)
+      → IsTrueOfOne f.d.system f.who w earlier (event.Create process number) → (at : ControlPoint) (site : Site)
       → IsAt f.nodes f.marks at site → Happens f.d f.who q at s (event.Create process number) calls done to t
       → Comes f w site s q (event.Create process number) done to t r
   create_comes process number living known earlier so _ _ (is_amid origin (body.create made terms) rest spot has) h =
@@ -149,7 +149,7 @@ module _ (f : Frame) (w : WorldValue) (s : Store) (q : PortState) (calls : List 
 
   pub comes : (living : Living) → w.living ≡ Some living → (earlier : ℕ) (at : ControlPoint) (site : Site)
       → IsAt f.nodes f.marks at site → (happened : Event) → IsInner happened → LacksNothing happened
-      → IsTrueOfOne f.who w earlier happened → Happens f.d f.who q at s happened calls done to t
+      → IsTrueOfOne f.d.system f.who w earlier happened → Happens f.d f.who q at s happened calls done to t
       → Comes f w site s q happened done to t r
   comes living known earlier at site is_at (event.Task variable value) inner lacks so h =
       task_comes variable value at site is_at h

@@ -200,7 +200,7 @@ module _ (f : Frame) (table : IsTableOf f.d.behaviour.bodies f.entries f.nodes) 
   pub path_leads : {at : ControlPoint} {s : Store} {q : PortState} {deeds : List Deed} → Path f.d f.who to t r at s q deeds
       → (w : WorldValue) (living : Living) → w.living ≡ Some living → (earlier : ℕ) (site : Site)
       → IsAt f.nodes f.marks at site → AreInner deeds → LackNothing (events_of deeds)
-      → IsTrueOf f.who w earlier deeds → Leads f to t r w site s q deeds
+      → IsTrueOf f.d.system f.who w earlier deeds → Leads f to t r w site s q deeds
   path_leads path_ends w living known earlier site is_at inner lack are =
       record { after = site; at = is_at; iterates = it_ends w }
   path_leads (path_effects at mid s u q m deed rest leads legal path) w living known earlier site is_at inner lack are =

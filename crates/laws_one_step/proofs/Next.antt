@@ -166,7 +166,7 @@ assigning_next f site s q one =
 
 abbrev pub reached : Frame → WorldValue → Living → Sending → Dest → Target
 reached f w living one named =
-    target_in w.system.routes one.signal (source.Process f.who.process) named living.least
+    target_in f.d.system.routes one.signal (source.Process f.who.process) named living.least
 
 abbrev pub sent : Frame → WorldValue → Site → Store → PortState → Sending → Dest → List Value → Living → Next
 sent f w site s q one named values living =

@@ -20,6 +20,7 @@ use Rattle.run_semantics.specs.ControlPoint as place
 use Rattle.run_semantics.specs.ControlPoint.{Definition, ControlPoint}
 use Rattle.run_semantics.specs.Runs.{outside_of}
 use Rattle.run_semantics.specs.World.{IsTrueOf, IsTrueOfOne, WorldValue, after_effects, time_after_one}
+use Rattle.sdl_system.specs.System.{SystemValue}
 use Rattle.sdl_system.specs.declared.id.StateId.{StateId}
 use Rattle.sdl_system.specs.declared.process.Process.{Process}
 use Rattle.laws_one_step.proofs.First.{Begins, First, FirstComes, IsAtTime, by_take, first_comes, first_one, trying}
@@ -36,7 +37,7 @@ pub record Stepped (d : Definition) (who : Identity) (w : WorldValue) (from : Co
   pub path : Path d who to t r from s q deeds
   pub shape : IsOneStep counts deeds
   pub lack : LackNothing (events_of deeds)
-  pub are_true : IsTrueOf who w s.time deeds
+  pub are_true : IsTrueOf d.system who w s.time deeds
   pub starts : IsBetween from
   pub between : IsBetween to
 
@@ -100,19 +101,19 @@ module _ (d : Definition) (who : Identity) (to : ControlPoint) (t : Store) (r : 
   cut (path_turns at mid s u q deeds turns path) between = absurd (no_turn_between at mid s u q between turns)
 
 -- the clock's reading is the time of what begins the step
-read_at : (who : Identity) (w : WorldValue) (clock earlier : ℕ) (happened : Event) → w.clock ≡ Some clock
-    → IsTrueOfOne who w earlier happened → IsAtTime (max clock earlier) happened
-read_at who w clock earlier (event.Start at) known so = subst (λ o. IfSome o (λ c. at ≡ max c earlier)) known so
-read_at who w clock earlier (event.Consumed at got) known so =
+read_at : (system : SystemValue) (who : Identity) (w : WorldValue) (clock earlier : ℕ) (happened : Event) → w.clock ≡ Some clock
+    → IsTrueOfOne system who w earlier happened → IsAtTime (max clock earlier) happened
+read_at system who w clock earlier (event.Start at) known so = subst (λ o. IfSome o (λ c. at ≡ max c earlier)) known so
+read_at system who w clock earlier (event.Consumed at got) known so =
     subst (λ o. IfSome o (λ c. at ≡ max c earlier)) known so
-read_at who w clock earlier (event.Prior at got) known so = subst (λ o. IfSome o (λ c. at ≡ max c earlier)) known so
-read_at who w clock earlier (event.Discarded at got) known so =
+read_at system who w clock earlier (event.Prior at got) known so = subst (λ o. IfSome o (λ c. at ≡ max c earlier)) known so
+read_at system who w clock earlier (event.Discarded at got) known so =
     subst (λ o. IfSome o (λ c. at ≡ max c earlier)) known so
-read_at who w clock earlier (event.Provided at number) known so =
+read_at system who w clock earlier (event.Provided at number) known so =
     subst (λ o. IfSome o (λ c. at ≡ max c earlier)) known so
-read_at who w clock earlier (event.FailedAt at why) known so =
+read_at system who w clock earlier (event.FailedAt at why) known so =
     subst (λ o. IfSome o (λ c. at ≡ max c earlier)) known so
-read_at who w clock earlier happened known so = tt
+read_at system who w clock earlier happened known so = tt
 
 -- what runs, by whom, and the nodes of its process
 frame_of : (d : Definition) (process : Process) → Behaves d.system process d.behaviour → Identity → Frame
@@ -190,7 +191,7 @@ module _ (d : Definition) (process : Process) (behaves : Behaves d.system proces
       first_comes f behaves.means.bodies_are refl s q deed.calls deed.effects head.mid head.known head.port head.legal from
       step.starts (max known.clock s.time) deed.event
       (All-head LacksNothing deed.event (events_of rest) step.lack) step.shape.0
-      (read_at who w known.clock s.time deed.event known.clock_is step.are_true.0) head.does in
+      (read_at d.system who w known.clock s.time deed.event known.clock_is step.are_true.0) head.does in
       let kept = living_kept w deed.effects known.living known.living_is in
       record {
         deed = deed;

@@ -6,7 +6,8 @@ use Rattle.port_model.specs.declared.timer.ActiveTimer.{ActiveTimer}
 use Rattle.port_model.specs.declared.timer.Phase.{Phase}
 use Rattle.port_model.specs.declared.timer.Phase.TheVariants.{Running, Waiting}
 use Rattle.port_values.specs.declared.timer_key.TimerKey.{TimerKey}
-use Rattle.serial_order.specs.Execution.{AreBehaviours, Expired, Happening, Heard, Moved, Ticked}
+use Rattle.run_semantics.specs.Behaves.{AreBehaviours}
+use Rattle.serial_order.specs.Execution.{Expired, Happening, Heard, Moved, Ticked}
 use Rattle.serial_order.specs.RunState.{instance_at}
 use Rattle.serial_order.specs.Laws.{AtEachEnd}
 use Rattle.serial_order.specs.Report.{IsSerialReport}

@@ -2,3 +2,4 @@ pub mod Entry
 pub mod Event
 pub mod Failure
 pub mod Record
+pub mod RunError

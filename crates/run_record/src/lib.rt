@@ -8,7 +8,9 @@
 mod entry;
 mod failure;
 mod record;
+mod run_error;
 
 pub use entry::{Entry, Origin, Stimulus};
 pub use failure::Failure;
 pub use record::{Record, Report};
+pub use run_error::RunError;

@@ -1,10 +1,15 @@
 -- What deeds say and do, of two lists one after the other.
-use Rattle.std.proofs.Common.{◌≡◌, ◌∙◌, sym, subst, refl, ℕ, List, [], ◌∷◌, ◌++◌}
+use Rattle.std.proofs.Common.{◌≡◌, ◌∙◌, sym, subst, refl, ℕ, List, [], ◌∷◌, ◌++◌, Option, None, Some}
 use Rattle.std.proofs.lemmas.Grind.{flat_map-append}
 use Rattle.std.proofs.lemmas.List.{map-append}
+use Rattle.port_values.specs.declared.item.SignalId.{SignalId}
 use Rattle.run_evaluation.specs.declared.identity.Identity.{Identity}
 use Rattle.run_semantics.specs.Effect.{Effect, Deed, events_of, calls_of, effects_of}
-use Rattle.run_semantics.specs.World.{WorldValue, after_effect, after_effects, after_deeds, time_after, time_after_one, IsTrueOf}
+use Rattle.run_semantics.specs.World.{WorldValue, after_effect, after_effects, after_deeds, time_after, time_after_one, IsRouteBy, IsTrueOf, Living, MayReach}
+use Rattle.sdl_system.specs.System.{SystemValue}
+use Rattle.sdl_system.specs.declared.id.ProcessId.{ProcessId}
+use Rattle.sdl_system.specs.declared.route.Dest.{Dest}
+use Rattle.sdl_system.specs.declared.route.Target.{Target}
 
 pub events_of-append : (first later : List Deed) → events_of (first ++ later) ≡ events_of first ++ events_of later
 events_of-append first later = map-append (λ (deed : Deed). deed.event) first later
@@ -36,16 +41,22 @@ pub time_after-append : (t : ℕ) (first later : List Deed)
 time_after-append t [] later = refl
 time_after-append t (deed ∷ rest) later = time_after-append (time_after_one t deed.event) rest later
 
-pub IsTrueOf-append : (who : Identity) (w : WorldValue) (t : ℕ) (first later : List Deed) → IsTrueOf who w t first
-    → IsTrueOf who (after_deeds w first) (time_after t first) later → IsTrueOf who w t (first ++ later)
-IsTrueOf-append who w t [] later none then = then
-IsTrueOf-append who w t (deed ∷ rest) later are then =
-    (are.0, IsTrueOf-append who (after_effects w deed.effects) (time_after_one t deed.event) rest later are.1 then)
+pub IsTrueOf-append : (system : SystemValue) (who : Identity) (w : WorldValue) (t : ℕ) (first later : List Deed) → IsTrueOf system who w t first
+    → IsTrueOf system who (after_deeds w first) (time_after t first) later → IsTrueOf system who w t (first ++ later)
+IsTrueOf-append system who w t [] later none then = then
+IsTrueOf-append system who w t (deed ∷ rest) later are then =
+    (are.0, IsTrueOf-append system who (after_effects w deed.effects) (time_after_one t deed.event) rest later are.1 then)
 
 -- the same of equal instances, worlds and times
-pub IsTrueOf-same : (who who' : Identity) (w w' : WorldValue) (t t' : ℕ) (deeds : List Deed) → who ≡ who' → w ≡ w'
-    → t ≡ t' → IsTrueOf who w t deeds → IsTrueOf who' w' t' deeds
-IsTrueOf-same who who' w w' t t' deeds same around time are =
-    subst (λ (x : Identity). IsTrueOf x w' t' deeds) same
-    (subst (λ (x : WorldValue). IsTrueOf who x t' deeds) around
-    (subst (λ (x : ℕ). IsTrueOf who w x deeds) time are))
+pub IsTrueOf-same : (system : SystemValue) (who who' : Identity) (w w' : WorldValue) (t t' : ℕ) (deeds : List Deed) → who ≡ who' → w ≡ w'
+    → t ≡ t' → IsTrueOf system who w t deeds → IsTrueOf system who' w' t' deeds
+IsTrueOf-same system who who' w w' t t' deeds same around time are =
+    subst (λ (x : Identity). IsTrueOf system x w' t' deeds) same
+    (subst (λ (x : WorldValue). IsTrueOf system who x t' deeds) around
+    (subst (λ (x : ℕ). IsTrueOf system who w x deeds) time are))
+
+-- whoever lives, the target of a signal is one that it may reach
+pub may_reach : (system : SystemValue) (living : Option Living) (signal : SignalId) (process : ProcessId) (to : Dest)
+    (target : Target) → IsRouteBy system living signal process to target → MayReach system signal process to target
+may_reach system None signal process to target is = is
+may_reach system (Some living) signal process to target is = (living.least, is)

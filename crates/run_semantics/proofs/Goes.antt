@@ -119,8 +119,8 @@ module _ (d : Definition) where
         ∙ sym (after_deeds-append w first.deeds then.deeds);
     time = then.time ∙ ap (λ (t : ℕ). time_after t then.deeds) first.time
         ∙ sym (time_after-append l.store.time first.deeds then.deeds);
-    are_true = IsTrueOf-append l.who w l.store.time first.deeds then.deeds first.are_true
-        (IsTrueOf-same m.who l.who v (after_deeds w first.deeds) m.store.time (time_after l.store.time first.deeds)
+    are_true = IsTrueOf-append d.system l.who w l.store.time first.deeds then.deeds first.are_true
+        (IsTrueOf-same d.system m.who l.who v (after_deeds w first.deeds) m.store.time (time_after l.store.time first.deeds)
         then.deeds first.who first.world first.time then.are_true);
     runs = Runs-append d l.who from l.store l.owner.state first.deeds first.history mid m.store m.owner.state first.runs
         (subst (λ (who : Identity).
@@ -148,7 +148,7 @@ module _ (d : Definition) where
       (deed : Deed) (news : List Placed) → Shape (deed ∷ []) → own_of deed.calls ≡ deed.calls
       → outside_of deed.calls ≡ [] → k.who ≡ m.who → k.owner.port ≡ m.owner.port → k.owner.pid ≡ m.owner.pid
       → k.owner.drawn ≡ m.owner.drawn ++ news → k.events ≡ m.events
-      → k.store.time ≡ time_after_one m.store.time deed.event → IsTrueOfOne m.who w m.store.time deed.event
+      → k.store.time ≡ time_after_one m.store.time deed.event → IsTrueOfOne d.system m.who w m.store.time deed.event
       → Leads d m.who (after_draws m.owner.pid m.owner.state news) from m.store deed to k.store
       → IsLegal (after_draws m.owner.pid m.owner.state news) deed.calls k.owner.state
       → Goes Shape d from m w to (with_event k deed.event) (after_effects w deed.effects)
@@ -176,7 +176,7 @@ module _ (d : Definition) where
   pub goes_deed : (Shape : List Deed → Type 0) (from to : ControlPoint) (m k : MachineValue) (w : WorldValue) (deed : Deed)
       → Shape (deed ∷ []) → own_of deed.calls ≡ deed.calls → outside_of deed.calls ≡ [] → k.who ≡ m.who
       → k.owner.port ≡ m.owner.port → k.owner.pid ≡ m.owner.pid → k.owner.drawn ≡ m.owner.drawn → k.events ≡ m.events
-      → k.store.time ≡ time_after_one m.store.time deed.event → IsTrueOfOne m.who w m.store.time deed.event
+      → k.store.time ≡ time_after_one m.store.time deed.event → IsTrueOfOne d.system m.who w m.store.time deed.event
       → Leads d m.who m.owner.state from m.store deed to k.store → IsLegal m.owner.state deed.calls k.owner.state
       → Goes Shape d from m w to (with_event k deed.event) (after_effects w deed.effects)
   goes_deed Shape from to m k w deed shape own outside who port pid drawn events time is_true leads legal =
@@ -246,7 +246,7 @@ module _ (d : Definition) where
       (classes : List Class) (reply : Taken) (takes : TakesHere classes m.owner k.owner reply)
       → m.owner.state.alive ≡ true → deed.calls ≡ Take classes reply ∷ [] → IsFirst deed.event
       → is_beginning deed.event ≡ counts → k.who ≡ m.who → k.events ≡ m.events
-      → k.store.time ≡ time_after_one m.store.time deed.event → IsTrueOfOne m.who w m.store.time deed.event
+      → k.store.time ≡ time_after_one m.store.time deed.event → IsTrueOfOne d.system m.who w m.store.time deed.event
       → Leads d m.who (after_draws m.owner.pid m.owner.state takes.news) (In n) m.store deed to k.store
       → Goes (IsOneStep counts) d (In n) m w to (with_event k deed.event) (after_effects w deed.effects)
   goes_taken counts n to m k w deed classes reply takes alive is first begins who events time is_true leads =
@@ -264,7 +264,7 @@ module _ (d : Definition) where
       (deed : Deed) (classes : List Class) (reply : Taken) (takes : TakesHere classes m.owner k.owner reply)
       → m.owner.state.alive ≡ true → deed.calls ≡ Take classes reply ∷ Stop ∷ [] → IsFirst deed.event
       → is_beginning deed.event ≡ counts → k.who ≡ m.who → k.events ≡ m.events
-      → k.store.time ≡ time_after_one m.store.time deed.event → IsTrueOfOne m.who w m.store.time deed.event
+      → k.store.time ≡ time_after_one m.store.time deed.event → IsTrueOfOne d.system m.who w m.store.time deed.event
       → Leads d m.who (after_draws m.owner.pid m.owner.state takes.news) (In n) m.store deed to k.store
       → Goes (IsOneStep counts) d (In n) m w to (with_event (record k { owner = after_stop k.owner }) deed.event)
       (after_effects w deed.effects)
@@ -285,7 +285,7 @@ module _ (d : Definition) where
       (deed : Deed) (news : List Placed) → IsDrawn m.owner k.owner news → m.owner.state.alive ≡ true
       → deed.calls ≡ Stop ∷ [] → IsFirst deed.event → is_beginning deed.event ≡ counts → k.who ≡ m.who
       → k.events ≡ m.events
-      → k.store.time ≡ time_after_one m.store.time deed.event → IsTrueOfOne m.who w m.store.time deed.event
+      → k.store.time ≡ time_after_one m.store.time deed.event → IsTrueOfOne d.system m.who w m.store.time deed.event
       → Leads d m.who (after_draws m.owner.pid m.owner.state news) (In n) m.store deed to k.store
       → Goes (IsOneStep counts) d (In n) m w to (with_event (record k { owner = after_stop k.owner }) deed.event)
       (after_effects w deed.effects)
@@ -303,7 +303,7 @@ module _ (d : Definition) where
   -- the port is stopped, and nothing is drawn before
   pub goes_stopped : (Shape : List Deed → Type 0) (from to : ControlPoint) (m k : MachineValue) (w : WorldValue) (deed : Deed)
       → Shape (deed ∷ []) → m.owner.state.alive ≡ true → deed.calls ≡ Stop ∷ [] → k.who ≡ m.who → k.events ≡ m.events
-      → k.store.time ≡ time_after_one m.store.time deed.event → IsTrueOfOne m.who w m.store.time deed.event
+      → k.store.time ≡ time_after_one m.store.time deed.event → IsTrueOfOne d.system m.who w m.store.time deed.event
       → Leads d m.who m.owner.state from m.store deed to k.store
       → Goes Shape d from m w to (with_event (record k { owner = after_stop m.owner }) deed.event)
       (after_effects w deed.effects)

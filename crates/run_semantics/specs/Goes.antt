@@ -94,7 +94,7 @@ pub record Goes (Shape : List Deed → Type 0) (d : Definition) (from : ControlP
   pub recorded : n.events ≡ m.events ++ events_of deeds
   pub world : v ≡ after_deeds w deeds
   pub time : n.store.time ≡ time_after m.store.time deeds
-  pub are_true : IsTrueOf m.who w m.store.time deeds
+  pub are_true : IsTrueOf d.system m.who w m.store.time deeds
   pub runs : Runs d m.who from m.store m.owner.state deeds history to n.store n.owner.state
 
 -- From a place to one at which the transition fails.

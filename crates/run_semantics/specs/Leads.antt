@@ -25,6 +25,7 @@ use Rattle.run_semantics.specs.Fails.{Fails, FailsIn, most_statements, parameter
 use Rattle.run_semantics.specs.ControlPoint.{Amid, AtStart, Closed, Definition, Doing, Ended, In, IsState, ControlPoint, Receiving}
 use Rattle.run_semantics.specs.Reception.{Inputs, IsPriorityInput, assigned, provided, receiving, sort_in, taking}
 use Rattle.run_semantics.specs.Selection.{Selects, begins, none_true, tried}
+use Rattle.run_semantics.specs.World.{MayReach}
 use Rattle.sdl_system.specs.Behaviour.{StateMeaning, response_to}
 use Rattle.sdl_system.specs.Body as body
 use Rattle.sdl_system.specs.Body.{Assigning, Body, Parts, Sending, Setting, Whither, chosen, followed}
@@ -124,11 +125,13 @@ pub record Assigns (d : Definition) (who : Identity) (q : PortState) (one : Assi
   pub evaluated : at_place (sort_in d.behaviour variable) (value_of (environment d.system who s q) one.value) ≡ Ok value
   pub store : t ≡ assigned variable value s
 
--- a signal is sent with its values to whom the output names, and reaches a target
+-- A signal is sent with its values to whom the output names. It reaches a target to which it goes, from this process, by
+-- the routes of the system and some list of living instances.
 pub record Sends (d : Definition) (who : Identity) (q : PortState) (to : Option Whither) (one : Sending) (s : Store)
     (signal : SignalId) (named : Dest) (values : List Value) (target : Target) (effects : List Effect) : Type 0 where
   pub is : signal ≡ one.signal
   pub evaluated : sent_by d.system (environment d.system who s q) to one ≡ Ok (named, values)
+  pub reached : MayReach d.system signal who.process named target
   pub effects_are : effects ≡ Send target (record { name = signal; values = values; sender = Of who.pid }) ∷ []
 
 -- a timer is set, for which the port has a number left: its fuse has the number of the set

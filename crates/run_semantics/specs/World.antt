@@ -89,15 +89,20 @@ IsClock w time = IfSome w.clock (λ clock. time ≡ clock)
 abbrev pub IsReading : WorldValue → ℕ → ℕ → Type 0
 IsReading w earlier at = IfSome w.clock (λ clock. at ≡ max clock earlier)
 
+-- the signal of an instance of this process may reach this target: it does by some list of living instances
+abbrev pub MayReach : SystemValue → SignalId → ProcessId → Dest → Target → Type 0
+MayReach system signal process to target =
+    (living : List (Option ℕ)) × (target ≡ target_in system.routes signal (source.Process process) to living)
+
 -- the signal of an instance of this process reaches this target, by the instances that live now, or by some
 abbrev pub IsRouteBy : SystemValue → Option Living → SignalId → ProcessId → Dest → Target → Type 0
-IsRouteBy system None signal process to target =
-    (living : List (Option ℕ)) × (target ≡ target_in system.routes signal (source.Process process) to living)
+IsRouteBy system None signal process to target = MayReach system signal process to target
 IsRouteBy system (Some living) signal process to target =
     target ≡ target_in system.routes signal (source.Process process) to living.least
 
-abbrev pub IsRoute : WorldValue → SignalId → ProcessId → Dest → Target → Type 0
-IsRoute w signal process to target = IsRouteBy w.system w.living signal process to target
+-- so it does in this world, by the routes of the system that the instance is of
+abbrev pub IsRoute : SystemValue → WorldValue → SignalId → ProcessId → Dest → Target → Type 0
+IsRoute system w signal process to target = IsRouteBy system w.living signal process to target
 
 -- a create of an instance of the process gives this number, or none
 abbrev pub IsNumber : WorldValue → ProcessId → Option ℕ → Type 0
@@ -145,22 +150,22 @@ abbrev pub time_after : ℕ → List Deed → ℕ
 time_after earlier [] = earlier
 time_after earlier (deed ∷ rest) = time_after (time_after_one earlier deed.event) rest
 
--- what an event says of the world is so: its time is a reading of the clock, its target is where the signal goes, its
--- number is the next one
-abbrev pub IsTrueOfOne : Identity → WorldValue → ℕ → Event → Type 0
-IsTrueOfOne who w earlier (event.Start at) = IsReading w earlier at
-IsTrueOfOne who w earlier (event.Consumed at got) = IsReading w earlier at
-IsTrueOfOne who w earlier (event.Prior at got) = IsReading w earlier at
-IsTrueOfOne who w earlier (event.Discarded at got) = IsReading w earlier at
-IsTrueOfOne who w earlier (event.Provided at number) = IsReading w earlier at
-IsTrueOfOne who w earlier (event.FailedAt at why) = IsReading w earlier at
-IsTrueOfOne who w earlier (event.Output signal to values target) = IsRoute w signal who.process to target
-IsTrueOfOne who w earlier (event.Create process number) = IsNumber w process number
-IsTrueOfOne who w earlier happened = Unit {0}
+-- what an event of an instance of this system says of the world is so: its time is a reading of the clock, its target is
+-- where the signal goes, its number is the next one
+abbrev pub IsTrueOfOne : SystemValue → Identity → WorldValue → ℕ → Event → Type 0
+IsTrueOfOne system who w earlier (event.Start at) = IsReading w earlier at
+IsTrueOfOne system who w earlier (event.Consumed at got) = IsReading w earlier at
+IsTrueOfOne system who w earlier (event.Prior at got) = IsReading w earlier at
+IsTrueOfOne system who w earlier (event.Discarded at got) = IsReading w earlier at
+IsTrueOfOne system who w earlier (event.Provided at number) = IsReading w earlier at
+IsTrueOfOne system who w earlier (event.FailedAt at why) = IsReading w earlier at
+IsTrueOfOne system who w earlier (event.Output signal to values target) = IsRoute system w signal who.process to target
+IsTrueOfOne system who w earlier (event.Create process number) = IsNumber w process number
+IsTrueOfOne system who w earlier happened = Unit {0}
 
 -- so is what each of several deeds says, of the world as it is then
-abbrev pub IsTrueOf : Identity → WorldValue → ℕ → List Deed → Type 0
-IsTrueOf who w earlier [] = Unit {0}
-IsTrueOf who w earlier (deed ∷ rest) =
-    IsTrueOfOne who w earlier deed.event
-    × IsTrueOf who (after_effects w deed.effects) (time_after_one earlier deed.event) rest
+abbrev pub IsTrueOf : SystemValue → Identity → WorldValue → ℕ → List Deed → Type 0
+IsTrueOf system who w earlier [] = Unit {0}
+IsTrueOf system who w earlier (deed ∷ rest) =
+    IsTrueOfOne system who w earlier deed.event
+    × IsTrueOf system who (after_effects w deed.effects) (time_after_one earlier deed.event) rest

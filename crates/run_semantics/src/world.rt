@@ -4,7 +4,7 @@ ghost use Rattle.std.specs.Prelude.{◌≡◌, true, Bool, IfOk, OnOk, OnErr};
 
 use port_inbox::Fuse;
 use port_values::{Item, SignalId, Ticks, Values};
-use sdl_system::{Dest, ProcessId, Target};
+use sdl_system::{Dest, ProcessId, System, Target};
 use std::alloc::AllocError;
 
 /// What lies outside of an instance, as it makes a step.
@@ -23,9 +23,9 @@ pub trait World {
         ensures clock { IsClock (value self.old) result }
         ensures same { value self.new ≡ value self.old };
 
-    /// Whom a signal reaches that an instance of `from` sends to the destination `to`.
-    fn route(&mut self, signal: SignalId, from: ProcessId, to: Dest) -> Target
-        ensures route { IsRoute (value self.old) signal from to result }
+    /// Whom a signal reaches that an instance of `from`, a process of `system`, sends to the destination `to`.
+    fn route(&mut self, system: &System, signal: SignalId, from: ProcessId, to: Dest) -> Target
+        ensures route { IsRoute system.now (value self.old) signal from to result }
         ensures same { value self.new ≡ value self.old };
 
     /// Sends a signal. For want of memory it has not been sent.

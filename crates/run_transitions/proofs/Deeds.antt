@@ -12,6 +12,7 @@ use Rattle.port_values.specs.declared.value.Value.{Value}
 use Rattle.run_evaluation.specs.Environment.{Environment, environment}
 use Rattle.run_evaluation.specs.Value.{at_place, key_at, value_of, values_at}
 use Rattle.run_record.specs.Event as event
+use Rattle.run_semantics.proofs.Deeds.{may_reach}
 use Rattle.run_semantics.proofs.Goes.{All-one, goes_deed, goes_stopped, goes_until}
 use Rattle.run_semantics.specs.Effect.{Effect, Arm, Deed, Send}
 use Rattle.run_semantics.specs.Fails.{parameters_of, sent_by, set_by}
@@ -19,7 +20,7 @@ use Rattle.run_semantics.specs.Goes.{AreInner, Goes, IsInner, MachineValue, with
 use Rattle.run_semantics.specs.Leads.{created, offspring_of}
 use Rattle.run_semantics.specs.ControlPoint.{Amid, Definition, Doing, Ended, In, IsState, ControlPoint}
 use Rattle.run_semantics.specs.Reception.{assigned, sort_in}
-use Rattle.run_semantics.specs.World.{IsNumber, IsRoute, WorldValue, after_effect, after_effects}
+use Rattle.run_semantics.specs.World.{IsNumber, IsRoute, MayReach, WorldValue, after_effect, after_effects}
 use Rattle.sdl_system.specs.Body as body
 use Rattle.sdl_system.specs.Body.{Assigning, Body, Whither}
 use Rattle.sdl_system.specs.Term.{Term}
@@ -59,7 +60,7 @@ module _ (d : Definition) (origin : Option StateId) (rest : Body) where
   pub goes_sent : (to : Option Whither) (one : body.Sending) (more : List body.Sending) (named : Dest)
       (values : List Value) (target : Target) (m n : MachineValue) (w v : WorldValue)
       → sent_by d.system (here_of d m) to one ≡ Ok (named, values)
-      → IsRoute w one.signal m.who.process named target
+      → IsRoute d.system w one.signal m.who.process named target
       → v ≡ after_effect w (Send target (record { name = one.signal; values = values; sender = Of m.who.pid }))
       → n ≡ with_event m (event.Output one.signal named values target)
       → Goes AreInner d (Amid origin (body.output (one ∷ more) to) rest) m w (Amid origin (body.output more to) rest) n
@@ -69,9 +70,11 @@ module _ (d : Definition) (origin : Option StateId) (rest : Body) where
       let then : ControlPoint = Amid origin (body.output more to) rest in
       let effect : Effect = Send target (record { name = one.signal; values = values; sender = Of m.who.pid }) in
       let deed : Deed = record { event = event.Output one.signal named values target; calls = []; effects = effect ∷ [] } in
+      let reached : MayReach d.system one.signal m.who.process named target =
+      may_reach d.system w.living one.signal m.who.process named target route in
       goes_until d AreInner from then m (with_event m deed.event) n w (after_effect w effect) v is sent
       (goes_deed d AreInner from then m m w deed (inner deed tt) refl refl refl refl refl refl refl refl route
-      (refl, refl, refl, record { is = refl; evaluated = found; effects_are = refl }) refl)
+      (refl, refl, refl, record { is = refl; evaluated = found; reached = reached; effects_are = refl }) refl)
 
   pub goes_set : (one : body.Setting) (more : List body.Setting) (key : TimerKey) (due : ℕ) (m n : MachineValue)
       (w v : WorldValue) → m.owner.state.alive ≡ true → m.owner.state.sets ≢ MOST_SETS

@@ -103,7 +103,9 @@ fn send<P: Inbox, W: World>(
             inbox,
         )?;
         make_room(machine, 1)?;
-        send_value(alloc, one.signal, &who, named, value, machine, world)?;
+        send_value(
+            alloc, one.signal, system, &who, named, value, machine, world,
+        )?;
         return Ok(());
     }
     let values = evaluate_all(
@@ -116,7 +118,7 @@ fn send<P: Inbox, W: World>(
         inbox,
     )?;
     make_room(machine, values.len())?;
-    send_values(one.signal, &who, named, values, machine, world)?;
+    send_values(one.signal, system, &who, named, values, machine, world)?;
     Ok(())
 }
 
@@ -147,6 +149,7 @@ fn only_value<P: Inbox>(
 fn send_value<W: World>(
     alloc: Global,
     signal: SignalId,
+    system: &System,
     who: &Identity,
     named: Dest,
     value: Value,
@@ -155,7 +158,7 @@ fn send_value<W: World>(
 ) -> Result<Target, Failure>
     requires room { 0 < machine.old.trace.room }
     requires values_room { 0 < machine.old.trace.values_room }
-    ensures route { IfOk result (IsRoute (W.value world.old) signal who.now.process named) }
+    ensures route { IfOk result (IsRoute system.now (W.value world.old) signal who.now.process named) }
     ensures sent { IfOk result (λ target. W.value world.new ≡ after_effect (W.value world.old)
         (Send target (record { name = signal; values = value ∷ []; sender = Of who.now.pid }))) }
     ensures recorded { IfOk result (λ target. machine.new ≡ record machine.old {
@@ -167,13 +170,14 @@ fn send_value<W: World>(
 {
     let told = [value];
     let values = Values::from_slice(alloc, &told).map_err(|_| Failure::Memory)?;
-    deliver(signal, who, named, values, &told, machine, world)
+    deliver(signal, system, who, named, values, &told, machine, world)
 }
 
 /// Sends a signal with its values, and answers whom it reaches. What was sent is recorded.
 #[inline(always)]
 fn send_values<W: World>(
     signal: SignalId,
+    system: &System,
     who: &Identity,
     named: Dest,
     values: Values,
@@ -182,7 +186,7 @@ fn send_values<W: World>(
 ) -> Result<Target, Failure>
     requires room { 0 < machine.old.trace.room }
     requires values_room { length values ≤ machine.old.trace.values_room }
-    ensures route { IfOk result (IsRoute (W.value world.old) signal who.now.process named) }
+    ensures route { IfOk result (IsRoute system.now (W.value world.old) signal who.now.process named) }
     ensures sent { IfOk result (λ target. W.value world.new ≡ after_effect (W.value world.old)
         (Send target (record { name = signal; values = values; sender = Of who.now.pid }))) }
     ensures recorded { IfOk result (λ target. machine.new ≡ record machine.old {
@@ -193,13 +197,23 @@ fn send_values<W: World>(
     ensures quiet { OnErr result (W.value world.new ≡ W.value world.old) }
 {
     let copy = values.copied().map_err(|_| Failure::Memory)?;
-    deliver(signal, who, named, copy, values.as_slice(), machine, world)
+    deliver(
+        signal,
+        system,
+        who,
+        named,
+        copy,
+        values.as_slice(),
+        machine,
+        world,
+    )
 }
 
 /// Sends a signal to whom it reaches, and records it with these values, which are its own.
 #[inline(always)]
 fn deliver<W: World>(
     signal: SignalId,
+    system: &System,
     who: &Identity,
     named: Dest,
     values: Values,
@@ -210,7 +224,7 @@ fn deliver<W: World>(
     requires told { told.now ≡ values }
     requires room { 0 < machine.old.trace.room }
     requires values_room { length values ≤ machine.old.trace.values_room }
-    ensures route { IfOk result (IsRoute (W.value world.old) signal who.now.process named) }
+    ensures route { IfOk result (IsRoute system.now (W.value world.old) signal who.now.process named) }
     ensures sent { IfOk result (λ target. W.value world.new ≡ after_effect (W.value world.old)
         (Send target (record { name = signal; values = values; sender = Of who.now.pid }))) }
     ensures recorded { IfOk result (λ target. machine.new ≡ record machine.old {
@@ -220,7 +234,7 @@ fn deliver<W: World>(
     ensures same { OnErr result (machine.new ≡ machine.old) }
     ensures quiet { OnErr result (W.value world.new ≡ W.value world.old) }
 {
-    let target = world.route(signal, who.process, named);
+    let target = world.route(system, signal, who.process, named);
     let item = Item {
         name: signal,
         values,

@@ -7,13 +7,12 @@ use Rattle.sdl_build.specs.Laws.{CanRun}
 use Rattle.build_context.specs.ProcessScope.{process_scope}
 use Rattle.build_context.specs.Context.{Context}
 use Rattle.sdl_build.proofs.LawLemmas.{processes-can-run}
-use Rattle.serial_order.specs.Execution.{AreBehaviours}
 use Rattle.build_definitions.specs.Rows.{ProcessRow}
 use Rattle.build_process.specs.Made.{IsHeaded}
 use Rattle.build_process.specs.Meant.{IsBehaviour}
 use Rattle.build_process.specs.ProcessScope.{ProcessScope}
 use Rattle.build_process.specs.declared.heading.Heading.{Heading}
-use Rattle.run_semantics.specs.Behaves.{Behaves}
+use Rattle.run_semantics.specs.Behaves.{AreBehaviours, Behaves}
 use Rattle.sdl_system.specs.Behaviour.{Behaviour, variable_meaning}
 use Rattle.sdl_system.specs.Signal.{is_member}
 use Rattle.sdl_system.specs.System.{SystemValue}

@@ -13,6 +13,7 @@ use Rattle.sdl_parse.specs.declared.error.ParseError.TheVariants as parse
 use Rattle.sdl_report.specs.Gathered as gathered
 use Rattle.sdl_report.specs.ReportText.{report_text}
 use Rattle.run_record.specs.declared.record.Report.{Report}
+use Rattle.run_record.specs.declared.run_error.RunError.TheVariants as run
 use Rattle.sdl_script.specs.Script.{IsScript}
 use Rattle.sdl_script.specs.ScriptText.{SaysScript}
 use Rattle.sdl_script.specs.ScriptText as faults
@@ -125,9 +126,11 @@ IsTextRefused bytes (refusal.Build error) = IsBuildRefused bytes error
 IsTextRefused bytes (refusal.Script error) = IsScriptRefused bytes error
 IsTextRefused bytes (refusal.Run error) = ⊥
 
--- what a command may tell of these bytes: both the same of the text, and a run also of itself
+-- What a command may tell of these bytes: both the same of the text, and a run also of itself. It is a run on one
+-- thread, which never loses anything.
 abbrev pub AllowsOf : Command → List ℕ → Refusal → Type 0
-AllowsOf command.Run bytes (refusal.Run error) = IsRunRefused bytes
+AllowsOf command.Run bytes (refusal.Run run.Memory) = IsRunRefused bytes
+AllowsOf command.Run bytes (refusal.Run (run.Lost number)) = ⊥
 AllowsOf how bytes refused = IsTextRefused bytes refused
 
 -- the same of an input: one that is too long is a text that is too long

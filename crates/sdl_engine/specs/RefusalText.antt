@@ -1,7 +1,7 @@
 -- The line that tells a refusal: the text of the layer that refuses, and a line end.
 use Rattle.std.specs.Prelude.{ℕ, List, [], ◌∷◌, ◌++◌}
 use Rattle.sdl_build.specs.ErrorText.{build_text}
-use Rattle.serial_instances.specs.ErrorText.{run_text}
+use Rattle.run_record.specs.RunError.{run_text}
 use Rattle.sdl_parse.specs.ErrorText.{parse_text}
 use Rattle.sdl_script.specs.ErrorText.{script_text}
 use Rattle.sdl_engine.specs.declared.refusal.Refusal.{Refusal}

@@ -1,10 +1,10 @@
 //! Refusals of a text or of its run.
 
 use crate::options::Outcome;
+use run_record::RunError;
 use sdl_build::BuildError;
 use sdl_parse::ParseError;
 use sdl_script::ScriptError;
-use serial_run::RunError;
 use std::error::Error;
 use std::fmt;
 

@@ -2,6 +2,7 @@
 
 ghost use Rattle.std.specs.Prelude.{◌≡◌, IfOk, IfSome};
 ghost use Rattle.std.specs.String.{string_bytes};
+ghost use Rattle.run_record.specs.RunError.{run_text};
 ghost use Rattle.sdl_build.specs.ErrorText.{build_text};
 ghost use Rattle.sdl_lex.specs.ErrorText.{lex_text};
 ghost use Rattle.sdl_parse.specs.ErrorText.{parse_text};
@@ -9,6 +10,7 @@ ghost use Rattle.sdl_script.specs.ErrorText.{script_text};
 ghost use Rattle.sdl_engine.specs.RefusalText.{line_of, refusal_line};
 
 use crate::refusal::Refusal;
+use run_record::RunError;
 use sdl_build::BuildError;
 use sdl_lex::LexError;
 use sdl_parse::ParseError;
@@ -23,7 +25,7 @@ pub fn fixed_line(refusal: &Refusal) -> Option<&'static str>
         Refusal::Parse(error) => fixed_parse_line(error),
         Refusal::Build(error) => fixed_build_line(error),
         Refusal::Script(error) => fixed_script_line(error),
-        Refusal::Run(_) => Some("run Memory\n"),
+        Refusal::Run(error) => fixed_run_line(error),
     }
 }
 
@@ -62,6 +64,15 @@ fn fixed_script_line(error: &ScriptError) -> Option<&'static str>
     match error {
         ScriptError::Memory => Some("script Memory\n"),
         _ => None,
+    }
+}
+
+fn fixed_run_line(error: &RunError) -> Option<&'static str>
+    ensures { IfSome result (λ line. line.now ≡ line_of (run_text error.now)) }
+{
+    match error {
+        RunError::Memory => Some("run Memory\n"),
+        RunError::Lost(_) => None,
     }
 }
 

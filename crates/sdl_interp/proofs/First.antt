@@ -69,7 +69,7 @@ module _ (d : Definition) where
 
     begins_taken : (to : ControlPoint) (n : MachineValue) (v : WorldValue) (happened : Event) (s : Store) → IsFirst happened
         → is_beginning happened ≡ true → s.time ≡ time_after_one m.store.time happened
-        → IsTrueOfOne m.who w m.store.time happened
+        → IsTrueOfOne d.system m.who w m.store.time happened
         → Happens d m.who drawn (In state) m.store happened (Take classes reply ∷ []) [] to s
         → n ≡ with_event (record k { store = s }) happened → v ≡ w
         → Goes (IsOneStep true) d (In state) m w to n v

@@ -11,6 +11,7 @@ use Rattle.port_values.specs.declared.value.Value.{Value}
 use Rattle.sdl_interp.specs.Instance.{IsAtRest, IsClosed, IsInstance, closing, instance_of, variables_from}
 use Rattle.sdl_interp.specs.Stimulus.{IsAnswered, IsStepped, Responds, StepsFrom}
 use Rattle.sdl_interp.specs.declared.stimulus.Led.{Led}
+use Rattle.run_evaluation.specs.declared.identity.Identity.{Identity}
 use Rattle.run_record.specs.Event as event
 use Rattle.run_record.specs.Event.{Event}
 use Rattle.run_record.specs.Record.{RecordValue, noted}
@@ -19,7 +20,7 @@ use Rattle.run_semantics.specs.Goes.{IsOneStep, MachineValue}
 use Rattle.run_semantics.specs.Instance.{HasRun, first_variables, parameters_from}
 use Rattle.run_semantics.specs.ControlPoint.{Definition}
 use Rattle.run_semantics.specs.World.{WorldValue}
-use Rattle.run_transitions.specs.Machine.{IsReady, identity_of, place_of, value_of}
+use Rattle.run_transitions.specs.Machine.{IsReady, IsSameInstance, identity_of, place_of, value_of}
 use Rattle.run_transitions.specs.Work.{IsOf}
 use Rattle.run_transitions.specs.declared.machine.Machine.{Machine}
 use Rattle.run_transitions.specs.declared.machine.Position.{Position}
@@ -96,12 +97,19 @@ run_idle system process at.Ended m n w v shared run steps d is = absurd (steps d
 
 -- an instance that waits, and one that made a step, is one
 module _ (shared : Bool) (system : SystemValue) (process : Process) (from : Position) (m n : Machine)
-    (o q : OwnerState) (w v : WorldValue) (is_instance : IsInstance shared system process from m o) where
+    (o q : OwnerState) (w v : WorldValue) (is_instance : IsInstance shared system process from m o)
+    (same : IsSameInstance (value_of m o) (value_of n q)) where
+  listed_still : slice_get system.processes n.trace.process.0 ≡ Some process
+  listed_still =
+      subst (λ (who : Identity). slice_get system.processes who.process.0 ≡ Some process) (sym same.who)
+      is_instance.listed
+
   pub idle_is : IsStepped process from None n q
       → StepsFrom system process from (value_of m o) w None (value_of n q) v
       → IsInstance shared system process from n q
   idle_is is_stepped steps = record {
     ready = is_stepped;
+    listed = listed_still;
     state = is_instance.state;
     run = run_idle system process from (value_of m o) (value_of n q) w v shared is_instance.run steps;
   }
@@ -111,6 +119,7 @@ module _ (shared : Bool) (system : SystemValue) (process : Process) (from : Posi
       → IsInstance shared system process led.to n q
   stepped_is led is_stepped steps = record {
     ready = is_stepped.ready;
+    listed = listed_still;
     state = is_stepped.inside;
     run = run_stepped system process from (value_of m o) (value_of n q) w v shared led is_instance.run steps;
   }
@@ -131,6 +140,8 @@ module _ (shared : Bool) (system : SystemValue) (process : Process) (m : Machine
     process = ap (λ (t : RecordValue). t.process) is;
     pid = ap (λ (t : RecordValue). t.pid) is;
     parent = ap (λ (t : RecordValue). t.parent) is;
+    listed = subst (λ (t : RecordValue). slice_get system.processes t.process.0 ≡ Some process) (sym is)
+        is_instance.listed;
     events = ap (λ (t : RecordValue). t.events) is;
     run = λ d of. run_unstarted d shared (identity_of m.trace) m.trace.events trace.events m.store o
         (is_instance.run d of) (ap (λ (t : RecordValue). t.events) is);
@@ -141,6 +152,8 @@ module _ (shared : Bool) (system : SystemValue) (process : Process) (m : Machine
     process = ap (λ (t : RecordValue). t.process) is;
     pid = ap (λ (t : RecordValue). t.pid) is;
     parent = ap (λ (t : RecordValue). t.parent) is;
+    listed = subst (λ (t : RecordValue). slice_get system.processes t.process.0 ≡ Some process) (sym is)
+        is_instance.listed;
     events = ap (λ (t : RecordValue). t.events) is
         ∙ ap (λ (b : Bool). m.trace.events ++ closing b (at.In n)) (sym is_whole);
     run = λ d of. let quiet = rests is_whole d of in
@@ -153,6 +166,8 @@ module _ (shared : Bool) (system : SystemValue) (process : Process) (m : Machine
     process = ap (λ (t : RecordValue). t.process) is;
     pid = ap (λ (t : RecordValue). t.pid) is;
     parent = ap (λ (t : RecordValue). t.parent) is;
+    listed = subst (λ (t : RecordValue). slice_get system.processes t.process.0 ≡ Some process) (sym is)
+        is_instance.listed;
     events = ap (λ (t : RecordValue). t.events) is
         ∙ ap (λ (b : Bool). m.trace.events ++ closing b (at.In n)) (sym is_cut);
     run = λ d of. run_cut d shared (identity_of m.trace) m.trace.events trace.events n m.store o
@@ -164,6 +179,8 @@ module _ (shared : Bool) (system : SystemValue) (process : Process) (m : Machine
     process = ap (λ (t : RecordValue). t.process) is;
     pid = ap (λ (t : RecordValue). t.pid) is;
     parent = ap (λ (t : RecordValue). t.parent) is;
+    listed = subst (λ (t : RecordValue). slice_get system.processes t.process.0 ≡ Some process) (sym is)
+        is_instance.listed;
     events = ap (λ (t : RecordValue). t.events) is ∙ sym (append-nil m.trace.events);
     run = λ d of. subst (λ (events : List Event).
         HasRun shared d (identity_of m.trace) events (place_of at.Ended) m.store o)
@@ -193,6 +210,7 @@ module _ (system : SystemValue) (process : Process) (position : Position) (m : M
   becomes old port alive run is_instance = record {
     ready = ready_as position m (single old.pid old.state old.armed) (single old.pid port old.armed) alive refl
         is_instance.ready;
+    listed = is_instance.listed;
     state = is_instance.state;
     run = run;
   }

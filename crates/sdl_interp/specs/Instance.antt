@@ -1,5 +1,5 @@
 -- An instance of a process, as its callers see it (Z.101: agent).
-use Rattle.std.specs.Prelude.{◌≡◌, ◌≢◌, ◌⊎◌, Bool, true, false, List, [], ◌∷◌, ◌++◌, None, Some, drop, map}
+use Rattle.std.specs.Prelude.{◌≡◌, ◌≢◌, ◌⊎◌, Bool, true, false, List, [], ◌∷◌, ◌++◌, None, Some, drop, map, slice_get}
 use Rattle.port_inbox.specs.Ends.{OwnerState}
 use Rattle.port_model.specs.declared.selection.Class.{Class}
 use Rattle.port_values.specs.declared.value.Value.{Value}
@@ -64,10 +64,12 @@ instance_of system process position m owner = record {
   events = m.trace.events;
 }
 
--- There is room for what may come, the state is one of the process, and all that was done is a run of it.
+-- There is room for what may come, the process is the one that the system has at the instance's number of it, the state
+-- is one of the process, and all that was done is a run of it.
 pub record IsInstance (shared : Bool) (system : SystemValue) (process : Process) (position : Position) (m : Machine)
     (owner : OwnerState) : Type 0 where
   pub ready : IsReady position m owner
+  pub listed : slice_get system.processes m.trace.process.0 ≡ Some process
   pub state : IsPositionIn process position
   pub run : HasRunOf shared (instance_of system process position m owner)
 
@@ -145,10 +147,12 @@ closed at.BeforeStart = Closed
 closed (at.In n) = Closed
 closed at.Ended = place.Ended
 
--- the record is that of the instance, closed, and all that it did is a run of its process
+-- The record is that of the instance, closed, and all that it did is a run of its process, which is the one that the
+-- system has at the number in the record.
 pub record IsClosed (shared whole : Bool) (i : InstanceValue) (trace : RecordValue) : Type 0 where
   pub process : trace.process ≡ i.who.process
   pub pid : trace.pid ≡ i.who.pid
   pub parent : trace.parent ≡ i.who.parent
+  pub listed : slice_get i.system.processes trace.process.0 ≡ Some i.process
   pub events : trace.events ≡ i.events ++ closing whole i.position
   pub run : (d : Definition) → IsRunAs i d → HasRun shared d i.who trace.events (closed i.position) i.store i.owner

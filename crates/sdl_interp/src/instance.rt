@@ -1,6 +1,6 @@
 //! An instance of a process (Z.101: agent).
 
-ghost use Rattle.std.specs.Prelude.{◌≡◌, ◌==◌, ◌&&◌, [], IfOk, IsTrue, MatchResult};
+ghost use Rattle.std.specs.Prelude.{◌≡◌, ◌==◌, ◌&&◌, [], IfOk, IsTrue, MatchResult, Some, slice_get};
 ghost use Rattle.port_inbox.specs.Calls.{ComesBack, after_entry};
 ghost use Rattle.port_inbox.specs.Ends.{single};
 ghost use Rattle.port_inbox.specs.declared.entry.Entry.TheVariants.{Timer};
@@ -63,7 +63,8 @@ pub struct Closed<P: Inbox + Drop> {
 
 impl<'s, P: Inbox + Drop> Instance<'s, P> {
     /// An instance of a process of the system before its start, with these values of its parameters and an inbox of
-    /// which nothing was asked so far. For want of memory the inbox comes back.
+    /// which nothing was asked so far. The process is the one that the system has at the number of it that stands in
+    /// `who`. For want of memory the inbox comes back.
     pub fn new(
         alloc: Global,
         system: &'s System,
@@ -75,6 +76,7 @@ impl<'s, P: Inbox + Drop> Instance<'s, P> {
         requires empty { (P.owning inbox).state ≡ empty_port }
         requires drawn { (P.owning inbox).drawn ≡ [] }
         requires own { (P.owning inbox).pid ≡ who.pid }
+        requires process { slice_get system.now.processes who.process.0 ≡ Some process.now }
         ensures { MatchResult result
             (λ i. i ≡ created system.now process.now who values.now (P.owning inbox))
             (λ back. back ≡ inbox) }
@@ -130,6 +132,7 @@ impl<'s, P: Inbox + Drop> Instance<'s, P> {
     pub fn trace(&self) -> &Record
         ensures events { result.now.events ≡ self.now.events }
         ensures run { HasRunOf P.shared self.now }
+        ensures listed { slice_get self.now.system.processes result.now.process.0 ≡ Some self.now.process }
     {
         &self.machine.trace
     }

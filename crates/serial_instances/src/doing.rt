@@ -9,7 +9,6 @@ ghost use Rattle.serial_order.specs.Told.{given_after_one};
 ghost use Rattle.serial_instances.specs.Serial.{IsSerial, state_of};
 ghost use Rattle.serial_sweeps.specs.Sweeps.{Moment, at_agenda};
 
-use crate::error::RunError;
 use crate::instances::Instances;
 use port_inbox::{Alone, Fuse};
 use port_values::{Item, Pid, Values};
@@ -19,7 +18,7 @@ use sdl_script::ScriptLine;
 use sdl_system::{Process, ProcessId, Source, Target};
 use serial_sweeps::Agenda;
 use serial_world::{Effect, EffectParts, Effects};
-use std::alloc::Global;
+use std::alloc::{AllocError, Global};
 use std::collections::VecDeque;
 
 impl<'s> Instances<'s> {
@@ -30,7 +29,7 @@ impl<'s> Instances<'s> {
         alloc: Global,
         agenda: &mut Agenda,
         effects: Effects<'_>,
-    ) -> Result<(), RunError>
+    ) -> Result<(), AllocError>
         requires { IsSerial agenda.old.ready self.old }
         ensures kept { OnOk result (IsSerial agenda.new.ready self.new) }
         ensures system { self.new.system ≡ self.old.system }
@@ -59,7 +58,7 @@ impl<'s> Instances<'s> {
         alloc: Global,
         agenda: &mut Agenda,
         effects: &mut VecDeque<Effect>,
-    ) -> Result<(), RunError>
+    ) -> Result<(), AllocError>
         requires { IsSerial agenda.old.ready self.old }
         ensures kept { OnOk result (IsSerial agenda.new.ready self.new) }
         ensures system { self.new.system ≡ self.old.system }
@@ -83,7 +82,7 @@ impl<'s> Instances<'s> {
         alloc: Global,
         agenda: &mut Agenda,
         effect: Effect,
-    ) -> Result<(), RunError>
+    ) -> Result<(), AllocError>
         requires { IsSerial agenda.old.ready self.old }
         ensures kept { OnOk result (IsSerial agenda.new.ready self.new) }
         ensures system { self.new.system ≡ self.old.system }
@@ -107,7 +106,7 @@ impl<'s> Instances<'s> {
                 Some(definition) => {
                     self.enter(alloc, agenda, process, definition, Pid::Of(parent), &values)
                 }
-                None => Err(RunError::Memory),
+                None => Err(AllocError),
             },
         }
     }
@@ -121,7 +120,7 @@ impl<'s> Instances<'s> {
         process: &'s Process,
         parent: Pid,
         values: &Values,
-    ) -> Result<(), RunError>
+    ) -> Result<(), AllocError>
         requires serial { IsSerial agenda.old.ready self.old }
         requires process { slice_get self.old.system.now.processes id.0 ≡ Some process.now }
         ensures kept { OnOk result (IsSerial agenda.new.ready self.new) }
@@ -134,7 +133,7 @@ impl<'s> Instances<'s> {
         ensures fuses { agenda.new.fuses ≡ agenda.old.fuses }
     {
         let Some(pid) = self.living.given().checked_add(1) else {
-            return Err(RunError::Memory);
+            return Err(AllocError);
         };
         let who = Identity {
             process: id,
@@ -143,7 +142,7 @@ impl<'s> Instances<'s> {
         };
         let inbox = Alone::new(alloc, pid);
         let Ok(instance) = Instance::new(alloc, self.system, process, who, values, inbox) else {
-            return Err(RunError::Memory);
+            return Err(AllocError);
         };
         self.instances.push(instance)?;
         agenda.ready.wake(pid)?;
@@ -154,7 +153,7 @@ impl<'s> Instances<'s> {
     /// Puts a signal into the port of its target. What goes to the environment, to null, to nobody or to a number that
     /// nobody has is gone.
     #[inline(always)]
-    fn send(&mut self, agenda: &mut Agenda, target: Target, item: Item) -> Result<(), RunError>
+    fn send(&mut self, agenda: &mut Agenda, target: Target, item: Item) -> Result<(), AllocError>
         requires { IsSerial agenda.old.ready self.old }
         ensures kept { OnOk result (IsSerial agenda.new.ready self.new) }
         ensures system { self.new.system ≡ self.old.system }
@@ -171,14 +170,14 @@ impl<'s> Instances<'s> {
             return Ok(());
         };
         if self.instances[place].put(item).is_err() {
-            return Err(RunError::Memory);
+            return Err(AllocError);
         }
         agenda.ready.wake(number)?;
         Ok(())
     }
 
     /// A fuse whose time has come expires at once, another waits.
-    fn arm(&mut self, agenda: &mut Agenda, fuse: Fuse) -> Result<(), RunError>
+    fn arm(&mut self, agenda: &mut Agenda, fuse: Fuse) -> Result<(), AllocError>
         requires { IsSerial agenda.old.ready self.old }
         ensures kept { OnOk result (IsSerial agenda.new.ready self.new) }
         ensures system { self.new.system ≡ self.old.system }
@@ -194,12 +193,12 @@ impl<'s> Instances<'s> {
         }
         match agenda.fuses.arm(fuse) {
             Ok(()) => Ok(()),
-            Err(_) => Err(RunError::Memory),
+            Err(_) => Err(AllocError),
         }
     }
 
     /// A fuse expires in the port of its instance.
-    pub fn fire(&mut self, agenda: &mut Agenda, fuse: Fuse) -> Result<(), RunError>
+    pub fn fire(&mut self, agenda: &mut Agenda, fuse: Fuse) -> Result<(), AllocError>
         requires { IsSerial agenda.old.ready self.old }
         ensures kept { OnOk result (IsSerial agenda.new.ready self.new) }
         ensures system { self.new.system ≡ self.old.system }
@@ -214,14 +213,14 @@ impl<'s> Instances<'s> {
             return Ok(());
         };
         if self.instances[place].expire(fuse, agenda.clock).is_err() {
-            return Err(RunError::Memory);
+            return Err(AllocError);
         }
         agenda.ready.wake(number)?;
         Ok(())
     }
 
     /// Puts what the environment sends in a line into the port of its target.
-    pub fn put_line(&mut self, agenda: &mut Agenda, line: &ScriptLine) -> Result<(), RunError>
+    pub fn put_line(&mut self, agenda: &mut Agenda, line: &ScriptLine) -> Result<(), AllocError>
         requires { IsSerial agenda.old.ready self.old }
         ensures kept { OnOk result (IsSerial agenda.new.ready self.new) }
         ensures system { self.new.system ≡ self.old.system }

@@ -6,7 +6,6 @@ ghost use Rattle.serial_order.specs.RunState.{first_instances, first_of};
 ghost use Rattle.serial_instances.specs.Serial.{IsSerial};
 ghost use Rattle.sdl_interp.specs.Instance.{IsAtRest, IsClosed};
 
-use crate::error::RunError;
 use port_inbox::Alone;
 use port_values::{Pid, Values};
 use run_record::Record;
@@ -14,7 +13,7 @@ use sdl_interp::Instance;
 use sdl_system::{Process, ProcessId, System};
 use serial_sweeps::Agenda;
 use serial_world::Living;
-use std::alloc::Global;
+use std::alloc::{AllocError, Global};
 
 /// The instances of a run, with ports of their own, and who of them lives.
 #[derive(Drop)]
@@ -29,7 +28,7 @@ pub struct Instances<'s> {
 
 impl<'s> Instances<'s> {
     /// The instances with which the system begins, before their start at time 0. Nobody was there before.
-    pub fn begin(alloc: Global, agenda: &mut Agenda, system: &'s System) -> Result<Self, RunError>
+    pub fn begin(alloc: Global, agenda: &mut Agenda, system: &'s System) -> Result<Self, AllocError>
         requires { agenda.old.ready ≡ [] }
         ensures serial { IfOk result (IsSerial agenda.new.ready) }
         ensures clock { agenda.new.clock ≡ agenda.old.clock }
@@ -44,7 +43,7 @@ impl<'s> Instances<'s> {
         };
         for (number, process) in system.processes().iter().enumerate() {
             let Ok(number) = u32::try_from(number) else {
-                return Err(RunError::Memory);
+                return Err(AllocError);
             };
             run.begin_all(alloc, agenda, ProcessId(number), process)?;
         }
@@ -58,7 +57,7 @@ impl<'s> Instances<'s> {
         agenda: &mut Agenda,
         id: ProcessId,
         process: &'s Process,
-    ) -> Result<(), RunError>
+    ) -> Result<(), AllocError>
         requires serial { IsSerial agenda.old.ready self.old }
         requires process { slice_get self.old.system.now.processes id.0 ≡ Some process.now }
         ensures kept { OnOk result (IsSerial agenda.new.ready self.new) }
@@ -76,7 +75,7 @@ impl<'s> Instances<'s> {
     }
 
     /// The records by ascending number.
-    pub fn close(self, alloc: Global, whole: bool) -> Result<Vec<Record>, RunError>
+    pub fn close(self, alloc: Global, whole: bool) -> Result<Vec<Record>, AllocError>
         requires rest { IsTrue whole → All IsAtRest self.instances.items }
         ensures { IfOk result (λ records. AllZip (IsClosed false whole) self.entry.instances.items records.items) }
     {

@@ -8,9 +8,7 @@
 #![tactic(auto)]
 
 mod doing;
-mod error;
 mod instances;
 mod living;
 
-pub use error::RunError;
 pub use instances::Instances;

@@ -4,7 +4,7 @@ use Rattle.std.proofs.lemmas.Option.{none-some, same_Some}
 use Rattle.port_values.specs.declared.pid.Pid.TheVariants.{Null}
 use Rattle.serial_order.proofs.Known.{AreKnown, IsKnown, known_as, known_new}
 use Rattle.serial_order.proofs.Numbers.{at_append}
-use Rattle.serial_order.specs.Execution.{AreBehaviours}
+use Rattle.run_semantics.specs.Behaves.{AreBehaviours}
 use Rattle.serial_order.specs.RunState.{beginning, first_instances, first_of, instance_at, instance_of}
 use Rattle.run_evaluation.specs.declared.identity.Identity.{Identity}
 use Rattle.sdl_interp.specs.Instance.{InstanceValue}

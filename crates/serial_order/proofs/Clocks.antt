@@ -9,7 +9,8 @@ use Rattle.serial_order.proofs.Beginnings.{first_time}
 use Rattle.serial_order.proofs.Histories.{are_followed, moment_from}
 use Rattle.serial_order.proofs.Known.{moment_of}
 use Rattle.serial_order.proofs.Numbers.{at_change, at_more, at_with}
-use Rattle.serial_order.specs.Execution.{AreBehaviours, Execution, Expired, Follows, Happening, Heard, IsNoFuseBefore, IsNoLineBefore, Moved, Steps, Ticked, Ticks, begins, goes, next_line}
+use Rattle.run_semantics.specs.Behaves.{AreBehaviours}
+use Rattle.serial_order.specs.Execution.{Execution, Expired, Follows, Happening, Heard, IsNoFuseBefore, IsNoLineBefore, Moved, Steps, Ticked, Ticks, begins, goes, next_line}
 use Rattle.serial_order.specs.RunState.{RunState, after_effect, after_effects, world_at, beginning, change_at, instance_at, instance_of, with_created, with_expiry, with_instance, with_put}
 use Rattle.serial_order.specs.Laws.{EachReadsTheClock}
 use Rattle.serial_order.specs.Times.{AreAt, AreTimed, IsAt, IsTimed}
@@ -38,7 +39,7 @@ record IsTimely (g : RunState) : Type 0 where
 latest : (a b : ℕ) → b ≤ a → max a b ≡ a
 latest a b less = omega (arith, less)
 
-module _ (who : Identity) (clock : ℕ) where
+module _ (system : SystemValue) (who : Identity) (clock : ℕ) where
   reading_is : (w : WorldValue) (before at : ℕ) → w.clock ≡ Some clock → before ≤ clock → IsReading w before at
       → at ≡ clock
   reading_is w before at known less reads =
@@ -53,7 +54,7 @@ module _ (who : Identity) (clock : ℕ) where
   at_clock at is = omega (arith, is)
 
   event_reads : (w : WorldValue) (before : ℕ) (e : Event) → w.clock ≡ Some clock → before ≤ clock
-      → IsTrueOfOne who w before e → Reads before e
+      → IsTrueOfOne system who w before e → Reads before e
   event_reads w before (event.Start at) known less is =
       let same = reading_is w before at known less is in record { is_at = same; after = at_clock at same }
   event_reads w before (event.Consumed at got) known less is =
@@ -82,7 +83,7 @@ module _ (who : Identity) (clock : ℕ) where
   clock_kept w (effect ∷ rest) = clock_kept (world.after_effect w effect) rest
 
   deeds_read : (w : WorldValue) (before : ℕ) (deeds : List Deed) → w.clock ≡ Some clock → before ≤ clock
-      → IsTrueOf who w before deeds → AreAt clock deeds × (time_after before deeds ≤ clock)
+      → IsTrueOf system who w before deeds → AreAt clock deeds × (time_after before deeds ≤ clock)
   deeds_read w before [] known less are = (tt, less)
   deeds_read w before (deed ∷ rest) known less are =
       let first : Reads before deed.event = event_reads w before deed.event known less are.0 in
@@ -190,7 +191,7 @@ module _ (ps : List Behaviour) (last : ℕ) where
   step_reads g who deeds h step timely =
       let old : InstanceValue = step.old in
       let read : AreAt g.clock step.goes.deeds × (time_after old.store.time step.goes.deeds ≤ g.clock) =
-      deeds_read old.who g.clock (world_at g) old.store.time step.goes.deeds refl
+      deeds_read old.system old.who g.clock (world_at g) old.store.time step.goes.deeds refl
       (timely.read who.pid old step.is_there) step.goes.are_true in (
         subst (λ (list : List Deed). AreAt g.clock list) step.deeds_are read.0,
         subst (λ k. k ≤ g.clock) (sym step.goes.time) read.1,

@@ -9,7 +9,7 @@ use Rattle.serial_order.proofs.Known.{AreKnown, IsKnown, effects_known, effects_
 use Rattle.serial_order.proofs.Made.{MakeNext, deeds_make}
 use Rattle.serial_order.proofs.Numbers.{at_with, eq_of, length-change, length-with, other_is, within}
 use Rattle.serial_order.proofs.Own.{all_own, later_none}
-use Rattle.serial_order.specs.Execution.{AreBehaviours, Execution, Expired, Follows, Happening, Heard, Hears, Moved, Steps, Ticked, begins, goes}
+use Rattle.serial_order.specs.Execution.{Execution, Expired, Follows, Happening, Heard, Hears, Moved, Steps, Ticked, begins, goes}
 use Rattle.serial_order.specs.RunState.{RunState, after_effects, world_at, beginning, living_of, heard_effects, instance_at, with_expiry, with_instance}
 use Rattle.serial_order.specs.Laws.{EachIsTold}
 use Rattle.serial_order.specs.Told.{Moment, comes_by, deeds_of, deeds_of_one, first_moment, given_after, history_from, history_of, history_of_one, moment_after}
@@ -20,7 +20,7 @@ use Rattle.run_semantics.proofs.Acting.{runs_effects}
 use Rattle.run_semantics.proofs.Deeds.{events_of-append}
 use Rattle.run_semantics.proofs.Runs.{Runs-append}
 use Rattle.run_semantics.specs.Effect.{Effect, Deed, effects_of, calls_of, events_of}
-use Rattle.run_semantics.specs.Behaves.{Behaves}
+use Rattle.run_semantics.specs.Behaves.{AreBehaviours, Behaves}
 use Rattle.run_semantics.specs.Goes.{drawn_as}
 use Rattle.run_semantics.specs.Instance.{first_store}
 use Rattle.run_semantics.specs.ControlPoint.{AtStart, Definition}
@@ -52,7 +52,7 @@ module _ (ps : List Behaviour) (g : RunState) (who : Identity) (done : List Deed
       let d : Definition = record { system = old.system; behaviour = step.p } in
       subst (λ (list : List Deed). MakeNext system (length g.instances) (effects_of list)) step.deeds_are
       (subst (λ (s : SystemValue). MakeNext s (length g.instances) (effects_of step.goes.deeds)) same
-      (deeds_make old.who (world_at g) (living_of g.system g.instances) old.store.time step.goes.deeds refl
+      (deeds_make old.system old.who (world_at g) (living_of g.system g.instances) old.store.time step.goes.deeds refl
       (runs_effects d old.who (place_of old.position) old.store old.owner.state step.goes.runs) step.goes.are_true))
 
   module _ (system : SystemValue) (n : ℕ) (before : List Deed) (history : List PortEvent)

@@ -11,7 +11,6 @@ use Rattle.port_values.specs.declared.pid.Pid.TheVariants.{Of}
 use Rattle.port_values.specs.declared.value.Value.{Value}
 use Rattle.serial_order.proofs.Numbers.{at_change, at_more, eq_is, eq_of, length-change, not_there, there}
 use Rattle.serial_order.proofs.Made.{IsProcess, MakeNext, MakesNext}
-use Rattle.serial_order.specs.Execution.{AreBehaviours}
 use Rattle.serial_order.specs.RunState.{RunState, after_effect, after_effects, armed, change_at, instance_at, instance_of, sent_to, with_created, with_expiry, with_put}
 use Rattle.serial_order.specs.Told.{IsTold, Moment, comes_by, comes_by_one, expiry_by, given_after, given_after_one, is_there}
 use Rattle.run_evaluation.specs.Environment.{initial_store}
@@ -20,7 +19,7 @@ use Rattle.run_evaluation.specs.declared.identity.Identity.{Identity}
 use Rattle.sdl_interp.specs.Instance.{InstanceValue, variables_from}
 use Rattle.run_semantics.specs.Effect.{Effect, Arm, Create, Deed, Send}
 use Rattle.sdl_timers.specs.DueOrder.{with_fuse}
-use Rattle.run_semantics.specs.Behaves.{Behaves}
+use Rattle.run_semantics.specs.Behaves.{AreBehaviours, Behaves}
 use Rattle.run_semantics.specs.Instance.{first_store, first_variables, parameters_from}
 use Rattle.run_semantics.specs.ControlPoint.{AtStart, Definition}
 use Rattle.run_semantics.specs.Runs.{Runs, hears, still}

@@ -65,11 +65,11 @@ made_next system living id (Some number) pid values e = (number_is system living
 
 -- ---- what deeds make
 
-module _ (who : Identity) (w : WorldValue) (living : Living) (known : w.living ≡ Some living) (earlier : ℕ) where
+module _ (system : SystemValue) (who : Identity) (w : WorldValue) (living : Living) (known : w.living ≡ Some living) (earlier : ℕ) where
   nothing_made : (done : List Effect) → done ≡ [] → MakeNext w.system living.given done
   nothing_made done none = subst (λ (list : List Effect). MakeNext w.system living.given list) (sym none) tt
 
-  event_makes : (e : Event) (done : List Effect) → AreActsOf who.pid e done → IsTrueOfOne who w earlier e
+  event_makes : (e : Event) (done : List Effect) → AreActsOf who.pid e done → IsTrueOfOne system who w earlier e
       → MakeNext w.system living.given done
   event_makes (event.Output signal named values target) done are is_true =
       subst (λ (list : List Effect). MakeNext w.system living.given list) (sym are.1) (tt, tt)
@@ -122,24 +122,24 @@ system_kept : (w : WorldValue) (done : List Effect) → (after_effects w done).s
 system_kept w [] = refl
 system_kept w (effect ∷ rest) = system_kept (after_effect w effect) rest
 
-deeds_count : (who : Identity) (w : WorldValue) (given earlier : ℕ) (deeds : List Deed) → Counts w given
-    → AreActs who.pid deeds → IsTrueOf who w earlier deeds → MakeNext w.system given (effects_of deeds)
-deeds_count who w given earlier [] counts are are_true = tt
-deeds_count who w given earlier (deed ∷ rest) counts are are_true =
+deeds_count : (system : SystemValue) (who : Identity) (w : WorldValue) (given earlier : ℕ) (deeds : List Deed) → Counts w given
+    → AreActs who.pid deeds → IsTrueOf system who w earlier deeds → MakeNext w.system given (effects_of deeds)
+deeds_count system who w given earlier [] counts are are_true = tt
+deeds_count system who w given earlier (deed ∷ rest) counts are are_true =
     let first : MakeNext w.system given deed.effects =
     subst (λ given. MakeNext w.system given deed.effects) counts.given_is
-    (event_makes who w counts.living counts.known earlier deed.event deed.effects are.0 are_true.0) in
+    (event_makes system who w counts.living counts.known earlier deed.event deed.effects are.0 are_true.0) in
     let later : MakeNext w.system (given_after given deed.effects) (effects_of rest) =
-    subst (λ (system : SystemValue). MakeNext system (given_after given deed.effects) (effects_of rest))
+    subst (λ (s : SystemValue). MakeNext s (given_after given deed.effects) (effects_of rest))
     (system_kept w deed.effects)
-    (deeds_count who (after_effects w deed.effects) (given_after given deed.effects) (time_after_one earlier deed.event) rest
+    (deeds_count system who (after_effects w deed.effects) (given_after given deed.effects) (time_after_one earlier deed.event) rest
     (counts_all w given deed.effects counts) are.1 are_true.1) in
     MakeNext-append w.system given deed.effects (effects_of rest) first later
 
 -- what deeds do that are true of a world in which so many numbers were given
-pub deeds_make : (who : Identity) (w : WorldValue) (living : Living) (earlier : ℕ) (deeds : List Deed)
-    → w.living ≡ Some living → AreActs who.pid deeds → IsTrueOf who w earlier deeds
+pub deeds_make : (system : SystemValue) (who : Identity) (w : WorldValue) (living : Living) (earlier : ℕ) (deeds : List Deed)
+    → w.living ≡ Some living → AreActs who.pid deeds → IsTrueOf system who w earlier deeds
     → MakeNext w.system living.given (effects_of deeds)
-deeds_make who w living earlier deeds known are are_true =
-    deeds_count who w living.given earlier deeds (record { living = living; known = known; given_is = refl }) are
+deeds_make system who w living earlier deeds known are are_true =
+    deeds_count system who w living.given earlier deeds (record { living = living; known = known; given_is = refl }) are
     are_true

@@ -1,6 +1,5 @@
 -- The serial order of a run: one list of all that happens (Z.101: agent; Z.102: start, input, output, timer).
 use Rattle.std.specs.Prelude.{◌≡◌, ◌≢◌, ◌⊎◌, ◌+◌, ◌<◌, ◌≤◌, ℕ, Bool, false, List, [], ◌∷◌, ◌++◌, All, Option, None, Some, if◌then◌else◌, length, map, slice_get}
-use Rattle.std.specs.List.{AllZip}
 use Rattle.port_inbox.specs.declared.entry.Fuse.{Fuse}
 use Rattle.port_model.specs.Timers.{IsLeast, earlier}
 use Rattle.serial_order.specs.RunState.{RunState, after_effects, world_at, expired, heard_effects, instance_at, with_instance}
@@ -8,7 +7,6 @@ use Rattle.run_evaluation.specs.declared.identity.Identity.{Identity}
 use Rattle.sdl_interp.specs.Instance.{InstanceValue, IsQuietAt, IsRunAs, Keeps, work_of}
 use Rattle.run_record.specs.Event.{is_beginning}
 use Rattle.run_semantics.specs.Effect.{Effect, Deed, effects_of}
-use Rattle.run_semantics.specs.Behaves.{Behaves}
 use Rattle.run_semantics.specs.Goes.{Goes, IsOneStep}
 use Rattle.run_semantics.specs.World.{WorldValue}
 use Rattle.sdl_script.specs.declared.script.ScriptLine.{ScriptLine}
@@ -17,11 +15,7 @@ use Rattle.run_transitions.specs.declared.machine.Position.TheVariants.{Ended}
 use Rattle.sdl_system.specs.Behaviour.{Behaviour}
 use Rattle.sdl_system.specs.System.{SystemValue}
 
--- ---- what the processes mean
-
--- each process of the system means the behaviour of its number
-abbrev pub AreBehaviours : SystemValue → List Behaviour → Type 0
-AreBehaviours system ps = AllZip (Behaves system) system.processes ps
+-- ---- what the instances mean
 
 -- the process of an instance means this behaviour, which is that of its number
 pub record IsMeant (ps : List Behaviour) (i : InstanceValue) (p : Behaviour) : Type 0 where
@@ -91,6 +85,7 @@ pub record Steps (ps : List Behaviour) (g : RunState) (who : Identity) (deeds : 
   pub world : WorldValue
   pub is_there : instance_at g.instances who.pid ≡ Some old
   pub is_who : old.who ≡ who
+  pub of_system : old.system ≡ g.system
   pub lives : old.position ≢ Ended
   pub meant : IsMeant ps old p
   pub turn : IsTurn ps g who.pid bound

@@ -1,7 +1,8 @@
 -- Laws of the serial order.
 use Rattle.std.specs.Prelude.{◌≡◌, ◌++◌, ℕ, List, All, IfSome}
 use Rattle.port_values.specs.declared.pid.Pid.TheVariants.{Env}
-use Rattle.serial_order.specs.Execution.{AreBehaviours, Execution, Happening}
+use Rattle.run_semantics.specs.Behaves.{AreBehaviours}
+use Rattle.serial_order.specs.Execution.{Execution, Happening}
 use Rattle.serial_order.specs.RunState.{RunState, beginning}
 use Rattle.serial_order.specs.Times.{AreTimed}
 use Rattle.serial_order.specs.Told.{AreMatched, AreTold, first_moment, lines_of}

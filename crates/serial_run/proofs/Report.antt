@@ -2,7 +2,8 @@
 use Rattle.std.proofs.Common.{◌≡◌, ◌⊎◌, ◌∙◌, ◌+◌, ◌<◌, Bool, true, false, IsTrue, ℕ, List, [], ◌∷◌, All, refl, inl, inr, sym, ap, subst, arith, length}
 use Rattle.std.specs.List.{AllZip}
 use Rattle.std.proofs.lemmas.List.Elements.{All-head, All-tail}
-use Rattle.serial_order.specs.Execution.{AreBehaviours, Execution, EndsInTransition, Happening, IsNoFuseBefore, transitions_of}
+use Rattle.run_semantics.specs.Behaves.{AreBehaviours}
+use Rattle.serial_order.specs.Execution.{Execution, EndsInTransition, Happening, IsNoFuseBefore, transitions_of}
 use Rattle.serial_order.specs.RunState.{beginning, first_instances}
 use Rattle.serial_order.specs.Report.{Closes, Ends, IsSerialReport}
 use Rattle.serial_instances.specs.Serial.{IsOfSystem, IsSerial, state_of}

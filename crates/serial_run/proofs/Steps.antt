@@ -10,10 +10,11 @@ use Rattle.serial_world.specs.StepWorld.{AreNumbered, effect_of, living_now, wor
 use Rattle.serial_world.specs.declared.step_world.SerialWorld.{SerialWorld}
 use Rattle.serial_order.proofs.Made.{MakeNext, deeds_make}
 use Rattle.serial_order.proofs.Own.{later_none}
-use Rattle.serial_order.specs.Execution.{AreBehaviours, Moved, Steps, is_transition}
+use Rattle.run_semantics.specs.Behaves.{AreBehaviours}
+use Rattle.serial_order.specs.Execution.{Moved, Steps, is_transition}
 use Rattle.serial_order.specs.RunState.{RunState, after_effects, world_at, living_of, instance_at, with_instance}
 use Rattle.serial_instances.proofs.LivingLemmas.{in_place}
-use Rattle.serial_instances.specs.Serial.{IsSerial, state_of}
+use Rattle.serial_instances.specs.Serial.{IsOfSystem, IsSerial, state_of}
 use Rattle.serial_instances.specs.declared.instances.Instances.{Instances}
 use Rattle.run_evaluation.specs.declared.identity.Identity.{Identity}
 use Rattle.run_evaluation.specs.declared.store.Store.{Store}
@@ -31,7 +32,7 @@ use Rattle.run_semantics.specs.World as world
 use Rattle.run_semantics.specs.World.{WorldValue}
 use Rattle.serial_run.specs.ExecutionLaws.{advances_one, stays}
 use Rattle.serial_run.proofs.Places.{set_there}
-use Rattle.serial_run.specs.Meanings.{Meaning, meaning_at, nothing_due, turn_by}
+use Rattle.serial_run.specs.Meanings.{Meaning, all_at, meaning_at, nothing_due, turn_by}
 use Rattle.serial_run.proofs.Refusals.{counts_is, refused_effects}
 use Rattle.serial_run.specs.Advances.{Advances, Reaches}
 use Rattle.run_transitions.specs.Machine.{place_of}
@@ -147,6 +148,8 @@ module _ (ready : List ℕ) (m n : Moment) (s t : Instances) (place number bound
         world = v;
         is_there = ap (instance_at s.instances.items) pid_is ∙ made.is_there;
         is_who = refl;
+        of_system = (all_at (IsOfSystem s.system.now) s.instances.items place old made.serial.members
+            made.is_there).system_is;
         lives = made.lives;
         meant = found.meant;
         turn = turn_by ps ready m s old.who.pid bound behaviours made.serial
@@ -177,7 +180,7 @@ module _ (ready : List ℕ) (m n : Moment) (s t : Instances) (place number bound
   counting moves now counted system =
       let goes = moves d found.meant.is_run in
       let effects_are = effects_done (state_of m s) v goes.deeds performed goes.world made.known in
-      let make = deeds_make old.who (world_at (state_of m s)) (living_of s.system.now s.instances.items) old.store.time
+      let make = deeds_make old.system old.who (world_at (state_of m s)) (living_of s.system.now s.instances.items) old.store.time
       goes.deeds refl (runs_effects d old.who (place_of old.position) old.store old.owner.state goes.runs)
       goes.are_true in
       let numbers = numbered s.system.now (length s.instances.items) (effects_of goes.deeds) make in

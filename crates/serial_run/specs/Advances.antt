@@ -1,6 +1,7 @@
 -- How far a serial run goes.
 use Rattle.std.specs.Prelude.{◌≡◌, ◌+◌, ℕ, List}
-use Rattle.serial_order.specs.Execution.{AreBehaviours, Execution, EndsInTransition, Happening, transitions_of}
+use Rattle.run_semantics.specs.Behaves.{AreBehaviours}
+use Rattle.serial_order.specs.Execution.{Execution, EndsInTransition, Happening, transitions_of}
 use Rattle.serial_instances.specs.Serial.{state_of}
 use Rattle.serial_instances.specs.declared.instances.Instances.{Instances}
 use Rattle.serial_sweeps.specs.Sweeps.{Moment}

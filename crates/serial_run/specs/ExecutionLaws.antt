@@ -1,6 +1,7 @@
 -- Executions join, and so does how far a run goes: laws that the sweeps ask of instances.
 use Rattle.std.proofs.Common.{◌≡◌, ◌+◌, ℕ, List, [], ◌∷◌, ◌++◌, refl, inl, inr, ap, ◌∙◌, sym, subst, append_assoc, append-nil, arith}
-use Rattle.serial_order.specs.Execution.{AreBehaviours, Execution, EndsInTransition, Follows, Happening, IsTransition, begins, goes, transitions_of, transitions_of_one}
+use Rattle.run_semantics.specs.Behaves.{AreBehaviours}
+use Rattle.serial_order.specs.Execution.{Execution, EndsInTransition, Follows, Happening, IsTransition, begins, goes, transitions_of, transitions_of_one}
 use Rattle.serial_order.specs.RunState.{RunState}
 use Rattle.serial_instances.specs.Serial.{state_of}
 use Rattle.serial_instances.specs.declared.instances.Instances.{Instances}

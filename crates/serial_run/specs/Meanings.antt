@@ -4,12 +4,12 @@ use Rattle.std.specs.Prelude.{Contains}
 use Rattle.std.specs.List.{AllZip}
 use Rattle.std.proofs.lemmas.List.Elements.{All-get_or}
 use Rattle.std.proofs.lemmas.Option.{get_or_from_slice_get, slice_get_within}
-use Rattle.serial_order.specs.Execution.{AreBehaviours, IsMeant, IsNoLineBefore, IsNothingDue, IsTurn, RestBetween, Rests, begins_anew, goes_on, next_line}
+use Rattle.serial_order.specs.Execution.{IsMeant, IsNoLineBefore, IsNothingDue, IsTurn, RestBetween, Rests, begins_anew, goes_on, next_line}
 use Rattle.serial_order.specs.RunState.{instance_at}
 use Rattle.serial_instances.specs.Serial.{IsOfSystem, IsSerial, state_of}
 use Rattle.serial_instances.specs.declared.instances.Instances.{Instances}
 use Rattle.sdl_interp.specs.Instance.{InstanceValue, IsAtRest}
-use Rattle.run_semantics.specs.Behaves.{Behaves}
+use Rattle.run_semantics.specs.Behaves.{AreBehaviours, Behaves}
 use Rattle.sdl_script.specs.declared.script.ScriptLine.{ScriptLine}
 use Rattle.serial_sweeps.specs.Sweeps as sweeps
 use Rattle.serial_sweeps.specs.Sweeps.{IsTurnBy, Moment, NoneBetween, until}

@@ -12,4 +12,4 @@ mod step;
 mod stepping;
 
 pub use run::run_serial;
-pub use serial_instances::RunError;
+pub use run_record::RunError;

@@ -1,16 +1,16 @@
 //! A serial run.
 
 ghost use Rattle.std.specs.Prelude.{◌≡◌, IfErr, IfOk, List};
-ghost use Rattle.serial_order.specs.Execution.{AreBehaviours};
+ghost use Rattle.run_semantics.specs.Behaves.{AreBehaviours};
 ghost use Rattle.serial_order.specs.Report.{IsSerialReport};
 ghost use Rattle.sdl_system.specs.Behaviour.{Behaviour};
 
 use crate::stepping::Stepping;
 use port_values::Ticks;
-use run_record::Report;
+use run_record::{Report, RunError};
 use sdl_script::Script;
 use sdl_system::System;
-use serial_instances::{Instances, RunError};
+use serial_instances::Instances;
 use serial_sweeps::{Agenda, InstanceSet, Scheduler};
 use std::alloc::Global;
 use std::collections::VecDeque;

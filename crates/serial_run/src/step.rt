@@ -8,10 +8,10 @@ ghost use Rattle.serial_sweeps.specs.declared.instance_set.Made.TheVariants.{Tra
 
 use run_transitions::Position;
 use sdl_interp::Stepped;
-use serial_instances::{Instances, RunError};
+use serial_instances::Instances;
 use serial_sweeps::{Agenda, Made};
 use serial_world::{Effect, Effects, SerialWorld};
-use std::alloc::Global;
+use std::alloc::{AllocError, Global};
 use std::collections::VecDeque;
 
 /// One step of the instance with this number, and all that it does outside. Its acts behind the first lie in `spare`
@@ -22,7 +22,7 @@ pub fn step(
     agenda: &mut Agenda,
     number: u32,
     spare: &mut VecDeque<Effect>,
-) -> Result<Made, RunError>
+) -> Result<Made, AllocError>
     requires fits { IsSerial agenda.old.ready instances.old }
     requires ready { Contains agenda.old.ready number }
     ensures fits { OnOk result (IsSerial agenda.new.ready instances.new) }

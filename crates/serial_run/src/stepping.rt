@@ -3,10 +3,10 @@
 use crate::step::step;
 use port_inbox::Fuse;
 use sdl_script::ScriptLine;
-use serial_instances::{Instances, RunError};
+use serial_instances::Instances;
 use serial_sweeps::{Agenda, InstanceSet, Made};
 use serial_world::Effect;
-use std::alloc::Global;
+use std::alloc::{AllocError, Global};
 use std::collections::VecDeque;
 
 /// The instances of a run, with memory for the acts of a step.
@@ -25,7 +25,7 @@ impl<'s> InstanceSet for Stepping<'s> {
     ghost use Rattle.serial_run.specs.Meanings.{none_ready};
     ghost use Rattle.serial_run.specs.Ticks.{tick_reaches};
 
-    type Error = RunError;
+    type Error = AllocError;
 
     ghost Fits = { λ ready a. IsSerial ready a.instances };
 
@@ -39,15 +39,15 @@ impl<'s> InstanceSet for Stepping<'s> {
         self.instances.living.given()
     }
 
-    fn step(&mut self, alloc: Global, agenda: &mut Agenda, number: u32) -> Result<Made, RunError> {
+    fn step(&mut self, alloc: Global, agenda: &mut Agenda, number: u32) -> Result<Made, AllocError> {
         step(&mut self.instances, alloc, agenda, number, &mut self.spare)
     }
 
-    fn expire(&mut self, agenda: &mut Agenda, fuse: Fuse) -> Result<(), RunError> {
+    fn expire(&mut self, agenda: &mut Agenda, fuse: Fuse) -> Result<(), AllocError> {
         self.instances.fire(agenda, fuse)
     }
 
-    fn hear(&mut self, agenda: &mut Agenda, line: &ScriptLine) -> Result<(), RunError> {
+    fn hear(&mut self, agenda: &mut Agenda, line: &ScriptLine) -> Result<(), AllocError> {
         self.instances.put_line(agenda, line)
     }
 

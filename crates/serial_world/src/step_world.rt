@@ -61,9 +61,9 @@ impl<'a, 'r> World for SerialWorld<'a, 'r> {
         self.clock
     }
 
-    fn route(&mut self, signal: SignalId, from: ProcessId, to: Dest) -> Target {
+    fn route(&mut self, system: &System, signal: SignalId, from: ProcessId, to: Dest) -> Target {
         let living = self.living().least();
-        self.system.route(signal, Source::Process(from), to, living)
+        system.route(signal, Source::Process(from), to, living)
     }
 
     #[inline(always)]

@@ -33,12 +33,13 @@ pub fn record_alone(
 ) -> Record {
     let Play {
         system,
-        process,
         values,
         script,
     } = played;
+    let who = identity();
+    let process = system.process(who.process).expect(rt, "a process");
     let inbox = Alone::new(alloc, OWN);
-    let Ok(mut instance) = Instance::new(alloc, system, process, identity(), &values, inbox) else {
+    let Ok(mut instance) = Instance::new(alloc, system, process, who, &values, inbox) else {
         panic!(rt; "no memory for an instance");
     };
     play(rt, alloc, &mut instance, runtime, script);

@@ -12,7 +12,7 @@ use sdl_build::build;
 use sdl_parse::parse;
 use sdl_report::write_report;
 use sdl_script::{Script, read_script};
-use sdl_system::{Process, ProcessId, System};
+use sdl_system::{ProcessId, System};
 use std::alloc::Global;
 use std::process::Abort;
 use std::sync::Wait;
@@ -60,14 +60,14 @@ pub const CASE: Case<'static> = Case {
 #[derive(Drop)]
 pub struct Play<'s> {
     pub system: &'s System,
-    pub process: &'s Process,
     pub values: Values,
     pub script: Script,
 }
 
 /// Who the instance is that is run.
 pub fn identity() -> Identity
-    ensures { result.pid ≡ 1 }
+    ensures process { result.process.0 ≡ 0 }
+    ensures pid { result.pid ≡ 1 }
 {
     Identity {
         process: ProcessId(0),
@@ -90,7 +90,6 @@ fn system_of(rt: &impl Abort, alloc: Global, case: &Case<'_>) -> System {
 fn play_of<'s>(rt: &impl Abort, alloc: Global, system: &'s System, case: &Case<'_>) -> Play<'s> {
     Play {
         system,
-        process: system.process(ProcessId(0)).expect(rt, "a process"),
         values: Values::from_slice(alloc, case.values).expect(rt, "values"),
         script: read_script(alloc, system, case.script.as_bytes()).expect(rt, "a script"),
     }

@@ -97,9 +97,8 @@ impl World for Runtime<'_> {
         self.clock
     }
 
-    fn route(&mut self, signal: SignalId, from: ProcessId, to: Dest) -> Target {
-        self.system
-            .route(signal, Source::Process(from), to, &self.living)
+    fn route(&mut self, system: &System, signal: SignalId, from: ProcessId, to: Dest) -> Target {
+        system.route(signal, Source::Process(from), to, &self.living)
     }
 
     fn send(&mut self, target: Target, item: Item) -> Result<(), AllocError> {

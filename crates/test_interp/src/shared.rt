@@ -74,11 +74,12 @@ fn record_of<'a, R: Abort + Wait + Copy>(
 {
     let Play {
         system,
-        process,
         values,
         script,
     } = played;
-    let Ok(instance) = Instance::new(alloc, system, process, identity(), &values, inbox) else {
+    let who = identity();
+    let process = system.process(who.process).expect(&rt, "a process");
+    let Ok(instance) = Instance::new(alloc, system, process, who, &values, inbox) else {
         panic!(rt; "no memory for an instance");
     };
     let mut sharing = Sharing {

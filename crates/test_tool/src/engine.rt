@@ -200,18 +200,13 @@ fn has_lines_that_need_no_memory(rt: HostRuntime) {
 
 #[test]
 fn has_lines_that_are_made(rt: HostRuntime) {
-    expect_made_line(
-        &rt,
-        rt.alloc(),
-        ScriptError::Syntax(12),
-        "script 12 Syntax\n",
-    );
-    expect_made_line(
-        &rt,
-        rt.alloc(),
-        ScriptError::BackInTime(3),
-        "script 3 BackInTime\n",
-    );
+    let alloc = rt.alloc();
+    let syntax = Refusal::Script(ScriptError::Syntax(12));
+    expect_made_line(&rt, alloc, syntax, "script 12 Syntax\n");
+    let back = Refusal::Script(ScriptError::BackInTime(3));
+    expect_made_line(&rt, alloc, back, "script 3 BackInTime\n");
+    let lost = Refusal::Run(RunError::Lost(7));
+    expect_made_line(&rt, alloc, lost, "run Lost #7\n");
 }
 
 /// Sees that a refusal has this line, with memory and without.
@@ -220,9 +215,8 @@ fn expect_fixed_line(rt: &impl Abort, alloc: Global, refusal: Refusal, line: &st
     expect_line(rt, alloc, &refusal, line);
 }
 
-/// Sees that a script's refusal has this line, and only with memory.
-fn expect_made_line(rt: &impl Abort, alloc: Global, error: ScriptError, line: &str) {
-    let refusal = Refusal::Script(error);
+/// Sees that a refusal has this line, and only with memory.
+fn expect_made_line(rt: &impl Abort, alloc: Global, refusal: Refusal, line: &str) {
     assert!(rt; fixed_line(&refusal).is_none());
     expect_line(rt, alloc, &refusal, line);
 }

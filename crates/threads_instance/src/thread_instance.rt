@@ -1,6 +1,6 @@
 //! An instance with its senders.
 
-ghost use Rattle.std.specs.Prelude.{◌≡◌, [], IsTrue, MatchResult};
+ghost use Rattle.std.specs.Prelude.{◌≡◌, [], IsTrue, MatchResult, Some, slice_get};
 ghost use Rattle.port_model.specs.Port.{empty_port};
 ghost use Rattle.sdl_interp.specs.Instance.{HasRunOf, IsAtRest, IsClosed, IsRunAs, Keeps, Steps, created};
 ghost use Rattle.threads_instance.specs.ThreadWorld.{world_of};
@@ -68,6 +68,7 @@ impl<'s, J: Run, P: Inbox + Drop> ThreadInstance<'s, J, P> {
         requires empty { (P.owning inbox).state ≡ empty_port }
         requires drawn { (P.owning inbox).drawn ≡ [] }
         requires own { (P.owning inbox).pid ≡ who.pid }
+        requires process { slice_get system.now.processes who.process.0 ≡ Some process.now }
         ensures { MatchResult result
             (λ m. m ≡ record {
               instance = created system.now process.now who values.now (P.owning inbox);

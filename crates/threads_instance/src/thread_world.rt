@@ -33,8 +33,8 @@ impl<'a, J: Run, R: Wait, O: Runtime<J>> World for ThreadWorld<'a, J, R, O> {
         self.runtime.now()
     }
 
-    fn route(&mut self, signal: SignalId, from: ProcessId, to: Dest) -> Target {
-        self.runtime.route(self.system, signal, from, to)
+    fn route(&mut self, system: &System, signal: SignalId, from: ProcessId, to: Dest) -> Target {
+        self.runtime.route(system, signal, from, to)
     }
 
     fn send(&mut self, target: Target, item: Item) -> Result<(), AllocError> {

@@ -1,4 +1,4 @@
-use Rattle.std.proofs.Common.{◌≡◌, ◌≤◌, ◌<◌, ◌∙◌, ◌∷◌, [], List, ap, arith, get_or, inl, inr, length, refl, subst}
+use Rattle.std.proofs.Common.{◌≡◌, ◌≤◌, ◌<◌, ◌∙◌, ◌∷◌, [], List, ap, arith, get_or, inl, inr, length, refl, subst, sym}
 use Rattle.std.proofs.lemmas.Result.{err_from_is_err_and}
 use Rattle.std.specs.Option.{option_copied, option_map}
 use Rattle.port_values.specs.declared.pid.Pid.TheVariants.{Of}
@@ -13,6 +13,7 @@ use Rattle.run_transitions.proofs.Machines.{store_kept, value_noted}
 use Rattle.run_transitions.proofs.Meanings.{sent_ok, unnamed, unsent}
 use Rattle.run_transitions.specs.Machine.{value_of}
 use Rattle.run_transitions.specs.declared.machine.Machine.{Machine}
+use Rattle.sdl_system.specs.System.{SystemValue}
 use Rattle.sdl_system.specs.Table.{sending, whither_of}
 use Rattle.sdl_system.specs.declared.expression.Expression.{Expression}
 use Rattle.run_transitions.proofs.output.send.Goals as goal
@@ -30,11 +31,13 @@ returns-clause-ok g c = λ more d is origin rest.
     let values = c.in_ok-values.values in
     let target = c.in_ok-send_values.field-0 in
     let told : Event = event.Output signal named values target in
-    let Route : Identity → Type 0 = λ x. IsRoute w signal x.process named target in
+    let system = c.args.system.now in
+    let Route : Identity → Type 0 = λ x. IsRoute system w signal x.process named target in
+    let By : SystemValue → Type 0 = λ s. IsRoute s w signal old.trace.process named target in
     goes_sent d origin rest whom (sending one) more named values target (value_of old o) _ w _
     (sent_ok c.args.system.now d is _ _ c.who-who.ensures old.store o.state whom one _ c.sorts_of-sorts.ensures _
     c.deref.ensures.value named values c.in_ok-named.ensures.ok c.in_ok-values.ensures.ok)
-    (subst Route c.who-who.ensures c.in_ok-send_values.ensures.route)
+    (subst By (sym is) (subst Route c.who-who.ensures c.in_ok-send_values.ensures.route))
     (c.in_ok-send_values.ensures.sent
     ∙ ap (λ (x : Identity).
     after_effect w (Send target (record { name = signal; values = values; sender = Of x.pid })))
@@ -88,12 +91,14 @@ returns-in-len1-clause-ok g c = λ more d is origin rest.
     let values = c.in_ok-value.value ∷ [] in
     let target = c.in_ok-send_value.field-0 in
     let told : Event = event.Output signal named values target in
-    let Route : Identity → Type 0 = λ x. IsRoute w signal x.process named target in
+    let system = c.args.system.now in
+    let Route : Identity → Type 0 = λ x. IsRoute system w signal x.process named target in
+    let By : SystemValue → Type 0 = λ s. IsRoute s w signal old.trace.process named target in
     goes_sent d origin rest whom (sending one) more named values target (value_of old o) _ w _
     (sent_ok c.args.system.now d is _ _ c.who-who.ensures old.store o.state whom one _ c.sorts_of-sorts.ensures _
     (only_is _ _ c.in-len1.len_at_least c.in-len1.len_below c.expression-item.is ∙ c.as_slice.ensures.value)
     named values c.in_ok-named.ensures.ok c.in_ok-value.ensures.ok)
-    (subst Route c.who-who.ensures c.in_ok-send_value.ensures.route)
+    (subst By (sym is) (subst Route c.who-who.ensures c.in_ok-send_value.ensures.route))
     (c.in_ok-send_value.ensures.sent
     ∙ ap (λ (x : Identity).
     after_effect w (Send target (record { name = signal; values = values; sender = Of x.pid })))

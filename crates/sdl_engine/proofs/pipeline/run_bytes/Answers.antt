@@ -1,5 +1,9 @@
+use Rattle.std.proofs.Common.{subst, sym}
 use Rattle.sdl_tree.specs.Views.{tree_value}
 use Rattle.sdl_engine.proofs.BehaviourLemmas.{behaviours_of_text, some_behaviours}
+use Rattle.sdl_engine.specs.Answer.{AllowsOf, IsRunRefused}
+use Rattle.sdl_engine.specs.declared.options.Command.TheVariants as command
+use Rattle.sdl_engine.specs.declared.refusal.Refusal.TheVariants as refusal
 use Rattle.sdl_engine.proofs.pipeline.run_bytes.Goals as goal
 
 pub returns-in-Ok-clause-ok : goal.returns-in-Ok-clause-ok
@@ -14,3 +18,14 @@ returns-in-Ok-clause-ok c =
       ran = λ ps of.
           c.in-Ok.ensures.serial ps (behaviours_of_text (tree_value taken.tree) taken.system accepted.built ps of);
     }
+
+pub returns-in-Err-clause-err : goal.returns-in-Err-clause-err
+returns-in-Err-clause-err c =
+    let taken = c.in_ok-accepted.accepted in
+    let refused : IsRunRefused c.args.bytes.now = record {
+      tree = tree_value taken.tree;
+      system = taken.system;
+      lines = taken.script.lines.items;
+      accepted = c.in_ok-accepted.ensures.ok;
+    } in
+    subst (λ error. AllowsOf command.Run c.args.bytes.now (refusal.Run error)) (sym c.in-Err.ensures.err) refused

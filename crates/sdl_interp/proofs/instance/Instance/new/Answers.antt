@@ -1,4 +1,4 @@
-use Rattle.std.proofs.Common.{◌≤◌, ◌∙◌, sym, ap, arith}
+use Rattle.std.proofs.Common.{◌≡◌, ◌≤◌, ◌∙◌, Some, ap, arith, slice_get, subst, sym}
 use Rattle.port_model.specs.Port.{PortState}
 use Rattle.run_evaluation.specs.Environment.{initial_store}
 use Rattle.run_evaluation.specs.Variables.{VariableList}
@@ -6,6 +6,7 @@ use Rattle.sdl_interp.proofs.Instances.{holds_ok, variables_mean}
 use Rattle.run_record.specs.Record.{RecordValue}
 use Rattle.run_semantics.proofs.Histories.{run_begins}
 use Rattle.run_transitions.specs.Machine.{identity_of}
+use Rattle.sdl_system.specs.declared.id.ProcessId.{ProcessId}
 use Rattle.sdl_interp.proofs.instance.Instance.new.Goals as goal
 
 pub invariant_of-result : goal.invariant_of-result
@@ -24,6 +25,9 @@ invariant_of-result g c =
         },
         enough,
       );
+      listed = subst (λ (id : ProcessId). slice_get c.args.system.now.processes id.0 ≡ Some c.args.process.now)
+          (sym (ap (λ (t : RecordValue). t.process) c.reserve.ensures.same
+          ∙ ap (λ (t : RecordValue). t.process) c.new-trace.ensures)) c.requires.process;
       state = tt;
       run = λ d is. run_begins d g.P.Inbox.shared (identity_of trace) trace.events c.new.result
           (g.P.Inbox.owning c.args.inbox) c.args.values.now

@@ -11,7 +11,8 @@ invariant_of-self g c =
     let i = c.self.inside in
     idle_is g.P.Inbox.shared i.system.now i.process.now i.position i.machine c.step_from.new.machine
     (g.P.Inbox.owning i.inbox) (g.P.Inbox.owning c.step_from.new.inbox) (g.W.World.value c.args.world.now)
-    (g.W.World.value c.step_from.new.world) c.self.invariant c.in_default-step_from.ensures.stepped
+    (g.W.World.value c.step_from.new.world) c.self.invariant c.in_default-step_from.ensures.kept
+    c.in_default-step_from.ensures.stepped
     c.in_default-step_from.ensures.steps
 
 pub invariant_of-self-2 : goal.invariant_of-self-2
@@ -19,7 +20,8 @@ invariant_of-self-2 g c =
     let i = c.self.inside in
     stepped_is g.P.Inbox.shared i.system.now i.process.now i.position i.machine c.step_from.new.machine
     (g.P.Inbox.owning i.inbox) (g.P.Inbox.owning c.step_from.new.inbox) (g.W.World.value c.args.world.now)
-    (g.W.World.value c.step_from.new.world) c.self.invariant c.in-Some.led c.in-Some.ensures.stepped
+    (g.W.World.value c.step_from.new.world) c.self.invariant c.in-Some.ensures.kept c.in-Some.led
+    c.in-Some.ensures.stepped
     c.in-Some.ensures.steps
 
 pub returns : goal.returns
