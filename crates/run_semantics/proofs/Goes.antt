@@ -1,9 +1,11 @@
 -- How pieces of work join, and what one deed brings.
-use Rattle.std.proofs.Common.{◌≡◌, inl, inr, ◌∙◌, sym, ap, subst, refl, ℕ, Bool, true, List, [], ◌∷◌, ◌++◌, All, append_assoc, append-nil}
+use Rattle.std.proofs.Common.{◌≡◌, inl, inr, ◌∙◌, sym, ap, subst, refl, ℕ, Bool, true, List, [], ◌∷◌, ◌++◌, All, append_assoc, append-nil, arith, if◌then◌else◌, length, nat_lt}
+use Rattle.std.proofs.lemmas.List.{length-append}
 use Rattle.std.proofs.lemmas.List.Elements.{All-append, All-cons, All-nil}
 use Rattle.port_inbox.proofs.Alive.{after_draws-alive}
-use Rattle.port_inbox.specs.Calls.{IsDrawn, TakesHere, after_draws, after_stop}
+use Rattle.port_inbox.specs.Calls.{IsDrawn, TakesHere, after_draws, after_stop, known_after}
 use Rattle.port_inbox.specs.Ends.{OwnerState}
+use Rattle.port_inbox.specs.Put.{longer}
 use Rattle.port_inbox.specs.declared.placed.Placed.{Placed}
 use Rattle.port_model.specs.History.{IsLegal, PortEvent, Stop, Take}
 use Rattle.port_model.specs.Port.{PortState, stopped}
@@ -23,7 +25,7 @@ use Rattle.run_semantics.proofs.Runs.{Runs-append}
 use Rattle.run_semantics.proofs.Same.{selecting_drawn, tried_drawn}
 use Rattle.run_semantics.specs.Effect.{Deed, calls_of, events_of}
 use Rattle.run_semantics.specs.Fails.{Fails}
-use Rattle.run_semantics.specs.Goes.{AreInner, Goes, GoesWrong, IsFirst, IsInner, IsOneStep, MachineValue, Waits, drawn_as, with_event}
+use Rattle.run_semantics.specs.Goes.{AreInner, Goes, GoesWrong, HaveSeenAll, IsAllDrawn, IsFirst, IsInner, IsOneStep, MachineValue, RestOnAll, Waits, drawn_as, with_event}
 use Rattle.run_semantics.specs.Leads.{IsQuiet, Leads, Selecting, LeadsSilently}
 use Rattle.run_semantics.specs.ControlPoint.{Definition, Ended, In, ControlPoint}
 use Rattle.run_semantics.specs.Runs.{Runs, acts, outside_of, own_of, still, turns, waits}
@@ -56,6 +58,46 @@ taken_alive classes old new (Consumed got) (inr later) = ap (λ (q : PortState).
 taken_alive classes old new (Discarded got) takes = ap (λ (q : PortState). q.alive) takes.1.now
 taken_alive classes old new Nothing takes = ap (λ (q : PortState). q.alive) takes.1
 
+-- ---- what is known to be put
+
+-- of a list and a longer one that one is the longer
+longer_more : (drawn : List Placed) (placed : Placed) → longer drawn (drawn ++ placed ∷ []) ≡ drawn ++ placed ∷ []
+longer_more drawn placed = ap (λ (b : Bool). if b then drawn ++ placed ∷ [] else drawn) less where
+    less : nat_lt (length drawn) (length (drawn ++ placed ∷ [])) ≡ true
+    less = grind (arith, length-append drawn (placed ∷ []))
+
+-- where all that is known was drawn, it is so after more was drawn
+known_drawn : (known drawn news : List Placed) → known ≡ drawn → known_after known drawn news ≡ drawn ++ news
+known_drawn known drawn [] same = same ∙ sym (append-nil drawn)
+known_drawn known drawn (placed ∷ more) same =
+    known_drawn (longer known (drawn ++ placed ∷ [])) (drawn ++ placed ∷ []) more
+    (ap (λ (list : List Placed). longer list (drawn ++ placed ∷ [])) same ∙ longer_more drawn placed)
+    ∙ append_assoc drawn (placed ∷ []) more
+
+all_drawn_still : (m n : OwnerState) (news : List Placed) → IsDrawn m n news → IsAllDrawn m → IsAllDrawn n
+all_drawn_still m n news draws all =
+    draws.known ∙ known_drawn m.known m.drawn news all ∙ sym draws.drawn
+
+-- all is drawn after a take that has seen all
+all_seen : (classes : List Class) (old new : OwnerState) (reply : Taken) (rest : List PortEvent)
+    → TakesHere classes old new reply → HaveSeenAll (Take classes reply ∷ rest) → IsAllDrawn new
+all_seen classes old new Nothing rest takes seen = takes.fresh refl
+all_seen classes old new (Consumed got) rest takes seen = takes.passed seen.0 seen.1
+all_seen classes old new (Discarded got) rest takes seen = takes.passed seen.0 seen.1
+
+all_drawn_taken : (classes : List Class) (old new : OwnerState) (reply : Taken) (takes : TakesHere classes old new reply)
+    → IsAllDrawn old → IsAllDrawn new
+all_drawn_taken classes old new reply takes all =
+    all_drawn_still old
+    (record new { state = after_draws old.pid old.state takes.news; armed = old.armed }) takes.news takes.draws all
+
+-- what begins a list of deeds begins it still where more come after, or more come after none
+rest_joined : (first later : List Deed) (mid last : OwnerState) → (RestOnAll first → IsAllDrawn mid)
+    → (IsAllDrawn mid → IsAllDrawn last) → (RestOnAll later → IsAllDrawn last) → RestOnAll (first ++ later)
+    → IsAllDrawn last
+rest_joined [] later mid last one still two rests = two rests
+rest_joined (deed ∷ more) later mid last one still two rests = still (one rests)
+
 module _ (d : Definition) where
   pub goes_still : (from : ControlPoint) (m : MachineValue) (w : WorldValue) → Goes AreInner d from m w from m w
   goes_still from m w = record {
@@ -67,6 +109,8 @@ module _ (d : Definition) where
     port = refl;
     pid = refl;
     drawn = sym (append-nil m.owner.drawn);
+    fresh = λ rests. absurd rests;
+    fresh_still = λ all. all;
     outside = refl;
     own = refl;
     recorded = sym (append-nil m.events);
@@ -103,6 +147,8 @@ module _ (d : Definition) where
     pid = then.pid ∙ first.pid;
     drawn = then.drawn ∙ ap (λ (drawn : List Placed). drawn ++ then.news) first.drawn
         ∙ append_assoc l.owner.drawn first.news then.news;
+    fresh = rest_joined first.deeds then.deeds m.owner n.owner first.fresh then.fresh_still then.fresh;
+    fresh_still = λ all. then.fresh_still (first.fresh_still all);
     outside = outside_of-append first.history then.history
         ∙ ap (λ (events : List PortEvent). events ++ outside_of then.history) first.outside
         ∙ ap (λ (events : List PortEvent). drawn_as l.owner.pid first.news ++ events) then.outside
@@ -151,8 +197,10 @@ module _ (d : Definition) where
       → k.store.time ≡ time_after_one m.store.time deed.event → IsTrueOfOne d.system m.who w m.store.time deed.event
       → Leads d m.who (after_draws m.owner.pid m.owner.state news) from m.store deed to k.store
       → IsLegal (after_draws m.owner.pid m.owner.state news) deed.calls k.owner.state
+      → (HaveSeenAll deed.calls → IsAllDrawn k.owner) → (IsAllDrawn m.owner → IsAllDrawn k.owner)
       → Goes Shape d from m w to (with_event k deed.event) (after_effects w deed.effects)
-  goes_drawn_deed Shape from to m k w deed news shape own outside who port pid drawn events time is_true leads legal =
+  goes_drawn_deed Shape from to m k w deed news shape own outside who port pid drawn events time is_true leads legal seen
+      all =
       record {
         deeds = deed ∷ [];
         news = news;
@@ -162,6 +210,8 @@ module _ (d : Definition) where
         port = port;
         pid = pid;
         drawn = drawn;
+        fresh = seen;
+        fresh_still = all;
         outside = outside_of-drawn_calls m.owner.pid news deed.calls outside;
         own = own_of-drawn_calls m.owner.pid news deed.calls own ∙ sym (append-nil deed.calls);
         recorded = ap (λ (events : List Event). events ++ deed.event ∷ []) events;
@@ -178,10 +228,11 @@ module _ (d : Definition) where
       → k.owner.port ≡ m.owner.port → k.owner.pid ≡ m.owner.pid → k.owner.drawn ≡ m.owner.drawn → k.events ≡ m.events
       → k.store.time ≡ time_after_one m.store.time deed.event → IsTrueOfOne d.system m.who w m.store.time deed.event
       → Leads d m.who m.owner.state from m.store deed to k.store → IsLegal m.owner.state deed.calls k.owner.state
+      → (HaveSeenAll deed.calls → IsAllDrawn k.owner) → (IsAllDrawn m.owner → IsAllDrawn k.owner)
       → Goes Shape d from m w to (with_event k deed.event) (after_effects w deed.effects)
-  goes_deed Shape from to m k w deed shape own outside who port pid drawn events time is_true leads legal =
+  goes_deed Shape from to m k w deed shape own outside who port pid drawn events time is_true leads legal seen all =
       goes_drawn_deed Shape from to m k w deed [] shape own outside who port pid
-      (drawn ∙ sym (append-nil m.owner.drawn)) events time is_true leads legal
+      (drawn ∙ sym (append-nil m.owner.drawn)) events time is_true leads legal seen all
 
   -- ---- no deed
 
@@ -198,6 +249,8 @@ module _ (d : Definition) where
     port = ap (λ (o : OwnerState). o.port) owner;
     pid = ap (λ (o : OwnerState). o.pid) owner;
     drawn = ap (λ (o : OwnerState). o.drawn) owner ∙ sym (append-nil m.owner.drawn);
+    fresh = λ rests. absurd rests;
+    fresh_still = λ all. subst (λ (o : OwnerState). IsAllDrawn o) (sym owner) all;
     outside = refl;
     own = refl;
     recorded = events ∙ sym (append-nil m.events);
@@ -220,6 +273,8 @@ module _ (d : Definition) where
     port = draws.port;
     pid = draws.pid;
     drawn = draws.drawn;
+    fresh = λ rests. absurd rests;
+    fresh_still = all_drawn_still m.owner o news draws;
     outside = outside_of-drawn m.owner.pid news;
     own = own_of-drawn m.owner.pid news;
     recorded = sym (append-nil m.events);
@@ -258,6 +313,8 @@ module _ (d : Definition) where
       who takes.draws.port takes.draws.pid takes.draws.drawn events time is_true leads
       (subst (λ (calls : List PortEvent). IsLegal q calls k.owner.state) (sym is)
       (k.owner.state, (lives, takes.take), refl))
+      (λ seen. all_seen classes m.owner k.owner reply [] takes (subst (λ (calls : List PortEvent). HaveSeenAll calls) is seen))
+      (all_drawn_taken classes m.owner k.owner reply takes)
 
   -- a take, and a failure after it
   pub goes_taken_stopped : (counts : Bool) (n : StateId) (to : ControlPoint) (m k : MachineValue) (w : WorldValue)
@@ -279,6 +336,9 @@ module _ (d : Definition) where
       who takes.draws.port takes.draws.pid takes.draws.drawn events time is_true leads
       (subst (λ (calls : List PortEvent). IsLegal q calls (stopped k.owner.state)) (sym is)
       (k.owner.state, (lives, takes.take), (stopped k.owner.state, (still_lives, refl), refl)))
+      (λ seen. all_seen classes m.owner k.owner reply (Stop ∷ []) takes
+      (subst (λ (calls : List PortEvent). HaveSeenAll calls) is seen))
+      (all_drawn_taken classes m.owner k.owner reply takes)
 
   -- the owner draws, and a take is refused
   pub goes_drawn_stopped : (counts : Bool) (n : StateId) (to : ControlPoint) (m k : MachineValue) (w : WorldValue)
@@ -299,6 +359,8 @@ module _ (d : Definition) where
       who draws.port draws.pid draws.drawn events time is_true leads
       (subst (λ (calls : List PortEvent). IsLegal q calls (stopped k.owner.state)) (sym is)
       (stopped k.owner.state, (lives, ap stopped draws.state), refl))
+      (λ seen. absurd (subst (λ (calls : List PortEvent). HaveSeenAll calls) is seen))
+      (all_drawn_still m.owner k.owner news draws)
 
   -- the port is stopped, and nothing is drawn before
   pub goes_stopped : (Shape : List Deed → Type 0) (from to : ControlPoint) (m k : MachineValue) (w : WorldValue) (deed : Deed)
@@ -314,6 +376,7 @@ module _ (d : Definition) where
       who refl refl refl events time is_true leads
       (subst (λ (calls : List PortEvent). IsLegal m.owner.state calls (stopped m.owner.state)) (sym is)
       (stopped m.owner.state, (alive, refl), refl))
+      (λ seen. absurd (subst (λ (calls : List PortEvent). HaveSeenAll calls) is seen)) (λ all. all)
 
   -- ---- waiting
 

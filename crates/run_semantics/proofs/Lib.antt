@@ -4,6 +4,7 @@ pub mod Ends
 pub mod Failing
 pub mod Goes
 pub mod Histories
+pub mod Legal
 pub mod Outside
 pub mod Runs
 pub mod Same
