@@ -39,7 +39,12 @@ impl<'s> InstanceSet for Stepping<'s> {
         self.instances.living.given()
     }
 
-    fn step(&mut self, alloc: Global, agenda: &mut Agenda, number: u32) -> Result<Made, AllocError> {
+    fn step(
+        &mut self,
+        alloc: Global,
+        agenda: &mut Agenda,
+        number: u32,
+    ) -> Result<Made, AllocError> {
         step(&mut self.instances, alloc, agenda, number, &mut self.spare)
     }
 

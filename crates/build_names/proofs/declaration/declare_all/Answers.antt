@@ -23,7 +23,7 @@ loop-declaration-preserved g c =
     drop_more all i x within ∙ ap (λ y. y ∷ drop (i + 1) all) (sym c.declaration-item.is) in
     record {
       spaces = λ place.
-          c.in_ok-declare.ensures.symbols place
+          c.in_ok-declare.ensures.declared place
           ∙ ap (λ names. names ++ entry_in place (entry_of x)) (c.loop-declaration.invariant.spaces place)
           ∙ sym (entries_in-more place before (entry_of x))
           ∙ ap (entries_in place) (sym taken);

@@ -9,7 +9,7 @@ loop-index-preserved c =
     let blocks = c.args.blocks.now in
     let i = c.loop-index.index in
     let entry = c.index-blocks-index.result in
-    c.in_ok-declare.ensures.symbols
+    c.in_ok-declare.ensures.declared
     ∙ ap (λ k. c.loop-index.names ++ block_name k (block_seen entry) ∷ []) c.in_ok-number.ensures.same
     ∙ ap (λ names. names ++ block_name i (block_seen entry) ∷ []) c.loop-index.invariant
     ∙ sym (numbered-map-step blocks i entry c.loop-index-test.true c.index-blocks-index.is block_seen block_name 0 i
