@@ -4,9 +4,10 @@ use Rattle.port_model.specs.declared.refused.Refused.{Refused}
 use Rattle.port_model.specs.declared.taken.Taken.TheVariants.{Consumed, Discarded, Nothing}
 use Rattle.port_model.specs.declared.selection.Class.TheVariants as class
 use Rattle.std.proofs.lemmas.List.{map-append}
+use Rattle.std.proofs.lemmas.List.Elements.{All-cons, All-nil}
 use Rattle.port_model.specs.declared.selection.Class.{Class}
 use Rattle.port_model.specs.declared.taken.Taken.{Taken}
-use Rattle.input_port.specs.Words.{after_draws, entry_of, left_with, AreWaiting, DrewAll, Entry, FinishedState, Finishes, FinishesSince, GatherIs, HasDrawn, HasDrawnHere, HasDrawnSince, IsDrawn, IsKnowing, Leaves, MeetIs, OwnerState, Placed, PortState, PullSinceIs, RetiredState, SenderState, TakeIs}
+use Rattle.input_port.specs.Words.{after_draws, entry_of, left_with, AreNext, AreWaiting, DrewAll, Entry, FinishedState, Finishes, FinishesSince, GatherIs, HasDrawn, HasDrawnHere, HasDrawnSince, IsDrawn, IsKnowing, Leaves, MeetIs, OwnerState, Placed, PortState, PullSinceIs, HeldState, IsTimely, SenderState, TakeIs}
 use Rattle.port_model.specs.Take as take
 use Rattle.port_inbox.proofs.Alive.{after_draws-alive}
 use Rattle.port_queue.proofs.Drawing.{drawn_more, drawn_none}
@@ -90,13 +91,18 @@ meet-alive old new sender (Ok back) is = drawn-alive _ new is.news is.draws
 meet-alive old new sender (Err e) is = ap (λ o. o.state.alive) is.1
 
 -- what an inbox leaves that has stopped
-pub leaves_stopped : (old mid : RetiredState) → HasDrawnHere old mid → mid.owner.known ≡ mid.owner.drawn
+pub leaves_stopped : (old mid : HeldState) → HasDrawnHere old mid → mid.owner.known ≡ mid.owner.drawn
     → IsKnowing mid.owner
     → mid.owner.state.alive ≡ false → Leaves old (left_with mid.owner mid.since)
 leaves_stopped old mid here fresh knows dead = record {
   living = λ alive. let still = drawn-alive old.owner mid.owner _ (here.living alive).0.1 ∙ alive in absurd cc;
   stopped = λ stop. finishes_since old.owner mid.owner old.since mid.since (here.stopped stop) fresh knows;
 }
+
+-- no expiry among the drawn entries came before its due time
+pub timely_next : (drawn news : List Placed) → AreNext drawn news → All IsTimely news
+timely_next drawn [] next = All-nil IsTimely
+timely_next drawn (x ∷ xs) next = All-cons IsTimely x xs next.2 (timely_next (drawn ++ x ∷ []) xs next.3)
 
 -- what keeps an owner alive
 pub ruleset alive = (drawn-alive, take-alive, gather-alive, meet-alive)

@@ -1,9 +1,10 @@
 use Rattle.std.proofs.Common.{◌≡◌, ℕ, ◌==◌, true, false, cond, List, [], ◌∷◌, ◌++◌, length, map, All, sym, ap, ◌∙◌, refl, append_assoc, append-nil, arith}
 use Rattle.std.specs.List.{filter_map}
-use Rattle.std.proofs.lemmas.List.Elements.{All-nil, All-cons, All-append, filter_map-append}
+use Rattle.std.proofs.lemmas.List.Elements.{All-nil, All-append, filter_map-append}
 use Rattle.std.proofs.lemmas.List.Concat.{flat_map-append}
 use Rattle.port_model.specs.History.{Put, Expire, Take, Set, Reset, Stop, IsLegal}
-use Rattle.input_port.specs.Words.{after_draw, after_draws, after_entry, expire_in, of, sent_by, AllThere, AreNext, Entry, Gone, IsDrawn, IsTimely, OwnerState, Placed, PortState, Signal, Timer}
+use Rattle.input_port.specs.Words.{after_draw, after_draws, after_entry, expire_in, of, sent_by, AllThere, Entry, Gone, IsDrawn, IsTimely, OwnerState, Placed, PortState, Signal, Timer}
+use Rattle.input_port.proofs.Drawing.{timely_next}
 use Rattle.port_model.proofs.Histories.{IsLegal-one, IsLegal-append}
 use Rattle.input_port.specs.Headline.{OwnerCall, Taking, Draining, Gathering, Meeting, Setting, Resetting, Stopping, IsCall, Step, Drawn, Called, AreCalls, entry_events, call_events, step_events, history_of, drawn_in, called_in, OwnersHaveHistories, NothingIsLeft}
 use Rattle.port_inbox.proofs.Alive.{after_draws-alive}
@@ -22,11 +23,6 @@ draws_legal pid port [] = refl
 draws_legal pid port (x ∷ xs) =
     IsLegal-append port (after_draw pid port x) (after_draws pid (after_draw pid port x) xs) (entry_events pid x.at x.entry) (history_of pid (map Drawn xs))
     (entry_legal pid port x.at x.entry) (draws_legal pid (after_draw pid port x) xs)
-
--- no expiry among the drawn entries came before its due time
-timely_next : (drawn news : List Placed) → AreNext drawn news → All IsTimely news
-timely_next drawn [] next = All-nil IsTimely
-timely_next drawn (x ∷ xs) next = All-cons IsTimely x xs next.2 (timely_next (drawn ++ x ∷ []) xs next.3)
 
 -- what a call makes of the port, what it draws, and that it leaves the port's number
 record Does (old : OwnerState) (call : OwnerCall) (news : List Placed) (new : OwnerState) : Type 0 where

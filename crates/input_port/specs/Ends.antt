@@ -1,4 +1,4 @@
--- What callers see of an owner after its stop.
+-- What callers see of an owner after its stop, and of an inbox over a shared port.
 use Rattle.std.specs.Prelude.{ℕ, List}
 use Rattle.port_inbox.specs.declared.entry.Entry.{Entry}
 use Rattle.port_inbox.specs.Ends.{OwnerState}
@@ -9,3 +9,8 @@ pub record RetiredState : Type 0 where
   pub owner : OwnerState
   pub since : List Entry
   pub before : ℕ
+
+-- what a caller sees of an inbox over a shared port: the owner, and the entries that it has drawn since a stop
+pub record HeldState : Type 0 where
+  pub owner : OwnerState
+  pub since : List Entry

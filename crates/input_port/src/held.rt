@@ -1,8 +1,8 @@
 //! The owner of a shared port, with the port, as an inbox.
-#![tactic(auto, using(crate::proofs::Drawing::alive))]
+#![tactic(auto, using(crate::proofs::Keeping::kept))]
 
-ghost use Rattle.std.specs.Prelude.{◌≡◌, [], true, length};
-ghost use Rattle.input_port.specs.Words.{signals_drawn, DrainIs, GatherHereIs, HasDrawnHere, IsKnowing, LeaveIs};
+ghost use Rattle.std.specs.Prelude.{◌≡◌, [], true, length, not, All};
+ghost use Rattle.input_port.specs.Words.{due_times, signals_drawn, DrainIs, GatherHereIs, HasDrawnHere, IsKept, IsKnowing, IsLeast, IsTimely, LeaveIs};
 
 use crate::{Owner, since};
 use port_inbox::{Entry, Fuse, Inbox, Refused};
@@ -20,26 +20,29 @@ pub struct Held<'a, R: Wait + Copy> {
     port: &'a Port,
     receiver: Receiver,
     since: Vec<Entry>,
-    before: u64,
     stopped: bool,
 }
 
 impl<'a, R: Wait + Copy> Model for Held<'a, R> {
     ghost use Rattle.std.specs.Prelude.{◌≡◌, not};
-    ghost use Rattle.input_port.specs.Ends.{RetiredState};
+    ghost use Rattle.input_port.specs.Ends.{HeldState};
+    ghost use Rattle.input_port.specs.Held.{IsKept};
 
-    ghost Value = { RetiredState };
+    ghost Value = { HeldState };
 
-    ghost view = { λ h. record { owner = h.receiver; since = h.since.items; before = h.before } };
+    ghost view = { λ h. record { owner = h.receiver; since = h.since.items } };
 
-    ghost invariant = { λ h. (h.receiver.port ≡ h.port.now.queue) × (h.receiver.state.alive ≡ not h.stopped) };
+    ghost invariant = { λ h. (h.receiver.port ≡ h.port.now.queue) × (h.receiver.state.alive ≡ not h.stopped)
+        × IsKept h.receiver };
 }
 
 impl<'a, R: Wait + Copy> Held<'a, R> {
-    /// An inbox that was not stopped. That the port is the owner's is the caller's condition.
+    /// An inbox that was not stopped. That the port is the owner's is the caller's condition, and that no expiry that it
+    /// has drawn came before its due time, as where it has drawn nothing.
     pub fn new(rt: R, port: &'a Port, owner: Owner) -> Self
-        requires { owner.port ≡ port.now.queue }
-        ensures inbox { result ≡ record { owner = owner; since = []; before = 0 } }
+        requires port { owner.port ≡ port.now.queue }
+        requires timely { All IsTimely owner.drawn }
+        ensures inbox { result ≡ record { owner = owner; since = [] } }
         ensures alive { result.owner.state.alive ≡ true }
     {
         let receiver = owner.into_receiver();
@@ -49,7 +52,6 @@ impl<'a, R: Wait + Copy> Held<'a, R> {
             port,
             receiver,
             since,
-            before: 0,
             stopped: false,
         }
     }
@@ -68,11 +70,18 @@ impl<'a, R: Wait + Copy> Held<'a, R> {
         self.receiver.signals()
     }
 
-    /// How many signals had been drawn when it stopped, and 0 before.
-    pub fn drawn(&self) -> u64
-        ensures { result ≡ self.now.before }
+    /// Whether it was stopped.
+    pub fn is_stopped(&self) -> bool
+        ensures { result ≡ not self.now.owner.state.alive }
     {
-        self.before
+        self.stopped
+    }
+
+    /// The least due time of a timer that is set and has not expired, before a stop and after it: then none is.
+    pub fn least_due(&self) -> Option<Ticks>
+        ensures { IsLeast (due_times self.now.owner.state.timers) result }
+    {
+        self.receiver.next_due()
     }
 
     /// Takes a sender in, before a stop and after it. For want of memory the sender comes back. That the port is the
@@ -80,7 +89,6 @@ impl<'a, R: Wait + Copy> Held<'a, R> {
     pub fn gather(&mut self, sender: Sender) -> Result<(), Refused<Sender>>
         requires { sender.port ≡ self.old.owner.port }
         ensures port { self.new.owner.port ≡ self.old.owner.port }
-        ensures before { self.new.before ≡ self.old.before }
         ensures gather { GatherHereIs self.old self.new sender result }
     {
         if self.stopped {
@@ -99,7 +107,6 @@ impl<'a, R: Wait + Copy> Held<'a, R> {
     /// before.
     pub fn drain(&mut self) -> Result<(), PortError>
         ensures port { self.new.owner.port ≡ self.old.owner.port }
-        ensures before { self.new.before ≡ self.old.before }
         ensures drawn { HasDrawnHere self.old self.new }
         ensures fresh { DrainIs self.new.owner result }
     {
@@ -114,6 +121,13 @@ impl<'a, R: Wait + Copy> Held<'a, R> {
         ensures { IsKnowing self.now.owner }
     {
         self.receiver.knows();
+    }
+
+    /// That no expiry that it has drawn came before its due time, and that no timer is set after a stop, as a fact.
+    pub fn is_kept(&self)
+        ensures { IsKept self.now.owner }
+    {
+        let _receiver = &self.receiver;
     }
 
     /// Draws what stands in the port, and gives what is left: as `Owner::finish`, or after a stop as
@@ -168,7 +182,6 @@ impl<'a, R: Wait + Copy> Inbox for Held<'a, R> {
     }
 
     fn stop(&mut self) {
-        self.before = self.receiver.signals();
         self.receiver.stop();
         self.stopped = true;
     }

@@ -109,6 +109,7 @@ impl Retired {
         ensures ok { IfOk result (FinishesSince self.owner self.since) }
         ensures err { IfErr result (λ back. back.error ≡ PortError.Memory) }
         ensures drawn { IfErr result (λ back. HasDrawnSince self.owner back.value.owner self.since back.value.since) }
+        ensures before { IfErr result (λ back. back.value.before ≡ self.before) }
     {
         if let Err(error) = self.drain(rt, port) {
             return Err(Refused { error, value: self });

@@ -7,7 +7,7 @@ use Rattle.flow_paths.specs.Paths as way
 use Rattle.flow_paths.specs.Paths.{Answered, AtFirst, AtLabel}
 use Rattle.build_statements.specs.Contexts.{Context, label_in}
 use Rattle.build_statements.specs.Statements.{answers_in, asked_in, create_in, kind_in, output_in, reset_in, set_in, task_in, terminator_in}
-use Rattle.build_nodes.specs.Transitions.{Head, Piece, effects, asks, before, body_in, ending_in, head_in, labelled, other_in, parts_of, piece, pieces_in, steps_in}
+use Rattle.build_nodes.specs.Transitions.{Head, Piece, acts, asks, before, body_in, ending_in, head_in, labelled, other_in, parts_of, piece, pieces_in, steps_in}
 use Rattle.build_faults.proofs.FaultLemmas.{in-left, in-right}
 use Rattle.build_faults.specs.FaultLaws.{In}
 use Rattle.build_expressions.specs.Partial.{both}
@@ -196,7 +196,7 @@ module _ (context : Context) (l : LabelId) where
       part-found name first more end behind on is part
 
   -- a label in the body of the first action, with what stands behind it
-  simple-found : (first : Action) (h : Head) (behind on : Body) (action : body.Action) → h ≡ effects action →
+  simple-found : (first : Action) (h : Head) (behind on : Body) (action : body.Action) → h ≡ acts action →
       FromLabel l (before h behind) on → FromLabel l behind on ⊎ FromPart context l on first behind
   simple-found first h behind on action is from =
       inl (standing l (body.action action behind) on
@@ -308,19 +308,19 @@ module _ (context : Context) (l : LabelId) where
     from-head : (first : Action) (h : Head) (behind on : Body) → head_in context first ≡ Some h →
         FromLabel l (before h behind) on → FromLabel l behind on ⊎ FromPart context l on first behind
     from-head (Task word assignments) h behind on is from =
-        let r = map-some effects (task_in context assignments) h is in
+        let r = map-some acts (task_in context assignments) h is in
         simple-found (Task word assignments) h behind on r.0 r.2 from
     from-head (Output word outputs destination) h behind on is from =
-        let r = map-some effects (output_in context outputs destination) h is in
+        let r = map-some acts (output_in context outputs destination) h is in
         simple-found (Output word outputs destination) h behind on r.0 r.2 from
     from-head (Set word clauses) h behind on is from =
-        let r = map-some effects (set_in context clauses) h is in
+        let r = map-some acts (set_in context clauses) h is in
         simple-found (Set word clauses) h behind on r.0 r.2 from
     from-head (Reset word groups) h behind on is from =
-        let r = map-some effects (reset_in context groups) h is in
+        let r = map-some acts (reset_in context groups) h is in
         simple-found (Reset word groups) h behind on r.0 r.2 from
     from-head (Create word process) h behind on is from =
-        let r = map-some effects (create_in context process) h is in
+        let r = map-some acts (create_in context process) h is in
         simple-found (Create word process) h behind on r.0 r.2 from
     from-head (Decision word question parts other) h behind on is from =
         let typed = asked_in context question in

@@ -5,7 +5,7 @@ use Rattle.flow_paths.specs.Paths as way
 use Rattle.flow_paths.specs.Paths.{Answered, AtFirst, ComesInto, ComesTo, Crosses, GoesBehind, IsPart, IsSimple, Origin, RunsOff}
 use Rattle.build_statements.specs.Contexts.{Context}
 use Rattle.build_statements.specs.Statements.{answers_in, asked_in, create_in, kind_in, output_in, reset_in, set_in, task_in, terminator_in}
-use Rattle.build_nodes.specs.Transitions.{Head, Piece, effects, asks, before, body_in, ending_in, head_in, other_in, parts_of, piece, pieces_in, steps_in}
+use Rattle.build_nodes.specs.Transitions.{Head, Piece, acts, asks, before, body_in, ending_in, head_in, other_in, parts_of, piece, pieces_in, steps_in}
 use Rattle.build_expressions.specs.Partial.{both}
 use Rattle.build_expressions.specs.Typing.{term_in}
 use Rattle.build_operators.specs.declared.operand_sort.OperandSort.{OperandSort}
@@ -166,7 +166,7 @@ module _ (context : Context) (x : body.Terminator) where
       ⊎ LeavesPart context x AtFirst first (followed behind rest)
 
   simple-crossing : (first : Action) (h : Head) (behind rest : Body) (action : body.Action) → IsSimple first →
-      h ≡ effects action → Meets x (followed (before h behind) rest) → Crossing first behind rest
+      h ≡ acts action → Meets x (followed (before h behind) rest) → Crossing first behind rest
   simple-crossing first h behind rest action simple is on =
       inl (
         way.simple first simple,
@@ -227,19 +227,19 @@ module _ (context : Context) (x : body.Terminator) where
     pub meets-head : (first : Action) (h : Head) (behind rest : Body) → head_in context first ≡ Some h →
         Meets x (followed (before h behind) rest) → Crossing first behind rest
     meets-head (Task word assignments) h behind rest is on =
-        let r = map-some effects (task_in context assignments) h is in
+        let r = map-some acts (task_in context assignments) h is in
         simple-crossing (Task word assignments) h behind rest r.0 (way.task word assignments) r.2 on
     meets-head (Output word outputs destination) h behind rest is on =
-        let r = map-some effects (output_in context outputs destination) h is in
+        let r = map-some acts (output_in context outputs destination) h is in
         simple-crossing (Output word outputs destination) h behind rest r.0 (way.output word outputs destination) r.2 on
     meets-head (Set word clauses) h behind rest is on =
-        let r = map-some effects (set_in context clauses) h is in
+        let r = map-some acts (set_in context clauses) h is in
         simple-crossing (Set word clauses) h behind rest r.0 (way.set word clauses) r.2 on
     meets-head (Reset word groups) h behind rest is on =
-        let r = map-some effects (reset_in context groups) h is in
+        let r = map-some acts (reset_in context groups) h is in
         simple-crossing (Reset word groups) h behind rest r.0 (way.reset word groups) r.2 on
     meets-head (Create word process) h behind rest is on =
-        let r = map-some effects (create_in context process) h is in
+        let r = map-some acts (create_in context process) h is in
         simple-crossing (Create word process) h behind rest r.0 (way.create word process) r.2 on
     meets-head (Decision word question parts other) h behind rest is on =
         let typed = asked_in context question in

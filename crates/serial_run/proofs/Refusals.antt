@@ -11,7 +11,7 @@ use Rattle.run_record.specs.declared.failure.Failure.{Failure}
 use Rattle.run_semantics.proofs.Ends.{ends_for_good}
 use Rattle.run_semantics.specs.Effect.{Effect, Deed, effects_of}
 use Rattle.run_semantics.specs.Goes.{IsFirst, IsOneStep}
-use Rattle.run_semantics.specs.Leads.{Happens, Leads, Turns}
+use Rattle.run_semantics.specs.Leads.{Happens, Leads, LeadsSilently}
 use Rattle.run_semantics.specs.ControlPoint.{Amid, AtStart, Closed, Definition, Doing, Ended, In, ControlPoint, Receiving}
 use Rattle.run_semantics.specs.Runs.{Runs, acts, hears, still, turns, waits}
 use Rattle.sdl_system.specs.Body as body
@@ -74,10 +74,10 @@ from_ended d who port r place s deed to t is leads legal =
     cc
 
 turn_ended : (d : Definition) (who : Identity) (port : PortState) (place : ControlPoint) (s : Store) (to : ControlPoint) (t : Store)
-    → place ≡ Ended → Turns d who port place s to t → to ≡ Ended
+    → place ≡ Ended → LeadsSilently d who port place s to t → to ≡ Ended
 turn_ended d who port place s to t is turn =
     let run : Runs d who Ended s port [] [] to t port =
-    turns still to t (subst (λ (p : ControlPoint). Turns d who port p s to t) is turn) in
+    turns still to t (subst (λ (p : ControlPoint). LeadsSilently d who port p s to t) is turn) in
     (ends_for_good.0 d who to s t port port [] [] run).1
 
 module _ (d : Definition) (who : Identity) (from : ControlPoint) (s : Store) (q : PortState) where

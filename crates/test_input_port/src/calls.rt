@@ -1,6 +1,6 @@
 //! Rows of calls, and what they give by names and first values.
 
-ghost use Rattle.std.specs.Prelude.{◌≡◌};
+ghost use Rattle.std.specs.Prelude.{◌≡◌, []};
 
 use input_port::birth::port;
 use input_port::{NewPort, Owner, Port, Sender};
@@ -14,6 +14,7 @@ use std::sync::Wait;
 /// A port of this instance, its owner, and one sender.
 pub fn with_sender(rt: &impl Abort, alloc: Global, pid: u32) -> (Port, Owner, Sender)
     ensures owner { result.1.port ≡ result.0.queue }
+    ensures drawn { result.1.drawn ≡ [] }
     ensures sender { result.2.port ≡ result.0.queue }
 {
     let NewPort {

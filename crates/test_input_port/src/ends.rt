@@ -63,6 +63,7 @@ fn put_three<R: Wait + Abort>(
     requires owner { owner.old.port ≡ port.now.queue }
     requires sender { sender.old.port ≡ port.now.queue }
     ensures owner { owner.new.port ≡ owner.old.port }
+    ensures drawn { owner.new.drawn ≡ owner.old.drawn }
     ensures sender { sender.new.port ≡ sender.old.port }
 {
     let expiring = owner.set(key(alloc, 2), Ticks::new(5)).expect(rt, "memory");
@@ -110,4 +111,17 @@ fn held_finishes_what_was_not_stopped(rt: HostRuntime) {
     };
     assert!(rt; are_left(end.entries(), &[(0, 1), (2, 0), (1, 2)]));
     assert!(rt; fuse(end.entries(), 1) == Some((7, 1, 5)));
+}
+
+/// An owner after its stop has drawn what it had drawn before, too: `drawn` stays at that.
+#[test]
+fn retired_tells_both_counts(rt: HostRuntime) {
+    let alloc = rt.alloc();
+    let (port, mut owner, mut sender) = with_sender(&rt, alloc, 7);
+    put(&rt, alloc, &port, &mut sender, &[(0, 1), (1, 2)]);
+    assert!(rt; owner.drain(&rt, &port).is_ok());
+    let mut retired = owner.stop();
+    put(&rt, alloc, &port, &mut sender, &[(2, 3)]);
+    assert!(rt; retired.drain(&rt, &port).is_ok());
+    assert!(rt; (retired.drawn(), retired.signals()) == (2, 3));
 }

@@ -43,8 +43,12 @@ fn uses_held(rt: HostRuntime) {
     let (port, owner, mut sender) = with_sender(&rt, alloc, 7);
     put(&rt, alloc, &port, &mut sender, &[(0, 1)]);
     let mut held = Held::new(rt, &port, owner);
+    assert!(rt; !held.is_stopped() && held.least_due().is_none());
     assert!(rt; uses_inbox(&rt, alloc, &mut held) == (true, Some(Ticks::new(5)), true));
+    assert!(rt; held.is_stopped() && held.least_due().is_none());
     put(&rt, alloc, &port, &mut sender, &[(3, 1)]);
+    assert!(rt; held.drain().is_ok());
+    assert!(rt; held.signals() == 2);
     let Ok(end) = held.finish() else {
         panic!(rt; "no memory to finish");
     };

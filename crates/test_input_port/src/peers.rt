@@ -70,6 +70,29 @@ fn release<J: Run>(rt: &impl Abort, mut peers: Peers<J>) -> Sender
     peer.sender
 }
 
+/// A sender is taken by its number.
+#[test]
+fn takes_by_number(rt: HostRuntime) {
+    let alloc = rt.alloc();
+    let (port, owner, sender) = with_sender(&rt, alloc, 2);
+    takes::<Brand, _>(&rt, alloc, &port, owner, sender);
+}
+
+fn takes<J: Run, R: Wait + Abort>(rt: &R, alloc: Global, port: &Port, owner: Owner, sender: Sender)
+    requires named { port.now.queue ≡ J.ports 2 }
+    requires owner { owner.port ≡ port.now.queue }
+    requires sender { sender.port ≡ port.now.queue }
+    requires fresh { sender.seen ≡ [] }
+{
+    let mut peers = Peers::<J>::new(alloc);
+    open(rt, &mut peers, 2, sender);
+    put(rt, alloc, port, &mut peers);
+    assert!(rt; peers.take(3).is_none());
+    let sender = peers.take(2).expect(rt, "the sender");
+    assert!(rt; !peers.is_known(2) && peers.sent(2) == 0);
+    expect_drawn(rt, port, owner, sender, 1);
+}
+
 #[test]
 fn expires_into_its_own_port(rt: HostRuntime) {
     let alloc = rt.alloc();

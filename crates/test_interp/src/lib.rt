@@ -1,6 +1,6 @@
 //! Tests of one instance of a process: a specification and a script, and the record that is wanted. Each case is run
-//! over the port of one thread and over a shared port; and one instance is run as an instance of a run on threads, with
-//! its senders, on one thread.
+//! over the port of one thread and over a shared port; and two instances are run as instances of a run on
+//! threads, with their senders, on one thread.
 //!
 //! They stand above `sdl_interp`, so that neither it nor the crates under it are proved a second time for their tests;
 //! and the cases are tables, so that one more costs no proof.
@@ -27,11 +27,9 @@ mod inputs;
 #[cfg(test)]
 mod instances;
 #[cfg(test)]
-mod lonely;
-#[cfg(test)]
-mod member;
-#[cfg(test)]
 mod outputs;
+#[cfg(test)]
+mod pair;
 #[cfg(test)]
 mod play;
 #[cfg(test)]
@@ -42,5 +40,7 @@ mod shared;
 mod tasks;
 #[cfg(test)]
 mod tests;
+#[cfg(test)]
+mod thread_pair;
 #[cfg(test)]
 mod timers;

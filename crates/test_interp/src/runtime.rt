@@ -87,7 +87,7 @@ impl World for Runtime<'_> {
       system = w.system.now;
       clock = Some w.clock;
       living = None;
-      acts = None;
+      effects = None;
       sent = None;
     } };
 

@@ -1,13 +1,15 @@
--- What the senders have put, as an instance is closed.
+-- What the senders have put, by what was sent; and as an instance is closed.
 use Rattle.std.proofs.Common.{◌≡◌, ◌∙◌, ◌==◌, ap, append-nil, cond, refl, sym, subst, ℕ, Bool, true, false, List, [], ◌∷◌, ◌++◌, All}
 use Rattle.std.proofs.lemmas.Grind.{flat_map-append}
-use Rattle.std.proofs.lemmas.List.Elements.{All-append, All-cons, All-nil}
+use Rattle.std.proofs.lemmas.List.Elements.{All-append, All-cons, All-nil, All-tail}
 use Rattle.port_values.specs.declared.item.Item.{Item}
 use Rattle.port_values.specs.declared.pid.Pid.TheVariants.{Of}
 use Rattle.sdl_interp.specs.Instance.{InstanceValue, IsClosed, IsRunAs, closing}
-use Rattle.threads_instance.specs.ThreadInstance.{ArePut, HasPut}
-use Rattle.threads_senders.proofs.Kept.{last_none}
-use Rattle.threads_senders.specs.Peers.{AreLast, ArePeers, PeersState}
+use Rattle.threads_instance.specs.Outbox.{AreEnds}
+use Rattle.threads_instance.specs.ThreadInstance.{HasPut, HasSent}
+use Rattle.threads_senders.proofs.Kept.{last_none, last_of_same}
+use Rattle.threads_senders.specs.Peers.{AreLast, ArePeersOf, PeersState, put_to}
+use Rattle.threads_senders.specs.Rows.{EndsWith}
 use Rattle.run_record.specs.Event as event
 use Rattle.run_record.specs.Event.{Event}
 use Rattle.run_record.specs.Record.{RecordValue}
@@ -38,14 +40,29 @@ module _ (who number : ℕ) where
   all_own [] = All-nil IsOwn
   all_own (e ∷ rest) = All-append IsOwn (sent_by_one who number e) (sent_to who rest number) (one_own e) (all_own rest)
 
-  last_by : (events : List Event) (b : Bool) → AreLast who events number (cond b (sent_to who events number) [])
-  last_by events true = record { own = all_own events; end = ([], refl) }
-  last_by events false = last_none who events number
+  end_own : (missing put : List Item) → All IsOwn (missing ++ put) → All IsOwn put
+  end_own [] put all = all
+  end_own (x ∷ missing) put all = end_own missing put (All-tail IsOwn x (missing ++ put) all)
 
-pub are_peers : (who : ℕ) (events : List Event) (peers : PeersState) → ArePut who events peers
-    → ArePeers who events peers
-are_peers who events peers put number =
-    subst (AreLast who events number) (sym (put number)) (last_by who number events (has_port number))
+  no_end : (missing put : List Item) → [] ≡ missing ++ put → put ≡ []
+  no_end [] put is = sym is
+  no_end (x ∷ missing) put is = absurd cc
+
+  last_by : (events : List Event) (put : List Item) (b : Bool) → EndsWith (cond b (sent_to who events number) []) put
+      → AreLast (Of who) (sent_to who events number) put
+  last_by events put true ends = record {
+    own = end_own ends.0 put (subst (λ l. All IsOwn l) ends.1 (all_own events));
+    end = ends;
+  }
+  last_by events put false ends =
+      subst (AreLast (Of who) (sent_to who events number)) (sym (no_end ends.0 put ends.1))
+      (last_none (Of who) (sent_to who events number))
+
+pub has_put : (i : InstanceValue) (sent : List (ℕ × Item)) (peers : PeersState) → AreEnds sent peers → HasSent i sent
+    → HasPut i peers
+has_put i sent peers ends has d is_run number =
+    last_by i.who.pid number i.events (put_to peers number) (has_port number)
+    ((ends number).0, sym (has d is_run number) ∙ (ends number).1)
 
 -- ---- what closes a record
 
@@ -66,11 +83,11 @@ closed_sends who number whole position events =
 
 pub closed_peers : (shared whole : Bool) (i : InstanceValue) (trace : RecordValue) (peers : PeersState)
     → IsClosed shared whole i trace → HasPut i peers → (d : Definition) → IsRunAs i d
-    → ArePeers trace.pid trace.events peers
-closed_peers shared whole i trace peers closed put d is_run =
-    are_peers trace.pid trace.events peers (λ number.
-    put d is_run number
-    ∙ ap (λ l. cond (has_port number) l []) (sym
-    (ap (λ who. sent_to who trace.events number) closed.pid
-    ∙ ap (λ events. sent_to i.who.pid events number) closed.events
-    ∙ closed_sends i.who.pid number whole i.position i.events)))
+    → ArePeersOf trace.pid trace.events peers
+closed_peers shared whole i trace peers closed put d is_run number =
+    subst (λ (who : ℕ). AreLast (Of who) (sent_to who trace.events number) (put_to peers number)) (sym closed.pid)
+    (last_of_same (Of i.who.pid) (sent_to i.who.pid i.events number) (sent_to i.who.pid trace.events number)
+    (put_to peers number)
+    (ap (λ events. sent_to i.who.pid events number) closed.events
+    ∙ closed_sends i.who.pid number whole i.position i.events)
+    (put d is_run number))

@@ -1,3 +1,4 @@
 pub mod Leaving
 pub mod Puts
 pub mod Stepping
+mod Walks

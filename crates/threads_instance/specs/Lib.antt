@@ -1,2 +1,3 @@
-pub mod ThreadWorld
+pub mod Outbox
 pub mod ThreadInstance
+pub mod ThreadWorld

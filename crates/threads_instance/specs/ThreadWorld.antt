@@ -1,15 +1,16 @@
 -- The world of an instance that makes a step in a run on threads.
-use Rattle.std.specs.Prelude.{None, Some}
-use Rattle.threads_senders.specs.Peers.{PeersState, put_to}
+use Rattle.std.specs.Prelude.{ℕ, List, None, Some}
+use Rattle.port_values.specs.declared.item.Item.{Item}
+use Rattle.threads_instance.specs.Outbox.{sent_in}
 use Rattle.run_semantics.specs.World.{WorldValue}
 use Rattle.sdl_system.specs.System.{SystemValue}
 
--- Of the run it is known just what was sent: that is what was put. The clock goes on, and others come and end.
-abbrev pub world_of : SystemValue → PeersState → WorldValue
-world_of system peers = record {
+-- Of the run it is known at what time the step is made, and what the instance has sent. Others come and end meanwhile.
+abbrev pub world_of : SystemValue → ℕ → List (ℕ × Item) → WorldValue
+world_of system time sent = record {
   system = system;
-  clock = None;
+  clock = Some time;
   living = None;
   effects = None;
-  sent = Some (put_to peers);
+  sent = Some (sent_in sent);
 }

@@ -1,11 +1,14 @@
 //! The instances of a run on threads (Z.101: agent; Z.102: output, timer).
 //!
-//! A `ThreadInstance` is an instance with its senders. Where its process means something, what was put into the port of another
-//! instance is all that its record sends there, in that order, and nothing else; this is in its type, and follows from
-//! the contract of one step. What an instance asks of the run is `Runtime`.
+//! A `ThreadInstance` is an instance with its senders, in its seat: of the run's system, and with the port of its number.
+//! Where its process means something, what was put into the port of another instance is the end of what its record sends
+//! there, in that order, and from the first put on all of it; this is in its type, and follows from the contract of one
+//! step. What an instance asks of the run is `Runtime`.
 #![tactic(auto)]
 
+mod outbox;
 mod runtime;
+mod sent;
 mod thread_instance;
 mod thread_world;
 

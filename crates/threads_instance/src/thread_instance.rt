@@ -4,14 +4,15 @@ ghost use Rattle.std.specs.Prelude.{◌≡◌, [], IsTrue, MatchResult, Some, sl
 ghost use Rattle.port_model.specs.Port.{empty_port};
 ghost use Rattle.sdl_interp.specs.Instance.{HasRunOf, IsAtRest, IsClosed, IsRunAs, Keeps, Steps, created};
 ghost use Rattle.threads_instance.specs.ThreadWorld.{world_of};
-ghost use Rattle.threads_instance.specs.ThreadInstance.{HasPut};
-ghost use Rattle.threads_senders.specs.Peers.{ArePeers};
+ghost use Rattle.threads_instance.specs.ThreadInstance.{HasPut, HasSent, IsSeated};
+ghost use Rattle.threads_senders.specs.Peers.{ArePeersOf};
 ghost use Rattle.run_semantics.specs.ControlPoint.{Definition};
 
 use crate::Runtime;
+use crate::outbox::Outbox;
 use crate::thread_world::ThreadWorld;
 use port_inbox::Inbox;
-use port_values::Values;
+use port_values::{Ticks, Values};
 use run_evaluation::Identity;
 use run_record::Record;
 use sdl_interp::{Closed, Instance, Stepped};
@@ -22,28 +23,29 @@ use std::mem;
 use std::sync::Wait;
 use threads_senders::{Peers, Run};
 
-/// An instance of a process in a run on threads, with its senders. What was put into each port is what its record sends
-/// there.
+/// An instance of a process in a run on threads, with its senders, in its seat: of the run's system, and with the port of
+/// its number. What was put into each port is the end of what its record sends there.
 #[derive(Drop)]
 pub struct ThreadInstance<'s, J: Run, P: Inbox + Drop> {
     system: &'s System,
     instance: Instance<'s, P>,
-    peers: Peers<J>,
+    outbox: Outbox<J>,
 }
 
 impl<'s, J: Run, P: Inbox + Drop> Model for ThreadInstance<'s, J, P> {
     ghost use Rattle.std.specs.Prelude.{◌≡◌};
     ghost use Rattle.std.specs.Coded.{codes};
-    ghost use Rattle.threads_instance.specs.ThreadInstance.{HasPut, ThreadInstanceState};
+    ghost use Rattle.threads_instance.specs.ThreadInstance.{HasSent, IsSeated, ThreadInstanceState};
     ghost use Rattle.sdl_system.specs.contracts.expression.Expression as expression;
 
     ghost Value = { ThreadInstanceState };
 
     ghost coded = { Prim.hlevel (codes, expression.the_row.coded) };
 
-    ghost view = { λ m. record { instance = m.instance; peers = m.peers } };
+    ghost view = { λ m. record { instance = m.instance; peers = m.outbox.peers; sent = m.outbox.sent } };
 
-    ghost invariant = { λ m. (m.instance.system ≡ m.system.now) × HasPut m.instance m.peers };
+    ghost invariant = { λ m. (m.instance.system ≡ m.system.now) × HasSent m.instance m.outbox.sent
+        × IsSeated J.system J.ports m.instance };
 }
 
 /// What is left of an instance: its record, its port, and its senders, to be gathered at their ports.
@@ -55,8 +57,9 @@ pub struct Left<J: Run, P: Inbox + Drop> {
 }
 
 impl<'s, J: Run, P: Inbox + Drop> ThreadInstance<'s, J, P> {
-    /// An instance before its start, as `Instance::new` makes it, that has no senders yet. For want of memory the inbox
-    /// comes back.
+    /// An instance before its start, as `Instance::new` makes it, that has no senders yet. That the system is the run's,
+    /// the process the one that the identity names, and the port that of its number, is the caller's condition. For want
+    /// of memory the inbox comes back.
     pub fn new(
         alloc: Global,
         system: &'s System,
@@ -65,14 +68,17 @@ impl<'s, J: Run, P: Inbox + Drop> ThreadInstance<'s, J, P> {
         values: &Values,
         inbox: P,
     ) -> Result<Self, P>
+        requires system { J.system ≡ Some system.now }
+        requires process { slice_get system.now.processes who.process.0 ≡ Some process.now }
+        requires port { (P.owning inbox).port ≡ J.ports who.pid }
+        requires own { (P.owning inbox).pid ≡ who.pid }
         requires empty { (P.owning inbox).state ≡ empty_port }
         requires drawn { (P.owning inbox).drawn ≡ [] }
-        requires own { (P.owning inbox).pid ≡ who.pid }
-        requires process { slice_get system.now.processes who.process.0 ≡ Some process.now }
         ensures { MatchResult result
             (λ m. m ≡ record {
               instance = created system.now process.now who values.now (P.owning inbox);
               peers = [];
+              sent = [];
             })
             (λ back. back ≡ inbox) }
     {
@@ -83,35 +89,37 @@ impl<'s, J: Run, P: Inbox + Drop> ThreadInstance<'s, J, P> {
         Ok(ThreadInstance {
             system,
             instance,
-            peers: Peers::new(alloc),
+            outbox: Outbox::new(alloc),
         })
     }
 
-    /// Makes one step, as `Instance::step` does. What it sends is put at once; where that is refused, its transition
-    /// fails for want of memory.
+    /// Makes one step at this time, as `Instance::step` does. What it sends is put at once; where that is refused,
+    /// its transition fails for want of memory. A signal to an instance that is not there yet is gone.
     pub fn step<R: Wait, O: Runtime<J>>(
         &mut self,
         alloc: Global,
         rt: &R,
         runtime: &mut O,
+        time: Ticks,
     ) -> Stepped
         ensures keeps { Keeps self.old.instance self.new.instance }
         ensures steps { let system = self.old.instance.system in
-            Steps result self.old.instance (world_of system self.old.peers) self.new.instance
-            (world_of system self.new.peers) }
+            Steps result self.old.instance (world_of system time self.old.sent) self.new.instance
+            (world_of system time self.new.sent) }
     {
         let own = self.instance.who().pid;
-        let peers = mem::replace(&mut self.peers, Peers::new(alloc));
+        let outbox = mem::replace(&mut self.outbox, Outbox::new(alloc));
         let mut world = ThreadWorld {
             rt,
             system: self.system,
             own,
+            time,
             runtime,
-            peers,
+            outbox,
         };
         let stepped = self.instance.step(alloc, &mut world);
-        let ThreadWorld { peers, .. } = world;
-        self.peers = peers;
+        let ThreadWorld { outbox, .. } = world;
+        self.outbox = outbox;
         stepped
     }
 
@@ -130,33 +138,43 @@ impl<'s, J: Run, P: Inbox + Drop> ThreadInstance<'s, J, P> {
         self.instance.who()
     }
 
-    /// That what was put is what the record sends, as a fact.
+    /// That what was sent is what the record says, and what was put the end of that, as a fact.
     pub fn has_put(&self)
-        ensures { HasPut self.now.instance self.now.peers }
+        ensures sent { HasSent self.now.instance self.now.sent }
+        ensures put { HasPut self.now.instance self.now.peers }
     {
-        let _peers = &self.peers;
+        self.outbox.ends();
     }
 
-    /// Closes its record, as `Instance::close` does, and gives what is left. What the senders have put is the end of
-    /// what the record sends, still.
+    /// That the instance is in its seat, as a fact.
+    pub fn is_seated(&self)
+        ensures { IsSeated J.system J.ports self.now.instance }
+    {
+        let _instance = &self.instance;
+    }
+
+    /// Closes its record, as `Instance::close` does, and gives what is left: the port of its number, and its senders.
+    /// What these have put is the end of what the record sends.
     pub fn close(self, whole: bool) -> Left<J, P>
         requires { IsTrue whole → IsAtRest self.instance }
         ensures closed { IsClosed P.shared whole self.entry.instance result.trace }
         ensures inbox { P.owning result.inbox ≡ self.entry.instance.owner }
+        ensures port { (P.owning result.inbox).port ≡ J.ports result.trace.pid }
+        ensures own { (P.owning result.inbox).pid ≡ result.trace.pid }
         ensures peers { result.peers ≡ self.entry.peers }
         ensures last { (d : Definition) → IsRunAs self.entry.instance d
-            → ArePeers result.trace.pid result.trace.events result.peers }
+            → ArePeersOf result.trace.pid result.trace.events result.peers }
     {
         let ThreadInstance {
             instance,
-            peers,
+            outbox,
             ..
         } = self;
         let Closed { trace, inbox } = instance.close(whole);
         Left {
             trace,
             inbox,
-            peers,
+            peers: outbox.into_peers(),
         }
     }
 }

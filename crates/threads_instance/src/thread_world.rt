@@ -1,36 +1,41 @@
 //! The world of an instance that makes a step in a run on threads.
 
-ghost use Rattle.std.specs.Prelude.{◌≡◌, ℕ, true, IfErr, OnErr, OnOk};
+ghost use Rattle.std.specs.Prelude.{◌≡◌, ◌≤◌, ℕ, false, true, IfOk, MatchResult, OnErr, OnOk};
+ghost use Rattle.port_inbox.specs.declared.entry.Entry.TheVariants.{Timer};
+ghost use Rattle.threads_instance.specs.Outbox.{sent_in, Arms};
 ghost use Rattle.threads_instance.specs.ThreadWorld.{world_of};
-ghost use Rattle.threads_senders.specs.Peers.{is_known, put_to};
+ghost use Rattle.threads_senders.specs.Peers.{is_known, PutsTo};
 ghost use Rattle.run_semantics.specs.World.{has_port, sent_on};
 
 use crate::Runtime;
-use port_inbox::{Fuse, Refused};
+use crate::outbox::Outbox;
+use port_inbox::Fuse;
 use port_values::{Item, SignalId, Ticks, Values};
 use run_semantics::World;
 use sdl_system::{Dest, ProcessId, System, Target};
 use std::alloc::AllocError;
 use std::sync::Wait;
-use threads_senders::{Peers, Run};
+use threads_senders::Run;
 
-/// The run, and the senders of the instance, whose number is `own`. A signal is put at once.
+/// The run, and what the instance sends with. Its number is `own`, and `time` the time of the step, for which the clock
+/// was read once. A signal is put at once.
 #[derive(Drop)]
 pub struct ThreadWorld<'a, J: Run, R: Wait, O: Runtime<J>> {
     pub rt: &'a R,
     pub system: &'a System,
     pub own: u32,
+    pub time: Ticks,
     pub runtime: &'a mut O,
-    pub peers: Peers<J>,
+    pub outbox: Outbox<J>,
 }
 
 impl<'a, J: Run, R: Wait, O: Runtime<J>> World for ThreadWorld<'a, J, R, O> {
-    ghost value = { λ w. world_of w.system.now w.peers };
+    ghost value = { λ w. world_of w.system.now w.time w.outbox.sent };
 
     ghost prepared = { λ w. O.prepared w.runtime.now };
 
     fn now(&mut self) -> Ticks {
-        self.runtime.now()
+        self.time
     }
 
     fn route(&mut self, system: &System, signal: SignalId, from: ProcessId, to: Dest) -> Target {
@@ -45,22 +50,24 @@ impl<'a, J: Run, R: Wait, O: Runtime<J>> World for ThreadWorld<'a, J, R, O> {
         if self.runtime.port(number).is_none() {
             return Ok(());
         }
-        open(self.runtime, &mut self.peers, number)?;
-        put(self.rt, self.runtime, &mut self.peers, number, item)
+        if find(self.runtime, &mut self.outbox, number)? {
+            return put(self.rt, self.runtime, &mut self.outbox, number, item);
+        }
+        // A number that nobody has yet.
+        lose(&mut self.outbox, number, item);
+        Ok(())
     }
 
     /// A timer that is due when it's set is put into the own port.
     fn prepare(&mut self) -> Result<(), AllocError> {
         if self.runtime.port(self.own).is_some() {
-            open(self.runtime, &mut self.peers, self.own)?;
+            open(self.runtime, &mut self.outbox, self.own)?;
         }
         self.runtime.prepare()
     }
 
     fn arm(&mut self, fuse: Fuse) {
-        if let Err(fuse) = expire(self.rt, self.runtime, &mut self.peers, self.own, fuse) {
-            self.runtime.keep(fuse);
-        }
+        arm(self.rt, self.runtime, &mut self.outbox, self.time, fuse);
     }
 
     fn create(
@@ -73,69 +80,113 @@ impl<'a, J: Run, R: Wait, O: Runtime<J>> World for ThreadWorld<'a, J, R, O> {
     }
 }
 
+/// Whether there is a sender into the port of this instance. If there is none and the instance is there, one is opened.
+fn find<J: Run, O: Runtime<J>>(
+    runtime: &mut O,
+    outbox: &mut Outbox<J>,
+    number: u32,
+) -> Result<bool, AllocError>
+    requires { has_port number ≡ true }
+    ensures known { IfOk result (λ known. known ≡ is_known outbox.new.peers number) }
+    ensures sent { outbox.new.sent ≡ outbox.old.sent }
+{
+    if outbox.is_known(number) {
+        return Ok(true);
+    }
+    if !runtime.is_entered(number) {
+        return Ok(false);
+    }
+    open(runtime, outbox, number)?;
+    Ok(true)
+}
+
 /// Sees to it that there is a sender into the port of this instance.
 fn open<J: Run, O: Runtime<J>>(
     runtime: &mut O,
-    peers: &mut Peers<J>,
+    outbox: &mut Outbox<J>,
     number: u32,
 ) -> Result<(), AllocError>
     requires { has_port number ≡ true }
-    ensures known { OnOk result (is_known peers.new number ≡ true) }
-    ensures same { (n : ℕ) → put_to peers.new n ≡ put_to peers.old n }
+    ensures known { OnOk result (is_known outbox.new.peers number ≡ true) }
+    ensures sent { outbox.new.sent ≡ outbox.old.sent }
 {
-    if peers.is_known(number) {
+    if outbox.is_known(number) {
         return Ok(());
     }
     let sender = runtime.sender(number)?;
-    let Ok(()) = peers.open(number, sender) else {
-        return Err(AllocError);
-    };
-    Ok(())
+    outbox.open(number, sender)
 }
 
 /// Puts a signal into the port of this instance.
+#[tactic(auto, using(crate::proofs::Puts::put_sends))]
 fn put<J: Run, R: Wait, O: Runtime<J>>(
     rt: &R,
     runtime: &O,
-    peers: &mut Peers<J>,
+    outbox: &mut Outbox<J>,
     number: u32,
     item: Item,
 ) -> Result<(), AllocError>
     requires port { has_port number ≡ true }
-    requires known { is_known peers.old number ≡ true }
-    ensures ok { OnOk result ((n : ℕ) → put_to peers.new n ≡ sent_on (put_to peers.old) number item n) }
-    ensures err { OnErr result (peers.new ≡ peers.old) }
+    requires known { is_known outbox.old.peers number ≡ true }
+    ensures ok { OnOk result ((n : ℕ) → sent_in outbox.new.sent n ≡ sent_on (sent_in outbox.old.sent) number item n) }
+    ensures err { OnErr result (outbox.new ≡ outbox.old) }
 {
     let Some(port) = runtime.port(number) else {
         unreachable!()
     };
-    let Ok(()) = peers.put(rt, port, number, item) else {
-        return Err(AllocError);
-    };
-    Ok(())
+    outbox.put(rt, port, number, item)
+}
+
+/// Lets a signal go that is sent to an instance that is not there.
+#[tactic(auto, using(crate::proofs::Puts::sent_one))]
+fn lose<J: Run>(outbox: &mut Outbox<J>, number: u32, item: Item)
+    requires port { has_port number ≡ true }
+    requires unknown { is_known outbox.old.peers number ≡ false }
+    ensures { (n : ℕ) → sent_in outbox.new.sent n ≡ sent_on (sent_in outbox.old.sent) number item n }
+{
+    outbox.lose(number, item);
+}
+
+/// Puts the expiry of a timer into the port of its instance, where its time has come. Else, and for want of memory, its
+/// fuse is kept.
+#[tactic(auto, using(crate::proofs::Puts::arms_put, crate::proofs::Puts::arms_kept))]
+fn arm<J: Run, R: Wait, O: Runtime<J>>(
+    rt: &R,
+    runtime: &mut O,
+    outbox: &mut Outbox<J>,
+    time: Ticks,
+    fuse: Fuse,
+)
+    requires { O.prepared runtime.old ≡ true }
+    ensures sent { outbox.new.sent ≡ outbox.old.sent }
+    ensures arms { Arms time fuse (O.kept runtime.old) (O.kept runtime.new) outbox.old.peers outbox.new.peers }
+{
+    if let Err(fuse) = expire(rt, runtime, outbox, time, fuse) {
+        runtime.keep(fuse);
+    }
 }
 
 /// Puts the expiry of a timer into the port of its instance, where its time has come. Else, and for want of memory, the
 /// fuse comes back.
+#[tactic(auto, using(crate::proofs::Puts::expired))]
 fn expire<J: Run, R: Wait, O: Runtime<J>>(
     rt: &R,
     runtime: &O,
-    peers: &mut Peers<J>,
-    own: u32,
+    outbox: &mut Outbox<J>,
+    time: Ticks,
     fuse: Fuse,
 ) -> Result<(), Fuse>
-    ensures back { IfErr result (λ back. back ≡ fuse) }
-    ensures same { (n : ℕ) → put_to peers.new n ≡ put_to peers.old n }
+    ensures sent { outbox.new.sent ≡ outbox.old.sent }
+    ensures expires { MatchResult result
+        (λ _. (fuse.due ≤ time) × PutsTo fuse.pid time (Timer fuse) outbox.old.peers outbox.new.peers)
+        (λ back. (back ≡ fuse) × (outbox.new.peers ≡ outbox.old.peers)) }
 {
-    let now = runtime.now();
-    if fuse.due() > now || !peers.is_known(own) {
+    let own = fuse.pid();
+    if fuse.due() > time || !outbox.is_known(own) {
         return Err(fuse);
     }
     let Some(port) = runtime.port(own) else {
         return Err(fuse);
     };
-    match peers.expire(rt, port, own, fuse, now) {
-        Ok(()) => Ok(()),
-        Err(Refused { value, .. }) => Err(value),
-    }
+    outbox.expire(rt, port, own, fuse, time)
 }

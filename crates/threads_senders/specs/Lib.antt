@@ -1,3 +1,4 @@
 pub mod Peers
 pub mod Rows
+pub mod Run
 pub mod SenderLaws

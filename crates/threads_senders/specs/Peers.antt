@@ -1,5 +1,5 @@
--- The senders of an instance, and what they have put (Z.101: input port).
-use Rattle.std.specs.Prelude.{◌≡◌, ℕ, Bool, nat_eq, List, [], All, Option, Some, is_some}
+-- The senders of an instance or of the environment, and what they have put (Z.101: input port).
+use Rattle.std.specs.Prelude.{◌≡◌, ◌==◌, ℕ, Bool, nat_eq, List, [], ◌∷◌, ◌++◌, All, Option, Some, if◌then◌else◌, is_some}
 use Rattle.std.specs.declared.alloc.Global.{Global}
 use Rattle.std.specs.Map.{lookup, set_value}
 use Rattle.std.specs.Option.{option_map_or}
@@ -10,14 +10,16 @@ use Rattle.port_queue.specs.Calls.{Puts}
 use Rattle.input_port.specs.Counts.{signals_in}
 use Rattle.port_queue.specs.Ends.{SenderState}
 use Rattle.port_values.specs.declared.item.Item.{Item}
+use Rattle.port_values.specs.declared.pid.Pid.{Pid}
 use Rattle.port_values.specs.declared.pid.Pid.TheVariants.{Of}
 use Rattle.threads_senders.specs.Rows.{EndsWith}
 use Rattle.run_record.specs.Event.{Event}
 use Rattle.run_semantics.specs.Sent.{sent_to}
+use Rattle.run_semantics.specs.World.{Sent}
 
 -- ---- the senders
 
--- the senders of an instance, each with the number of the instance into whose port it puts, in the order in which they came
+-- the senders of one, each with the number of the instance into whose port it puts, in the order in which they came
 abbrev pub PeersState : Type 0
 PeersState = List (ℕ × SenderState)
 
@@ -51,11 +53,20 @@ put_by sender = signals_in (of sender.number sender.seen)
 abbrev pub put_to : PeersState → ℕ → List Item
 put_to peers number = option_map_or put_by (sender_to peers number) []
 
--- The signals are of the instance `who`, and what its events send to the instance `number` ends with them.
-pub record AreLast (who : ℕ) (events : List Event) (number : ℕ) (put : List Item) : Type 0 where
-  pub own : All (λ item. item.sender ≡ Of who) put
-  pub end : EndsWith (sent_to who events number) put
+-- The signals are all of this origin, and end what it sends.
+pub record AreLast (origin : Pid) (sends put : List Item) : Type 0 where
+  pub own : All (λ item. item.sender ≡ origin) put
+  pub end : EndsWith sends put
 
--- So are those that were put into each port. What the events send beside them was sent before there was a sender.
-abbrev pub ArePeers : ℕ → List Event → PeersState → Type 0
-ArePeers who events peers = (number : ℕ) → AreLast who events number (put_to peers number)
+-- So are those that were put into each port, by what the origin sends to each instance. What it sends beside them was
+-- sent before there was a sender.
+abbrev pub ArePeers : Pid → Sent → PeersState → Type 0
+ArePeers origin sends peers = (number : ℕ) → AreLast origin (sends number) (put_to peers number)
+
+-- so it is of an instance, which sends what its events say
+abbrev pub ArePeersOf : ℕ → List Event → PeersState → Type 0
+ArePeersOf who events peers = ArePeers (Of who) (sent_to who events) peers
+
+-- what is sent to each instance, with this signal to the instance `to` after all other
+abbrev pub with_signal : Sent → ℕ → Item → Sent
+with_signal sends to item number = if to == number then sends number ++ item ∷ [] else sends number

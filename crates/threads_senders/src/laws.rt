@@ -1,16 +1,17 @@
 //! What keeps the facts of senders, and where they lead, as functions that do nothing.
 
-ghost use Rattle.threads_senders.specs.SenderLaws.{NobodyPuts, OthersPutNothing, SendersFillRows};
+ghost use Rattle.threads_senders.specs.SenderLaws.{NobodyPuts, OthersPutNothing, OthersRecordNothing, SendersFillRows};
 
-/// Without senders nothing was put, whatever the record of an instance is.
+/// Without senders nothing was put, whatever an instance or the environment sends.
 pub fn nobody_puts()
     ensures { NobodyPuts }
 {}
 
-/// What was put is the last of what the record sends, still, once an event is noted by which nothing is put: it sends
-/// nothing, or to a port into which nothing was put so far.
+/// What was put is the last of what is sent, still, once more is sent by which nothing is put: it goes to a port into
+/// which nothing was put so far. Of an instance, which records it, too.
 pub fn others_put_nothing()
-    ensures { OthersPutNothing }
+    ensures sent { OthersPutNothing }
+    ensures recorded { OthersRecordNothing }
 {}
 
 /// Once a port knows all that a sender had seen, as after it has gathered it, the row of the sender holds, by which

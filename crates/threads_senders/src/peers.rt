@@ -1,11 +1,13 @@
-//! The senders of an instance.
+//! The senders of an instance, or of the environment.
 
-ghost use Rattle.std.specs.Prelude.{◌≡◌, ◌≤◌, ◌++◌, ◌∷◌, [], ℕ, List, false, length, true, IfSome, MatchOption, MatchResult, OnOk};
+ghost use Rattle.std.specs.Prelude.{◌≡◌, ◌==◌, ◌≤◌, ◌++◌, ◌∷◌, [], ℕ, List, None, false, length, true, if◌then◌else◌, IfSome, MatchOption, MatchResult, OnOk};
 ghost use Rattle.port_inbox.specs.Calls.{ComesBack};
 ghost use Rattle.port_inbox.specs.declared.entry.Entry.TheVariants.{Signal, Timer};
+ghost use Rattle.port_values.specs.declared.pid.Pid.{Pid};
 ghost use Rattle.port_values.specs.declared.pid.Pid.TheVariants.{Of};
-ghost use Rattle.threads_senders.specs.Peers.{is_known, put_by, put_to, AreLast, ArePeers, PutsTo};
+ghost use Rattle.threads_senders.specs.Peers.{is_known, put_by, put_to, sender_to, with_signal, AreLast, ArePeers, ArePeersOf, PutsTo};
 ghost use Rattle.run_semantics.specs.Sent.{output_of};
+ghost use Rattle.run_semantics.specs.World.{Sent};
 ghost use Rattle.run_record.specs.Event.{Event};
 ghost use Rattle.sdl_system.specs.declared.route.Dest.{Dest};
 
@@ -19,8 +21,7 @@ use std::alloc::{AllocFailed, Global};
 use std::marker::{Model, PhantomData};
 use std::sync::Wait;
 
-/// The senders of an instance, each with the number of the instance into whose port it puts, in the order in which
-/// they came.
+/// The senders of an instance, or of the environment, each with the number of the instance into whose port it puts.
 #[derive(Drop)]
 pub struct Peers<J: Run> {
     senders: IndexMap<u32, Sender>,
@@ -74,7 +75,7 @@ impl<J: Run> Peers<J> {
         ensures opened { MatchResult result (λ _. self.new ≡ self.old ++ (number, sender) ∷ [])
             (λ back. ComesBack back sender × (self.new ≡ self.old)) }
         ensures known { OnOk result (is_known self.new number ≡ true) }
-        ensures kept { (who : ℕ) (events : List Event) → ArePeers who events self.old → ArePeers who events self.new }
+        ensures kept { (origin : Pid) (sends : Sent) → ArePeers origin sends self.old → ArePeers origin sends self.new }
     {
         match self.senders.insert(number, sender) {
             Ok(_) => Ok(()),
@@ -88,8 +89,8 @@ impl<J: Run> Peers<J> {
     /// Puts a signal into the port of this instance. For want of memory, and after 2^61 entries, it comes back. That
     /// there is a sender, and that it's this port, is the caller's condition.
     ///
-    /// Where what was put so far is the last of what a record sends, and the signal is of the record's instance, it is
-    /// so with its output behind the record.
+    /// Where what was put so far is the last of what an origin sends, and the signal is of that origin, it is so with
+    /// the signal after all that it sent: of an instance, with its output after the record.
     pub fn put<R: Wait>(
         &mut self,
         rt: &R,
@@ -102,10 +103,11 @@ impl<J: Run> Peers<J> {
         ensures put { MatchResult result (λ _. PutsTo number 0 (Signal item) self.old self.new)
             (λ back. ComesBack back item × (self.new ≡ self.old)) }
         ensures known { (n : ℕ) → is_known self.new n ≡ is_known self.old n }
-        ensures kept { MatchResult result
-            (λ _. (who : ℕ) (events : List Event) (named : Dest) → item.sender ≡ Of who → ArePeers who events self.old
-            → ArePeers who (events ++ output_of item named number ∷ []) self.new)
-            (λ _. Unit {0}) }
+        ensures kept { OnOk result ((origin : Pid) (sends : Sent) → item.sender ≡ origin
+            → ArePeers origin sends self.old → ArePeers origin (with_signal sends number item) self.new) }
+        ensures recorded { OnOk result ((who : ℕ) (events : List Event) (named : Dest) → item.sender ≡ Of who
+            → ArePeersOf who events self.old
+            → ArePeersOf who (events ++ output_of item named number ∷ []) self.new) }
     {
         let Some(sender) = self.senders.get_mut(&number) else {
             unreachable!()
@@ -129,7 +131,7 @@ impl<J: Run> Peers<J> {
         ensures put { MatchResult result (λ _. PutsTo number at (Timer fuse) self.old self.new)
             (λ back. ComesBack back fuse × (self.new ≡ self.old)) }
         ensures known { (n : ℕ) → is_known self.new n ≡ is_known self.old n }
-        ensures kept { (who : ℕ) (events : List Event) → ArePeers who events self.old → ArePeers who events self.new }
+        ensures kept { (origin : Pid) (sends : Sent) → ArePeers origin sends self.old → ArePeers origin sends self.new }
     {
         let Some(sender) = self.senders.get_mut(&number) else {
             unreachable!()
@@ -137,14 +139,26 @@ impl<J: Run> Peers<J> {
         sender.expire(rt, port, fuse, at)
     }
 
+    /// Takes out the sender into the port of this instance, to be gathered there. None: there is none.
+    pub fn take(&mut self, number: u32) -> Option<Sender>
+        ensures taken { result ≡ sender_to self.old number }
+        ensures others { (n : ℕ) → sender_to self.new n ≡ (if number == n then None else sender_to self.old n) }
+        ensures port { IfSome result (λ sender. sender.port ≡ J.ports number) }
+        ensures last { (origin : Pid) (sends : Sent) → ArePeers origin sends self.old
+            → IfSome result (λ sender. AreLast origin (sends number) (put_by sender)) }
+        ensures kept { (origin : Pid) (sends : Sent) → ArePeers origin sends self.old → ArePeers origin sends self.new }
+    {
+        self.senders.swap_remove(&number)
+    }
+
     /// Takes out the sender that came last, with its number, to be gathered at its port. None: there is none.
     pub fn release(&mut self) -> Option<Peer>
         ensures released { MatchOption result ((self.old ≡ []) × (self.new ≡ []))
             (λ peer. self.old ≡ self.new ++ (peer.number, peer.sender) ∷ []) }
         ensures port { IfSome result (λ peer. peer.sender.port ≡ J.ports peer.number) }
-        ensures last { (who : ℕ) (events : List Event) → ArePeers who events self.old
-            → IfSome result (λ peer. AreLast who events peer.number (put_by peer.sender)) }
-        ensures kept { (who : ℕ) (events : List Event) → ArePeers who events self.old → ArePeers who events self.new }
+        ensures last { (origin : Pid) (sends : Sent) → ArePeers origin sends self.old
+            → IfSome result (λ peer. AreLast origin (sends peer.number) (put_by peer.sender)) }
+        ensures kept { (origin : Pid) (sends : Sent) → ArePeers origin sends self.old → ArePeers origin sends self.new }
     {
         let (number, sender) = self.senders.pop()?;
         Some(Peer { number, sender })

@@ -1,6 +1,6 @@
 -- What the sender answers, its owner answers, and keeps the fact by it.
 use Rattle.port_inbox.specs.declared.entry.Entry.TheVariants.{Signal}
-use Rattle.threads_senders.proofs.Kept.{put_keeps}
+use Rattle.threads_senders.proofs.Kept.{put_keeps, put_records}
 use Rattle.threads_senders.proofs.SenderLemmas.{put_through}
 use Rattle.threads_senders.proofs.peers.Peers.put.Goals as goal
 
@@ -14,4 +14,9 @@ returns-clause-put g c =
 pub returns-clause-kept : goal.returns-clause-kept
 returns-clause-kept g c =
     put_keeps c.args.number c.args.item c.put.result c.args.self.now
+    (c.get_mut.follows.lender c.put.new.self).entries (returns-clause-put g c)
+
+pub returns-clause-recorded : goal.returns-clause-recorded
+returns-clause-recorded g c =
+    put_records c.args.number c.args.item c.put.result c.args.self.now
     (c.get_mut.follows.lender c.put.new.self).entries (returns-clause-put g c)

@@ -1,0 +1,19 @@
+-- What is put is sent.
+use Rattle.std.proofs.Common.{ap, subst, sym, ℕ, List}
+use Rattle.port_values.specs.declared.item.Item.{Item}
+use Rattle.threads_instance.proofs.Puts.{ends_put, ends_same}
+use Rattle.threads_instance.specs.Outbox.{AreEnds}
+use Rattle.threads_senders.specs.Peers.{PeersState, put_to}
+use Rattle.threads_instance.proofs.outbox.Outbox.put.Goals as goal
+
+pub invariant_of-self : goal.invariant_of-self
+invariant_of-self g c =
+    let new = c.put.new.self in
+    subst (λ (sent : List (ℕ × Item)). AreEnds sent new) (sym c.and-sent.ensures)
+    (ends_put c.args.number c.args.item c.self.inside.sent.items c.self.inside.peers new c.in-Ok.ensures.put
+    c.self.invariant)
+
+pub invariant_of-self-in-Err : goal.invariant_of-self-in-Err
+invariant_of-self-in-Err g c =
+    ends_same c.self.inside.sent.items c.self.inside.peers c.put.new.self
+    (λ n. ap (λ (peers : PeersState). put_to peers n) c.in-Err.ensures.put.1) c.self.invariant

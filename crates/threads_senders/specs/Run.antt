@@ -1,0 +1,7 @@
+-- What the name of a run fixes.
+use Rattle.std.specs.Prelude.{[]}
+use Rattle.atomic_table.specs.Seated.{TableId}
+
+-- a table that no number is drawn from
+abbrev pub no_table : TableId
+no_table = record { words = 0; slots = 0; views_name = 0; atom = 0; block = 0; offset = 0; slot_names = [] }
