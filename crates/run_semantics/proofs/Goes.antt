@@ -1,11 +1,9 @@
 -- How pieces of work join, and what one deed brings.
-use Rattle.std.proofs.Common.{◌≡◌, inl, inr, ◌∙◌, sym, ap, subst, refl, ℕ, Bool, true, List, [], ◌∷◌, ◌++◌, All, append_assoc, append-nil, arith, if◌then◌else◌, length, nat_lt}
-use Rattle.std.proofs.lemmas.List.{length-append}
+use Rattle.std.proofs.Common.{◌≡◌, inl, inr, ◌∙◌, sym, ap, subst, refl, ℕ, Bool, true, List, [], ◌∷◌, ◌++◌, All, append_assoc, append-nil}
 use Rattle.std.proofs.lemmas.List.Elements.{All-append, All-cons, All-nil}
 use Rattle.port_inbox.proofs.Alive.{after_draws-alive}
-use Rattle.port_inbox.specs.Calls.{IsDrawn, TakesHere, after_draws, after_stop, known_after}
+use Rattle.port_inbox.specs.Calls.{IsDrawn, TakesHere, after_draws, after_stop}
 use Rattle.port_inbox.specs.Ends.{OwnerState}
-use Rattle.port_inbox.specs.Put.{longer}
 use Rattle.port_inbox.specs.declared.placed.Placed.{Placed}
 use Rattle.port_model.specs.History.{IsLegal, PortEvent, Stop, Take}
 use Rattle.port_model.specs.Port.{PortState, stopped}
@@ -19,13 +17,14 @@ use Rattle.run_record.specs.Event.{Event, is_beginning}
 use Rattle.run_record.specs.Event as event
 use Rattle.run_record.specs.declared.failure.Failure.{Failure}
 use Rattle.run_semantics.proofs.Deeds.{IsTrueOf-append, IsTrueOf-same, after_deeds-append, calls_of-append, events_of-append, time_after-append}
+use Rattle.run_semantics.proofs.Drawn.{all_drawn_still, all_drawn_taken, all_seen, rest_joined}
 use Rattle.run_semantics.proofs.Failing.{leads_failed}
 use Rattle.run_semantics.proofs.Outside.{Runs-drawn, drawn_as-append, outside_of-append, outside_of-drawn_calls, outside_of-drawn, own_of-append, own_of-drawn_calls, own_of-drawn}
 use Rattle.run_semantics.proofs.Runs.{Runs-append}
 use Rattle.run_semantics.proofs.Same.{selecting_drawn, tried_drawn}
 use Rattle.run_semantics.specs.Effect.{Deed, calls_of, events_of}
 use Rattle.run_semantics.specs.Fails.{Fails}
-use Rattle.run_semantics.specs.Goes.{AreInner, Goes, GoesWrong, HaveSeenAll, IsAllDrawn, IsFirst, IsInner, IsOneStep, MachineValue, RestOnAll, Waits, drawn_as, with_event}
+use Rattle.run_semantics.specs.Goes.{AreInner, Goes, GoesWrong, HaveSeenAll, IsAllDrawn, IsFirst, IsInner, IsOneStep, MachineValue, Waits, drawn_as, with_event}
 use Rattle.run_semantics.specs.Leads.{IsQuiet, Leads, Selecting, LeadsSilently}
 use Rattle.run_semantics.specs.ControlPoint.{Definition, Ended, In, ControlPoint}
 use Rattle.run_semantics.specs.Runs.{Runs, acts, outside_of, own_of, still, turns, waits}
@@ -57,46 +56,6 @@ taken_alive classes old new (Consumed got) (inl first) = ap (λ (q : PortState).
 taken_alive classes old new (Consumed got) (inr later) = ap (λ (q : PortState). q.alive) later.1.now
 taken_alive classes old new (Discarded got) takes = ap (λ (q : PortState). q.alive) takes.1.now
 taken_alive classes old new Nothing takes = ap (λ (q : PortState). q.alive) takes.1
-
--- ---- what is known to be put
-
--- of a list and a longer one that one is the longer
-longer_more : (drawn : List Placed) (placed : Placed) → longer drawn (drawn ++ placed ∷ []) ≡ drawn ++ placed ∷ []
-longer_more drawn placed = ap (λ (b : Bool). if b then drawn ++ placed ∷ [] else drawn) less where
-    less : nat_lt (length drawn) (length (drawn ++ placed ∷ [])) ≡ true
-    less = grind (arith, length-append drawn (placed ∷ []))
-
--- where all that is known was drawn, it is so after more was drawn
-known_drawn : (known drawn news : List Placed) → known ≡ drawn → known_after known drawn news ≡ drawn ++ news
-known_drawn known drawn [] same = same ∙ sym (append-nil drawn)
-known_drawn known drawn (placed ∷ more) same =
-    known_drawn (longer known (drawn ++ placed ∷ [])) (drawn ++ placed ∷ []) more
-    (ap (λ (list : List Placed). longer list (drawn ++ placed ∷ [])) same ∙ longer_more drawn placed)
-    ∙ append_assoc drawn (placed ∷ []) more
-
-all_drawn_still : (m n : OwnerState) (news : List Placed) → IsDrawn m n news → IsAllDrawn m → IsAllDrawn n
-all_drawn_still m n news draws all =
-    draws.known ∙ known_drawn m.known m.drawn news all ∙ sym draws.drawn
-
--- all is drawn after a take that has seen all
-all_seen : (classes : List Class) (old new : OwnerState) (reply : Taken) (rest : List PortEvent)
-    → TakesHere classes old new reply → HaveSeenAll (Take classes reply ∷ rest) → IsAllDrawn new
-all_seen classes old new Nothing rest takes seen = takes.fresh refl
-all_seen classes old new (Consumed got) rest takes seen = takes.passed seen.0 seen.1
-all_seen classes old new (Discarded got) rest takes seen = takes.passed seen.0 seen.1
-
-all_drawn_taken : (classes : List Class) (old new : OwnerState) (reply : Taken) (takes : TakesHere classes old new reply)
-    → IsAllDrawn old → IsAllDrawn new
-all_drawn_taken classes old new reply takes all =
-    all_drawn_still old
-    (record new { state = after_draws old.pid old.state takes.news; armed = old.armed }) takes.news takes.draws all
-
--- what begins a list of deeds begins it still where more come after, or more come after none
-rest_joined : (first later : List Deed) (mid last : OwnerState) → (RestOnAll first → IsAllDrawn mid)
-    → (IsAllDrawn mid → IsAllDrawn last) → (RestOnAll later → IsAllDrawn last) → RestOnAll (first ++ later)
-    → IsAllDrawn last
-rest_joined [] later mid last one still two rests = two rests
-rest_joined (deed ∷ more) later mid last one still two rests = still (one rests)
 
 module _ (d : Definition) where
   pub goes_still : (from : ControlPoint) (m : MachineValue) (w : WorldValue) → Goes AreInner d from m w from m w

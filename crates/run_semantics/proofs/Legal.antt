@@ -28,4 +28,4 @@ runs_are_legal d who from to s t q r deeds history runs = is_legal d who from s 
 
 pub instances_have_histories : InstancesHaveHistories
 instances_have_histories d who events place s owner run =
-    (run.history, (is_legal d who _ _ _ run.runs, run.outside refl))
+    (run.history, is_legal d who _ _ _ run.runs, run.outside refl)

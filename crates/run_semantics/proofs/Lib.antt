@@ -1,5 +1,6 @@
 pub mod Acting
 pub mod Deeds
+pub mod Drawn
 pub mod Ends
 pub mod Failing
 pub mod Goes

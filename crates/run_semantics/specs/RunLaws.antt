@@ -1,5 +1,5 @@
 -- Laws of runs.
-use Rattle.std.specs.Prelude.{◌≡◌, ℕ, List, [], ◌++◌, Some}
+use Rattle.std.specs.Prelude.{◌≡◌, ℕ, true, List, [], ◌++◌, Some}
 use Rattle.port_inbox.specs.Calls.{after_draws}
 use Rattle.port_inbox.specs.declared.placed.Placed.{Placed}
 use Rattle.port_inbox.specs.Ends.{OwnerState}
