@@ -1,0 +1,9 @@
+mod CreatedLemmas
+mod Least
+mod Lists
+mod LivingLemmas
+mod NullLemmas
+mod NumberLemmas
+mod TargetLemmas
+mod TallyLemmas
+mod Told

@@ -1,0 +1,4 @@
+mod BundleLemmas
+mod DrawLemmas
+mod GivenLemmas
+mod PutLemmas

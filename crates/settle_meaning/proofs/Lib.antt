@@ -1,0 +1,4 @@
+mod Drawn
+mod Expiries
+mod Reports
+mod Runs

@@ -1,0 +1,52 @@
+//! What holds of runs, histories and reports, as functions that do nothing.
+
+ghost use Rattle.settle_meaning.specs.MeaningLaws.{
+  ExpiriesHaveSets,
+  LateIsNothing,
+  PutsComeFromOutside,
+  RestsAreForGood,
+  RunsAreLegal,
+  RunsHearWhatIsDrawn,
+  SettledIsWholeOrCut,
+  StoppedStays,
+};
+
+/// A run of a process has a legal history (Z.101: input port).
+pub fn runs_are_legal()
+    ensures { RunsAreLegal }
+{}
+
+/// What is drawn after a run is a part of its history (Z.101: input port).
+pub fn runs_hear_what_is_drawn()
+    ensures { RunsHearWhatIsDrawn }
+{}
+
+/// An instance that rests, and into whose port no signal is put any more, rests for good (Z.101: agent).
+pub fn rests_are_for_good()
+    ensures { RestsAreForGood }
+{}
+
+/// If no more signals are drawn in the end than by some moment, none was put in between.
+pub fn late_is_nothing()
+    ensures { LateIsNothing }
+{}
+
+/// What is drawn from a port after its stop changes nothing (Z.102: stop).
+pub fn stopped_stays()
+    ensures { StoppedStays }
+{}
+
+/// A timer expires only by a set that was made before, in each legal history (Z.102: timer).
+pub fn expiries_have_sets()
+    ensures { ExpiriesHaveSets }
+{}
+
+/// An owner's calls put no signals.
+pub fn puts_come_from_outside()
+    ensures { PutsComeFromOutside }
+{}
+
+/// A settled report is whole or cut.
+pub fn settled_is_whole_or_cut()
+    ensures { SettledIsWholeOrCut }
+{}

@@ -1,0 +1,51 @@
+//! The desks of a run's ports.
+
+ghost use Rattle.std.specs.Prelude.{◌≡◌, [], IfOk, true, vec_len};
+ghost use Rattle.run_semantics.specs.World.{has_port};
+ghost use Rattle.threads_ports.specs.Named.{HaveDesks};
+ghost use Rattle.threads_senders.specs.Peers.{put_by};
+
+use input_port::{Desk, Port, Sender};
+use port_model::PortError;
+use std::marker::PhantomData;
+use threads_senders::Run;
+
+/// For each number the desk of its port, which gives out its senders.
+#[derive(Drop)]
+pub struct Desks<J: Run> {
+    rows: Vec<Desk>,
+    of: PhantomData<J>,
+    ghost all: { vec_len rows ≡ 1000 },
+    ghost named: { HaveDesks J.ports rows.items },
+}
+
+impl<J: Run> Desks<J> {
+    /// The desks of the run's ports, by their numbers.
+    pub fn new(rows: Vec<Desk>) -> Self
+        requires all { vec_len rows ≡ 1000 }
+        requires named { HaveDesks J.ports rows.items }
+    {
+        Desks {
+            rows,
+            of: PhantomData,
+        }
+    }
+
+    /// A sender into the port of this number, which has put nothing. Refused once the port has 1,001 of them. That the
+    /// port is that of the number is the caller's condition.
+    pub fn sender(&mut self, port: &Port, number: u32) -> Result<Sender, PortError>
+        requires there { has_port number ≡ true }
+        requires named { port.now.queue ≡ J.ports number }
+        ensures named { IfOk result (λ sender. sender.port ≡ J.ports number) }
+        ensures fresh { IfOk result (λ sender. put_by sender ≡ []) }
+    {
+        self.rows[number as usize - 1].sender(port)
+    }
+
+    /// How many senders the port of this number has given out.
+    pub fn given(&self, number: u32) -> u32
+        requires { has_port number ≡ true }
+    {
+        self.rows[number as usize - 1].given()
+    }
+}

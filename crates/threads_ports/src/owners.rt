@@ -1,0 +1,40 @@
+//! The owners of a run's ports.
+
+ghost use Rattle.std.specs.Prelude.{◌≡◌, IfSome, true, vec_len};
+ghost use Rattle.port_queue.specs.Ends.{newborn};
+ghost use Rattle.run_semantics.specs.World.{has_port};
+ghost use Rattle.threads_ports.specs.Named.{HaveOwners};
+
+use input_port::Owner;
+use std::marker::PhantomData;
+use threads_senders::Run;
+
+/// For each number the owner of its port, until it is given out.
+#[derive(Drop)]
+pub struct Owners<J: Run> {
+    rows: Vec<Option<Owner>>,
+    of: PhantomData<J>,
+    ghost all: { vec_len rows ≡ 1000 },
+    ghost named: { HaveOwners J.ports rows.items },
+}
+
+impl<J: Run> Owners<J> {
+    /// The owners of the run's ports, by their numbers.
+    pub fn new(rows: Vec<Option<Owner>>) -> Self
+        requires all { vec_len rows ≡ 1000 }
+        requires named { HaveOwners J.ports rows.items }
+    {
+        Owners {
+            rows,
+            of: PhantomData,
+        }
+    }
+
+    /// The owner of the port of this number, which has taken nothing. None: it was given out before.
+    pub fn give(&mut self, number: u32) -> Option<Owner>
+        requires { has_port number ≡ true }
+        ensures { IfSome result (λ owner. owner ≡ newborn (J.ports number) number) }
+    {
+        self.rows[number as usize - 1].take()
+    }
+}

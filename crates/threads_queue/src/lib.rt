@@ -1,0 +1,15 @@
+//! Who is to step next in a run on threads: places for what steps, queues of numbers, and the workers that sleep.
+//!
+//! What steps is in its place all the time, under a lock of its own that nobody waits for: a number is in one queue at
+//! most, and in none while a worker has it. A mark at each place says whether its number is in a queue already. So a
+//! signal costs a look at a mark, and no number is in two queues. Each worker has a queue of its own; the common one is
+//! in the hall, with the workers that sleep, and each call there loses no number. Which of them steps when isn't fixed,
+//! and no contract says that one gets on.
+#![tactic(auto)]
+
+mod hall;
+mod mark;
+mod places;
+
+pub use hall::{Hall, Turn};
+pub use places::{Place, Places};

@@ -1,0 +1,83 @@
+//! The places of what steps.
+
+use crate::mark::Mark;
+use std::alloc::{AllocError, Global};
+use std::sync::{Mutex, MutexGuard, Wait};
+
+/// How many places there are: one for each number that may be given.
+const MOST_PLACES: usize = 1_000;
+
+/// The place of one that steps, and its mark.
+#[derive(Drop)]
+pub struct Place<T: Drop> {
+    kept: Mutex<Option<T>>,
+    mark: Mark,
+}
+
+impl<T: Drop> Place<T> {
+    fn new() -> Self {
+        Place {
+            kept: Mutex::new(None),
+            mark: Mark::new(),
+        }
+    }
+
+    /// Who is there, if somebody is. Only who has the number asks, so the lock is free.
+    pub fn lock<R: Wait>(&self, rt: &R) -> MutexGuard<'_, Option<T>> {
+        // Before: the number is the caller's, and who had it before left the lock before it queued the number. After: what
+        // is in the place is the caller's until the guard goes.
+        self.kept.lock(rt)
+    }
+
+    /// Puts somebody there who has something to do. The caller queues the number.
+    pub fn enter<R: Wait>(&self, rt: &R, comer: T) {
+        // Before: nobody is there, and no other thread has the number. After: the comer is there, and it is marked only
+        // then, so who gets the number finds the place filled.
+        *self.kept.lock(rt) = Some(comer);
+        self.mark.begin();
+    }
+
+    /// Notes that something came for who is there. True: the caller is to queue the number.
+    pub fn wake(&self) -> bool {
+        self.mark.wake()
+    }
+
+    /// Notes that who is there found nothing to do. True: something came meanwhile, and the caller is to queue the number
+    /// again. The caller has left the lock.
+    pub fn rest(&self) -> bool {
+        self.mark.rest()
+    }
+
+    /// Notes that who is there makes no step any more.
+    pub fn end(&self) {
+        self.mark.end();
+    }
+
+    /// Takes out who is there.
+    pub fn leave<R: Wait>(&self, rt: &R) -> Option<T> {
+        // Before: the threads are joined, so no other has the number. After: nobody is there.
+        self.kept.lock(rt).take()
+    }
+}
+
+/// For each of the numbers 1 to 1,000 a place, which all threads share by `&`.
+#[derive(Drop)]
+pub struct Places<T: Drop> {
+    rows: Vec<Place<T>>,
+}
+
+impl<T: Drop> Places<T> {
+    /// Places where nobody is. Refused for want of memory.
+    pub fn new(alloc: Global) -> Result<Self, AllocError> {
+        let mut rows = Vec::with_capacity(alloc, MOST_PLACES)?;
+        for _ in 0..MOST_PLACES {
+            rows.push(Place::new())?;
+        }
+        Ok(Places { rows })
+    }
+
+    /// The place of a number. None: no instance can have the number.
+    pub fn of(&self, number: u32) -> Option<&Place<T>> {
+        self.rows.get(number.checked_sub(1)? as usize)
+    }
+}
