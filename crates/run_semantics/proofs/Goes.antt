@@ -17,13 +17,14 @@ use Rattle.run_record.specs.Event.{Event, is_beginning}
 use Rattle.run_record.specs.Event as event
 use Rattle.run_record.specs.declared.failure.Failure.{Failure}
 use Rattle.run_semantics.proofs.Deeds.{IsTrueOf-append, IsTrueOf-same, after_deeds-append, calls_of-append, events_of-append, time_after-append}
+use Rattle.run_semantics.proofs.Drawn.{all_drawn_still, all_drawn_taken, all_seen, rest_joined}
 use Rattle.run_semantics.proofs.Failing.{leads_failed}
 use Rattle.run_semantics.proofs.Outside.{Runs-drawn, drawn_as-append, outside_of-append, outside_of-drawn_calls, outside_of-drawn, own_of-append, own_of-drawn_calls, own_of-drawn}
 use Rattle.run_semantics.proofs.Runs.{Runs-append}
 use Rattle.run_semantics.proofs.Same.{selecting_drawn, tried_drawn}
 use Rattle.run_semantics.specs.Effect.{Deed, calls_of, events_of}
 use Rattle.run_semantics.specs.Fails.{Fails}
-use Rattle.run_semantics.specs.Goes.{AreInner, Goes, GoesWrong, IsFirst, IsInner, IsOneStep, MachineValue, Waits, drawn_as, with_event}
+use Rattle.run_semantics.specs.Goes.{AreInner, Goes, GoesWrong, HaveSeenAll, IsAllDrawn, IsFirst, IsInner, IsOneStep, MachineValue, Waits, drawn_as, with_event}
 use Rattle.run_semantics.specs.Leads.{IsQuiet, Leads, Selecting, LeadsSilently}
 use Rattle.run_semantics.specs.ControlPoint.{Definition, Ended, In, ControlPoint}
 use Rattle.run_semantics.specs.Runs.{Runs, acts, outside_of, own_of, still, turns, waits}
@@ -67,6 +68,8 @@ module _ (d : Definition) where
     port = refl;
     pid = refl;
     drawn = sym (append-nil m.owner.drawn);
+    fresh = λ rests. absurd rests;
+    fresh_still = λ all. all;
     outside = refl;
     own = refl;
     recorded = sym (append-nil m.events);
@@ -103,6 +106,8 @@ module _ (d : Definition) where
     pid = then.pid ∙ first.pid;
     drawn = then.drawn ∙ ap (λ (drawn : List Placed). drawn ++ then.news) first.drawn
         ∙ append_assoc l.owner.drawn first.news then.news;
+    fresh = rest_joined first.deeds then.deeds m.owner n.owner first.fresh then.fresh_still then.fresh;
+    fresh_still = λ all. then.fresh_still (first.fresh_still all);
     outside = outside_of-append first.history then.history
         ∙ ap (λ (events : List PortEvent). events ++ outside_of then.history) first.outside
         ∙ ap (λ (events : List PortEvent). drawn_as l.owner.pid first.news ++ events) then.outside
@@ -151,8 +156,10 @@ module _ (d : Definition) where
       → k.store.time ≡ time_after_one m.store.time deed.event → IsTrueOfOne d.system m.who w m.store.time deed.event
       → Leads d m.who (after_draws m.owner.pid m.owner.state news) from m.store deed to k.store
       → IsLegal (after_draws m.owner.pid m.owner.state news) deed.calls k.owner.state
+      → (HaveSeenAll deed.calls → IsAllDrawn k.owner) → (IsAllDrawn m.owner → IsAllDrawn k.owner)
       → Goes Shape d from m w to (with_event k deed.event) (after_effects w deed.effects)
-  goes_drawn_deed Shape from to m k w deed news shape own outside who port pid drawn events time is_true leads legal =
+  goes_drawn_deed Shape from to m k w deed news shape own outside who port pid drawn events time is_true leads legal seen
+      all =
       record {
         deeds = deed ∷ [];
         news = news;
@@ -162,6 +169,8 @@ module _ (d : Definition) where
         port = port;
         pid = pid;
         drawn = drawn;
+        fresh = seen;
+        fresh_still = all;
         outside = outside_of-drawn_calls m.owner.pid news deed.calls outside;
         own = own_of-drawn_calls m.owner.pid news deed.calls own ∙ sym (append-nil deed.calls);
         recorded = ap (λ (events : List Event). events ++ deed.event ∷ []) events;
@@ -178,10 +187,11 @@ module _ (d : Definition) where
       → k.owner.port ≡ m.owner.port → k.owner.pid ≡ m.owner.pid → k.owner.drawn ≡ m.owner.drawn → k.events ≡ m.events
       → k.store.time ≡ time_after_one m.store.time deed.event → IsTrueOfOne d.system m.who w m.store.time deed.event
       → Leads d m.who m.owner.state from m.store deed to k.store → IsLegal m.owner.state deed.calls k.owner.state
+      → (HaveSeenAll deed.calls → IsAllDrawn k.owner) → (IsAllDrawn m.owner → IsAllDrawn k.owner)
       → Goes Shape d from m w to (with_event k deed.event) (after_effects w deed.effects)
-  goes_deed Shape from to m k w deed shape own outside who port pid drawn events time is_true leads legal =
+  goes_deed Shape from to m k w deed shape own outside who port pid drawn events time is_true leads legal seen all =
       goes_drawn_deed Shape from to m k w deed [] shape own outside who port pid
-      (drawn ∙ sym (append-nil m.owner.drawn)) events time is_true leads legal
+      (drawn ∙ sym (append-nil m.owner.drawn)) events time is_true leads legal seen all
 
   -- ---- no deed
 
@@ -198,6 +208,8 @@ module _ (d : Definition) where
     port = ap (λ (o : OwnerState). o.port) owner;
     pid = ap (λ (o : OwnerState). o.pid) owner;
     drawn = ap (λ (o : OwnerState). o.drawn) owner ∙ sym (append-nil m.owner.drawn);
+    fresh = λ rests. absurd rests;
+    fresh_still = λ all. subst (λ (o : OwnerState). IsAllDrawn o) (sym owner) all;
     outside = refl;
     own = refl;
     recorded = events ∙ sym (append-nil m.events);
@@ -220,6 +232,8 @@ module _ (d : Definition) where
     port = draws.port;
     pid = draws.pid;
     drawn = draws.drawn;
+    fresh = λ rests. absurd rests;
+    fresh_still = all_drawn_still m.owner o news draws;
     outside = outside_of-drawn m.owner.pid news;
     own = own_of-drawn m.owner.pid news;
     recorded = sym (append-nil m.events);
@@ -258,6 +272,8 @@ module _ (d : Definition) where
       who takes.draws.port takes.draws.pid takes.draws.drawn events time is_true leads
       (subst (λ (calls : List PortEvent). IsLegal q calls k.owner.state) (sym is)
       (k.owner.state, (lives, takes.take), refl))
+      (λ seen. all_seen classes m.owner k.owner reply [] takes (subst (λ (calls : List PortEvent). HaveSeenAll calls) is seen))
+      (all_drawn_taken classes m.owner k.owner reply takes)
 
   -- a take, and a failure after it
   pub goes_taken_stopped : (counts : Bool) (n : StateId) (to : ControlPoint) (m k : MachineValue) (w : WorldValue)
@@ -279,6 +295,9 @@ module _ (d : Definition) where
       who takes.draws.port takes.draws.pid takes.draws.drawn events time is_true leads
       (subst (λ (calls : List PortEvent). IsLegal q calls (stopped k.owner.state)) (sym is)
       (k.owner.state, (lives, takes.take), (stopped k.owner.state, (still_lives, refl), refl)))
+      (λ seen. all_seen classes m.owner k.owner reply (Stop ∷ []) takes
+      (subst (λ (calls : List PortEvent). HaveSeenAll calls) is seen))
+      (all_drawn_taken classes m.owner k.owner reply takes)
 
   -- the owner draws, and a take is refused
   pub goes_drawn_stopped : (counts : Bool) (n : StateId) (to : ControlPoint) (m k : MachineValue) (w : WorldValue)
@@ -299,6 +318,8 @@ module _ (d : Definition) where
       who draws.port draws.pid draws.drawn events time is_true leads
       (subst (λ (calls : List PortEvent). IsLegal q calls (stopped k.owner.state)) (sym is)
       (stopped k.owner.state, (lives, ap stopped draws.state), refl))
+      (λ seen. absurd (subst (λ (calls : List PortEvent). HaveSeenAll calls) is seen))
+      (all_drawn_still m.owner k.owner news draws)
 
   -- the port is stopped, and nothing is drawn before
   pub goes_stopped : (Shape : List Deed → Type 0) (from to : ControlPoint) (m k : MachineValue) (w : WorldValue) (deed : Deed)
@@ -314,6 +335,7 @@ module _ (d : Definition) where
       who refl refl refl events time is_true leads
       (subst (λ (calls : List PortEvent). IsLegal m.owner.state calls (stopped m.owner.state)) (sym is)
       (stopped m.owner.state, (alive, refl), refl))
+      (λ seen. absurd (subst (λ (calls : List PortEvent). HaveSeenAll calls) is seen)) (λ all. all)
 
   -- ---- waiting
 

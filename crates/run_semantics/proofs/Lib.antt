@@ -1,9 +1,11 @@
 pub mod Acting
 pub mod Deeds
+pub mod Drawn
 pub mod Ends
 pub mod Failing
 pub mod Goes
 pub mod Histories
+pub mod Legal
 pub mod Outside
 pub mod Runs
 pub mod Same

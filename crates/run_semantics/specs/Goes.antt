@@ -1,12 +1,14 @@
 -- How far a piece of work brings an instance.
-use Rattle.std.specs.Prelude.{◌≡◌, ◌==◌, ℕ, Bool, List, [], ◌∷◌, ◌++◌, All, if◌then◌else◌}
+use Rattle.std.specs.Prelude.{◌≡◌, ◌==◌, ℕ, Bool, List, [], ◌∷◌, ◌++◌, All, Contains, if◌then◌else◌}
 use Rattle.std.specs.List.{flat_map}
+use Rattle.port_inbox.specs.Calls.{IsNoPriority}
 use Rattle.port_inbox.specs.Ends.{OwnerState}
 use Rattle.port_inbox.specs.declared.entry.Entry.{Entry}
 use Rattle.port_inbox.specs.declared.entry.Entry.TheVariants.{Signal, Timer}
 use Rattle.port_inbox.specs.declared.placed.Placed.{Placed}
 use Rattle.port_model.specs.History.{Expire, PortEvent, Put, Take}
 use Rattle.port_model.specs.declared.selection.Class.{Class}
+use Rattle.port_model.specs.declared.selection.Class.TheVariants as class
 use Rattle.port_model.specs.declared.taken.Taken.TheVariants.{Nothing}
 use Rattle.run_evaluation.specs.declared.identity.Identity.{Identity}
 use Rattle.run_evaluation.specs.declared.store.Store.{Store}
@@ -68,6 +70,23 @@ abbrev pub IsOneStep : Bool → List Deed → Type 0
 IsOneStep counts [] = ⊥
 IsOneStep counts (first ∷ rest) = IsFirst first.event × (is_beginning first.event ≡ counts) × AreInner rest
 
+-- The calls begin with a take after which the owner knew of nothing more that was put: one that gave nothing, or, in a
+-- state with a priority input, one that gave no signal of a priority input.
+abbrev pub HaveSeenAll : List PortEvent → Type 0
+HaveSeenAll (Take classes Nothing ∷ rest) = Unit {0}
+HaveSeenAll (Take classes taken ∷ rest) = Contains classes class.Priority × IsNoPriority classes taken
+HaveSeenAll calls = ⊥
+
+-- What begins the deeds rests on that: a continuous signal, the failure of a condition after a take that gave nothing, and
+-- what is no priority input, in a state that has one.
+abbrev pub RestOnAll : List Deed → Type 0
+RestOnAll [] = ⊥
+RestOnAll (first ∷ rest) = HaveSeenAll first.calls
+
+-- all that the owner knows to be put is drawn
+abbrev pub IsAllDrawn : OwnerState → Type 0
+IsAllDrawn owner = owner.known ≡ owner.drawn
+
 -- nothing is done
 abbrev pub AreNone : List Deed → Type 0
 AreNone deeds = deeds ≡ []
@@ -78,7 +97,8 @@ with_event m happened = record m { events = m.events ++ happened ∷ [] }
 
 -- From a place to a place, by deeds of this shape: the record grows by their events, the owner's history by exactly
 -- their calls and by what it drew, and the world by what they do; what they say of the world is true, and they are a
--- run of the process.
+-- run of the process. Where they rest on all that the owner knows, all of that is drawn; and what was drawn to the last
+-- before is so still.
 pub record Goes (Shape : List Deed → Type 0) (d : Definition) (from : ControlPoint) (m : MachineValue) (w : WorldValue)
     (to : ControlPoint) (n : MachineValue) (v : WorldValue) : Type 0 where
   pub deeds : List Deed
@@ -89,6 +109,8 @@ pub record Goes (Shape : List Deed → Type 0) (d : Definition) (from : ControlP
   pub port : n.owner.port ≡ m.owner.port
   pub pid : n.owner.pid ≡ m.owner.pid
   pub drawn : n.owner.drawn ≡ m.owner.drawn ++ news
+  pub fresh : RestOnAll deeds → IsAllDrawn n.owner
+  pub fresh_still : IsAllDrawn m.owner → IsAllDrawn n.owner
   pub outside : outside_of history ≡ drawn_as m.owner.pid news
   pub own : own_of history ≡ calls_of deeds
   pub recorded : n.events ≡ m.events ++ events_of deeds
@@ -116,7 +138,7 @@ pub record Waits (d : Definition) (state : StateId) (m : MachineValue) (w : Worl
   pub port : n.owner.port ≡ m.owner.port
   pub pid : n.owner.pid ≡ m.owner.pid
   pub drawn : n.owner.drawn ≡ m.owner.drawn ++ news
-  pub fresh : n.owner.known ≡ n.owner.drawn
+  pub fresh : IsAllDrawn n.owner
   pub armed : n.owner.armed ≡ m.owner.armed
   pub outside : outside_of history ≡ drawn_as m.owner.pid news
   pub own : own_of history ≡ Take classes Nothing ∷ []

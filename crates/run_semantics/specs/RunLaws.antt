@@ -1,17 +1,21 @@
 -- Laws of runs.
-use Rattle.std.specs.Prelude.{◌≡◌, ℕ, List, [], ◌++◌, Some}
+use Rattle.std.specs.Prelude.{◌≡◌, ℕ, true, List, [], ◌++◌, Some}
 use Rattle.port_inbox.specs.Calls.{after_draws}
 use Rattle.port_inbox.specs.declared.placed.Placed.{Placed}
-use Rattle.port_model.specs.History.{PortEvent}
-use Rattle.port_model.specs.Port.{PortState}
+use Rattle.port_inbox.specs.Ends.{OwnerState}
+use Rattle.port_model.specs.History.{IsLegal, PortEvent}
+use Rattle.port_model.specs.Port.{PortState, empty_port}
 use Rattle.port_model.specs.declared.selection.Class.{Class}
 use Rattle.run_evaluation.specs.Environment.{environment}
 use Rattle.run_evaluation.specs.declared.identity.Identity.{Identity}
 use Rattle.run_evaluation.specs.declared.store.Store.{Store}
+use Rattle.run_record.specs.Event.{Event}
 use Rattle.run_semantics.specs.Effect.{Deed, events_of}
+use Rattle.run_semantics.specs.Goes.{drawn_as}
+use Rattle.run_semantics.specs.Instance.{HasRun}
 use Rattle.run_semantics.specs.Leads.{Selecting}
 use Rattle.run_semantics.specs.ControlPoint.{Closed, Definition, Ended, ControlPoint}
-use Rattle.run_semantics.specs.Runs.{Runs}
+use Rattle.run_semantics.specs.Runs.{Runs, outside_of}
 use Rattle.run_semantics.specs.Selection.{tried}
 use Rattle.run_semantics.specs.Sent.{sent_with}
 use Rattle.run_semantics.specs.World.{Sent, WorldValue, after_deeds}
@@ -57,3 +61,18 @@ TriesWhateverIsDrawn =
     (d : Definition) (who : Identity) (q : PortState) (s : Store) (signals : List ContinuousSignal) (pid : ℕ)
     (news : List Placed)
     → tried (environment d.system who s (after_draws pid q news)) signals ≡ tried (environment d.system who s q) signals
+
+-- A run is on one legal history of the standard's port, from the port with which it begins to that with which it ends.
+abbrev pub RunsAreLegal : Type 0
+RunsAreLegal =
+    (d : Definition) (who : Identity) (from to : ControlPoint) (s t : Store) (q r : PortState) (deeds : List Deed)
+    (history : List PortEvent) → Runs d who from s q deeds history to t r → IsLegal q history r
+
+-- All that an instance did over a port that is shared: its port is what one legal history of the standard's port makes of
+-- the empty one, and what comes from outside in that history is just what its owner has drawn, in that order.
+abbrev pub InstancesHaveHistories : Type 0
+InstancesHaveHistories =
+    (d : Definition) (who : Identity) (events : List Event) (place : ControlPoint) (s : Store) (owner : OwnerState)
+    → HasRun true d who events place s owner
+    → (history : List PortEvent) × IsLegal empty_port history owner.state
+    × (outside_of history ≡ drawn_as owner.pid owner.drawn)

@@ -1,6 +1,6 @@
 //! What holds of all runs, as functions that do nothing.
 
-ghost use Rattle.run_semantics.specs.RunLaws.{EndsForGood, OutputsAreSent, RunsAppend, SelectsWhateverIsDrawn, TriesWhateverIsDrawn};
+ghost use Rattle.run_semantics.specs.RunLaws.{EndsForGood, InstancesHaveHistories, OutputsAreSent, RunsAppend, RunsAreLegal, SelectsWhateverIsDrawn, TriesWhateverIsDrawn};
 
 /// Two runs, of which the second begins where the first ends, are one run.
 pub fn runs_append()
@@ -25,4 +25,15 @@ pub fn selects_whatever_is_drawn()
 /// So does the continuous signal that begins (Z.102: continuous signal).
 pub fn tries_whatever_is_drawn()
     ensures { TriesWhateverIsDrawn }
+{}
+
+/// A run is on one legal history of the port (Z.101: input port).
+pub fn runs_are_legal()
+    ensures { RunsAreLegal }
+{}
+
+/// So is all that an instance did over a shared port, from the empty port on; and what came from outside in that history
+/// is what its owner drew (Z.101: input port).
+pub fn instances_have_histories()
+    ensures { InstancesHaveHistories }
 {}

@@ -55,7 +55,7 @@ module _ (d : Definition) (origin : Option StateId) (rest : Body) where
       let deed : Deed = record { event = event.Task one.variable value; calls = []; effects = [] } in
       goes_until d AreInner from to m (with_event k deed.event) n w w w is refl
       (goes_deed d AreInner from to m k w deed (inner deed tt) refl refl refl refl refl refl refl refl tt
-      (refl, refl, refl, record { is = refl; evaluated = found; store = refl }) refl)
+      (refl, refl, refl, record { is = refl; evaluated = found; store = refl }) refl (λ seen. absurd seen) (λ all. all))
 
   pub goes_sent : (to : Option Whither) (one : body.Sending) (more : List body.Sending) (named : Dest)
       (values : List Value) (target : Target) (m n : MachineValue) (w v : WorldValue)
@@ -74,7 +74,8 @@ module _ (d : Definition) (origin : Option StateId) (rest : Body) where
       may_reach d.system w.living one.signal m.who.process named target route in
       goes_until d AreInner from then m (with_event m deed.event) n w (after_effect w effect) v is sent
       (goes_deed d AreInner from then m m w deed (inner deed tt) refl refl refl refl refl refl refl refl route
-      (refl, refl, refl, record { is = refl; evaluated = found; reached = reached; effects_are = refl }) refl)
+      (refl, refl, refl, record { is = refl; evaluated = found; reached = reached; effects_are = refl }) refl (λ seen. absurd seen)
+      (λ all. all))
 
   pub goes_set : (one : body.Setting) (more : List body.Setting) (key : TimerKey) (due : ℕ) (m n : MachineValue)
       (w v : WorldValue) → m.owner.state.alive ≡ true → m.owner.state.sets ≢ MOST_SETS
@@ -92,7 +93,7 @@ module _ (d : Definition) (origin : Option StateId) (rest : Body) where
       goes_until d AreInner from to m (with_event k deed.event) n w (after_effect w effect) v is armed
       (goes_deed d AreInner from to m k w deed (inner deed tt) refl refl refl refl refl refl refl refl tt
       (refl, refl, record { evaluated = found; numbered = numbered; calls_are = refl; effects_are = refl })
-      (set_in m.owner.state key due, (alive, refl, refl), refl))
+      (set_in m.owner.state key due, (alive, refl, refl), refl) (λ seen. absurd seen) (λ all. all))
 
   pub goes_reset : (one : body.Timing) (more : List body.Timing) (key : TimerKey) (m n : MachineValue) (w : WorldValue)
       → m.owner.state.alive ≡ true → key_at (here_of d m) one.timer one.values ≡ Ok key
@@ -106,7 +107,7 @@ module _ (d : Definition) (origin : Option StateId) (rest : Body) where
       goes_until d AreInner from to m (with_event k deed.event) n w w w is refl
       (goes_deed d AreInner from to m k w deed (inner deed tt) refl refl refl refl refl refl refl refl tt
       (refl, refl, refl, refl, found)
-      (remove_from m.owner.state key, (alive, refl), refl))
+      (remove_from m.owner.state key, (alive, refl), refl) (λ seen. absurd seen) (λ all. all))
 
   pub goes_created : (process : ProcessId) (terms : List Term) (values : List Value) (number : Option ℕ)
       (m n : MachineValue) (w v : WorldValue)
@@ -123,7 +124,8 @@ module _ (d : Definition) (origin : Option StateId) (rest : Body) where
       goes_until d AreInner from (Doing origin rest) m (with_event k deed.event) n w (after_effects w effects) v is made
       (goes_deed d AreInner from (Doing origin rest) m k w deed (inner deed tt) refl refl refl refl refl refl refl refl
       gives
-      (refl, refl, refl, record { values = values; evaluated = found; effects_are = refl; store = refl }) refl)
+      (refl, refl, refl, record { values = values; evaluated = found; effects_are = refl; store = refl }) refl
+      (λ seen. absurd seen) (λ all. all))
 
 module _ (d : Definition) where
   pub goes_to_state : (origin : Option StateId) (state : StateId) (m n : MachineValue) (w : WorldValue)
@@ -134,7 +136,7 @@ module _ (d : Definition) where
       let deed : Deed = record { event = event.NextState state; calls = []; effects = [] } in
       goes_until d AreInner from (In state) m (with_event m deed.event) n w w w is refl
       (goes_deed d AreInner from (In state) m m w deed (inner deed tt) refl refl refl refl refl refl refl refl tt
-      (refl, refl, refl, refl, refl, there) refl)
+      (refl, refl, refl, refl, refl, there) refl (λ seen. absurd seen) (λ all. all))
 
   pub goes_to_same : (state : StateId) (m n : MachineValue) (w : WorldValue) → IsState d state
       → n ≡ with_event m (event.NextState state)
@@ -144,7 +146,7 @@ module _ (d : Definition) where
       let deed : Deed = record { event = event.NextState state; calls = []; effects = [] } in
       goes_until d AreInner from (In state) m (with_event m deed.event) n w w w is refl
       (goes_deed d AreInner from (In state) m m w deed (inner deed tt) refl refl refl refl refl refl refl refl tt
-      (refl, refl, refl, refl, refl, there) refl)
+      (refl, refl, refl, refl, refl, there) refl (λ seen. absurd seen) (λ all. all))
 
   pub goes_ended : (origin : Option StateId) (m n : MachineValue) (w : WorldValue) → m.owner.state.alive ≡ true
       → n ≡ with_event (record m { owner = after_stop m.owner }) event.Stop

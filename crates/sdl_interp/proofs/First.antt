@@ -47,7 +47,8 @@ module _ (d : Definition) where
       let k : MachineValue = record m { store = record m.store { time = at; done = 0 } } in
       goes_until d (IsOneStep true) AtStart (Doing None first) m (with_event k deed.event) n w w v is quiet
       (goes_deed d (IsOneStep true) AtStart (Doing None first) m k w deed (IsOneStep-first true deed tt refl) refl refl
-      refl refl refl refl refl refl reading (refl, refl, later, refl, (first, begun, refl)) refl)
+      refl refl refl refl refl refl reading (refl, refl, later, refl, (first, begun, refl)) refl
+      (λ seen. absurd seen) (λ all. all))
 
   -- ---- what a take gives
 
