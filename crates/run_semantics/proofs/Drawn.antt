@@ -15,8 +15,8 @@ use Rattle.run_semantics.specs.Goes.{HaveSeenAll, IsAllDrawn, RestOnAll}
 -- of a list and a longer one that one is the longer
 longer_more : (drawn : List Placed) (placed : Placed) → longer drawn (drawn ++ placed ∷ []) ≡ drawn ++ placed ∷ []
 longer_more drawn placed = ap (λ (b : Bool). if b then drawn ++ placed ∷ [] else drawn) less where
-    less : nat_lt (length drawn) (length (drawn ++ placed ∷ [])) ≡ true
-    less = grind (arith, length-append drawn (placed ∷ []))
+  less : nat_lt (length drawn) (length (drawn ++ placed ∷ [])) ≡ true
+  less = grind (arith, length-append drawn (placed ∷ []))
 
 -- where all that is known was drawn, it is so after more was drawn
 known_drawn : (known drawn news : List Placed) → known ≡ drawn → known_after known drawn news ≡ drawn ++ news
