@@ -1,7 +1,9 @@
 mod CreatedLemmas
+mod HeardLemmas
 mod Least
 mod Lists
 mod LivingLemmas
+mod NameLemmas
 mod NullLemmas
 mod NumberLemmas
 mod TargetLemmas

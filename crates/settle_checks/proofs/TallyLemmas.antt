@@ -382,7 +382,7 @@ enough Known from to put t is since all = record {
 
 -- ---- what was put
 
-none_missing : (xs missing put : List Item) → xs ≡ missing ++ put → length xs ≤ length put → missing ≡ []
+pub none_missing : (xs missing put : List Item) → xs ≡ missing ++ put → length xs ≤ length put → missing ≡ []
 none_missing xs [] put is few = refl
 none_missing xs (m ∷ missing) put is few =
     let long : length xs ≡ length (m ∷ missing) + length put = ap length is ∙ length-append (m ∷ missing) put in

@@ -1,3 +1,4 @@
 pub mod Events
 pub mod Least
+pub mod Names
 pub mod Outputs

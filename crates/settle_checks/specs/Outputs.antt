@@ -1,16 +1,17 @@
 -- How many signals a record sends to each instance, and whether as many were put (Z.102: output, create).
-use Rattle.std.specs.Prelude.{◌≡◌, ◌==◌, ◌≤◌, ◌<◌, ◌+◌, ◌⊎◌, ℕ, Bool, true, false, List, [], ◌∷◌, ◌++◌, None, Some, IsSomeAnd, if◌then◌else◌, length, slice_index_or}
+use Rattle.std.specs.Prelude.{◌≡◌, ◌==◌, ◌≤◌, ◌<◌, ◌+◌, ◌⊎◌, ℕ, Bool, true, false, List, [], ◌∷◌, ◌++◌, None, Some, IsSomeAnd, if◌then◌else◌, length, map, slice_index_or}
 use Rattle.port_values.specs.declared.item.Item.{Item}
 use Rattle.run_record.specs.Event as event
 use Rattle.run_record.specs.Event.{Event}
 use Rattle.run_record.specs.Record.{RecordValue}
 use Rattle.run_semantics.specs.Sent.{sent_to}
 use Rattle.sdl_system.specs.declared.id.ProcessId.{ProcessId}
+use Rattle.sdl_system.specs.declared.route.Target.{Target}
 use Rattle.sdl_system.specs.declared.route.Target.TheVariants.{Instance}
 use Rattle.settle_checks.specs.declared.outputs.Outline.{Outline}
 use Rattle.settle_checks.specs.declared.outputs.Outline.TheVariants.{Creates, Other, Sends}
 use Rattle.settle_checks.specs.declared.outputs.Tally.{Tally}
-use Rattle.settle_meaning.specs.Puts.{EndsWith, Heard, IsNamed, IsPutBy, MayMiss}
+use Rattle.settle_meaning.specs.Puts.{EndsWith, Heard, IsNamed, IsPutBy, IsPutByEnv, MayMiss, MayMissHeard, heard_by}
 
 -- ---- what a tally asks of an event
 
@@ -66,3 +67,23 @@ EnoughIsPut =
     (heard : List Heard) (from to : RecordValue) (put : List Item)
     → EndsWith (sent_to from.pid from.events to.pid) put → IsEnough (IsNamed heard) from to (length put)
     → IsPutBy (IsNamed heard) from to put
+
+-- ---- the script
+
+-- whom a signal of the script is sent, by where it went
+abbrev pub outline_to : Target → Outline
+outline_to (Instance number) = Sends number
+outline_to target = Other
+
+abbrev pub targets_of : List Heard → List Target
+targets_of heard = map (λ (one : Heard). one.target) heard
+
+-- so many of the signals of the script to an instance were put as were sent, unless the first may be missing
+abbrev pub IsEnoughHeard : (ℕ → Type 0) → List Heard → RecordValue → ℕ → Type 0
+IsEnoughHeard Known heard to put = (length (heard_by heard to.pid) ≤ put) ⊎ MayMissHeard Known to
+
+-- Where enough of them was put, and what was put ends what was sent, it is what may have been put.
+abbrev pub EnoughIsHeard : Type 0
+EnoughIsHeard =
+    (heard : List Heard) (to : RecordValue) (put : List Item) → EndsWith (heard_by heard to.pid) put
+    → IsEnoughHeard (IsNamed heard) heard to (length put) → IsPutByEnv (IsNamed heard) heard to put

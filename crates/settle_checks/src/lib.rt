@@ -8,8 +8,10 @@
 mod created;
 mod end;
 mod entries;
+mod heard;
 pub mod laws;
 mod living;
+mod names;
 mod nulls;
 mod numbers;
 mod outputs;
@@ -17,7 +19,9 @@ mod targets;
 
 pub use created::are_made;
 pub use end::{latest, transitions};
+pub use heard::all_heard;
 pub use living::lived;
+pub use names::named;
 pub use nulls::have_causes;
 pub use numbers::in_order;
 pub use outputs::{Outline, Tally, all_put};

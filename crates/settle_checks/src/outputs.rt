@@ -73,7 +73,7 @@ fn tallies(alloc: Global, record: &Record) -> Result<Option<Vec<Tally>>, AllocEr
 }
 
 /// A row in which nothing is sent.
-fn no_tallies(alloc: Global) -> Result<Vec<Tally>, AllocError>
+pub fn no_tallies(alloc: Global) -> Result<Vec<Tally>, AllocError>
     ensures { IfOk result (λ row. AreTallied [] row.items) }
 {
     let mut row = Vec::new(alloc);
@@ -125,7 +125,7 @@ fn outline_of(entry: Entry) -> Outline
 }
 
 /// Notes an output to an instance. False: more than can be counted.
-fn note_output(row: &mut [Tally], number: u32) -> bool
+pub fn note_output(row: &mut [Tally], number: u32) -> bool
     ensures noted { IsTrue result → (outlines : List Outline) → AreTallied outlines row.old
         → AreTallied (outlines ++ Sends number ∷ []) row.new }
     ensures len { length row.new ≡ length row.old }
@@ -193,7 +193,8 @@ fn is_enough(row: &[Tally], sent: &[u64], named: &[bool], from: &Record, to: &Re
     }
 }
 
-fn put_to(sent: &[u64], number: usize) -> u64
+/// How many signals were put into the port of this number.
+pub fn put_to(sent: &[u64], number: usize) -> u64
     ensures { result ≡ slice_index_or sent.now number 0 }
 {
     match sent.get(number) {
@@ -214,7 +215,8 @@ fn may_miss(named: &[bool], from: &Record, to: &Record) -> bool
         && is_named(named, number as usize)
 }
 
-fn is_named(named: &[bool], number: usize) -> bool
+/// Whether the script names the number.
+pub fn is_named(named: &[bool], number: usize) -> bool
     ensures { result ≡ slice_index_or named.now number false }
 {
     match named.get(number) {
