@@ -1,0 +1,13 @@
+//! What lasts as long as a run.
+
+use sdl_instances::Entries;
+use threads_ports::{Numbers, Ports};
+use threads_senders::Run;
+
+/// What lasts as long as the run `J`: its ports, its numbers, and what is entered for each. All threads share it.
+#[derive(Drop)]
+pub struct Common<J: Run> {
+    pub ports: Ports<J>,
+    pub numbers: Numbers<J>,
+    pub entries: Entries,
+}

@@ -1,0 +1,24 @@
+//! What the threads of a run share, and what an instance's step asks of it (Z.101: system, create).
+//!
+//! `Common` is what lasts as long as the run: ports, numbers, entries. `Tables` are the roster, the wheel, the hall and a
+//! few words. `Shared` lends both to all threads, with the places of the instances; its type says that the system is the
+//! one that the run names, so an instance that is made has its seat in this run. `Own` is what one thread has for itself.
+//! `StepRuntime` is the `Runtime` of a step: a route is by some list of living instances, and all else fits the run's
+//! name by the types. Locks are never held two at a time, except that others are taken, one by one, under that of the
+//! place of the instance that steps. So there is no order of locks to keep.
+#![tactic(auto)]
+
+mod common;
+pub mod making;
+mod own;
+mod shared;
+mod signs;
+mod step_runtime;
+mod tables;
+
+pub use common::Common;
+pub use own::Own;
+pub use shared::{Seated, Shared};
+pub use signs::Signs;
+pub use step_runtime::StepRuntime;
+pub use tables::Tables;

@@ -1,0 +1,98 @@
+//! What a thread of a run has for itself.
+
+ghost use Rattle.std.specs.Prelude.{◌≡◌, OnOk, true};
+
+use crate::Tables;
+use port_inbox::Fuse;
+use port_values::Ticks;
+use sdl_timers::Reader;
+use std::alloc::{AllocError, Global};
+use std::collections::VecDeque;
+use std::sync::Wait;
+use threads_ports::NumberSeat;
+use threads_senders::Run;
+
+/// How many numbers a queue has room for from the start: each number is in it once at most.
+const MOST_NUMBERS: usize = 1_000;
+
+/// What a thread of the run `J` has for itself: what it reads the clock and draws numbers with, its queue, the fuses of
+/// the step that it makes, and what it has seen of who lives.
+#[derive(Drop)]
+pub struct Own<J: Run> {
+    pub reader: Reader,
+    pub seat: NumberSeat<J>,
+    /// The numbers of those that have something to do and that this thread is to step.
+    pub queue: VecDeque<u32>,
+    /// The fuses of the step that is being made, which go into the wheel after it.
+    pub fuses: Vec<Fuse>,
+    /// For each process by its number, the least number of its living instances, as it was at a change of the roster.
+    pub living: Vec<Option<u32>>,
+    /// The change of the roster at which it was so.
+    pub version: u64,
+    /// How many transitions were made that are not in the sum of all, and how many may be at most.
+    pub moves: u64,
+    pub part: u64,
+}
+
+impl<J: Run> Own<J> {
+    /// What a thread begins with, in a system of so many processes. Refused for want of memory.
+    pub fn new(
+        alloc: Global,
+        reader: Reader,
+        seat: NumberSeat<J>,
+        processes: usize,
+        part: u64,
+    ) -> Result<Self, AllocError> {
+        let queue = VecDeque::with_capacity(alloc, MOST_NUMBERS)?;
+        let mut living = Vec::with_capacity(alloc, processes)?;
+        for _ in 0..processes {
+            living.push(None)?;
+        }
+        Ok(Own {
+            reader,
+            seat,
+            queue,
+            fuses: Vec::new(alloc),
+            living,
+            version: 0,
+            moves: 0,
+            part,
+        })
+    }
+
+    /// Looks who lives, where the roster was changed since the last look.
+    pub fn look<R: Wait>(&mut self, rt: &R, tables: &Tables)
+        ensures { self.new.fuses ≡ self.old.fuses }
+    {
+        let version = tables.signs.version();
+        if version == self.version {
+            return;
+        }
+        self.version = version;
+        // Before: who changed the roster has left its lock, and counted up to `version` then. After: what is copied has
+        // that change, and perhaps later ones, which are counted later and looked at then.
+        let roster = tables.roster.lock(rt);
+        for (mine, theirs) in self.living.iter_mut().zip(roster.living().iter()) {
+            *mine = *theirs;
+        }
+    }
+
+    /// Puts the fuses of a step into the wheel. For want of memory one is lost, and the run is to end.
+    pub fn arm<R: Wait>(&mut self, rt: &R, tables: &Tables) -> Result<(), AllocError> {
+        if self.fuses.is_empty() {
+            return Ok(());
+        }
+        // Before: the instance that set the timers is this thread's still, so the clock doesn't move. After: the fuses are
+        // in the wheel, for whoever moves the clock next.
+        let mut wheel = tables.wheel.lock(rt);
+        for _ in 0..self.fuses.len() {
+            let Some(fuse) = self.fuses.pop() else {
+                break;
+            };
+            if wheel.arm(fuse).is_err() {
+                return Err(AllocError);
+            }
+        }
+        Ok(())
+    }
+}
