@@ -1,0 +1,24 @@
+//! How the threads of a run wake each other.
+
+use crossbeam_utils::sync::Unparker;
+use std::alloc::Global;
+
+/// What wakes the threads of a run: the workers by their places, and the environment. Each of them parks on a parker of
+/// its own, which keeps one token: an unpark before the park is not lost.
+#[derive(Clone, Copy, Drop)]
+pub struct Crew<'a> {
+    pub workers: &'a [Unparker<Global>],
+    pub environment: &'a Unparker<Global>,
+}
+
+impl<'a> Crew<'a> {
+    /// Wakes a worker that was noted as asleep, and is no longer.
+    pub fn wake(&self, worker: Option<usize>) {
+        let Some(place) = worker else {
+            return;
+        };
+        if let Some(unparker) = self.workers.get(place) {
+            unparker.unpark();
+        }
+    }
+}

@@ -1,0 +1,138 @@
+//! The loop of a worker.
+
+use crate::job::{steps_of, tell_moves};
+use crate::{Crew, Gate};
+use crossbeam_utils::sync::Parker;
+use sdl_timers::Reader;
+use std::alloc::{AllocError, Global};
+use std::sync::Wait;
+use threads_ports::NumberSeat;
+use threads_queue::Turn;
+use threads_senders::Run;
+use threads_shared::{Own, Shared};
+
+/// Works until the run is over: takes numbers, and makes steps of those instances. `me` is its place in the crew, and it
+/// parks on `parker`. Where it finds no memory for the run's own tables, it ends the run.
+pub fn work<J: Run, R: Wait + Copy, G: Gate>(
+    shared: &Shared<'_, '_, '_, J, R>,
+    crew: Crew<'_>,
+    gate: &G,
+    me: usize,
+    parker: Parker<Global>,
+    reader: Reader,
+    seat: NumberSeat<J>,
+) {
+    if rounds(shared, crew, gate, me, &parker, reader, seat).is_err() {
+        crew.wake(shared.tables.fail(shared.rt));
+        crew.environment.unpark();
+    }
+}
+
+/// Makes rounds until the run is over.
+fn rounds<J: Run, R: Wait + Copy, G: Gate>(
+    shared: &Shared<'_, '_, '_, J, R>,
+    crew: Crew<'_>,
+    gate: &G,
+    me: usize,
+    parker: &Parker<Global>,
+    reader: Reader,
+    seat: NumberSeat<J>,
+) -> Result<(), AllocError> {
+    let processes = shared.system.processes().len();
+    let part = shared.tables.signs.part(crew.workers.len());
+    let mut own = Own::new(shared.alloc, reader, seat, processes, part)?;
+    for _ in shared.rt.forever() {
+        if !round(shared, crew, gate, me, parker, &mut own)? {
+            break;
+        }
+    }
+    Ok(())
+}
+
+/// One round: a job, or what the hall says. False: the run is over.
+fn round<J: Run, R: Wait + Copy, G: Gate>(
+    shared: &Shared<'_, '_, '_, J, R>,
+    crew: Crew<'_>,
+    gate: &G,
+    me: usize,
+    parker: &Parker<Global>,
+    own: &mut Own<J>,
+) -> Result<bool, AllocError> {
+    if shared.tables.signs.is_closed() {
+        end(shared, crew);
+        return Ok(false);
+    }
+    share(shared, crew, own)?;
+    if let Some(number) = own.queue.pop_front() {
+        steps_of(shared, own, gate, number)?;
+        return Ok(true);
+    }
+    tell_moves(shared, own);
+    if shared.tables.signs.is_closed() {
+        end(shared, crew);
+        return Ok(false);
+    }
+    match next_turn(shared, me, own)? {
+        Turn::Work { wake } => crew.wake(wake),
+        Turn::End { wake } => {
+            crew.wake(wake);
+            return Ok(false);
+        }
+        Turn::Sleep { rest } => {
+            if rest {
+                crew.environment.unpark();
+            }
+            // Before: this worker is noted as asleep, under the lock under which numbers are queued. After: a token came.
+            // Whoever takes it out of the sleepers unparks it after that, and the parker keeps the token; so a number that
+            // was queued since is not missed.
+            parker.park(shared.rt);
+        }
+    }
+    Ok(true)
+}
+
+/// What the hall says this worker is to do, whose own queue is empty.
+fn next_turn<J: Run, R: Wait + Copy>(
+    shared: &Shared<'_, '_, '_, J, R>,
+    me: usize,
+    own: &mut Own<J>,
+) -> Result<Turn, AllocError> {
+    // Before: this worker has no number. After: it has some, or it is noted as asleep while the queue is empty. Who queues
+    // a number later has this lock then, and sees the worker asleep.
+    let mut hall = shared.tables.hall.lock(shared.rt);
+    let turn = hall.turn(me, &mut own.queue)?;
+    shared.tables.signs.set_sleepers(hall.sleepers());
+    Ok(turn)
+}
+
+/// Gives half of this worker's numbers to the hall, where it has two or more and somebody sleeps.
+fn share<J: Run, R: Wait + Copy>(
+    shared: &Shared<'_, '_, '_, J, R>,
+    crew: Crew<'_>,
+    own: &mut Own<J>,
+) -> Result<(), AllocError> {
+    if own.queue.len() < 2 || !shared.tables.signs.has_sleepers() {
+        return Ok(());
+    }
+    crew.wake(given(shared, own)?);
+    Ok(())
+}
+
+/// Gives half of this worker's numbers to the hall. The answer is a worker that slept, which is to be unparked.
+fn given<J: Run, R: Wait + Copy>(
+    shared: &Shared<'_, '_, '_, J, R>,
+    own: &mut Own<J>,
+) -> Result<Option<usize>, AllocError> {
+    // Before: the numbers are this worker's. After: half of them are in the hall's queue, and one that slept is no longer
+    // noted as asleep; it wakes the next one if it leaves some. Where nobody sleeps, the next that is idle finds them.
+    let mut hall = shared.tables.hall.lock(shared.rt);
+    let wake = hall.share(&mut own.queue)?;
+    shared.tables.signs.set_sleepers(hall.sleepers());
+    Ok(wake)
+}
+
+/// Sees to it that all others end, too. What this worker has queued stays there: the instances are in their places.
+fn end<J: Run, R: Wait + Copy>(shared: &Shared<'_, '_, '_, J, R>, crew: Crew<'_>) {
+    crew.wake(shared.tables.close(shared.rt));
+    crew.environment.unpark();
+}
