@@ -108,3 +108,17 @@ class Choices:
             if chosen:
                 used[chosen[-1], self.heard[len(chosen) - 1].signal] -= 1
                 chosen.pop()
+
+    def unheard(self) -> str:
+        """What is wrong if no choice gives what was taken from the environment."""
+        fates = [(one, self.heard_fates(one)) for one in self.heard]
+        for story in self.stories.values():
+            left = [one for one, kinds in fates if story.name in kinds]
+            for step in story.steps:
+                if step.sender != "env":
+                    continue
+                found = [it for it in left if (it.signal, it.values) == (step.signal, step.values)]
+                if not found or found[0].time > step.time:
+                    return f"{story.name}: line `{step.line}`: the script doesn't send it here by then"
+                left.remove(found[0])
+        return "the script's signals can't have come as they are taken"

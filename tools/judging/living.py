@@ -112,7 +112,7 @@ class Living:
             story.demand(most is None or living < most, f"{asked}, though {living} live, as many as may")
         elif len(self.stories) < MOST_INSTANCES and not self.is_memory_wanting():
             living = sum(self.may_live_before(other, story, asked) for other in others)
-            story.demand(most is not None and living >= most, f"{asked}, though {living} live at most")
+            story.demand(most is not None and living >= most, f"{asked}, though no more than {living} live")
 
     def is_memory_wanting(self) -> bool:
         return any(line.endswith("failed Memory") for story in self.stories.values() for line in story.record.lines)

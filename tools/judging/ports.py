@@ -67,8 +67,8 @@ def matched(story: Story, sent: list[Sent]) -> list[Item]:
 
 
 def missing(step: Step, stream: list[Item]) -> str:
-    same = sum(item.what.values == step.values for item in stream)
-    return f"{step.sender} sent it {same} times only" if same else f"{step.sender} never sent it here"
+    is_sent = any(item.what.values == step.values for item in stream)
+    return f"{step.sender} didn't send it so often" if is_sent else f"{step.sender} didn't send it"
 
 
 @dataclass
@@ -130,7 +130,7 @@ class Port:
 
     def demand_rest(self, wait: Wait, turn: int, time: int) -> None:
         """The clock moves to this time, so the instance rests, and whatever came before stays in the port."""
-        self.story.demand(not wait.acts(), f"rests in state {wait.state}, but has to go on with `{wait.acts()}`")
+        self.story.demand(not wait.acts(), f"rests in state {wait.state}, but {wait.told()}")
         for signal, _, item in self.here(turn):
             if item.time < time and not wait.saves(signal):
                 self.story.demand(False, f"waits in state {wait.state} though {item.what} is in its port")
@@ -162,7 +162,7 @@ class Port:
     def demand_rest_before(self, turn: int, later: set[int]) -> None:
         """The instance rests before a step, with all in its port that didn't come later than this."""
         wait = self.story.steps[turn].wait if turn < len(self.story.steps) else self.story.wait
-        self.story.demand(not wait.acts(), f"rests in state {wait.state}, but has to go on with `{wait.acts()}`")
+        self.story.demand(not wait.acts(), f"rests in state {wait.state}, but {wait.told()}")
         for item in self.items:
             timer = item.what if isinstance(item.what, TimerSet) else None
             is_here = item.point not in later and (item.taken is None or item.taken >= turn)

@@ -14,6 +14,7 @@ from soaking.transitions import Create, Output, Reset, Set, Task
 from soaking.values import Failure, at, meets, ranged, signal_text, told, value_of, values_at
 
 STATEMENTS = 10_000
+DOES = {"input": "an input", "priority": "a priority input", "discard": "nothing", "save": "a save"}
 
 
 class Ended(Exception):
@@ -110,6 +111,9 @@ class Wait:
     def acts(self) -> str | None:
         """What the instance does though nothing comes: it fails, or a continuous signal begins."""
         return self.failure or self.goes_on
+
+    def told(self) -> str:
+        return f"the process does `{self.acts()}`" if self.acts() else f"in state {self.state} nothing else can begin"
 
 
 @dataclass(eq=False)
@@ -217,14 +221,14 @@ class Replay:
         return lines[self.at] if self.at < len(lines) else "nothing more"
 
     def demand(self, is_so, what: str) -> None:
-        self.story.demand(is_so, f"line `{self.line}`: {what}")
+        self.story.demand(is_so, f"line `{self.line.strip()}`: {what}")
 
     def say(self, text: str, is_whole: bool = True) -> str:
         """The rest of the line, which has to be this, or to begin with it. Memory may be wanting at each."""
         if self.line == "  failed Memory" and not text.startswith("  failed"):
             raise Failure("Memory")
         fits = self.line == text if is_whole else self.line.startswith(text)
-        self.demand(fits, f"the process does `{text}`")
+        self.demand(fits, f"the process does `{text.strip()}`")
         self.at += 1
         return self.story.record.lines[self.at - 1].removeprefix(text)
 
@@ -262,16 +266,16 @@ class Replay:
         self.demand(begins, "no step begins so")
         time, what = int(begins[1]), begins[2]
         if time > self.story.time and what != "failed Memory":
-            self.demand(not wait.acts(), f"at {self.story.time} the instance has to go on with `{wait.acts()}`")
+            self.demand(not wait.acts(), f"at {self.story.time} the process does `{wait.acts()}`")
         consumed = CONSUMED.fullmatch(self.line)
         if consumed:
             self.take(time, *consumed.groups()[1:])
         elif what.startswith("failed"):
-            self.demand(what in (wait.acts(), "failed Memory"), f"the process does `{wait.acts() or 'nothing'}`")
+            self.demand(what in (wait.acts(), "failed Memory"), wait.told())
             self.begin(time, finds_nothing=wait.failure is None and what == wait.acts())
             self.end()
         else:
-            self.demand(what == wait.acts(), f"the process does `{wait.acts() or 'nothing'}`")
+            self.demand(what == wait.acts(), wait.told())
             self.begin(time, finds_nothing=True)
             self.sender = self.story.name
             self.transit(self.continuous(int(what.split()[1])))
@@ -282,14 +286,13 @@ class Replay:
     def take(self, time: int, kind: str, text: str, sender: str) -> None:
         """A signal is taken, by what the state does with it."""
         wait = self.story.wait
-        self.demand(wait.failure is None, f"the process does `{wait.failure}`")
+        self.demand(wait.failure is None, wait.told())
         name, _, rest = text.partition("(")
         signal, values = self.find_signal(sender, name), tuple(values_in(rest.removesuffix(")") if rest else None))
         self.demand(signal is not None, f"{sender} has no signal of this name")
         timer = self.expired(time, signal, values, sender) if signal.is_timer else None
         reaction = wait.reaction(signal)
-        does = {"input": "inputs", "priority": "inputs first", "discard": "discards", "save": "saves"}
-        self.demand(reaction.kind == kind, f"in state {self.state} the process {does[reaction.kind]} it")
+        self.demand(reaction.kind == kind, f"in state {self.state} the process has {DOES[reaction.kind]} for it")
         self.begin(time, kind=kind, signal=signal, values=values, sender=sender, timer=timer)
         self.sender = sender
         if kind == "discard":
@@ -330,7 +333,7 @@ class Replay:
         word, state = self.line.split()
         self.demand(state == self.state, f"the instance is in state {self.state}")
         acts = self.story.wait.acts()
-        self.demand(word == "cut" or not acts, f"the instance has to go on with `{acts}`")
+        self.demand(word == "cut" or not acts, self.story.wait.told())
 
     def end(self) -> None:
         """The instance is at its end, and its timers are gone."""

@@ -58,8 +58,10 @@ class Judgement:
     def begin(self) -> None:
         """Who is there from the start, and of which process each instance says that it is."""
         self.first = self.order.point()
-        numbers = [record.number for record in self.report.records]
-        demand(numbers == sorted(set(numbers)), "the numbers of the instances don't ascend")
+        before = 0
+        for record in self.report.records:
+            demand(record.number > before, f"#{record.number}: comes after #{before}, but numbers ascend")
+            before = record.number
         for process in self.given.system.processes():
             for _ in range(process.initial):
                 number = len(self.births) + 1
@@ -67,24 +69,25 @@ class Judgement:
                 self.processes[number] = process
         for record in self.report.records:
             if record.number not in self.processes:
-                creator = self.processes.get(int(record.parent[1:])) if record.parent != "null" else None
-                demand(creator, f"#{record.number}: no instance before it is its parent {record.parent}")
+                demand(record.parent != "null", f"#{record.number}: the system doesn't begin with it")
+                creator = self.processes.get(int(record.parent[1:]))
+                demand(creator, f"#{record.number}: its parent {record.parent} is no instance before it")
                 self.processes[record.number] = self.given.names[creator].find("agents", record.process)
 
     def replay(self) -> None:
         """Replays each record, by ascending number: so its creator's is replayed before it."""
         for record in self.report.records:
             birth = self.births.get(record.number)
-            demand(birth, f"#{record.number}: no instance before it created it")
+            demand(birth, f"#{record.number}: {record.parent} doesn't create it")
             is_it = (record.process, record.parent) == (birth.process.name, birth.parent)
-            demand(is_it, f"#{record.number}: was made as {birth.process.name} by {birth.parent}")
+            demand(is_it, f"#{record.number}: is of the process {birth.process.name}, and its parent is {birth.parent}")
             replay = Replay(record, birth, self.plans, self.find_signal, self.order)
             self.stories[record.number] = replay.go()
             for number, made in replay.births.items():
                 demand(number not in self.births, f"#{record.number}: creates #{number}, which is there already")
                 self.births[number] = made
         for number, birth in self.births.items():
-            demand(number in self.stories, f"#{number}: has no record, though {birth.parent} made it")
+            demand(number in self.stories, f"#{number}: has no record")
         self.judge_numbers()
 
     def find_signal(self, sender: str, name: str) -> Signal | None:
@@ -195,19 +198,7 @@ class Judgement:
             if turn == MOST_CHOICES:
                 return
             self.order.undo(mark)
-        raise fault or Wrong(self.unheard())
-
-    def unheard(self) -> str:
-        """What is wrong if no choice gives what was taken from the environment."""
-        for story in self.stories.values():
-            for step in story.steps:
-                if step.sender == "env" and not any(self.is_heard(step, one) for one in self.heard):
-                    return f"{story.name}: line `{step.line}`: the script has no such signal by then"
-        return "the script's signals can't have come as they are taken"
-
-    @staticmethod
-    def is_heard(step: Step, one: Sent) -> bool:
-        return (one.signal, one.values) == (step.signal, step.values) and one.time <= step.time
+        raise fault or Wrong(choices.unheard())
 
     def judge_choice(self, choice: list[tuple[Sent, str]]) -> None:
         sent = defaultdict(list)
