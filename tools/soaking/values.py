@@ -61,9 +61,20 @@ def value_of(expression, knows):
         case Signed(mark, operand):
             value = value_of(operand, knows)
             return not value if mark == "not" else ranged(-value)
-        case Joined(left, mark, right):
-            left = value_of(left, knows)
-            return OPERATORS[mark](left, value_of(right, knows))
+        case Joined():
+            return value_of_chain(expression, knows)
+
+
+def value_of_chain(expression, knows):
+    """The value of operands with operators between them, which group to the left."""
+    rest = []
+    while isinstance(expression, Joined):
+        rest.append((expression.mark, expression.right))
+        expression = expression.left
+    value = value_of(expression, knows)
+    for mark, right in reversed(rest):
+        value = OPERATORS[mark](value, value_of(right, knows))
+    return value
 
 
 def at(sort, value):

@@ -1,0 +1,96 @@
+"""A run whose order is drawn by lot, as the schedule of threads would have it.
+
+Between two moves of the clock the instances step in any order, what a step has sent arrives while others step already,
+and so do the script's lines. So the judge of reports can be tried without threads."""
+
+from random import Random
+
+from soaking.reference import Cut, Entry, Instance, Run
+from soaking.specification import ENVIRONMENT
+
+MOST_MORE = 3
+
+
+class Scattered(Run):
+    def __init__(self, system, routes, script, limit: int, lot: Random):
+        super().__init__(system, routes, script, limit)
+        self.lot = lot
+        self.outside = []
+        self.more = lot.randint(0, MOST_MORE)
+
+    def go(self) -> str:
+        """Makes the run, and tells its trace."""
+        end = self.script[-1].time if self.script else 0
+        try:
+            while True:
+                self.scatter()
+                due = [it[0] for it in self.fuses] + [line.time for line in self.script[:1]]
+                if not due or min(due) > end:
+                    return self.trace("rest", f"end {end} whole")
+                self.time = max(self.time, min(due))
+                self.hear()
+        except Cut:
+            return self.trace("cut", f"end {self.time} cut")
+
+    def scatter(self) -> None:
+        """Steps, until nothing happens any more: all rest, and nothing is on its way."""
+        resting: set[Instance] = set()
+        while self.outside or len(resting) < len(self.instances):
+            ready = [it for it in self.instances if it not in resting]
+            if self.outside and (not ready or self.lot.random() < 0.3):
+                self.outside.pop(0)()
+                resting.clear()
+                continue
+            instance = self.lot.choice(ready)
+            if instance.acts or self.step(instance):
+                self.arrive(instance)
+                resting.clear()
+            else:
+                resting.add(instance)
+            # On threads some transitions may come after the one that reaches the limit.
+            if self.made >= self.limit and (resting or self.made >= self.limit + self.more):
+                raise Cut
+
+    def step(self, instance: Instance) -> bool:
+        """A step of an instance; whether anything happened."""
+        instance.run = self
+        happened, counts = instance.step()
+        self.made += counts
+        return happened
+
+    def living(self, process, created=()) -> list[Instance]:
+        """An instance that has ended is found until all that it sent has come."""
+        return [it for it in [*self.instances, *created] if (it.lives or it.acts) and it.process is process]
+
+    def arrive(self, instance: Instance) -> None:
+        """A part of what a step did comes to others: all up to the last instance that it made, or one signal."""
+        adds = [turn for turn, act in enumerate(instance.acts, 1) if act[0] == "add"]
+        number = max(adds, default=1)
+        instance.created = []
+        for act in instance.acts[:number]:
+            self.act_one(*act)
+        del instance.acts[:number]
+
+    def act_one(self, kind: str, *what) -> None:
+        if kind == "send":
+            self.put(*what)
+        elif kind == "add":
+            self.instances.append(what[0])
+        elif what[0] <= self.time:
+            self.expire(*what[1:])
+        else:
+            self.fuses.append(tuple(what))
+
+    def hear(self) -> None:
+        """What is due expires, and the lines of this time are heard, one after the other, while others step."""
+        for fuse in sorted((it for it in self.fuses if it[0] <= self.time), key=lambda it: it[:3]):
+            self.outside.append(lambda fuse=fuse: self.expire(*fuse[1:]))
+        self.fuses = [it for it in self.fuses if it[0] > self.time]
+        while self.script and self.script[0].time <= self.time:
+            line = self.script.pop(0)
+            if line.signal is not None:
+                self.outside.append(lambda line=line: self.say_line(line))
+
+    def say_line(self, line) -> None:
+        target = self.target(ENVIRONMENT, line.signal, line.to)
+        self.put(target, Entry(line.signal, tuple(line.values), "env"))
