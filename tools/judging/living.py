@@ -78,7 +78,7 @@ class Living:
         for story in self.candidates(one):
             if story.name == one.target:
                 if story.birth.drawn is not None:
-                    self.order.put(story.birth.lives, one.point, (UNBORN, sender, one, one.target))
+                    self.order.put(story.birth.lives, one.looked, (UNBORN, sender, one, one.target))
                 return
             self.judge_passed(one, story)
 
@@ -86,9 +86,9 @@ class Living:
         """An instance doesn't live as the signal is sent: it is not there yet, or has ended."""
         why = (PASSED, one.sender, one, one.target, story.name)
         if not self.is_gone(story, one.time):
-            self.order.put(one.point, story.birth.lives, why)
+            self.order.put(one.looked, story.birth.lives, why)
         elif not self.is_unborn(story, one.time):
-            self.order.put(story.last, one.point, why)
+            self.order.put(story.last, one.looked, why)
         else:
             self.doubts.append((one, story))
 
@@ -97,10 +97,10 @@ class Living:
         is so. Of many such instances only the first are looked at; where both can be, nothing is said."""
         for one, story in self.doubts[:MOST_DOUBTS]:
             why = (PASSED, one.sender, one, one.target, story.name)
-            if one.point in self.order.reached(story.birth.lives):
-                self.order.put(story.last, one.point, why)
-            elif story.last in self.order.reached(one.point):
-                self.order.put(one.point, story.birth.lives, why)
+            if one.looked in self.order.reached(story.birth.lives):
+                self.order.put(story.last, one.looked, why)
+            elif story.last in self.order.reached(one.looked):
+                self.order.put(one.looked, story.birth.lives, why)
 
     # ---- creates
 
