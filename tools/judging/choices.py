@@ -64,7 +64,9 @@ class Choices:
         if one.sender == birth.parent and one.point > birth.entered:
             return [target]
         is_known = one.sender == "env" or target in self.named
-        if one.time < birth.time or one.sender == birth.parent:
+        # The script's signals are heard while all rest: an instance that is made at the same time is made later.
+        is_heard = one.sender == "env" and one.time > 0
+        if one.time < birth.time or one.sender == birth.parent or is_heard:
             if not is_known:
                 raise Wrong(UNKNOWN.format(one.sender, one, target))
             return [GONE]

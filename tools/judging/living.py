@@ -40,6 +40,10 @@ class Living:
     def may_live(story: Story, time: int) -> bool:
         return story.birth.time <= time and not (story.ended and story.time < time)
 
+    def lives_at_rest(self, story: Story, time: int) -> bool:
+        """Whether it lives when the clock has moved to this time, and nobody steps yet."""
+        return self.may_live(story, time) and not self.is_unborn(story, time)
+
     def must_live(self, story: Story, time: int) -> bool:
         return not self.is_unborn(story, time) and not self.is_gone(story, time)
 
@@ -54,21 +58,24 @@ class Living:
         return processes, "env" if outside else "nobody"
 
     def candidates(self, one: Sent) -> list[Story]:
-        """The instances that may get it, in their order, up to the first that lives whatever came before what."""
-        found = []
+        """The instances that may get it, in their order, up to the first that lives whatever came before what. Of the
+        script's signals it is known who lives, except at time 0: they are heard while all rest."""
+        found, is_at_rest = [], one.sender == "env" and one.time > 0
         for process in self.receivers(one)[0]:
             for story in self.by_process.get(process, []):
-                if self.may_live(story, one.time):
+                if is_at_rest and self.lives_at_rest(story, one.time):
+                    return [story]
+                if not is_at_rest and self.may_live(story, one.time):
                     found.append(story)
-                if self.must_live(story, one.time):
+                if not is_at_rest and self.must_live(story, one.time):
                     return found
         return found
 
     def options(self, one: Sent) -> list[str]:
         """Whom it may reach."""
-        candidates = self.candidates(one)
+        candidates, is_at_rest = self.candidates(one), one.sender == "env" and one.time > 0
         found = [story.name for story in candidates]
-        if not candidates or not self.must_live(candidates[-1], one.time):
+        if not candidates or not is_at_rest and not self.must_live(candidates[-1], one.time):
             found.append(self.receivers(one)[1])
         return found
 

@@ -18,6 +18,7 @@ from soaking.specification import Process, Signal
 from soaking.trace import Trace, Wrong, demand
 
 DEFAULT_LIMIT, MOST_CHOICES = 1_000_000, 200
+SOON = "{}: line `{}`, before all lines of the script of that time are heard"
 HASTE = "{}: line `{}`, after the script's first lines, which are no cause of it"
 
 
@@ -40,6 +41,7 @@ class Judgement:
     stories: dict[int, Story] = field(default_factory=dict)
     clock: list[int] = field(default_factory=list)
     moves: dict[int, int] = field(default_factory=dict)
+    begins: dict[int, int] = field(default_factory=dict)
     heard: list[Sent] = field(default_factory=list)
 
     def judge(self) -> None:
@@ -145,8 +147,9 @@ class Judgement:
             self.part_steps(story)
 
     def hear(self) -> None:
-        """What comes from outside, in its order: the clock moves, then timers expire, then lines are heard. The lines
-        of time 0 have a move of their own, which comes when all rest after their starts."""
+        """What comes from outside, in its order: the clock moves, then timers expire, then lines are heard, and only
+        then instances step. The lines of time 0 have a move of their own, which comes when all rest after their
+        starts."""
         last = self.first
         timers = defaultdict(list)
         for timer in self.sets():
@@ -164,12 +167,13 @@ class Judgement:
                 looked = self.order.point(last)
                 last = self.order.point(looked)
                 self.heard.append(Sent("env", line.signal, tuple(line.values), line.to, time, looked, last))
+            self.begins[time] = last
 
     def part_steps(self, story: Story) -> None:
         """The steps of an instance come between the moves of the clock."""
         for step, after in zip(story.steps, [*story.steps[1:], None]):
             if step.time > 0:
-                self.order.put(self.moves[step.time], step.point)
+                self.order.put(self.begins[step.time], step.point)
             at = bisect_right(self.clock, step.time)
             if at < len(self.clock) and (after is None or after.time > step.time):
                 self.order.put(step.last, self.moves[self.clock[at]])
@@ -258,10 +262,14 @@ class Judgement:
                 demand(not has_ended, f"{one.sender}: {one} goes to {one.target}, which has ended")
 
     def judge_rest_of(self, port: Port, later: set[int]) -> None:
+        """An instance rests before the first step of which such a line is a cause, and makes it when all are heard."""
         story = port.story
         turn = next((at for at, it in enumerate(story.steps) if it.time > 0 or it.point in later), len(story.steps))
         story.demand(turn > 0, "has not started, and the script goes on")
         before = story.steps[turn - 1]
         self.order.put(before.last, self.moves[0], (HASTE, story.name, before.line), False)
+        if turn < len(story.steps):
+            why = (SOON, story.name, story.steps[turn].line)
+            self.order.put(self.begins[0], story.steps[turn].point, why, False)
         if turn < len(story.steps) or not story.ended:
             port.demand_rest_before(turn, later)
