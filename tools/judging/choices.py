@@ -10,8 +10,12 @@ from judging.living import Living
 from judging.replay import Birth, Sent, Story
 from soaking.trace import Wrong
 
-GONE = "gone"
+GONE, MOST_TRIES = "gone", 100_000
 UNKNOWN = "{}: {} goes to {} before there is one, and nobody can know the number"
+
+
+class Undecided(Exception):
+    """There are too many choices to try."""
 
 
 @dataclass
@@ -57,10 +61,12 @@ class Choices:
             return [GONE]
         if birth.drawn is None or one.sender == target or one.time > birth.time or not isinstance(one.to, str):
             return [target]
-        if one.sender == birth.parent and one.point > birth.lives:
+        if one.sender == birth.parent and one.point > birth.entered:
             return [target]
         is_known = one.sender == "env" or target in self.named
-        if one.time < birth.time or one.sender == birth.parent:
+        # The script's signals are heard while all rest: an instance that is made at the same time is made later.
+        is_heard = one.sender == "env" and one.time > 0
+        if one.time < birth.time or one.sender == birth.parent or is_heard:
             if not is_known:
                 raise Wrong(UNKNOWN.format(one.sender, one, target))
             return [GONE]
@@ -86,10 +92,13 @@ class Choices:
         taken, used = self.taken(), defaultdict(int)
         fates = [self.heard_fates(one) for one in self.heard]
         chosen: list[str] = []
-        waiting = [iter(fates[0])] if fates else []
+        tries, waiting = 0, [iter(fates[0])] if fates else []
         if not fates:
             yield []
         while waiting:
+            tries += 1
+            if tries > MOST_TRIES + len(fates):
+                raise Undecided
             fate = next(waiting[-1], None)
             if fate is None:
                 waiting.pop()

@@ -40,6 +40,10 @@ class Living:
     def may_live(story: Story, time: int) -> bool:
         return story.birth.time <= time and not (story.ended and story.time < time)
 
+    def lives_at_rest(self, story: Story, time: int) -> bool:
+        """Whether it lives when the clock has moved to this time, and nobody steps yet."""
+        return self.may_live(story, time) and not self.is_unborn(story, time)
+
     def must_live(self, story: Story, time: int) -> bool:
         return not self.is_unborn(story, time) and not self.is_gone(story, time)
 
@@ -54,21 +58,24 @@ class Living:
         return processes, "env" if outside else "nobody"
 
     def candidates(self, one: Sent) -> list[Story]:
-        """The instances that may get it, in their order, up to the first that lives whatever came before what."""
-        found = []
+        """The instances that may get it, in their order, up to the first that lives whatever came before what. Of the
+        script's signals it is known who lives, except at time 0: they are heard while all rest."""
+        found, is_at_rest = [], one.sender == "env" and one.time > 0
         for process in self.receivers(one)[0]:
             for story in self.by_process.get(process, []):
-                if self.may_live(story, one.time):
+                if is_at_rest and self.lives_at_rest(story, one.time):
+                    return [story]
+                if not is_at_rest and self.may_live(story, one.time):
                     found.append(story)
-                if self.must_live(story, one.time):
+                if not is_at_rest and self.must_live(story, one.time):
                     return found
         return found
 
     def options(self, one: Sent) -> list[str]:
         """Whom it may reach."""
-        candidates = self.candidates(one)
+        candidates, is_at_rest = self.candidates(one), one.sender == "env" and one.time > 0
         found = [story.name for story in candidates]
-        if not candidates or not self.must_live(candidates[-1], one.time):
+        if not candidates or not is_at_rest and not self.must_live(candidates[-1], one.time):
             found.append(self.receivers(one)[1])
         return found
 
@@ -78,7 +85,7 @@ class Living:
         for story in self.candidates(one):
             if story.name == one.target:
                 if story.birth.drawn is not None:
-                    self.order.put(story.birth.lives, one.point, (UNBORN, sender, one, one.target))
+                    self.order.put(story.birth.lives, one.looked, (UNBORN, sender, one, one.target))
                 return
             self.judge_passed(one, story)
 
@@ -86,9 +93,9 @@ class Living:
         """An instance doesn't live as the signal is sent: it is not there yet, or has ended."""
         why = (PASSED, one.sender, one, one.target, story.name)
         if not self.is_gone(story, one.time):
-            self.order.put(one.point, story.birth.lives, why)
+            self.order.put(one.looked, story.birth.lives, why)
         elif not self.is_unborn(story, one.time):
-            self.order.put(story.last, one.point, why)
+            self.order.put(story.last, one.looked, why)
         else:
             self.doubts.append((one, story))
 
@@ -97,10 +104,10 @@ class Living:
         is so. Of many such instances only the first are looked at; where both can be, nothing is said."""
         for one, story in self.doubts[:MOST_DOUBTS]:
             why = (PASSED, one.sender, one, one.target, story.name)
-            if one.point in self.order.reached(story.birth.lives):
-                self.order.put(story.last, one.point, why)
-            elif story.last in self.order.reached(one.point):
-                self.order.put(one.point, story.birth.lives, why)
+            if one.looked in self.order.reached(story.birth.lives):
+                self.order.put(story.last, one.looked, why)
+            elif story.last in self.order.reached(one.looked):
+                self.order.put(one.looked, story.birth.lives, why)
 
     # ---- creates
 

@@ -38,22 +38,25 @@ class Order:
         """Demands that the points can be put into a row; else says a reason why they can't."""
         left = self.unordered()
         if left:
-            reasons = [why for why in self.circle(left) if why is not None]
+            # What a port says tells more than that something is sent before it is taken.
+            circle = sorted(self.circle(left), key=lambda pair: pair[1])
+            reasons = [why for why, _ in circle if why is not None]
             template, *parts = reasons[0] if reasons else ["the records can't have happened in any order"]
             raise Wrong(template.format(*parts))
 
-    def circle(self, left: set[int]) -> list[tuple | None]:
-        """The reasons on a circle of pairs. Each point that is left has one before it that is left, too."""
-        before: dict[int, tuple[int, tuple | None]] = {}
+    def circle(self, left: set[int]) -> list[tuple[tuple | None, bool]]:
+        """The pairs of a circle, their reasons and whether they are causes. Each point that is left has one before it
+        that is left, too."""
+        before: dict[int, tuple[int, tuple]] = {}
         for point in sorted(left):
-            for after, why, _ in self.later[point]:
-                before.setdefault(after, (point, why))
+            for after, *pair in self.later[point]:
+                before.setdefault(after, (point, tuple(pair)))
         seen: dict[int, int] = {}
         path, point = [], min(left)
         while point not in seen:
             seen[point] = len(path)
-            point, why = before[point]
-            path.append(why)
+            point, pair = before[point]
+            path.append(pair)
         return path[seen[point] :][::-1]
 
     def unordered(self) -> set[int]:

@@ -23,25 +23,29 @@ class Ended(Exception):
 
 @dataclass(eq=False)
 class Birth:
-    """How an instance came to be: who made it, when, with which values, and since when it can be found."""
+    """How an instance came to be: who made it, when and with which values; where in the order its number was drawn,
+    since when it can be found by its number, and since when it lives for those who look for its process."""
 
     process: Process
     parent: str = "null"
     time: int = 0
     values: tuple = ()
     drawn: int | None = None
+    entered: int | None = None
     lives: int | None = None
 
 
 @dataclass(eq=False)
 class Sent:
-    """A signal that was sent, by an output or by the script: to a process, to a Pid, or where a path leads."""
+    """A signal that was sent, by an output or by the script: to a process, to a Pid, or where a path leads. First is
+    looked who lives, if it goes to no Pid, and then it is put into the port."""
 
     sender: str
     signal: Signal
     values: tuple
     to: Process | str | None
     time: int
+    looked: int
     point: int
     target: str | None = None
 
@@ -410,8 +414,8 @@ class Replay:
                 to = value_of(to, self)
             values = values_at(expressions, signal.sorts, self)
             target = self.say_output(signal_text(signal, values), to)
-            story = self.story
-            story.sent.append(Sent(story.name, signal, values, to, story.time, self.point(), target))
+            looked, story = self.point(), self.story
+            story.sent.append(Sent(story.name, signal, values, to, story.time, looked, self.point(), target))
 
     def say_output(self, text: str, to: Process | str | None) -> str:
         """The line of an output; whom it reached, which is known if it names a Pid."""
@@ -456,4 +460,5 @@ class Replay:
         story.asked.append(Asked(process, story.time, self.point(), number))
         if number is not None:
             story.demand(number not in self.births, f"creates #{number} twice")
-            self.births[number] = Birth(process, story.name, story.time, values, story.last, self.point())
+            points = story.last, self.point(), self.point()
+            self.births[number] = Birth(process, story.name, story.time, values, *points)

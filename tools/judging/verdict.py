@@ -6,7 +6,7 @@ from collections.abc import Iterator
 from dataclasses import dataclass, field
 from math import inf
 
-from judging.choices import GONE, Choices
+from judging.choices import GONE, Choices, Undecided
 from judging.inputs import Given, given
 from judging.living import MOST_INSTANCES, UNBORN, Living
 from judging.order import Order
@@ -18,6 +18,7 @@ from soaking.specification import Process, Signal
 from soaking.trace import Trace, Wrong, demand
 
 DEFAULT_LIMIT, MOST_CHOICES = 1_000_000, 200
+SOON = "{}: line `{}`, before all lines of the script of that time are heard"
 HASTE = "{}: line `{}`, after the script's first lines, which are no cause of it"
 
 
@@ -40,6 +41,7 @@ class Judgement:
     stories: dict[int, Story] = field(default_factory=dict)
     clock: list[int] = field(default_factory=list)
     moves: dict[int, int] = field(default_factory=dict)
+    begins: dict[int, int] = field(default_factory=dict)
     heard: list[Sent] = field(default_factory=list)
 
     def judge(self) -> None:
@@ -145,27 +147,33 @@ class Judgement:
             self.part_steps(story)
 
     def hear(self) -> None:
-        """What comes from outside, in its order: the clock moves, then timers expire, then lines are heard. The lines
-        of time 0 have a move of their own, which comes when all rest after their starts."""
+        """What comes from outside, in its order: the clock moves, then timers expire, then lines are heard, and only
+        then instances step. The lines of time 0 have a move of their own, which comes when all rest after their
+        starts."""
         last = self.first
         timers = defaultdict(list)
         for timer in self.sets():
             timers[timer.expires_at].append(timer)
+        lines = defaultdict(list)
+        for line in self.given.script:
+            if line.signal is not None:
+                lines[line.time].append(line)
         for time in [0, *self.clock]:
             last = self.moves[time] = self.order.point(last)
             for timer in sorted(timers[time], key=lambda it: (it.owner, it.number)):
                 if not timer.is_at_once:
                     last = timer.expired = self.order.point(last)
-            for line in self.given.script:
-                if line.time == time and line.signal is not None:
-                    last = self.order.point(last)
-                    self.heard.append(Sent("env", line.signal, tuple(line.values), line.to, time, last))
+            for line in lines[time]:
+                looked = self.order.point(last)
+                last = self.order.point(looked)
+                self.heard.append(Sent("env", line.signal, tuple(line.values), line.to, time, looked, last))
+            self.begins[time] = last
 
     def part_steps(self, story: Story) -> None:
         """The steps of an instance come between the moves of the clock."""
         for step, after in zip(story.steps, [*story.steps[1:], None]):
             if step.time > 0:
-                self.order.put(self.moves[step.time], step.point)
+                self.order.put(self.begins[step.time], step.point)
             at = bisect_right(self.clock, step.time)
             if at < len(self.clock) and (after is None or after.time > step.time):
                 self.order.put(step.last, self.moves[self.clock[at]])
@@ -184,20 +192,28 @@ class Judgement:
     # ---- signals
 
     def judge_signals(self) -> None:
-        """Looks for a choice of whom signals reached by which all that was taken was put. If there are very many, only
-        the first are tried, and the report may be of a run."""
-        named, fault = self.given.numbers_named(), None
-        choices = Choices(self.births, self.stories, self.living, self.heard, named)
+        """If there are very many choices of whom signals reached, only the first are tried, and the report may be of a
+        run."""
+        named = self.given.numbers_named()
+        try:
+            self.judge_choices(Choices(self.births, self.stories, self.living, self.heard, named))
+        except Undecided:
+            pass
+
+    def judge_choices(self, choices: Choices) -> None:
+        """Looks for a choice by which all that was taken was put; else says what is wrong with the first one."""
+        fault = None
         for turn, choice in enumerate(choices.all()):
-            mark = self.order.mark()
+            mark, doubts = self.order.mark(), list(self.living.doubts)
             try:
                 self.judge_choice(choice)
                 return
             except Wrong as why:
                 fault = fault or why
             if turn == MOST_CHOICES:
-                return
+                raise Undecided
             self.order.undo(mark)
+            self.living.doubts = doubts
         raise fault or Wrong(choices.unheard())
 
     def judge_choice(self, choice: list[tuple[Sent, str]]) -> None:
@@ -223,7 +239,7 @@ class Judgement:
         birth = self.births.get(int(number[1:])) if number.startswith("#") else None
         if birth is None or birth.drawn is None or birth.time != one.time or one.sender == number:
             return
-        pair = (one.point, birth.lives) if fate == GONE else (birth.lives, one.point)
+        pair = (one.point, birth.entered) if fate == GONE else (birth.entered, one.point)
         self.order.put(*pair, (UNBORN, one.sender, one, number), False)
 
     # ---- the script's first lines
@@ -235,16 +251,25 @@ class Judgement:
         taken = {item.what for port in ports for item in port.items if item.taken is not None}
         if not first or not (taken.intersection(first) or self.report.time > 0 or not self.report.is_cut):
             return
-        later = self.order.reached(first[0].point, by_cause=True)
+        later = self.order.reached(first[0].looked, by_cause=True)
         for port in ports:
             if port.story.birth.time == 0 and port.story.birth.lives not in later:
                 self.judge_rest_of(port, later)
+        for one in [*first, *(one for story in self.stories.values() for one in story.sent if one.time == 0)]:
+            if not isinstance(one.to, str) and one.target.startswith("#") and one.point in later:
+                story = self.stories[int(one.target[1:])]
+                has_ended = story.ended and story.time == 0 and story.last not in later
+                demand(not has_ended, f"{one.sender}: {one} goes to {one.target}, which has ended")
 
     def judge_rest_of(self, port: Port, later: set[int]) -> None:
+        """An instance rests before the first step of which such a line is a cause, and makes it when all are heard."""
         story = port.story
         turn = next((at for at, it in enumerate(story.steps) if it.time > 0 or it.point in later), len(story.steps))
         story.demand(turn > 0, "has not started, and the script goes on")
         before = story.steps[turn - 1]
         self.order.put(before.last, self.moves[0], (HASTE, story.name, before.line), False)
+        if turn < len(story.steps):
+            why = (SOON, story.name, story.steps[turn].line)
+            self.order.put(self.begins[0], story.steps[turn].point, why, False)
         if turn < len(story.steps) or not story.ended:
             port.demand_rest_before(turn, later)

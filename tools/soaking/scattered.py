@@ -1,12 +1,11 @@
 """A run whose order is drawn by lot, as the schedule of threads would have it.
 
-Between two moves of the clock the instances step in any order, what a step has sent arrives while others step already,
-and so do the script's lines. So the judge of reports can be tried without threads."""
+Between two moves of the clock the instances step in any order, and what a step has sent arrives while others step. So
+the judge of reports can be tried without threads."""
 
 from random import Random
 
-from soaking.reference import Cut, Entry, Instance, Run
-from soaking.specification import ENVIRONMENT
+from soaking.reference import Cut, Instance, Run
 
 MOST_MORE = 3
 
@@ -15,7 +14,6 @@ class Scattered(Run):
     def __init__(self, system, routes, script, limit: int, lot: Random):
         super().__init__(system, routes, script, limit)
         self.lot = lot
-        self.outside = []
         self.more = lot.randint(0, MOST_MORE)
 
     def go(self) -> str:
@@ -35,13 +33,8 @@ class Scattered(Run):
     def scatter(self) -> None:
         """Steps, until nothing happens any more: all rest, and nothing is on its way."""
         resting: set[Instance] = set()
-        while self.outside or len(resting) < len(self.instances):
-            ready = [it for it in self.instances if it not in resting]
-            if self.outside and (not ready or self.lot.random() < 0.3):
-                self.outside.pop(0)()
-                resting.clear()
-                continue
-            instance = self.lot.choice(ready)
+        while len(resting) < len(self.instances):
+            instance = self.lot.choice([it for it in self.instances if it not in resting])
             if instance.acts or self.step(instance):
                 self.arrive(instance)
                 resting.clear()
@@ -80,17 +73,3 @@ class Scattered(Run):
             self.expire(*what[1:])
         else:
             self.fuses.append(tuple(what))
-
-    def hear(self) -> None:
-        """What is due expires, and the lines of this time are heard, one after the other, while others step."""
-        for fuse in sorted((it for it in self.fuses if it[0] <= self.time), key=lambda it: it[:3]):
-            self.outside.append(lambda fuse=fuse: self.expire(*fuse[1:]))
-        self.fuses = [it for it in self.fuses if it[0] > self.time]
-        while self.script and self.script[0].time <= self.time:
-            line = self.script.pop(0)
-            if line.signal is not None:
-                self.outside.append(lambda line=line: self.say_line(line))
-
-    def say_line(self, line) -> None:
-        target = self.target(ENVIRONMENT, line.signal, line.to)
-        self.put(target, Entry(line.signal, tuple(line.values), "env"))

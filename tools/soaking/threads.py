@@ -1,0 +1,136 @@
+"""Runs on threads, soaked: random specifications and the examples, each report judged (`tools/judge`).
+
+Each run is drawn by lot from its own seed: the text, how many workers, on how many processors, and the limit."""
+
+import os
+import subprocess
+import time
+from collections import Counter
+from collections.abc import Callable
+from dataclasses import dataclass, field
+from pathlib import Path
+from random import Random
+
+from judging.verdict import judge
+from soaking import trace
+from soaking.trace import Wrong, demand
+
+WORKERS = (1, 2, 3, 4, 7, 16)
+LIMITS = (1, 5, 20, 100, 400, 400, 3_000)
+EXAMPLES = Path(__file__).resolve().parent.parent.parent / "examples"
+REFUSES_OPTIONS = 4
+
+
+class NoThreads(Exception):
+    """The program doesn't take the command line."""
+
+
+@dataclass
+class Job:
+    """A run: its text, how many workers on how many processors, and the limit."""
+
+    name: str
+    text: str
+    workers: int
+    processors: int
+    limit: int
+
+    def __str__(self) -> str:
+        return f"{self.name}, {self.workers} workers on {self.processors} processors, limit {self.limit}"
+
+
+@dataclass
+class ThreadSoak:
+    """Soaks a program; without workers the option is left out, for a program that has no threads."""
+
+    program: str
+    keep: Path | None
+    grown: Callable
+    has_workers: bool = True
+    seconds: float = 10
+    tally: Counter = field(default_factory=Counter)
+    by_workers: Counter = field(default_factory=Counter)
+
+    def __post_init__(self):
+        self.processors = sorted(os.sched_getaffinity(0))
+        texts = {path.stem: path.read_text() for path in sorted(EXAMPLES.glob("*.sdl"))}
+        # An example that is refused has no run.
+        self.examples = {name: text for name, text in texts.items() if self.is_run(name)}
+
+    @staticmethod
+    def is_run(name: str) -> bool:
+        return (EXAMPLES / f"{name}.trace").read_text().startswith("instance")
+
+    def soak(self, first: int, count: int, seconds: float) -> None:
+        """Makes so many runs, or as many as there is time for."""
+        end = time.monotonic() + seconds
+        for seed in range(first, first + count):
+            if time.monotonic() > end:
+                break
+            self.soak_one(self.job(seed))
+
+    def job(self, seed: int) -> Job:
+        lot = Random(f"threads {seed}")
+        if lot.random() < 0.25:
+            name = lot.choice(list(self.examples))
+            text = self.examples[name]
+        else:
+            specimen = self.grown(seed)[1]
+            name, text = "a random text", specimen.input(specimen.text)
+        processors = lot.choice([1, min(2, len(self.processors)), len(self.processors)])
+        return Job(f"seed {seed}, {name}", text, lot.choice(WORKERS), processors, lot.choice(LIMITS))
+
+    def soak_one(self, job: Job) -> None:
+        self.tally["runs"] += 1
+        self.by_workers[job.workers] += 1
+        report = ""
+        try:
+            status, report = self.run(job)
+            self.judge(job, status, report)
+        except subprocess.TimeoutExpired:
+            self.tally["hang"] += 1
+            self.wrong(job, report, f"has not ended after {self.seconds} seconds")
+        except (Wrong, UnicodeDecodeError) as fault:
+            self.wrong(job, report, str(fault))
+
+    def run(self, job: Job) -> tuple[int, str]:
+        """The status and the output of a run, which must write nothing else."""
+        workers = ["--workers", str(job.workers)] if self.has_workers else []
+        words = [self.program, "run", *workers, "--limit", str(job.limit)]
+        chosen = self.processors[: job.processors]
+        ran = subprocess.run(
+            words, input=job.text.encode(), capture_output=True, timeout=self.seconds,
+            preexec_fn=lambda: os.sched_setaffinity(0, chosen),
+        )  # fmt: skip
+        if ran.returncode == REFUSES_OPTIONS:
+            raise NoThreads(f"{' '.join(words)}: {ran.stderr.decode(errors='replace')}")
+        demand(ran.returncode in (0, 1, 3), f"status {ran.returncode}: {ran.stdout[:200]!r} {ran.stderr[:500]!r}")
+        demand(not ran.stderr, f"on standard error: {ran.stderr[:500]!r}")
+        return ran.returncode, ran.stdout.decode()
+
+    def judge(self, job: Job, status: int, report: str) -> None:
+        for word in ("Lost", "Memory"):
+            if report.startswith(f"run {word}"):
+                self.tally[word] += 1
+                raise Wrong(f"status {status}: {report.strip()}")
+        ran = trace.read(report)
+        self.tally["cut" if ran.is_cut else "whole"] += 1
+        self.tally["transitions"] += trace.transitions(ran)
+        demand(status == ran.is_cut, f"status {status} of a run that is {'cut' if ran.is_cut else 'whole'}")
+        # The judge reads bytes, as the program does.
+        judge(job.text.encode().decode("latin-1"), report, job.limit)
+
+    def wrong(self, job: Job, report: str, what: str) -> None:
+        """Tells what is wrong, and keeps the text and the report: the same run need not come again."""
+        self.tally["wrong"] += 1
+        print(f"{job}: {what}", flush=True)
+        if self.keep:
+            self.keep.mkdir(parents=True, exist_ok=True)
+            stem = job.name.split(",")[0].replace(" ", "-")
+            (self.keep / f"{stem}.sdl").write_bytes(job.text.encode())
+            (self.keep / f"{stem}.report").write_text(report)
+
+    def told(self) -> str:
+        kinds = ("runs", "whole", "cut", "Lost", "Memory", "hang", "wrong", "transitions")
+        workers = ", ".join(f"{self.by_workers[number]} with {number}" for number in WORKERS)
+        return ", ".join(f"{self.tally[kind]} {kind}" for kind in kinds) + f"; workers: {workers}"
