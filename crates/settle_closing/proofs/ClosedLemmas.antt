@@ -86,11 +86,12 @@ record Found (d : Definition) (whole : Bool) (end : ℕ) (trace : RecordValue) (
   store : Store
   recorded : trace.events ≡ events_of deeds
   outside : outside_of history ≡ drawn_as owner.pid owner.drawn
-  runs : Runs d (identity_of trace) AtStart (first_store d.behaviour values) empty_port deeds history to store owner.state
+  runs : Runs d (identity_of trace) AtStart (first_store d.behaviour values) empty_port deeds history to store
+      owner.state
   closes : ClosesAs whole end trace.events history owner.state
 
-has_history : (ps : List Behaviour) (system : SystemValue) (p : Behaviour) (whole : Bool) (end : ℕ) (trace : RecordValue)
-    (owner : OwnerState) → RunsAreLegal → ExpiriesHaveSets → PutsComeFromOutside
+has_history : (ps : List Behaviour) (system : SystemValue) (p : Behaviour) (whole : Bool) (end : ℕ)
+    (trace : RecordValue) (owner : OwnerState) → RunsAreLegal → ExpiriesHaveSets → PutsComeFromOutside
     → slice_get ps trace.process.0 ≡ Some p → IsKept owner → Found (definition system p) whole end trace owner
     → HasHistoryOf ps system whole end trace owner.drawn
 has_history ps system p whole end trace owner legal sets from_outside listed kept found =
@@ -251,7 +252,8 @@ module _ (legal : RunsAreLegal) (hear : RunsHearWhatIsDrawn) (good : RestsAreFor
     found_at (at.In n) is left still =
         let quiet = subst (λ (position : Position). IsQuietAt d position i) is (left.rests refl d is_run) in
         rested d end trace first owner draws state n i.events i.store quiet.0 good late
-        (subst (λ (position : Position). HasRun true d (identity_of trace) i.events (place_of position) i.store first) is
+        (subst
+        (λ (position : Position). HasRun true d (identity_of trace) i.events (place_of position) i.store first) is
         (run_before true left))
         (subst (λ (who : Identity). IsQuiet d who first.state n i.store quiet.0) (who_is true left)
         (subst (λ (o : OwnerState). IsQuiet d i.who o.state n i.store quiet.0) (sym left.owner_is) quiet.1))
@@ -274,7 +276,8 @@ module _ (legal : RunsAreLegal) (hear : RunsHearWhatIsDrawn) (good : RestsAreFor
   closed_have_histories named ports whole i trace first owner peers ps system end is behaviours left draws kept ends =
       let means = meant named ports whole i trace ps system is behaviours left.seated left.closed in
       has_history ps system means.p whole end trace owner legal sets from_outside means.listed kept
-      (found named ports i trace first owner peers end draws kept (definition system means.p) means.is_run whole left ends)
+      (found named ports i trace first owner peers end draws kept (definition system means.p) means.is_run whole left
+      ends)
 
 -- ---- what was put
 
