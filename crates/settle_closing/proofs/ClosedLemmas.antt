@@ -1,6 +1,6 @@
 -- What is left of an instance has a history of its port.
-use Rattle.std.proofs.Common.{◌≡◌, ◌∙◌, ◌⊎◌, ap, append-nil, inl, inr, refl, subst, sym, ⊎_elim, ℕ, Bool, true, false, List, [], ◌∷◌, ◌++◌, All, None, Some, count_by, slice_get}
-use Rattle.std.specs.Prelude.{IsTrue, Option}
+use Rattle.std.proofs.Common.{◌≡◌, ◌∙◌, ◌⊎◌, ap, append-nil, inl, inr, refl, subst, sym, ℕ, Bool, true, false, List, [], ◌∷◌, ◌++◌, All, None, Some, count_by, slice_get}
+use Rattle.std.specs.Prelude.{Option}
 use Rattle.std.proofs.lemmas.Grind.{flat_map-append}
 use Rattle.std.proofs.lemmas.List.{map-append}
 use Rattle.std.proofs.lemmas.List.Elements.{All-nil}
@@ -14,7 +14,6 @@ use Rattle.port_model.specs.History.{IsLegal, PortEvent, Take}
 use Rattle.port_model.specs.Port.{PortState, empty_port}
 use Rattle.port_model.specs.declared.selection.Class.{Class}
 use Rattle.port_model.specs.declared.taken.Taken.TheVariants.{Nothing}
-use Rattle.port_model.specs.declared.timer.ActiveTimer.{ActiveTimer}
 use Rattle.port_values.specs.declared.item.Item.{Item}
 use Rattle.port_values.specs.declared.pid.Pid.TheVariants.{Of}
 use Rattle.port_values.specs.declared.value.Value.{Value}
@@ -24,7 +23,6 @@ use Rattle.run_record.specs.Event as event
 use Rattle.run_record.specs.Event.{Event}
 use Rattle.run_record.specs.Record.{RecordValue}
 use Rattle.run_semantics.proofs.Outside.{drawn_as-append, outside_of-append, outside_of-drawn}
-use Rattle.run_semantics.specs.Behaves.{AreBehaviours}
 use Rattle.run_semantics.specs.ControlPoint as place
 use Rattle.run_semantics.specs.ControlPoint.{AtStart, ControlPoint, Definition, In}
 use Rattle.run_semantics.specs.Effect.{Deed, events_of}
@@ -36,22 +34,22 @@ use Rattle.run_semantics.specs.Sent.{sent_by_one, sent_to}
 use Rattle.run_transitions.specs.Machine.{place_of}
 use Rattle.run_transitions.specs.declared.machine.Position.{Position}
 use Rattle.run_transitions.specs.declared.machine.Position.TheVariants as at
-use Rattle.sdl_interp.specs.Instance.{HasRunOf, InstanceValue, IsAtRest, IsQuietAt, IsRunAs, closed, closing}
+use Rattle.sdl_interp.specs.Instance.{InstanceValue, IsQuietAt, IsRunAs, closed, closing}
 use Rattle.sdl_system.specs.Behaviour.{Behaviour}
 use Rattle.sdl_system.specs.System.{SystemValue}
 use Rattle.sdl_system.specs.declared.id.StateId.{StateId}
 use Rattle.settle_closing.proofs.Ends.{ends_in_end}
-use Rattle.settle_closing.proofs.Meant.{Meant, definition, meant}
+use Rattle.settle_closing.proofs.Meant.{definition, meant}
 use Rattle.settle_closing.proofs.PortLemmas.{drawn_in_time, drawn_puts, history_in_time}
 use Rattle.settle_closing.specs.ClosingLaws.{ClosedHaveHistories, ClosedHavePut, LeftWithoutPeers}
 use Rattle.settle_closing.specs.History.{EndsAs, HasHistoryOf, RestsStill}
 use Rattle.settle_closing.specs.Left.{IsLeft}
 use Rattle.settle_gathering.specs.Gathering.{Draws}
 use Rattle.settle_meaning.specs.Closed.{ClosesAs, EndsIn, IsCut, IsEnd}
-use Rattle.settle_meaning.specs.Histories.{HaveSets, IsInTime, puts_of}
+use Rattle.settle_meaning.specs.Histories.{IsInTime, puts_of}
 use Rattle.settle_meaning.specs.Identities.{identity_of}
 use Rattle.settle_meaning.specs.MeaningLaws.{ExpiriesHaveSets, LateIsNothing, PutsComeFromOutside, RestsAreForGood, RunsAreLegal, RunsHearWhatIsDrawn, StoppedStays, rest_deed}
-use Rattle.threads_senders.specs.Peers.{AreLast, ArePeersOf, PeersState, put_to}
+use Rattle.threads_senders.specs.Peers.{AreLast, PeersState, put_to}
 
 -- ---- what is drawn after a close
 
@@ -88,11 +86,12 @@ record Found (d : Definition) (whole : Bool) (end : ℕ) (trace : RecordValue) (
   store : Store
   recorded : trace.events ≡ events_of deeds
   outside : outside_of history ≡ drawn_as owner.pid owner.drawn
-  runs : Runs d (identity_of trace) AtStart (first_store d.behaviour values) empty_port deeds history to store owner.state
+  runs : Runs d (identity_of trace) AtStart (first_store d.behaviour values) empty_port deeds history to store
+      owner.state
   closes : ClosesAs whole end trace.events history owner.state
 
-has_history : (ps : List Behaviour) (system : SystemValue) (p : Behaviour) (whole : Bool) (end : ℕ) (trace : RecordValue)
-    (owner : OwnerState) → RunsAreLegal → ExpiriesHaveSets → PutsComeFromOutside
+has_history : (ps : List Behaviour) (system : SystemValue) (p : Behaviour) (whole : Bool) (end : ℕ)
+    (trace : RecordValue) (owner : OwnerState) → RunsAreLegal → ExpiriesHaveSets → PutsComeFromOutside
     → slice_get ps trace.process.0 ≡ Some p → IsKept owner → Found (definition system p) whole end trace owner
     → HasHistoryOf ps system whole end trace owner.drawn
 has_history ps system p whole end trace owner legal sets from_outside listed kept found =
@@ -253,7 +252,8 @@ module _ (legal : RunsAreLegal) (hear : RunsHearWhatIsDrawn) (good : RestsAreFor
     found_at (at.In n) is left still =
         let quiet = subst (λ (position : Position). IsQuietAt d position i) is (left.rests refl d is_run) in
         rested d end trace first owner draws state n i.events i.store quiet.0 good late
-        (subst (λ (position : Position). HasRun true d (identity_of trace) i.events (place_of position) i.store first) is
+        (subst
+        (λ (position : Position). HasRun true d (identity_of trace) i.events (place_of position) i.store first) is
         (run_before true left))
         (subst (λ (who : Identity). IsQuiet d who first.state n i.store quiet.0) (who_is true left)
         (subst (λ (o : OwnerState). IsQuiet d i.who o.state n i.store quiet.0) (sym left.owner_is) quiet.1))
@@ -276,7 +276,8 @@ module _ (legal : RunsAreLegal) (hear : RunsHearWhatIsDrawn) (good : RestsAreFor
   closed_have_histories named ports whole i trace first owner peers ps system end is behaviours left draws kept ends =
       let means = meant named ports whole i trace ps system is behaviours left.seated left.closed in
       has_history ps system means.p whole end trace owner legal sets from_outside means.listed kept
-      (found named ports i trace first owner peers end draws kept (definition system means.p) means.is_run whole left ends)
+      (found named ports i trace first owner peers end draws kept (definition system means.p) means.is_run whole left
+      ends)
 
 -- ---- what was put
 

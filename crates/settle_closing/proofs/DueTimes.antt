@@ -22,7 +22,8 @@ test_less same true = refl
 test_less same false = other_less same
 
 less_true : (a b : ℕ) → is_lt (nat_cmp a b) ≡ true → a < b
-less_true a b tested = let less : nat_lt a b ≡ true = sym (test_less (a == b) (nat_lt a b)) ∙ tested in grind (arith, less)
+less_true a b tested =
+    let less : nat_lt a b ≡ true = sym (test_less (a == b) (nat_lt a b)) ∙ tested in grind (arith, less)
 
 true_less : (a b : ℕ) → a < b → is_lt (nat_cmp a b) ≡ true
 true_less a b less = test_less (a == b) (nat_lt a b) ∙ is_less where

@@ -147,6 +147,7 @@ module _ (d : Definition) (who : Identity) (s : Store) (q : PortState) where
     events_are = map-append (λ (one : Deed). one.event) deeds (deed ∷ []);
     is_so = end_happens d who port at mid deed.event deed.calls deed.effects to t leads e;
   }
-  ends_in_end (turns {at = at} {mid = mid} {port = port} before to t turn) e = absurd (no_turn d who port at mid to t turn e)
+  ends_in_end (turns {at = at} {mid = mid} {port = port} before to t turn) e =
+      absurd (no_turn d who port at mid to t turn e)
   ends_in_end (hears before heard r outside step) e = ends_in_end before e
   ends_in_end (waits before classes quiet step) e = ends_in_end before e

@@ -48,7 +48,8 @@ is_end_entry None = false
 is_end_entry (Some entry) = is_end (event_of entry [])
 
 last_later : (one next : Entry) (rest : List Entry)
-    → slice_get (one ∷ next ∷ rest) (length (one ∷ next ∷ rest) - 1) ≡ slice_get (next ∷ rest) (length (next ∷ rest) - 1)
+    → slice_get (one ∷ next ∷ rest) (length (one ∷ next ∷ rest) - 1)
+    ≡ slice_get (next ∷ rest) (length (next ∷ rest) - 1)
 last_later one next rest =
     let place : length (one ∷ next ∷ rest) - 1 ≡ suc (length (next ∷ rest) - 1) = omega arith in
     ap (slice_get (one ∷ next ∷ rest)) place

@@ -1,5 +1,5 @@
 -- The last step of an instance, and the close of its record.
-use Rattle.std.proofs.Common.{◌≡◌, ◌∙◌, ap, append-nil, append_assoc, arith, cond, refl, inl, inr, subst, sym, ℕ, ◌+◌, Bool, true, false, List, [], ◌∷◌, ◌++◌, All, None, Some, count_by}
+use Rattle.std.proofs.Common.{◌≡◌, ◌∙◌, ap, append-nil, append_assoc, arith, cond, refl, inl, inr, subst, sym, ℕ, ◌+◌, Bool, true, false, List, [], ◌∷◌, ◌++◌, None, Some, count_by}
 use Rattle.std.specs.Prelude.{IsTrue, Option}
 use Rattle.std.proofs.lemmas.List.Elements.{All-head, All-tail}
 use Rattle.std.proofs.lemmas.List.Sums.{sum_by-append, sum_by-cons}
@@ -24,7 +24,6 @@ use Rattle.sdl_interp.specs.Stimulus.{WaitsAt}
 use Rattle.sdl_system.specs.System.{SystemValue}
 use Rattle.sdl_system.specs.declared.process.Process.{Process}
 use Rattle.settle_closing.specs.Left.{HasNoMore, IsClosedNow, IsLeftOfOne}
-use Rattle.settle_meaning.specs.Identities.{identity_of}
 use Rattle.threads_instance.specs.ThreadInstance.{HasPut, IsSeated}
 use Rattle.threads_senders.specs.Peers.{PeersState}
 

@@ -12,8 +12,8 @@ use Rattle.sdl_system.specs.System.{SystemValue}
 use Rattle.settle_meaning.specs.Closed.{AreDueAfter, ClosesAs, EndsIn, IsEnd}
 use Rattle.settle_meaning.specs.Histories.{HaveSets, IsInTime, IsRunOn, puts_of}
 
--- The record is a run of its process on a legal history of its port, in which just these signals are put, in their order;
--- each expiry is in time and of a timer that was set, and the record closes as the report says.
+-- The record is a run of its process on a legal history of its port. Just these signals are put there, in their order;
+-- each expiry is in time and of a timer that was set; and the record closes as the report says.
 pub record HasHistoryOf (ps : List Behaviour) (system : SystemValue) (whole : Bool) (end : ℕ) (trace : RecordValue)
     (drawn : List Placed) : Type 0 where
   pub history : List PortEvent

@@ -12,8 +12,8 @@ use Rattle.settle_meaning.specs.Identities.{identity_of}
 use Rattle.threads_instance.specs.ThreadInstance.{HasPut, IsSeated}
 use Rattle.threads_senders.specs.Peers.{PeersState}
 
--- The record of this instance is closed, and these are its port's owner and its senders as it was closed. It had its seat
--- in the run, all that it did is a run of its process, and in a whole run it was at rest.
+-- The record of this instance is closed, and these are its port's owner and its senders as it was closed. It had its
+-- seat in the run, all that it did is a run of its process, and in a whole run it was at rest.
 pub record IsLeft (named : Option SystemValue) (ports : ℕ → SegId Global) (whole : Bool) (i : InstanceValue)
     (trace : RecordValue) (owner : OwnerState) (peers : PeersState) : Type 0 where
   pub closed : IsClosed true whole i trace

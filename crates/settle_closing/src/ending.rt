@@ -22,8 +22,8 @@ pub struct PortThen {
     pub signals: u64,
 }
 
-/// Whether a record closes as it is to, in a run that ends at this time, by what is drawn from its port in the end: in a
-/// `whole` run it ends with a stop or a failure, or the instance rests still. In a run that is cut each does.
+/// Whether a record closes as it is to, in a run that ends at this time, by what is drawn from its port in the end. In
+/// a `whole` run it ends with a stop or a failure, or the instance rests still. In a run that is cut each does.
 pub fn ends_as<R: Wait + Copy>(
     whole: bool,
     end: Ticks,
