@@ -18,7 +18,7 @@ from soaking.trace import Wrong, demand
 WORKERS = (1, 2, 3, 4, 7, 16)
 LIMITS = (1, 5, 20, 100, 400, 400, 3_000)
 EXAMPLES = Path(__file__).resolve().parent.parent.parent / "examples"
-REFUSES_OPTIONS = 4
+REFUSES_OPTIONS, SOON = 4, 0.2
 
 
 class NoThreads(Exception):
@@ -88,22 +88,34 @@ class ThreadSoak:
             status, report = self.run(job)
             self.judge(job, status, report)
         except subprocess.TimeoutExpired:
-            self.tally["hang"] += 1
-            self.wrong(job, report, f"has not ended after {self.seconds} seconds")
+            if self.is_long(job):
+                self.tally["long"] += 1
+            else:
+                self.tally["hang"] += 1
+                self.wrong(job, report, f"has not ended after {self.seconds} seconds, though serially it does soon")
         except (Wrong, UnicodeDecodeError) as fault:
             self.wrong(job, report, str(fault))
 
-    def run(self, job: Job) -> tuple[int, str]:
-        """The status and the output of a run, which must write nothing else."""
-        workers = ["--workers", str(job.workers)] if self.has_workers else []
-        words = [self.program, "run", *workers, "--limit", str(job.limit)]
-        chosen = self.processors[: job.processors]
-        ran = subprocess.run(
-            words, input=job.text.encode(), capture_output=True, timeout=self.seconds,
+    def is_long(self, job: Job) -> bool:
+        """Whether the serial run, too, takes at least a good part of the time."""
+        try:
+            self.ask(job, [], self.seconds * SOON)
+        except subprocess.TimeoutExpired:
+            return True
+        return not self.has_workers
+
+    def ask(self, job: Job, workers: list[str], seconds: float) -> subprocess.CompletedProcess:
+        words, chosen = [self.program, "run", *workers, "--limit", str(job.limit)], self.processors[: job.processors]
+        return subprocess.run(
+            words, input=job.text.encode(), capture_output=True, timeout=seconds,
             preexec_fn=lambda: os.sched_setaffinity(0, chosen),
         )  # fmt: skip
+
+    def run(self, job: Job) -> tuple[int, str]:
+        """The status and the output of a run, which must write nothing else."""
+        ran = self.ask(job, ["--workers", str(job.workers)] if self.has_workers else [], self.seconds)
         if ran.returncode == REFUSES_OPTIONS:
-            raise NoThreads(f"{' '.join(words)}: {ran.stderr.decode(errors='replace')}")
+            raise NoThreads(f"{' '.join(ran.args)}: {ran.stderr.decode(errors='replace')}")
         demand(ran.returncode in (0, 1, 3), f"status {ran.returncode}: {ran.stdout[:200]!r} {ran.stderr[:500]!r}")
         demand(not ran.stderr, f"on standard error: {ran.stderr[:500]!r}")
         return ran.returncode, ran.stdout.decode()
@@ -131,6 +143,6 @@ class ThreadSoak:
             (self.keep / f"{stem}.report").write_text(report)
 
     def told(self) -> str:
-        kinds = ("runs", "whole", "cut", "Lost", "Memory", "hang", "wrong", "transitions")
+        kinds = ("runs", "whole", "cut", "long", "Lost", "Memory", "hang", "wrong", "transitions")
         workers = ", ".join(f"{self.by_workers[number]} with {number}" for number in WORKERS)
         return ", ".join(f"{self.tally[kind]} {kind}" for kind in kinds) + f"; workers: {workers}"
