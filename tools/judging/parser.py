@@ -1,8 +1,8 @@
 """The tree of a specification's text, by the grammar of LANGUAGE.md.
 
-The tree is made of the classes of `soaking.specification` and `soaking.transitions`. Where they have a thing that a name
-stands for, the parser leaves the name; `judging.names` puts the things there. Only texts that the program accepts are
-read, so no rule is checked."""
+The tree is made of the classes of `soaking.specification` and `soaking.transitions`. Where they have a thing that a
+name stands for, the parser leaves the name; `judging.names` puts the things there. Only texts that the program accepts
+are read, so no rule is checked."""
 
 import re
 

@@ -11,7 +11,7 @@ from judging.inputs import Given, given
 from judging.living import MOST_INSTANCES, UNBORN, Living
 from judging.order import Order
 from judging.ports import Port, matched
-from judging.replay import Birth, Plans, Replay, Sent, Step, Story, TimerSet
+from judging.replay import Birth, Plans, Replay, Sent, Story, TimerSet
 from soaking import trace
 from soaking.routes import Routes
 from soaking.specification import Process, Signal
@@ -43,6 +43,8 @@ class Judgement:
     moves: dict[int, int] = field(default_factory=dict)
     begins: dict[int, int] = field(default_factory=dict)
     heard: list[Sent] = field(default_factory=list)
+    first: int = 0
+    living: Living | None = None
 
     def judge(self) -> None:
         for record in self.report.records:
