@@ -22,7 +22,7 @@ pub use end::{latest, transitions};
 pub use heard::all_heard;
 pub use living::lived;
 pub use names::named;
-pub use nulls::have_causes;
+pub use nulls::{has_causes, have_causes};
 pub use numbers::in_order;
 pub use outputs::{Outline, Tally, all_put};
 pub use targets::{Routed, are_meant, is_meant};

@@ -34,7 +34,7 @@ pub fn have_causes(system: &System, records: &[Record]) -> bool
 }
 
 /// Whether each create of null in the record has a cause.
-fn has_causes(system: &System, records: &[Record], record: &Record) -> bool
+pub fn has_causes(system: &System, records: &[Record], record: &Record) -> bool
     ensures { IsTrue result → All (HasCause system.now records.now) record.now.events }
 {
     let (entries, _) = record.kept();
