@@ -10,32 +10,31 @@ use run_record::{Record, RunError};
 use sdl_script::ScriptLine;
 use settle_checks::{latest, transitions};
 
-/// How a run ended: whether it is whole, at what time, with what limit of transitions, and how many lines of its script
-/// were heard.
+/// How a run ended: whether it is whole, the time by then, and its limit of transitions.
 #[derive(Clone, Copy, Debug)]
 pub struct Ending {
     pub whole: bool,
     pub at: Ticks,
     pub limit: u64,
-    pub line: usize,
 }
 
-/// The time at which the run ends. Lost with 0: it is whole, and a line of the script was not heard, or the limit is
+/// The time at which a run ends of whose script so many lines were heard. Lost with 0: it is whole, and a line of the script was not heard, or the limit is
 /// reached; or it is cut, and the limit isn't reached.
 pub fn end_of_run(
     lines: &[ScriptLine],
+    line: usize,
     records: &[Record],
     ending: Ending,
 ) -> Result<Ticks, RunError>
     ensures { IfOk result (λ end. (heard : List Heard)
-        → signals_heard heard ≡ signals_of (take ending.line lines.now)
+        → signals_heard heard ≡ signals_of (take line lines.now)
         → Ends ending.whole lines.now ending.limit heard records.now end) }
 {
     let Some(count) = transitions(records) else {
         return Err(RunError::Lost(0));
     };
     if ending.whole {
-        if count >= ending.limit || ending.line < lines.len() {
+        if count >= ending.limit || line < lines.len() {
             return Err(RunError::Lost(0));
         }
         return Ok(last_time(lines));

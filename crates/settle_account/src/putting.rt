@@ -3,9 +3,9 @@
 ghost use Rattle.std.specs.Prelude.{◌≡◌, ◌≤◌, ℕ, List, All, IfOk, OnOk, length, slice_index_or};
 ghost use Rattle.run_record.specs.Record.{RecordValue};
 ghost use Rattle.run_semantics.specs.World.{most_instances};
-ghost use Rattle.settle_account.specs.Account.{AreAllPut, IsAllPut};
-ghost use Rattle.settle_checks.specs.Outputs.{AreNamed, IsEnoughHeard, targets_of};
-ghost use Rattle.settle_meaning.specs.Puts.{Heard, IsNamed};
+ghost use Rattle.settle_account.specs.Account.{AreAllPut, IsAllHeard, IsAllPut};
+ghost use Rattle.settle_checks.specs.Outputs.{AreNamed, targets_of};
+ghost use Rattle.settle_meaning.specs.Puts.{Heard};
 ghost use Rattle.threads_senders.specs.Peers.{put_to};
 
 use run_record::{Record, RunError};
@@ -54,9 +54,7 @@ fn all_put_by<J: Run>(
     if checks::all_put(alloc, &sent, named, records, from)? {
         return Ok(());
     }
-    Err(RunError::Lost(missed_by(
-        alloc, &sent, named, records, from,
-    )?))
+    Err(RunError::Lost(missed_by(alloc, &sent, named, records, from)?))
 }
 
 /// The number of an instance that a signal of the record should have reached. 0: there is none.
@@ -86,16 +84,13 @@ pub fn all_heard<J: Run>(
 ) -> Result<(), RunError>
     requires { All (λ (trace : RecordValue). trace.pid ≤ most_instances) records.now }
     ensures { OnOk result ((heard : List Heard) → targets_of heard ≡ targets.now → AreNamed heard named.now
-        → All (λ (to : RecordValue). IsEnoughHeard (IsNamed heard) heard to (length (put_to peers.now to.pid)))
-        records.now) }
+        → IsAllHeard heard records.now peers.now) }
 {
     let sent = row_of(alloc, peers)?;
     if checks::all_heard(alloc, targets, &sent, named, records)? {
         return Ok(());
     }
-    Err(RunError::Lost(missed(
-        alloc, targets, &sent, named, records,
-    )?))
+    Err(RunError::Lost(missed(alloc, targets, &sent, named, records)?))
 }
 
 /// The number of an instance that a signal of the script should have reached. 0: there is none.

@@ -92,8 +92,8 @@ fn count_of(records: &[Record], process: ProcessId) -> usize
         .count()
 }
 
-/// Whether an instance fails for want of memory.
-fn some_memory(records: &[Record]) -> bool
+/// Whether an instance failed for want of memory.
+pub fn some_memory(records: &[Record]) -> bool
     ensures { result ≡ list_any meaning.fails_by_memory records.now }
 {
     records.iter().any(|record| fails_by_memory(record))

@@ -46,6 +46,13 @@ impl<'p, J: Run, R: Wait + Copy> Closing<'p, J, R> {
         }
     }
 
+    /// Whether it was closed in a whole run.
+    pub fn whole(&self) -> bool
+        ensures { result ≡ self.now.whole }
+    {
+        self.whole
+    }
+
     /// The record.
     pub fn trace(&self) -> &Record
         ensures { result.now ≡ self.now.trace }
