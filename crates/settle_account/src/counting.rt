@@ -23,7 +23,8 @@ pub fn counts_of<'p, J: Run, K: Fixed, R: Wait + Copy>(
     requires owners { AreOwnersOf K.owners J.ports records.now inboxes.items }
     ensures { IfOk result (λ counted. AreCountsOf (vec_len places) records.now counted.items) }
 {
-    let mut bundles: Vec<Bundle<J, K>> = bundles_of(alloc, places)?;
+    let mut all: Vec<Bundle<J, K>> = bundles_of(alloc, places)?;
+    let bundles = all.as_mut_slice();
     let mut counted = Vec::with_capacity(alloc, records.len())?;
     let mut at: u32 = 0;
     for inbox in inboxes {
@@ -31,7 +32,7 @@ pub fn counts_of<'p, J: Run, K: Fixed, R: Wait + Copy>(
         if index >= records.len() {
             return Err(RunError::Lost(0));
         }
-        counted.push(count_of(at, records[index].pid(), inbox, &mut bundles)?)?;
+        counted.push(count_of(at, records[index].pid(), inbox, bundles)?)?;
         let Some(next) = at.checked_add(1) else {
             return Err(RunError::Lost(0));
         };

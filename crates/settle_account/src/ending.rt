@@ -49,8 +49,5 @@ pub fn end_of_run(
 fn last_time(lines: &[ScriptLine]) -> Ticks
     ensures { result ≡ script.end_of lines.now }
 {
-    match lines.last() {
-        Some(line) => line.at,
-        None => Ticks::new(0),
-    }
+    lines.last().map_or(Ticks::new(0), |line| line.at)
 }

@@ -30,8 +30,9 @@ pub fn all_meant(
     let Some(mut first) = lived(alloc, system.processes().len(), records)? else {
         return Err(RunError::Lost(0));
     };
-    outputs_right(system, records, &mut first)?;
-    if !signals_right(system, records, &mut first, lines, targets) {
+    let first = first.as_mut_slice();
+    outputs_right(system, records, first)?;
+    if !signals_right(system, records, first, lines, targets) {
         return Err(RunError::Lost(0));
     }
     Ok(())

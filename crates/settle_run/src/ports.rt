@@ -67,20 +67,20 @@ fn look_at_all<J: Run, K: Fixed, R: Wait + Copy>(
 
 /// Looks whether a record closes as the run ends, by what was known of its port and by its count.
 fn look_at<J: Run, K: Fixed, R: Wait + Copy>(
-    record: &Record,
+    trace: &Record,
     then: PortThen,
     counted: &Counted<'_, J, K, R>,
     whole: bool,
     end: Ticks,
 ) -> Result<(), RunError>
     ensures { OnOk result (then ≡ then_of (K.owners counted.now.at) → IsSettledPort (K.puts counted.now.number)
-        counted.now.places whole end (K.owners counted.now.at) record.now) }
+        counted.now.places whole end (K.owners counted.now.at) trace.now) }
 {
     let inbox = counted.inbox();
     counted.is_counted();
     inbox.is_kept();
-    if !ends_as(whole, end, record, then, inbox) {
-        return Err(RunError::Lost(record.pid()));
+    if !ends_as(whole, end, trace, then, inbox) {
+        return Err(RunError::Lost(trace.pid()));
     }
     Ok(())
 }
