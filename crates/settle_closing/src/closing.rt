@@ -46,7 +46,7 @@ impl<'p, J: Run, R: Wait + Copy> Closing<'p, J, R> {
         }
     }
 
-    /// Whether it was closed in a whole run.
+    /// Whether the run is whole.
     pub fn whole(&self) -> bool
         ensures { result ≡ self.now.whole }
     {
