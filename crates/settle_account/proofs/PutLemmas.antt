@@ -1,11 +1,10 @@
 -- What was put into a port from all places, by the law of counts.
-use Rattle.std.proofs.Common.{◌≡◌, ◌∙◌, ◌⊎◌, ◌<◌, ◌≤◌, ◌+◌, add-one, ap, arith, get_or, inl, inr, length, refl, subst, sym, ⊎_elim, ℕ, zero, suc, List, [], ◌∷◌, All}
+use Rattle.std.proofs.Common.{◌≡◌, ◌∙◌, ◌<◌, ◌≤◌, ◌+◌, add-one, ap, arith, get_or, inl, inr, length, refl, subst, sym, ⊎_elim, ℕ, zero, suc, List, [], ◌∷◌, All}
 use Rattle.std.specs.Prelude.{Contains, map}
 use Rattle.std.proofs.lemmas.Bool.{cases_eq, cases_lt}
 use Rattle.std.proofs.lemmas.List.{get_or-map, get_or_default, length-map}
 use Rattle.std.proofs.lemmas.List.Elements.{All-contains, All-weaker}
 use Rattle.input_port.specs.Counts.{signals_in}
-use Rattle.port_inbox.specs.Ends.{OwnerState}
 use Rattle.port_values.specs.declared.item.Item.{Item}
 use Rattle.port_values.specs.declared.pid.Pid.{Pid}
 use Rattle.port_values.specs.declared.pid.Pid.TheVariants.{Env, Null, Of}
@@ -13,10 +12,10 @@ use Rattle.run_record.specs.Record.{RecordValue}
 use Rattle.run_semantics.specs.Sent.{sent_to}
 use Rattle.settle_account.specs.Account.{AreAllPut, ArePlaces, CountedHavePut, IsAllHeard, put_at}
 use Rattle.settle_checks.specs.Outputs.{EnoughIsHeard, EnoughIsPut, IsEnough, IsEnoughHeard}
-use Rattle.settle_gathering.specs.Gathering.{AllIsPut, AllOfAll, AreOwn, IsCounted, IsOfPlace}
+use Rattle.settle_gathering.specs.Gathering.{AllIsPut, AllOfAll, AreOwn, IsOfPlace}
 use Rattle.settle_meaning.specs.Identities.{AreRising}
 use Rattle.settle_meaning.specs.Puts.{ArePut, EndsWith, Heard, IsNamed, IsOfOne, IsPutBy, IsPutByEnv, heard_by, sent_by}
-use Rattle.threads_senders.specs.Peers.{ArePeersOf, PeersState, put_to}
+use Rattle.threads_senders.specs.Peers.{PeersState, put_to}
 
 -- ---- numbers that rise
 

@@ -39,5 +39,6 @@ pub fn compare<J: Run>(
         return Err(RunError::Lost(0));
     }
     all_heard(alloc, records, &places[0], targets, &names)?;
-    all_put(alloc, records, places, &names)
+    all_put(alloc, records, places, &names)?;
+    Ok(())
 }

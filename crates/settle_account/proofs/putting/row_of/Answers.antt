@@ -1,5 +1,5 @@
 -- One number more.
-use Rattle.std.proofs.Common.{◌≡◌, ◌<◌, ◌≤◌, [], arith, rules, ℕ}
+use Rattle.std.proofs.Common.{rules}
 use Rattle.settle_account.proofs.RowLemmas.{row_more, row_none}
 use Rattle.settle_account.proofs.putting.row_of.Goals as goal
 
