@@ -1,0 +1,2 @@
+pub mod HeardLines
+pub mod Sent

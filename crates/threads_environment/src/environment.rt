@@ -3,14 +3,15 @@
 ghost use Rattle.std.specs.Prelude.{◌≡◌, ◌+◌, ◌<◌, ◌≤◌, [], true, All, IfOk, IfSome, OnErr, OnOk, length, slice_get};
 ghost use Rattle.std.specs.Option.{option_map};
 ghost use Rattle.run_semantics.specs.World.{has_port};
-ghost use Rattle.threads_environment.specs.Environment.{HearsNext, HearsNothing, IsHeardBy, IsOfEnv, IsRouted};
+ghost use Rattle.threads_environment.specs.Environment.{HearsNext, HearsNothing, IsHeardBy, IsOfEnv};
 ghost use Rattle.threads_environment.specs.Sending.{ArePutAlike, Expires};
 
-use crate::sending::{expire, send};
+use crate::hearing::hear_signal;
+use crate::sending::expire;
 use port_inbox::Fuse;
 use port_values::Ticks;
-use sdl_script::{ScriptLine, ScriptSignal};
-use sdl_system::{Source, Target};
+use sdl_script::ScriptLine;
+use sdl_system::Target;
 use std::alloc::{AllocError, Global};
 use std::marker::Model;
 use std::sync::Wait;
@@ -80,15 +81,10 @@ impl<'l, J: Run> Environment<'l, J> {
         ensures heard { IfOk result (λ woken. HearsNext shared.now.system.now woken self.old self.new) }
         ensures err { OnErr result (HearsNothing self.old self.new) }
     {
-        let Some(signal) = &self.lines[self.line].signal else {
-            self.line += 1;
-            return Ok(None);
+        let Some(line) = self.lines.get(self.line) else {
+            unreachable!()
         };
-        // So that nothing is put that is not noted.
-        self.targets.reserve(1)?;
-        let target = route(shared, signal);
-        let woken = send(shared, &mut self.peers, target, &signal.item)?;
-        self.targets.push_reserved(target);
+        let woken = hear_signal(shared, &line.signal, &mut self.targets, &mut self.peers)?;
         self.line += 1;
         Ok(woken)
     }
@@ -149,19 +145,4 @@ impl<'l, J: Run> Environment<'l, J> {
     {
         self.peers
     }
-}
-
-/// Where a signal of the script goes, by those that live now.
-fn route<J: Run, R: Wait + Copy>(
-    shared: &Shared<'_, '_, '_, J, R>,
-    signal: &ScriptSignal,
-) -> Target
-    ensures { IsRouted shared.now.system.now signal.now result }
-{
-    // Before: who lives is known to those alone that have the lock. After: it was so for a moment, and may change as soon
-    // as the lock is left. An instance that ends then has its port still.
-    let roster = shared.tables.roster.lock(shared.rt);
-    shared
-        .system
-        .route(signal.item.name, Source::Env, signal.to, roster.living())
 }

@@ -8,6 +8,7 @@
 #![tactic(auto)]
 
 mod environment;
+mod hearing;
 mod sending;
 
 pub use environment::Environment;

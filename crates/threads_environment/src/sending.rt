@@ -39,10 +39,10 @@ pub fn send<J: Run, R: Wait + Copy>(
         values: item.values.copied()?,
         sender: item.sender,
     };
-    match peers.put(shared.rt, port, number, copy) {
-        Ok(()) => Ok(Some(number)),
-        Err(_) => Err(AllocError),
-    }
+    let Ok(()) = peers.put(shared.rt, port, number, copy) else {
+        return Err(AllocError);
+    };
+    Ok(Some(number))
 }
 
 /// Puts the expiry of a timer into the port of its instance, if an instance can have the number. For want of memory
@@ -87,10 +87,7 @@ fn find<'p, J: Run, R: Wait + Copy>(
     let Some(port) = shared.common.ports.port(number) else {
         return Ok(None);
     };
-    if peers.is_known(number) {
-        return Ok(Some(port));
-    }
-    if shared.common.entries.find(number).is_none() {
+    if !peers.is_known(number) && shared.common.entries.find(number).is_none() {
         return Ok(None);
     }
     open(shared, peers, number)?;
