@@ -33,6 +33,8 @@ pub fn report_of<'p, J: Run, R: Wait + Copy>(
         → IsSettled ps shared.now.system.now environment.entry.lines ending.limit report) }
 {
     let alloc = shared.alloc;
+    let system = shared.system;
+    let whole = ending.whole;
     let lines = environment.lines();
     let line = environment.line();
     if line > lines.len() {
@@ -41,28 +43,16 @@ pub fn report_of<'p, J: Run, R: Wait + Copy>(
     let (heard, _) = lines.split_at(line);
     environment.is_heard();
     let targets = Vec::from_slice(alloc, environment.targets())?;
-    let Parts { records, ports } = parts_of(
-        alloc,
-        ending.whole,
-        closings,
-        environment.into_peers(),
-    )?;
-    compare(
-        alloc,
-        shared.system,
-        &records,
-        &ports.places,
-        heard,
-        &targets,
-    )?;
+    let Parts { records, ports } = parts_of(alloc, whole, closings, environment.into_peers())?;
+    compare(alloc, system, &records, &ports.places, heard, &targets)?;
     let end = end_of_run(lines, line, &records, ending)?;
     closed_have_histories();
     closed_have_put();
     counted_have_put();
-    settle_ports::<J, Brand, R>(shared, &records, ports, ending.whole, end)?;
+    settle_ports::<J, Brand, R>(shared, &records, ports, whole, end)?;
     Ok(Report {
         records,
         end,
-        whole: ending.whole,
+        whole,
     })
 }
