@@ -1,6 +1,6 @@
 -- What is left of an instance has a history of its port.
-use Rattle.std.proofs.Common.{◌≡◌, ◌∙◌, ◌⊎◌, ap, append-nil, inl, inr, refl, subst, sym, ⊎_elim, ℕ, Bool, true, false, List, [], ◌∷◌, ◌++◌, All, None, Some, count_by, slice_get}
-use Rattle.std.specs.Prelude.{IsTrue, Option}
+use Rattle.std.proofs.Common.{◌≡◌, ◌∙◌, ◌⊎◌, ap, append-nil, inl, inr, refl, subst, sym, ℕ, Bool, true, false, List, [], ◌∷◌, ◌++◌, All, None, Some, count_by, slice_get}
+use Rattle.std.specs.Prelude.{Option}
 use Rattle.std.proofs.lemmas.Grind.{flat_map-append}
 use Rattle.std.proofs.lemmas.List.{map-append}
 use Rattle.std.proofs.lemmas.List.Elements.{All-nil}
@@ -14,7 +14,6 @@ use Rattle.port_model.specs.History.{IsLegal, PortEvent, Take}
 use Rattle.port_model.specs.Port.{PortState, empty_port}
 use Rattle.port_model.specs.declared.selection.Class.{Class}
 use Rattle.port_model.specs.declared.taken.Taken.TheVariants.{Nothing}
-use Rattle.port_model.specs.declared.timer.ActiveTimer.{ActiveTimer}
 use Rattle.port_values.specs.declared.item.Item.{Item}
 use Rattle.port_values.specs.declared.pid.Pid.TheVariants.{Of}
 use Rattle.port_values.specs.declared.value.Value.{Value}
@@ -24,7 +23,6 @@ use Rattle.run_record.specs.Event as event
 use Rattle.run_record.specs.Event.{Event}
 use Rattle.run_record.specs.Record.{RecordValue}
 use Rattle.run_semantics.proofs.Outside.{drawn_as-append, outside_of-append, outside_of-drawn}
-use Rattle.run_semantics.specs.Behaves.{AreBehaviours}
 use Rattle.run_semantics.specs.ControlPoint as place
 use Rattle.run_semantics.specs.ControlPoint.{AtStart, ControlPoint, Definition, In}
 use Rattle.run_semantics.specs.Effect.{Deed, events_of}
@@ -36,22 +34,22 @@ use Rattle.run_semantics.specs.Sent.{sent_by_one, sent_to}
 use Rattle.run_transitions.specs.Machine.{place_of}
 use Rattle.run_transitions.specs.declared.machine.Position.{Position}
 use Rattle.run_transitions.specs.declared.machine.Position.TheVariants as at
-use Rattle.sdl_interp.specs.Instance.{HasRunOf, InstanceValue, IsAtRest, IsQuietAt, IsRunAs, closed, closing}
+use Rattle.sdl_interp.specs.Instance.{InstanceValue, IsQuietAt, IsRunAs, closed, closing}
 use Rattle.sdl_system.specs.Behaviour.{Behaviour}
 use Rattle.sdl_system.specs.System.{SystemValue}
 use Rattle.sdl_system.specs.declared.id.StateId.{StateId}
 use Rattle.settle_closing.proofs.Ends.{ends_in_end}
-use Rattle.settle_closing.proofs.Meant.{Meant, definition, meant}
+use Rattle.settle_closing.proofs.Meant.{definition, meant}
 use Rattle.settle_closing.proofs.PortLemmas.{drawn_in_time, drawn_puts, history_in_time}
 use Rattle.settle_closing.specs.ClosingLaws.{ClosedHaveHistories, ClosedHavePut, LeftWithoutPeers}
 use Rattle.settle_closing.specs.History.{EndsAs, HasHistoryOf, RestsStill}
 use Rattle.settle_closing.specs.Left.{IsLeft}
 use Rattle.settle_gathering.specs.Gathering.{Draws}
 use Rattle.settle_meaning.specs.Closed.{ClosesAs, EndsIn, IsCut, IsEnd}
-use Rattle.settle_meaning.specs.Histories.{HaveSets, IsInTime, puts_of}
+use Rattle.settle_meaning.specs.Histories.{IsInTime, puts_of}
 use Rattle.settle_meaning.specs.Identities.{identity_of}
 use Rattle.settle_meaning.specs.MeaningLaws.{ExpiriesHaveSets, LateIsNothing, PutsComeFromOutside, RestsAreForGood, RunsAreLegal, RunsHearWhatIsDrawn, StoppedStays, rest_deed}
-use Rattle.threads_senders.specs.Peers.{AreLast, ArePeersOf, PeersState, put_to}
+use Rattle.threads_senders.specs.Peers.{AreLast, PeersState, put_to}
 
 -- ---- what is drawn after a close
 

@@ -1,6 +1,8 @@
 -- Which timers are due, by the least of their times.
-use Rattle.std.proofs.Common.{◌≡◌, ◌<◌, ◌≤◌, arith, subst, sym, ℕ, List, [], ◌∷◌, All, None, Some}
-use Rattle.std.specs.Prelude.{◌↔◌}
+use Rattle.std.proofs.Common.{◌≡◌, ◌∙◌, ◌==◌, ◌<◌, ◌≤◌, arith, cond, nat_lt, refl, subst, sym, ℕ, Bool, true, false, List, [], ◌∷◌, All, None, Some}
+use Rattle.std.specs.Ordering.{is_lt, nat_cmp}
+use Rattle.std.specs.Prelude.{◌↔◌, IsTrue}
+use Rattle.std.specs.declared.cmp.Ordering.TheVariants.{Equal, Greater, Less}
 use Rattle.std.specs.List.{cons_option}
 use Rattle.std.proofs.lemmas.List.Elements.{All-cons, All-contains, All-head, All-nil, All-tail, All-weaker}
 use Rattle.port_model.specs.Timers.{IsLeast, due_of, due_times}
@@ -8,6 +10,26 @@ use Rattle.port_model.specs.declared.timer.ActiveTimer.{ActiveTimer}
 use Rattle.port_model.specs.declared.timer.Phase.{Phase}
 use Rattle.port_model.specs.declared.timer.Phase.TheVariants.{Running, Waiting}
 use Rattle.settle_meaning.specs.Closed.{AreDueAfter, IsDueAfter}
+
+-- ---- a test of two times
+
+other_less : (same : Bool) → is_lt (cond same Equal Greater) ≡ false
+other_less true = refl
+other_less false = refl
+
+test_less : (same less : Bool) → is_lt (cond less Less (cond same Equal Greater)) ≡ less
+test_less same true = refl
+test_less same false = other_less same
+
+less_true : (a b : ℕ) → is_lt (nat_cmp a b) ≡ true → a < b
+less_true a b tested = let less : nat_lt a b ≡ true = sym (test_less (a == b) (nat_lt a b)) ∙ tested in grind (arith, less)
+
+true_less : (a b : ℕ) → a < b → is_lt (nat_cmp a b) ≡ true
+true_less a b less = test_less (a == b) (nat_lt a b) ∙ is_less where
+  is_less : nat_lt a b ≡ true
+  is_less = grind (arith, less)
+
+-- ---- all times
 
 module _ (end : ℕ) where
   abbrev IsAfter : ℕ → Type 0
@@ -38,14 +60,20 @@ module _ (end : ℕ) where
       after_first timer.phase (due_times more) (All-head IsTimerAfter timer more all)
       (times_after more (All-tail IsTimerAfter timer more all))
 
-  -- the least of them is
-  pub least_after : (timers : List ActiveTimer) (due : ℕ) → IsLeast (due_times timers) (Some due)
+  -- the least of them tells it
+  least_after : (timers : List ActiveTimer) (due : ℕ) → IsLeast (due_times timers) (Some due)
       → (end < due) ↔ AreDueAfter end timers
   least_after timers due least = (
     λ less. timers_after timers (All-weaker (λ other. due ≤ other) IsAfter (λ other past. omega (arith, less, past))
         (due_times timers) least.1),
     λ all. All-contains IsAfter (due_times timers) due (times_after timers all) least.0,
   )
+
+  pub after_by : (timers : List ActiveTimer) (due : ℕ) (is : Bool) → IsLeast (due_times timers) (Some due)
+      → is ≡ is_lt (nat_cmp end due) → IsTrue is ↔ AreDueAfter end timers
+  after_by timers due is least tested =
+      let both = least_after timers due least in
+      (λ holds. both.0 (less_true end due (sym tested ∙ holds)), λ all. tested ∙ true_less end due (both.1 all))
 
   -- or there is none
   pub none_after : (timers : List ActiveTimer) → IsLeast (due_times timers) None → AreDueAfter end timers

@@ -66,6 +66,6 @@ pub ends_by_entry : (entries : List Entry) (values : List Value) (events : List 
     → events ≡ told entries values → is ≡ is_end_entry (slice_get entries (length entries - 1))
     → IsTrue is ↔ EndsIn IsEnd events
 ends_by_entry entries values events is are by = (
-  λ yes. ends_if events (ap ends are ∙ ends_told entries values ∙ sym by ∙ yes),
+  λ holds. ends_if events (ap ends are ∙ ends_told entries values ∙ sym by ∙ holds),
   λ so. by ∙ sym (ends_told entries values) ∙ sym (ap ends are) ∙ ends_as_is events so,
 )

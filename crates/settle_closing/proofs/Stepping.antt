@@ -1,5 +1,5 @@
 -- The last step of an instance, and the close of its record.
-use Rattle.std.proofs.Common.{◌≡◌, ◌∙◌, ap, append-nil, append_assoc, arith, cond, refl, inl, inr, subst, sym, ℕ, ◌+◌, Bool, true, false, List, [], ◌∷◌, ◌++◌, All, None, Some, count_by}
+use Rattle.std.proofs.Common.{◌≡◌, ◌∙◌, ap, append-nil, append_assoc, arith, cond, refl, inl, inr, subst, sym, ℕ, ◌+◌, Bool, true, false, List, [], ◌∷◌, ◌++◌, None, Some, count_by}
 use Rattle.std.specs.Prelude.{IsTrue, Option}
 use Rattle.std.proofs.lemmas.List.Elements.{All-head, All-tail}
 use Rattle.std.proofs.lemmas.List.Sums.{sum_by-append, sum_by-cons}
@@ -19,14 +19,11 @@ use Rattle.run_semantics.specs.World.{WorldValue}
 use Rattle.run_transitions.specs.Work.{IsOf}
 use Rattle.run_transitions.specs.declared.machine.Position.{Position}
 use Rattle.run_transitions.specs.declared.machine.Position.TheVariants as at
-use Rattle.sdl_interp.specs.Instance.{EndsBy, HasRunOf, InstanceValue, IsAtRest, IsClosed, IsIdle, IsQuietAt, IsRunAs, Keeps, Moves, Steps, closing, work_of}
+use Rattle.sdl_interp.specs.Instance.{EndsBy, HasRunOf, InstanceValue, IsAtRest, IsClosed, IsIdle, IsQuietAt, IsRunAs, Keeps, Moves, closing, work_of}
 use Rattle.sdl_interp.specs.Stimulus.{WaitsAt}
-use Rattle.sdl_interp.specs.declared.instance.Stepped.{Stepped}
-use Rattle.sdl_interp.specs.declared.instance.Stepped.TheVariants as stepped
 use Rattle.sdl_system.specs.System.{SystemValue}
 use Rattle.sdl_system.specs.declared.process.Process.{Process}
 use Rattle.settle_closing.specs.Left.{HasNoMore, IsClosedNow, IsLeftOfOne}
-use Rattle.settle_meaning.specs.Identities.{identity_of}
 use Rattle.threads_instance.specs.ThreadInstance.{HasPut, IsSeated}
 use Rattle.threads_senders.specs.Peers.{PeersState}
 
@@ -121,7 +118,7 @@ pub record Rested (old new : InstanceValue) : Type 0 where
   pub rests : IsAtRest new
   pub events : (d : Definition) → IsRunAs old d → HasNoMore old.events new.events
 
-idle_rested : (old new : InstanceValue) (w v : WorldValue) → Keeps old new → IsIdle old w new v → Rested old new
+pub idle_rested : (old new : InstanceValue) (w v : WorldValue) → Keeps old new → IsIdle old w new v → Rested old new
 idle_rested old new w v keeps idle = record {
   rests = idle_rests old new w v keeps idle;
   events = λ d is_run. has_same old.events new.events (waits_recorded d old.position old new w v (idle.1 d is_run));
@@ -143,16 +140,11 @@ ended_rested old new w v ends =
       | inr end ↦ record { rests = ended_rests new end.1; events = moves_none old new w v end.2 }
     ]
 
-pub rested_idle : (made : Stepped) (old new : InstanceValue) (w v : WorldValue) → Keeps old new
-    → Steps made old w new v → made ≡ stepped.Idle → Rested old new
-rested_idle made old new w v keeps steps is =
-    idle_rested old new w v keeps (subst (λ (s : Stepped). Steps s old w new v) is steps)
-
-pub rested_ended : (made : Stepped) (counts : Bool) (old new : InstanceValue) (w v : WorldValue) → Steps made old w new v
-    → made ≡ stepped.Ended counts → counts ≡ false → Rested old new
-rested_ended made counts old new w v steps is none =
-    ended_rested old new w v
-    (subst (λ (s : Stepped). Steps s old w new v) (is ∙ ap (λ (b : Bool). stepped.Ended b) none) steps)
+-- so it is with an end that is no transition
+pub none_counted : (counts : Bool) (old new : InstanceValue) (w v : WorldValue) → EndsBy counts old w new v
+    → counts ≡ false → Rested old new
+none_counted counts old new w v ends none =
+    ended_rested old new w v (subst (λ (b : Bool). EndsBy b old w new v) none ends)
 
 -- ---- the close
 

@@ -6,11 +6,11 @@
 //! is drawn, `ends_as` tests whether the record closes as it is to; then it has a history of its port: `laws` says so.
 #![tactic(auto)]
 
-mod close;
 mod closing;
 mod ending;
+mod last_step;
 pub mod laws;
 
-pub use close::close;
 pub use closing::Closing;
 pub use ending::{PortThen, ends_as};
+pub use last_step::close;

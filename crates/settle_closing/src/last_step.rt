@@ -26,10 +26,10 @@ pub fn close<'s, 'p, J: Run, R: Wait + Copy>(
     whole: bool,
     at: Ticks,
 ) -> Result<Closing<'p, J, R>, RunError>
-    ensures closed { IfOk result (λ closing. IsClosedNow seated.entry.instance closing.trace) }
+    ensures closed { IfOk result (λ closing. IsClosedNow seated.entry.value.instance closing.trace) }
     ensures whole { IfOk result (λ closing. closing.whole ≡ whole) }
     ensures fuses { OnOk result (IsTrue whole → own.new.fuses.items ≡ []) }
-    ensures lost { IfErr result (λ error. error ≡ Lost seated.entry.instance.who.pid) }
+    ensures lost { IfErr result (λ error. error ≡ Lost seated.entry.value.instance.who.pid) }
     ensures cut { whole ≡ false → IsOk result }
 {
     let mut instance = Box::into_inner(seated);
