@@ -1,7 +1,7 @@
 //! Whole runs and checks, through the function that `sdlrun` is over.
 
 use bench_texts::Shape;
-use sdl_engine::{Command, Options, Outcome, run_text};
+use sdl_engine::{Command, Options, Outcome, run_text_serially};
 use std::alloc::Global;
 use std::io::{self, Write};
 
@@ -32,10 +32,11 @@ pub fn written(alloc: Global, shape: Shape) -> Option<u64> {
         } else {
             Command::Check
         },
+        workers: None,
         limit: Options::MOST_LIMIT,
     };
     let mut counter = Counter { bytes: 0 };
-    match run_text(alloc, &mut text.as_bytes(), &mut counter, &options) {
+    match run_text_serially(alloc, &mut text.as_bytes(), &mut counter, &options) {
         Ok(Outcome::Whole) => Some(counter.bytes),
         _ => None,
     }

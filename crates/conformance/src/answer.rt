@@ -6,14 +6,21 @@ ghost use Rattle.std.specs.Prelude.{◌≡◌};
 use crate::case::Answer;
 use sdl_engine::{Options, Outcome, TextFault, run_text};
 use std::alloc::Global;
+use std::sync::Wait;
+use std::thread::Threads;
 
 /// Runs the engine on an input.
-pub fn answer_of(alloc: Global, input: &[u8], options: &Options) -> Answer
+pub fn answer_of<T: Threads + Wait + Copy + Send + Sync>(
+    rt: &T,
+    alloc: Global,
+    input: &[u8],
+    options: &Options,
+) -> Answer
     ensures { IsAnswer input.now options.now result.output.items result.status }
 {
     let mut reader = input;
     let mut output = Vec::new(alloc);
-    let outcome = run_text(alloc, &mut reader, &mut output, options);
+    let outcome = run_text(rt, alloc, &mut reader, &mut output, options);
     let status = status_of(&outcome);
     Answer { status, output }
 }

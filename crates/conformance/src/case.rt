@@ -12,7 +12,7 @@ pub enum Asked {
 }
 
 /// An exit status and what is written on standard output.
-#[derive(Drop)]
+#[derive(Clone, Drop)]
 pub struct Answer {
     pub status: u8,
     pub output: Vec<u8>,
@@ -21,7 +21,8 @@ pub struct Answer {
 /// A question to the program and the answer that is wanted.
 #[derive(Drop)]
 pub struct Case {
-    /// Of a table's row the table's name, a slash and the row's number.
+    /// Of a table's row the table's name, a slash and the row's number. With workers a slash follows, `workers-` and how
+    /// many.
     pub name: String,
     pub asked: Asked,
     pub input: Vec<u8>,

@@ -10,9 +10,13 @@ use crate::judge::{Verdict, judge};
 use crate::tally::Counts;
 use std::env;
 use std::rt::{Env, Files};
+use std::sync::Wait;
+use std::thread::Threads;
 
 /// Runs the cases of the current folder, all of them or those that the command line names, and prints the last line.
-pub fn run<R: Files + Env + Print + AllocGlobal>(rt: &R) -> Result<Counts, Fault> {
+pub fn run<R: Files + Env + Print + AllocGlobal + Threads + Wait + Copy + Send + Sync>(
+    rt: &R,
+) -> Result<Counts, Fault> {
     let cases = asked_cases(rt)?;
     if cases.is_empty() {
         return Err(Fault::NoCase);
@@ -62,14 +66,17 @@ fn is_named(case: &Case, name: &str) -> bool {
 }
 
 /// Judges each case, and prints each that differs.
-fn run_cases<R: Print + AllocGlobal>(rt: &R, cases: &[Case]) -> Result<Counts, Fault>
+fn run_cases<R: Print + AllocGlobal + Threads + Wait + Copy + Send + Sync>(
+    rt: &R,
+    cases: &[Case],
+) -> Result<Counts, Fault>
     ensures number { IfOk result (λ counts. counts.cases ≡ length cases.now) }
     ensures adds_up { IfOk result AddsUp }
     ensures tally { IfOk result (IsTally cases.now) }
 {
     let mut counts = Counts::new();
     for case in cases {
-        let verdict = judge(rt.alloc(), case)?;
+        let verdict = judge(rt, rt.alloc(), case)?;
         tell(rt, case, &verdict)?;
         counts.count(&verdict);
     }

@@ -14,12 +14,14 @@ pub enum FormatError {
     Name,
     #[error("the name is taken")]
     NameTwice,
-    #[error("not `args: `, `status: `, a comment or the title of a block")]
+    #[error("not `args: `, `workers: `, `status: `, a comment or the title of a block")]
     Head,
     #[error("this stands twice")]
     Twice,
     #[error("no `args: `")]
     NoArguments,
+    #[error("`workers: ` has numbers of workers for a run")]
+    Workers,
     #[error("a status is a number from 0 to 255")]
     Status,
     #[error("a block is `input`, `output` or `table`")]

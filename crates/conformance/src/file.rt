@@ -6,7 +6,7 @@ use crate::fault::{FormatError, FormatFault};
 use crate::lines::{Line, Lines, lines_of};
 use crate::section::{CASE, Section, read_section};
 use crate::table::{is_row, read_row};
-use crate::words::read_words;
+use crate::words::{read_words, with_workers};
 use std::alloc::Global;
 use std::collections::BTreeSet;
 
@@ -48,10 +48,43 @@ fn add_cases(
         Some(table) => add_rows(alloc, section, table, cases),
         None => {
             let case = single_case(alloc, section)?;
-            cases.push(case)?;
-            Ok(())
+            add_case(alloc, section, case, cases)
         }
     }
+}
+
+/// Appends a case, and the same with each number of workers that its section names.
+fn add_case(
+    alloc: Global,
+    section: &Section<'_>,
+    case: Case,
+    cases: &mut Vec<Case>,
+) -> Result<(), FormatFault> {
+    for word in section.workers.split_whitespace() {
+        let again = case_with_workers(alloc, section, &case, word)?;
+        cases.push(again)?;
+    }
+    cases.push(case)?;
+    Ok(())
+}
+
+/// The same case with as many workers as the word says.
+fn case_with_workers(
+    alloc: Global,
+    section: &Section<'_>,
+    case: &Case,
+    word: &str,
+) -> Result<Case, FormatFault> {
+    let Some(asked) = with_workers(case.asked, word) else {
+        return Err(section.fault(FormatError::Workers));
+    };
+    let name = case.name.as_str();
+    Ok(Case {
+        name: format!(in alloc; "{name}/workers-{word}")?,
+        asked,
+        input: case.input.clone()?,
+        wanted: case.wanted.clone()?,
+    })
 }
 
 /// The case of a section without a table.
@@ -81,7 +114,7 @@ fn add_rows(
         if is_row(line.text) {
             number = number.saturating_add(1);
             let case = row_case(alloc, section, line, number)?;
-            cases.push(case)?;
+            add_case(alloc, section, case, cases)?;
         }
         rest = below;
     }

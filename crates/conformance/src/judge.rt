@@ -9,6 +9,8 @@ use crate::compare::{LinePair, first_difference};
 use sdl_engine::{Command, Options};
 use std::alloc::{AllocError, Global};
 use std::fmt;
+use std::sync::Wait;
+use std::thread::Threads;
 
 /// How long a specification may be. A longer canonical text is none, so it has no canonical text.
 const LONGEST_SPECIFICATION: usize = 1_048_576;
@@ -45,21 +47,30 @@ impl fmt::Display for Difference {
 }
 
 /// Asks the engine a case, and compares what it answers.
-pub fn judge(alloc: Global, case: &Case) -> Result<Verdict, AllocError>
+pub fn judge<T: Threads + Wait + Copy + Send + Sync>(
+    rt: &T,
+    alloc: Global,
+    case: &Case,
+) -> Result<Verdict, AllocError>
     ensures { IfOk result (Upholds case.now) }
 {
     match case.asked {
-        Asked::Command(options) => judge_command(alloc, case, &options),
+        Asked::Command(options) => judge_command(rt, alloc, case, &options),
         Asked::Unknown => Ok(Verdict::Differs(Difference::Arguments)),
     }
 }
 
-fn judge_command(alloc: Global, case: &Case, options: &Options) -> Result<Verdict, AllocError>
+fn judge_command<T: Threads + Wait + Copy + Send + Sync>(
+    rt: &T,
+    alloc: Global,
+    case: &Case,
+    options: &Options,
+) -> Result<Verdict, AllocError>
     requires { case.now.asked ≡ Asked.Command options.now }
     ensures { IfOk result (Upholds case.now) }
 {
-    let answer = answer_of(alloc, case.input.as_slice(), options);
-    match difference_again(alloc, &answer, options)? {
+    let answer = answer_of(rt, alloc, case.input.as_slice(), options);
+    match difference_again(rt, alloc, &answer, options)? {
         Some(pair) => Ok(Verdict::Differs(Difference::Again(pair))),
         None => judge_answer(alloc, case, &answer),
     }
@@ -102,7 +113,8 @@ fn compare(alloc: Global, want: &Answer, told: &Answer) -> Result<Option<Differe
 }
 
 /// In what the canonical text of an accepted specification differs from its own canonical text.
-fn difference_again(
+fn difference_again<T: Threads + Wait + Copy + Send + Sync>(
+    rt: &T,
     alloc: Global,
     answer: &Answer,
     options: &Options,
@@ -116,6 +128,6 @@ fn difference_again(
     if answer.output.len() > LONGEST_SPECIFICATION {
         return Ok(None);
     }
-    let again = answer_of(alloc, answer.output.as_slice(), options);
+    let again = answer_of(rt, alloc, answer.output.as_slice(), options);
     first_difference(alloc, answer.output.as_slice(), again.output.as_slice())
 }

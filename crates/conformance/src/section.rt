@@ -17,6 +17,8 @@ pub struct Section<'a> {
     /// The line of the name.
     pub number: usize,
     pub args: &'a str,
+    /// The numbers of workers with which it is asked, too.
+    pub workers: &'a str,
     pub status: u8,
     pub blocks: Blocks<'a>,
 }
@@ -43,6 +45,7 @@ pub struct Blocks<'a> {
 #[derive(Clone, Copy)]
 struct Head<'a> {
     args: Option<&'a str>,
+    workers: Option<&'a str>,
     status: Option<u8>,
 }
 
@@ -59,6 +62,7 @@ pub fn read_section<'a>(title: Line<'a>, body: Lines<'a>) -> Result<Section<'a>,
         name,
         number: title.number,
         args,
+        workers: head.workers.unwrap_or(""),
         status: head.status.unwrap_or(0),
         blocks,
     })
@@ -79,6 +83,7 @@ fn is_of_name(byte: u8) -> bool {
 fn read_head(lines: Lines<'_>) -> Result<Head<'_>, FormatFault> {
     let mut head = Head {
         args: None,
+        workers: None,
         status: None,
     };
     let mut rest = lines;
@@ -103,6 +108,15 @@ fn with_line<'a>(head: Head<'a>, line: Line<'a>) -> Result<Head<'a>, FormatFault
         }
         return Ok(Head {
             args: Some(args),
+            ..head
+        });
+    }
+    if let Some(workers) = text.strip_prefix("workers:") {
+        if head.workers.is_some() {
+            return Err(line.fault(FormatError::Twice));
+        }
+        return Ok(Head {
+            workers: Some(workers),
             ..head
         });
     }

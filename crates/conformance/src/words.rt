@@ -2,27 +2,73 @@
 
 use crate::case::Asked;
 use sdl_engine::{Command, Options};
+use std::str::SplitWhitespace;
 
 /// What the words behind the program's name ask for.
 pub fn read_words(line: &str) -> Asked {
     let mut words = line.split_whitespace();
-    match (words.next(), words.next(), words.next(), words.next()) {
-        (Some("check"), None, _, _) => asked(Command::Check, Some(Options::DEFAULT_LIMIT)),
-        (Some("run"), None, _, _) => asked(Command::Run, Some(Options::DEFAULT_LIMIT)),
-        (Some("run"), Some("--limit"), Some(number), None) => asked(Command::Run, limit(number)),
-        (Some("run"), Some(word), None, _) => match word.strip_prefix("--limit=") {
-            Some(number) => asked(Command::Run, limit(number)),
-            None => Asked::Unknown,
-        },
-        _ => Asked::Unknown,
+    let options = match words.next() {
+        Some("check") => check_options(words),
+        Some("run") => run_options(words),
+        _ => None,
+    };
+    match options {
+        Some(options) => Asked::Command(options),
+        None => Asked::Unknown,
     }
 }
 
-fn asked(command: Command, limit: Option<u64>) -> Asked {
-    match limit {
-        Some(limit) => Asked::Command(Options { command, limit }),
-        None => Asked::Unknown,
+/// What a check is asked, behind which no word stands.
+fn check_options(mut words: SplitWhitespace<'_>) -> Option<Options> {
+    words.next().is_none().then_some(Options {
+        command: Command::Check,
+        workers: None,
+        limit: Options::DEFAULT_LIMIT,
+    })
+}
+
+/// What a run is asked by the words behind it: its workers, and then its limit.
+fn run_options(mut words: SplitWhitespace<'_>) -> Option<Options> {
+    let mut options = Options {
+        command: Command::Run,
+        workers: None,
+        limit: Options::DEFAULT_LIMIT,
+    };
+    let mut word = words.next();
+    if word == Some("--workers") {
+        options.workers = Some(workers(words.next()?)?);
+        word = words.next();
     }
+    if word == Some("--limit") {
+        options.limit = limit(words.next()?)?;
+        word = words.next();
+    } else if let Some(number) = word.and_then(|word| word.strip_prefix("--limit=")) {
+        options.limit = limit(number)?;
+        word = words.next();
+    }
+    word.is_none().then_some(options)
+}
+
+/// The same asked with as many workers as the word says; none where no run is asked for, or the word says no number of
+/// workers that the program takes.
+pub fn with_workers(asked: Asked, word: &str) -> Option<Asked> {
+    match asked {
+        Asked::Command(options) if options.command == Command::Run => {
+            Some(Asked::Command(Options {
+                workers: Some(workers(word)?),
+                ..options
+            }))
+        }
+        _ => None,
+    }
+}
+
+/// A number of workers that the program takes.
+fn workers(word: &str) -> Option<u8> {
+    let number = word.parse().ok()?;
+    (1..=Options::MOST_WORKERS)
+        .contains(&number)
+        .then_some(number)
 }
 
 /// A limit that the program takes.

@@ -43,8 +43,11 @@ signal that the environment sends: its time in ticks, its name and its values. A
   3 add(7) to #2
   10
 
-Example:
-  sdlrun run --limit 100 < examples/counter.sdl";
+Without --workers the run is serial, and its trace is always the same. With workers it may differ from run to run.
+
+Examples:
+  sdlrun run --limit 100 < examples/counter.sdl
+  sdlrun run --workers 4 examples/counter.sdl";
 
 /// The program with its commands.
 pub fn command<'a>(alloc: Global) -> Result<Command<'a>, AllocError> {
@@ -74,6 +77,7 @@ fn run<'a>(alloc: Global) -> Result<Command<'a>, AllocError> {
         .after_help(RUN_HELP);
     run.arg(file(alloc))?
         .arg(script(alloc))?
+        .arg(workers(alloc))?
         .arg(limit(alloc))?
         .arg(explain(alloc))
 }
@@ -92,6 +96,16 @@ fn script<'a>(alloc: Global) -> Arg<'a> {
         .value_name("FILE")
         .help("The script, which then does not stand behind the specification")
         .action(ArgAction::Set)
+}
+
+/// How many threads run the instances.
+fn workers<'a>(alloc: Global) -> Arg<'a> {
+    Arg::new(alloc, "workers")
+        .long("workers")
+        .value_name("N")
+        .help("Runs the instances on N worker threads, 1 to 16; serially if not given")
+        .action(ArgAction::Set)
+        .value_parser(ValueParser::unsigned(1, u64::from(Options::MOST_WORKERS)))
 }
 
 /// At how many transitions a run is cut.

@@ -42,9 +42,10 @@ fn met_task(alloc: Global, matches: &ArgMatches<'_>) -> Result<Task, AllocError>
     }
 }
 
-/// A check runs nothing, so it has no limit of its own.
+/// A check runs nothing, so it has no workers, and no limit of its own.
 const CHECK: Options = Options {
     command: Command::Check,
+    workers: None,
     limit: Options::DEFAULT_LIMIT,
 };
 
@@ -55,8 +56,15 @@ fn run_options(run: &ArgMatches<'_>) -> Options {
         .unwrap_or(Options::DEFAULT_LIMIT);
     Options {
         command: Command::Run,
+        workers: workers_of(run),
         limit,
     }
+}
+
+/// How many workers are asked for; none for a serial run. A number that fits no `u8` is not in the range of the option.
+fn workers_of(run: &ArgMatches<'_>) -> Option<u8> {
+    let workers = run.get_one::<u64>("workers")?;
+    u8::try_from(workers).ok()
 }
 
 /// What a command is to do with the files that are named with it, and whether it explains a refusal.

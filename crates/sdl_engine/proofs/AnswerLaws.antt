@@ -1,10 +1,12 @@
 -- What the calls of a command give, put together into what is said of the input.
-use Rattle.std.proofs.Common.{◌≡◌, sym, subst, refl, inl, inr, ℕ, List, Option, Bool, true, false, Result, Ok, Err, IfOk, IfErr, OnOk}
+use Rattle.std.proofs.Common.{◌≡◌, sym, subst, refl, inl, inr, ℕ, List, Option, None, Some, Bool, true, false, Result, Ok, Err, IfOk, IfErr, OnOk}
 use Rattle.std.specs.Io.KnownBytes.{Appends}
 use Rattle.sdl_report.specs.ReportText.{report_text}
 use Rattle.run_record.specs.declared.record.Report.{Report}
+use Rattle.run_record.specs.declared.run_error.RunError.{RunError}
+use Rattle.run_record.specs.declared.run_error.RunError.TheVariants as run
 use Rattle.sdl_system.specs.System.{SystemValue}
-use Rattle.sdl_engine.specs.Answer.{Allows, BreaksOff, FailsToTell, Faulted, Fails, IsRunOfInput, PrintsInput, Refuses, Says, SaysCut, SaysWhole, Tells, Written, outcome_by, outcome_of}
+use Rattle.sdl_engine.specs.Answer.{Allows, AllowsOfRun, BreaksOff, FailsToTell, Faulted, Fails, IsRunOfInput, IsRunRefused, PrintsInput, Refuses, Says, SaysCut, SaysWhole, Tells, Written, outcome_by, outcome_of}
 use Rattle.sdl_engine.specs.Input.{IsRead}
 use Rattle.sdl_engine.specs.RefusalText.{refusal_line}
 use Rattle.sdl_engine.specs.declared.input.Input.{Input}
@@ -20,41 +22,54 @@ use Rattle.sdl_engine.specs.declared.refusal.Refusal.{Refusal}
 use Rattle.sdl_engine.specs.declared.refusal.Refusal.TheVariants as refusal
 
 -- the report of a run is what is said of its input
-pub report_says : (input : Input) (options : Options) (system : SystemValue) (report : Report) (whole : Bool) →
-    options.command ≡ command.Run → report.whole ≡ whole → IsRunOfInput input options.limit system report →
+pub report_says : (input : Input) (options : Options) (workers : Option ℕ) (system : SystemValue) (report : Report)
+    (whole : Bool) → options.command ≡ command.Run → options.workers ≡ workers → report.whole ≡ whole →
+    IsRunOfInput input workers options.limit system report →
     Says input options (outcome_by whole) (report_text system report)
-report_says (Bytes bytes) options system report true asked is run =
-    subst (λ c. SaysWhole c bytes.items options.limit (report_text system report)) (sym asked) (record {
+report_says (Bytes bytes) options workers system report true asked by is run =
+    subst (λ c. SaysWhole c options.workers bytes.items options.limit (report_text system report)) (sym asked) (record {
       system = system;
       report = report;
-      run = run;
+      run = subst (λ w. IsRunOfInput (Bytes bytes) w options.limit system report) (sym by) run;
       is_whole = is;
       says = refl;
     })
-report_says (Bytes bytes) options system report false asked is run =
-    subst (λ c. SaysCut c bytes.items options.limit (report_text system report)) (sym asked) (record {
+report_says (Bytes bytes) options workers system report false asked by is run =
+    subst (λ c. SaysCut c options.workers bytes.items options.limit (report_text system report)) (sym asked) (record {
       system = system;
       report = report;
-      run = run;
+      run = subst (λ w. IsRunOfInput (Bytes bytes) w options.limit system report) (sym by) run;
       is_whole = is;
       says = refl;
     })
-report_says TooLong options system report whole asked is run = absurd run
+report_says TooLong options workers system report whole asked by is run = absurd run
 
 -- so is the canonical text of its specification
 pub canonical_says : (input : Input) (options : Options) (text : List ℕ) → options.command ≡ command.Check →
     PrintsInput input text → Says input options outcome.Whole text
-canonical_says (Bytes bytes) options text asked prints = subst (λ c. SaysWhole c bytes.items options.limit text)
-    (sym asked) prints
+canonical_says (Bytes bytes) options text asked prints =
+    subst (λ c. SaysWhole c options.workers bytes.items options.limit text) (sym asked) prints
 canonical_says TooLong options text asked prints = absurd prints
 
 -- and the line of a refusal
-refuses : (asked : Command) (input : Input) (refused : Refusal) → Allows asked input refused →
-    Refuses asked input (outcome_of refused) (refusal_line refused)
-refuses asked input why allowed = record { refused = why; allowed = allowed; kind = refl; line = refl }
+refuses : (asked : Command) (workers : Option ℕ) (input : Input) (refused : Refusal) →
+    Allows asked workers input refused → Refuses asked workers input (outcome_of refused) (refusal_line refused)
+refuses asked workers input why allowed = record { refused = why; allowed = allowed; kind = refl; line = refl }
+
+-- what a check may tell doesn't hang on workers
+pub check_allows : (workers : Option ℕ) (input : Input) (refused : Refusal) → Allows command.Check None input refused →
+    Allows command.Check workers input refused
+check_allows workers (Bytes bytes) refused allowed = allowed
+check_allows workers TooLong refused allowed = allowed
+
+-- with workers a run may tell either of itself
+pub run_allows : (workers : ℕ) (bytes : List ℕ) (error : RunError) → IsRunRefused bytes →
+    AllowsOfRun (Some workers) bytes error
+run_allows workers bytes run.Memory refused = refused
+run_allows workers bytes (run.Lost number) refused = refused
 
 says_refused : (input : Input) (options : Options) (why : Refusal) (line : List ℕ) →
-    Refuses options.command input (outcome_of why) line → Says input options (outcome_of why) line
+    Refuses options.command options.workers input (outcome_of why) line → Says input options (outcome_of why) line
 says_refused (Bytes bytes) options (refusal.Parse error) line r = r
 says_refused (Bytes bytes) options (refusal.Build error) line r = r
 says_refused (Bytes bytes) options (refusal.Script error) line r = r
@@ -64,11 +79,14 @@ says_refused TooLong options (refusal.Build error) line r = r
 says_refused TooLong options (refusal.Script error) line r = r
 says_refused TooLong options (refusal.Run error) line r = r
 
-pub refusal_says : (asked : Command) (input : Input) (options : Options) (why : Refusal) →
-    options.command ≡ asked → Allows asked input why → Says input options (outcome_of why) (refusal_line why)
-refusal_says asked input options why is allowed =
+pub refusal_says : (asked : Command) (workers : Option ℕ) (input : Input) (options : Options) (why : Refusal) →
+    options.command ≡ asked → options.workers ≡ workers → Allows asked workers input why →
+    Says input options (outcome_of why) (refusal_line why)
+refusal_says asked workers input options why is by allowed =
     says_refused input options why (refusal_line why)
-    (subst (λ c. Refuses c input (outcome_of why) (refusal_line why)) (sym is) (refuses asked input why allowed))
+    (subst (λ c. Refuses c options.workers input (outcome_of why) (refusal_line why)) (sym is)
+    (subst (λ w. Refuses asked w input (outcome_of why) (refusal_line why)) (sym by)
+    (refuses asked workers input why allowed)))
 
 -- ---- what a call's result says
 
@@ -125,21 +143,22 @@ tells_not input options expected text old new (Ok how) says off = tt
 tells_not input options expected text old new (Err why) says off =
     tells_not' input options expected text old new why says off
 
-pub refused_by : (asked : Command) (input : Input) (options : Options) (why : Refusal) (old new : Option (List ℕ))
-    (r : Result Outcome TextFault) → options.command ≡ asked → Allows asked input why →
-    IfOk r (λ how. how ≡ outcome_of why) → OnOk r (Appends old new (refusal_line why)) →
-    IfOk r (λ how. Tells input options how old new)
-refused_by asked input options why old new r is allowed kind out =
+pub refused_by : (asked : Command) (workers : Option ℕ) (input : Input) (options : Options) (why : Refusal)
+    (old new : Option (List ℕ)) (r : Result Outcome TextFault) → options.command ≡ asked →
+    options.workers ≡ workers → Allows asked workers input why → IfOk r (λ how. how ≡ outcome_of why) →
+    OnOk r (Appends old new (refusal_line why)) → IfOk r (λ how. Tells input options how old new)
+refused_by asked workers input options why old new r is by allowed kind out =
     tells_by input options (outcome_of why) (refusal_line why) old new r
-    (refusal_says asked input options why is allowed) kind out
+    (refusal_says asked workers input options why is by allowed) kind out
 
-pub failed_by : (asked : Command) (input : Input) (options : Options) (why : Refusal) (old new : Option (List ℕ))
-    (r : Result Outcome TextFault) → options.command ≡ asked → Allows asked input why →
+pub failed_by : (asked : Command) (workers : Option ℕ) (input : Input) (options : Options) (why : Refusal)
+    (old new : Option (List ℕ)) (r : Result Outcome TextFault) → options.command ≡ asked →
+    options.workers ≡ workers → Allows asked workers input why →
     IfErr r (λ fault. FailsToTell fault (refusal_line why) old new) →
     IfErr r (λ fault. Fails fault input options old new)
-failed_by asked input options why old new r is allowed off =
+failed_by asked workers input options why old new r is by allowed off =
     tells_not input options (outcome_of why) (refusal_line why) old new r
-    (refusal_says asked input options why is allowed) off
+    (refusal_says asked workers input options why is by allowed) off
 
 -- ---- the whole program: the input was read first
 

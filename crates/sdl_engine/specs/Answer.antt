@@ -1,5 +1,5 @@
 -- What the program answers to its input.
-use Rattle.std.specs.Prelude.{◌≡◌, ◌⊎◌, ℕ, Bool, true, false, List, Option}
+use Rattle.std.specs.Prelude.{◌≡◌, ◌⊎◌, ℕ, Bool, true, false, List, Option, None, Some}
 use Rattle.std.specs.Io.KnownBytes.{Appends, Keeps}
 use Rattle.sdl_build.specs.Built.{IsBuilt}
 use Rattle.sdl_build.specs.Outcome.{IsRefusedAs}
@@ -13,6 +13,7 @@ use Rattle.sdl_parse.specs.declared.error.ParseError.TheVariants as parse
 use Rattle.sdl_report.specs.Gathered as gathered
 use Rattle.sdl_report.specs.ReportText.{report_text}
 use Rattle.run_record.specs.declared.record.Report.{Report}
+use Rattle.run_record.specs.declared.run_error.RunError.{RunError}
 use Rattle.run_record.specs.declared.run_error.RunError.TheVariants as run
 use Rattle.sdl_script.specs.Script.{IsScript}
 use Rattle.sdl_script.specs.ScriptText.{SaysScript}
@@ -23,6 +24,7 @@ use Rattle.sdl_system.specs.Behaviour.{Behaviour}
 use Rattle.sdl_system.specs.System.{SystemValue}
 use Rattle.sdl_tree.specs.Canonical.{canonical_text}
 use Rattle.sdl_tree.specs.Tree.{Tree}
+use Rattle.settle_meaning.specs.Report.{IsSettled}
 use Rattle.sdl_engine.specs.Behaviours.{AreOfText}
 use Rattle.sdl_engine.specs.Input.{IsParted, IsRead}
 use Rattle.sdl_engine.specs.RefusalText.{refusal_line}
@@ -51,21 +53,28 @@ pub record IsAccepted (input : List ℕ) (tree : Tree) (system : SystemValue) (l
   pub is_script : IsScript system lines
   pub says : SaysScript system script lines
 
--- The report is that of a serial run of the system of an accepted input on its script, cut at the limit if it comes to
--- that: so for all behaviours that the texts of the processes have, and they have some.
-pub record IsRunOf (input : List ℕ) (limit : ℕ) (system : SystemValue) (report : Report) : Type 0 where
+-- What the report of a run is, by its workers: without them that of a serial run; with so many it is whole, or cut at the
+-- limit, and nothing is lost in it.
+abbrev pub IsReportBy : Option ℕ → List Behaviour → SystemValue → List ScriptLine → ℕ → Report → Type 0
+IsReportBy None ps system lines limit report = IsSerialReport ps system lines limit report
+IsReportBy (Some workers) ps system lines limit report = IsSettled ps system lines limit report
+
+-- The report is that of a run of the system of an accepted input on its script, cut at the limit if it comes to that: so
+-- for all behaviours that the texts of the processes have, and they have some.
+pub record IsRunOf (input : List ℕ) (workers : Option ℕ) (limit : ℕ) (system : SystemValue)
+    (report : Report) : Type 0 where
   pub tree : Tree
   pub lines : List ScriptLine
   pub accepted : IsAccepted input tree system lines
   pub behaves : (ps : List Behaviour) × AreOfText accepted.built.context system ps
   pub ran : (ps : List Behaviour) → AreOfText accepted.built.context system ps
-      → IsSerialReport ps system lines limit report
+      → IsReportBy workers ps system lines limit report
 
 -- the text of the report of such a run, of one that is whole or of one that was cut
-pub record Reports (input : List ℕ) (limit : ℕ) (whole : Bool) (text : List ℕ) : Type 0 where
+pub record Reports (input : List ℕ) (workers : Option ℕ) (limit : ℕ) (whole : Bool) (text : List ℕ) : Type 0 where
   pub system : SystemValue
   pub report : Report
-  pub run : IsRunOf input limit system report
+  pub run : IsRunOf input workers limit system report
   pub is_whole : report.whole ≡ whole
   pub says : text ≡ report_text system report
 
@@ -76,6 +85,12 @@ pub record Prints (input : List ℕ) (text : List ℕ) : Type 0 where
   pub lines : List ScriptLine
   pub accepted : IsAccepted input tree system lines
   pub canonical : text ≡ canonical_text tree
+
+-- ---- asked
+
+-- No thread is asked for: a run has no workers. A check has no use for them.
+abbrev pub IsSerial : Options → Type 0
+IsSerial options = options.command ≡ command.Run → options.workers ≡ None
 
 -- ---- refused
 
@@ -126,45 +141,53 @@ IsTextRefused bytes (refusal.Build error) = IsBuildRefused bytes error
 IsTextRefused bytes (refusal.Script error) = IsScriptRefused bytes error
 IsTextRefused bytes (refusal.Run error) = ⊥
 
--- What a command may tell of these bytes: both the same of the text, and a run also of itself. It is a run on one
--- thread, which never loses anything.
-abbrev pub AllowsOf : Command → List ℕ → Refusal → Type 0
-AllowsOf command.Run bytes (refusal.Run run.Memory) = IsRunRefused bytes
-AllowsOf command.Run bytes (refusal.Run (run.Lost number)) = ⊥
-AllowsOf how bytes refused = IsTextRefused bytes refused
+-- What a run may tell of itself: want of memory, with workers and without; that something is lost only with workers. A
+-- serial run never loses anything.
+abbrev pub AllowsOfRun : Option ℕ → List ℕ → RunError → Type 0
+AllowsOfRun workers bytes run.Memory = IsRunRefused bytes
+AllowsOfRun None bytes (run.Lost number) = ⊥
+AllowsOfRun (Some workers) bytes (run.Lost number) = IsRunRefused bytes
+
+-- what a command may tell of these bytes: both the same of the text, and a run also of itself
+abbrev pub AllowsOf : Command → Option ℕ → List ℕ → Refusal → Type 0
+AllowsOf command.Run workers bytes (refusal.Run error) = AllowsOfRun workers bytes error
+AllowsOf how workers bytes refused = IsTextRefused bytes refused
 
 -- the same of an input: one that is too long is a text that is too long
-abbrev pub Allows : Command → Input → Refusal → Type 0
-Allows how (Bytes bytes) refused = AllowsOf how bytes.items refused
-Allows how TooLong refused = refused ≡ refusal.Parse (parse.Lex lex.TooLong)
+abbrev pub Allows : Command → Option ℕ → Input → Refusal → Type 0
+Allows how workers (Bytes bytes) refused = AllowsOf how workers bytes.items refused
+Allows how workers TooLong refused = refused ≡ refusal.Parse (parse.Lex lex.TooLong)
 
 -- one line that tells a refusal of this input
-pub record Refuses (asked : Command) (input : Input) (refused_as : Outcome) (text : List ℕ) : Type 0 where
+pub record Refuses (asked : Command) (workers : Option ℕ) (input : Input) (refused_as : Outcome)
+    (text : List ℕ) : Type 0 where
   pub refused : Refusal
-  pub allowed : Allows asked input refused
+  pub allowed : Allows asked workers input refused
   pub kind : outcome_of refused ≡ refused_as
   pub line : text ≡ refusal_line refused
 
 -- ---- what is written
 
 -- what is written of these bytes where they are accepted: of a check the canonical text, of a run its report
-abbrev pub SaysWhole : Command → List ℕ → ℕ → List ℕ → Type 0
-SaysWhole command.Check bytes limit text = Prints bytes text
-SaysWhole command.Run bytes limit text = Reports bytes limit true text
+abbrev pub SaysWhole : Command → Option ℕ → List ℕ → ℕ → List ℕ → Type 0
+SaysWhole command.Check workers bytes limit text = Prints bytes text
+SaysWhole command.Run workers bytes limit text = Reports bytes workers limit true text
 
 -- the report of a run that was cut; a check is never cut
-abbrev pub SaysCut : Command → List ℕ → ℕ → List ℕ → Type 0
-SaysCut command.Check bytes limit text = ⊥
-SaysCut command.Run bytes limit text = Reports bytes limit false text
+abbrev pub SaysCut : Command → Option ℕ → List ℕ → ℕ → List ℕ → Type 0
+SaysCut command.Check workers bytes limit text = ⊥
+SaysCut command.Run workers bytes limit text = Reports bytes workers limit false text
 
 -- what is written of this input, by the outcome
 abbrev pub Says : Input → Options → Outcome → List ℕ → Type 0
-Says (Bytes bytes) options outcome.Whole text = SaysWhole options.command bytes.items options.limit text
-Says (Bytes bytes) options outcome.Cut text = SaysCut options.command bytes.items options.limit text
+Says (Bytes bytes) options outcome.Whole text =
+    SaysWhole options.command options.workers bytes.items options.limit text
+Says (Bytes bytes) options outcome.Cut text = SaysCut options.command options.workers bytes.items options.limit text
 Says TooLong options outcome.Whole text = ⊥
 Says TooLong options outcome.Cut text = ⊥
-Says input options outcome.TextRefused text = Refuses options.command input outcome.TextRefused text
-Says input options outcome.RunRefused text = Refuses options.command input outcome.RunRefused text
+Says input options outcome.TextRefused text =
+    Refuses options.command options.workers input outcome.TextRefused text
+Says input options outcome.RunRefused text = Refuses options.command options.workers input outcome.RunRefused text
 
 -- this is what is written of the input, and all of it went out
 pub record Tells (input : Input) (options : Options) (how : Outcome) (old new : Option (List ℕ)) : Type 0 where
@@ -212,9 +235,9 @@ PrintsInput (Bytes bytes) text = Prints bytes.items text
 PrintsInput TooLong text = ⊥
 
 -- the run of an input
-abbrev pub IsRunOfInput : Input → ℕ → SystemValue → Report → Type 0
-IsRunOfInput (Bytes bytes) limit system report = IsRunOf bytes.items limit system report
-IsRunOfInput TooLong limit system report = ⊥
+abbrev pub IsRunOfInput : Input → Option ℕ → ℕ → SystemValue → Report → Type 0
+IsRunOfInput (Bytes bytes) workers limit system report = IsRunOf bytes.items workers limit system report
+IsRunOfInput TooLong workers limit system report = ⊥
 
 -- whether a report is whole, as an outcome
 abbrev pub outcome_by : Bool → Outcome

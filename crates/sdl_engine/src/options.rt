@@ -1,5 +1,8 @@
 //! What is asked for, and what came of it.
 
+ghost use Rattle.std.specs.Prelude.{◌↔◌, IsTrue};
+ghost use Rattle.sdl_engine.specs.Answer.{IsSerial};
+
 use thiserror::Error;
 
 /// What is asked for.
@@ -15,6 +18,8 @@ pub enum Command {
 #[derive(Clone, Copy, Debug, PartialEq, Eq)]
 pub struct Options {
     pub command: Command,
+    /// How many worker threads run the instances, from 1 to 16. None: the run is serial. A check starts none.
+    pub workers: Option<u8>,
     /// The number of transitions at which a run is cut, from 1 to 1,000,000,000.
     pub limit: u64,
 }
@@ -25,6 +30,16 @@ impl Options {
 
     /// The greatest limit.
     pub const MOST_LIMIT: u64 = 1_000_000_000;
+
+    /// The most workers.
+    pub const MOST_WORKERS: u8 = 16;
+
+    /// Whether no thread is asked for: this is a check, or a run without workers.
+    pub fn is_serial(&self) -> bool
+        ensures { IsTrue result ↔ IsSerial self.now }
+    {
+        self.command == Command::Check || self.workers.is_none()
+    }
 }
 
 /// What was written: the report of a run that is whole, or of one that was cut at its limit; the line that

@@ -1,6 +1,6 @@
 //! An input taken, checked and run: from its bytes to the canonical text of its specification, or to a report.
 
-ghost use Rattle.std.specs.Prelude.{IfOk, IfErr};
+ghost use Rattle.std.specs.Prelude.{IfOk, IfErr, None, Some};
 ghost use Rattle.std.specs.String.{string_bytes};
 ghost use Rattle.sdl_tree.specs.Views.{tree_value};
 ghost use Rattle.sdl_engine.specs.Answer.{Allows, AllowsOf, IsAccepted, IsRunOf, IsRunOfInput, IsTextRefused, Prints, PrintsInput};
@@ -16,8 +16,10 @@ use sdl_print::print;
 use sdl_script::{Script, read_script};
 use sdl_system::System;
 use sdl_tree::Tree;
-use serial_run::run_serial;
+use sdl_workers::{Open, run, run_serial};
 use std::alloc::Global;
+use std::sync::Wait;
+use std::thread::Threads;
 
 /// What an input says that is accepted: the tree of its specification, the system of the tree, and the script for it.
 #[derive(Drop)]
@@ -56,7 +58,7 @@ fn accept(alloc: Global, bytes: &[u8]) -> Result<Accepted, Refusal>
 /// there is none.
 pub fn check_input(alloc: Global, input: &Input) -> Result<String, Refusal>
     ensures ok { IfOk result (λ text. PrintsInput input.now (string_bytes text)) }
-    ensures err { IfErr result (Allows Command.Check input.now) }
+    ensures err { IfErr result (Allows Command.Check None input.now) }
 {
     match input {
         Input::Bytes(bytes) => check_bytes(alloc, bytes.as_slice()),
@@ -66,7 +68,7 @@ pub fn check_input(alloc: Global, input: &Input) -> Result<String, Refusal>
 
 fn check_bytes(alloc: Global, bytes: &[u8]) -> Result<String, Refusal>
     ensures ok { IfOk result (λ text. Prints bytes.now (string_bytes text)) }
-    ensures err { IfErr result (AllowsOf Command.Check bytes.now) }
+    ensures err { IfErr result (AllowsOf Command.Check None bytes.now) }
 {
     let accepted = accept(alloc, bytes)?;
     match print(alloc, &accepted.tree) {
@@ -82,10 +84,10 @@ pub struct Run {
     pub report: Report,
 }
 
-/// The run of an input, cut after so many transitions, or why there is none.
+/// The serial run of an input, cut after so many transitions, or why there is none.
 pub fn run_input(alloc: Global, input: &Input, limit: u64) -> Result<Run, Refusal>
-    ensures ok { IfOk result (λ run. IsRunOfInput input.now limit run.system run.report) }
-    ensures err { IfErr result (Allows Command.Run input.now) }
+    ensures ok { IfOk result (λ run. IsRunOfInput input.now None limit run.system run.report) }
+    ensures err { IfErr result (Allows Command.Run None input.now) }
 {
     match input {
         Input::Bytes(bytes) => run_bytes(alloc, bytes.as_slice(), limit),
@@ -94,11 +96,57 @@ pub fn run_input(alloc: Global, input: &Input, limit: u64) -> Result<Run, Refusa
 }
 
 fn run_bytes(alloc: Global, bytes: &[u8], limit: u64) -> Result<Run, Refusal>
-    ensures ok { IfOk result (λ run. IsRunOf bytes.now limit run.system run.report) }
-    ensures err { IfErr result (AllowsOf Command.Run bytes.now) }
+    ensures ok { IfOk result (λ run. IsRunOf bytes.now None limit run.system run.report) }
+    ensures err { IfErr result (AllowsOf Command.Run None bytes.now) }
 {
     let accepted = accept(alloc, bytes)?;
     match run_serial(alloc, &accepted.system, &accepted.script, limit) {
+        Ok(report) => Ok(Run {
+            system: accepted.system,
+            report,
+        }),
+        Err(error) => Err(Refusal::Run(error)),
+    }
+}
+
+/// The run of an input by so many workers, cut after so many transitions, or why there is none.
+pub fn run_input_by_workers<T: Threads + Wait + Copy + Send + Sync>(
+    rt: &T,
+    alloc: Global,
+    input: &Input,
+    workers: u8,
+    limit: u64,
+) -> Result<Run, Refusal>
+    ensures ok { IfOk result (λ run. IsRunOfInput input.now (Some workers) limit run.system run.report) }
+    ensures err { IfErr result (Allows Command.Run (Some workers) input.now) }
+{
+    match input {
+        Input::Bytes(bytes) => run_bytes_by_workers(rt, alloc, bytes.as_slice(), workers, limit),
+        Input::TooLong => Err(Refusal::Parse(ParseError::Lex(LexError::TooLong))),
+    }
+}
+
+fn run_bytes_by_workers<T: Threads + Wait + Copy + Send + Sync>(
+    rt: &T,
+    alloc: Global,
+    bytes: &[u8],
+    workers: u8,
+    limit: u64,
+) -> Result<Run, Refusal>
+    ensures ok { IfOk result (λ run. IsRunOf bytes.now (Some workers) limit run.system run.report) }
+    ensures err { IfErr result (AllowsOf Command.Run (Some workers) bytes.now) }
+{
+    let accepted = accept(alloc, bytes)?;
+    let count = usize::from(workers);
+    match run(
+        rt,
+        alloc,
+        &accepted.system,
+        &accepted.script,
+        count,
+        limit,
+        &Open,
+    ) {
         Ok(report) => Ok(Run {
             system: accepted.system,
             report,

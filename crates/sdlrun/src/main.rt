@@ -20,7 +20,7 @@ fn main(rt: HostRuntime) -> ExitCode {
         Request::Misused => return ExitCode::from(4),
         Request::Fault(fault) => return ended(&rt, fault),
     };
-    match tell(&rt, task) {
+    match tell(&rt, &rt, task) {
         Ok(Outcome::Whole) => ExitCode::SUCCESS,
         Ok(Outcome::Cut) => ExitCode::from(1),
         Ok(Outcome::TextRefused) => ExitCode::from(2),

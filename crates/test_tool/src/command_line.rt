@@ -7,37 +7,59 @@ use sdl_engine::{Command, Options};
 use std::alloc::Global;
 use std::process::Abort;
 
-/// What a command line asks for: the command and the limit, and the files of the specification and the script.
-type Asked<'a> = (Command, u64, Option<&'a str>, Option<&'a str>);
+/// What a command line asks for: the command, the workers and the limit, and the files of the specification and the
+/// script.
+type Asked<'a> = (Command, Option<u8>, u64, Option<&'a str>, Option<&'a str>);
 
 /// Command lines with what they ask for; none for a mistake, and for help.
-static LINES: [(&str, Option<Asked<'static>>); 18] = [
+static LINES: [(&str, Option<Asked<'static>>); 27] = [
     (
         "sdlrun check",
-        Some((Command::Check, 1_000_000, None, None)),
+        Some((Command::Check, None, 1_000_000, None, None)),
     ),
-    ("sdlrun run", Some((Command::Run, 1_000_000, None, None))),
-    ("sdlrun run --limit 3", Some((Command::Run, 3, None, None))),
+    (
+        "sdlrun run",
+        Some((Command::Run, None, 1_000_000, None, None)),
+    ),
+    (
+        "sdlrun run --limit 3",
+        Some((Command::Run, None, 3, None, None)),
+    ),
     (
         "sdlrun run --limit 1000000000",
-        Some((Command::Run, 1_000_000_000, None, None)),
+        Some((Command::Run, None, 1_000_000_000, None, None)),
     ),
     (
         "sdlrun check a.sdl",
-        Some((Command::Check, 1_000_000, Some("a.sdl"), None)),
+        Some((Command::Check, None, 1_000_000, Some("a.sdl"), None)),
     ),
     (
         "sdlrun check --script b a",
-        Some((Command::Check, 1_000_000, Some("a"), Some("b"))),
+        Some((Command::Check, None, 1_000_000, Some("a"), Some("b"))),
     ),
     (
         "sdlrun run a --limit 4 --script=b",
-        Some((Command::Run, 4, Some("a"), Some("b"))),
+        Some((Command::Run, None, 4, Some("a"), Some("b"))),
     ),
     (
         "sdlrun run --script b",
-        Some((Command::Run, 1_000_000, None, Some("b"))),
+        Some((Command::Run, None, 1_000_000, None, Some("b"))),
     ),
+    (
+        "sdlrun run --workers 1",
+        Some((Command::Run, Some(1), 1_000_000, None, None)),
+    ),
+    (
+        "sdlrun run --workers=16 --limit 5 a",
+        Some((Command::Run, Some(16), 5, Some("a"), None)),
+    ),
+    ("sdlrun run --workers 0", None),
+    ("sdlrun run --workers 17", None),
+    ("sdlrun run --workers 257", None),
+    ("sdlrun run --workers two", None),
+    ("sdlrun run --workers", None),
+    ("sdlrun run --workers 2 --workers 3", None),
+    ("sdlrun check --workers 2", None),
     ("sdlrun run --limit 0", None),
     ("sdlrun run --limit 1000000001", None),
     ("sdlrun check --limit 3", None),
@@ -109,8 +131,18 @@ fn asked_by(told: &Result<Task, Error>) -> Option<Asked<'_>> {
     let Ok(task) = told else {
         return None;
     };
-    let Options { command, limit } = task.options;
-    Some((command, limit, name_in(&task.file), name_in(&task.script)))
+    let Options {
+        command,
+        workers,
+        limit,
+    } = task.options;
+    Some((
+        command,
+        workers,
+        limit,
+        name_in(&task.file),
+        name_in(&task.script),
+    ))
 }
 
 fn name_in(name: &Option<String>) -> Option<&str> {

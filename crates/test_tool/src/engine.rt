@@ -3,7 +3,7 @@
 use crate::devices::{Hurried, Narrow, Restless, Torn, Trickle};
 use sdl_build::BuildError;
 use sdl_engine::{
-    Command, Options, Outcome, Refusal, TextFault, fixed_line, refusal_line, run_text,
+    Command, Options, Outcome, Refusal, TextFault, fixed_line, refusal_line, run_text_serially,
 };
 use sdl_lex::LexError;
 use sdl_parse::ParseError;
@@ -54,11 +54,13 @@ static REFUSAL: &str = "script 1 UnknownSignal\n";
 
 static RUN: Options = Options {
     command: Command::Run,
+    workers: None,
     limit: Options::DEFAULT_LIMIT,
 };
 
 static CHECK: Options = Options {
     command: Command::Check,
+    workers: None,
     limit: Options::DEFAULT_LIMIT,
 };
 
@@ -77,7 +79,7 @@ fn expect_single_bytes(rt: &impl Abort, alloc: Global, options: &Options, output
         taken: Vec::new(alloc),
         interrupted: false,
     };
-    let told = run_text(alloc, &mut reader, &mut writer, options);
+    let told = run_text_serially(alloc, &mut reader, &mut writer, options);
     assert!(rt; told == Ok(Outcome::Whole));
     assert!(rt; writer.taken.as_slice() == output.as_bytes());
 }
@@ -93,7 +95,7 @@ fn expect_torn(rt: &impl Abort, alloc: Global, options: &Options) {
     let mut reader = Torn {
         rest: TEXT.as_bytes(),
     };
-    let told = run_text(alloc, &mut reader, &mut written, options);
+    let told = run_text_serially(alloc, &mut reader, &mut written, options);
     assert!(rt; told == Err(TextFault::Read));
     assert!(rt; written.is_empty());
 }
@@ -118,7 +120,7 @@ fn expect_restless(
         rest: TEXT.as_bytes(),
     };
     let mut written = Vec::new(alloc);
-    let told = run_text(alloc, &mut reader, &mut written, &RUN);
+    let told = run_text_serially(alloc, &mut reader, &mut written, &RUN);
     assert!(rt; told == wanted);
     assert!(rt; written.is_empty() == wanted.is_err());
 }
@@ -161,7 +163,7 @@ fn expect_beginning(
 ) {
     let room = writer.room;
     let mut reader = text.as_bytes();
-    let told = run_text(alloc, &mut reader, &mut writer, options);
+    let told = run_text_serially(alloc, &mut reader, &mut writer, options);
     assert!(rt; told == Err(TextFault::Write));
     assert!(rt; writer.taken.len() == room);
     assert!(rt;

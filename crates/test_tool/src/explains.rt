@@ -1,12 +1,13 @@
 //! What a human is told of a refusal, beside its line.
 
 use crate::devices::Narrow;
-use sdl_engine::{Command, Options, Outcome, run_and_explain};
+use sdl_engine::{Command, Options, Outcome, run_and_explain_serially};
 use std::alloc::Global;
 use std::process::Abort;
 
 static CHECK: Options = Options {
     command: Command::Check,
+    workers: None,
     limit: Options::DEFAULT_LIMIT,
 };
 
@@ -45,7 +46,7 @@ fn expect_notes(rt: &impl Abort, alloc: Global, text: &str, explained: &str) {
     let mut reader = text.as_bytes();
     let mut written = Vec::new(alloc);
     let mut notes = Vec::new(alloc);
-    let told = run_and_explain(alloc, &mut reader, &mut written, &mut notes, &CHECK);
+    let told = run_and_explain_serially(alloc, &mut reader, &mut written, &mut notes, &CHECK);
     assert!(rt; told == Ok(Outcome::TextRefused));
     assert!(rt; notes.as_slice() == explained.as_bytes());
 }
@@ -60,7 +61,7 @@ fn goes_on_where_nothing_can_be_noted(rt: HostRuntime) {
         room: 4,
         fails: true,
     };
-    let told = run_and_explain(rt.alloc(), &mut reader, &mut written, &mut notes, &CHECK);
+    let told = run_and_explain_serially(rt.alloc(), &mut reader, &mut written, &mut notes, &CHECK);
     assert!(rt; told == Ok(Outcome::TextRefused));
     assert!(rt; written.as_slice() == b"build 3:12 Duplicate a\n".as_slice());
 }

@@ -1,7 +1,7 @@
 //! Tests of what no single text can show. Of the whole tool: readers and writers that fail, lines that need no memory,
-//! what a human is told of a refusal, and which words of a command line choose what. Of its crates for texts: that a
-//! canonical text is read as the same tree again, that each beginning of a text is refused by one line, and their
-//! calls.
+//! what a human is told of a refusal, which words of a command line choose what, and runs on worker threads. Of its
+//! crates for texts: that a canonical text is read as the same tree again, that each beginning of a text is refused by
+//! one line, and their calls.
 //!
 //! They stand above all other crates, so that none of these is proved a second time for its tests. Texts with what is
 //! written of them are cases of `conformance`.
@@ -23,6 +23,8 @@ mod explains;
 mod prefixes;
 #[cfg(test)]
 mod specifications;
+#[cfg(test)]
+mod threads;
 #[cfg(test)]
 mod tokens;
 #[cfg(test)]

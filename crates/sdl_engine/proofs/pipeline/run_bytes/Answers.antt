@@ -1,4 +1,4 @@
-use Rattle.std.proofs.Common.{subst, sym}
+use Rattle.std.proofs.Common.{None, subst, sym}
 use Rattle.sdl_tree.specs.Views.{tree_value}
 use Rattle.sdl_engine.proofs.BehaviourLemmas.{behaviours_of_text, some_behaviours}
 use Rattle.sdl_engine.specs.Answer.{AllowsOf, IsRunRefused}
@@ -28,4 +28,4 @@ returns-in-Err-clause-err c =
       lines = taken.script.lines.items;
       accepted = c.in_ok-accepted.ensures.ok;
     } in
-    subst (λ error. AllowsOf command.Run c.args.bytes.now (refusal.Run error)) (sym c.in-Err.ensures.err) refused
+    subst (λ error. AllowsOf command.Run None c.args.bytes.now (refusal.Run error)) (sym c.in-Err.ensures.err) refused

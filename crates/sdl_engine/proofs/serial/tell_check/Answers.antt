@@ -1,9 +1,9 @@
-use Rattle.std.proofs.Common.{subst, sym}
+use Rattle.std.proofs.Common.{refl, subst, sym}
 use Rattle.sdl_engine.specs.Answer.{PrintsInput}
 use Rattle.sdl_engine.specs.declared.options.Command.TheVariants as command
 use Rattle.sdl_engine.specs.declared.options.Outcome.TheVariants as outcome
-use Rattle.sdl_engine.proofs.AnswerLaws.{canonical_says, failed_by, fails_by, refused_by, tells_by}
-use Rattle.sdl_engine.proofs.text.tell_check.Goals as goal
+use Rattle.sdl_engine.proofs.AnswerLaws.{canonical_says, check_allows, failed_by, fails_by, refused_by, tells_by}
+use Rattle.sdl_engine.proofs.serial.tell_check.Goals as goal
 
 pub returns-in-Ok-clause-ok : goal.returns-in-Ok-clause-ok
 returns-in-Ok-clause-ok g c =
@@ -22,10 +22,13 @@ returns-in-Ok-clause-err g c =
 
 pub returns-in-Err-clause-ok : goal.returns-in-Err-clause-ok
 returns-in-Err-clause-ok g c =
-    refused_by command.Check c.args.input.now c.args.options.now c.in-Err.refusal _ _ c.refuse.result c.requires
-    c.in-Err.ensures.err c.refuse.ensures.how c.refuse.ensures.ok
+    let options = c.args.options.now in
+    refused_by command.Check options.workers c.args.input.now options c.in-Err.refusal _ _ c.refuse.result c.requires
+    refl (check_allows options.workers c.args.input.now c.in-Err.refusal c.in-Err.ensures.err) c.refuse.ensures.how
+    c.refuse.ensures.ok
 
 pub returns-in-Err-clause-err : goal.returns-in-Err-clause-err
 returns-in-Err-clause-err g c =
-    failed_by command.Check c.args.input.now c.args.options.now c.in-Err.refusal _ _ c.refuse.result c.requires
-    c.in-Err.ensures.err c.refuse.ensures.err
+    let options = c.args.options.now in
+    failed_by command.Check options.workers c.args.input.now options c.in-Err.refusal _ _ c.refuse.result c.requires
+    refl (check_allows options.workers c.args.input.now c.in-Err.refusal c.in-Err.ensures.err) c.refuse.ensures.err
