@@ -13,6 +13,3 @@ mod settling;
 pub use report::report_of;
 pub use settle_account::Ending;
 pub use settling::settle;
-
-#[test]
-fn compiles() {}

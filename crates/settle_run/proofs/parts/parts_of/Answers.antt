@@ -5,7 +5,7 @@ use Rattle.port_inbox.specs.Ends.{OwnerState}
 use Rattle.run_record.specs.Record.{RecordValue}
 use Rattle.settle_closing.specs.Left.{IsLeftOfOne}
 use Rattle.settle_closing.specs.PortThen.{then_of}
-use Rattle.settle_run.proofs.PartLemmas.{parts_more, parts_none}
+use Rattle.settle_run.proofs.PartLemmas.{parts_more, parts_none, same_flags}
 use Rattle.threads_senders.specs.Peers.{PeersState}
 use Rattle.settle_run.proofs.parts.parts_of.Goals as goal
 
@@ -22,7 +22,7 @@ loop-closing-preserved g c =
     let ports = g.J.Run.ports in
     let closing = c.in-Some.closing in
     let parts = c.into_parts-record.result in
-    let whole : closing.whole ≡ c.args.whole = search rules in
+    let whole : closing.whole ≡ c.args.whole = sym c.whole.ensures ∙ same_flags c.whole.result c.args.whole c.if-whole.false in
     let left : IsLeftOfOne named ports c.args.whole closing.trace closing.owner closing.peers =
     subst (λ b. IsLeftOfOne named ports b closing.trace closing.owner closing.peers) whole c.is_left.ensures in
     parts_more named ports c.args.whole c.args.environment c.loop-closing.records.items c.loop-closing.inboxes.items

@@ -33,9 +33,9 @@ returns g c = λ ps meant.
     report_settled c.closed_have_histories.ensures c.closed_have_put.ensures c.counted_have_put.ensures g.J.Run.system
     g.J.Run.ports ps c.args.shared.now.system.now e.lines e.line c.args.ending.limit e.targets e.peers report
     parts.ports.inboxes.items parts.ports.thens.items parts.ports.places.items is meant c.is_heard.ensures
-    c.into_peers.result c.lines-lines.result.now c.split_at-heard.result.0.now c.line-line.result parts.ports.places.len
+    c.into_peers.result c.lines-lines.result.now c.split_at.result.0.now c.line-line.result parts.ports.places.len
     c.deref-2.result.now c.as_slice-all.result.now c.deref.result.now c.into_peers.ensures c.in_ok-records.ensures
-    c.lines-lines.ensures c.line-line.ensures c.split_at-heard.ensures.front
+    c.lines-lines.ensures c.line-line.ensures c.split_at.ensures.front
     (c.deref-2.ensures.value ∙ c.in_ok-targets.ensures.items ∙ c.targets.ensures) c.as_slice-all.ensures.value
     c.deref.ensures.value parts.ports.places.ok.0 c.in_ok-compare.ensures c.in_ok-end.ensures
     c.in_ok-settle_ports.ensures
