@@ -1,33 +1,28 @@
-//! The environment: the script's signals, and the clock.
+//! What directs a run: it has the environment hear the script, and moves the clock.
 
-ghost use Rattle.std.specs.Prelude.{◌≡◌, ◌≤◌, IfSome, OnOk, true};
-ghost use Rattle.run_semantics.specs.World.{has_port};
-ghost use Rattle.threads_senders.specs.Peers.{is_known};
+ghost use Rattle.std.specs.Prelude.{◌≡◌, ◌≤◌, IfSome, OnOk};
+ghost use Rattle.threads_environment.specs.Environment.{IsNextAfter};
 
 use crate::Crew;
 use crossbeam_utils::sync::Parker;
 use port_inbox::Fuse;
-use port_values::{Item, Ticks};
-use sdl_script::{ScriptLine, ScriptSignal};
-use sdl_system::{Source, Target};
+use port_values::Ticks;
 use sdl_timers::Ticker;
 use std::alloc::{AllocError, Global};
 use std::sync::Wait;
-use threads_senders::{Peers, Run};
+use threads_environment::Environment;
+use threads_senders::Run;
 use threads_shared::Shared;
 
-/// The environment of the run `J`: its senders, what moves the clock, how many lines of the script are heard, where each
-/// signal of these went, and the clock's time.
+/// What directs the run `J` on the calling thread: its environment, what moves the clock, and the clock's time.
 #[derive(Drop)]
-pub struct Environment<J: Run> {
-    pub peers: Peers<J>,
+pub struct Director<'l, J: Run> {
+    pub environment: Environment<'l, J>,
     pub ticker: Ticker,
-    pub line: usize,
-    pub targets: Vec<Target>,
     pub time: Ticks,
 }
 
-/// What the environment finds as it looks.
+/// What the director finds as it looks.
 enum Seen {
     /// The run is over.
     Over,
@@ -37,14 +32,15 @@ enum Seen {
     Rest,
 }
 
-impl<J: Run> Environment<J> {
-    /// The environment at time 0, with no sender. Takes no memory.
-    pub fn new(alloc: Global, ticker: Ticker) -> Self {
-        Environment {
-            peers: Peers::new(alloc),
+impl<'l, J: Run> Director<'l, J> {
+    /// The director of a run at time 0.
+    pub fn new(environment: Environment<'l, J>, ticker: Ticker) -> Self
+        ensures environment { result.environment ≡ environment.entry }
+        ensures time { result.time ≡ 0 }
+    {
+        Director {
+            environment,
             ticker,
-            line: 0,
-            targets: Vec::new(alloc),
             time: Ticks::new(0),
         }
     }
@@ -56,17 +52,18 @@ impl<J: Run> Environment<J> {
         &mut self,
         shared: &Shared<'_, '_, '_, J, R>,
         crew: Crew<'_>,
-        lines: &[ScriptLine],
         parker: &Parker<Global>,
-    ) -> Result<(), AllocError> {
+    ) -> Result<(), AllocError>
+        ensures { self.new.environment.lines ≡ self.old.environment.lines }
+    {
         for _ in shared.rt.forever() {
             match look(shared) {
                 Seen::Over => break,
                 // Before: a worker steps or is to. After: a token came. The last worker that falls asleep unparks the
-                // environment after that, and so does who ends the run; the parker keeps the token.
+                // director after that, and so does who ends the run; the parker keeps the token.
                 Seen::Busy => parker.park(shared.rt),
                 Seen::Rest => {
-                    if !self.tick(shared, crew, lines)? {
+                    if !self.tick(shared, crew)? {
                         crew.wake(shared.tables.close(shared.rt));
                         break;
                     }
@@ -81,157 +78,91 @@ impl<J: Run> Environment<J> {
         &mut self,
         shared: &Shared<'_, '_, '_, J, R>,
         crew: Crew<'_>,
-        lines: &[ScriptLine],
-    ) -> Result<bool, AllocError> {
-        let Some(last) = lines.last() else {
-            return self.move_to(shared, crew, lines, Ticks::new(0));
+    ) -> Result<bool, AllocError>
+        ensures { self.new.environment.lines ≡ self.old.environment.lines }
+    {
+        let last = match self.environment.lines().last() {
+            Some(line) => line.at,
+            None => Ticks::new(0),
         };
-        self.move_to(shared, crew, lines, last.at)
+        match self.next_time(shared) {
+            Some(next) if next <= last => self.move_to(shared, crew, next),
+            _ => Ok(false),
+        }
     }
 
-    /// As `tick`, where the script ends at the time `last`.
+    /// Moves the clock to this time, and does what is due then: all of it is put before somebody is woken, so that who is
+    /// woken finds all of it.
     fn move_to<R: Wait + Copy>(
         &mut self,
         shared: &Shared<'_, '_, '_, J, R>,
         crew: Crew<'_>,
-        lines: &[ScriptLine],
-        last: Ticks,
-    ) -> Result<bool, AllocError> {
-        let Some(next) = self.next_time(shared, lines) else {
-            return Ok(false);
-        };
-        if next > last {
-            return Ok(false);
-        }
+        next: Ticks,
+    ) -> Result<bool, AllocError>
+        ensures { self.new.environment.lines ≡ self.old.environment.lines }
+    {
         self.time = self.time.max(next);
         self.ticker.advance(self.time);
-        for _ in shared.rt.forever() {
-            let Some(fuse) = fire(shared, self.time) else {
-                break;
-            };
-            self.expire(shared, crew, fuse)?;
+        let mut woken = Vec::new(shared.alloc);
+        self.expire_due(shared, &mut woken)?;
+        self.hear_due(shared, &mut woken)?;
+        for number in &woken {
+            wake(shared, crew, *number)?;
         }
-        self.hear_all(shared, crew, lines)?;
         Ok(true)
     }
 
     /// The next time at which something is due: a timer, or a line that is not heard yet.
-    fn next_time<R: Wait + Copy>(
-        &self,
-        shared: &Shared<'_, '_, '_, J, R>,
-        lines: &[ScriptLine],
-    ) -> Option<Ticks> {
+    fn next_time<R: Wait + Copy>(&self, shared: &Shared<'_, '_, '_, J, R>) -> Option<Ticks> {
         // Nobody steps, so each fuse is in the wheel.
         let due = shared.tables.wheel.lock(shared.rt).next_due();
-        let at = match lines.get(self.line) {
-            Some(line) => Some(line.at),
-            None => None,
-        };
-        match (due, at) {
+        match (due, self.environment.next_at()) {
             (Some(due), Some(at)) => Some(due.min(at)),
             (Some(due), None) => Some(due),
             (None, at) => at,
         }
     }
 
-    /// Puts the expiry of a timer whose time has come into the port of its instance.
-    fn expire<R: Wait + Copy>(
+    /// Puts the expiry of each timer whose time has come, and notes whom to wake.
+    fn expire_due<R: Wait + Copy>(
         &mut self,
         shared: &Shared<'_, '_, '_, J, R>,
-        crew: Crew<'_>,
-        fuse: Fuse,
+        woken: &mut Vec<u32>,
     ) -> Result<(), AllocError>
-        requires { fuse.due ≤ self.old.time }
+        ensures lines { self.new.environment.lines ≡ self.old.environment.lines }
+        ensures time { self.new.time ≡ self.old.time }
     {
-        let number = fuse.pid();
-        let Some(port) = shared.common.ports.port(number) else {
-            return Ok(());
-        };
-        self.open(shared, number)?;
-        if self
-            .peers
-            .expire(shared.rt, port, number, fuse, self.time)
-            .is_err()
-        {
-            return Err(AllocError);
-        }
-        wake(shared, crew, number)
-    }
-
-    /// Hears the lines of the script whose time has come.
-    fn hear_all<R: Wait + Copy>(
-        &mut self,
-        shared: &Shared<'_, '_, '_, J, R>,
-        crew: Crew<'_>,
-        lines: &[ScriptLine],
-    ) -> Result<(), AllocError> {
-        for _ in 0..lines.len() {
-            let Some(line) = lines.get(self.line) else {
+        for _ in shared.rt.forever() {
+            let Some(fuse) = fire(shared, self.time) else {
                 break;
             };
-            if line.at > self.time {
-                break;
-            }
-            self.line = self.line.saturating_add(1);
-            if let Some(signal) = &line.signal {
-                self.hear(shared, crew, signal)?;
-            }
+            woken.push(self.environment.expire(shared, fuse, self.time)?)?;
         }
         Ok(())
     }
 
-    /// Puts a signal of the script into the port of its target. What goes to the environment, to null, to nobody or to a
-    /// number that nobody has is gone.
-    fn hear<R: Wait + Copy>(
+    /// Hears the lines whose time has come, and notes whom to wake.
+    fn hear_due<R: Wait + Copy>(
         &mut self,
         shared: &Shared<'_, '_, '_, J, R>,
-        crew: Crew<'_>,
-        signal: &ScriptSignal,
-    ) -> Result<(), AllocError> {
-        let item = &signal.item;
-        let target = route(shared, signal);
-        self.targets.push(target)?;
-        let Target::Instance(number) = target else {
-            return Ok(());
-        };
-        if shared.common.entries.find(number).is_none() {
-            return Ok(());
-        }
-        let Some(port) = shared.common.ports.port(number) else {
-            return Ok(());
-        };
-        self.open(shared, number)?;
-        let heard = Item {
-            name: item.name,
-            values: item.values.copied()?,
-            sender: item.sender,
-        };
-        if self.peers.put(shared.rt, port, number, heard).is_err() {
-            return Err(AllocError);
-        }
-        wake(shared, crew, number)
-    }
-
-    /// Sees to it that there is a sender into the port of this number.
-    fn open<R: Wait + Copy>(
-        &mut self,
-        shared: &Shared<'_, '_, '_, J, R>,
-        number: u32,
+        woken: &mut Vec<u32>,
     ) -> Result<(), AllocError>
-        requires { has_port number ≡ true }
-        ensures known { OnOk result (is_known self.new.peers number ≡ true) }
+        ensures lines { self.new.environment.lines ≡ self.old.environment.lines }
         ensures time { self.new.time ≡ self.old.time }
+        ensures heard { OnOk result (IsNextAfter self.new.time self.new.environment) }
     {
-        if self.peers.is_known(number) {
-            return Ok(());
+        for _turn in 0..self.environment.lines().len() {
+            let Some(at) = self.environment.next_at() else {
+                return Ok(());
+            };
+            if at > self.time {
+                return Ok(());
+            }
+            if let Some(number) = self.environment.hear(shared)? {
+                woken.push(number)?;
+            }
         }
-        let Ok(sender) = shared.common.ports.sender(shared.rt, number) else {
-            return Err(AllocError);
-        };
-        match self.peers.open(number, sender) {
-            Ok(()) => Ok(()),
-            Err(_) => Err(AllocError),
-        }
+        Ok(())
     }
 }
 
@@ -250,21 +181,11 @@ fn look<J: Run, R: Wait + Copy>(shared: &Shared<'_, '_, '_, J, R>) -> Seen {
     }
 }
 
-/// Where a signal of the script goes, by those that live now. Nobody steps.
-fn route<J: Run, R: Wait + Copy>(
-    shared: &Shared<'_, '_, '_, J, R>,
-    signal: &ScriptSignal,
-) -> Target {
-    let roster = shared.tables.roster.lock(shared.rt);
-    shared
-        .system
-        .route(signal.item.name, Source::Env, signal.to, roster.living())
-}
-
 /// Takes out of the wheel the first fuse whose time has come.
 fn fire<J: Run, R: Wait + Copy>(shared: &Shared<'_, '_, '_, J, R>, to: Ticks) -> Option<Fuse>
     ensures { IfSome result (λ fuse. fuse.due ≤ to) }
 {
+    // Before: nobody steps, so each fuse is in the wheel. After: the fuse is the caller's alone.
     let fuse = shared.tables.wheel.lock(shared.rt).fire(to)?;
     // No clause says what the wheel under the lock held.
     if fuse.due() <= to { Some(fuse) } else { None }

@@ -1,18 +1,18 @@
-//! The loops of a run on threads: those of the workers, which make the steps, and that of the environment, which puts the
-//! script's signals and moves the clock (Z.101: system, environment).
+//! The loops of a run on threads: those of the workers, which make the steps, and that of the director, which has the
+//! environment hear the script and moves the clock (Z.101: system, environment).
 //!
 //! A worker takes a number out of its queue, makes steps of that instance, and wakes whom it has sent something. Time moves
 //! only at rest: all workers sleep, and no number is queued. Which instance steps when isn't fixed, and no contract says
 //! that a thread gets on: who waits has the bound `Wait`.
 #![tactic(auto)]
 
-mod environment;
+mod director;
 mod gate;
 mod job;
 mod waking;
 mod worker;
 
-pub use environment::Environment;
+pub use director::Director;
 pub use gate::{Gate, Open};
 pub use waking::Crew;
 pub use worker::work;

@@ -3,12 +3,12 @@
 use crossbeam_utils::sync::Unparker;
 use std::alloc::Global;
 
-/// What wakes the threads of a run: the workers by their places, and the environment. Each of them parks on a parker of
+/// What wakes the threads of a run: the workers by their places, and the director. Each of them parks on a parker of
 /// its own, which keeps one token: an unpark before the park is not lost.
 #[derive(Clone, Copy, Drop)]
 pub struct Crew<'a> {
     pub workers: &'a [Unparker<Global>],
-    pub environment: &'a Unparker<Global>,
+    pub director: &'a Unparker<Global>,
 }
 
 impl<'a> Crew<'a> {

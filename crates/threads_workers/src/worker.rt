@@ -24,7 +24,7 @@ pub fn work<J: Run, R: Wait + Copy, G: Gate>(
 ) {
     if rounds(shared, crew, gate, me, &parker, reader, seat).is_err() {
         crew.wake(shared.tables.fail(shared.rt));
-        crew.environment.unpark();
+        crew.director.unpark();
     }
 }
 
@@ -80,7 +80,7 @@ fn round<J: Run, R: Wait + Copy, G: Gate>(
         }
         Turn::Sleep { rest } => {
             if rest {
-                crew.environment.unpark();
+                crew.director.unpark();
             }
             // Before: this worker is noted as asleep, under the lock under which numbers are queued. After: a token came.
             // Whoever takes it out of the sleepers unparks it after that, and the parker keeps the token; so a number that
@@ -134,5 +134,5 @@ fn given<J: Run, R: Wait + Copy>(
 /// Sees to it that all others end, too. What this worker has queued stays there: the instances are in their places.
 fn end<J: Run, R: Wait + Copy>(shared: &Shared<'_, '_, '_, J, R>, crew: Crew<'_>) {
     crew.wake(shared.tables.close(shared.rt));
-    crew.environment.unpark();
+    crew.director.unpark();
 }
