@@ -18,6 +18,3 @@ mod routing;
 pub use comparing::compare;
 pub use counting::counts_of;
 pub use ending::{Ending, end_of_run};
-
-#[test]
-fn compiles() {}

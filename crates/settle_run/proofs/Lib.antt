@@ -1,3 +1,3 @@
 mod PartLemmas
 mod PortLemmas
-mod Settling
+mod SettledLemmas

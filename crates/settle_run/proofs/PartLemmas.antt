@@ -1,5 +1,6 @@
 -- What is left of a run, instance by instance.
-use Rattle.std.proofs.Common.{◌≡◌, ◌∙◌, ◌<◌, ◌+◌, ap, arith, get_or, length, refl, subst, sym, ⊎_elim, ℕ, Bool, List, [], ◌∷◌, ◌++◌, Option}
+use mathlib.Core.Bool.{beq, not}
+use Rattle.std.proofs.Common.{◌≡◌, ◌∙◌, ◌<◌, ◌+◌, ap, arith, get_or, length, refl, subst, sym, ⊎_elim, ℕ, Bool, true, false, List, [], ◌∷◌, ◌++◌, Option}
 use Rattle.std.specs.declared.alloc.Global.{Global}
 use Rattle.std.proofs.lemmas.Bool.{cases_eq}
 use Rattle.std.proofs.lemmas.List.{get_or_append_left, get_or_default, get_or_push, length_push}
@@ -15,6 +16,13 @@ use Rattle.settle_closing.specs.PortThen.{then_of}
 use Rattle.settle_closing.specs.declared.ending.PortThen.{PortThen}
 use Rattle.settle_run.specs.Parts.{AreParts, AreThensOf, owner_at}
 use Rattle.threads_senders.specs.Peers.{PeersState, put_to}
+
+-- two answers that a test finds to be the same
+pub same_flags : (x y : Bool) → not (beq x y) ≡ false → x ≡ y
+same_flags true true e = refl
+same_flags true false e = e
+same_flags false true e = sym e
+same_flags false false e = refl
 
 abbrev none : HeldState
 none = record { owner = newborn no_port 0; since = [] }

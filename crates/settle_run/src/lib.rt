@@ -8,11 +8,8 @@
 mod parts;
 mod ports;
 mod report;
-mod settle;
+mod settling;
 
 pub use report::report_of;
-pub use settle::settle;
 pub use settle_account::Ending;
-
-#[test]
-fn compiles() {}
+pub use settling::settle;

@@ -29,7 +29,7 @@ pub fn settle_ports<'p, J: Run, K: Fixed, R: Wait + Copy>(
     requires puts { AllAt (HavePut K.puts) ports.places.items }
     requires owners { AreOwnersOf K.owners J.ports records.now ports.inboxes.items }
     requires thens { AreThensOf K.owners ports.thens.items }
-    ensures { OnOk result (AreSettledPorts K.puts K.owners (vec_len ports.places) whole end records.now) }
+    ensures { OnOk result (AreSettledPorts K.puts K.owners (vec_len ports.entry.places) whole end records.now) }
 {
     let PortParts {
         inboxes,

@@ -44,12 +44,13 @@ pub fn report_of<'p, J: Run, R: Wait + Copy>(
     environment.is_heard();
     let targets = Vec::from_slice(alloc, environment.targets())?;
     let Parts { records, ports } = parts_of(alloc, whole, closings, environment.into_peers())?;
-    compare(alloc, system, &records, &ports.places, heard, &targets)?;
-    let end = end_of_run(lines, line, &records, ending)?;
+    let all = records.as_slice();
+    compare(alloc, system, all, &ports.places, heard, &targets)?;
+    let end = end_of_run(lines, line, all, ending)?;
     closed_have_histories();
     closed_have_put();
     counted_have_put();
-    settle_ports::<J, Brand, R>(shared, &records, ports, whole, end)?;
+    settle_ports::<J, Brand, R>(shared, all, ports, whole, end)?;
     Ok(Report {
         records,
         end,

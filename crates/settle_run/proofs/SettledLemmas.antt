@@ -1,5 +1,5 @@
 -- A report is settled: all that was tested, counted and kept by types says so.
-use Rattle.std.proofs.Common.{◌≡◌, ◌<◌, ◌+◌, get_or, length, subst, sym, ℕ, List, [], Option, Some, All}
+use Rattle.std.proofs.Common.{◌≡◌, ◌∙◌, ◌<◌, ◌+◌, ap, get_or, length, subst, sym, take, ℕ, List, [], Option, Some, All}
 use Rattle.std.specs.Prelude.{Contains}
 use Rattle.std.specs.declared.alloc.Global.{Global}
 use Rattle.std.proofs.lemmas.List.Elements.{All-contains_itself, All-get_or}
@@ -16,12 +16,13 @@ use Rattle.sdl_system.specs.Behaviour.{Behaviour}
 use Rattle.sdl_system.specs.System.{SystemValue}
 use Rattle.sdl_system.specs.declared.route.Target.{Target}
 use Rattle.settle_account.specs.Account.{AreCompared, ArePlaces, CountedHavePut, put_at}
+use Rattle.settle_checks.specs.Outputs.{targets_of}
 use Rattle.settle_closing.specs.ClosingLaws.{ClosedHaveHistories, ClosedHavePut}
 use Rattle.settle_closing.specs.History.{HasHistoryOf}
 use Rattle.settle_closing.specs.Left.{IsLeftOfOne}
 use Rattle.settle_closing.specs.declared.ending.PortThen.{PortThen}
 use Rattle.settle_meaning.specs.Closed.{Ends}
-use Rattle.settle_meaning.specs.Puts.{ArePut, Heard, IsNamed, heard_by}
+use Rattle.settle_meaning.specs.Puts.{ArePut, Heard, IsNamed, heard_by, signals_heard, signals_of}
 use Rattle.settle_meaning.specs.Report.{HasHistory, IsSettled}
 use Rattle.settle_run.specs.Parts.{AreParts, AreSettledPorts, IsSettledPort, owner_at}
 use Rattle.threads_environment.specs.Environment.{IsHeardBy}
@@ -93,3 +94,49 @@ module _ (closed_have_histories : ClosedHaveHistories) (closed_have_put : Closed
     signals = compared.signals;
     ends = ended;
   }
+
+-- so it is by what was tested on the same values under other names
+module _ (closed_have_histories : ClosedHaveHistories) (closed_have_put : ClosedHavePut)
+    (counted_have_put : CountedHavePut) (named : Option SystemValue) (ports : ℕ → SegId Global) (ps : List Behaviour)
+    (system : SystemValue) (lines : List ScriptLine) (line limit : ℕ) (targets : List Target) (environment : PeersState)
+    (report : Report) (inboxes : List HeldState) (thens : List PortThen) (places : List PeersState)
+    (is : named ≡ Some system) (meant : AreBehaviours system ps) (by_lines : IsHeardBy lines line targets environment)
+  where
+    abbrev of_report : List RecordValue
+    of_report = report.records.items
+
+    pub report_settled : (senders : PeersState) (all first : List ScriptLine) (count long : ℕ) (went : List Target)
+        (traces : List RecordValue) (peers : List PeersState) → senders ≡ environment
+        → AreParts named ports report.whole senders of_report inboxes thens places → all ≡ lines → count ≡ line
+        → first ≡ take count all → went ≡ targets → traces ≡ of_report → peers ≡ places → long ≡ length places
+        → ((heard : List Heard) → signals_heard heard ≡ signals_of first → targets_of heard ≡ went
+        → AreCompared system heard traces peers)
+        → ((heard : List Heard) → signals_heard heard ≡ signals_of (take count all)
+        → Ends report.whole all limit heard traces report.end)
+        → AreSettledPorts (put_at places) (owner_at inboxes) long report.whole report.end traces
+        → IsSettled ps system lines limit report
+    report_settled senders all first count long went traces peers senders_are parts all_is count_is first_is went_is
+        traces_are peers_are long_is compares ends settled =
+        let heard : List Heard = by_lines.heard in
+        let taken : take count all ≡ take line lines =
+        ap (λ n. take n all) count_is ∙ ap (λ (l : List ScriptLine). take line l) all_is in
+        let compared : AreCompared system heard of_report places =
+        subst (λ (l : List PeersState). AreCompared system heard of_report l) peers_are
+        (subst (λ (l : List RecordValue). AreCompared system heard l peers) traces_are
+        (compares heard (by_lines.signals ∙ ap signals_of (sym (first_is ∙ taken)))
+        (by_lines.targets_are ∙ sym went_is))) in
+        let ended : Ends report.whole lines limit heard of_report report.end =
+        subst (λ (l : List ScriptLine). Ends report.whole l limit heard of_report report.end) all_is
+        (subst (λ (l : List RecordValue). Ends report.whole all limit heard l report.end) traces_are
+        (ends heard (by_lines.signals ∙ ap signals_of (sym taken)))) in
+        let counted : AreSettledPorts (put_at places) (owner_at inboxes) (length places) report.whole report.end of_report =
+        subst
+        (λ n. AreSettledPorts (put_at places) (owner_at inboxes) n report.whole report.end of_report)
+        long_is
+        (subst
+        (λ (l : List RecordValue). AreSettledPorts (put_at places) (owner_at inboxes) long report.whole report.end l)
+        traces_are settled) in
+        is_settled closed_have_histories closed_have_put counted_have_put named ports ps system lines line limit targets
+        environment report inboxes thens places is meant by_lines
+        (subst (λ (p : PeersState). AreParts named ports report.whole p of_report inboxes thens places) senders_are parts)
+        compared ended counted

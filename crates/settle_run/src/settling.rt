@@ -41,7 +41,8 @@ pub fn settle<J: Run, R: Wait + Copy>(
     let at = run_rest(shared, own, &mut environment, at, left)?;
     let whole = made_by(shared) < limit;
     let closings = close_all(shared, own, whole, at)?;
-    report_of(shared, closings, environment, Ending { whole, at, limit })
+    let report = report_of(shared, closings, environment, Ending { whole, at, limit })?;
+    Ok(report)
 }
 
 /// How many transitions all instances have recorded.
