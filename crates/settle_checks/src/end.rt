@@ -19,7 +19,8 @@ pub fn transitions(records: &[Record]) -> Option<u64>
     Some(count)
 }
 
-fn transitions_in(record: &Record) -> usize
+/// How many transitions the record has.
+pub fn transitions_in(record: &Record) -> usize
     ensures { result ≡ meaning.transitions_in record.now }
 {
     let (entries, _) = record.kept();

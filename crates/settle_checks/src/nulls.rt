@@ -34,7 +34,7 @@ pub fn have_causes(system: &System, records: &[Record]) -> bool
 }
 
 /// Whether each create of null in the record has a cause.
-fn has_causes(system: &System, records: &[Record], record: &Record) -> bool
+pub fn has_causes(system: &System, records: &[Record], record: &Record) -> bool
     ensures { IsTrue result → All (HasCause system.now records.now) record.now.events }
 {
     let (entries, _) = record.kept();
@@ -92,8 +92,8 @@ fn count_of(records: &[Record], process: ProcessId) -> usize
         .count()
 }
 
-/// Whether an instance fails for want of memory.
-fn some_memory(records: &[Record]) -> bool
+/// Whether an instance failed for want of memory.
+pub fn some_memory(records: &[Record]) -> bool
     ensures { result ≡ list_any meaning.fails_by_memory records.now }
 {
     records.iter().any(|record| fails_by_memory(record))

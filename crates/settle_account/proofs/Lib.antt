@@ -1,0 +1,6 @@
+mod CountLemmas
+mod EndLemmas
+pub mod Lists
+mod PutLemmas
+mod RouteLemmas
+mod RowLemmas

@@ -1,0 +1,24 @@
+-- Each step tells a part.
+use Rattle.std.proofs.Common.{◌<◌, length, rules, subst, sym, []}
+use Rattle.std.proofs.lemmas.List.{get_or_read}
+use Rattle.settle_account.specs.Account.{IsAllHeard}
+use Rattle.settle_checks.specs.Outputs.{AreNamed}
+use Rattle.threads_senders.specs.Peers.{PeersState}
+use Rattle.settle_account.proofs.comparing.compare.Goals as goal
+
+pub returns : goal.returns
+returns g c = λ heard signals targets.
+    let records = c.args.records.now in
+    let places = c.args.places.now in
+    let named : AreNamed heard c.in_ok-names.names.items = c.in_ok-names.ensures heard signals in
+    let within : 0 < length places = search rules in
+    record {
+      made = c.in_ok-all_made.ensures.made;
+      nulls = c.in_ok-all_caused.ensures;
+      outputs = c.in_ok-all_meant.ensures.outputs;
+      signals = c.in_ok-all_meant.ensures.signals heard signals targets;
+      put = c.in_ok-all_put.ensures heard (subst (AreNamed heard) (sym c.deref-2.ensures.value) named);
+      heard_put = subst (λ (peers : PeersState). IsAllHeard heard records peers)
+          (get_or_read places 0 c.index-places-0.result within c.index-places-0.is [])
+          (c.in_ok-all_heard.ensures heard targets (subst (AreNamed heard) (sym c.deref.ensures.value) named));
+    }

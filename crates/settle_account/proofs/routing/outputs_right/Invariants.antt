@@ -1,0 +1,11 @@
+use Rattle.std.proofs.Common.{◌≡◌, ◌<◌, get_or, ℕ}
+use Rattle.run_record.specs.Record.{RecordValue}
+use Rattle.settle_meaning.specs.Living.{AreMeant}
+use Rattle.settle_account.proofs.routing.outputs_right.Given as goal
+
+abbrev pub invariant-loop-record : goal.invariant-loop-record
+invariant-loop-record l =
+    record {
+      same : l.first ≡ l.initial.first;
+      right : (k : ℕ) (d : RecordValue) → k < l.record-index → AreMeant l.system l.records (get_or l.records k d);
+    }

@@ -1,0 +1,7 @@
+mod ClosedLemmas
+mod DueTimes
+mod Ends
+mod Entries
+mod Meant
+mod PortLemmas
+mod Stepping

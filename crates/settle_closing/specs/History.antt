@@ -1,0 +1,41 @@
+-- The history of a port for the record of its instance (Z.101: agent, input port; Z.102: timer).
+use Rattle.std.specs.Prelude.{◌≡◌, ◌⊎◌, ℕ, Bool, true, false, List, All}
+use Rattle.input_port.specs.Counts.{signals_in}
+use Rattle.port_inbox.specs.Ends.{OwnerState, signals_drawn}
+use Rattle.port_inbox.specs.declared.placed.Placed.{Placed}
+use Rattle.port_model.specs.History.{IsLegal, PortEvent}
+use Rattle.port_model.specs.Port.{PortState, empty_port}
+use Rattle.run_record.specs.Event.{Event}
+use Rattle.run_record.specs.Record.{RecordValue}
+use Rattle.sdl_system.specs.Behaviour.{Behaviour}
+use Rattle.sdl_system.specs.System.{SystemValue}
+use Rattle.settle_meaning.specs.Closed.{AreDueAfter, ClosesAs, EndsIn, IsEnd}
+use Rattle.settle_meaning.specs.Histories.{HaveSets, IsInTime, IsRunOn, puts_of}
+
+-- The record is a run of its process on a legal history of its port, in which just these signals are put, in their order;
+-- each expiry is in time and of a timer that was set, and the record closes as the report says.
+pub record HasHistoryOf (ps : List Behaviour) (system : SystemValue) (whole : Bool) (end : ℕ) (trace : RecordValue)
+    (drawn : List Placed) : Type 0 where
+  pub history : List PortEvent
+  pub port : PortState
+  pub legal : IsLegal empty_port history port
+  pub run : IsRunOn ps system trace history port
+  pub puts : puts_of history ≡ signals_in drawn
+  pub in_time : All IsInTime history
+  pub sets : HaveSets history
+  pub closes : ClosesAs whole end trace.events history port
+
+-- ---- what is tested once all is drawn that was put
+
+-- Nothing came that could wake it: the port lived as the record was closed, as many signals are drawn in the end as by
+-- then, and no timer is due by the end.
+pub record RestsStill (end : ℕ) (first owner : OwnerState) : Type 0 where
+  pub lived : first.state.alive ≡ true
+  pub signals : signals_drawn owner ≡ signals_drawn first
+  pub timers : AreDueAfter end owner.state.timers
+
+-- A record with these events closes as it is to: in a whole run it ends with a stop or a failure, or the instance rests
+-- still. In a run that is cut each does.
+abbrev pub EndsAs : Bool → ℕ → List Event → OwnerState → OwnerState → Type 0
+EndsAs true end events first owner = EndsIn IsEnd events ⊎ RestsStill end first owner
+EndsAs false end events first owner = Unit {0}

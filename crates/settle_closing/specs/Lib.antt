@@ -1,0 +1,4 @@
+pub mod ClosingLaws
+pub mod History
+pub mod Left
+pub mod PortThen

@@ -1,0 +1,7 @@
+-- What is known of a port as the record of its instance was closed.
+use Rattle.port_inbox.specs.Ends.{OwnerState, signals_drawn}
+use Rattle.settle_closing.specs.declared.ending.PortThen.{PortThen}
+
+-- of the port of this owner
+abbrev pub then_of : OwnerState → PortThen
+then_of owner = record { lived = owner.state.alive; signals = signals_drawn owner }

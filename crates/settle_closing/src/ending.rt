@@ -1,0 +1,79 @@
+//! Whether a record closes as it is to, once all is drawn that was put.
+
+ghost use Rattle.std.specs.Prelude.{◌≡◌, ◌↔◌, [], IsTrue};
+ghost use Rattle.port_inbox.specs.Ends.{OwnerState};
+ghost use Rattle.run_record.specs.Entry.{event_of};
+ghost use Rattle.settle_closing.specs.History.{EndsAs, RestsStill};
+ghost use Rattle.settle_closing.specs.PortThen.{then_of};
+ghost use Rattle.settle_meaning.specs.Closed.{AreDueAfter, EndsIn, IsEnd};
+ghost use Rattle.settle_meaning.specs.Living as living;
+
+use input_port::Held;
+use port_values::Ticks;
+use run_record::{Entry, Record};
+use std::sync::Wait;
+
+/// What is known of a port as the record of its instance was closed.
+#[derive(Clone, Copy, Debug, PartialEq, Eq)]
+pub struct PortThen {
+    /// Whether it lived.
+    pub lived: bool,
+    /// How many signals had been drawn from it.
+    pub signals: u64,
+}
+
+/// Whether a record closes as it is to, in a run that ends at this time, by what is drawn from its port in the end: in a
+/// `whole` run it ends with a stop or a failure, or the instance rests still. In a run that is cut each does.
+pub fn ends_as<R: Wait + Copy>(
+    whole: bool,
+    end: Ticks,
+    trace: &Record,
+    then: PortThen,
+    inbox: &Held<'_, R>,
+) -> bool
+    ensures { (first : OwnerState) → then ≡ then_of first
+        → (IsTrue result ↔ EndsAs whole end trace.now.events first inbox.now.owner) }
+{
+    !whole || has_ended(trace) || rests_still(end, then, inbox)
+}
+
+/// Whether the record ends with a stop or a failure.
+fn has_ended(trace: &Record) -> bool
+    ensures { IsTrue result ↔ EndsIn IsEnd trace.now.events }
+{
+    let (entries, _) = trace.kept();
+    match entries.last() {
+        Some(entry) => is_end(*entry),
+        None => false,
+    }
+}
+
+/// Whether an instance ends with this event.
+fn is_end(entry: Entry) -> bool
+    ensures { result ≡ living.is_end (event_of entry []) }
+{
+    match entry {
+        Entry::Stop => true,
+        Entry::Failed { .. } => true,
+        Entry::FailedAt { .. } => true,
+        _ => false,
+    }
+}
+
+/// Whether nothing came that could wake the instance.
+fn rests_still<R: Wait + Copy>(end: Ticks, then: PortThen, inbox: &Held<'_, R>) -> bool
+    ensures { (first : OwnerState) → then ≡ then_of first
+        → (IsTrue result ↔ RestsStill end first inbox.now.owner) }
+{
+    then.lived && inbox.signals() == then.signals && rests_by(end, inbox)
+}
+
+/// Whether no timer is due by this time.
+fn rests_by<R: Wait + Copy>(end: Ticks, inbox: &Held<'_, R>) -> bool
+    ensures { IsTrue result ↔ AreDueAfter end inbox.now.owner.state.timers }
+{
+    match inbox.least_due() {
+        Some(due) => end < due,
+        None => true,
+    }
+}

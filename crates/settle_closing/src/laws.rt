@@ -1,0 +1,31 @@
+//! What is known of what is left of an instance, as functions that do nothing.
+
+ghost use Rattle.settle_closing.specs.ClosingLaws.{ClosedHaveHistories, ClosedHavePut, LeftWithoutPeers};
+
+use settle_meaning::laws::{
+    expiries_have_sets, late_is_nothing, puts_come_from_outside, rests_are_for_good,
+    runs_are_legal, runs_hear_what_is_drawn, stopped_stays,
+};
+
+/// What is left of an instance has a history of its port, once all that was put is drawn (Z.101: agent, input port).
+pub fn closed_have_histories()
+    ensures { ClosedHaveHistories }
+{
+    runs_are_legal();
+    runs_hear_what_is_drawn();
+    rests_are_for_good();
+    late_is_nothing();
+    stopped_stays();
+    expiries_have_sets();
+    puts_come_from_outside();
+}
+
+/// What its senders have put is the end of what its record sends (Z.102: output).
+pub fn closed_have_put()
+    ensures { ClosedHavePut }
+{}
+
+/// What is known of it is known without its senders, too.
+pub fn left_without_peers()
+    ensures { LeftWithoutPeers }
+{}

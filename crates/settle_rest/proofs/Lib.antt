@@ -1,0 +1,2 @@
+mod Arming
+mod ReadyNumbers

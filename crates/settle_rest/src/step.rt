@@ -1,0 +1,131 @@
+//! A step of an instance that is in its place.
+
+ghost use Rattle.std.specs.Prelude.{◌≡◌, ◌⊎◌, ◌+◌, ◌<◌, ◌≤◌, ℕ, Contains, IfOk, OnOk, length};
+ghost use Rattle.serial_sweeps.specs.Sweeps.{IsNoFuseBefore};
+ghost use Rattle.serial_sweeps.specs.declared.instance_set.Made.TheVariants.{Transition};
+ghost use Rattle.settle_rest.specs.Woken.{AreNumbers};
+
+use crate::instances::Rest;
+use crate::waking::{arm_all, wake, wake_receivers};
+use port_values::Ticks;
+use run_evaluation::Identity;
+use run_record::RunError;
+use sdl_interp::Stepped;
+use serial_sweeps::{Agenda, Made};
+use std::alloc::AllocError;
+use std::sync::Wait;
+use threads_senders::Run;
+use threads_shared::{Own, Seated, Shared, StepRuntime};
+
+impl<'w, 'l, 's, 'p, 'e, J: Run, R: Wait + Copy> Rest<'w, 'l, 's, 'p, 'e, J, R> {
+    /// One step of the instance that is in the place of this number, and all that comes after it. If none is there, nobody
+    /// of this number has anything to do.
+    pub fn step_at(&mut self, agenda: &mut Agenda, number: u32) -> Result<Made, RunError>
+        requires fits { AreNumbers agenda.old.ready }
+        requires ready { Contains agenda.old.ready number }
+        ensures fits { OnOk result (AreNumbers agenda.new.ready) }
+        ensures clock { agenda.new.clock ≡ agenda.old.clock }
+        ensures fuses { (until : ℕ) → until ≤ agenda.old.clock + 1 → IsNoFuseBefore until agenda.old.fuses
+            → OnOk result (IsNoFuseBefore until agenda.new.fuses) }
+        ensures fewer { IfOk result (λ made. (made ≡ Transition) ⊎ (length agenda.new.ready < length agenda.old.ready)) }
+        ensures environment { self.new.environment ≡ self.old.environment }
+        ensures given { self.old.given ≤ self.new.given }
+    {
+        let shared = self.shared;
+        let Some(place) = shared.places.of(number) else {
+            agenda.ready.rest(number);
+            return Ok(Made::Nothing);
+        };
+        // The threads are joined, so the lock is free.
+        let mut guard = place.lock(shared.rt);
+        let Some(seated) = guard.as_mut() else {
+            agenda.ready.rest(number);
+            return Ok(Made::Nothing);
+        };
+        self.step_of(agenda, number, seated)
+    }
+
+    /// One step of an instance: its fuses wait, whom it has sent something or created is woken, and who has ended lives no
+    /// more.
+    fn step_of(
+        &mut self,
+        agenda: &mut Agenda,
+        number: u32,
+        seated: &mut Seated<'s, 'p, J, R>,
+    ) -> Result<Made, RunError>
+        requires fits { AreNumbers agenda.old.ready }
+        requires ready { Contains agenda.old.ready number }
+        ensures fits { OnOk result (AreNumbers agenda.new.ready) }
+        ensures clock { agenda.new.clock ≡ agenda.old.clock }
+        ensures fuses { (until : ℕ) → until ≤ agenda.old.clock + 1 → IsNoFuseBefore until agenda.old.fuses
+            → OnOk result (IsNoFuseBefore until agenda.new.fuses) }
+        ensures fewer { IfOk result (λ made. (made ≡ Transition) ⊎ (length agenda.new.ready < length agenda.old.ready)) }
+        ensures environment { self.new.environment ≡ self.old.environment }
+        ensures given { self.old.given ≤ self.new.given }
+    {
+        let told = seated.trace().len();
+        let stepped = step(self.shared, self.own, seated, agenda.clock);
+        arm_all(agenda, &mut self.own.fuses)?;
+        match stepped {
+            Stepped::Idle => {
+                agenda.ready.rest(number);
+                return Ok(Made::Nothing);
+            }
+            Stepped::Moved => {}
+            Stepped::Ended { counts } => {
+                agenda.ready.rest(number);
+                self.end(seated.who());
+                if !counts {
+                    return Ok(Made::Failure);
+                }
+            }
+        }
+        self.wake_created(agenda)?;
+        let (entries, _) = seated.trace().kept();
+        if let Some(news) = entries.get(told..) {
+            wake_receivers(&mut agenda.ready, news)?;
+        }
+        Ok(Made::Transition)
+    }
+
+    /// An instance has ended, and lives no more.
+    fn end(&mut self, who: Identity)
+        ensures { self.new ≡ self.old }
+    {
+        let shared = self.shared;
+        shared
+            .tables
+            .roster
+            .lock(shared.rt)
+            .end(who.process, who.pid);
+        shared.tables.signs.roster_changed();
+    }
+
+    /// Whom a step has created has a number now, and has its start to make.
+    fn wake_created(&mut self, agenda: &mut Agenda) -> Result<(), AllocError>
+        ensures numbers { AreNumbers agenda.old.ready → AreNumbers agenda.new.ready }
+        ensures kept { (n : ℕ) → Contains agenda.old.ready n → Contains agenda.new.ready n }
+        ensures clock { agenda.new.clock ≡ agenda.old.clock }
+        ensures fuses { agenda.new.fuses ≡ agenda.old.fuses }
+        ensures environment { self.new.environment ≡ self.old.environment }
+        ensures given { self.old.given ≤ self.new.given }
+    {
+        while let Some(number) = self.own.queue.pop_front() {
+            self.given = self.given.max(number);
+            wake(&mut agenda.ready, number)?;
+        }
+        Ok(())
+    }
+}
+
+/// One step of an instance at this time. The fuses of its timers and the numbers of whom it has created are this thread's
+/// own then.
+fn step<'s, 'p, J: Run, R: Wait + Copy>(
+    shared: &Shared<'_, 's, 'p, J, R>,
+    own: &mut Own<J>,
+    seated: &mut Seated<'s, 'p, J, R>,
+    time: Ticks,
+) -> Stepped {
+    let mut runtime = StepRuntime { shared, own };
+    seated.step(shared.alloc, shared.rt, &mut runtime, time)
+}

@@ -1,0 +1,3 @@
+mod PartLemmas
+mod PortLemmas
+mod SettledLemmas

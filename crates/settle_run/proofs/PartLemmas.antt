@@ -1,0 +1,139 @@
+-- What is left of a run, instance by instance.
+use mathlib.Core.Bool.{beq, not}
+use Rattle.std.proofs.Common.{◌≡◌, ◌∙◌, ◌<◌, ◌+◌, ap, arith, get_or, length, refl, subst, sym, ⊎_elim, ℕ, Bool, true, false, List, [], ◌∷◌, ◌++◌, Option}
+use Rattle.std.specs.declared.alloc.Global.{Global}
+use Rattle.std.proofs.lemmas.Bool.{cases_eq}
+use Rattle.std.proofs.lemmas.List.{get_or_append_left, get_or_default, get_or_push, length_push}
+use Rattle.crossbeam_queue.specs.SegTies.{SegId}
+use Rattle.input_port.specs.Ends.{HeldState}
+use Rattle.port_inbox.specs.Ends.{OwnerState, no_port}
+use Rattle.port_queue.specs.Ends.{newborn}
+use Rattle.run_record.specs.Record.{RecordValue}
+use Rattle.sdl_system.specs.System.{SystemValue}
+use Rattle.settle_account.specs.Account.{AllAt, AreOwnersOf, HavePut, put_at}
+use Rattle.settle_closing.specs.Left.{IsLeftOfOne}
+use Rattle.settle_closing.specs.PortThen.{then_of}
+use Rattle.settle_closing.specs.declared.ending.PortThen.{PortThen}
+use Rattle.settle_run.specs.Parts.{AreParts, AreThensOf, owner_at}
+use Rattle.threads_senders.specs.Peers.{PeersState, put_to}
+
+-- two answers that a test finds to be the same
+pub same_flags : (x y : Bool) → not (beq x y) ≡ false → x ≡ y
+same_flags true true e = refl
+same_flags true false e = e
+same_flags false true e = sym e
+same_flags false false e = refl
+
+abbrev none : HeldState
+none = record { owner = newborn no_port 0; since = [] }
+
+owner_before : (inboxes : List HeldState) (inbox : HeldState) (k : ℕ) → k < length inboxes
+    → owner_at (inboxes ++ inbox ∷ []) k ≡ owner_at inboxes k
+owner_before inboxes inbox k within =
+    ap (λ (h : HeldState). h.owner) (get_or_append_left inboxes (inbox ∷ []) none k within)
+
+owner_last : (inboxes : List HeldState) (inbox : HeldState) (k : ℕ) → length inboxes ≡ k
+    → owner_at (inboxes ++ inbox ∷ []) k ≡ inbox.owner
+owner_last inboxes inbox k at = ap (λ (h : HeldState). h.owner) (get_or_push inboxes inbox none k at)
+
+module _ (named : Option SystemValue) (ports : ℕ → SegId Global) (whole : Bool) (environment : PeersState) where
+  left_same : (trace t : RecordValue) (owner o : OwnerState) (peers p : PeersState) → trace ≡ t → owner ≡ o → peers ≡ p
+      → IsLeftOfOne named ports whole t o p → IsLeftOfOne named ports whole trace owner peers
+  left_same trace t owner o peers p trace_is owner_is peers_are left =
+      subst (λ (x : RecordValue). IsLeftOfOne named ports whole x owner peers) (sym trace_is)
+      (subst (λ (x : OwnerState). IsLeftOfOne named ports whole t x peers) (sym owner_is)
+      (subst (λ (x : PeersState). IsLeftOfOne named ports whole t o x) (sym peers_are) left))
+
+  -- no instance so far
+  pub parts_none : (records : List RecordValue) (inboxes : List HeldState) (thens : List PortThen)
+      (places : List PeersState) → records ≡ [] → inboxes ≡ [] → thens ≡ [] → places ≡ environment ∷ []
+      → AreParts named ports whole environment records inboxes thens places
+  parts_none records inboxes thens places records_are inboxes_are thens_are places_are = record {
+    inboxes_long = ap length inboxes_are ∙ sym (ap length records_are);
+    thens_long = ap length thens_are ∙ sym (ap length records_are);
+    places_long = ap length places_are ∙ sym (ap (λ (l : List RecordValue). length l + 1) records_are);
+    environment_is = ap (λ (l : List PeersState). get_or l 0 []) places_are;
+    left = λ k d within.
+        let few : length records ≡ 0 = ap length records_are in
+        let wrong : ⊥ = omega (arith, within, few) in absurd wrong;
+    thens_are = λ k d within.
+        let few : length thens ≡ 0 = ap length thens_are in
+        let wrong : ⊥ = omega (arith, within, few) in absurd wrong;
+  }
+
+  module _ (records : List RecordValue) (inboxes : List HeldState) (thens : List PortThen) (places : List PeersState)
+      (are : AreParts named ports whole environment records inboxes thens places) (trace : RecordValue)
+      (inbox : HeldState) (then : PortThen) (peers : PeersState)
+      (here : IsLeftOfOne named ports whole trace inbox.owner peers) (then_is : then ≡ then_of inbox.owner) where
+    left_more : (k : ℕ) (d : RecordValue) → k < length (records ++ trace ∷ [])
+        → IsLeftOfOne named ports whole (get_or (records ++ trace ∷ []) k d) (owner_at (inboxes ++ inbox ∷ []) k)
+        (get_or (places ++ peers ∷ []) (k + 1) [])
+    left_more k d within =
+        ⊎_elim
+        (λ (same : k ≡ length records).
+        left_same (get_or (records ++ trace ∷ []) k d) trace (owner_at (inboxes ++ inbox ∷ []) k) inbox.owner
+        (get_or (places ++ peers ∷ []) (k + 1) []) peers (get_or_push records trace d k (sym same))
+        (owner_last inboxes inbox k (are.inboxes_long ∙ sym same))
+        (get_or_push places peers [] (k + 1) (are.places_long ∙ ap (λ n. n + 1) (sym same))) here)
+        (λ (apart : k ≡ length records → ⊥).
+        let less : k < length records = grind (arith, within, apart, length_push records trace) in
+        let there : k < length inboxes = omega (arith, less, are.inboxes_long) in
+        let at_place : k + 1 < length places = omega (arith, less, are.places_long) in
+        left_same (get_or (records ++ trace ∷ []) k d) (get_or records k d) (owner_at (inboxes ++ inbox ∷ []) k)
+        (owner_at inboxes k) (get_or (places ++ peers ∷ []) (k + 1) []) (get_or places (k + 1) [])
+        (get_or_append_left records (trace ∷ []) d k less) (owner_before inboxes inbox k there)
+        (get_or_append_left places (peers ∷ []) [] (k + 1) at_place) (are.left k d less))
+        (cases_eq k (length records))
+
+    thens_more : AreThensOf (owner_at (inboxes ++ inbox ∷ [])) (thens ++ then ∷ [])
+    thens_more k d within =
+        ⊎_elim
+        (λ (same : k ≡ length thens).
+        get_or_push thens then d k (sym same) ∙ then_is
+        ∙ ap then_of (sym (owner_last inboxes inbox k (are.inboxes_long ∙ sym are.thens_long ∙ sym same))))
+        (λ (apart : k ≡ length thens → ⊥).
+        let less : k < length thens = grind (arith, within, apart, length_push thens then) in
+        let there : k < length inboxes = omega (arith, less, are.inboxes_long, are.thens_long) in
+        get_or_append_left thens (then ∷ []) d k less ∙ are.thens_are k d less
+        ∙ ap then_of (sym (owner_before inboxes inbox k there)))
+        (cases_eq k (length thens))
+
+    parts_one : AreParts named ports whole environment (records ++ trace ∷ []) (inboxes ++ inbox ∷ [])
+        (thens ++ then ∷ []) (places ++ peers ∷ [])
+    parts_one = record {
+      inboxes_long = length_push inboxes inbox ∙ ap (λ n. n + 1) are.inboxes_long ∙ sym (length_push records trace);
+      thens_long = length_push thens then ∙ ap (λ n. n + 1) are.thens_long ∙ sym (length_push records trace);
+      places_long = length_push places peers ∙ ap (λ n. n + 1) are.places_long
+          ∙ ap (λ n. n + 1) (sym (length_push records trace));
+      environment_is = get_or_append_left places (peers ∷ []) [] 0 (omega (arith, are.places_long))
+          ∙ are.environment_is;
+      left = left_more;
+      thens_are = thens_more;
+    }
+
+    -- one instance more
+    pub parts_more : (more_records : List RecordValue) (more_inboxes : List HeldState) (more_thens : List PortThen)
+        (more_places : List PeersState) → more_records ≡ records ++ trace ∷ [] → more_inboxes ≡ inboxes ++ inbox ∷ []
+        → more_thens ≡ thens ++ then ∷ [] → more_places ≡ places ++ peers ∷ []
+        → AreParts named ports whole environment more_records more_inboxes more_thens more_places
+    parts_more more_records more_inboxes more_thens more_places records_are inboxes_are thens_are places_are =
+        rw (records_are, inboxes_are, thens_are, places_are) parts_one
+
+  -- the owners and the ports, and what was put
+  pub are_owners : (records : List RecordValue) (inboxes : List HeldState) (thens : List PortThen)
+      (places : List PeersState) → AreParts named ports whole environment records inboxes thens places
+      → AreOwnersOf (owner_at inboxes) ports records inboxes
+  are_owners records inboxes thens places are k d within trace below is =
+      let owner : (get_or inboxes k d).owner ≡ owner_at inboxes k =
+      ap (λ (h : HeldState). h.owner) (get_or_default inboxes k d none within) in
+      let left : IsLeftOfOne named ports whole (get_or records k trace) (owner_at inboxes k) (get_or places (k + 1) []) =
+      are.left k trace below in
+      record {
+        owner = owner;
+        port = ap (λ (o : OwnerState). o.port) (owner ∙ left.left.owner_is) ∙ left.left.seated.port
+            ∙ ap ports (sym left.left.closed.pid ∙ ap (λ (t : RecordValue). t.pid) (sym is));
+      }
+
+pub have_put : (places : List PeersState) → AllAt (HavePut (put_at places)) places
+have_put places k d within number =
+    ap (λ (peers : PeersState). put_to peers number) (get_or_default places k d [] within)

@@ -1,0 +1,52 @@
+-- What is left of a run whose records are closed (Z.101: system).
+use Rattle.std.specs.Prelude.{◌≡◌, ◌+◌, ◌<◌, ℕ, Bool, List, [], Option, length, slice_index_or}
+use Rattle.std.specs.declared.alloc.Global.{Global}
+use Rattle.crossbeam_queue.specs.SegTies.{SegId}
+use Rattle.input_port.specs.Ends.{HeldState}
+use Rattle.input_port.specs.Held.{IsKept}
+use Rattle.port_inbox.specs.Ends.{OwnerState, no_port}
+use Rattle.port_queue.specs.Ends.{newborn}
+use Rattle.port_values.specs.declared.item.Item.{Item}
+use Rattle.run_record.specs.Record.{RecordValue}
+use Rattle.sdl_system.specs.System.{SystemValue}
+use Rattle.settle_account.specs.Account.{AllAt}
+use Rattle.settle_closing.specs.History.{EndsAs}
+use Rattle.settle_closing.specs.Left.{IsLeftOfOne}
+use Rattle.settle_closing.specs.PortThen.{then_of}
+use Rattle.settle_closing.specs.declared.ending.PortThen.{PortThen}
+use Rattle.settle_gathering.specs.Gathering.{IsCounted}
+use Rattle.threads_senders.specs.Peers.{PeersState}
+
+-- the owner of a port, by its place among the records
+abbrev pub owner_at : List HeldState → ℕ → OwnerState
+owner_at inboxes k = (slice_index_or inboxes k (record { owner = newborn no_port 0; since = [] })).owner
+
+-- what was known of each port as its record was closed
+abbrev pub AreThensOf : (ℕ → OwnerState) → List PortThen → Type 0
+AreThensOf owners thens = AllAt (λ k (one : PortThen). one ≡ then_of (owners k)) thens
+
+-- The record k, its port, what was known of the port as the record was closed, and its senders, at the place k + 1, are
+-- what is left of one instance. The senders at the place 0 are the environment's.
+pub record AreParts (named : Option SystemValue) (ports : ℕ → SegId Global) (whole : Bool) (environment : PeersState)
+    (records : List RecordValue) (inboxes : List HeldState) (thens : List PortThen) (places : List PeersState)
+    : Type 0 where
+  pub inboxes_long : length inboxes ≡ length records
+  pub thens_long : length thens ≡ length records
+  pub places_long : length places ≡ length records + 1
+  pub environment_is : slice_index_or places 0 [] ≡ environment
+  pub left : AllAt (λ k (trace : RecordValue).
+      IsLeftOfOne named ports whole trace (owner_at inboxes k) (slice_index_or places (k + 1) [])) records
+  pub thens_are : AreThensOf (owner_at inboxes) thens
+
+-- The port of a record was counted, with the senders of so many places, and the record closes as the run ends.
+pub record IsSettledPort (put : ℕ → List Item) (places : ℕ) (whole : Bool) (end : ℕ) (first : OwnerState)
+    (trace : RecordValue) : Type 0 where
+  pub owner : OwnerState
+  pub counted : IsCounted put places first owner
+  pub kept : IsKept owner
+  pub ends : EndsAs whole end trace.events first owner
+
+-- so it is of the port of each record
+abbrev pub AreSettledPorts : (ℕ → ℕ → List Item) → (ℕ → OwnerState) → ℕ → Bool → ℕ → List RecordValue → Type 0
+AreSettledPorts puts owners places whole end records =
+    AllAt (λ k (trace : RecordValue). IsSettledPort (puts trace.pid) places whole end (owners k) trace) records

@@ -1,0 +1,114 @@
+//! The ports of a run, once all that was put is drawn.
+
+ghost use Rattle.std.specs.Prelude.{◌≡◌, ℕ, OnOk, vec_len};
+ghost use Rattle.settle_account.specs.Account.{AllAt, AreCountsOf, AreOwnersOf, HavePut};
+ghost use Rattle.settle_closing.specs.PortThen.{then_of};
+ghost use Rattle.settle_run.specs.Parts.{AreSettledPorts, AreThensOf, IsSettledPort};
+
+use crate::parts::PortParts;
+use input_port::Held;
+use port_values::Ticks;
+use run_record::{Record, RunError};
+use settle_account::counts_of;
+use settle_checks::some_memory;
+use settle_closing::{PortThen, ends_as};
+use settle_gathering::{Counted, Fixed};
+use std::sync::Wait;
+use threads_senders::Run;
+use threads_shared::Shared;
+
+/// Counts the ports of all records, and looks whether the records close as the run ends. That the name says what the
+/// places have put and who the owners are is the caller's condition. Lost: with the number of the port.
+pub fn settle_ports<'p, J: Run, K: Fixed, R: Wait + Copy>(
+    shared: &Shared<'_, '_, 'p, J, R>,
+    records: &[Record],
+    ports: PortParts<'p, J, R>,
+    whole: bool,
+    end: Ticks,
+) -> Result<(), RunError>
+    requires puts { AllAt (HavePut K.puts) ports.places.items }
+    requires owners { AreOwnersOf K.owners J.ports records.now ports.inboxes.items }
+    requires thens { AreThensOf K.owners ports.thens.items }
+    ensures { OnOk result (AreSettledPorts K.puts K.owners (vec_len ports.entry.places) whole end records.now) }
+{
+    let PortParts {
+        inboxes,
+        thens,
+        places,
+    } = ports;
+    let counted = counts_of::<J, K, R>(shared.alloc, records, inboxes, places)?;
+    look_at_all(records, &thens, &counted, whole, end)?;
+    if !some_memory(records) {
+        all_gathered(shared, &counted)?;
+    }
+    Ok(())
+}
+
+/// Looks whether each record closes as the run ends.
+fn look_at_all<J: Run, K: Fixed, R: Wait + Copy>(
+    records: &[Record],
+    thens: &[PortThen],
+    counted: &[Counted<'_, J, K, R>],
+    whole: bool,
+    end: Ticks,
+) -> Result<(), RunError>
+    requires { AreThensOf K.owners thens.now }
+    ensures { OnOk result ((places : ℕ) → AreCountsOf places records.now counted.now
+        → AreSettledPorts K.puts K.owners places whole end records.now) }
+{
+    for k in 0..records.len() {
+        if k >= thens.len() || k >= counted.len() {
+            return Err(RunError::Lost(records[k].pid()));
+        }
+        look_at(&records[k], thens[k], &counted[k], whole, end)?;
+    }
+    Ok(())
+}
+
+/// Looks whether a record closes as the run ends, by what was known of its port and by its count.
+fn look_at<J: Run, K: Fixed, R: Wait + Copy>(
+    trace: &Record,
+    then: PortThen,
+    counted: &Counted<'_, J, K, R>,
+    whole: bool,
+    end: Ticks,
+) -> Result<(), RunError>
+    ensures { OnOk result (then ≡ then_of (K.owners counted.now.at) → IsSettledPort (K.puts counted.now.number)
+        counted.now.places whole end (K.owners counted.now.at) trace.now) }
+{
+    let inbox = counted.inbox();
+    counted.is_counted();
+    inbox.is_kept();
+    if !ends_as(whole, end, trace, then, inbox) {
+        return Err(RunError::Lost(trace.pid()));
+    }
+    Ok(())
+}
+
+/// Looks whether each sender that a port has given out was gathered there.
+///
+/// An instance that finds no memory for a sender lets it go, and fails. So in a run in which none failed for want of
+/// memory each sender has put something or will, and one that is missing was lost.
+fn all_gathered<J: Run, K: Fixed, R: Wait + Copy>(
+    shared: &Shared<'_, '_, '_, J, R>,
+    counted: &[Counted<'_, J, K, R>],
+) -> Result<(), RunError> {
+    for one in counted {
+        if lacks_sender(shared, one.number(), one.inbox()) {
+            return Err(RunError::Lost(one.number()));
+        }
+    }
+    Ok(())
+}
+
+/// Whether the port of this number has given out more senders than it gathered.
+fn lacks_sender<J: Run, R: Wait + Copy>(
+    shared: &Shared<'_, '_, '_, J, R>,
+    number: u32,
+    inbox: &Held<'_, R>,
+) -> bool {
+    if shared.common.ports.port(number).is_none() {
+        return true;
+    }
+    u64::from(shared.common.ports.given(shared.rt, number)) > inbox.gathered()
+}

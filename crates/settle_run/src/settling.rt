@@ -1,0 +1,98 @@
+//! The end of a run on threads, on the calling thread.
+
+ghost use Rattle.std.specs.Prelude.{List, IfOk};
+ghost use Rattle.run_semantics.specs.Behaves.{AreBehaviours};
+ghost use Rattle.sdl_system.specs.Behaviour.{Behaviour};
+ghost use Rattle.settle_meaning.specs.Report.{IsSettled};
+
+use crate::report::report_of;
+use port_values::Ticks;
+use run_record::{Report, RunError};
+use settle_account::Ending;
+use settle_checks::transitions_in;
+use settle_closing::{Closing, close};
+use settle_rest::run_rest;
+use std::sync::Wait;
+use threads_environment::Environment;
+use threads_senders::Run;
+use threads_shared::{Own, Seated, Shared};
+
+/// How many numbers there are.
+const MOST_NUMBERS: u32 = 1_000;
+
+/// Settles a run, at this time: goes on with it on this thread where fewer transitions than `limit` are made, closes all
+/// records, and gives the report. All threads of the run are joined: the caller's condition. The report is settled, for
+/// all behaviours that the processes of the system mean: whole or cut, and nothing was lost between threads.
+///
+/// Memory: no room for the records, or for what is sent. Lost, with a number: an instance that is entered isn't in its
+/// place; in a whole run one doesn't rest; or as `report_of` tells it.
+pub fn settle<J: Run, R: Wait + Copy>(
+    shared: &Shared<'_, '_, '_, J, R>,
+    own: &mut Own<J>,
+    environment: Environment<'_, J>,
+    at: Ticks,
+    limit: u64,
+) -> Result<Report, RunError>
+    ensures { IfOk result (λ report. (ps : List Behaviour) → AreBehaviours shared.now.system.now ps
+        → IsSettled ps shared.now.system.now environment.entry.lines limit report) }
+{
+    let mut environment = environment;
+    let left = limit.saturating_sub(made_by(shared));
+    let at = run_rest(shared, own, &mut environment, at, left)?;
+    let whole = made_by(shared) < limit;
+    let closings = close_all(shared, own, whole, at)?;
+    let report = report_of(shared, closings, environment, Ending { whole, at, limit })?;
+    Ok(report)
+}
+
+/// How many transitions all instances have recorded.
+fn made_by<J: Run, R: Wait + Copy>(shared: &Shared<'_, '_, '_, J, R>) -> u64 {
+    let mut count: u64 = 0;
+    for number in 1..=MOST_NUMBERS {
+        count = count.saturating_add(made_at(shared, number));
+    }
+    count
+}
+
+/// How many transitions the instance of this number has recorded. 0: there is none in its place.
+fn made_at<J: Run, R: Wait + Copy>(shared: &Shared<'_, '_, '_, J, R>, number: u32) -> u64 {
+    let Some(place) = shared.places.of(number) else {
+        return 0;
+    };
+    // Before: all threads are joined, so the lock is free. After: nobody but this thread has changed what is there.
+    let guard = place.lock(shared.rt);
+    match guard.as_ref() {
+        Some(seated) => transitions_in(seated.trace()) as u64,
+        None => 0,
+    }
+}
+
+/// Closes the records of all instances that are entered, by ascending numbers.
+fn close_all<'p, J: Run, R: Wait + Copy>(
+    shared: &Shared<'_, '_, 'p, J, R>,
+    own: &mut Own<J>,
+    whole: bool,
+    at: Ticks,
+) -> Result<Vec<Closing<'p, J, R>>, RunError> {
+    let mut closings = Vec::new(shared.alloc);
+    for number in 1..=MOST_NUMBERS {
+        if shared.common.entries.find(number).is_some() {
+            closings.push(close(leave(shared, number)?, shared, own, whole, at)?)?;
+        }
+    }
+    Ok(closings)
+}
+
+/// Takes the instance of this number out of its place. Lost: it isn't there.
+fn leave<'s, 'p, J: Run, R: Wait + Copy>(
+    shared: &Shared<'_, 's, 'p, J, R>,
+    number: u32,
+) -> Result<Seated<'s, 'p, J, R>, RunError> {
+    let Some(place) = shared.places.of(number) else {
+        return Err(RunError::Lost(number));
+    };
+    match place.leave(shared.rt) {
+        Some(seated) => Ok(seated),
+        None => Err(RunError::Lost(number)),
+    }
+}
