@@ -16,7 +16,8 @@ struct Case {
 }
 
 /// Two that send to each other for ever.
-static PING_PONG: &str = "system S; signal x, y; process A; start; output x; nextstate s; state s; input y; \
+static PING_PONG: &str =
+    "system S; signal x, y; process A; start; output x; nextstate s; state s; input y; \
     output x; nextstate -; endprocess; process B; start; nextstate s; state s; input x; output y; nextstate -; \
     endprocess; endsystem;";
 
@@ -73,7 +74,12 @@ fn compare<R: Wait + Abort + Copy>(rt: &R, alloc: Global, case: &Case) {
     let settled = settle_named(rt, &given, plan).expect(rt, "a settled report");
     let wanted = text_of(rt, alloc, &serial, &given.system);
     let text = text_of(rt, alloc, &settled, &given.system);
-    assert!(rt; text.as_str() == wanted.as_str(), "{}\nis wanted, not\n{}", wanted, text);
+    assert!(rt;
+        text.as_str() == wanted.as_str(),
+        "{}\nis wanted, not\n{}",
+        wanted,
+        text
+    );
 }
 
 #[test]
