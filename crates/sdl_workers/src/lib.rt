@@ -1,0 +1,13 @@
+//! The runs of a system (Z.101: system, agent): on one thread, and on several.
+//!
+//! `run_serial` runs on one thread, in a fixed order. `run` runs on several: workers make the steps in any order, and time
+//! moves only where nobody can act. Its report is whole, or cut at the limit, and nothing was lost between threads.
+#![tactic(auto)]
+
+mod naming;
+mod threaded;
+
+pub use run_record::RunError;
+pub use serial_run::run_serial;
+pub use threaded::run;
+pub use threads_workers::{Gate, Open};

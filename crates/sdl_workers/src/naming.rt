@@ -1,0 +1,119 @@
+//! A run under its name.
+
+ghost use Rattle.std.specs.Prelude.{◌≡◌, All, IfOk, List, Some, vec_len};
+ghost use Rattle.run_semantics.specs.Behaves.{AreBehaviours};
+ghost use Rattle.sdl_system.specs.Behaviour.{Behaviour};
+ghost use Rattle.settle_meaning.specs.Report.{IsSettled};
+ghost use Rattle.threads_environment.specs.Environment.{IsOfEnv};
+ghost use Rattle.threads_ports.specs.Named.{AreMade, AreNamed};
+
+use run_record::{Report, RunError};
+use sdl_instances::{Entries, Seat, Table};
+use sdl_script::ScriptLine;
+use sdl_system::System;
+use sdl_timers::{NewClock, clock};
+use settle_run::settle;
+use std::alloc::Global;
+use std::sync::Wait;
+use std::thread::Threads;
+use threads_crew::{begin, direct};
+use threads_environment::Environment;
+use threads_ports::{NewPorts, NumberSeat, Numbers, Ports};
+use threads_queue::Places;
+use threads_senders::Run;
+use threads_shared::{Common, Own, Shared, Tables};
+use threads_workers::{Director, Gate};
+
+/// What a run goes by: the lines of its script, how many workers it has, and its limit of transitions.
+#[derive(Clone, Copy, Drop)]
+pub struct Plan<'a> {
+    pub alloc: Global,
+    pub lines: &'a [ScriptLine],
+    pub workers: usize,
+    pub limit: u64,
+}
+
+/// A run under the name `J`: its system, ports and table are those that the name says.
+pub fn run_named<J: Run + Send + Sync, R: Threads + Wait + Copy + Send + Sync, G: Gate + Sync>(
+    rt: &R,
+    system: &System,
+    plan: Plan<'_>,
+    made: NewPorts,
+    table: Table,
+    seat: Seat,
+    gate: &G,
+) -> Result<Report, RunError>
+    requires system { J.system ≡ Some system.now }
+    requires all { vec_len made.rows ≡ 1000 }
+    requires ports { AreNamed J.ports made.rows.items }
+    requires made { AreMade made.rows.items made.desks.items made.owners.items }
+    requires table { table.id ≡ J.table }
+    requires seat { seat.table ≡ J.table }
+    requires lines { All IsOfEnv plan.lines.now }
+    ensures settled { IfOk result (λ report. (ps : List Behaviour) → AreBehaviours system.now ps
+        → IsSettled ps system.now plan.entry.lines.now plan.entry.limit report) }
+{
+    let common: Common<J> = Common {
+        ports: Ports::new(made),
+        numbers: Numbers::new(table),
+        entries: Entries::new(plan.alloc)?,
+    };
+    run_common(rt, system, plan, &common, NumberSeat::new(seat), gate)
+}
+
+/// A run over what lasts as long as it.
+fn run_common<J: Run + Send + Sync, R: Threads + Wait + Copy + Send + Sync, G: Gate + Sync>(
+    rt: &R,
+    system: &System,
+    plan: Plan<'_>,
+    common: &Common<J>,
+    seat: NumberSeat<J>,
+    gate: &G,
+) -> Result<Report, RunError>
+    requires system { J.system ≡ Some system.now }
+    requires lines { All IsOfEnv plan.lines.now }
+    ensures settled { IfOk result (λ report. (ps : List Behaviour) → AreBehaviours system.now ps
+        → IsSettled ps system.now plan.entry.lines.now plan.entry.limit report) }
+{
+    let alloc = plan.alloc;
+    let tables = Tables::new(alloc, system, plan.workers, plan.limit)?;
+    let places = Places::new(alloc)?;
+    let shared = Shared {
+        alloc,
+        rt,
+        system,
+        common,
+        tables: &tables,
+        places: &places,
+    };
+    run_shared(&shared, plan, seat, gate)
+}
+
+/// A run over all that its threads share: they work, are joined, and the run is settled.
+fn run_shared<J: Run + Send + Sync, R: Threads + Wait + Copy + Send + Sync, G: Gate + Sync>(
+    shared: &Shared<'_, '_, '_, J, R>,
+    plan: Plan<'_>,
+    seat: NumberSeat<J>,
+    gate: &G,
+) -> Result<Report, RunError>
+    requires { All IsOfEnv plan.lines.now }
+    ensures settled { IfOk result (λ report. (ps : List Behaviour) → AreBehaviours shared.now.system.now ps
+        → IsSettled ps shared.now.system.now plan.entry.lines.now plan.entry.limit report) }
+{
+    let mut seat = seat;
+    let NewClock { ticker, mut reader } = clock(plan.alloc)?;
+    let environment = Environment::new(plan.alloc, plan.lines);
+    begin(shared, &mut seat)?;
+    let director = Director::new(environment, ticker);
+    let Director {
+        environment,
+        time,
+        ..
+    } = direct(shared, director, &mut reader, &mut seat, plan.workers, gate)?;
+    if shared.tables.signs.has_failed() {
+        return Err(RunError::Memory);
+    }
+    let processes = shared.system.processes().len();
+    let mut own = Own::new(plan.alloc, reader, seat, processes, 1)?;
+    settle(shared, &mut own, environment, time, plan.limit)
+}

@@ -1,0 +1,54 @@
+//! A run on several threads.
+
+ghost use Rattle.std.specs.Prelude.{All, IfOk, List};
+ghost use Rattle.run_semantics.specs.Behaves.{AreBehaviours};
+ghost use Rattle.sdl_script.specs.Script.{SendsFromEnv};
+ghost use Rattle.sdl_system.specs.Behaviour.{Behaviour};
+ghost use Rattle.settle_meaning.specs.Report.{IsSettled};
+
+use crate::naming::{Plan, run_named};
+use run_record::{Report, RunError};
+use sdl_instances::birth;
+use sdl_script::Script;
+use sdl_system::System;
+use std::alloc::Global;
+use std::marker::Brand;
+use std::sync::Wait;
+use std::thread::Threads;
+use threads_ports::birth as ports;
+use threads_workers::Gate;
+
+/// Runs a system on a script, on so many threads beside the calling one, which is the environment: until nobody can act,
+/// the script is at its end and no timer is due by then, or until `limit` transitions are made, and perhaps some more. A
+/// thread that can't be started is left out. `gate` hears of each step that a worker makes, before it is made. `workers`
+/// is 1 to 16, `limit` 1 at least, and the script is one for the system: the caller's conditions.
+///
+/// The report is settled, for all behaviours that the processes of the system mean: whole, or cut at the limit; each record
+/// is a run of its process on a legal history of its port, and nothing was lost between threads.
+///
+/// Memory: the environment, or a table of the run, found none. Lost, with a number: a signal, an expiry or an instance is
+/// missing, or a target or a create's null is not what it may be. Every thread is joined, whatever the answer is.
+#[tactic(auto, using(crate::proofs::Sending::lines_of_env))]
+pub fn run<R: Threads + Wait + Copy + Send + Sync, G: Gate + Sync>(
+    rt: &R,
+    alloc: Global,
+    system: &System,
+    script: &Script,
+    workers: usize,
+    limit: u64,
+    gate: &G,
+) -> Result<Report, RunError>
+    requires { All (SendsFromEnv system.now) script.now.lines.items }
+    ensures { IfOk result (λ report. (ps : List Behaviour) → AreBehaviours system.now ps
+        → IsSettled ps system.now script.now.lines.items limit report) }
+{
+    let made = ports::ports(alloc)?;
+    let (table, seat) = birth::table(alloc)?;
+    let plan = Plan {
+        alloc,
+        lines: script.lines.as_slice(),
+        workers,
+        limit,
+    };
+    run_named::<Brand, R, G>(rt, system, plan, made, table, seat, gate)
+}
