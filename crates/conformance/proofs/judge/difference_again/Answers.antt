@@ -4,7 +4,7 @@ use Rattle.conformance.proofs.JudgeLaws.{again_found}
 use Rattle.conformance.proofs.judge.difference_again.Goals as goal
 
 pub returns : goal.returns
-returns c =
+returns g c =
     let options = c.args.options.now in
     let again = c.answer_of-again.result in
     let found = c.first_difference.result in

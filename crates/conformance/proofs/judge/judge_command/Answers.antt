@@ -3,7 +3,7 @@ use Rattle.conformance.specs.Judgement.{IsAnswer, IsCanonical, IsUnstable}
 use Rattle.conformance.proofs.judge.judge_command.Goals as goal
 
 pub returns-in-Some : goal.returns-in-Some
-returns-in-Some c =
+returns-in-Some g c =
     let options = c.args.options.now in
     let answer = c.answer_of-answer.result in (
       answer,
