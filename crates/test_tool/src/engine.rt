@@ -1,5 +1,7 @@
 //! The whole tool over readers and writers that don't do what is asked of them, and the lines of its refusals.
 
+ghost use Rattle.sdl_engine.specs.Answer.{IsSerial};
+
 use crate::devices::{Hurried, Narrow, Restless, Torn, Trickle};
 use sdl_build::BuildError;
 use sdl_engine::{
@@ -70,7 +72,9 @@ fn reads_and_writes_single_bytes(rt: HostRuntime) {
     expect_single_bytes(&rt, rt.alloc(), &CHECK, CANONICAL);
 }
 
-fn expect_single_bytes(rt: &impl Abort, alloc: Global, options: &Options, output: &str) {
+fn expect_single_bytes(rt: &impl Abort, alloc: Global, options: &Options, output: &str)
+    requires { IsSerial options.now }
+{
     let mut reader = Trickle {
         rest: TEXT.as_bytes(),
         interrupted: false,
@@ -90,7 +94,9 @@ fn tells_a_reader_that_fails(rt: HostRuntime) {
     expect_torn(&rt, rt.alloc(), &CHECK);
 }
 
-fn expect_torn(rt: &impl Abort, alloc: Global, options: &Options) {
+fn expect_torn(rt: &impl Abort, alloc: Global, options: &Options)
+    requires { IsSerial options.now }
+{
     let mut written = Vec::new(alloc);
     let mut reader = Torn {
         rest: TEXT.as_bytes(),
@@ -141,7 +147,9 @@ fn expect_narrow_writers(
     options: &Options,
     text: &str,
     output: &str,
-) {
+)
+    requires { IsSerial options.now }
+{
     for (room, fails) in &ROOMS {
         let writer = Narrow {
             taken: Vec::new(alloc),
@@ -160,7 +168,9 @@ fn expect_beginning(
     text: &str,
     output: &str,
     mut writer: Narrow,
-) {
+)
+    requires { IsSerial options.now }
+{
     let room = writer.room;
     let mut reader = text.as_bytes();
     let told = run_text_serially(alloc, &mut reader, &mut writer, options);
