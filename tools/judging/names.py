@@ -210,18 +210,12 @@ class Resolver:
     def expression(self, expression, names: Names) -> None:
         waiting = [expression]
         while waiting:
-            match waiting.pop():
-                case Named() as named:
-                    named.thing = names.get("values", named.thing)
-                case Active() as active:
-                    active.timer = names.get("signals", active.timer)
-                    waiting += active.values
-                case Inner(inner):
-                    waiting.append(inner)
-                case Signed(_, operand):
-                    waiting.append(operand)
-                case Joined(left, _, right):
-                    waiting += [left, right]
+            part = waiting.pop()
+            if isinstance(part, Named):
+                part.thing = names.get("values", part.thing)
+            elif isinstance(part, Active):
+                part.timer = names.get("signals", part.timer)
+            waiting += parts_of(part)
 
     # ---- lists and constants
 
@@ -276,13 +270,22 @@ def named_in(expression) -> list:
     """What a constant expression names."""
     found, waiting = [], [expression]
     while waiting:
-        match waiting.pop():
-            case Named(thing):
-                found.append(thing)
-            case Inner(inner):
-                waiting.append(inner)
-            case Signed(_, operand):
-                waiting.append(operand)
-            case Joined(left, _, right):
-                waiting += [left, right]
+        part = waiting.pop()
+        if isinstance(part, Named):
+            found.append(part.thing)
+        waiting += parts_of(part)
     return found
+
+
+def parts_of(expression) -> list:
+    """The expressions that one is made of."""
+    match expression:
+        case Active() as active:
+            return active.values
+        case Inner(inner):
+            return [inner]
+        case Signed(_, operand):
+            return [operand]
+        case Joined(left, _, right):
+            return [left, right]
+    return []

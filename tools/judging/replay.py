@@ -11,7 +11,7 @@ from soaking.specification import Process, Signal
 from soaking.tables import Code, Reaction, Table
 from soaking.trace import BEGINS, CLOSES, CONSUMED, Record, Wrong
 from soaking.transitions import Create, Output, Reset, Set, Task
-from soaking.values import Failure, at, meets, ranged, signal_text, told, value_of, values_at
+from soaking.values import Failure, at, place_of_answer, ranged, signal_text, told, value_of, values_at
 
 STATEMENTS = 10_000
 DOES = {"input": "an input", "priority": "a priority input", "discard": "nothing", "save": "a save"}
@@ -393,13 +393,7 @@ class Replay:
         self.wait()
 
     def decide(self, node: dict) -> int:
-        value = value_of(node["question"], self)
-        for answers, place in node["parts"]:
-            if any(meets(answer, value) for answer in answers):
-                return place
-        if node["else"] is None:
-            raise Failure("NoAnswer")
-        return node["else"]
+        return place_of_answer(node, value_of(node["question"], self))
 
     def task(self, task: Task) -> None:
         for variable, expression in task.pairs:

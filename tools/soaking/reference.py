@@ -7,7 +7,7 @@ from dataclasses import dataclass, field
 from soaking.specification import ENVIRONMENT, Process
 from soaking.tables import Code, Table
 from soaking.transitions import Create, Output, Reset, Set, Task
-from soaking.values import Failure, at, meets, ranged, signal_text, told, value_of, values_at
+from soaking.values import Failure, at, place_of_answer, ranged, signal_text, told, value_of, values_at
 
 STATEMENTS, INSTANCES = 10_000, 1_000
 
@@ -176,13 +176,7 @@ class Instance:
         raise Ended
 
     def decide(self, node):
-        value = value_of(node["question"], self)
-        for answers, place in node["parts"]:
-            if any(meets(answer, value) for answer in answers):
-                return place
-        if node["else"] is None:
-            raise Failure("NoAnswer")
-        return node["else"]
+        return place_of_answer(node, value_of(node["question"], self))
 
     def task(self, task):
         for variable, expression in task.pairs:
@@ -288,16 +282,19 @@ class Run:
 
     def act(self, instance):
         """What the step of an instance did outside of it."""
-        for kind, *what in instance.acts:
-            if kind == "send":
-                self.put(*what)
-            elif kind == "add":
-                self.instances.append(what[0])
-            elif what[0] <= self.time:
-                self.expire(*what[1:])
-            else:
-                self.fuses.append(tuple(what))
+        for act in instance.acts:
+            self.act_one(*act)
         instance.acts, instance.created = [], []
+
+    def act_one(self, kind, *what):
+        if kind == "send":
+            self.put(*what)
+        elif kind == "add":
+            self.instances.append(what[0])
+        elif what[0] <= self.time:
+            self.expire(*what[1:])
+        else:
+            self.fuses.append(tuple(what))
 
     def sweep(self):
         """A step of each instance that is there; whether any did something."""

@@ -63,13 +63,3 @@ class Scattered(Run):
         for act in instance.acts[:number]:
             self.act_one(*act)
         del instance.acts[:number]
-
-    def act_one(self, kind: str, *what) -> None:
-        if kind == "send":
-            self.put(*what)
-        elif kind == "add":
-            self.instances.append(what[0])
-        elif what[0] <= self.time:
-            self.expire(*what[1:])
-        else:
-            self.fuses.append(tuple(what))

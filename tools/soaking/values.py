@@ -97,6 +97,16 @@ def meets(answer, value):
     return OPERATORS[answer.mark or "="](value, first)
 
 
+def place_of_answer(node, value):
+    """Where a decision goes on that asks for a value."""
+    for answers, place in node["parts"]:
+        if any(meets(answer, value) for answer in answers):
+            return place
+    if node["else"] is None:
+        raise Failure("NoAnswer")
+    return node["else"]
+
+
 def told(value):
     """A value as a trace has it."""
     return str(value).lower() if isinstance(value, bool) else str(value)
