@@ -1,5 +1,5 @@
 -- Events as a record keeps them.
-use Rattle.std.specs.Prelude.{◌≡◌, ℕ, ◌+◌, ◌≤◌, List, [], ◌∷◌, length, take, drop}
+use Rattle.std.specs.Prelude.{◌≡◌, ℕ, ◌+◌, ◌≤◌, List, [], ◌∷◌, length, take, drop, None, Option, Some}
 use Rattle.port_model.specs.declared.got.Got as got
 use Rattle.port_model.specs.declared.got.Got.TheVariants as came
 use Rattle.port_values.specs.declared.item.SignalId.{SignalId}
@@ -7,6 +7,8 @@ use Rattle.port_values.specs.declared.pid.Pid as pid
 use Rattle.port_values.specs.declared.pid.Pid.TheVariants as who
 use Rattle.port_values.specs.declared.value.Value.{Value}
 use Rattle.sdl_system.specs.declared.route.Dest.TheVariants as to
+use Rattle.sdl_system.specs.declared.route.Target.{Target}
+use Rattle.sdl_system.specs.declared.route.Target.TheVariants as target
 use Rattle.run_record.specs.Event as event
 use Rattle.run_record.specs.declared.entry.Entry as entry
 use Rattle.run_record.specs.declared.entry.Entry.TheVariants as kept
@@ -81,3 +83,16 @@ counted (one ∷ rest) = count_of one + counted rest
 pub record IsKept (entries : List entry.Entry) (values : List Value) (room : ℕ) (capacity : ℕ) : Type 0 where
   pub counts : counted entries ≡ length values
   pub fits : length values + room ≤ capacity
+
+-- ---- whom an output reaches
+
+abbrev pub instance_of : Target → Option ℕ
+instance_of (target.Instance number) = Some number
+instance_of other = None
+
+-- the instance to which an output of this event goes
+abbrev pub receiver_of : entry.Entry → Option ℕ
+receiver_of (kept.OutputOnPath signal count target) = instance_of target
+receiver_of (kept.OutputToProcess signal process count target) = instance_of target
+receiver_of (kept.OutputToPid signal pid count target) = instance_of target
+receiver_of other = None

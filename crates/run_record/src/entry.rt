@@ -3,7 +3,7 @@
 ghost use Rattle.std.specs.Prelude.{◌≡◌};
 ghost use Rattle.port_values.specs.Value.{ValueList};
 ghost use Rattle.run_record.specs.Event.{values_got};
-ghost use Rattle.run_record.specs.Entry.{count_of, event_of, got_from, got_of, sender_of, signal_got};
+ghost use Rattle.run_record.specs.Entry.{count_of, event_of, got_from, got_of, receiver_of, sender_of, signal_got};
 ghost use Rattle.port_values.specs.declared.item.SignalId.{SignalId};
 ghost use Rattle.run_record.specs.Event as event;
 
@@ -140,6 +140,27 @@ impl Entry {
             | Entry::Set { count, .. }
             | Entry::Reset { count, .. } => count as usize,
             _ => 0,
+        }
+    }
+
+    /// The instance to which an output goes.
+    pub fn receiver(self) -> Option<u32>
+        ensures { result ≡ receiver_of self }
+    {
+        match self {
+            Entry::OutputOnPath {
+                target: Target::Instance(number),
+                ..
+            } => Some(number),
+            Entry::OutputToProcess {
+                target: Target::Instance(number),
+                ..
+            } => Some(number),
+            Entry::OutputToPid {
+                target: Target::Instance(number),
+                ..
+            } => Some(number),
+            _ => None,
         }
     }
 

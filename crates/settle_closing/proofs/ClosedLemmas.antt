@@ -29,6 +29,7 @@ use Rattle.run_semantics.specs.Effect.{Deed, events_of}
 use Rattle.run_semantics.specs.Goes.{drawn_as}
 use Rattle.run_semantics.specs.Instance.{HasRun, first_store}
 use Rattle.run_semantics.specs.Leads.{IsQuiet}
+use Rattle.run_semantics.specs.RunLaws.{RunsAreLegal}
 use Rattle.run_semantics.specs.Runs.{Runs, outside_of}
 use Rattle.run_semantics.specs.Sent.{sent_by_one, sent_to}
 use Rattle.run_transitions.specs.Machine.{place_of}
@@ -48,7 +49,7 @@ use Rattle.settle_gathering.specs.Gathering.{Draws}
 use Rattle.settle_meaning.specs.Closed.{ClosesAs, EndsIn, IsCut, IsEnd}
 use Rattle.settle_meaning.specs.Histories.{IsInTime, puts_of}
 use Rattle.settle_meaning.specs.Identities.{identity_of}
-use Rattle.settle_meaning.specs.MeaningLaws.{ExpiriesHaveSets, LateIsNothing, PutsComeFromOutside, RestsAreForGood, RunsAreLegal, RunsHearWhatIsDrawn, StoppedStays, rest_deed}
+use Rattle.settle_meaning.specs.MeaningLaws.{ExpiriesHaveSets, LateIsNothing, PutsComeFromOutside, RestsAreForGood, RunsHearWhatIsDrawn, StoppedStays, rest_deed}
 use Rattle.threads_senders.specs.Peers.{AreLast, PeersState, put_to}
 
 -- ---- what is drawn after a close

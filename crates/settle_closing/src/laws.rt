@@ -2,9 +2,10 @@
 
 ghost use Rattle.settle_closing.specs.ClosingLaws.{ClosedHaveHistories, ClosedHavePut, LeftWithoutPeers};
 
+use run_semantics::laws::runs_are_legal;
 use settle_meaning::laws::{
     expiries_have_sets, late_is_nothing, puts_come_from_outside, rests_are_for_good,
-    runs_are_legal, runs_hear_what_is_drawn, stopped_stays,
+    runs_hear_what_is_drawn, stopped_stays,
 };
 
 /// What is left of an instance has a history of its port, once all that was put is drawn (Z.101: agent, input port).

@@ -26,12 +26,6 @@ use Rattle.settle_meaning.specs.Report.{IsSettled, IsWholeOrCut}
 
 -- ---- runs
 
--- A run has a legal history, from its first port to its last.
-abbrev pub RunsAreLegal : Type 0
-RunsAreLegal =
-    (d : Definition) (who : Identity) (from to : ControlPoint) (s t : Store) (q r : PortState) (deeds : List Deed)
-    (history : List PortEvent) → Runs d who from s q deeds history to t r → IsLegal q history r
-
 -- What is drawn after a run is heard: it is a run still, on the history with what was drawn, wherever it came to.
 abbrev pub RunsHearWhatIsDrawn : Type 0
 RunsHearWhatIsDrawn =

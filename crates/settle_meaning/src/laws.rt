@@ -5,16 +5,10 @@ ghost use Rattle.settle_meaning.specs.MeaningLaws.{
   LateIsNothing,
   PutsComeFromOutside,
   RestsAreForGood,
-  RunsAreLegal,
   RunsHearWhatIsDrawn,
   SettledIsWholeOrCut,
   StoppedStays,
 };
-
-/// A run of a process has a legal history (Z.101: input port).
-pub fn runs_are_legal()
-    ensures { RunsAreLegal }
-{}
 
 /// What is drawn after a run is a part of its history (Z.101: input port).
 pub fn runs_hear_what_is_drawn()

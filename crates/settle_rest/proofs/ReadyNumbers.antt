@@ -1,8 +1,9 @@
 -- Who is among those that may have something to do, once one more is woken.
 use Rattle.std.proofs.Common.{◌≡◌, ◌≢◌, ◌<◌, ◌≤◌, ◌⊎◌, ◌↔◌, ℕ, List, Option, None, Some, Result, Ok, Err, arith, inl, inr, refl, subst, sym}
 use Rattle.std.specs.Prelude.{Contains, IfSome, OnErr, OnOk}
+use Rattle.run_record.specs.Entry.{receiver_of}
 use Rattle.run_record.specs.declared.entry.Entry.{Entry}
-use Rattle.settle_rest.specs.Woken.{AreNumbers, AreUpTo, IsAwake, receiver_of}
+use Rattle.settle_rest.specs.Woken.{AreNumbers, AreUpTo, IsAwake}
 
 -- a number is not 0
 pub woken : (number : ℕ) (old new : List ℕ) → 0 < number

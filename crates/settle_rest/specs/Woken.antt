@@ -1,10 +1,8 @@
 -- Who has something to do after a step, and which fuses wait then (Z.102: output, timer).
-use Rattle.std.specs.Prelude.{ℕ, ◌<◌, ◌≤◌, List, [], ◌∷◌, All, Contains, IfSome, None, Option, Some}
+use Rattle.std.specs.Prelude.{ℕ, ◌<◌, ◌≤◌, List, [], ◌∷◌, All, Contains, IfSome}
 use Rattle.port_inbox.specs.declared.entry.Fuse.{Fuse}
+use Rattle.run_record.specs.Entry.{receiver_of}
 use Rattle.run_record.specs.declared.entry.Entry.{Entry}
-use Rattle.run_record.specs.declared.entry.Entry.TheVariants.{OutputOnPath, OutputToPid, OutputToProcess}
-use Rattle.sdl_system.specs.declared.route.Target.{Target}
-use Rattle.sdl_system.specs.declared.route.Target.TheVariants.{Instance}
 use Rattle.sdl_timers.specs.DueOrder.{with_fuse}
 
 -- these are numbers of instances: none is 0
@@ -16,17 +14,6 @@ abbrev pub AreUpTo : ℕ → List ℕ → Type 0
 AreUpTo greatest ready = (number : ℕ) → Contains ready number → number ≤ greatest
 
 -- ---- whom a step has sent something
-
-abbrev pub instance_at : Target → Option ℕ
-instance_at (Instance number) = Some number
-instance_at target = None
-
--- the instance to which an output of this event goes
-abbrev pub receiver_of : Entry → Option ℕ
-receiver_of (OutputOnPath signal count target) = instance_at target
-receiver_of (OutputToProcess signal process count target) = instance_at target
-receiver_of (OutputToPid signal pid count target) = instance_at target
-receiver_of entry = None
 
 -- it is among those that may have something to do; no instance has the number 0
 abbrev pub IsAwake : List ℕ → Entry → Type 0

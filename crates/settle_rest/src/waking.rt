@@ -3,11 +3,10 @@
 ghost use Rattle.std.specs.Prelude.{◌≡◌, ◌⊎◌, ◌↔◌, ◌+◌, ◌<◌, ◌≤◌, [], ℕ, All, Contains, OnErr, OnOk};
 ghost use Rattle.sdl_timers.specs.DueOrder.{with_fuse};
 ghost use Rattle.serial_sweeps.specs.Sweeps.{IsNoFuseBefore};
-ghost use Rattle.settle_rest.specs.Woken.{AreAwake, AreNumbers, IsAwake, receiver_of, with_fuses};
+ghost use Rattle.settle_rest.specs.Woken.{AreAwake, AreNumbers, IsAwake, with_fuses};
 
 use port_inbox::Fuse;
 use run_record::Entry;
-use sdl_system::Target;
 use serial_sweeps::{Agenda, ReadySet};
 use std::alloc::AllocError;
 
@@ -42,30 +41,9 @@ fn wake_receiver(ready: &mut ReadySet, entry: &Entry) -> Result<(), AllocError>
     ensures kept { (n : ℕ) → Contains ready.old n → Contains ready.new n }
     ensures numbers { AreNumbers ready.old → AreNumbers ready.new }
 {
-    match receiver_of(entry) {
+    match entry.receiver() {
         Some(number) => wake(ready, number),
         None => Ok(()),
-    }
-}
-
-/// The instance to which an output goes.
-fn receiver_of(entry: &Entry) -> Option<u32>
-    ensures { result ≡ receiver_of entry.now }
-{
-    match entry {
-        Entry::OutputOnPath {
-            target: Target::Instance(number),
-            ..
-        } => Some(*number),
-        Entry::OutputToProcess {
-            target: Target::Instance(number),
-            ..
-        } => Some(*number),
-        Entry::OutputToPid {
-            target: Target::Instance(number),
-            ..
-        } => Some(*number),
-        _ => None,
     }
 }
 

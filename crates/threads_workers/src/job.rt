@@ -3,7 +3,6 @@
 use crate::Gate;
 use run_record::Entry;
 use sdl_interp::Stepped;
-use sdl_system::Target;
 use std::alloc::AllocError;
 use std::sync::Wait;
 use threads_queue::Place;
@@ -139,7 +138,7 @@ fn wake_targets<J: Run, R: Wait + Copy>(
     news: &[Entry],
 ) -> Result<(), AllocError> {
     for entry in news {
-        if let Some(number) = target_of(entry) {
+        if let Some(number) = entry.receiver() {
             wake(shared, own, number)?;
         }
     }
@@ -159,23 +158,4 @@ fn wake<J: Run, R: Wait + Copy>(
         own.queue.push_back(number)?;
     }
     Ok(())
-}
-
-/// The instance to which an output goes.
-fn target_of(entry: &Entry) -> Option<u32> {
-    match entry {
-        Entry::OutputOnPath {
-            target: Target::Instance(number),
-            ..
-        } => Some(*number),
-        Entry::OutputToProcess {
-            target: Target::Instance(number),
-            ..
-        } => Some(*number),
-        Entry::OutputToPid {
-            target: Target::Instance(number),
-            ..
-        } => Some(*number),
-        _ => None,
-    }
 }
