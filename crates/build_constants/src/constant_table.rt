@@ -18,13 +18,13 @@ use build_faults::Faults;
 use build_names::SymbolTable;
 use std::alloc::{AllocError, Global};
 
-/// What the constant expressions of a specification come to.
+/// The constants to which the constant expressions of a specification come.
 pub struct ConstantTable {
-    /// What each synonym comes to, by its number.
+    /// The constant of each synonym, by its number.
     pub constants: Vec<Constant>,
     /// The numbers of instances of each process, by its number. None where a rule is broken in them.
     pub counts: Vec<Option<InstanceCounts>>,
-    /// What each variable begins with, by its place among all variables, formal parameters and synonyms.
+    /// The initial value of each variable, by its place among all variables, formal parameters and synonyms.
     pub initials: Vec<Option<Constant>>,
     /// The default duration of each timer in ticks, by its number among signals and timers.
     pub durations: Vec<Option<i64>>,

@@ -21,7 +21,7 @@ pub struct InstanceCounts {
     pub maximum: Option<i64>,
 }
 
-/// What a part of the counts comes to.
+/// The outcome of a part of the counts.
 #[derive(Clone, Copy)]
 enum Part {
     LeftOut,

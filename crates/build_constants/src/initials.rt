@@ -15,8 +15,8 @@ use build_names::SymbolTable;
 use sdl_system::Sort;
 use std::alloc::{AllocError, Global};
 
-/// What each variable begins with, by its place among all variables, formal parameters and synonyms. None where no
-/// initial value stands. Noted are the faults of these values.
+/// Finds the initial value of each variable, by its place among all variables, formal parameters and synonyms. None if
+/// no initial value stands. Notes the faults of these values.
 pub fn initials_of<'t>(
     alloc: Global,
     definitions: &Definitions<'t>,

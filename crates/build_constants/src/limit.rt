@@ -31,7 +31,7 @@ pub fn note_limit<'t>(
     }
 }
 
-/// What the counts take of the instances that are left.
+/// Gives how many instances the counts take of those that are left. None and a negative initial number take 0.
 fn taken_by(counted: Option<InstanceCounts>) -> i64
     ensures taken { result ≡ taken_by counted }
     ensures some { int_lt result (pos 0) ≡ false }

@@ -8,7 +8,7 @@ use build_expressions::{Constant, Scope};
 use build_names::SymbolTable;
 use build_scopes::ScopePath;
 
-/// What is seen in the scopes of this path, where the synonyms come to these constants.
+/// Gives the names that are seen in the scopes of this path, with these constants of the synonyms.
 pub fn scope_at<'a, 's, 't>(
     symbols: &'a SymbolTable<'s, 't>,
     constants: &'a [Constant],

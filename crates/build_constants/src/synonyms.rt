@@ -13,7 +13,7 @@ use build_names::SymbolTable;
 use build_synonyms::{Synonym, synonym_constants};
 use std::alloc::{AllocError, Global};
 
-/// What each synonym comes to, by its number. Noted are the faults of their definitions.
+/// Finds the constant of each synonym, by its number. Notes the faults of their definitions.
 pub fn constants_of<'t>(
     alloc: Global,
     definitions: &Definitions<'t>,

@@ -12,7 +12,7 @@ use sdl_system::Sort;
 use sdl_tree::Expression;
 use std::alloc::{AllocError, Global};
 
-/// What an initial value comes to at a place of this sort; None where none stands. A negative one for a Natural is
+/// Reads an initial value at a place of this sort as a constant. None if none stands. A negative one for a Natural is
 /// answered as it stands.
 ///
 /// Noted are its faults as a constant of that sort: so `Sort` at its first token where it doesn't fit, and `BadCount`

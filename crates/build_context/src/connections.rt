@@ -21,11 +21,11 @@ use route_table::routes_of;
 use sdl_system::Routes;
 use std::alloc::{AllocError, Global};
 
-/// What joins the agents of a specification.
+/// The connections between the agents of a specification.
 #[derive(Drop)]
 pub struct Connections {
     pub network: Network,
-    /// What the lists of the network stand for.
+    /// The sets of signals for which the lists of the network stand.
     pub sets: SignalSets,
     pub routes: Routes,
     /// The signals that each `signallist` stands for, by its number.
@@ -33,8 +33,8 @@ pub struct Connections {
 }
 
 impl Connections {
-    /// What joins the agents of a specification with these definitions and names. Noted is each name in it that stands
-    /// for nothing.
+    /// Makes the connections between the agents of a specification with these definitions and names. Notes each name in
+    /// them that stands for nothing.
     pub fn of<'t>(
         alloc: Global,
         definitions: &Definitions<'t>,
@@ -57,7 +57,7 @@ impl Connections {
         Self::over(alloc, network, lists)
     }
 
-    /// What joins the agents of this network, where the first so many of its lists are the `signallist`s.
+    /// Makes the connections of this network. The first `lists` of its lists are the `signallist`s.
     fn over(alloc: Global, network: Network, lists: u32) -> Result<Self, AllocError>
         ensures network { IfOk result (λ connections. connections.network ≡ network) }
         ensures sets { IfOk result (λ connections. AreSets connections.network.lists.items connections.network.signals

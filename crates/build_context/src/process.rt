@@ -71,7 +71,7 @@ pub fn process_at<'t>(
     make_process(alloc, &within, heading, entry.definition, faults)
 }
 
-/// What the heading of the process says, and its variables.
+/// Makes the heading of the process, with its variables.
 fn heading_of<'t>(
     alloc: Global,
     definitions: &Definitions<'t>,
@@ -108,7 +108,7 @@ fn heading_of<'t>(
     })
 }
 
-/// What the names in a process stand for, where it has this of its own.
+/// Gives the meanings of the names in a process that has these of its own.
 fn process_scope<'x, 's, 't>(
     definitions: &'x Definitions<'t>,
     symbols: &'x SymbolTable<'s, 't>,

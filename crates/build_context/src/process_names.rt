@@ -16,7 +16,7 @@ use sdl_system::{LabelId, ProcessId, StateId};
 use sdl_tree::{Name, ProcessDefinition};
 use std::alloc::{AllocError, Global};
 
-/// What a process has of its own: its states and labels by their names, and where its signals go.
+/// The states and labels of a process by their names, and the signals that it can send to a receiver.
 #[derive(Drop)]
 pub struct ProcessNames<'t> {
     /// The different names in the state lists, in the order of the text.
@@ -29,7 +29,7 @@ pub struct ProcessNames<'t> {
 }
 
 impl<'t> ProcessNames<'t> {
-    /// What the process of this number with this definition has of its own.
+    /// Collects those of the process of this number with this definition.
     pub fn of(
         alloc: Global,
         connections: &Connections,

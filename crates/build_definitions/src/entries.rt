@@ -32,7 +32,7 @@ pub struct ProcessEntry<'t> {
     pub sorts: Vec<Option<Sort>>,
 }
 
-/// What the name of an agent stands for.
+/// A block or a process, by its number.
 #[derive(Clone, Copy, Debug, PartialEq, Eq)]
 pub enum Agent {
     Block(BlockId),
@@ -109,8 +109,8 @@ pub struct SynonymEntry<'t> {
 pub struct ValueName<'t> {
     pub scope: ScopeId,
     pub name: &'t Name,
-    /// What it is declared as: a variable with its number in its process, where the formal parameters come first, or a
-    /// synonym with its number.
+    /// The declaration: a variable with its number in its process, where the formal parameters come first, or a synonym
+    /// with its number.
     pub entry: ValueEntry,
     /// The initial value of a variable, where it has one.
     pub initial: Option<&'t Expression>,

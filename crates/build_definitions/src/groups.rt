@@ -136,7 +136,7 @@ impl<'t> ChannelTables<'t> {
     }
 }
 
-/// What stands in the bodies of processes.
+/// The labels and states in the bodies of processes.
 #[derive(Drop)]
 pub struct PlaceTables<'t> {
     pub labels: Vec<LabelEntry<'t>>,

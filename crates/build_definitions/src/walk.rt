@@ -148,7 +148,7 @@ impl<'t> Walk<'t> {
     }
 }
 
-/// What stands within a process: its formal parameters, and then its own definitions.
+/// Adds the parts of a process: its formal parameters, and then its own definitions.
 fn add_own<'t>(
     parts: &mut Vec<Placed<'t>>,
     scope: ScopeId,

@@ -20,7 +20,7 @@ use sdl_system::{Chain, Failure, Link, Operation, Sort, UnaryOperation, in_sort}
 use sdl_tree::Expression;
 use std::alloc::{AllocError, Global};
 
-/// What a constant expression comes to at a place of a sort: numbers, literals, synonyms and operators. Where the
+/// Finds the constant of an expression at a place of a sort. It has numbers, literals, synonyms and operators. If the
 /// place's sort is unknown, each kind fits and the value stays what it is.
 ///
 /// Noted are the faults of the expression, where a variable, a formal parameter, `now`, `active` and the Pids of an
@@ -45,7 +45,7 @@ pub fn constant<'t>(
     Ok(counted(sort, token, &taken, faults))
 }
 
-/// What an expression comes to that fits its place, where one does.
+/// Finds the constant of an expression that fits its place. It is refused if none fits, or if that one is.
 pub fn counted<'t>(
     sort: Option<Sort>,
     token: Token<'t>,

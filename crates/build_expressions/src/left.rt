@@ -17,7 +17,7 @@ struct Operands {
     rest: Vec<Link>,
 }
 
-/// What stands on the left of the next operator of a chain.
+/// The left side of the next operator of a chain.
 #[derive(Drop)]
 pub struct Left {
     pub kind: OperandSort,

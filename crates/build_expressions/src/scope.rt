@@ -7,7 +7,7 @@ use build_scopes::Outward;
 use port_values::{SignalId, Value};
 use sdl_system::{ProcessId, Sort, VariableId};
 
-/// What a constant expression comes to.
+/// The outcome of a constant expression.
 #[derive(Clone, Copy, Debug, PartialEq, Eq)]
 pub enum Constant {
     Value(Value),
@@ -22,7 +22,7 @@ pub enum Constant {
 #[derive(Clone, Copy, Debug, PartialEq, Eq)]
 pub struct SynonymId(pub u32);
 
-/// What a name in an expression is declared as. A sort is None where the name of the sort is no sort's.
+/// The declaration of a name in an expression. A sort is None if the name of the sort is no sort's.
 #[derive(Clone, Copy, Debug, PartialEq, Eq)]
 pub enum ValueEntry {
     /// A variable or a formal parameter.
@@ -36,7 +36,7 @@ pub enum ValueEntry {
     },
 }
 
-/// What a name stands for, where the synonyms come to these constants.
+/// Gives the meaning of a name with this declaration, with these constants of the synonyms.
 fn meaning(entry: Option<ValueEntry>, constants: &[Constant]) -> Option<ValueMeaning>
     ensures { result ≡ option_map (value_meaning constants.now) entry }
 {
@@ -52,7 +52,7 @@ fn meaning(entry: Option<ValueEntry>, constants: &[Constant]) -> Option<ValueMea
     }
 }
 
-/// What the synonym comes to; one that has no place among them has no value.
+/// Gives the constant of the synonym. One that has no place among them has no value.
 fn constant_at(constants: &[Constant], synonym: SynonymId) -> Constant
     ensures { result ≡ constant_at constants.now synonym }
 {
@@ -62,7 +62,7 @@ fn constant_at(constants: &[Constant], synonym: SynonymId) -> Constant
     }
 }
 
-/// What a name in an expression stands for: a variable, or what a synonym comes to.
+/// The meaning of a name in an expression: a variable, or the constant of a synonym.
 #[derive(Clone, Copy, Debug, PartialEq, Eq)]
 pub enum ValueMeaning {
     /// A variable or a formal parameter.
@@ -76,8 +76,8 @@ pub enum ValueMeaning {
     },
 }
 
-/// What the name of a signal or of a timer stands for, with the sorts of its parameters. A sort is None where the name
-/// of the sort is no sort's.
+/// The meaning of the name of a signal or of a timer, with the sorts of its parameters. A sort is None if the name of
+/// the sort is no sort's.
 #[derive(Clone, Copy, Debug)]
 pub enum SignalMeaning<'s> {
     Signal {
@@ -92,7 +92,7 @@ pub enum SignalMeaning<'s> {
     },
 }
 
-/// What the name of a process or of a block stands for. A process has the sorts of its formal parameters.
+/// The meaning of the name of a process or of a block. A process has the sorts of its formal parameters.
 #[derive(Clone, Copy, Debug)]
 pub enum AgentMeaning<'s> {
     Process {
@@ -102,12 +102,12 @@ pub enum AgentMeaning<'s> {
     Block,
 }
 
-/// What names stand for at a place of the text: what they do in the innermost scope round it that has them.
+/// The meanings of names at a place of the text. The innermost scope around the place that has a name decides.
 #[derive(Clone, Copy)]
 pub struct Scope<'a, 's, 't> {
     /// Variables, formal parameters and synonyms.
     pub values: Outward<'a, 't, ValueEntry>,
-    /// What each synonym of the specification comes to, by its number.
+    /// The constant of each synonym of the specification, by its number.
     pub constants: &'a [Constant],
     /// Signals and timers.
     pub signals: Outward<'a, 't, SignalMeaning<'s>>,
@@ -118,21 +118,21 @@ pub struct Scope<'a, 's, 't> {
 impl<'a, 's, 't> Scope<'a, 's, 't> {
     ghost use Rattle.build_expressions.specs.Scope.{agent_in, agent_meaning, scope_of, signal_in, signal_meaning, value_in};
 
-    /// What a name in an expression stands for.
+    /// Gives the meaning of a name in an expression.
     pub fn value(&self, text: &str) -> Option<ValueMeaning>
         ensures { result ≡ value_in (scope_of self.now) text.now }
     {
         meaning(self.values.get(text), self.constants)
     }
 
-    /// What the name of a signal or of a timer stands for.
+    /// Gives the meaning of the name of a signal or of a timer.
     pub fn signal(&self, text: &str) -> Option<SignalMeaning<'s>>
         ensures { option_map signal_meaning result ≡ signal_in (scope_of self.now) text.now }
     {
         self.signals.get(text)
     }
 
-    /// What the name of a process or of a block stands for.
+    /// Gives the meaning of the name of a process or of a block.
     pub fn agent(&self, text: &str) -> Option<AgentMeaning<'s>>
         ensures { option_map agent_meaning result ≡ agent_in (scope_of self.now) text.now }
     {

@@ -36,7 +36,7 @@ impl Typed {
         }
     }
 
-    /// What a name of this meaning comes to. None where it may not stand there, or its sort is none.
+    /// Makes the typed expression of a name with this meaning. None if it may not stand there, or its sort is unknown.
     pub(crate) fn of_name(context: Context, meaning: ValueMeaning) -> Option<Self>
         ensures { option_map typed_of result ≡ name_typed context (Some meaning) }
     {
@@ -65,7 +65,7 @@ impl Typed {
         }
     }
 
-    /// What a keyword comes to.
+    /// Makes the typed expression of a keyword.
     pub(crate) fn of_word(value: KeywordValue) -> Self
         ensures { typed_of result ≡ word_typed value }
     {

@@ -52,7 +52,7 @@ fn agent_declarations<'s, 't>(
     Ok(declarations)
 }
 
-/// What a block or a process stands for.
+/// Gives the meaning of a block or a process.
 fn meaning_of<'s>(processes: &'s [ProcessEntry<'_>], agent: Agent) -> AgentMeaning<'s>
     ensures { agent_meaning result ≡ agent_means (map process_seen processes.now) agent }
 {

@@ -35,7 +35,7 @@ pub struct AgentNames<'s, 't> {
     pub agents: Spaces<'t, AgentMeaning<'s>>,
 }
 
-/// What the bodies of processes name of their own.
+/// Variables, formal parameters and synonyms, and the labels and states of processes.
 #[derive(Drop)]
 pub struct BodyNames<'t> {
     pub values: Spaces<'t, ValueEntry>,

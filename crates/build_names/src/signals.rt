@@ -54,7 +54,7 @@ fn signal_declarations<'s, 't>(
     Ok(declarations)
 }
 
-/// What the signal or the timer of this number stands for.
+/// Gives the meaning of the signal or the timer of this number.
 fn meaning_of<'s>(
     number: SignalId,
     sorts: &'s [Option<Sort>],

@@ -33,7 +33,7 @@ pub fn block_names<'t>(
     Ok(names)
 }
 
-/// What a name stands for in just this scope.
+/// Looks up a name in just this scope.
 pub fn get_at<T: Copy>(names: &Spaces<'_, T>, scope: ScopeId, name: &str) -> Option<T>
     ensures { result ≡ first_of (names_of names.now scope) name.now }
 {

@@ -32,7 +32,7 @@ struct Listed {
     processes: Vec<Process>,
 }
 
-/// What joins the agents of a specification with these definitions and names.
+/// Makes the network that joins the agents of a specification with these definitions and names.
 ///
 /// Its lists are the signal lists by their numbers, then what each path of a channel carries, in the order of the text,
 /// then two for each process: what it inputs, saves or has in its signal sets by name, and its timers. A path one of

@@ -167,7 +167,7 @@ fn add_path<'t>(
     })
 }
 
-/// What a path carries, where it has both ends.
+/// Lists the items that a path carries. It carries none unless it has both ends.
 fn carried<'t>(
     alloc: Global,
     symbols: &SymbolTable<'_, 't>,

@@ -87,7 +87,7 @@ fn link(node: Node, places: &[Option<NodeId>]) -> Node
     }
 }
 
-/// What comes behind a statement: behind a join the node at the place of its label.
+/// Gives the node after a statement: after a join the node at the place of its label.
 fn next_of(statement: &Statement, next: Option<NodeId>, places: &[Option<NodeId>]) -> Option<NodeId>
     ensures { result ≡ next_of (place_at places.now) statement.now next }
 {

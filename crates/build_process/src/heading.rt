@@ -2,7 +2,7 @@
 
 use sdl_system::{SignalSet, Variable};
 
-/// What the heading of a process says, and its variables.
+/// The heading of a process, with its variables and its valid input set.
 #[derive(Debug, Drop)]
 pub struct Heading {
     pub name: String,

@@ -9,7 +9,7 @@ use build_states::NamedStates;
 use port_values::SignalId;
 use sdl_system::LabelId;
 
-/// What the names in a process stand for, its own states and labels among them.
+/// The meanings of the names in a process, its own states and labels among them.
 #[derive(Clone, Copy)]
 pub struct ProcessScope<'a, 's, 't> {
     /// Variables, formal parameters and synonyms; signals and timers; processes and blocks.
@@ -33,7 +33,7 @@ impl<'a, 's, 't> ProcessScope<'a, 's, 't> {
     ghost use Rattle.build_stimuli.specs.Context as stimuli;
     ghost use Rattle.build_process.specs.ProcessScope.{for_stimuli, for_transitions, process_scope_of};
 
-    /// What stimuli can name.
+    /// Gives the meanings of the names that stimuli can use.
     pub(crate) fn for_stimuli(&self) -> build_stimuli::Context<'a, 's, 't>
         ensures { stimuli.context_of result ≡ for_stimuli (process_scope_of self.now) }
     {
@@ -44,7 +44,7 @@ impl<'a, 's, 't> ProcessScope<'a, 's, 't> {
         }
     }
 
-    /// What transitions can name.
+    /// Gives the meanings of the names that transitions can use.
     pub(crate) fn for_transitions(&self) -> build_statements::Context<'a, 's, 't>
         ensures { nodes.context_of result ≡ for_transitions (process_scope_of self.now) }
     {

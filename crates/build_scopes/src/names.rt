@@ -66,7 +66,7 @@ impl<'t, T: Copy> Names<'t, T> {
         self.entries.is_empty()
     }
 
-    /// What a name stands for, by its first declaration.
+    /// Looks up a name. Its first declaration counts.
     pub fn get(&self, text: &str) -> Option<T>
         ensures { result ≡ first_of self.now text.now }
     {
@@ -126,7 +126,7 @@ impl<'a, 't, T: Copy> Clone for Outward<'a, 't, T> {
 }
 
 impl<'a, 't, T: Copy> Outward<'a, 't, T> {
-    /// What a name stands for: what it does in the innermost scope that declares it.
+    /// Looks up a name. The innermost scope that declares it counts.
     pub fn get(&self, text: &str) -> Option<T>
         ensures { result ≡ first_outward (names_in self.now.process) (names_in self.now.block)
             self.now.system.now text.now }
@@ -137,7 +137,7 @@ impl<'a, 't, T: Copy> Outward<'a, 't, T> {
     }
 }
 
-/// What a name stands for in a scope, where there is one.
+/// Looks up a name in a scope, if there is one.
 fn get_in<T: Copy>(names: Option<&Names<'_, T>>, text: &str) -> Option<T>
     ensures { result ≡ first_of (names_in names.entry) text.now }
 {

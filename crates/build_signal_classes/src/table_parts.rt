@@ -2,7 +2,7 @@
 
 use sdl_system::{NodeId, SignalSet};
 
-/// What the tables of a process are made of.
+/// The parts from which the tables of a process are made.
 #[derive(Clone, Copy)]
 pub struct TableParts<'a> {
     /// The node at which each transition begins, by the number of the transition.

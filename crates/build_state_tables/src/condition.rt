@@ -42,7 +42,7 @@ fn all_enabled(
     Ok(list)
 }
 
-/// What waits for a condition.
+/// Gives the signals that wait for a condition.
 fn enabled_by(
     alloc: Global,
     waiting: &Waiting,

@@ -8,7 +8,7 @@ use build_stimuli::{Response, TransitionId};
 use sdl_system::{NodeId, Reaction, Reception, VariableId};
 use std::alloc::{AllocError, Global};
 
-/// What is done with a signal of which this is said. None where the transition has no entry.
+/// Makes the reaction of which this response tells. None if its transition has no entry.
 pub fn reaction_of(
     alloc: Global,
     entries: &[NodeId],

@@ -18,7 +18,7 @@ use std::alloc::{AllocError, Global};
 pub struct Tables {
     /// The states, in the order in which the text first names them.
     pub states: Vec<State>,
-    /// What the states do, shared by those that do the same.
+    /// The tables of the states. States that do the same share one.
     pub tables: Vec<StateTable>,
 }
 

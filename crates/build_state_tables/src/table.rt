@@ -12,7 +12,7 @@ use build_states::Table;
 use sdl_system::{ConditionId, Continuous, Reaction, Reactions, StateTable};
 use std::alloc::{AllocError, Global};
 
-/// What the states do that say this. None where a transition has no entry.
+/// Makes the table of the states that say this. None if a transition has no entry.
 pub fn make_table(
     alloc: Global,
     parts: TableParts<'_>,

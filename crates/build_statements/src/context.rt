@@ -5,7 +5,7 @@ use build_scopes::Names;
 use port_values::SignalId;
 use sdl_system::{LabelId, StateId};
 
-/// What the names in the transitions of a process stand for.
+/// The meanings of the names in the transitions of a process.
 #[derive(Clone, Copy)]
 pub struct Context<'a, 's, 't> {
     /// Variables and synonyms, signals and timers, processes and blocks.

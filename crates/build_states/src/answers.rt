@@ -13,12 +13,12 @@ use build_faults::{Faults, Rule};
 use build_stimuli::{Mention, Response, Subject};
 use std::alloc::{AllocError, Global};
 
-/// What a state says of signals.
+/// The answers of a state to signals.
 #[derive(Drop)]
 pub struct Answers<'m> {
-    /// What is done with those that it names.
+    /// The responses to those that it names.
     pub named: Named<'m>,
-    /// What is done with the others of the valid input set, where an asterisk stands.
+    /// The response to the others of the valid input set, if an asterisk stands.
     pub rest: Option<&'m Response>,
 }
 

@@ -10,7 +10,7 @@ use port_values::SignalId;
 use std::alloc::{AllocError, Global};
 use std::marker::Model;
 
-/// What is done with the signals that a state names, each where it is mentioned first.
+/// The responses to the signals that a state names. The first mention of a signal counts.
 #[derive(Drop)]
 pub struct Named<'m> {
     by_signal: IndexMap<SignalId, &'m Response>,
@@ -37,7 +37,7 @@ impl<'m> Named<'m> {
         }
     }
 
-    /// What is done with a signal, if the state names it.
+    /// Gives the response to a signal, if the state names it.
     pub fn get(&self, signal: SignalId) -> Option<&'m Response>
         ensures { option_map rest_value result ≡ named_in self.now signal }
     {

@@ -18,8 +18,8 @@ use sdl_system::TableId;
 use sdl_tree::Name;
 use std::alloc::{AllocError, Global};
 
-/// What the states of a process say. States whose names stand in the same state lists have the same parts, and share a
-/// table.
+/// The tables of the states of a process. States whose names stand in the same state lists have the same parts, and
+/// share a table.
 pub struct StateTables<'m> {
     pub tables: Vec<Table<'m>>,
     /// The table of each state.
@@ -36,8 +36,8 @@ impl<'m> Drop for StateTables<'m> {
     }
 }
 
-/// What each state of these names says, by those of the parts that belong to it. Noted is `TwiceInState` at each
-/// name, list or asterisk that speaks of what is mentioned before in a state.
+/// Reads the tables of the states of these names from the parts that belong to them. Notes `TwiceInState` at each name,
+/// list or asterisk that speaks of what is mentioned before in a state.
 ///
 /// A part that names its states costs a step for each name, one with an asterisk for each name that it leaves out and
 /// for each table.

@@ -13,7 +13,7 @@ use build_stimuli::{ContinuousSignal, Part};
 use sdl_system::ConditionId;
 use std::alloc::{AllocError, Global};
 
-/// What a state says.
+/// The answers of a state to signals, with its enabling conditions and continuous signals.
 #[derive(Drop)]
 pub struct Table<'m> {
     pub answers: Answers<'m>,
@@ -23,8 +23,8 @@ pub struct Table<'m> {
     pub continuous: Vec<ContinuousSignal>,
 }
 
-/// What a state says that has the parts with these numbers. Noted is `TwiceInState` at each name, list or asterisk that
-/// speaks of what is mentioned before.
+/// Reads the table of a state that has the parts with these numbers. Notes `TwiceInState` at each name, list or
+/// asterisk that speaks of what is mentioned before.
 pub fn read_table<'m, 't>(
     alloc: Global,
     numbers: &[usize],

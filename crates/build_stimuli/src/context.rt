@@ -8,7 +8,7 @@ use build_expressions::Scope;
 use build_scopes::Outward;
 use port_values::SignalId;
 
-/// What the stimuli of a process can name.
+/// The meanings of the names that the stimuli of a process can use.
 #[derive(Clone, Copy)]
 pub struct Context<'a, 's, 't> {
     /// Variables, formal parameters and synonyms; signals and timers.

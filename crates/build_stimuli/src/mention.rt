@@ -9,7 +9,7 @@ use crate::transition::TransitionId;
 use build_faults::Token;
 use sdl_system::{ConditionId, VariableId};
 
-/// What a state does with a signal. Conditions and transitions are named by their numbers in the process.
+/// The response of a state to a signal. Conditions and transitions are named by their numbers in the process.
 #[derive(Debug, Drop)]
 pub enum Response {
     /// The signal begins a transition where its enabling condition is true, and waits where that is false.
@@ -45,7 +45,7 @@ pub enum Manner {
 }
 
 impl Manner {
-    /// What an input of this manner does that puts the values of its signal into these variables.
+    /// Makes the response of an input of this manner that puts the values of its signal into these variables.
     pub(crate) fn received(
         self,
         begin: TransitionId,

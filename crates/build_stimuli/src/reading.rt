@@ -29,7 +29,7 @@ pub struct ContinuousSignal {
     pub begin: TransitionId,
 }
 
-/// What a part says of the states to which it belongs, in the order of the text.
+/// A part with the states to which it belongs, and with its stimuli in the order of the text.
 #[derive(Debug, Drop)]
 pub struct Part<'t> {
     pub states: &'t States,
@@ -39,24 +39,24 @@ pub struct Part<'t> {
     pub continuous: Vec<ContinuousSignal>,
 }
 
-/// What is numbered in a process.
+/// The numbering of the transitions and conditions of a process.
 #[derive(Debug, Drop)]
 pub struct Numbering {
     /// The transition that comes next.
     pub next: TransitionId,
-    /// What the conditions come to, by their numbers. One in which a rule is broken comes to nothing.
+    /// The expressions of the conditions, by their numbers. None for one in which a rule is broken.
     pub conditions: Vec<Option<Expression>>,
 }
 
-/// What the states of a process say.
+/// The parts of the states of a process, with the numbering of their transitions and conditions.
 #[derive(Debug, Drop)]
 pub struct Reading<'t> {
     pub numbering: Numbering,
     pub parts: Vec<Part<'t>>,
 }
 
-/// What the parts of a process say, and the conditions in them. Noted are the faults of their stimuli: `Unknown` and
-/// `Sort` at names, and those of the conditions. What a state says twice isn't seen here.
+/// Reads the parts of a process, and the conditions in them. Notes the faults of their stimuli: `Unknown` and `Sort`
+/// at names, and those of the conditions. It doesn't see what a state says twice.
 pub fn read_body<'t>(
     alloc: Global,
     context: &Context<'_, '_, 't>,

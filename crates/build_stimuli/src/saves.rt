@@ -86,7 +86,7 @@ fn name_of(item: &SignalListItem) -> &Name
     }
 }
 
-/// What an item of a save speaks of. A name that means nothing is noted as `Unknown`.
+/// Reads the subjects of an item of a save. Notes a name that means nothing as `Unknown`.
 fn read_item<'t>(
     alloc: Global,
     context: &Context<'_, '_, 't>,

@@ -11,7 +11,7 @@ use build_expressions::Constant;
 use build_faults::Faults;
 use std::alloc::{AllocError, Global};
 
-/// What is known of the synonyms so far: what each comes to, and whether it is settled.
+/// The constants of the synonyms that are known so far, and which of them are settled.
 #[derive(Drop)]
 pub struct Known {
     pub constants: Vec<Constant>,

@@ -22,7 +22,7 @@ pub fn named_is_listed()
     ensures { NamedListed }
 {}
 
-/// What is defined by itself doesn't settle, nor does what leads to it.
+/// A synonym that is defined by itself doesn't settle, nor does one that leads to it.
 pub fn circle_is_unsettled()
     ensures { CircleUnsettled }
 {}

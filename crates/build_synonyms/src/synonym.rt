@@ -27,7 +27,7 @@ pub struct Synonym<'a, 's, 't> {
 }
 
 impl<'a, 's, 't> Synonym<'a, 's, 't> {
-    /// What its expression comes to where the synonyms come to these constants, and the faults in it.
+    /// Finds its constant, with these constants of the synonyms. Notes the faults in its expression.
     pub(crate) fn constant(
         &self,
         alloc: Global,

@@ -10,8 +10,8 @@ use build_expressions::Constant;
 use build_faults::Faults;
 use std::alloc::{AllocError, Global};
 
-/// What each synonym of a specification comes to, by its number: its place in this list, which has them in the order of
-/// the text. One that is defined by itself, directly or by others, or that rests on such a synonym, has no value.
+/// Finds the constant of each synonym of a specification, by its number: its place in this list, in the order of the
+/// text. One that is defined by itself, directly or by others, or that rests on such a synonym, has no value.
 ///
 /// Noted are the faults of each definition, as `constant` has them: so `BadCount` at the first token of one without a
 /// value.

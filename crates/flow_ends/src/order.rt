@@ -252,7 +252,7 @@ impl<'t> Graph<'t> {
     }
 }
 
-/// What a search has found so far.
+/// The state of a search: the places and joins that it has found so far.
 #[derive(Drop)]
 struct Search<'t> {
     /// The places that were found, in this order.

@@ -24,8 +24,8 @@ pub fn ends_are_not_before()
     ensures { EndsAreNotBefore }
 {}
 
-/// What an instance sends, and each signal of the script, goes where the routes of the system lead it, by the instances
-/// that live at that moment; and each that hasn't ended counts there (Z.101: channel; Z.102: output).
+/// Each signal that an instance sends, and each of the script, goes where the routes of the system lead it, by the
+/// instances that live at that moment. Each instance that hasn't ended counts there (Z.101: channel; Z.102: output).
 pub fn targets_are_meant()
     ensures outputs { OutputsAreMeant }
     ensures signals { SignalsAreMeant }

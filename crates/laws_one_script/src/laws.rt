@@ -7,7 +7,7 @@ pub fn one_spelling()
     ensures { OneSpelling }
 {}
 
-/// What is spelled means one signal in a system, if it means any.
+/// A spelling means one signal in a system, if it means any.
 pub fn one_meaning()
     ensures { OneMeaning }
 {}

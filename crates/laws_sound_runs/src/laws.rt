@@ -30,7 +30,7 @@ pub fn runs_keep_sorts()
     ensures { RunsKeepSorts }
 {}
 
-/// What terms come to at places of sorts is of those sorts (Z.102: output, set, create).
+/// The values of terms at places of sorts are of those sorts (Z.102: output, set, create).
 pub fn values_fit_places()
     ensures { ValuesFitPlaces }
 {}

@@ -17,7 +17,7 @@ pub fn listed_terms_fit()
     ensures { ListedTermsFit }
 {}
 
-/// What is of a kind names variables and timers that are there, with as many values as they take.
+/// A term of a kind names variables and timers that are there, with as many values as they take.
 pub fn kinded_terms_are_sound()
     ensures { KindedTermsAreSound }
 {}

@@ -23,7 +23,7 @@ pub fn built_runs_have_sorts()
     ensures { BuiltRunsHaveSorts }
 {}
 
-/// What the heading of a process says fits (Z.101: process; Z.102: variable definition).
+/// The counts, formal parameters and initial values of each process fit (Z.101: process; Z.102: variable definition).
 pub fn headings_are_sound()
     ensures { HeadingsAreSound }
 {}
@@ -33,7 +33,7 @@ pub fn timers_belong()
     ensures { TimersBelong }
 {}
 
-/// What the environment names are signals and processes of the system.
+/// The names that the environment uses stand for signals and processes of the system.
 pub fn names_are_there()
     ensures { NamesAreThere }
 {}

@@ -95,18 +95,18 @@ fn comma_ahead(mut ahead: Cursor<'_, '_>) -> bool
     false
 }
 
-/// What a word that stands inside this many parentheses of a clause says of the clause's comma.
+/// The outcome of a look at one word of a clause, in the search for the clause's comma.
 #[derive(Clone, Copy)]
 enum Look {
     /// It is the comma.
     Comma,
     /// No comma stands before the end of the clause.
     End,
-    /// What follows stands inside this many parentheses.
+    /// The search goes on: the next word stands inside this many parentheses.
     Inside(usize),
 }
 
-/// What the mark of a word says, if it is one, inside this many parentheses of the clause.
+/// Looks at a word inside this many parentheses of the clause. `mark` is its mark, if it is one.
 #[tactic(auto, unfolding(crate::specs::Clauses::look_at, parse_cursor::specs::Reading::same_mark))]
 fn look_at(inside: usize, mark: Option<Mark>) -> Look
     requires { inside < usize.MAX }

@@ -44,7 +44,7 @@ impl<'c, 't> Cursor<'c, 't> {
         Cursor { words: self.words }
     }
 
-    /// What stands next, if not the end of the text.
+    /// Gives the word that stands next. None at the end of the text.
     #[tactic(auto, unfolding(crate::specs::Reading::front))]
     pub fn front(&self) -> Option<PlacedWord<'t>>
         ensures { option_map word_of_placed result ≡ spec.front self.now }

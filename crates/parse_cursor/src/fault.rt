@@ -15,7 +15,7 @@ pub enum Fault {
     Expected(Wanted),
     /// A `provided` stands there right behind the end of a priority input, which has no condition.
     Condition,
-    /// What stands there opens a parenthesis or a decision inside 64 others.
+    /// A parenthesis or a decision opens there inside 64 others.
     TooDeep,
     Memory,
 }
@@ -36,7 +36,7 @@ impl<T: Drop> From<AllocFailed<T>> for Fault {
     }
 }
 
-/// What must stand at a place, once all that may be left out there is passed over.
+/// The part of a text that must stand at a place, once all that may be left out there is passed over.
 #[derive(Debug, Drop)]
 pub enum Wanted {
     /// A keyword or a sign, told as it is spelled in lower case.

@@ -10,9 +10,9 @@ use crate::fault::Fault;
 use sdl_tree::Mark;
 use std::alloc::Global;
 
-/// What a value of type `P` is read from at a place of this type. It has no functions, so that it stands in no cycle of
-/// calls: a list is given the function that reads its items. Each crate that reads values has a type of places of its
-/// own.
+/// The production from which a value of type `P` is read, at a place of this type. It has no functions, so that it
+/// stands in no cycle of calls: a list is given the function that reads its items. Each crate that reads values has a
+/// type of places of its own.
 pub trait Production<P> {
     ghost use Rattle.parse_cursor.specs.Reading.{Parser};
 
@@ -23,7 +23,7 @@ pub trait Production<P> {
     ghost reads: { Self → Parser Node };
 }
 
-/// What a value of type `P` is read from at a place of this type, if it begins where it is asked for.
+/// The production from which a value of type `P` is read, at a place of this type, if one begins there.
 pub trait Perhaps<P> {
     ghost use Rattle.std.specs.Prelude.{Option};
     ghost use Rattle.parse_cursor.specs.Reading.{Parser};

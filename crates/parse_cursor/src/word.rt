@@ -56,7 +56,7 @@ pub fn placed_words<'t>(
     Ok(found)
 }
 
-/// What a token means that stands at this place.
+/// Makes the word that a token of this text means, at this place.
 #[tactic(auto, unfolding(sdl_tree::specs::Words::word_of))]
 fn placed<'t>(text: &'t [u8], token: Token, place: Place) -> PlacedWord<'t>
     requires ordered { token.start ≤ token.end }

@@ -72,7 +72,7 @@ impl Graph {
         Ok(())
     }
 
-    /// What flows to each node, where this begins at each. `column` has the mask of each list.
+    /// Computes the mask that flows to each node. `start` has the mask that begins at each, `column` that of each list.
     pub fn flow(
         &self,
         alloc: Global,
@@ -159,7 +159,7 @@ fn pass(
     Ok(())
 }
 
-/// What of a mask a step lets pass.
+/// Gives the part of a mask that a step lets pass.
 fn let_through(from: u64, only: Option<ListId>, column: &[u64]) -> u64
     ensures { (k : ℕ) → Bit result k ↔ (Bit from k × Lets column.now only k) }
 {

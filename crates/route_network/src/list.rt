@@ -7,7 +7,7 @@ use port_values::SignalId;
 #[derive(Clone, Copy, Debug, PartialEq, Eq, PartialOrd, Ord, Hash)]
 pub struct ListId(pub u32);
 
-/// What stands in a list.
+/// An item of a list.
 #[derive(Clone, Copy, Debug, PartialEq, Eq)]
 pub enum Item {
     Signal(SignalId),
@@ -15,7 +15,7 @@ pub enum Item {
     List(ListId),
 }
 
-/// What is listed at one place.
+/// The items that are listed at one place.
 #[derive(Debug, Drop)]
 pub struct SignalList {
     pub items: Vec<Item>,

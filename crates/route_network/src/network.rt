@@ -17,7 +17,7 @@ pub enum Scope {
 /// An end of a channel.
 #[derive(Clone, Copy, Debug, PartialEq, Eq)]
 pub enum End {
-    /// What is around the scope.
+    /// The environment of the scope: all that is around it.
     Env,
     Process(ProcessId),
     Block(BlockId),
@@ -46,7 +46,7 @@ pub struct Connect {
 #[derive(Clone, Copy, Debug, PartialEq, Eq)]
 pub struct Process {
     pub scope: Scope,
-    /// What it inputs or saves by name, and its `signalset`.
+    /// The signals that it inputs or saves by name, and those of its `signalset`.
     pub named: ListId,
     pub timers: ListId,
 }

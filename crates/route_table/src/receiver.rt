@@ -48,7 +48,8 @@ pub(crate) fn receivers_of(
     Ok(receivers)
 }
 
-/// What implied channels lead to the process from others, if it is the source. `column` has the masks of all lists.
+/// Gives the signals that implied channels lead to the process from others, if it is the source. `column` has the
+/// masks of all lists.
 fn shared(network: &Network, column: &[u64], source: Source, id: ProcessId, process: Process) -> u64
     ensures { (place : ℕ) → Bit result place → source.end ≡ at.Process id }
 {

@@ -16,7 +16,7 @@ use port_values::SignalId;
 use sdl_system::{ProcessId, Signal};
 use std::alloc::{AllocError, Global};
 
-/// What a system has of the definitions of a specification beside its processes and routes.
+/// The parts of a system that come from the definitions of a specification, except its processes and routes.
 #[derive(Drop)]
 pub struct Defined {
     pub signals: Vec<Signal>,
@@ -27,7 +27,7 @@ pub struct Defined {
 }
 
 impl Defined {
-    /// What these definitions say, with the default durations of timers among these constants.
+    /// Makes those of these definitions, with the default durations of timers among these constants.
     pub fn of(
         alloc: Global,
         definitions: &Definitions<'_>,

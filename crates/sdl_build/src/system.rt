@@ -91,7 +91,7 @@ pub fn processes_in<'t>(
     all_made(alloc, made)
 }
 
-/// What each process is made of, or None where it means nothing.
+/// Makes each process, or None if it means nothing.
 fn each_process<'t>(
     alloc: Global,
     definitions: &Definitions<'t>,
@@ -128,7 +128,7 @@ fn each_process<'t>(
     Ok(made)
 }
 
-/// What the process at this place is made of, with this valid input set.
+/// Makes the process at this place, with this valid input set. None if it means nothing.
 fn process_in<'t>(
     alloc: Global,
     definitions: &Definitions<'t>,

@@ -20,7 +20,7 @@ pub fn shown_byte(byte: u8) -> u8
     }
 }
 
-/// What stands under a byte so that the next stands under the next: a tab under a tab, else a blank.
+/// Gives the byte to write under a byte, so that the next stands under the next: a tab under a tab, else a blank.
 pub fn blank_for(byte: u8) -> u8
     ensures { result ≡ blank_for byte }
 {

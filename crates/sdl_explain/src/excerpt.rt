@@ -9,9 +9,9 @@ use sdl_lex::Place;
 #[derive(Clone, Copy, Debug)]
 pub struct Excerpt<'t> {
     pub place: Place,
-    /// What of the line stands before the place.
+    /// The part of the line before the place.
     pub before: &'t [u8],
-    /// What of it stands from the place on, without the LF.
+    /// The part of it from the place on, without the LF.
     pub behind: &'t [u8],
     /// How many bytes are marked, 1 at least. Where the line ends at the place its end is marked.
     pub width: usize,

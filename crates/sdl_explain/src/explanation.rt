@@ -64,7 +64,7 @@ fn push_shown(
     }
 }
 
-/// What stands above an excerpt.
+/// Gives the line above an excerpt.
 fn heading(source: Source) -> &'static str
     ensures { result.now ≡ heading source }
 {

@@ -60,7 +60,7 @@ fn front_of(alloc: Global, excerpt: &Excerpt<'_>) -> Result<Vec<u8>, AllocError>
     Ok(text)
 }
 
-/// What is shown of the bytes before a place.
+/// Gives the bytes before a place that are shown: the last ones.
 fn last_shown(bytes: &[u8]) -> &[u8]
     ensures { result.now ≡ drop (length bytes.now - 60) bytes.now }
 {
@@ -68,7 +68,7 @@ fn last_shown(bytes: &[u8]) -> &[u8]
     shown
 }
 
-/// What is shown of the bytes from a place on.
+/// Gives the bytes from a place on that are shown: the first ones.
 fn first_shown(bytes: &[u8]) -> &[u8]
     ensures { result.now ≡ take 60 bytes.now }
 {

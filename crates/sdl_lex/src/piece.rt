@@ -135,7 +135,8 @@ fn text(bytes: &[u8]) -> Result<Piece, Fault>
     }
 }
 
-/// What follows the closing quote of a character string, whose opening quote stands before `body`.
+/// Gives the bytes after the closing quote of a character string whose opening quote stands before `body`. None if
+/// it has no closing quote.
 fn after_text(body: &[u8]) -> Option<&[u8]>
     ensures value { option_copied result ≡ spec.after_text body.now }
     ensures within { IfSome result (λ after. length after.now ≤ length body.now) }
@@ -172,7 +173,7 @@ fn comment(bytes: &[u8]) -> Result<Piece, Fault>
     }
 }
 
-/// What follows the first `*/`.
+/// Gives the bytes after the first `*/`. None if there is none.
 fn after_comment(body: &[u8]) -> Option<&[u8]>
     ensures value { option_copied result ≡ spec.after_comment body.now }
     ensures within { IfSome result (λ after. length after.now ≤ length body.now) }

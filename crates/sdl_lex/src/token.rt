@@ -1,6 +1,6 @@
 //! Tokens.
 
-/// What a token is.
+/// The kind of a token.
 #[derive(Clone, Copy, Debug, PartialEq, Eq)]
 pub enum Kind {
     /// A letter, then letters, digits and `_`.

@@ -13,8 +13,8 @@ pub enum ParseError {
     Lex(LexError),
     /// Another token stands here than what must stand here.
     Expected(Place, Wanted),
-    /// What stands here belongs to no construct that is read, or not here: a character string, told as `text`, a
-    /// word of the standard that the language leaves out, in lower case, or `provided` behind a priority input.
+    /// A word stands here that belongs to no construct that is read, or not here: a character string, told as `text`; a
+    /// word of the standard that the language leaves out, in lower case; or `provided` after a priority input.
     LeftOut(Place, String),
     /// A parenthesis or a decision opens here inside 64 others.
     TooDeep(Place),

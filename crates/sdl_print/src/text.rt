@@ -31,7 +31,7 @@ impl Text {
         }
     }
 
-    /// What was written.
+    /// Gives the text that was written.
     pub fn into_string(self) -> String
         ensures { string_bytes result ≡ self }
     {

@@ -9,7 +9,7 @@ use crate::byte::{digits_len, spaces_len, word_len};
 use std::marker::Model;
 use std::str;
 
-/// What of a line is still to be read. It never begins with a space: a blank or a tab.
+/// The rest of a line that is still to be read. It never begins with a space: a blank or a tab.
 #[derive(Drop)]
 pub struct Cursor<'a> {
     rest: &'a [u8],

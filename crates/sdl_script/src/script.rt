@@ -125,7 +125,7 @@ fn add_line(alloc: Global, script: &mut Script, system: &System, line: &[u8]) ->
     Ok(())
 }
 
-/// What a line says, if it isn't read over. `earliest` is the time of the line before.
+/// Reads a line. None if the line is read over. `earliest` is the time of the line before.
 fn read_line(
     alloc: Global,
     system: &System,

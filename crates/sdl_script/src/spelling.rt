@@ -190,7 +190,7 @@ fn positive(number: u64) -> SpelledValue
     SpelledValue::Number(i64::try_from(number).ok())
 }
 
-/// What a literal stands for, or `env`.
+/// Reads a word that is a literal or `env`. None for any other word.
 fn literal(word: &str) -> Option<SpelledValue>
     ensures { result ≡ literal word.now }
 {

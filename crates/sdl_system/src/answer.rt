@@ -6,7 +6,7 @@ ghost use Rattle.sdl_system.specs.Answer.{is_met};
 use crate::operation::{Comparison, compare};
 use port_values::Value;
 
-/// What the value of a question is compared with.
+/// An answer of a decision: the values with which the value of the question is compared.
 #[derive(Clone, Copy, Debug, PartialEq, Eq)]
 pub enum Answer {
     /// The value itself.

@@ -22,7 +22,7 @@ pub fn ends_second()
     ensures { EndsSecond }
 {}
 
-/// What stands behind a body stands behind what follows each label of it.
+/// If one body follows another, it follows the rest of that one after each label too.
 pub fn label_followed()
     ensures { LabelFollowed }
 {}
@@ -32,7 +32,7 @@ pub fn has_followed()
     ensures { HasFollowed }
 {}
 
-/// What stands in a table stands in it when it has grown.
+/// A table that has a body still has it after it has grown.
 pub fn has_grows()
     ensures { HasGrows }
 {}
@@ -62,7 +62,7 @@ pub fn decides()
     ensures { Decides }
 {}
 
-/// What a state of a process does with a signal is what the behaviour says of it.
+/// Each state of a process reacts to a signal as the behaviour says.
 pub fn reacts_as_meant()
     ensures { ReactsAsMeant }
 {}
@@ -72,17 +72,18 @@ pub fn equal_is_same()
     ensures { EqualIsSame }
 {}
 
-/// What `/` and `rem` give: a quotient that is truncated towards zero, and a remainder with the dividend's sign.
+/// `/` gives a quotient that is truncated towards zero, and `rem` a remainder with the dividend's sign.
 pub fn divides_all()
     ensures { DividesAll }
 {}
 
-/// What `mod` gives: the number from 0 to the divisor's amount less one that differs by a multiple of the divisor.
+/// `mod` gives the number from 0 to the divisor's amount less one that differs from the dividend by a multiple of the
+/// divisor.
 pub fn modulo_of_all()
     ensures { ModuloOfAll }
 {}
 
-/// What a value is at a place has the sort of the place.
+/// A value that is taken to the sort of a place has that sort.
 pub fn takes_sort()
     ensures { TakesSort }
 {}

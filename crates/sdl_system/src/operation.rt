@@ -80,7 +80,7 @@ pub enum Failure {
 }
 
 impl Operation {
-    /// What the operation gives of two values. Errors: `Overflow` exactly where the number is past 64 bits,
+    /// Applies the operation to two values. Errors: `Overflow` exactly if the number is past 64 bits,
     /// `ZeroDivisor` exactly for `/`, `mod` and `rem` by zero.
     #[inline(always)]
     pub fn apply(self, left: Value, right: Value) -> Result<Value, Failure>
@@ -100,7 +100,7 @@ impl Operation {
 }
 
 impl UnaryOperation {
-    /// What the operation gives of a value. Error: `Overflow` exactly for the least number with the other sign.
+    /// Applies the operation to a value. Error: `Overflow` exactly for the least number with the other sign.
     #[inline(always)]
     pub fn apply(self, operand: Value) -> Result<Value, Failure>
         ensures { result ≡ applied_to_one self operand }

@@ -11,7 +11,7 @@ use crate::state::{Reaction, StateTable};
 use crate::statement::Node;
 use port_values::{SignalId, Value};
 
-/// What the instances of a process are made of.
+/// A process, of which instances are made.
 #[derive(Debug)]
 pub struct Process {
     pub name: String,
@@ -25,7 +25,7 @@ pub struct Process {
     /// The valid input set: the signals and timers for which an asterisk in an input or a save stands.
     pub valid: SignalSet,
     pub states: Vec<State>,
-    /// What the states do, shared by those that do the same.
+    /// The tables of the states. States that do the same share one.
     pub tables: Vec<StateTable>,
     /// The enabling conditions and those of the continuous signals.
     pub conditions: Vec<Expression>,
@@ -84,7 +84,7 @@ impl Process {
         self.states.get(state.0 as usize)
     }
 
-    /// What the state of this number does.
+    /// Gives the table of the state of this number.
     pub fn table(&self, state: StateId) -> Option<&StateTable>
         ensures { option_copied result ≡ table_of self.now state }
     {
@@ -92,8 +92,8 @@ impl Process {
         self.tables.get(state.table.0 as usize)
     }
 
-    /// What a state does with a signal: what its input or save says that names it, else what its asterisk says, if the
-    /// signal is in the valid input set. With None the signal is discarded.
+    /// Gives the reaction of a state to a signal. It is that of the input or save that names the signal, else that of
+    /// the asterisk, if the signal is in the valid input set. With None the signal is discarded.
     pub fn reaction(&self, state: StateId, signal: SignalId) -> Option<&Reaction>
         ensures { option_copied result ≡ reaction_in self.now state signal }
     {

@@ -14,7 +14,7 @@ pub enum Source {
     Process(ProcessId),
 }
 
-/// What an output names as its destination.
+/// The destination that an output names.
 #[derive(Clone, Copy, Debug, PartialEq, Eq)]
 pub enum Dest {
     /// Nothing: the signal goes along a path.

@@ -14,11 +14,11 @@ pub struct Signal {
     pub name: String,
     /// The sorts of its values.
     pub sorts: Vec<Sort>,
-    /// What a timer has besides; None for a signal.
+    /// The process and the default duration of a timer; None for a signal.
     pub timer: Option<Timer>,
 }
 
-/// What a timer has besides its name and the sorts of its values.
+/// The part of a timer besides its name and the sorts of its values.
 #[derive(Clone, Copy, Debug, PartialEq, Eq)]
 pub struct Timer {
     /// The process whose instances set it.

@@ -9,14 +9,15 @@ use port_model::{Class, Selection};
 use port_values::SignalId;
 use std::marker::Model;
 
-/// What the states of one table do: states whose parts are the same share it.
+/// The table of a state: its reactions to signals, its enabling conditions and its continuous signals. States whose
+/// parts are the same share it.
 #[derive(Debug)]
 pub struct StateTable {
     /// The class of each signal where every condition is true.
     pub selection: Selection,
-    /// What is done with the signals that the state names.
+    /// The reactions to the signals that the state names.
     pub reactions: Reactions,
-    /// What is done with those of the valid input set that it doesn't name, where an asterisk stands.
+    /// The reaction to the signals of the valid input set that it doesn't name, if an asterisk stands.
     pub rest: Option<Reaction>,
     /// The enabling conditions, in the order of the text.
     pub conditions: Vec<Enabling>,
@@ -40,7 +41,7 @@ impl Drop for StateTable {
 /// So few signals are compared one by one, which is sooner done than to look for one by its hash.
 const FEW: usize = 8;
 
-/// What is done with each signal that a state names.
+/// The reactions of a state, one to each signal that it names.
 #[derive(Debug)]
 pub struct Reactions {
     by_signal: IndexMap<SignalId, Reaction>,
@@ -64,14 +65,14 @@ impl Model for Reactions {
 }
 
 impl Reactions {
-    /// What this table says of each of its signals. Takes no memory.
+    /// Makes the reactions of this table, which has one for each of its signals. Takes no memory.
     pub fn new(by_signal: IndexMap<SignalId, Reaction>) -> Self
         ensures { result ≡ by_signal.entries }
     {
         Reactions { by_signal }
     }
 
-    /// What is done with a signal, if the state names it.
+    /// Gives the reaction to a signal, if the state names it.
     pub fn get(&self, signal: SignalId) -> Option<&Reaction>
         ensures { option_copied result ≡ named_reaction self.now signal }
     {
@@ -90,7 +91,7 @@ impl Reactions {
     }
 }
 
-/// What a state does with a signal.
+/// The reaction of a state to a signal.
 #[derive(Debug, Drop)]
 pub enum Reaction {
     /// The signal begins a transition where its enabling condition is true, and waits where that is false.

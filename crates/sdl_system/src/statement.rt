@@ -18,7 +18,7 @@ pub struct Node {
     pub next: Option<NodeId>,
 }
 
-/// What a node does. A statement with a list counts once.
+/// The statement of a node. One with a list counts once.
 #[derive(Debug)]
 pub enum Statement {
     Task(Vec<Assignment>),

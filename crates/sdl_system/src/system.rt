@@ -128,8 +128,8 @@ impl System {
         self.nodes(process).get(node.0 as usize)
     }
 
-    /// What a state of a process does with a signal: what its input or save says that names it, else what its asterisk
-    /// says, if the signal is in the valid input set. With None the signal is discarded.
+    /// Gives the reaction of a state of a process to a signal. It is that of the input or save that names the signal,
+    /// else that of the asterisk, if the signal is in the valid input set. With None the signal is discarded.
     pub fn reaction(
         &self,
         process: ProcessId,

@@ -11,7 +11,7 @@ pub struct Start {
     pub transition: Transition,
 }
 
-/// What stands in the body of a process behind the start.
+/// A part of the body of a process after the start: a state part or a free action.
 #[derive(Debug)]
 pub enum BodyPart {
     State(StatePart),
@@ -45,7 +45,7 @@ pub enum States {
     },
 }
 
-/// What a state part waits for, or saves.
+/// A stimulus of a state part, for which it waits or which it saves.
 #[derive(Debug, Drop)]
 pub enum Stimulus {
     Input(InputPart),
@@ -212,7 +212,7 @@ pub struct AnswerPart {
     pub transition: Transition,
 }
 
-/// What the value of a question is compared with.
+/// An answer of a decision: the values with which the value of the question is compared.
 #[derive(Debug, Drop)]
 pub enum Answer {
     Value(Expression),
@@ -236,7 +236,7 @@ pub struct TerminatorStatement {
     pub terminator: Terminator,
 }
 
-/// What ends a transition.
+/// The end of a transition: a next state, a stop or a join.
 #[derive(Debug, Drop)]
 pub enum Terminator {
     NextState { word: Spelling, state: NextState },

@@ -21,7 +21,7 @@ impl Drop for Tree {
     }
 }
 
-/// What a system defines.
+/// A definition in a system: a block, or one that a block can have too.
 #[derive(Debug, Drop)]
 pub enum SystemDefinition {
     Shared(Definition),
@@ -36,14 +36,14 @@ pub struct BlockDefinition {
     pub definitions: Vec<BlockPart>,
 }
 
-/// What a block defines.
+/// A part of a block: a connection of a channel, or a definition that a system can have too.
 #[derive(Debug, Drop)]
 pub enum BlockPart {
     Shared(Definition),
     Connect(ChannelConnection),
 }
 
-/// What both a system and a block can define.
+/// A definition that both a system and a block can have.
 #[derive(Debug, Drop)]
 pub enum Definition {
     Signals(Vec<SignalDefinition>),
@@ -145,7 +145,7 @@ pub struct Counts {
     pub bound: Option<Bound>,
 }
 
-/// What stands from the comma on in the counts of a process.
+/// The part of the counts of a process from the comma on: the maximum, if one stands there.
 #[derive(Debug, Drop)]
 pub struct Bound {
     pub maximum: Option<Expression>,
@@ -165,7 +165,7 @@ pub struct ParameterGroup {
     pub sort: SortName,
 }
 
-/// What a process defines for itself.
+/// A definition of a process for itself.
 #[derive(Debug, Drop)]
 pub enum LocalDefinition {
     Signals(Vec<SignalDefinition>),

@@ -8,7 +8,7 @@ pub fn canonical_spells()
     ensures { CanonicalSpells }
 {}
 
-/// What is erased twice is erased.
+/// A tree that is erased twice is as one that is erased once.
 pub fn erased_once()
     ensures { ErasedOnce }
 {}

@@ -4,7 +4,7 @@ use crate::advice::Advice;
 use build_faults::Rule;
 use sdl_build::BuildError;
 
-/// What is said of a specification that has no system.
+/// Gives the advice on a specification that has no system.
 pub fn build_advice(error: &BuildError) -> Advice<'_> {
     match error {
         BuildError::Broken { rule, word } => {
@@ -15,7 +15,7 @@ pub fn build_advice(error: &BuildError) -> Advice<'_> {
     }
 }
 
-/// What is said of the word at which a rule is broken.
+/// Gives the sentence about the word at which a rule is broken.
 fn broken_sentence(rule: Rule, word: &str) -> &'static str {
     match rule {
         Rule::Unknown => {

@@ -1,8 +1,8 @@
 //! What is said of constructs of the standard that this language leaves out, and what stands for them where something
 //! does.
 
-/// What is said of a word that is left out, in lower case; `text` is a character string, and `provided` stands behind
-/// the end of a priority input.
+/// Gives the sentence about a word that is left out, in lower case. `text` is a character string, and `provided` stands
+/// after the end of a priority input.
 pub fn left_out_sentence(word: &str) -> &'static str {
     match word {
         "text" => "A character string can stand behind `comment` alone: no sort has it as a value.",

@@ -7,7 +7,7 @@ use parse_cursor::Wanted;
 use sdl_lex::LexError;
 use sdl_parse::ParseError;
 
-/// What is said of a text that is no specification, where this is shown of it.
+/// Gives the advice on a text that is no specification. `shown` is the part of it that is shown.
 pub fn parse_advice<'t>(error: &'t ParseError, shown: &Option<Excerpt<'t>>) -> Advice<'t> {
     match error {
         ParseError::Lex(error) => lex_advice(*error, shown),
@@ -57,15 +57,15 @@ fn is_word_marked(shown: &Option<Excerpt<'_>>) -> bool {
     }
 }
 
-/// What is said of a keyword where a name has to stand.
+/// The sentence about a keyword that stands at the place of a name.
 const KEYWORD_AS_NAME: &str = "is a keyword, and a name has to stand here. Choose another word.";
 
-/// What is said of what opens inside of too many others.
+/// The sentence about a parenthesis or a decision that opens inside of too many others.
 const TOO_DEEP: &str =
     "opens inside of 64 other parentheses and decisions. Give an inner expression to a variable by a task before, or \
      put an inner part behind a connection and go there by a join.";
 
-/// What is said of a text without tokens.
+/// Gives the sentence about a text without tokens.
 fn lex_sentence(error: LexError) -> &'static str {
     match error {
         LexError::TooLong => {
@@ -89,7 +89,7 @@ fn lex_sentence(error: LexError) -> &'static str {
     }
 }
 
-/// What is said where something else has to stand.
+/// Gives the sentence about a place at which something else has to stand.
 fn expected_sentence(wanted: &Wanted) -> &'static str {
     match wanted {
         Wanted::Mark(_) => {

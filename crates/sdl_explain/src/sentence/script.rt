@@ -4,7 +4,7 @@ use crate::advice::Advice;
 use crate::excerpt::Excerpt;
 use sdl_script::ScriptError;
 
-/// What is said of a script that is refused, where this is shown of it.
+/// Gives the advice on a script that is refused. `shown` is the part of it that is shown.
 pub fn script_advice<'t>(error: ScriptError, shown: &Option<Excerpt<'t>>) -> Advice<'t> {
     let sentence = script_sentence(error);
     match error {
@@ -14,7 +14,7 @@ pub fn script_advice<'t>(error: ScriptError, shown: &Option<Excerpt<'t>>) -> Adv
     }
 }
 
-/// What is said of a line.
+/// Gives the sentence about a fault in a script.
 fn script_sentence(error: ScriptError) -> &'static str {
     match error {
         ScriptError::Syntax(_) => {
