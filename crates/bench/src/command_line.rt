@@ -9,7 +9,7 @@ use std::alloc::{AllocError, Global};
 use std::env;
 use std::rt::Env;
 
-/// What follows the help.
+/// The text after the help.
 const HELP: &str = "Calls of a port:
   puts N       one sender puts N signals into a shared port, and its owner takes them
   four N       four senders put N signals together, each in a thread of its own, and a fifth thread takes them
@@ -31,7 +31,7 @@ Checks of texts of one shape, in N bytes:
 
   all N        each of them, with N for all numbers and 10000 N bytes";
 
-/// What the command line asks for.
+/// The request of a command line.
 #[derive(Drop)]
 pub enum Request {
     /// To measure this.
@@ -67,13 +67,13 @@ pub fn read_command_line<R: Env + AllocGlobal + Print + Eprint>(rt: &R) -> Reque
     }
 }
 
-/// What the words of the command line ask for, the program's name first; none where there is no such thing.
+/// Reads the request from the words of the command line, the program's name first; none if there is no such thing.
 fn asked(alloc: Global, words: &[String]) -> Result<Option<Request>, Error> {
     let matches = command(alloc)?.try_get_matches_from(words)?;
     Ok(requested(&matches))
 }
 
-/// What is asked for; none where there is no such thing.
+/// The request of the arguments; none if there is no such thing.
 fn requested(matches: &ArgMatches<'_>) -> Option<Request> {
     let name = matches.get_str("WHAT")?;
     let number = matches.get_one::<u64>("N")?;
@@ -107,7 +107,7 @@ fn command<'a>(alloc: Global) -> Result<Command<'a>, AllocError> {
     with_options(alloc, with_numbers(alloc, command)?)
 }
 
-/// What is measured, and with how much.
+/// Adds the arguments: the thing to measure, and with how much.
 fn with_numbers<'a>(alloc: Global, command: Command<'a>) -> Result<Command<'a>, AllocError> {
     command
         .arg(what(alloc))?
@@ -127,7 +127,7 @@ fn with_options<'a>(alloc: Global, command: Command<'a>) -> Result<Command<'a>, 
         .arg(flag(alloc, "time", "Prints how long it took, too"))
 }
 
-/// What is measured.
+/// The argument that names the thing to measure.
 fn what<'a>(alloc: Global) -> Arg<'a> {
     Arg::new(alloc, "WHAT")
         .required(true)

@@ -8,7 +8,7 @@ use std::fmt;
 use std::sync::Wait;
 use std::thread::Threads;
 
-/// What is measured.
+/// A thing to measure.
 #[derive(Clone, Copy)]
 pub enum Measure {
     /// Calls of a port, with so many of something.
@@ -18,7 +18,7 @@ pub enum Measure {
 }
 
 impl Measure {
-    /// What has this name, with its numbers. None where there is nothing of this name, or not with these numbers.
+    /// The thing of this name, with its numbers. None if there is nothing of this name, or not with these numbers.
     pub fn named(name: &str, first: u64, second: u64, way: Way) -> Option<Measure> {
         match Calls::named(name) {
             Some(calls) => Some(Measure::Calls(calls, first)),

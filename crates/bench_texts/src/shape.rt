@@ -23,7 +23,7 @@ pub enum Way {
     Down,
 }
 
-/// What a text is like.
+/// The shape of a text.
 #[derive(Clone, Copy)]
 pub enum Shape {
     /// Stations in a ring hand a token on so many times.

@@ -9,7 +9,7 @@ const ONE_LONG: &str =
 /// The tail of one.
 const ONE_LONG_END: &str = "nextstate -;\nendstate;\nendprocess;\nendsystem;\n";
 
-/// What ends a process, and a system with it.
+/// The end of a process, and of its system.
 const END: &str = "endprocess;\nendsystem;\n";
 
 /// How many states a process has at most.

@@ -2,7 +2,7 @@
 
 use sdl_engine::Options;
 
-/// What the program is asked on its command line.
+/// The request to the program, on its command line.
 #[derive(Clone, Copy)]
 pub enum Asked {
     /// A command of the engine.

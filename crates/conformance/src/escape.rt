@@ -8,7 +8,7 @@ use std::io::Write;
 use std::str;
 use thiserror::Error;
 
-/// What is wrong with a text.
+/// A mistake in a text with escapes.
 #[derive(Debug, Drop, Error)]
 pub enum EscapeError {
     #[error("unknown escape")]

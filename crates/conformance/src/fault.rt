@@ -5,7 +5,7 @@ use std::alloc::AllocError;
 use std::io;
 use thiserror::Error;
 
-/// What is wrong with a line of a case file.
+/// A mistake in a line of a case file.
 #[derive(Debug, Drop, Error)]
 pub enum FormatError {
     #[error("the last line has no end")]

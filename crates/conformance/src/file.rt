@@ -160,7 +160,7 @@ fn row_output(
     Ok(output)
 }
 
-/// What a block stands for with this side of a row, and where there is no block, what the side stands for.
+/// The text that a block stands for with this side of a row. Without a block it is the text of the side.
 fn row_text(
     alloc: Global,
     block: Option<Lines<'_>>,
@@ -173,7 +173,7 @@ fn row_text(
     }
 }
 
-/// What some lines stand for.
+/// The text that some lines stand for.
 fn text_of(alloc: Global, lines: Lines<'_>, side: Option<&[u8]>) -> Result<Vec<u8>, FormatFault> {
     let mut text = Vec::new(alloc);
     match expand(lines.text, side, &mut text) {

@@ -15,7 +15,7 @@ use std::thread::Threads;
 /// How long a specification may be. A longer canonical text is none, so it has no canonical text.
 const LONGEST_SPECIFICATION: usize = 1_048_576;
 
-/// What is found of a case.
+/// The verdict on a case.
 #[derive(Drop)]
 pub enum Verdict {
     AsWanted,

@@ -123,7 +123,7 @@ pub fn line_ends(text: &[u8]) -> usize
     text.iter().filter(|byte| **byte == b'\n').count()
 }
 
-/// What stands before the first line end, or all.
+/// The text before the first line end, or all.
 pub fn first_line(text: &[u8]) -> &[u8]
     ensures { result.now ≡ first_line text.now }
 {
@@ -133,7 +133,7 @@ pub fn first_line(text: &[u8]) -> &[u8]
     }
 }
 
-/// What stands after the first line end, or nothing.
+/// The text after the first line end, or nothing.
 fn after_first_line(text: &[u8]) -> &[u8]
     ensures { 0 < length text.now → length result.now < length text.now }
 {

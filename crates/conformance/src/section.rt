@@ -10,7 +10,7 @@ pub const CASE: &[u8] = b"==== ";
 /// How the title of a block begins.
 const BLOCK: &[u8] = b"---- ";
 
-/// What stands from the name of a case to the next one.
+/// The section of a case: all from its name to the next one.
 #[derive(Clone, Copy)]
 pub struct Section<'a> {
     pub name: &'a str,
@@ -41,7 +41,7 @@ pub struct Blocks<'a> {
     pub table: Option<Lines<'a>>,
 }
 
-/// What stands between a name and the first block.
+/// The head of a section: all between its name and the first block.
 #[derive(Clone, Copy)]
 struct Head<'a> {
     args: Option<&'a str>,

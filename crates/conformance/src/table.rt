@@ -1,6 +1,6 @@
 //! The rows of a table.
 
-/// What stands between the sides of a row.
+/// The arrow between the sides of a row.
 const ARROW: &[u8] = b" ==> ";
 
 /// A row's input and output, before escapes are read.

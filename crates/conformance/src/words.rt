@@ -4,7 +4,7 @@ use crate::case::Asked;
 use sdl_engine::{Command, Options};
 use std::str::SplitWhitespace;
 
-/// What the words behind the program's name ask for.
+/// Reads the words after the program's name.
 pub fn read_words(line: &str) -> Asked {
     let mut words = line.split_whitespace();
     let options = match words.next() {
@@ -18,7 +18,7 @@ pub fn read_words(line: &str) -> Asked {
     }
 }
 
-/// What a check is asked, behind which no word stands.
+/// The options of a check. None: a word stands after it.
 fn check_options(mut words: SplitWhitespace<'_>) -> Option<Options> {
     words.next().is_none().then_some(Options {
         command: Command::Check,
@@ -27,7 +27,7 @@ fn check_options(mut words: SplitWhitespace<'_>) -> Option<Options> {
     })
 }
 
-/// What a run is asked by the words behind it: its workers, and then its limit.
+/// The options of a run by the words after it: its workers, and then its limit. None: they are other words.
 fn run_options(mut words: SplitWhitespace<'_>) -> Option<Options> {
     let mut options = Options {
         command: Command::Run,

@@ -24,6 +24,7 @@ pub fn port(alloc: Global, pid: u32) -> Result<NewPort, PortError>
     ensures desk { MatchResult result (λ made. made.desk ≡ record { port = made.port.queue; given = 0 })
         (λ _. Unit {0}) }
 {
+    // This function has a module of its own: a function and a type whose names differ in case alone can't be in one.
     let Ok((queue, mut pass)) = steps::open(alloc) else {
         return Err(PortError::Memory);
     };

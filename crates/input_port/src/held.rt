@@ -14,6 +14,8 @@ use std::marker::Model;
 use std::sync::Wait;
 
 /// The owner of a shared port, with the port and the handle by which it waits, as an inbox. It lives until `stop`.
+/// It doesn't keep how many signals had been drawn at its stop. An inbox is asked for all signals drawn, at any moment,
+/// and two such counts say whether any was drawn between them.
 #[derive(Drop)]
 pub struct Held<'a, R: Wait + Copy> {
     rt: R,
@@ -116,7 +118,7 @@ impl<'a, R: Wait + Copy> Held<'a, R> {
         self.receiver.drain(&self.rt, self.port)
     }
 
-    /// What every owner knows, as a fact.
+    /// Shows what every owner knows, as a fact.
     pub fn knows(&self)
         ensures { IsKnowing self.now.owner }
     {

@@ -42,7 +42,7 @@ impl Owner {
         }
     }
 
-    /// What it has, where it lives on in an inbox.
+    /// Gives its receiver, with which it lives on in an inbox.
     pub(crate) fn into_receiver(self) -> Receiver
         ensures owner { result ≡ self }
         ensures alive { result.state.alive ≡ true }
@@ -185,8 +185,8 @@ impl Owner {
         Retired::new(receiver, since, before)
     }
 
-    /// What waits in the port of the standard, in order: what was drawn and neither taken nor reset, each timer's
-    /// signal with its fuse. For want of memory the owner comes back as it was.
+    /// Gives all that waits in the port of the standard, in order: what was drawn and neither taken nor reset, each
+    /// timer's signal with its fuse. For want of memory the owner comes back as it was.
     pub fn into_entries(self) -> Result<Vec<Entry>, Refused<Owner>>
         ensures waiting { IfOk result (λ list. AreWaiting self.state.waiting self.pid self.armed list.items) }
         ensures back { IfErr result (λ back. ComesBack back self) }

@@ -50,7 +50,8 @@ impl Alone {
     }
 
     /// Expires a timer, and says whether its signal was put: before its time, after another set or a reset, and by the
-    /// fuse of another port, nothing changes. For want of memory the fuse comes back.
+    /// fuse of another port, nothing changes. For want of memory the fuse comes back. It asks nothing of the time,
+    /// since an early expiry changes nothing.
     pub fn expire(&mut self, fuse: Fuse, at: Ticks) -> Result<bool, Refused<Fuse>>
         ensures expired { MatchResult result
             (λ expired. expired ≡ ((fuse.pid == self.old.pid) && expires self.old.state fuse.key fuse.arm fuse.due at))
@@ -62,6 +63,7 @@ impl Alone {
         ensures refused { OnErr result ((fuse.pid ≡ self.old.pid)
             × (expires self.old.state fuse.key fuse.arm fuse.due at ≡ true)) }
     {
+        // The fuse of another port isn't refused: that would need an error of its own on each face.
         if fuse.pid() != self.pid {
             return Ok(false);
         }

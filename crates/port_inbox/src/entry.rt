@@ -15,7 +15,7 @@ pub struct Fuse {
     due: Ticks,
 }
 
-/// What an expiry needs of a fuse.
+/// The parts of a fuse that its expiry needs: all except the number of the instance.
 #[derive(Drop)]
 pub struct FuseParts {
     pub key: TimerKey,
@@ -66,7 +66,7 @@ impl Fuse {
     }
 }
 
-/// What goes into a port: a signal, or a timer that has expired.
+/// An entry of a port: a signal, or a timer that has expired.
 #[derive(Debug, PartialEq, Eq, Drop)]
 pub enum Entry {
     Signal(Item),

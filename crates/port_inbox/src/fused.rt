@@ -57,8 +57,8 @@ pub fn draw(plain: &mut PlainPort, pid: u32, placed: Placed)
     }
 }
 
-/// What waits in the port of the instance `pid`, in order, each timer's signal with its fuse. For want of memory the
-/// port comes back.
+/// Takes out all that waits in the port of the instance `pid`, in order, each timer's signal with its fuse. For want of
+/// memory the port comes back.
 pub fn into_entries(alloc: Global, pid: u32, plain: PlainPort) -> Result<Vec<Entry>, PlainPort>
     ensures { MatchResult result (λ list. AreWaiting plain.state.waiting pid plain.armed list.items)
         (λ back. back ≡ plain) }

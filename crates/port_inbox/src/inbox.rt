@@ -13,10 +13,10 @@ use port_values::{Ticks, TimerKey};
 /// The owner's calls of an input port, whatever stands behind it. After `stop` none of them is called: that is the
 /// caller's condition.
 pub trait Inbox {
-    /// What the owner has drawn and knows, and its port.
+    /// The state of the owner: what it has drawn and knows, and its port.
     ghost owning: { Self → OwnerState };
 
-    /// What it has drawn since its stop.
+    /// The entries that it has drawn since its stop.
     ghost since: { Self → List Entry };
 
     /// Whether all that comes into the port from outside is drawn from a queue that threads share.

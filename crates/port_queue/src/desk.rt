@@ -12,7 +12,7 @@ use std::marker::Model;
 /// How many senders a port has at most: one for each instance and one for the script.
 pub const MOST_SENDERS: u32 = 1001;
 
-/// What gives out the senders of a port, each with a number of its own, from 1.
+/// The desk of a port. It gives out the senders, each with a number of its own, from 1.
 #[derive(Drop)]
 pub struct Desk {
     pass: Pass,

@@ -6,7 +6,7 @@ use crate::rule::Pass;
 use port_inbox::Entry;
 use std::marker::Model;
 
-/// What an owner leaves at its end: the entries that are left, in order, and as a fact all that it had drawn by then.
+/// The end of an owner: the entries that are left, in order, and as a fact all that it had drawn by then.
 #[derive(Drop)]
 pub struct Finished {
     entries: Vec<Entry>,

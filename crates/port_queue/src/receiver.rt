@@ -13,8 +13,8 @@ use std::alloc::Global;
 use std::marker::Model;
 use std::sync::Wait;
 
-/// What draws from a port, for an owner that lives and for one that has stopped: its pass, its own port of one thread,
-/// and the counts of the senders gathered and of the signals drawn.
+/// The receiver of a port, for an owner that lives and for one that has stopped. It has its pass, its own port of one
+/// thread, and the counts of the senders gathered and of the signals drawn.
 #[derive(Drop)]
 pub struct Receiver {
     alloc: Global,
@@ -47,7 +47,7 @@ impl Model for Receiver {
 }
 
 impl Receiver {
-    /// What has drawn nothing and knows of nothing, from the pass of an owner.
+    /// A receiver that has drawn nothing and knows of nothing, from the pass of an owner.
     pub fn new(alloc: Global, pid: u32, pass: Pass) -> Self
         requires view { pass.me.view.client ≡ owner [] [] [] [] }
         requires free { (pass.me.hand ≡ None) × (pass.me.spare ≡ None) }
@@ -77,7 +77,7 @@ impl Receiver {
         self.signals
     }
 
-    /// What every owner knows, as a fact.
+    /// Shows what every owner knows, as a fact.
     pub fn knows(&self)
         ensures { IsKnowing self.now }
     {

@@ -5,7 +5,7 @@ use crossbeam_queue::{RuledSegQueue, SegPass};
 use port_inbox::{Gone, Placed, PutCount, SenderNumber};
 use std::collections::LinkedList;
 
-/// What a pass may do, and what it knows. No value of it is made.
+/// The rights of a pass, and what it knows. No value of it is made.
 pub struct View {
     /// It gives out numbers, and has given those up to `number`.
     pub gives: bool,
@@ -107,5 +107,5 @@ impl Lesson<Placed, View> for Popped {
 /// The queue of a port, under its rule.
 pub type Queue = RuledSegQueue<Placed, View, OnePort>;
 
-/// What a caller has of a queue: what it may do there, and what it knows.
+/// A caller's pass to a queue: what it may do there, and what it knows.
 pub type Pass = SegPass<Placed, View>;

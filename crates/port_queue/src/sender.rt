@@ -14,7 +14,7 @@ use std::sync::Wait;
 /// How many entries a sender puts at most.
 const MOST_PUTS: u64 = 1 << 61;
 
-/// What a sender knows of itself: its number, how many entries it has put, and how many of them are signals.
+/// The number of a sender, how many entries it has put, and how many of them are signals.
 #[derive(Clone, Copy)]
 pub struct Tally {
     pub number: SenderNumber,
@@ -22,7 +22,7 @@ pub struct Tally {
     pub signals: u64,
 }
 
-/// What puts signals and expiries into a port, from any thread.
+/// A sender of a port. It puts signals and expiries into it, from any thread.
 #[derive(Drop)]
 pub struct Sender {
     pass: Pass,
@@ -110,7 +110,7 @@ impl Sender {
         }
     }
 
-    /// What `again` needs beside the pass.
+    /// The sender's number and counts, which `again` needs beside the pass.
     pub(crate) fn tally(&self) -> Tally
         ensures number { result.number ≡ self.now.number }
         ensures count { result.count ≡ sent_by self.now }

@@ -5,7 +5,7 @@ ghost use Rattle.std.specs.Prelude.{◌≡◌, ◌≤◌, length, IfOk, IsOk};
 use crate::{SignalId, Values};
 use std::alloc::AllocError;
 
-/// What tells the timers of an instance apart: name and values. A timer without parameters has no values.
+/// The key of a timer among those of its instance: name and values. A timer without parameters has no values.
 #[derive(Debug, PartialEq, Eq, PartialOrd, Ord, Drop)]
 pub struct TimerKey {
     pub name: SignalId,

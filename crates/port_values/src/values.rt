@@ -33,7 +33,7 @@ impl Model for Values {
     ghost view = { λ values. values.list.items };
 }
 
-/// What lies in a place of a list that no value fills yet. No list shows it.
+/// The filler of a place of a list that has no value yet. No list shows it.
 impl MadeWith<Global> for Value {
     fn made_with(_alloc: Global) -> Self {
         Value::Bool(false)

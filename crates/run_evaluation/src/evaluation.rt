@@ -21,10 +21,10 @@ use sdl_system::{
 };
 use std::alloc::Global;
 
-/// What an expression comes to for an instance of the system. Errors: `Overflow` for a number or a time past 64 bits,
+/// Evaluates an expression for an instance of the system. Errors: `Overflow` for a number or a time past 64 bits,
 /// `ZeroDivisor`, `Undefined` for a variable that was never assigned, `NotNatural` for a negative value of a timer
-/// whose parameter is a Natural; of several failures the first from the left. `Memory` only where the expression asks
-/// for a timer with values.
+/// whose parameter is a Natural; of several failures the first from the left. `Memory` only if the expression asks for
+/// a timer with values.
 #[cycle(evaluation)]
 #[inline(always)]
 pub fn evaluate<P: Inbox>(
@@ -111,7 +111,7 @@ fn evaluate_chain<P: Inbox>(
     }
 }
 
-/// What a chain of two operands that are known comes to. None: it is another one.
+/// Evaluates a chain of two operands that are known. None: it is another chain.
 #[inline(always)]
 fn evaluate_pair(chain: &Chain, store: &Store) -> Option<Result<Value, Failure>>
     ensures { (system : SystemValue) (who : identity.Identity) (port : PortState)
@@ -180,9 +180,8 @@ fn evaluate_link<P: Inbox>(
     Ok(link.operation.apply(left, right)?)
 }
 
-/// What an expression comes to at a place of a sort: a number takes the sort of its place. Where there is no
-/// such place it stays what it is. Errors: those of `evaluate`, and then `NotNatural` for a negative value at a Natural
-/// place.
+/// Evaluates an expression at a place of a sort: a number takes the sort of its place. If there is no such place it
+/// stays what it is. Errors: those of `evaluate`, and then `NotNatural` for a negative value at a Natural place.
 #[inline(always)]
 pub fn evaluate_at<P: Inbox>(
     alloc: Global,
@@ -204,9 +203,8 @@ pub fn evaluate_at<P: Inbox>(
     place(value, sort)
 }
 
-/// What several expressions come to at places of these sorts, from left to right. A value for which there is no place
-/// stays what it is. Errors: the first failure, that of an expression or of its place. `Memory` only where there are
-/// values.
+/// Evaluates several expressions at places of these sorts, from left to right. A value without a place stays what it
+/// is. Errors: the first failure, that of an expression or of its place. `Memory` only if there are values.
 #[cycle(evaluation)]
 #[inline(always)]
 pub fn evaluate_all<P: Inbox>(

@@ -14,7 +14,7 @@ pub fn lists_fail_by_themselves()
     ensures { ListsFailByThemselves }
 {}
 
-/// What an expression comes to at a place has the sort of the place.
+/// The value of an expression at a place has the sort of the place.
 pub fn has_sort_of_place()
     ensures { HasSortOfPlace }
 {

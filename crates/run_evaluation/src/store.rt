@@ -13,7 +13,7 @@ use crate::variables::Variables;
 use port_values::{Pid, Ticks, Value};
 use sdl_system::Expression;
 
-/// What an instance knows besides who it is and what its port has.
+/// The store of an instance: all that it knows, except who it is and what its port has.
 #[derive(Debug, Drop)]
 pub struct Store {
     pub variables: Variables,
@@ -28,7 +28,7 @@ pub struct Store {
 }
 
 impl Store {
-    /// What an instance knows before its start, with these variables. Takes no memory.
+    /// The store of an instance before its start, with these variables. Takes no memory.
     pub fn new(variables: Variables) -> Self
         ensures { result ≡ initial_store variables }
     {
@@ -40,8 +40,8 @@ impl Store {
             done: 0,
         }
     }
-    /// What an expression comes to that is a literal, or a variable with a value; most operands are. None: it is
-    /// another expression, or a variable that was never assigned or isn't there.
+    /// The value of an expression that is a literal, or a variable with a value; most operands are. None: it is another
+    /// expression, or a variable that was never assigned or isn't there.
     #[inline(always)]
     pub fn known(&self, expression: &Expression) -> Option<Value>
         ensures known { result ≡ known_in self.now.variables expression.now }

@@ -91,7 +91,7 @@ pub enum Entry {
 /// by variants that take no place of their own.
 const _: () = prove!(size_of::<Entry>() == 32);
 
-/// What was got from the port, without its values.
+/// A stimulus that was got from the port, without its values.
 #[derive(Clone, Copy)]
 pub struct Stimulus {
     pub name: SignalId,
@@ -109,7 +109,7 @@ pub enum Origin {
 }
 
 impl Stimulus {
-    /// What was got, where it has so many values.
+    /// The stimulus that was got, with this count of values.
     pub fn of(got: &Got, count: u16) -> Stimulus
         ensures same { got_of result (values_got got.now) ≡ got.now }
         ensures counts { result.count ≡ count }

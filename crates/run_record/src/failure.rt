@@ -2,7 +2,7 @@
 
 use std::fmt;
 
-/// What fails an instance.
+/// The cause for which an instance fails.
 #[derive(Clone, Copy, Debug, PartialEq, Eq)]
 pub enum Failure {
     /// A number past 64 bits signed.

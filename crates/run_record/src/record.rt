@@ -20,8 +20,8 @@ const LEAST_ENTRIES: usize = 32;
 
 const LEAST_VALUES: usize = 32;
 
-/// What one instance did, one event after the other. It takes an event into room that `reserve` made, and needs no
-/// memory for it then.
+/// The record of one instance: what it did, one event after the other. It takes an event into room that `reserve` made,
+/// and needs no memory for it then.
 pub struct Record {
     process: ProcessId,
     pid: u32,
@@ -73,8 +73,8 @@ impl Model for Record {
     ghost invariant = { λ r. IsKept r.entries.items r.values.items r.values_room (vec_capacity r.values) };
 }
 
-/// What a run did: the records by ascending number, the time at its end, and whether it is whole or was cut at
-/// the limit of transitions.
+/// The report of a run: the records by ascending number, the time at its end, and whether it is whole or was cut at the
+/// limit of transitions.
 #[derive(Debug)]
 pub struct Report {
     pub records: Vec<Record>,

@@ -12,12 +12,12 @@ pub fn ends_for_good()
     ensures { EndsForGood }
 {}
 
-/// What a run sends is what its events say (Z.102: output).
+/// A run sends just what its events say (Z.102: output).
 pub fn outputs_are_sent()
     ensures { OutputsAreSent }
 {}
 
-/// What a state selects stays the same, whatever comes into the port meanwhile (Z.101: state).
+/// The selection of a state stays the same, whatever comes into the port meanwhile (Z.101: state).
 pub fn selects_whatever_is_drawn()
     ensures { SelectsWhateverIsDrawn }
 {}

@@ -7,7 +7,7 @@ use port_values::{Item, SignalId, Ticks, Values};
 use sdl_system::{Dest, ProcessId, System, Target};
 use std::alloc::AllocError;
 
-/// What lies outside of an instance, as it makes a step.
+/// The world outside of an instance, as the instance makes a step.
 pub trait World {
     ghost use Rattle.run_semantics.specs.Effect.{Arm, Send};
     ghost use Rattle.run_semantics.specs.Leads.{created};
@@ -23,7 +23,8 @@ pub trait World {
         ensures clock { IsClock (value self.old) result }
         ensures same { value self.new ≡ value self.old };
 
-    /// Whom a signal reaches that an instance of `from`, a process of `system`, sends to the destination `to`.
+    /// Whom a signal reaches that an instance of `from`, a process of `system`, sends to the destination `to`. The
+    /// routes are those of the instance's system, and nothing else says that a world has the same one.
     fn route(&mut self, system: &System, signal: SignalId, from: ProcessId, to: Dest) -> Target
         ensures route { IsRoute system.now (value self.old) signal from to result }
         ensures same { value self.new ≡ value self.old };
@@ -39,7 +40,8 @@ pub trait World {
         ensures same { value self.new ≡ value self.old };
 
     /// Keeps the fuse of a timer that was set, which expires at its due time, or at once if that has come. Takes no
-    /// memory.
+    /// memory. No time is given: the world keeps the one reading of the clock that its step made. Room was made by
+    /// `prepare`, since a timer that was set without its fuse would never expire.
     fn arm(&mut self, fuse: Fuse)
         requires { prepared self.old ≡ true }
         ensures { value self.new ≡ after_effect (value self.old) (Arm fuse) };

@@ -19,8 +19,8 @@ pub enum Position {
     Ended,
 }
 
-/// What an instance knows, and what it did so far. Until it ends, one place of its record is free, so that a failure
-/// can be recorded.
+/// The machine of an instance: what it knows, and what it did so far. Until it ends, one place of its record is free,
+/// so that a failure can be recorded.
 #[derive(Debug, Drop)]
 pub struct Machine {
     pub store: Store,

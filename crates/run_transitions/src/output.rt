@@ -122,7 +122,7 @@ fn send<P: Inbox, W: World>(
     Ok(())
 }
 
-/// What the one value of a signal comes to at its place.
+/// Evaluates the one value of a signal at its place.
 #[inline(always)]
 fn only_value<P: Inbox>(
     alloc: Global,

@@ -55,8 +55,8 @@ fn sum_in(chain: &Chain, store: &Store) -> Option<Value>
     sum(link.operation, left, right)
 }
 
-/// What a sum or a difference of two integers comes to. None: it is another operation, they are other values, or the
-/// number is past 64 bits.
+/// The sum or the difference of two integers. None: it is another operation, they are other values, or the number is
+/// past 64 bits.
 #[inline(always)]
 fn sum(operation: Operation, left: Value, right: Value) -> Option<Value>
     ensures { IfSome result (λ value. at_place (Some Integer) (given (applied operation left right)) ≡ Ok value) }

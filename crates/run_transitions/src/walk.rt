@@ -185,7 +185,7 @@ fn perform<P: Inbox, W: World>(
     Ok(Onward::At(node.next))
 }
 
-/// What a statement does before the flow goes on behind it; a join does nothing.
+/// Carries out a statement, before the flow goes on after it; a join does nothing.
 fn act<P: Inbox, W: World>(
     alloc: Global,
     statement: &Statement,
@@ -245,7 +245,7 @@ fn enter(
     Ok(Onward::Over(Position::In(state)))
 }
 
-/// What stands in the port of the instance or comes into it is discarded from now on.
+/// Stops the instance. All that stands in its port or comes into it is discarded from now on.
 fn stop<P: Inbox>(machine: &mut Machine, inbox: &mut P) -> Result<Onward, Failure>
     requires { IsGoing machine.old (P.owning inbox.old) }
     ensures instance { let old = value_of machine.old (P.owning inbox.old) in

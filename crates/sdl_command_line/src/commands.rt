@@ -8,7 +8,7 @@ use std::alloc::{AllocError, Global};
 /// The program's version, and the logic that it is proved in. The gate compares the latter with the toolchain's own.
 const VERSION: &str = "0.1.0 (rattle logic dac8208d650f15bf)";
 
-/// What follows the help of the program.
+/// The text after the help of the program.
 const HELP: &str =
     "Both commands read a file, or standard input: a specification in SDL/PR, and behind a line `%script` a script.
 
@@ -25,14 +25,14 @@ Exit status:
 
 docs/LANGUAGE.md has the language, the script, the trace and all refusals.";
 
-/// What follows the help of `check`.
+/// The text after the help of `check`.
 const CHECK_HELP: &str =
     "It makes all checks of the specification, and reads the script for it, as a run does, and then runs nothing.
 
 Example:
   echo 'SYSTEM s; SIGNAL a; endsystem;' | sdlrun check";
 
-/// What follows the help of `run`.
+/// The text after the help of `run`.
 const RUN_HELP: &str =
     "The specification ends at the first line that is `%script`; what follows is the script, a line for each
 signal that the environment sends: its time in ticks, its name and its values. A time alone moves time.

@@ -7,7 +7,7 @@ use sdl_engine::TextFault;
 use std::env;
 use std::rt::Env;
 
-/// What the command line asks for.
+/// The request of a command line.
 #[derive(Drop)]
 pub enum Request {
     Read(Task),

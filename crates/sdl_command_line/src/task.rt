@@ -5,7 +5,7 @@ use clap::{ArgMatches, Error};
 use sdl_engine::{Command, Options};
 use std::alloc::{AllocError, Global};
 
-/// What is to be done, and with which text.
+/// A task: a command with its options, and the text that it is for.
 #[derive(Drop)]
 pub struct Task {
     pub options: Options,
@@ -17,15 +17,15 @@ pub struct Task {
     pub script: Option<String>,
 }
 
-/// What the words of the command line choose, the program's name first. Help that was asked for and a mistake are both
-/// an `Err`, as the crate `clap` tells them; so is want of memory.
+/// The task that the words of the command line choose, the program's name first. Help that was asked for and a mistake
+/// are both an `Err`, as the crate `clap` tells them; so is want of memory.
 pub fn chosen(alloc: Global, words: &[String]) -> Result<Task, Error> {
     let command = command(alloc)?;
     let matches = command.try_get_matches_from(words)?;
     Ok(met_task(alloc, &matches)?)
 }
 
-/// What is to be done by the command that is met.
+/// The task of the command that is met.
 fn met_task(alloc: Global, matches: &ArgMatches<'_>) -> Result<Task, AllocError> {
     if let Some(run) = matches.subcommand_matches("run") {
         return task_of(alloc, run_options(run), run);
@@ -49,7 +49,7 @@ const CHECK: Options = Options {
     limit: Options::DEFAULT_LIMIT,
 };
 
-/// What is asked for of a run.
+/// The options of a run, as its command line asks for them.
 fn run_options(run: &ArgMatches<'_>) -> Options {
     let limit = run
         .get_one::<u64>("limit")
@@ -67,7 +67,7 @@ fn workers_of(run: &ArgMatches<'_>) -> Option<u8> {
     u8::try_from(workers).ok()
 }
 
-/// What a command is to do with the files that are named with it, and whether it explains a refusal.
+/// The task of a command with these options, the files that are named with it, and whether it explains a refusal.
 fn task_of(alloc: Global, options: Options, named: &ArgMatches<'_>) -> Result<Task, AllocError> {
     Ok(Task {
         options,

@@ -29,7 +29,7 @@ fn explained(alloc: Global, input: &Input, refusal: &Refusal) -> Result<Vec<u8>,
     }
 }
 
-/// What is held of an input; nothing of one that is too long.
+/// The bytes that are held of an input; none of one that is too long.
 fn bytes_of(input: &Input) -> &[u8] {
     match input {
         Input::Bytes(bytes) => bytes.as_slice(),

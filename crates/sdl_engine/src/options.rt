@@ -5,7 +5,7 @@ ghost use Rattle.sdl_engine.specs.Answer.{IsSerial};
 
 use thiserror::Error;
 
-/// What is asked for.
+/// A command, by the text that it asks for.
 #[derive(Clone, Copy, Debug, PartialEq, Eq)]
 pub enum Command {
     /// The canonical text of the specification, where its system can be built and the script is one for it.
@@ -14,7 +14,7 @@ pub enum Command {
     Run,
 }
 
-/// What is done with a text, and how.
+/// The command for a text, and how it is carried out.
 #[derive(Clone, Copy, Debug, PartialEq, Eq)]
 pub struct Options {
     pub command: Command,
@@ -42,8 +42,8 @@ impl Options {
     }
 }
 
-/// What was written: the report of a run that is whole, or of one that was cut at its limit; the line that
-/// refuses the text; or the line that refuses the run. A text that was checked is whole.
+/// The outcome, by what was written: the report of a run that is whole, or of one that was cut at its limit; the line
+/// that refuses the text; or the line that refuses the run. A text that was checked is whole.
 #[derive(Clone, Copy, Debug, PartialEq, Eq)]
 pub enum Outcome {
     Whole,

@@ -21,7 +21,7 @@ use std::alloc::Global;
 use std::sync::Wait;
 use std::thread::Threads;
 
-/// What an input says that is accepted: the tree of its specification, the system of the tree, and the script for it.
+/// An accepted input: the tree of its specification, the system of the tree, and the script for it.
 #[derive(Drop)]
 struct Accepted {
     tree: Tree,

@@ -3,7 +3,7 @@
 use port_values::Pid;
 use sdl_system::ProcessId;
 
-/// What there is to know of an instance, from its create on.
+/// The entry of an instance: all that there is to know of it, from its create on.
 #[derive(Clone, Copy, Debug, PartialEq, Eq)]
 pub struct Entered {
     /// Its number, from 1.

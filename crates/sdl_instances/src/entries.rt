@@ -54,12 +54,13 @@ impl Entries {
         }
     }
 
-    /// What is entered under a number, where the calling thread can see it.
+    /// Finds the entry of a number, if the calling thread can see it.
     pub fn find(&self, number: u32) -> Option<&Entered>
         ensures { IfSome result (λ entered. entered.now.pid ≡ number) }
     {
         let cell = self.cells.get(number.checked_sub(1)? as usize)?;
-        // No clause ties what a cell holds to its place.
+        // It is answered only if it has that number: a cell is set through a `&`, so no clause can tie what it holds to
+        // its place.
         match cell.get() {
             Some(entered) if entered.pid == number => Some(entered),
             _ => None,

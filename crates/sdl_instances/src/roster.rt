@@ -71,7 +71,8 @@ impl Roster {
     }
 
     /// An instance of the process lives from now on, and a reservation is spent. False: there was no reservation, that
-    /// number lives already, or the system has no such process; then nothing changes.
+    /// number lives already, or the system has no such process; then nothing changes. The number is from 1 to 1,000,
+    /// since the table has a bit for each of these and no other. It comes from a draw, whose contract says so.
     pub fn live(&mut self, process: ProcessId, number: u32) -> bool
         requires { (0 < number) × (number ≤ 1000) }
         ensures can { result ≡ can_live_in self.old process number }

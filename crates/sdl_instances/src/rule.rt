@@ -5,7 +5,7 @@ use atomic_table::{Join, Play, Split, TableRule};
 use std::alloc::Global;
 use std::collections::LinkedList;
 
-/// What a seat may do, and what it knows. No value of it is made.
+/// The rights of a seat, and what it knows. No value of it is made.
 pub struct View {
     /// Of the right to draw, which has 64 parts.
     pub parts: u64,

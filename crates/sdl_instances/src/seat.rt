@@ -12,8 +12,8 @@ use std::marker::Model;
 /// How many seats the first one can split off.
 pub(crate) const MOST_SPLITS: u32 = 63;
 
-/// What a thread draws numbers with. The right to draw has 64 parts: the first seat has all of them, and each seat
-/// that it splits off has one.
+/// The seat with which a thread draws numbers. The right to draw has 64 parts: the first seat has all of them, and each
+/// seat that it splits off has one.
 #[derive(Drop)]
 pub struct Seat {
     pub(crate) place: Place,
@@ -84,6 +84,8 @@ impl Seat {
         ensures once { EachOnce self.new.drawn }
         ensures whole { self.new.parts ≡ 64 → AreOneTo self.new.seen self.new.drawn }
     {
+        // Taking a seat back doesn't renew its part of the right. It makes one load more, at which the rule shows that
+        // the joined list has no number twice. A seat's list of numbers exists in proofs alone.
         steps::take_back(table.word(), &mut self.place, seat.into_place());
         let draws = steps::look(table.word(), &mut self.place);
         self.seen = draws.min(u64::from(MOST_NUMBERS)) as u32;

@@ -43,7 +43,7 @@ impl<'s, P: Inbox + Drop> Model for Instance<'s, P> {
     ghost invariant = { λ i. IsInstance P.shared i.system.now i.process.now i.position i.machine (P.owning i.inbox) };
 }
 
-/// What a step did.
+/// The result of a step.
 #[derive(Clone, Copy, Debug, PartialEq, Eq)]
 pub enum Stepped {
     /// A transition, or a discard; the instance lives on.
@@ -54,7 +54,7 @@ pub enum Stepped {
     Ended { counts: bool },
 }
 
-/// What is left of an instance: its record, and its port.
+/// A closed instance: its record, and its port.
 #[derive(Drop)]
 pub struct Closed<P: Inbox + Drop> {
     pub trace: Record,
@@ -128,7 +128,7 @@ impl<'s, P: Inbox + Drop> Instance<'s, P> {
         }
     }
 
-    /// What the instance did so far.
+    /// The record of what the instance did so far.
     pub fn trace(&self) -> &Record
         ensures events { result.now.events ≡ self.now.events }
         ensures run { HasRunOf P.shared self.now }

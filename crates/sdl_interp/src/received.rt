@@ -15,7 +15,8 @@ use port_values::{Pid, SignalId, Ticks, Value};
 use run_semantics::World;
 use run_transitions::Machine;
 
-/// What is known once a signal was consumed. The time of its transition is the answer.
+/// Notes the sender of a consumed signal and the time of its transition, and that no statement of it is done yet. The
+/// answer is that time.
 pub fn receive<W: World>(got: &Got, machine: &mut Machine, world: &mut W) -> Ticks
     ensures store { machine.new.store ≡ receiving (identity_of machine.old.trace) result got.now machine.old.store }
     ensures trace { machine.new.trace ≡ machine.old.trace }

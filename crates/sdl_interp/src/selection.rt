@@ -16,8 +16,8 @@ use run_transitions::Machine;
 use sdl_system::{Enabled, Process, StateTable, System};
 use std::alloc::Global;
 
-/// What a state with this table selects, by its enabling conditions. Errors: those of the first one that fails, and
-/// `Memory`.
+/// Makes the selection of a state with this table, by its enabling conditions. Errors: those of the first one that
+/// fails, and `Memory`.
 pub fn select<P: Inbox>(
     alloc: Global,
     table: &StateTable,

@@ -95,7 +95,7 @@ fn start<P: Inbox, W: World>(
     Led { to, counts: true }
 }
 
-/// What an instance does in a state: it takes something from its port, or where nothing can be taken it tries the
+/// Responds in a state: takes something from the port and reacts to it. If nothing can be taken, it tries the
 /// continuous signals. None: there is nothing to do.
 fn respond<P: Inbox, W: World>(
     alloc: Global,
@@ -225,7 +225,7 @@ fn fail_at<P: Inbox, W: World>(
     }
 }
 
-/// What is done with what the port gave.
+/// Reacts to what the port gave. None: there is nothing to do.
 fn react<P: Inbox, W: World>(
     alloc: Global,
     system: &System,

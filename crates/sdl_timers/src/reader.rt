@@ -9,7 +9,7 @@ use std::alloc::{AllocError, Global};
 use std::marker::Model;
 use std::sync::Arc;
 
-/// What reads a clock, in any thread. Its value is the latest time that it has seen.
+/// A reader of a clock, in any thread. Its value is the latest time that it has seen.
 #[derive(Drop)]
 pub struct Reader {
     word: Arc<Word, Global>,

@@ -3,7 +3,7 @@ use atomic_table::{Play, Seat, Split, Table, TableRule};
 use port_values::Ticks;
 use std::alloc::Global;
 
-/// What a seat at the clock's word knows. No value of it is made.
+/// The knowledge of a seat at the clock's word. No value of it is made.
 pub struct Hand {
     /// It is the ticker's, which alone moves the clock.
     pub ticks: bool,

@@ -65,6 +65,8 @@ impl Slot {
         ensures handed_back { IfErr result (λ refused. refused.value ≡ fuse) }
         ensures memory { IfErr result (λ refused. refused.error ≡ PortError.Memory) }
     {
+        // Two fuses of the same due keep the order in which they were armed, by a count of 64 bits. The fuse after the
+        // last count is refused, as for want of memory.
         let Some(armed) = self.armed.checked_add(1) else {
             return Err(out_of_memory(fuse));
         };

@@ -9,7 +9,7 @@ use std::alloc::{AllocError, Global};
 use std::marker::Model;
 use std::sync::Arc;
 
-/// What moves a clock on. A clock has one, and its value is the clock's time.
+/// The ticker that moves a clock on. A clock has one, and the ticker's value is the clock's time.
 #[derive(Drop)]
 pub struct Ticker {
     word: Arc<Word, Global>,
@@ -28,7 +28,8 @@ impl Model for Ticker {
     ghost invariant = { λ t. IsSeated (arc_value t.word).shared.table_id t.seat × (t.seat.me.0.ticks ≡ true) };
 }
 
-/// A clock, as it is made: what moves it on, and its first reader.
+/// A clock, as it is made: its ticker, and its first reader. It is a struct, so that the two are told apart by name,
+/// and not by their order.
 #[derive(Drop)]
 pub struct NewClock {
     pub ticker: Ticker,

@@ -33,7 +33,7 @@ impl Tournament {
         Tournament { nodes: [None; 512] }
     }
 
-    /// What an entrant has before which no other is due.
+    /// The due of an entrant before which no other is due. None: no entrant is due.
     pub fn least(&self) -> Option<Due>
         ensures { IsLeastOf self.now result }
     {

@@ -4,7 +4,8 @@ use crate::behaviour::{BodyPart, Start};
 use crate::expressions::Expression;
 use crate::name::{Name, SortName, Spelling};
 
-/// A specification: one system.
+/// A specification: one system. Names have a place; actions, stimuli and most definitions keep their first word. Most
+/// other nodes have no place of their own.
 #[derive(Debug)]
 pub struct Tree {
     pub name: Name,

@@ -24,7 +24,7 @@ use threads_senders::Run;
 use threads_shared::{Common, Own, Shared, Tables};
 use threads_workers::{Director, Gate};
 
-/// What a run goes by: the lines of its script, how many workers it has, and its limit of transitions.
+/// The plan of a run: the lines of its script, how many workers it has, and its limit of transitions.
 #[derive(Clone, Copy, Drop)]
 pub struct Plan<'a> {
     pub alloc: Global,

@@ -12,8 +12,7 @@ use std::io::Read;
 use std::sync::Wait;
 use std::thread::Threads;
 
-/// What stands between a specification and the script of another file: the line that parts them, at the begin of a
-/// line.
+/// The text between a specification and the script of another file: the line that parts them, at the begin of a line.
 const BETWEEN: &[u8] = b"\n%script\n";
 
 /// Why nothing can be told of a text.

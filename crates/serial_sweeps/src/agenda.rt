@@ -7,7 +7,7 @@ use port_values::Ticks;
 use sdl_timers::Wheel;
 use std::alloc::Global;
 
-/// What the instances of a run see and change of it as they step: the clock, who may have something to do, and the
+/// The part of a run that its instances see and change as they step: the clock, who may have something to do, and the
 /// fuses that wait.
 #[derive(Drop)]
 pub struct Agenda {

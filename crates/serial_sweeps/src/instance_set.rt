@@ -7,7 +7,7 @@ use port_inbox::Fuse;
 use sdl_script::ScriptLine;
 use std::alloc::Global;
 
-/// What came of a turn.
+/// The result of a turn.
 #[derive(Clone, Copy, Debug, PartialEq, Eq)]
 pub enum Made {
     /// There was nothing to do.

@@ -10,7 +10,7 @@ use sdl_script::ScriptLine;
 /// has begun, after `catch_up`.
 #[derive(Drop)]
 pub struct Scheduler<'s> {
-    /// What is left of the script.
+    /// The lines of the script that are left.
     pub script: &'s [ScriptLine],
     pub agenda: Agenda,
     /// Whether all have rested for the first time: then the script begins.

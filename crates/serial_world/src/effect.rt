@@ -4,7 +4,7 @@ use port_inbox::Fuse;
 use port_values::{Item, Values};
 use sdl_system::{ProcessId, Target};
 
-/// What an instance does outside, in a step, which is done when the step is over.
+/// An effect that a step of an instance has outside of it. It is done when the step is over.
 #[derive(Debug, Drop)]
 pub enum Effect {
     /// A signal is sent.

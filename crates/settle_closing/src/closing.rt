@@ -11,9 +11,8 @@ use std::marker::Model;
 use std::sync::Wait;
 use threads_senders::{Peers, Run};
 
-/// What is left of an instance once its record is closed: the record, the port and the senders. Its type keeps that the
-/// record is a run of the instance's process, that in a `whole` run the instance was at rest, and what the senders have
-/// put.
+/// A closed instance: its record, its port and its senders. The type keeps that the record is a run of the instance's
+/// process, that in a `whole` run the instance was at rest, and what the senders have put.
 #[derive(Drop)]
 pub struct Closing<'p, J: Run, R: Wait + Copy> {
     whole: bool,
@@ -33,7 +32,7 @@ impl<'p, J: Run, R: Wait + Copy> Model for Closing<'p, J, R> {
 }
 
 impl<'p, J: Run, R: Wait + Copy> Closing<'p, J, R> {
-    /// What is left of an instance: that it is so is the caller's condition.
+    /// A closed instance of these parts. That they are left of one is the caller's condition.
     pub fn new(whole: bool, trace: Record, inbox: Held<'p, R>, peers: Peers<J>) -> Self
         requires { IsLeftOfOne J.system J.ports whole trace inbox.owner peers }
         ensures { result ≡ record { whole = whole; trace = trace; owner = inbox.entry.owner; peers = peers } }
@@ -60,7 +59,7 @@ impl<'p, J: Run, R: Wait + Copy> Closing<'p, J, R> {
         &self.trace
     }
 
-    /// What is known of the port as it is now.
+    /// The state of the port as it is now: whether it lives, and how many signals were drawn from it.
     pub fn port_then(&self) -> PortThen
         ensures { result ≡ then_of self.now.owner }
     {

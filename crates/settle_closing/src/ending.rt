@@ -13,7 +13,7 @@ use port_values::Ticks;
 use run_record::{Entry, Record};
 use std::sync::Wait;
 
-/// What is known of a port as the record of its instance was closed.
+/// The state of a port as the record of its instance was closed.
 #[derive(Clone, Copy, Debug, PartialEq, Eq)]
 pub struct PortThen {
     /// Whether it lived.

@@ -8,7 +8,7 @@ use settle_meaning::laws::{
     runs_hear_what_is_drawn, stopped_stays,
 };
 
-/// What is left of an instance has a history of its port, once all that was put is drawn (Z.101: agent, input port).
+/// A closed instance has a history of its port, once all that was put is drawn (Z.101: agent, input port).
 pub fn closed_have_histories()
     ensures { ClosedHaveHistories }
 {
@@ -21,12 +21,12 @@ pub fn closed_have_histories()
     puts_come_from_outside();
 }
 
-/// What its senders have put is the end of what its record sends (Z.102: output).
+/// Its senders have put the end of what its record sends (Z.102: output).
 pub fn closed_have_put()
     ensures { ClosedHavePut }
 {}
 
-/// What is known of it is known without its senders, too.
+/// The same is known of it without its senders.
 pub fn left_without_peers()
     ensures { LeftWithoutPeers }
 {}

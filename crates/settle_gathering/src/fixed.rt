@@ -2,8 +2,8 @@
 
 use std::marker::Brand;
 
-/// What was put in a run, by its name, and the owners of the ports as nobody puts any more. A run picks it once its
-/// threads are joined, and all that is gathered then has it as a type parameter.
+/// The name of all that was put in a run, and of the owners of the ports as nobody puts any more. A run picks it once
+/// its threads are joined, and all that is gathered then has it as a type parameter.
 pub trait Fixed {
     ghost use Rattle.std.specs.Prelude.{ℕ, List};
     ghost use Rattle.port_inbox.specs.Ends.{OwnerState};

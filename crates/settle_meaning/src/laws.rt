@@ -10,7 +10,7 @@ ghost use Rattle.settle_meaning.specs.MeaningLaws.{
   StoppedStays,
 };
 
-/// What is drawn after a run is a part of its history (Z.101: input port).
+/// A draw after a run is a part of its history (Z.101: input port).
 pub fn runs_hear_what_is_drawn()
     ensures { RunsHearWhatIsDrawn }
 {}
@@ -25,7 +25,7 @@ pub fn late_is_nothing()
     ensures { LateIsNothing }
 {}
 
-/// What is drawn from a port after its stop changes nothing (Z.102: stop).
+/// A draw from a port after its stop changes nothing (Z.102: stop).
 pub fn stopped_stays()
     ensures { StoppedStays }
 {}

@@ -10,7 +10,7 @@ use std::alloc::Global;
 use std::sync::Wait;
 use threads_senders::{Peers, Run};
 
-/// What is left of a run: the records, and their ports.
+/// The parts of a run that are left: the records, and their ports.
 #[derive(Drop)]
 pub struct Parts<'p, J: Run, R: Wait + Copy> {
     pub records: Vec<Record>,

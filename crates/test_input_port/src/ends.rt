@@ -72,7 +72,7 @@ fn put_three<R: Wait + Abort>(
     put(rt, alloc, port, sender, &[(1, 2)]);
 }
 
-/// What was drawn and what was not comes back in one order. A timer that is set and has not expired isn't among it.
+/// Entries that wait, drawn or not, come back in one order. A timer that is set and has not expired isn't among them.
 #[test]
 fn finish_gives_what_waits(rt: HostRuntime) {
     let alloc = rt.alloc();
@@ -89,7 +89,7 @@ fn finish_gives_what_waits(rt: HostRuntime) {
     assert!(rt; (fuse(&list, 0), fuse(&list, 1)) == (None, Some((7, 2, 5))));
 }
 
-/// What was taken, and a timer's signal that was drawn and then reset, are not left.
+/// A signal that was taken, and a timer's signal that was drawn and then reset, are not left.
 #[test]
 fn finish_leaves_out_what_is_gone(rt: HostRuntime) {
     let alloc = rt.alloc();

@@ -10,7 +10,7 @@ use port_values::Ticks;
 use std::alloc::Global;
 use std::process::Abort;
 
-/// What an inbox answers where a signal waits, two timers are set, and one of them is reset.
+/// Uses an inbox in which a signal waits: two timers are set, and one of them is reset. Gives what the inbox answers.
 fn uses_inbox<P: Inbox>(
     rt: &impl Abort,
     alloc: Global,

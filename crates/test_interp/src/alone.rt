@@ -24,7 +24,7 @@ impl Subject for Instance<'_, Alone> {
     }
 }
 
-/// What the first process of the system did.
+/// Runs the first process of the system, and gives its record.
 pub fn record_alone(
     rt: &impl Abort,
     alloc: Global,

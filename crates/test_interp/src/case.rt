@@ -21,17 +21,17 @@ use std::sync::Wait;
 const SIGNALS: &str =
     "signal a, b, c, v(Integer), pair(Integer, Boolean), at(Time), who(Pid), few(Natural);";
 
-/// What stands in a report above the record of the instance, and behind it.
+/// The lines of a report before and after the record of the instance.
 const HEADING: &str = "instance #1 P parent null";
 
 const END: &str = "end 0 whole\n";
 
-/// What is in process P and, of other processes, behind it; the script of the environment; and the record that the
-/// instance is to have, without its heading and the end of the report. `done`: the signals that were sent, and the
+/// A case: the text of process P and of other processes after it; the script of the environment; and the record that
+/// the instance is to have, without its heading and the end of the report. `done`: the signals that were sent, and the
 /// instances that were made; None: any.
 #[derive(Clone, Copy)]
 pub struct Case<'a> {
-    /// What it shows.
+    /// The name of the case: what it shows.
     pub name: &'a str,
     pub process: &'a str,
     pub others: &'a str,
@@ -56,7 +56,7 @@ pub const CASE: Case<'static> = Case {
     room: 100,
 };
 
-/// What is run.
+/// A system to run, with the values of the parameters of its first process, and the script.
 #[derive(Drop)]
 pub struct Play<'s> {
     pub system: &'s System,
@@ -86,7 +86,7 @@ fn system_of(rt: &impl Abort, alloc: Global, case: &Case<'_>) -> System {
     build(alloc, &tree).expect(rt, "a system")
 }
 
-/// What is run in that system.
+/// The play of the case in its system.
 fn play_of<'s>(rt: &impl Abort, alloc: Global, system: &'s System, case: &Case<'_>) -> Play<'s> {
     Play {
         system,

@@ -77,7 +77,7 @@ fn settle<S: Subject>(rt: &impl Abort, alloc: Global, subject: &mut S, runtime: 
     }
 }
 
-/// What the instance has sent to itself comes into its port.
+/// Brings all that the instance has sent to itself into its port.
 fn hear_own<S: Subject>(rt: &impl Abort, subject: &mut S, runtime: &mut Runtime<'_>) {
     for item in runtime.own.drain(..) {
         assert!(rt; subject.hear(item));

@@ -40,7 +40,7 @@ impl<R: Wait + Copy> Subject for Sharing<'_, '_, R> {
     }
 }
 
-/// What the first process of the system did.
+/// Runs the first process of the system, and gives its record.
 pub fn record_shared<R: Abort + Wait + Copy>(
     rt: R,
     alloc: Global,

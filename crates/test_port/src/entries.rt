@@ -53,7 +53,7 @@ fn find_both<R: Threads + Sync>(
     )
 }
 
-/// What is found under the numbers 0, 1, 1000 and 1001.
+/// The entries that are found under the numbers 0, 1, 1000 and 1001.
 fn found(entries: &Entries) -> [Option<Entered>; 4] {
     [
         entries.find(0).copied(),

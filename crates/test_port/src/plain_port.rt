@@ -7,7 +7,7 @@ use std::process::Abort;
 
 const INPUTS: [Class; 2] = [Class::Input, Class::Input];
 
-/// What a take gave, by the name and the one value of the signal or timer.
+/// The result of a take, by the name and the one value of the signal or timer.
 #[derive(Clone, Copy, PartialEq)]
 enum Told {
     Consumed(u32, Option<Value>),

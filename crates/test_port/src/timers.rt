@@ -9,8 +9,8 @@ use std::alloc::Global;
 use std::process::Abort;
 use std::thread;
 
-/// What a reader made after `advance(5)`, and one made of that reader, read: never a time before 5, by the contracts
-/// alone.
+/// Reads the clock by a reader made after `advance(5)`, and by one made of that reader: never a time before 5, by the
+/// contracts alone.
 fn read_after_five(rt: &impl Abort, ticker: &mut Ticker) -> (Ticks, Ticks)
     requires { ticker.old ≤ 5 }
     ensures { (5 ≤ result.0) × (5 ≤ result.1) }

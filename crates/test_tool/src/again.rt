@@ -44,7 +44,7 @@ fn compare(rt: &impl Abort, text: &str, again: &str, once: &str) {
     assert!(rt; again == once, "of {text}");
 }
 
-/// What the tree says of the text that is written of the tree of a text.
+/// Writes the text of a text's tree, and gives the nodes of that text's own tree.
 fn nodes_again(alloc: Global, text: &str) -> Result<String, Fail> {
     let written = written(alloc, text)?;
     nodes_of(alloc, written.as_str())

@@ -7,7 +7,7 @@ use sdl_engine::{Command, Options};
 use std::alloc::Global;
 use std::process::Abort;
 
-/// What a command line asks for: the command, the workers and the limit, and the files of the specification and the
+/// The request of a command line: the command, the workers and the limit, and the files of the specification and the
 /// script.
 type Asked<'a> = (Command, Option<u8>, u64, Option<&'a str>, Option<&'a str>);
 
@@ -111,7 +111,7 @@ fn answered_lines(rt: HostRuntime) {
     }
 }
 
-/// What the words of a line choose, or as what the line is told by which nothing is to be done.
+/// Reads the words of a line: the task that they choose, or the help or the mistake, by which nothing is to be done.
 fn told(rt: &impl Abort, alloc: Global, line: &str) -> Result<Task, Error> {
     let words = words(rt, alloc, line);
     chosen(alloc, words.as_slice())
@@ -126,7 +126,7 @@ fn words(rt: &impl Abort, alloc: Global, line: &str) -> Vec<String> {
     words
 }
 
-/// What is asked for; none by a mistake, and by help.
+/// The request that is told; none by a mistake, and by help.
 fn asked_by(told: &Result<Task, Error>) -> Option<Asked<'_>> {
     let Ok(task) = told else {
         return None;

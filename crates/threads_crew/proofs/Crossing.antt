@@ -1,5 +1,5 @@
--- That several threads may read a system at once, and what a run lends to its threads. What holds an expression is shown
--- part by part, since the parts of a process are more than one `search` goes through.
+-- That several threads may read a system at once, and what a run lends to its threads. What holds an expression is
+-- shown part by part, since the parts of a process are more than one `search` goes through.
 use denote.RattleType.{RattleType}
 use denote.Ref.{NamedLft}
 use denote.Hole.FixSend.{Syncs, fix_sync}

@@ -5,7 +5,7 @@ ghost use Rattle.std.specs.Borrow.{ftrue};
 
 use std::marker::{Model, PhantomData};
 
-/// What was sent, in order: each time to whom, and what. A clause reads it as `items`.
+/// The list of what was sent, in order: each time to whom, and what. A clause reads it as `items`.
 #[derive(Drop)]
 pub struct SentList<A, B> {
     of: PhantomData<(A, B)>,

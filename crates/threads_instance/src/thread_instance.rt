@@ -48,7 +48,7 @@ impl<'s, J: Run, P: Inbox + Drop> Model for ThreadInstance<'s, J, P> {
         × IsSeated J.system J.ports m.instance };
 }
 
-/// What is left of an instance: its record, its port, and its senders, to be gathered at their ports.
+/// A closed instance: its record, its port, and its senders, which are to be gathered at their ports.
 #[derive(Drop)]
 pub struct Left<J: Run, P: Inbox + Drop> {
     pub trace: Record,
@@ -123,7 +123,7 @@ impl<'s, J: Run, P: Inbox + Drop> ThreadInstance<'s, J, P> {
         stepped
     }
 
-    /// What the instance did so far.
+    /// The record of what the instance did so far.
     pub fn trace(&self) -> &Record
         ensures events { result.now.events ≡ self.now.instance.events }
         ensures run { HasRunOf P.shared self.now.instance }
@@ -153,8 +153,8 @@ impl<'s, J: Run, P: Inbox + Drop> ThreadInstance<'s, J, P> {
         let _instance = &self.instance;
     }
 
-    /// Closes its record, as `Instance::close` does, and gives what is left: the port of its number, and its senders.
-    /// What these have put is the end of what the record sends.
+    /// Closes its record, as `Instance::close` does, and gives it with the port of its number and its senders. These
+    /// have put the end of what the record sends.
     pub fn close(self, whole: bool) -> Left<J, P>
         requires { IsTrue whole → IsAtRest self.instance }
         ensures closed { IsClosed P.shared whole self.entry.instance result.trace }

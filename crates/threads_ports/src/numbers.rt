@@ -26,7 +26,7 @@ impl<J: Run> Numbers<J> {
     }
 }
 
-/// What a thread draws the numbers of the run `J` with.
+/// The seat with which a thread draws the numbers of the run `J`.
 #[derive(Drop)]
 pub struct NumberSeat<J: Run> {
     seat: Seat,

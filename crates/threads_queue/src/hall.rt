@@ -23,7 +23,7 @@ pub struct Hall {
     closed: bool,
 }
 
-/// What a worker is to do next.
+/// The next turn of a worker.
 #[derive(Clone, Copy, Debug, PartialEq, Eq)]
 pub enum Turn {
     /// It has numbers in its own queue. More are left, for this worker that sleeps: it is to be unparked.
@@ -76,7 +76,7 @@ impl Hall {
         Ok(())
     }
 
-    /// What the worker `me` is to do next, whose own queue is empty. Its part of the common queue goes into its own.
+    /// Gives the worker `me`, whose own queue is empty, its next turn. Its part of the common queue goes into its own.
     pub fn turn(&mut self, me: usize, own: &mut VecDeque<u32>) -> Result<Turn, AllocError>
         ensures numbers { OnOk result (own.new.items ++ self.new.queue ≡ own.old.items ++ self.old.queue) }
         ensures told { IfOk result (λ turn. IsTold me turn self.old self.new) }

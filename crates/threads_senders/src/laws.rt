@@ -7,8 +7,8 @@ pub fn nobody_puts()
     ensures { NobodyPuts }
 {}
 
-/// What was put is the last of what is sent, still, once more is sent by which nothing is put: it goes to a port into
-/// which nothing was put so far. Of an instance, which records it, too.
+/// If more is sent and nothing of it is put, the puts are still the last of what is sent: it goes only to ports into
+/// which nothing was put so far. The same is true of an instance, which records it.
 pub fn others_put_nothing()
     ensures sent { OthersPutNothing }
     ensures recorded { OthersRecordNothing }

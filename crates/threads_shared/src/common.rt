@@ -4,7 +4,7 @@ use sdl_instances::Entries;
 use threads_ports::{Numbers, Ports};
 use threads_senders::Run;
 
-/// What lasts as long as the run `J`: its ports, its numbers, and what is entered for each. All threads share it.
+/// The things that last as long as the run `J`: its ports, its numbers, and the entry of each. All threads share them.
 #[derive(Drop)]
 pub struct Common<J: Run> {
     pub ports: Ports<J>,

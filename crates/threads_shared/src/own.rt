@@ -15,8 +15,8 @@ use threads_senders::Run;
 /// How many numbers a queue has room for from the start: each number is in it once at most.
 const MOST_NUMBERS: usize = 1_000;
 
-/// What a thread of the run `J` has for itself: what it reads the clock and draws numbers with, its queue, the fuses of
-/// the step that it makes, and what it has seen of who lives.
+/// The state that a thread of the run `J` has for itself: its reader of the clock, its seat for numbers, its queue, the
+/// fuses of the step that it makes, and what it has seen of who lives.
 #[derive(Drop)]
 pub struct Own<J: Run> {
     pub reader: Reader,
@@ -35,7 +35,7 @@ pub struct Own<J: Run> {
 }
 
 impl<J: Run> Own<J> {
-    /// What a thread begins with, in a system of so many processes. Refused for want of memory.
+    /// The state with which a thread begins, in a system of so many processes. Refused for want of memory.
     pub fn new(
         alloc: Global,
         reader: Reader,

@@ -16,7 +16,8 @@ use threads_senders::Run;
 /// An instance in its place.
 pub type Seated<'s, 'p, J, R> = Box<ThreadInstance<'s, J, Held<'p, R>>>;
 
-/// What a run lends to its threads: references alone. Its type says that the system is the one that the run names.
+/// The things that a run lends to its threads: references alone. The type says that the system is the one that the run
+/// names.
 #[derive(Drop)]
 pub struct Shared<'l, 's, 'p, J: Run, R: Wait + Copy> {
     pub alloc: Global,

@@ -14,7 +14,7 @@ use threads_environment::Environment;
 use threads_senders::Run;
 use threads_shared::Shared;
 
-/// What directs the run `J` on the calling thread: its environment, what moves the clock, and the clock's time.
+/// The director of the run `J`, on the calling thread: its environment, the ticker of its clock, and the clock's time.
 #[derive(Drop)]
 pub struct Director<'l, J: Run> {
     pub environment: Environment<'l, J>,
@@ -22,7 +22,7 @@ pub struct Director<'l, J: Run> {
     pub time: Ticks,
 }
 
-/// What the director finds as it looks.
+/// The state of a run, as the director finds it.
 enum Seen {
     /// The run is over.
     Over,
@@ -114,7 +114,9 @@ impl<'l, J: Run> Director<'l, J> {
 
     /// The next time at which something is due: a timer, or a line that is not heard yet.
     fn next_time<R: Wait + Copy>(&self, shared: &Shared<'_, '_, '_, J, R>) -> Option<Ticks> {
-        // Nobody steps, so each fuse is in the wheel.
+        // Before: nobody steps, and who stepped has armed its fuses under this lock, so each fuse is in the wheel.
+        // After: the least due of all fuses is known. It stays so, since only this thread wakes somebody now: no fuse
+        // is armed that is due before, and no wake-up by a timer is lost.
         let due = shared.tables.wheel.lock(shared.rt).next_due();
         match (due, self.environment.next_at()) {
             (Some(due), Some(at)) => Some(due.min(at)),

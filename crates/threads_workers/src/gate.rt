@@ -2,8 +2,8 @@
 
 use std::sync::Wait;
 
-/// What hears of each step that a worker makes, before it is made. It may wait, so a test can hold a step back until
-/// another one begins.
+/// A gate. It hears of each step that a worker makes, before it is made. It may wait, so a test can hold a step back
+/// until another one begins.
 pub trait Gate {
     /// A step of the instance of this number is about to be made.
     fn begun<R: Wait>(&self, rt: &R, number: u32);

@@ -12,7 +12,7 @@ use threads_shared::{Own, Seated, Shared, StepRuntime};
 /// How many steps a job has at most, so that all that have something to do get their turn.
 const MOST_STEPS: u32 = 32;
 
-/// What came of a job.
+/// The result of a job.
 #[derive(Clone, Copy, Debug, PartialEq, Eq)]
 enum Left {
     /// The instance found nothing to do.

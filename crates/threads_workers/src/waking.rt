@@ -3,8 +3,8 @@
 use crossbeam_utils::sync::Unparker;
 use std::alloc::Global;
 
-/// What wakes the threads of a run: the workers by their places, and the director. Each of them parks on a parker of
-/// its own, which keeps one token: an unpark before the park is not lost.
+/// The unparkers of a run's threads: those of the workers by their places, and the director's. Each thread parks on a
+/// parker of its own, which keeps one token: an unpark before the park is not lost.
 #[derive(Clone, Copy, Drop)]
 pub struct Crew<'a> {
     pub workers: &'a [Unparker<Global>],

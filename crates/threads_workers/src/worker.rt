@@ -91,7 +91,7 @@ fn round<J: Run, R: Wait + Copy, G: Gate>(
     Ok(true)
 }
 
-/// What the hall says this worker is to do, whose own queue is empty.
+/// Asks the hall for the next turn of this worker, whose own queue is empty.
 fn next_turn<J: Run, R: Wait + Copy>(
     shared: &Shared<'_, '_, '_, J, R>,
     me: usize,
