@@ -1,148 +1,145 @@
--- What a backlog knows of what waits there, and what its calls leave of that.
-use Rattle.std.proofs.Common.{◌≡◌, ℕ, zero, suc, ◌+◌, ◌-◌, ◌<◌, ◌==◌, min, ◌⊎◌, List, [], ◌∷◌, ◌++◌, length, take, drop, get_or, All, subst, sym, ap, ◌∙◌, ⊎_elim, arith, sub-one, append_assoc}
+-- What the calls of a backlog leave of what waits there.
+use Rattle.std.proofs.Common.{◌≡◌, ℕ, ◌+◌, ◌<◌, ◌≤◌, true, false, List, [], ◌∷◌, ◌++◌, not, length, length-append, get_or, drop, All, subst, sym, ap, ◌∙◌, arith, append_assoc}
+use Rattle.std.specs.Prelude.{Bool, filter, MatchBool, MatchOption, Option, Some, None}
 use Rattle.std.specs.List.{remove}
-use Rattle.std.proofs.lemmas.List.{take-append-le, take-take, length_push, length-take-le, get_or_at}
-use Rattle.std.proofs.lemmas.List.Edits.{length-remove}
-use Rattle.std.proofs.lemmas.List.Elements.{All-nil, All-take, All-tail, All-append, All-push, All-weaker, Contains-append_left, All-contains}
-use Rattle.std.proofs.lemmas.Bool.{cond_both}
-use Rattle.std.proofs.lemmas.Bool.Decides.{nat_tests}
+use Rattle.std.proofs.lemmas.List.{get_or_at}
+use Rattle.std.proofs.lemmas.Map.Entries.{length-values_of}
+use Rattle.std.proofs.lemmas.List.Elements.{filter-append, All-append, All-push, All-weaker}
+use Rattle.port_values.specs.declared.timer_key.TimerKey.{TimerKey}
 use Rattle.port_model.specs.declared.selection.Class.{Class}
 use Rattle.port_model.specs.declared.selection.Class.TheVariants as class
+use Rattle.port_model.specs.declared.wanted.Wanted.TheVariants as wanted
 use Rattle.port_model.specs.declared.got.Got.{Got}
-use Rattle.port_values.specs.declared.item.SignalId.{SignalId}
-use Rattle.port_model.specs.Backlog.{looked_after, waiting_in, BacklogValue, IsBacklog, IsNoted, IsOrdinaryName, IsSavedName, Leaves}
-use Rattle.port_model.specs.Take.{name_of, HasClass, IsOrdinary, IsSaved}
+use Rattle.port_model.specs.Backlog.{waiting_in, BacklogValue, Leaves, Passes}
+use Rattle.port_model.specs.Passed.{gots_in, holds_signal_of, Standing}
 use Rattle.port_model.specs.Search.{IsFirst}
+use Rattle.port_model.specs.Selection.{class_of}
+use Rattle.port_model.specs.Take.{name_of, HasClass, IsOrdinary, IsSaved}
+use Rattle.port_model.specs.Timers.{is_signal_of, without_signal}
+use Rattle.port_model.specs.Wanted.{is_wanted, IsUnwanted, IsWanted}
+use Rattle.port_model.proofs.Lists.{none_counted, none_left, none_pushed, some_counted}
 use Rattle.port_model.proofs.Searches.{remove-append}
 
--- names that were noted, and one more or none
-abbrev Grown : List SignalId → SignalId → List SignalId → Type 0
-Grown old name new = (new ≡ old) ⊎ (new ≡ old ++ name ∷ [])
+-- ---- the classes that a look is for
+pub not_priority : (c : Class) → is_wanted wanted.Priority c ≡ false → c ≡ class.Priority → ⊥
+not_priority c unwanted is = let e : is_wanted wanted.Priority class.Priority ≡ false = subst (λ c. is_wanted wanted.Priority c ≡ false) is unwanted in cc
 
-pub all_grown : (P : SignalId → Type 0) {old new : List SignalId} (name : SignalId) → Grown old name new → P name → All P old → All P new
-all_grown P {old} name grown here all =
-    ⊎_elim (λ same. subst (All P) (sym same) all) (λ more. subst (All P) (sym more) (All-push P old name all here)) grown
+pub is_priority : (c : Class) → is_wanted wanted.Priority c ≡ true → c ≡ class.Priority
+is_priority c here = grind arith
 
-pub all_noted : {old new : List SignalId} (name : SignalId) → Grown old name new → (gots : List Got) → All (IsNoted old) gots → All (IsNoted new) gots
-all_noted {old} {new} name grown gots =
-    All-weaker (IsNoted old) (IsNoted new)
-    (λ got is. ⊎_elim (λ same. subst (λ l. IsNoted l got) (sym same) is)
-    (λ more. subst (λ l. IsNoted l got) (sym more) (Contains-append_left old (name ∷ []) (name_of got) is)) grown) gots
+pub is_saved : (c : Class) → is_wanted wanted.Unsaved c ≡ false → c ≡ class.Saved
+is_saved c unwanted = grind arith
 
--- what holds of all names that are noted holds of the names of what is noted
-noted_are : (P : SignalId → Type 0) (names : List SignalId) (gots : List Got) → All P names → All (IsNoted names) gots → All (λ got. P (name_of got)) gots
-noted_are P names gots agreed =
-    All-weaker (IsNoted names) (λ got. P (name_of got)) (λ got is. All-contains P names (name_of got) agreed is) gots
+pub not_saved : (c : Class) → is_wanted wanted.Unsaved c ≡ true → c ≡ class.Saved → ⊥
+not_saved c here is = let e : is_wanted wanted.Unsaved class.Saved ≡ true = subst (λ c. is_wanted wanted.Unsaved c ≡ true) is here in cc
 
--- one entry more
-pub pushed : {passed rest now : List Got} {saved : List SignalId} {looked : ℕ} {ordinary : List SignalId} {capacity new : ℕ} (got : Got)
-    → IsBacklog passed rest saved looked ordinary capacity → now ≡ rest ++ got ∷ [] → new ≡ capacity
-    → 0 < capacity - (length passed + length rest) → IsBacklog passed now saved looked ordinary new
-pushed {rest = rest} {looked = looked} {ordinary = ordinary} got is more same room =
-    let longer = ap length more ∙ length_push rest got in let within = is.within in record {
-      saved_noted = is.saved_noted;
-      within = omega arith;
-      ordinary_noted = subst (All (IsNoted ordinary)) (sym (ap (take looked) more ∙ take-append-le looked rest (got ∷ []) within)) is.ordinary_noted;
-      fits = omega arith;
-    }
+-- ---- an entry is taken out
+leaves_as : {P Q : Got → Type 0} {old new : List Got} {got : Got} → ((g : Got) → P g → Q g) → Leaves P old got new → Leaves Q old got new
+leaves_as {P} {Q} h l = record { before = l.before; after = l.after; was = l.was; passed = All-weaker P Q h l.before l.passed; now = l.now }
 
--- one taken out
-first_gone : (P : Got → Type 0) (looked : ℕ) (rest : List Got) → All P (take looked rest) → All P (take (looked - 1) (remove rest 0))
-first_gone P looked [] all = All-take P (looked - 1) [] (All-nil P)
-first_gone P zero (got ∷ rest) all = All-nil P
-first_gone P (suc n) (got ∷ rest) all = rw sub-one (All-tail P got (take n rest) all)
+-- one that was passed over: what stands behind those stays
+pub leaves_passed : {P : Got → Type 0} {old new : List Got} {got : Got} (rest : List Got) → Leaves P old got new → Leaves P (old ++ rest) got (new ++ rest)
+leaves_passed {got = got} rest l = record {
+  before = l.before;
+  after = l.after ++ rest;
+  was = ap (λ w. w ++ rest) l.was ∙ append_assoc l.before (got ∷ l.after) rest;
+  passed = l.passed;
+  now = ap (λ w. w ++ rest) l.now ∙ append_assoc l.before l.after rest;
+}
 
-later_kept : (P : Got → Type 0) (looked place : ℕ) (rest : List Got) → place < length rest → All P (take looked rest) → All P (take (min looked place) (remove rest place))
-later_kept P looked place rest within all =
-    let n = min looked place in
-    let parts : take n (remove rest place) ≡ take n (take looked rest) =
-    take-append-le n (take place rest) (drop (suc place) rest) (omega (arith, length-take-le place rest (omega arith)))
-    ∙ take-take n place rest (omega arith) ∙ sym (take-take n looked rest (omega arith)) in
-    subst (All P) (sym parts) (All-take P n (take looked rest) all)
-
-pub taken_out : {passed rest now : List Got} {saved : List SignalId} {looked : ℕ} {ordinary : List SignalId} {capacity new : ℕ} (place : ℕ)
-    → IsBacklog passed rest saved looked ordinary capacity → place < length rest → now ≡ remove rest place → new ≡ capacity
-    → IsBacklog passed now saved (looked_after looked place) ordinary new
-taken_out {rest = rest} {looked = looked} {ordinary = ordinary} place is in' left same =
-    let fewer = length-remove rest place in' in let now_len = ap length left in let within = is.within in let fits = is.fits in record {
-      saved_noted = is.saved_noted;
-      within = grind (arith, nat_tests);
-      ordinary_noted = subst (λ l. All (IsNoted ordinary) (take (looked_after looked place) l)) (sym left)
-          (cond_both (place == 0) (looked - 1) (min looked place) (λ n. All (IsNoted ordinary) (take n (remove rest place)))
-          (λ e. let first : 0 ≡ place = grind (arith, nat_tests) in
-          subst (λ n. All (IsNoted ordinary) (take (looked - 1) (remove rest n))) first (first_gone (IsNoted ordinary) looked rest is.ordinary_noted))
-          (λ _. later_kept (IsNoted ordinary) looked place rest in' is.ordinary_noted));
-      fits = omega arith;
-    }
-
--- a name is noted, and the next entry, of that name, is passed over
-pub saved_grown : {passed now rest : List Got} {saved new : List SignalId} {looked : ℕ} {ordinary : List SignalId} {capacity : ℕ}
-    (name : SignalId) → IsBacklog passed rest saved looked ordinary capacity → Grown saved name new → now ≡ passed → IsBacklog now rest new looked ordinary capacity
-saved_grown {passed} name is grown same =
-    rw same (record { saved_noted = all_noted name grown passed is.saved_noted; within = is.within; ordinary_noted = is.ordinary_noted; fits = is.fits })
-
-pub passed_over : {passed over rest now : List Got} {saved new : List SignalId} {looked : ℕ} {ordinary : List SignalId} {capacity later : ℕ}
-    (name : SignalId) (got : Got) → IsBacklog passed rest saved looked ordinary capacity → Grown saved name new → IsNoted new got → 0 < length rest
-    → now ≡ remove rest 0 → later ≡ capacity → over ≡ passed ++ got ∷ [] → IsBacklog over now new (looked_after looked 0) ordinary later
-passed_over {passed} {rest = rest} {new = new} name got is grown noted some left same longer =
-    let t = taken_out 0 is some left same in let within = t.within in let fits = is.fits in let one = length-remove rest 0 some in
-    let now_len = ap length left in let over_len = ap length longer ∙ length_push passed got in record {
-      saved_noted = subst (All (IsNoted new)) (sym longer) (All-push (IsNoted new) passed got (all_noted name grown passed is.saved_noted) noted);
-      within = within;
-      ordinary_noted = t.ordinary_noted;
-      fits = omega arith;
-    }
-
--- an entry of the rest is taken out, and none that was passed over or stands before it is wanted
-pub leaves : (Passed Wanted : Got → Type 0) {old : List Got} (b new : BacklogValue) {place : ℕ} {got : Got} → waiting_in b ≡ old → All Passed b.passed
-    → IsFirst Passed Wanted b.rest place → got ≡ get_or b.rest place got → new.rest ≡ remove b.rest place → new.passed ≡ b.passed
-    → Leaves Passed old got (waiting_in new) × Wanted got
-leaves Passed Wanted b new {place} {got} whole all first is left same =
+-- one of the rest, where none that was passed over or stands before it is wanted
+pub leaves_rest : (P W : Got → Type 0) (passed rest : List Got) {old now : List Got} {place : ℕ} {got : Got} → passed ++ rest ≡ old → All P passed
+    → IsFirst P W rest place → got ≡ get_or rest place got → now ≡ remove rest place → Leaves P old got (passed ++ now) × W got
+leaves_rest P W passed rest {now = now} {place} {got} whole all first is left =
     let was = first.was in let at = first.at in
     let entry : got ≡ first.got = is ∙ ap (λ l. get_or l place got) was ∙ get_or_at first.before first.got first.after got place at in
     let without = remove-append first.before first.got first.after place at in
-    let old_parts = append_assoc b.passed first.before (first.got ∷ first.after) in let new_parts = append_assoc b.passed first.before first.after in (
-      record { before = b.passed ++ first.before; after = first.after; was = cc; passed = All-append Passed b.passed first.before all first.passed; now = cc },
-      subst Wanted (sym entry) first.wanted,
+    let old_parts = append_assoc passed first.before (first.got ∷ first.after) in let new_parts = append_assoc passed first.before first.after in (
+      record { before = passed ++ first.before; after = first.after; was = cc; passed = All-append P passed first.before all first.passed; now = cc },
+      subst W (sym entry) first.wanted,
     )
 
--- what is so of all that waits, as callers see it, where all that was noted as saved is saved
-module _ (classes : List Class) {passed rest : List Got} {saved : List SignalId} {looked : ℕ} {ordinary : List SignalId} {room capacity : ℕ} {b : BacklogValue}
-    (view : record { passed = passed; rest = rest; saved = saved; looked = looked; ordinary = ordinary; room = room } ≡ b)
-    (is : IsBacklog passed rest saved looked ordinary capacity) where
-  pub looked_ordinary : All (IsOrdinaryName classes) b.ordinary → All (IsOrdinary classes) (take looked rest)
-  looked_ordinary names =
-      noted_are (IsOrdinaryName classes) ordinary (take looked rest) (subst (λ (b : BacklogValue). All (IsOrdinaryName classes) b.ordinary) (sym view) names)
-      is.ordinary_noted
+-- a take of a priority input's entry, and one of an entry that isn't saved
+module _ (classes : List Class) (old new : List Got) where
+  pub priority_taken : (result : Option Got) → MatchOption result ((new ≡ old) × All (IsUnwanted wanted.Priority classes) new)
+      (λ got. Leaves (IsUnwanted wanted.Priority classes) old got new × IsWanted wanted.Priority classes got)
+      → MatchOption result ((new ≡ old) × All (IsOrdinary classes) new) (λ got. Leaves (IsOrdinary classes) old got new × HasClass class.Priority classes got)
+  priority_taken None is = (
+    is.0,
+    All-weaker (IsUnwanted wanted.Priority classes) (IsOrdinary classes) (λ g is. not_priority (class_of classes (name_of g)) is) new is.1,
+  )
+  priority_taken (Some got) is = (
+    leaves_as (λ g is. not_priority (class_of classes (name_of g)) is) is.0,
+    is_priority (class_of classes (name_of got)) is.1,
+  )
 
-  module _ (agreed : All (IsSavedName classes) b.saved) where
-    passed_saved : All (IsSaved classes) passed
-    passed_saved =
-        noted_are (IsSavedName classes) saved passed (subst (λ (b : BacklogValue). All (IsSavedName classes) b.saved) (sym view) agreed) is.saved_noted
+  pub unsaved_left : All (IsUnwanted wanted.Unsaved classes) new → All (IsSaved classes) new
+  unsaved_left all = All-weaker (IsUnwanted wanted.Unsaved classes) (IsSaved classes) (λ g is. is_saved (class_of classes (name_of g)) is) new all
 
-    passed_ordinary : All (IsOrdinary classes) passed
-    passed_ordinary =
-        All-weaker (IsSaved classes) (IsOrdinary classes) (λ got is urgent. let e : class.Saved ≡ class.Priority = sym is ∙ urgent in cc) passed passed_saved
+  pub unsaved_taken : {got : Got} → Leaves (IsUnwanted wanted.Unsaved classes) old got new → Leaves (IsSaved classes) old got new
+  unsaved_taken l = leaves_as (λ g is. is_saved (class_of classes (name_of g)) is) l
 
-    pub all_are_saved : All (IsSaved classes) rest → All (IsSaved classes) (waiting_in b)
-    all_are_saved all =
-        subst (λ (b : BacklogValue). All (IsSaved classes) (waiting_in b)) view (All-append (IsSaved classes) passed rest passed_saved all)
+-- ---- an entry is passed over
+module _ {old new : BacklogValue} (p : Passes old new) where
+  pub same_waits : waiting_in new ≡ waiting_in old
+  same_waits =
+      ap (λ l. l ++ new.rest) p.passed ∙ append_assoc old.passed (p.got ∷ []) new.rest ∙ sym (ap (λ l. old.passed ++ l) p.rest)
 
-    pub all_are_ordinary : All (IsOrdinary classes) rest → All (IsOrdinary classes) (waiting_in b)
-    all_are_ordinary all =
-        subst (λ (b : BacklogValue). All (IsOrdinary classes) (waiting_in b)) view (All-append (IsOrdinary classes) passed rest passed_ordinary all)
+  -- it is the one that was looked at
+  looked_at : (got : Got) → got ≡ get_or old.rest 0 got → got ≡ p.got
+  looked_at got is = is ∙ ap (λ l. get_or l 0 got) p.rest
 
-    module _ {old : List Got} (new : BacklogValue) {place : ℕ} {got : Got} (whole : waiting_in b ≡ old) (entry : got ≡ get_or b.rest place got)
-        (left : new.rest ≡ remove b.rest place) (same : new.passed ≡ b.passed) where
-      pub leaves_unsaved : {c : Class} → IsFirst (IsSaved classes) (HasClass c classes) rest place
-          → Leaves (IsSaved classes) old got (waiting_in new) × HasClass c classes got
-      leaves_unsaved {c} first =
-          leaves (IsSaved classes) (HasClass c classes) b new whole (subst (λ (b : BacklogValue). All (IsSaved classes) b.passed) view passed_saved)
-          (subst (λ (b : BacklogValue). IsFirst (IsSaved classes) (HasClass c classes) b.rest place) view first) entry left same
+  pub all_passed_are : (P : Got → Type 0) (got : Got) → got ≡ get_or old.rest 0 got → P got → All P old.passed → All P new.passed
+  all_passed_are P got is here all =
+      subst (All P) (sym p.passed) (All-push P old.passed p.got all (subst P (looked_at got is) here))
 
-      pub leaves_priority : IsFirst (IsOrdinary classes) (HasClass class.Priority classes) rest place
-          → Leaves (IsOrdinary classes) old got (waiting_in new) × HasClass class.Priority classes got
-      leaves_priority first =
-          leaves (IsOrdinary classes) (HasClass class.Priority classes) b new whole
-          (subst (λ (b : BacklogValue). All (IsOrdinary classes) b.passed) view passed_ordinary)
-          (subst (λ (b : BacklogValue). IsFirst (IsOrdinary classes) (HasClass class.Priority classes) b.rest place) view first) entry left same
+  pub none_passed_is : (key : TimerKey) (got : Got) → got ≡ get_or old.rest 0 got → is_signal_of key got ≡ false
+      → holds_signal_of key old.passed ≡ false → holds_signal_of key new.passed ≡ false
+  none_passed_is key got is other none =
+      let mine : is_signal_of key p.got ≡ false = subst (λ g. is_signal_of key g ≡ false) (looked_at got is) other in
+      ap (holds_signal_of key) p.passed ∙ none_pushed (is_signal_of key) old.passed p.got none mine
+
+-- whether it was passed over or not
+pub passes_unwanted : (P : Got → Type 0) (result : Bool) (old new : BacklogValue) (got : Got)
+    → MatchBool result (Passes old new) ((new.passed ≡ old.passed) × (new.rest ≡ old.rest)) → got ≡ get_or old.rest 0 got → P got
+    → All P old.passed → All P new.passed
+passes_unwanted P true old new got p is here all = all_passed_are p P got is here all
+passes_unwanted P false old new got same is here all = subst (All P) (sym same.0) all
+
+-- ---- the signal of a timer goes, which waits once at most
+module _ (key : TimerKey) (passed rest : List Got) (once : length (filter (is_signal_of key) (passed ++ rest)) ≤ 1) where
+  counts : length (filter (is_signal_of key) (passed ++ rest)) ≡ length (filter (is_signal_of key) passed) + length (filter (is_signal_of key) rest)
+  counts = ap length (filter-append (is_signal_of key) passed rest) ∙ length-append (filter (is_signal_of key) passed) (filter (is_signal_of key) rest)
+
+  -- it was passed over
+  pub forgot_passed : {now : List Got} → holds_signal_of key passed ≡ true → now ≡ without_signal key passed → now ++ rest ≡ without_signal key (passed ++ rest)
+  forgot_passed holds is =
+      let some = some_counted (is_signal_of key) passed holds in let both = counts in
+      let none = none_left (is_signal_of key) rest (none_counted (is_signal_of key) rest (omega arith)) in
+      ap (λ l. l ++ rest) is ∙ sym (filter-append (λ g. not (is_signal_of key g)) passed rest ∙ ap (λ l. without_signal key passed ++ l) none)
+
+  -- it was not
+  pub forgot_rest : {now : List Got} → holds_signal_of key passed ≡ false → now ≡ without_signal key rest → passed ++ now ≡ without_signal key (passed ++ rest)
+  forgot_rest none is =
+      ap (λ l. passed ++ l) is ∙ sym (filter-append (λ g. not (is_signal_of key g)) passed rest
+      ∙ ap (λ l. l ++ without_signal key rest) (none_left (is_signal_of key) passed none))
+
+  pub once_in_rest : length (filter (is_signal_of key) rest) ≤ 1
+  once_in_rest = let both = counts in omega arith
+
+-- no more is left than there was
+fewer_kept : (key : TimerKey) (gots : List Got) → length (without_signal key gots) ≤ length gots
+fewer_kept key [] = omega arith
+fewer_kept key (got ∷ gots) = grind (arith, fewer_kept key gots)
+
+pub fewer_left : (key : TimerKey) (entries now : List Standing) → gots_in now ≡ without_signal key (gots_in entries) → length now ≤ length entries
+fewer_left key entries now left =
+    let fewer = fewer_kept key (gots_in entries) in let before = length-values_of entries in let after = length-values_of now in
+    let same = ap length left in omega arith
+
+pub forgot_first : (key : TimerKey) (got : Got) (waiting : List Got) → 0 < length waiting → got ≡ get_or waiting 0 got
+    → length (filter (is_signal_of key) waiting) ≤ 1 → is_signal_of key got ≡ true → drop 1 waiting ≡ without_signal key waiting
+forgot_first key got [] some is once its = absurd (omega (arith, some))
+forgot_first key got (first ∷ rest) some is once its =
+    let here : is_signal_of key first ≡ true = ap (is_signal_of key) (sym is) ∙ its in
+    let none = none_left (is_signal_of key) rest (none_counted (is_signal_of key) rest (grind arith)) in grind arith

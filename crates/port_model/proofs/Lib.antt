@@ -5,6 +5,8 @@ pub mod Keys
 pub mod Lists
 pub mod Order
 pub mod Ordered
+pub mod Passings
+pub mod Placed
 pub mod Ports
 pub mod Resets
 pub mod Searches

@@ -1,5 +1,5 @@
 -- Lists: what a test tells of all entries, of none, and of one entry among others.
-use Rattle.std.proofs.Common.{◌≡◌, ◌+◌, Bool, true, false, not, ◌&&◌, ◌||◌, cond, List, [], ◌∷◌, ◌++◌, length, map, filter, refl, ap, arith}
+use Rattle.std.proofs.Common.{◌≡◌, ◌+◌, ◌≤◌, Bool, true, false, not, ◌&&◌, ◌||◌, cond, List, [], ◌∷◌, ◌++◌, length, map, filter, refl, ap, arith}
 use Rattle.std.specs.List.{list_any}
 
 -- a test and more says nothing where no entry passes the test
@@ -42,6 +42,14 @@ module _ {X : Type 0} (p : X → Bool) where
   pub none_counted : (xs : List X) → length (filter p xs) ≡ 0 → list_any p xs ≡ false
   none_counted [] e = refl
   none_counted (x ∷ xs) e = grind (arith, none_counted xs)
+
+  pub some_counted : (xs : List X) → list_any p xs ≡ true → 1 ≤ length (filter p xs)
+  some_counted [] e = absurd cc
+  some_counted (x ∷ xs) e = grind (arith, some_counted xs)
+
+  pub none_pushed : (xs : List X) (x : X) → list_any p xs ≡ false → p x ≡ false → list_any p (xs ++ x ∷ []) ≡ false
+  none_pushed [] x none is = grind arith
+  none_pushed (y ∷ xs) x none is = grind (arith, none_pushed xs x)
 
   pub none_left : (xs : List X) → list_any p xs ≡ false → filter (λ x. not (p x)) xs ≡ xs
   none_left [] e = refl

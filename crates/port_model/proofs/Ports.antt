@@ -1,6 +1,6 @@
 -- What the calls of a port leave coherent, and of its sets.
 use Rattle.std.proofs.Common.{◌≡◌, ℕ, ◌+◌, ◌≤◌, Bool, true, false, List, [], ◌∷◌, ◌++◌, length, Option, Some, None, MatchOption, subst, sym, ap, ◌∙◌, refl, arith}
-use Rattle.std.specs.Prelude.{filter}
+use Rattle.std.specs.Prelude.{filter, IfSome}
 use Rattle.std.proofs.lemmas.List.Elements.{All-filter, All-nil, All-push, All-weaker}
 use Rattle.port_values.specs.declared.timer_key.TimerKey.{TimerKey}
 use Rattle.port_model.specs.declared.timer.ActiveTimer.{ActiveTimer}
@@ -27,6 +27,16 @@ pub no_signal : (key : TimerKey) (waiting : List Got) (timers : List ActiveTimer
 no_signal key waiting timers is none =
     let counts = (is key).waits in let run = all_run key timers none in
     none_left (is_signal_of key) waiting (none_counted (is_signal_of key) waiting (omega arith))
+
+-- the signal of a timer waits once at most
+pub waits_once : {waiting : List Got} {timers : List ActiveTimer} → IsCoherent waiting timers → (key : TimerKey)
+    → length (filter (is_signal_of key) waiting) ≤ 1
+waits_once is key = let counts = (is key).waits in let one = (is key).one in omega arith
+
+pub all_wait_once : {waiting : List Got} {timers : List ActiveTimer} → IsCoherent waiting timers → (back : Option TimerKey)
+    → IfSome back (λ key. length (filter (is_signal_of key) waiting) ≤ 1)
+all_wait_once is None = tt
+all_wait_once is (Some key) = waits_once is key
 
 -- what a set takes out of what waits
 pub signal_out : (key : TimerKey) (waiting now : List Got) (timers : List ActiveTimer) (back : Option TimerKey) → IsCoherent waiting timers

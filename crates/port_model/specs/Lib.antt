@@ -3,6 +3,8 @@ pub mod Class
 pub mod Coherence
 pub mod History
 pub mod Laws
+pub mod Passed
+pub mod Places
 pub mod PlainPort
 pub mod Port
 pub mod Search
@@ -10,3 +12,4 @@ pub mod Selection
 pub mod Table
 pub mod Take
 pub mod Timers
+pub mod Wanted

@@ -1,26 +1,27 @@
-//! What waits in a port. It remembers what it has looked at, as long as the names that it saw there keep their
-//! classes: so a take looks at no entry twice, however many wait.
-ghost use Rattle.std.specs.Prelude.{◌≡◌, ◌⊎◌, ◌==◌, ◌+◌, ◌<◌, ◌≤◌, [], ◌∷◌, ◌++◌, length, remove, slice_index_or, All, Contains, MatchOption, IfSome, IsTrue, OnOk, OnErr};
+//! What waits in a port. An entry that a take passes over is set aside with its name, so that no later take looks at it
+//! one by one: a take looks at no entry twice, however many wait.
+ghost use Rattle.std.specs.Prelude.{◌≡◌, ◌==◌, ◌+◌, ◌<◌, ◌≤◌, [], ◌∷◌, ◌++◌, false, filter, length, remove, slice_index_or, All, MatchBool, MatchOption, IfSome, OnOk, OnErr};
 ghost use Rattle.std.specs.VecDeque.{deque_capacity};
-ghost use Rattle.port_model.specs.Backlog.{looked_after, waiting_in, IsHead, IsOrdinaryName, IsSavedName, Leaves};
+ghost use Rattle.port_model.specs.Backlog.{waiting_in, IsHead, Leaves, Passes};
+ghost use Rattle.port_model.specs.Passed.{holds_signal_of};
 ghost use Rattle.port_model.specs.Take.{HasClass, IsOrdinary, IsSaved};
-ghost use Rattle.port_model.specs.Timers.{without_signal};
+ghost use Rattle.port_model.specs.Timers.{is_signal_of, without_signal};
+ghost use Rattle.port_model.specs.Wanted.{IsUnwanted, IsWanted};
 ghost use Rattle.port_model.specs.declared.selection.Class.TheVariants as class;
 
+use crate::passed::Passed;
+use crate::wanted::Wanted;
 use crate::{Class, Got, Selection, search};
-use port_values::{SignalId, TimerKey};
+use port_values::TimerKey;
 use std::alloc::{AllocError, Global};
 use std::collections::VecDeque;
 use std::marker::Model;
 
-/// A list of what waits, in two parts: the entries that were passed over as saved, and the rest.
+/// A list of what waits, in two parts: the entries that were passed over, and the rest, which has room for both.
 #[derive(Debug, Drop)]
 pub struct Backlog {
-    passed: VecDeque<Got>,
+    passed: Passed,
     rest: VecDeque<Got>,
-    saved: Vec<SignalId>,
-    looked: usize,
-    ordinary: Vec<SignalId>,
 }
 
 /// An entry that was taken out since it isn't saved, and its class.
@@ -31,23 +32,20 @@ pub struct Unsaved {
 }
 
 impl Model for Backlog {
-    ghost use Rattle.std.specs.Prelude.{◌+◌, ◌-◌, length};
+    ghost use Rattle.std.specs.Prelude.{◌+◌, ◌-◌, ◌≤◌, length};
     ghost use Rattle.std.specs.VecDeque.{deque_capacity};
-    ghost use Rattle.port_model.specs.Backlog.{BacklogValue, IsBacklog};
+    ghost use Rattle.port_model.specs.Backlog.{BacklogValue};
+    ghost use Rattle.port_model.specs.Passed.{gots_in};
 
     ghost Value = { BacklogValue };
 
     ghost view = { λ b. record {
-      passed = b.passed.items;
+      passed = gots_in b.passed;
       rest = b.rest.items;
-      saved = b.saved.items;
-      looked = b.looked;
-      ordinary = b.ordinary.items;
-      room = deque_capacity b.rest - (length b.passed.items + length b.rest.items);
+      room = deque_capacity b.rest - (length b.passed + length b.rest.items);
     } };
 
-    ghost invariant = { λ b. IsBacklog
-        b.passed.items b.rest.items b.saved.items b.looked b.ordinary.items (deque_capacity b.rest) };
+    ghost invariant = { λ b. length b.passed + length b.rest.items ≤ deque_capacity b.rest };
 }
 
 impl Backlog {
@@ -56,11 +54,8 @@ impl Backlog {
         ensures { waiting_in result ≡ [] }
     {
         Backlog {
-            passed: VecDeque::new(alloc),
+            passed: Passed::new(alloc),
             rest: VecDeque::new(alloc),
-            saved: Vec::new(alloc),
-            looked: 0,
-            ordinary: Vec::new(alloc),
         }
     }
 
@@ -107,23 +102,7 @@ impl Backlog {
         if !selection.has_priority() {
             return None;
         }
-        self.look_for_priority(selection)
-    }
-
-    /// Takes the first entry of a priority input out, if there is one.
-    #[inline(never)]
-    fn look_for_priority(&mut self, selection: &Selection) -> Option<Got>
-        ensures { MatchOption result ((waiting_in self.new ≡ waiting_in self.old)
-            × All (IsOrdinary selection.now) (waiting_in self.new))
-            (λ got. Leaves (IsOrdinary selection.now) (waiting_in self.old) got (waiting_in self.new)
-            × HasClass class.Priority selection.now got) }
-    {
-        self.recall_saved(selection);
-        self.look_on(selection);
-        match search::first_priority(&self.rest, self.looked, selection) {
-            None => None,
-            Some(place) => Some(self.take_out(place)),
-        }
+        self.take_wanted(Wanted::Priority, selection)
     }
 
     /// The class of the first entry, where just this entry is to be taken. None: what is to be taken is still to be
@@ -152,7 +131,7 @@ impl Backlog {
         ensures passed { self.new.passed ≡ [] }
         ensures rest { self.old.rest ≡ result ∷ self.new.rest }
     {
-        self.take_out(0)
+        self.rest.pop_front().unwrap()
     }
 
     /// Takes the first entry that isn't saved out, if there is one, with its class. Needs no memory.
@@ -163,23 +142,38 @@ impl Backlog {
             (λ taken. Leaves (IsSaved selection.now) (waiting_in self.old) taken.got (waiting_in self.new)
             × HasClass taken.class selection.now taken.got × (taken.class ≡ class.Saved → ⊥)) }
     {
-        self.pass_saved(selection);
-        match search::first_unsaved(&self.rest, selection) {
+        let got = self.take_wanted(Wanted::Unsaved, selection)?;
+        let class = selection.class_of(got.name());
+        Some(Unsaved { got, class })
+    }
+
+    /// Takes the first entry that is wanted out, if there is one: of those passed over, else of the rest.
+    #[inline(never)]
+    fn take_wanted(&mut self, wanted: Wanted, selection: &Selection) -> Option<Got>
+        ensures { MatchOption result ((waiting_in self.new ≡ waiting_in self.old)
+            × All (IsUnwanted wanted selection.now) (waiting_in self.new))
+            (λ got. Leaves (IsUnwanted wanted selection.now) (waiting_in self.old) got (waiting_in self.new)
+            × IsWanted wanted selection.now got) }
+    {
+        if let Some(got) = self.passed.take_first(wanted, selection) {
+            return Some(got);
+        }
+        self.pass_unwanted(wanted, selection);
+        match search::first_wanted(&self.rest, wanted, selection) {
             None => None,
-            Some(found) => Some(Unsaved {
-                got: self.take_out(found.place),
-                class: found.class,
-            }),
+            Some(place) => Some(take_at(&mut self.rest, place)),
         }
     }
 
-    /// Takes the signal of the timer with this key out.
+    /// Takes the signal of the timer with this key out, which waits once at most.
     pub fn forget(&mut self, key: &TimerKey)
+        requires { length (filter (is_signal_of key.now) (waiting_in self.old)) ≤ 1 }
         ensures { waiting_in self.new ≡ without_signal key.now (waiting_in self.old) }
     {
-        search::forget(&mut self.passed, key);
-        search::forget(&mut self.rest, key);
-        self.looked = 0;
+        if !self.passed.forget(key) {
+            self.pass_others(key);
+            search::forget(&mut self.rest, key);
+        }
     }
 
     /// Nothing waits any more.
@@ -188,9 +182,6 @@ impl Backlog {
     {
         self.passed.clear();
         self.rest.clear();
-        self.saved.clear();
-        self.looked = 0;
-        self.ordinary.clear();
     }
 
     /// What waits, in order. Takes no memory.
@@ -202,130 +193,86 @@ impl Backlog {
         rest
     }
 
-    /// Forgets what was passed over, unless all its names are saved.
-    fn recall_saved(&mut self, selection: &Selection)
+    /// Passes over the first entries of the rest that aren't wanted, as far as there is memory for it.
+    fn pass_unwanted(&mut self, wanted: Wanted, selection: &Selection)
+        requires { All (IsUnwanted wanted selection.now) self.old.passed }
         ensures same { waiting_in self.new ≡ waiting_in self.old }
-        ensures agreed { All (IsSavedName selection.now) self.new.saved }
+        ensures passed { All (IsUnwanted wanted selection.now) self.new.passed }
     {
-        if !all_saved(&self.saved, selection) {
-            self.pass_back();
-        }
-    }
-
-    /// Passes over the first entries of the rest that are saved, as far as there is memory to note their names.
-    fn pass_saved(&mut self, selection: &Selection)
-        ensures same { waiting_in self.new ≡ waiting_in self.old }
-        ensures agreed { All (IsSavedName selection.now) self.new.saved }
-    {
-        self.recall_saved(selection);
         for _ in 0..self.rest.len() {
-            if !self.pass_next(selection) {
+            if !self.pass_next_unwanted(wanted, selection) {
                 return;
             }
         }
     }
 
-    /// Passes over the next entry of the rest, if it is saved, and notes its name. The reply is whether it did.
-    fn pass_next(&mut self, selection: &Selection) -> bool
-        requires { All (IsSavedName selection.now) self.old.saved }
+    /// Passes over the next entry of the rest, if it isn't wanted. The reply is whether it did.
+    fn pass_next_unwanted(&mut self, wanted: Wanted, selection: &Selection) -> bool
+        requires { All (IsUnwanted wanted selection.now) self.old.passed }
         ensures same { waiting_in self.new ≡ waiting_in self.old }
-        ensures agreed { All (IsSavedName selection.now) self.new.saved }
+        ensures passed { All (IsUnwanted wanted selection.now) self.new.passed }
     {
         let Some(got) = self.rest.front() else {
             return false;
         };
-        let name = got.name();
-        let Class::Saved = selection.class_of(name) else {
+        if wanted.takes(selection.class_of(got.name())) {
+            return false;
+        }
+        self.pass_next()
+    }
+
+    /// Passes over the first entries of the rest up to the signal of this timer, as far as there is memory for it.
+    fn pass_others(&mut self, key: &TimerKey)
+        requires { holds_signal_of key.now self.old.passed ≡ false }
+        ensures same { waiting_in self.new ≡ waiting_in self.old }
+        ensures passed { holds_signal_of key.now self.new.passed ≡ false }
+    {
+        for _ in 0..self.rest.len() {
+            if !self.pass_next_other(key) {
+                return;
+            }
+        }
+    }
+
+    /// Passes over the next entry of the rest, if it isn't the signal of this timer. The reply is whether it did.
+    fn pass_next_other(&mut self, key: &TimerKey) -> bool
+        requires { holds_signal_of key.now self.old.passed ≡ false }
+        ensures same { waiting_in self.new ≡ waiting_in self.old }
+        ensures passed { holds_signal_of key.now self.new.passed ≡ false }
+    {
+        let Some(got) = self.rest.front() else {
             return false;
         };
-        if let Err(_) = self.passed.reserve(1) {
+        if got.is_signal_of(key) {
             return false;
         }
-        if !note(&mut self.saved, name) {
-            return false;
+        self.pass_next()
+    }
+
+    /// Passes over the next entry of the rest. The reply is whether it did: only memory can be wanting.
+    fn pass_next(&mut self) -> bool
+        requires { 0 < length self.old.rest }
+        ensures { MatchBool result (Passes self.old self.new)
+            ((self.new.passed ≡ self.old.passed) × (self.new.rest ≡ self.old.rest)) }
+    {
+        let got = self.rest.pop_front().unwrap();
+        match self.passed.push(got) {
+            Ok(()) => true,
+            Err(got) => {
+                self.rest.push_front_reserved(got);
+                false
+            }
         }
-        self.looked = looked_after(self.looked, 0);
-        let got = take_at(&mut self.rest, 0);
-        self.passed.push_back_reserved(got);
-        true
     }
 
     /// Nothing is passed over any more.
     fn pass_back(&mut self)
         ensures passed { self.new.passed ≡ [] }
         ensures rest { self.new.rest ≡ waiting_in self.old }
-        ensures saved { self.new.saved ≡ [] }
     {
-        while let Some(got) = self.passed.pop_back() {
+        while let Some(got) = self.passed.pop_last() {
             self.rest.push_front_reserved(got);
         }
-        self.saved.clear();
-        self.looked = 0;
-    }
-
-    /// Forgets what was looked at, unless none of its names is that of a priority input.
-    fn recall_ordinary(&mut self, selection: &Selection)
-        ensures passed { self.new.passed ≡ self.old.passed }
-        ensures rest { self.new.rest ≡ self.old.rest }
-        ensures saved { self.new.saved ≡ self.old.saved }
-        ensures agreed { All (IsOrdinaryName selection.now) self.new.ordinary }
-    {
-        if !all_ordinary(&self.ordinary, selection) {
-            self.looked = 0;
-            self.ordinary.clear();
-        }
-    }
-
-    /// Looks at the entries of the rest up to the first of a priority input, as far as there is memory to note their
-    /// names.
-    fn look_on(&mut self, selection: &Selection)
-        ensures passed { self.new.passed ≡ self.old.passed }
-        ensures rest { self.new.rest ≡ self.old.rest }
-        ensures saved { self.new.saved ≡ self.old.saved }
-        ensures agreed { All (IsOrdinaryName selection.now) self.new.ordinary }
-    {
-        self.recall_ordinary(selection);
-        for _ in self.looked..self.rest.len() {
-            if !self.look_at_next(selection) {
-                return;
-            }
-        }
-    }
-
-    /// Looks at the next entry, and notes its name if it isn't that of a priority input. The reply is whether it did.
-    fn look_at_next(&mut self, selection: &Selection) -> bool
-        requires { All (IsOrdinaryName selection.now) self.old.ordinary }
-        ensures passed { self.new.passed ≡ self.old.passed }
-        ensures rest { self.new.rest ≡ self.old.rest }
-        ensures saved { self.new.saved ≡ self.old.saved }
-        ensures agreed { All (IsOrdinaryName selection.now) self.new.ordinary }
-    {
-        let Some(got) = self.rest.get(self.looked) else {
-            return false;
-        };
-        let name = got.name();
-        if let Class::Priority = selection.class_of(name) {
-            return false;
-        }
-        if !note(&mut self.ordinary, name) {
-            return false;
-        }
-        self.looked += 1;
-        true
-    }
-
-    /// Takes the entry at `place` of the rest out.
-    #[inline(always)]
-    fn take_out(&mut self, place: usize) -> Got
-        requires { place < length self.old.rest }
-        ensures entry { result ≡ slice_index_or self.old.rest place result }
-        ensures rest { self.new.rest ≡ remove self.old.rest place }
-        ensures passed { self.new.passed ≡ self.old.passed }
-        ensures saved { self.new.saved ≡ self.old.saved }
-        ensures room { self.old.room < self.new.room }
-    {
-        self.looked = looked_after(self.looked, place);
-        take_at(&mut self.rest, place)
     }
 }
 
@@ -341,16 +288,6 @@ fn take_at(list: &mut VecDeque<Got>, place: usize) -> Got
         list.pop_front().unwrap()
     } else {
         list.remove(place).unwrap()
-    }
-}
-
-fn looked_after(looked: usize, place: usize) -> usize
-    ensures { result ≡ looked_after looked place }
-{
-    if place == 0 {
-        looked.saturating_sub(1)
-    } else {
-        looked.min(place)
     }
 }
 
@@ -371,38 +308,4 @@ fn room_beside(list: &mut VecDeque<Got>, others: usize) -> Result<(), AllocError
         return Err(AllocError);
     };
     list.reserve(more.saturating_add(capacity))
-}
-
-/// Notes a name, if there is memory for it. The reply is whether it is noted now.
-fn note(names: &mut Vec<SignalId>, name: SignalId) -> bool
-    ensures noted { IsTrue result → Contains names.new.items name }
-    ensures grown { (names.new.items ≡ names.old.items) ⊎ (names.new.items ≡ names.old.items ++ name ∷ []) }
-{
-    if names.contains(&name) {
-        return true;
-    }
-    names.push(name).is_ok()
-}
-
-fn all_saved(names: &[SignalId], selection: &Selection) -> bool
-    ensures { IsTrue result → All (IsSavedName selection.now) names.now }
-{
-    for name in names {
-        match selection.class_of(*name) {
-            Class::Saved => {}
-            _ => return false,
-        }
-    }
-    true
-}
-
-fn all_ordinary(names: &[SignalId], selection: &Selection) -> bool
-    ensures { IsTrue result → All (IsOrdinaryName selection.now) names.now }
-{
-    for name in names {
-        if let Class::Priority = selection.class_of(*name) {
-            return false;
-        }
-    }
-    true
 }

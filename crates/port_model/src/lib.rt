@@ -9,6 +9,8 @@ mod deadline;
 mod error;
 mod got;
 pub mod laws;
+mod passed;
+mod places;
 mod plain_port;
 mod refused;
 mod search;
@@ -16,6 +18,7 @@ mod selection;
 mod taken;
 mod timer;
 mod timers;
+mod wanted;
 
 pub use error::PortError;
 pub use got::Got;

@@ -1,11 +1,11 @@
 //! The input port of one thread.
-ghost use Rattle.std.specs.Prelude.{◌≡◌, ◌↔◌, ◌⊎◌, ◌+◌, ◌<◌, [], true, length, All, IsTrue, IfOk, IfErr, IsErrOf, OnOk, OnErr, MatchOption, MatchResult};
+ghost use Rattle.std.specs.Prelude.{◌≡◌, ◌↔◌, ◌⊎◌, ◌+◌, ◌<◌, ◌≤◌, [], true, filter, length, All, IsTrue, IfOk, IfErr, IfSome, IsErrOf, OnOk, OnErr, MatchOption, MatchResult};
 ghost use Rattle.port_model.specs.Backlog.{waiting_in};
 ghost use Rattle.port_model.specs.Coherence.{IsCoherent};
 ghost use Rattle.port_model.specs.PlainPort.{armed_left};
 ghost use Rattle.port_model.specs.Port.{empty_port, expires, expire_in, put_into, remove_from, set_in, stopped};
 ghost use Rattle.port_model.specs.Take.{taken_as, HasClass, IsOrdinary, Takes, TakesFirst};
-ghost use Rattle.port_model.specs.Timers.{after_taking, armed_after, due_times, is_active, with_armed, without_armed, without_signal, IsLeast};
+ghost use Rattle.port_model.specs.Timers.{after_taking, armed_after, due_times, is_active, is_signal_of, with_armed, without_armed, without_signal, IsLeast};
 ghost use Rattle.port_model.specs.declared.selection.Class.TheVariants as class;
 
 use crate::backlog::{Backlog, Unsaved};
@@ -331,6 +331,7 @@ fn taken_as(class: Class, got: Got) -> Taken
 
 /// Takes the signal of this timer out, if there is one.
 fn forget_signal(waiting: &mut Backlog, waited: Option<TimerKey>)
+    requires { IfSome waited (λ key. length (filter (is_signal_of key) (waiting_in waiting.old)) ≤ 1) }
     ensures { MatchOption waited (waiting_in waiting.new ≡ waiting_in waiting.old)
         (λ key. waiting_in waiting.new ≡ without_signal key (waiting_in waiting.old)) }
 {

@@ -1,6 +1,6 @@
 use Rattle.std.proofs.Common.{sym}
 use Rattle.port_model.proofs.Coherence.{coherent_is, coherent_removed}
-use Rattle.port_model.proofs.Ports.{fewer_sets, no_signal, state_without}
+use Rattle.port_model.proofs.Ports.{waits_once, fewer_sets, no_signal, state_without}
 use Rattle.port_model.proofs.plain_port.PlainPort.reset.Goals as goal
 
 pub invariant_of-self : goal.invariant_of-self
@@ -21,3 +21,6 @@ invariant_of-self-else-remove c = (
 pub returns-else-remove-clause-state : goal.returns-else-remove-clause-state
 returns-else-remove-clause-state c =
     state_without c.args.key.now c.self.view_is (sym (no_signal c.args.key.now _ _ c.self.invariant.1 (sym c.if-remove.ensures.reply))) c.remove.ensures.timers
+
+pub forget-requires : goal.forget-requires
+forget-requires c = waits_once c.self.invariant.1 c.args.key.now
