@@ -184,7 +184,7 @@ impl Backlog {
         self.rest.clear();
     }
 
-    /// What waits, in order. Takes no memory.
+    /// Gives all that waits, in order. Takes no memory.
     pub fn into_deque(mut self) -> VecDeque<Got>
         ensures { result.items ≡ waiting_in self }
     {

@@ -6,7 +6,7 @@ ghost use Rattle.port_model.specs.Timers.{is_signal_of};
 
 use port_values::{Item, SignalId, TimerKey};
 
-/// What waits in a port: a signal, or the signal of a timer that has expired.
+/// An entry that waits in a port: a signal, or the signal of a timer that has expired.
 #[derive(Debug, PartialEq, Eq, Drop)]
 pub enum Got {
     Signal(Item),

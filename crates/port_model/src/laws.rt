@@ -13,7 +13,7 @@ pub fn keeps_saved()
     ensures { KeepsSaved }
 {}
 
-/// What was reset is never consumed, unless it is set again.
+/// A timer that was reset is never consumed, unless it is set again.
 pub fn resets_for_good()
     ensures { ResetsForGood }
 {}

@@ -27,7 +27,7 @@ pub struct PlainPort {
     alive: bool,
 }
 
-/// What is left of a port that is given up: what waits, in order, and the table of the active timers.
+/// The rest of a port that is given up: all that waits, in order, and the table of the active timers.
 #[derive(Debug, Drop)]
 pub struct PortParts {
     pub waiting: VecDeque<Got>,
@@ -124,6 +124,8 @@ impl PlainPort {
     /// Expires a timer (Z.102, timer): where it is Running by the set `arm` for the time `due`, and `at` is
     /// `due` or later, its signal goes behind all that waits. The reply is whether that was so. In every other case
     /// nothing changes. The key comes back for want of memory, and nothing changes.
+    ///
+    /// The key is taken by value, as `put` takes a signal: it goes into the port, and nothing is copied.
     pub fn expire(
         &mut self,
         key: TimerKey,
@@ -300,7 +302,7 @@ impl PlainPort {
         self.waiting.len()
     }
 
-    /// What waits, in order, and the table of the active timers. Each timer's signal among it is that of the one
+    /// Gives all that waits, in order, and the table of the active timers. Each timer's signal among it is that of the one
     /// active timer of its key, and stands there once. Takes no memory.
     pub fn into_parts(self) -> PortParts
         ensures waiting { result.waiting.items ≡ self.state.waiting }
@@ -319,7 +321,7 @@ impl PlainPort {
     }
 }
 
-/// What a take gives of an entry that was taken out, by its class.
+/// The answer of a take for an entry that was taken out, by its class.
 fn taken_as(class: Class, got: Got) -> Taken
     ensures { result ≡ taken_as class got }
 {

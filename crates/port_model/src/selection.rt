@@ -5,7 +5,7 @@ ghost use Rattle.port_model.specs.Selection.{class_of};
 use port_values::SignalId;
 use std::marker::Model;
 
-/// What a state does with a signal or a timer of one name.
+/// The way in which a state treats a signal or a timer of one name.
 #[derive(Clone, Copy, Debug, PartialEq, Eq)]
 pub enum Class {
     /// Named by a priority input.
@@ -38,7 +38,8 @@ impl Model for Selection {
 }
 
 impl Selection {
-    /// The selection with these classes. Takes no memory.
+    /// The selection with these classes. Takes no memory. It takes the list, so that nobody changes it later: it keeps with
+    /// it whether one of its classes is `Priority`.
     pub fn new(classes: Vec<Class>) -> Self
         ensures { result ≡ classes.items }
     {

@@ -2,7 +2,7 @@
 
 use crate::Got;
 
-/// What a take gave.
+/// The answer of a take.
 #[derive(Debug, PartialEq, Eq, Drop)]
 pub enum Taken {
     /// Taken by an input or a priority input.

@@ -11,7 +11,7 @@ use std::alloc::{AllocError, Global};
 use std::collections::{BTreeMap, BTreeSet};
 use std::marker::Model;
 
-/// What a table keeps of an active timer: its set, its due time, and whether it has expired, so that its signal waits.
+/// The entry of a table for an active timer: its set, its due time, and whether it has expired, so that its signal waits.
 #[derive(Clone, Copy, Debug)]
 pub struct Timer {
     pub arm: Arm,
@@ -27,7 +27,8 @@ impl Timer {
     }
 }
 
-/// The active timers by their keys, and the due times of those that run.
+/// The active timers by their keys, and the due times of those that run. The end of a port gives the signal of a timer
+/// back with its fuse, so the number of the set and the due time stay while the signal waits.
 #[derive(Debug, Drop)]
 pub struct Timers {
     table: BTreeMap<TimerKey, Timer>,
@@ -77,7 +78,7 @@ impl Timers {
         }
     }
 
-    /// What the table keeps of the timer of this key, if it is active.
+    /// The entry of the timer of this key, if it is active.
     pub fn get(&self, key: &TimerKey) -> Option<Timer>
         ensures active { MatchOption result (is_active key.now self.now.timers ≡ false)
             (λ _. is_active key.now self.now.timers ≡ true) }
