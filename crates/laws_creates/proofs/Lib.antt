@@ -1,7 +1,7 @@
-mod LivingLemmas
-mod Creates
-mod Ends
-mod Numbers
-mod Sending
-mod Steps
-mod Within
+pub mod LivingLemmas
+pub mod Creates
+pub mod Ends
+pub mod Numbers
+pub mod Sending
+pub mod Steps
+pub mod Within

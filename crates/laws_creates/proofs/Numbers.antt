@@ -74,7 +74,7 @@ module _ (system : SystemValue) where
       (subst (λ k. Numbered k (flat_map whom done)) on (whom_numbered (length g.instances) done make)))
 
 module _ (ps : List Behaviour) (system : SystemValue) (time : ℕ) where
-  created_numbered : (g : RunState) (next : Happening) (h : RunState) → Follows ps time g next h → g.system ≡ system
+  pub created_numbered : (g : RunState) (next : Happening) (h : RunState) → Follows ps time g next h → g.system ≡ system
       → Numbered (length g.instances + 1) (created_in_one next)
   created_numbered g (Moved who deeds) h step same =
       subst (λ (whos : List Identity). Numbered (length g.instances + 1) whos)

@@ -37,7 +37,7 @@ after_effects-append : (g : RunState) (first later : List Effect)
 after_effects-append g [] later = refl
 after_effects-append g (effect ∷ rest) later = after_effects-append (after_effect g effect) rest later
 
-MakeNext-split : (system : SystemValue) (given : ℕ) (first later : List Effect) → MakeNext system given (first ++ later)
+pub MakeNext-split : (system : SystemValue) (given : ℕ) (first later : List Effect) → MakeNext system given (first ++ later)
     → MakeNext system given first × MakeNext system (given_after given first) later
 MakeNext-split system given [] later make = (tt, make)
 MakeNext-split system given (effect ∷ rest) later make =
