@@ -81,13 +81,24 @@ module _ {X : Type 0} (f : X → List ℕ) (head : List ℕ) (xs : List X) (i : 
       ∙ ap (λ l. flat_map f (take i xs) ++ flat_map f l) (drop-cons xs i x here)
       ∙ ap (λ y. flat_map f (take i xs) ++ (f y ++ flat_map f (drop (suc i) xs))) (sym is)
 
+  one-more : (head ++ flat_map f (take i xs)) ++ f x ≡ head ++ flat_map f (take (i + 1) xs)
+  one-more =
+      flat_map_more f head (take i xs) x
+      ∙ ap (λ l. head ++ flat_map f l) (ap (λ y. take i xs ++ y ∷ []) is ∙ sym (take_at_read xs i x here).1)
+
   -- one more element of a list, behind a first part
   pub Grows-more : (a b c : Option (List ℕ)) (g h j : List ℕ) → Grows a g b h (head ++ flat_map f (take i xs)) → Grows b h c j (f x)
       → Grows a g c j (head ++ flat_map f (take (i + 1) xs))
   Grows-more a b c g h j before more =
-      subst (Grows a g c j)
-      (flat_map_more f head (take i xs) x ∙ ap (λ l. head ++ flat_map f l) (ap (λ y. take i xs ++ y ∷ []) is ∙ sym (take_at_read xs i x here).1))
+      subst (Grows a g c j) one-more
       (Grows-trans a b c g h j (head ++ flat_map f (take i xs)) (f x) before more)
+
+  -- the same where nothing goes out
+  pub text-more : (start text text' : List ℕ) → text ≡ start ++ (head ++ flat_map f (take i xs)) → text' ≡ text ++ f x
+      → text' ≡ start ++ (head ++ flat_map f (take (i + 1) xs))
+  text-more start text text' before more =
+      more ∙ ap (λ l. l ++ f x) before ∙ append_assoc start (head ++ flat_map f (take i xs)) (f x)
+      ∙ ap (λ l. start ++ l) one-more
 
   -- a break inside a list, behind a first part
   pub Breaks-inside : (a b c : Option (List ℕ)) (g h : List ℕ) → Grows a g b h (head ++ flat_map f (take i xs)) → Breaks b h c (f x)

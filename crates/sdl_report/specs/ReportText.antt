@@ -1,5 +1,5 @@
 -- The text of a report, line by line.
-use Rattle.std.specs.Prelude.{ℕ, List, [], ◌∷◌, ◌++◌, Option, Some, None, codes, if◌then◌else◌}
+use Rattle.std.specs.Prelude.{ℕ, List, [], ◌∷◌, ◌++◌, Option, Some, None, codes, drop, if◌then◌else◌}
 use Rattle.std.specs.List.{flat_map}
 use Rattle.std.specs.Fmt.{decimal}
 use Rattle.port_model.specs.Take.{name_of}
@@ -84,3 +84,8 @@ end_text report = codes "end " ++ decimal report.end ++ (if report.whole then co
 -- the lines of the records, then the end
 abbrev pub report_text : SystemValue → Report → List ℕ
 report_text system report = flat_map (record_text system) report.records.items ++ line (end_text report)
+
+-- the same of the records behind so many
+abbrev pub rest_text : SystemValue → Report → ℕ → List ℕ
+rest_text system report written =
+    flat_map (record_text system) (drop written report.records.items) ++ line (end_text report)

@@ -153,7 +153,7 @@ fn push_reset(
 }
 
 /// Appends `S from X` and ends the line.
-fn push_stimulus(
+pub fn push_stimulus(
     text: &mut String,
     got: Stimulus,
     values: &[Value],
@@ -206,7 +206,7 @@ fn push_create(
 }
 
 /// Appends a signal or a timer with its values.
-fn push_signal(
+pub fn push_signal(
     text: &mut String,
     signal: SignalId,
     values: &[Value],
@@ -220,7 +220,7 @@ fn push_signal(
 }
 
 /// Appends values in parentheses, or nothing where there are none.
-fn push_values(text: &mut String, values: &[Value]) -> Result<(), AllocError>
+pub fn push_values(text: &mut String, values: &[Value]) -> Result<(), AllocError>
     ensures { OnOk result (string_bytes text.new ≡ string_bytes text.old ++ values_text values.now) }
 {
     let Some((first, more)) = values.split_first() else {

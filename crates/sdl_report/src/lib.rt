@@ -1,14 +1,20 @@
 //! What comes out of a run, as text.
 //!
 //! `write_report` writes a report, which is the records of the instances, as lines of text, through any writer. After a
-//! fault of the writer a prefix of the text may have gone out, and nothing else.
+//! fault of the writer a prefix of the text may have gone out, and nothing else. What a report is made of, from a record
+//! down to a name, is there for other texts of a run, too.
 #![tactic(auto)]
 
 mod event_line;
 mod names;
 mod pieces;
+mod record_text;
 mod report_text;
 mod write_whole;
 
-pub use report_text::write_report;
+pub use event_line::{push_event, push_signal, push_stimulus, push_values};
+pub use names::{process_name, signal_name, state_name, variable_name};
+pub use pieces::{push_number, push_pid, push_signed, push_target, push_value};
+pub use record_text::push_record;
+pub use report_text::{PIECE, push_end, send, write_report, write_rest};
 pub use write_whole::{WriteFault, write_text};

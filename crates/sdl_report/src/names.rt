@@ -7,6 +7,7 @@ ghost use Rattle.sdl_report.specs.Name.{process_name, signal_name, state_name, v
 use port_values::SignalId;
 use sdl_system::{Process, ProcessId, StateId, System, VariableId};
 
+/// The name of a signal or a timer, empty where the system doesn't have its number.
 pub fn signal_name(system: &System, signal: SignalId) -> &str
     ensures { result.now ≡ signal_name system.now signal }
 {
@@ -16,6 +17,7 @@ pub fn signal_name(system: &System, signal: SignalId) -> &str
     }
 }
 
+/// The name of a process, empty where the system doesn't have its number.
 pub fn process_name(system: &System, process: ProcessId) -> &str
     ensures { result.now ≡ process_name system.now process }
 {
@@ -25,6 +27,7 @@ pub fn process_name(system: &System, process: ProcessId) -> &str
     }
 }
 
+/// The name of a state of a process, empty where the system doesn't have its number.
 pub fn state_name(system: &System, process: ProcessId, state: StateId) -> &str
     ensures { result.now ≡ state_name system.now process state }
 {
@@ -34,6 +37,7 @@ pub fn state_name(system: &System, process: ProcessId, state: StateId) -> &str
     }
 }
 
+/// The name of a variable of a process, empty where the system doesn't have its number.
 pub fn variable_name(system: &System, process: ProcessId, variable: VariableId) -> &str
     ensures { result.now ≡ variable_name system.now process variable }
 {

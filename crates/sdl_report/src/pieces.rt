@@ -66,7 +66,7 @@ fn push_digit(text: &mut String, digit: u64) -> Result<(), AllocError>
 }
 
 /// Appends a number, with `-` before a negative one.
-fn push_signed(text: &mut String, number: i64) -> Result<(), AllocError>
+pub fn push_signed(text: &mut String, number: i64) -> Result<(), AllocError>
     ensures { OnOk result (string_bytes text.new ≡ string_bytes text.old ++ signed_decimal number) }
 {
     let mut buffer = Buffer::new();

@@ -1,14 +1,14 @@
 //! The text of a report.
 
-ghost use Rattle.std.specs.Prelude.{◌≡◌, [], ◌++◌, OnErr, OnOk};
+ghost use Rattle.std.specs.Prelude.{◌≡◌, ◌≤◌, [], ◌++◌, length, OnErr, OnOk};
 ghost use Rattle.std.specs.String.{string_bytes};
 ghost use Rattle.std.specs.Io.KnownBytes.{Appends};
 ghost use Rattle.run_record.specs.Entry.{event_of};
 ghost use Rattle.sdl_report.specs.Gathered.{Breaks, BreaksOff, Grows};
-ghost use Rattle.sdl_report.specs.ReportText.{end_text, event_line, heading_text, line, record_text, report_text};
+ghost use Rattle.sdl_report.specs.ReportText.{end_text, event_line, heading_text, line, record_text, report_text, rest_text};
 
 use crate::event_line::push_event;
-use crate::names::process_name;
+use crate::record_text::push_heading;
 use crate::write_whole::{WriteFault, write_text};
 use port_values::Value;
 use run_record::{Entry, Record, Report};
@@ -17,7 +17,7 @@ use std::alloc::{AllocError, Global};
 use std::io::Write;
 
 /// So much text is gathered, in bytes, before it goes out.
-const PIECE: usize = 8192;
+pub const PIECE: usize = 8192;
 
 /// Writes a report: for each record, in the order of the list, the line `instance #7 P parent null` and a line for each
 /// event, then `end 12 whole` or `end 12 cut`. Each line ends with LF. A number that the system doesn't have has the
@@ -33,8 +33,26 @@ pub fn write_report<W: Write>(
     ensures err { OnErr result (BreaksOff (W.contents writer.old) (W.contents writer.new)
         (report_text system.now report.now)) }
 {
+    write_rest(alloc, report, 0, system, writer)
+}
+
+/// Writes the rest of a report, of which so many records are written, as `write_report` does.
+pub fn write_rest<W: Write>(
+    alloc: Global,
+    report: &Report,
+    written: usize,
+    system: &System,
+    writer: &mut W,
+) -> Result<(), WriteFault>
+    requires { written ≤ length report.now.records.items }
+    ensures ok { OnOk result (Appends (W.contents writer.old) (W.contents writer.new)
+        (rest_text system.now report.now written)) }
+    ensures err { OnErr result (BreaksOff (W.contents writer.old) (W.contents writer.new)
+        (rest_text system.now report.now written)) }
+{
     let mut text = String::new(alloc);
-    for record in &report.records {
+    let (_, rest) = report.records.split_at(written);
+    for record in rest {
         write_record(&mut text, record, system, writer)?;
     }
     push_end(&mut text, report)?;
@@ -86,19 +104,8 @@ fn write_event<W: Write>(
     Ok(())
 }
 
-/// `instance #7 P parent null`
-fn push_heading(text: &mut String, record: &Record, system: &System) -> Result<(), AllocError>
-    ensures { OnOk result (string_bytes text.new ≡ string_bytes text.old
-        ++ line (heading_text system.now «record».now)) }
-{
-    let number = record.pid();
-    let process = process_name(system, record.process());
-    let parent = record.parent();
-    writeln!(text, "instance #{number} {process} parent {parent}")
-}
-
-/// `end 12 whole`
-fn push_end(text: &mut String, report: &Report) -> Result<(), AllocError>
+/// Appends the line `end 12 whole` or `end 12 cut`.
+pub fn push_end(text: &mut String, report: &Report) -> Result<(), AllocError>
     ensures { OnOk result (string_bytes text.new ≡ string_bytes text.old
         ++ line (end_text report.now)) }
 {
@@ -110,8 +117,8 @@ fn push_end(text: &mut String, report: &Report) -> Result<(), AllocError>
     }
 }
 
-/// Hands the gathered text to the writer.
-fn send<W: Write>(text: &mut String, writer: &mut W) -> Result<(), WriteFault>
+/// Hands the gathered text to the writer, and has none then.
+pub fn send<W: Write>(text: &mut String, writer: &mut W) -> Result<(), WriteFault>
     ensures empty { OnOk result (string_bytes text.new ≡ []) }
     ensures sent { OnOk result (Appends (W.contents writer.old) (W.contents writer.new)
         (string_bytes text.old)) }

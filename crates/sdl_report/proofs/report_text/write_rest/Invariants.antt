@@ -3,9 +3,9 @@ use Rattle.std.specs.List.{flat_map}
 use Rattle.std.specs.String.{string_bytes}
 use Rattle.sdl_report.specs.Gathered.{Grows}
 use Rattle.sdl_report.specs.ReportText.{record_text}
-use Rattle.sdl_report.proofs.report_text.write_report.Given as goal
+use Rattle.sdl_report.proofs.report_text.write_rest.Given as goal
 
 abbrev pub invariant-loop-record : goal.invariant-loop-record
 invariant-loop-record g l =
     Grows (g.W.Write.contents l.fn.writer) [] (g.W.Write.contents l.writer) (string_bytes l.text)
-    (flat_map (record_text l.system) (take l.record-index l.record-items))
+    (flat_map (record_text l.system) (take l.record-index l.rest))
