@@ -57,7 +57,8 @@ module _ (d : Definition) (end : ℕ) (trace : RecordValue) (values : List Value
     pub more : List PortEvent
     pub place : ControlPoint
     pub recorded : trace.events ≡ events_of all
-    pub runs : Runs d (identity_of trace) AtStart (first_store d.behaviour values) empty_port all (history ++ more) place
+    pub runs : Runs d (identity_of trace) AtStart (first_store d.behaviour values) empty_port all (history ++ more)
+        place
         store port
     pub closes : ClosesAs whole end trace.events (history ++ more) port
     pub is_more : IsMore more

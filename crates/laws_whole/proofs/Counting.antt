@@ -32,7 +32,8 @@ use Rattle.settle_meaning.specs.Closed.{transitions, transitions_in}
 abbrev beginnings : List Event → ℕ
 beginnings events = count_by is_beginning events
 
-beginnings-cons : (e : Event) (events : List Event) → beginnings (e ∷ events) ≡ cond (is_beginning e) 1 0 + beginnings events
+beginnings-cons : (e : Event) (events : List Event)
+    → beginnings (e ∷ events) ≡ cond (is_beginning e) 1 0 + beginnings events
 beginnings-cons e events = sum_by-cons (λ (one : Event). cond (is_beginning one) 1 0) e events
 
 beginnings-append : (first later : List Event) → beginnings (first ++ later) ≡ beginnings first + beginnings later

@@ -32,7 +32,8 @@ NoStops [] = Unit {0}
 NoStops (Stop ∷ rest) = ⊥
 NoStops (call ∷ rest) = NoStops rest
 
--- What an event of a living instance does: it is a stop or a failure, which leads to the end, or the instance lives on and
+-- What an event of a living instance does: it is a stop or a failure, which leads to the end, or the instance lives on
+-- and
 -- its port isn't stopped.
 record GoesOn (calls : List PortEvent) (to : ControlPoint) : Type 0 where
   lives : is_over to ≡ false
@@ -67,7 +68,8 @@ module _ (d : Definition) (who : Identity) (q : PortState) where
       → Outcome place happened calls to
   outcome AtStart s (event.Start at) calls done to t h =
       on AtStart (event.Start at) calls [] to (Doing None h.4.0) refl h.0 tt h.4.2 refl
-  outcome AtStart s (event.Cut state) calls done to t h = on AtStart (event.Cut state) calls [] to Closed refl h.0 tt h.3 refl
+  outcome AtStart s (event.Cut state) calls done to t h = on AtStart (event.Cut state) calls [] to Closed refl h.0 tt
+      h.3 refl
   outcome AtStart s (event.Failed why) calls done to t h = fails AtStart (event.Failed why) calls to refl h.3 refl
   outcome AtStart s happened calls done to t h = absurd h
   outcome (In n) s (event.Consumed at got) calls done to t h =
@@ -84,8 +86,10 @@ module _ (d : Definition) (who : Identity) (q : PortState) where
       h.1.calls_are tt h.1.place refl
   outcome (In n) s (event.FailedAt at why) calls done to t h =
       fails (In n) (event.FailedAt at why) calls to refl h.1.place refl
-  outcome (In n) s (event.Rest state) calls done to t h = on (In n) (event.Rest state) calls [] to Closed refl h.0 tt h.3 refl
-  outcome (In n) s (event.Cut state) calls done to t h = on (In n) (event.Cut state) calls [] to Closed refl h.0 tt h.3 refl
+  outcome (In n) s (event.Rest state) calls done to t h = on (In n) (event.Rest state) calls [] to Closed refl h.0 tt
+      h.3 refl
+  outcome (In n) s (event.Cut state) calls done to t h = on (In n) (event.Cut state) calls [] to Closed refl h.0 tt h.3
+      refl
   outcome (In n) s (event.Failed why) calls done to t h = fails (In n) (event.Failed why) calls to refl h.3 refl
   outcome (In n) s happened calls done to t h = absurd h
   outcome (Receiving origin variables values next) s (event.Failed why) calls done to t h =

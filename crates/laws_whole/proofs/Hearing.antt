@@ -1,8 +1,8 @@
 -- The signals of the script that were sent, each with where it went.
 use Rattle.std.proofs.Common.{◌≡◌, ◌∙◌, ◌++◌, ap, refl, sym, ℕ, All, List, [], ◌∷◌, None, Option, Some, option_to_list}
-use Rattle.std.proofs.lemmas.List.{map-append}
 use Rattle.std.proofs.lemmas.List.Concat.{flat_map-append}
 use Rattle.std.proofs.lemmas.List.Elements.{All-head, All-tail, All-weaker}
+use Rattle.std.proofs.lemmas.List.{map-append}
 use Rattle.std.specs.List.{flat_map}
 use Rattle.laws_whole.proofs.Occurs.{Occurs, all_occur}
 use Rattle.run_semantics.specs.Effect.{Effect, Send}
@@ -42,7 +42,8 @@ abbrev pub SendsItsSignal : Happening → Type 0
 SendsItsSignal (Heard line effects) = (target : Target) × (effects ≡ line_effects line.signal target)
 SendsItsSignal happened = Unit {0}
 
-sent_by_line : (g : RunState) (o : Option ScriptSignal) → (target : Target) × (heard_effects g o ≡ line_effects o target)
+sent_by_line : (g : RunState) (o : Option ScriptSignal)
+    → (target : Target) × (heard_effects g o ≡ line_effects o target)
 sent_by_line g None = (Nobody, refl)
 sent_by_line g (Some signal) =
     (target_in g.system.routes signal.item.name source.Env signal.to (living_of g.system g.instances).least, refl)

@@ -10,6 +10,7 @@ mod Living
 mod Made
 mod Meant
 mod Moments
+mod Naming
 mod Nulls
 mod Occurs
 mod Puts

@@ -17,7 +17,7 @@ use Rattle.sdl_interp.specs.Instance.{InstanceValue}
 use Rattle.sdl_system.specs.Route.{living_in}
 use Rattle.sdl_system.specs.System.{SystemValue}
 use Rattle.sdl_system.specs.declared.id.ProcessId.{ProcessId}
-use Rattle.serial_order.specs.RunState.{count_living, is_ended, least_living, living_of, lives_of}
+use Rattle.serial_order.specs.RunState.{count_living, is_ended, least_living, lives_of, living_of}
 use Rattle.settle_meaning.specs.Identities.{count_of, identities_of, identity_of, is_of_process}
 use Rattle.settle_meaning.specs.Living.{AreLiving, is_instance_of, is_lasting, numbers_of}
 
@@ -33,7 +33,8 @@ living_ids [] = []
 living_ids (x ∷ xs) = live_of (is_ended x.position) x.who (living_ids xs)
 
 module _ (P : Identity → Type 0) where
-  one_live : (ended : Bool) (who : Identity) (rest : List Identity) → P who → All P rest → All P (live_of ended who rest)
+  one_live : (ended : Bool) (who : Identity) (rest : List Identity) → P who → All P rest
+      → All P (live_of ended who rest)
   one_live true who rest holds all = all
   one_live false who rest holds all = All-cons P who rest holds all
 
@@ -127,7 +128,8 @@ module _ (process : ProcessId) where
   none_living most (x ∷ xs) all past =
       let own : x.who.process.0 < most =
       All-head (λ (who : Identity). who.process.0 < most) x.who (identities xs) all in
-      let other : nat_eq x.who.process.0 process.0 ≡ false = differs x.who.process.0 process.0 (omega (arith, own, past)) in
+      let other : nat_eq x.who.process.0 process.0
+      ≡ false = differs x.who.process.0 process.0 (omega (arith, own, past)) in
       ap (λ (b : Bool). if (b && not (is_ended x.position)) then Some x.who.pid else least_living xs process.0) other
       ∙ none_living most xs (All-tail (λ (who : Identity). who.process.0 < most) x.who (identities xs) all) past where
         differs : (m n : ℕ) → m < n → nat_eq m n ≡ false
@@ -173,7 +175,8 @@ module _ (process : ProcessId) where
 
 -- ---- a moment
 
--- What is known of some instances, and of the records of a run: they have the numbers from 1 on and are among those that
+-- What is known of some instances, and of the records of a run: they have the numbers from 1 on and are among those
+-- that
 -- have records, and one with which the system begins and whose record has no end hasn't ended.
 pub record IsMoment (records : List RecordValue) (xs : List InstanceValue) : Type 0 where
   pub numbered : Numbered 1 (identities xs)
@@ -212,7 +215,8 @@ module _ (system : SystemValue) (records : List RecordValue) (xs : List Instance
   least_past : (process : ProcessId) → length system.processes ≤ process.0
       → IsLeast (numbers_of process (living_ids xs)) (living_in least process)
   least_past process past =
-      let none : slice_get least process.0 ≡ None = slice_get_past least process.0 (omega (arith, length_least, past)) in
+      let none : slice_get least process.0
+      ≡ None = slice_get_past least process.0 (omega (arith, length_least, past)) in
       subst (λ (o : Option (Option ℕ)). IsLeast (numbers_of process (living_ids xs)) (unwrap_or o None)) (sym none)
       (subst (λ (o : Option ℕ). IsLeast (numbers_of process (living_ids xs)) o)
       (none_living process (length system.processes) xs own_processes past)

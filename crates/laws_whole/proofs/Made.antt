@@ -78,7 +78,8 @@ module _ {X : Type 0} (f : ℕ → List Deed → List X) (none : (n : ℕ) → f
     pick_none : (base count : ℕ) → p < base → flat_map part (range_with_len base count) ≡ []
     pick_none base zero less = refl
     pick_none base (suc count) less =
-        ap (λ (l : List X). l ++ flat_map part (range_with_len (base + 1) count)) (part_other base (differs p base less))
+        ap (λ (l : List X). l ++ flat_map part (range_with_len (base + 1) count))
+        (part_other base (differs p base less))
         ∙ pick_none (base + 1) count (omega (arith, less))
 
     pick_one : (base count : ℕ) → base ≤ p → p < base + count → flat_map part (range_with_len base count) ≡ f p deeds
@@ -104,14 +105,16 @@ module _ {X : Type 0} (f : ℕ → List Deed → List X) (none : (n : ℕ) → f
 
   pick : (count : ℕ) (happened : Happening) → IsBelow count happened
       → flat_map (λ n. f n (deeds_of_one n happened)) (range_with_len 1 count) ≡ of_one f happened
-  pick count (Moved who deeds) within = pick_one who.pid deeds 1 count (omega (arith, within.0)) (omega (arith, within.1))
+  pick count (Moved who deeds) within = pick_one who.pid deeds 1 count (omega (arith, within.0))
+      (omega (arith, within.1))
   pick count (Expired fuse) within = nothing (range_with_len 1 count)
   pick count (Heard line effects) within = nothing (range_with_len 1 count)
   pick count (Ticked time) within = nothing (range_with_len 1 count)
 
   -- by instances it is the same as in the order in which it happened
   pub regrouped : (count : ℕ) (happenings : List Happening) → All (IsBelow count) happenings
-      → IsPermutation (flat_map (λ n. f n (deeds_of n happenings)) (range_with_len 1 count)) (flat_map (of_one f) happenings)
+      → IsPermutation (flat_map (λ n. f n (deeds_of n happenings)) (range_with_len 1 count))
+      (flat_map (of_one f) happenings)
   regrouped count [] all =
       subst (λ (l : List X). IsPermutation l []) (sym (nothing (range_with_len 1 count))) (IsPermutation-refl [])
   regrouped count (first ∷ rest) all =

@@ -117,7 +117,8 @@ module _ (ps : List Behaviour) (system : SystemValue) (lines : List ScriptLine) 
 
   module _ (line : ScriptLine) (effects : List Effect)
       (occurs : Occurs ps system lines (end_of lines) run.happenings (Heard line effects)) where
-    signal_right : (o : Option ScriptSignal) → line.signal ≡ o → All (IsHeardRight system records) (heard_from o effects)
+    signal_right : (o : Option ScriptSignal) → line.signal ≡ o
+        → All (IsHeardRight system records) (heard_from o effects)
     signal_right None is = All-nil (IsHeardRight system records)
     signal_right (Some signal) is =
         let target : Target =

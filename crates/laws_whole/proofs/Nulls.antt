@@ -1,7 +1,7 @@
 -- A create that gives null has a cause that the records tell.
 use Rattle.std.proofs.Common.{◌≡◌, ◌∙◌, ◌++◌, ap, arith, length-append, refl, subst, sym, ℕ, suc, Bool, true, false, All, List, [], ◌∷◌, None, Option, Some, length}
-use Rattle.std.proofs.lemmas.List.{length-map}
 use Rattle.std.proofs.lemmas.List.Elements.{All-append, All-cons, All-map, All-nil, All-weaker}
+use Rattle.std.proofs.lemmas.List.{length-map}
 use Rattle.std.specs.Option.{option_map_or}
 use Rattle.laws_creates.proofs.Creates.{who_count}
 use Rattle.laws_creates.proofs.Steps.{nulls_have_cause}

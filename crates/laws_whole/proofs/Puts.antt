@@ -1,17 +1,17 @@
 -- What is put into the port of an instance is what was sent to it, but for what was sent before it was there.
 use Rattle.std.proofs.Common.{◌≡◌, ◌∙◌, ◌⊎◌, ◌++◌, ◌+◌, ◌<◌, ◌≤◌, ap, append-nil, arith, cond, if◌then◌else◌, inl, inr, refl, subst, sym, ℕ, zero, suc, Bool, true, false, All, Contains, IfSome, List, [], ◌∷◌, None, Option, Some, map, slice_get}
 use Rattle.std.proofs.lemmas.Bool.{cases_lt}
-use Rattle.std.proofs.lemmas.List.Elements.{All-head, All-tail, All-weaker}
+use Rattle.std.proofs.lemmas.List.Elements.{All-head, All-tail, All-weaker, Contains-append_left}
 use Rattle.std.proofs.lemmas.Option.{none-some, slice_get-map}
 use Rattle.std.specs.Option.{option_map}
 use Rattle.laws_creates.proofs.Creates.{step_effects}
 use Rattle.laws_creates.specs.Creates.{created_in, created_in_one, identities}
 use Rattle.laws_whole.proofs.Course.{IsOf, record_of, whos_are}
-use Rattle.laws_whole.proofs.Cuts.{AreOrderly, Cut, all_behind, all_cut, all_there, cut_more, since_create}
+use Rattle.laws_whole.proofs.Cuts.{AreOrderly, Cut, IsSentTo, all_behind, all_cut, all_there, cut_more, sent_before, since_create}
 use Rattle.laws_whole.proofs.Hearing.{SendsItsSignal, all_send, heard_of, line_effects, one_sends}
 use Rattle.laws_whole.proofs.Lists.{all_numbered, at_front}
 use Rattle.laws_whole.proofs.Occurs.{Occurs, all_occur}
-use Rattle.laws_whole.proofs.ScriptPuts.{env_end, env_there}
+use Rattle.laws_whole.proofs.ScriptPuts.{EnvEnd, env_end, env_there}
 use Rattle.laws_whole.proofs.Senders.{PutsSo, all_so, contains_pid, deeds_so, own_puts}
 use Rattle.laws_whole.proofs.Sending.{AreSent, sent_to-append}
 use Rattle.laws_whole.proofs.Steps.{all_orderly}
@@ -19,9 +19,9 @@ use Rattle.laws_whole.proofs.Whos.{born, front_before}
 use Rattle.port_model.specs.History.{Expire, PortEvent, Put, Reset, Set, Stop, Take}
 use Rattle.port_values.specs.Same.{same_pid}
 use Rattle.port_values.specs.declared.item.Item.{Item}
+use Rattle.port_values.specs.declared.pid.Pid.{Pid}
 use Rattle.port_values.specs.declared.pid.Pid.TheVariants as pid
 use Rattle.port_values.specs.declared.pid.Pid.TheVariants.{Of}
-use Rattle.port_values.specs.declared.pid.Pid.{Pid}
 use Rattle.run_evaluation.specs.declared.identity.Identity.{Identity}
 use Rattle.run_record.specs.Event as event
 use Rattle.run_record.specs.Event.{Event}
@@ -30,15 +30,17 @@ use Rattle.run_record.specs.declared.record.Report.{Report}
 use Rattle.run_semantics.specs.Behaves.{AreBehaviours}
 use Rattle.run_semantics.specs.Effect.{Deed, Effect, calls_of, events_of}
 use Rattle.run_semantics.specs.Sent.{sent_to}
-use Rattle.run_transitions.specs.declared.machine.Position.TheVariants as position
 use Rattle.run_transitions.specs.declared.machine.Position.{Position}
+use Rattle.run_transitions.specs.declared.machine.Position.TheVariants as position
 use Rattle.sdl_interp.specs.Instance.{InstanceValue, closing}
 use Rattle.sdl_script.specs.Script.{end_of}
 use Rattle.sdl_script.specs.declared.script.ScriptLine.{ScriptLine}
 use Rattle.sdl_script.specs.declared.script.ScriptSignal.{ScriptSignal}
 use Rattle.sdl_system.specs.Behaviour.{Behaviour}
 use Rattle.sdl_system.specs.System.{SystemValue}
+use Rattle.sdl_system.specs.declared.route.Dest.TheVariants as dest
 use Rattle.sdl_system.specs.declared.route.Target.{Target}
+use Rattle.sdl_system.specs.declared.route.Target.TheVariants as target
 use Rattle.serial_order.specs.Execution.{Expired, Happening, Heard, Hears, Moved, Steps, Ticked}
 use Rattle.serial_order.specs.Laws.{AreFromEnv, EachIsMatched, EachIsTold, LinesAreHeard}
 use Rattle.serial_order.specs.Report.{IsSerialReport}
@@ -48,7 +50,7 @@ use Rattle.serial_order.specs.Told.{Moment, deeds_of, first_moment, from, histor
 use Rattle.settle_meaning.specs.Histories.{puts_of}
 use Rattle.settle_meaning.specs.Identities.{identities_of, identity_of}
 use Rattle.settle_meaning.specs.Puts as puts
-use Rattle.settle_meaning.specs.Puts.{ArePut, EndsWith, IsOfOne, IsPutBy, IsPutByEnv, MayMiss, heard_by, sent_by}
+use Rattle.settle_meaning.specs.Puts.{ArePut, EndsWith, IsNamed, IsOfOne, IsPutBy, IsPutByEnv, MayMiss, MayMissHeard, heard_by, sent_by}
 
 -- ---- two tables say it in the same words
 
@@ -117,7 +119,8 @@ module _ (ps : List Behaviour) (system : SystemValue) (lines : List ScriptLine) 
   place_of_number xs zero i there = absurd (none-some i there)
   place_of_number xs (suc k) i there = (k, there)
 
-  is_of_record : (who : Identity) (deeds : List Deed) (occurs : Occurs ps system lines time run.happenings (Moved who deeds))
+  is_of_record : (who : Identity) (deeds : List Deed)
+      (occurs : Occurs ps system lines time run.happenings (Moved who deeds))
       → Contains (map (λ (trace : RecordValue). Of trace.pid) records) (Of who.pid)
   is_of_record who deeds occurs =
       let step : Steps ps occurs.at who deeds occurs.to = occurs.follows in
@@ -141,7 +144,8 @@ module _ (ps : List Behaviour) (system : SystemValue) (lines : List ScriptLine) 
   all_middle : (before : List ScriptLine) (line : ScriptLine) (after : List ScriptLine)
       → AreFromEnv (before ++ line ∷ after) → IfSome line.signal (λ (s : ScriptSignal). s.item.sender ≡ pid.Env)
   all_middle [] line after all =
-      All-head (λ (line : ScriptLine). IfSome line.signal (λ (s : ScriptSignal). s.item.sender ≡ pid.Env)) line after all
+      All-head (λ (line : ScriptLine). IfSome line.signal (λ (s : ScriptSignal). s.item.sender ≡ pid.Env)) line after
+      all
   all_middle (other ∷ before) line after all =
       all_middle before line after
       (All-tail (λ (line : ScriptLine). IfSome line.signal (λ (s : ScriptSignal). s.item.sender ≡ pid.Env)) other
@@ -154,14 +158,16 @@ module _ (ps : List Behaviour) (system : SystemValue) (lines : List ScriptLine) 
         ap (λ (list : List Deed). told.puts_of (calls_of list)) (sym step.deeds_are)
             ∙ ap told.puts_of (sym step.goes.own) ∙ own_puts step.goes.history,
         deeds_so (λ (item : Item). IsOfOne records item) who.pid
-            (λ item is. inr (subst (λ (p : Pid). Contains (map (λ (trace : RecordValue). Of trace.pid) records) p) (sym is)
+            (λ item is. inr (subst (λ (p : Pid). Contains (map (λ (trace : RecordValue). Of trace.pid) records) p)
+            (sym is)
             (is_of_record who deeds occurs))) deeds
             (step_effects ps occurs.at who deeds occurs.to occurs.follows),
       )
   happening_so (Expired fuse) occurs = tt
   happening_so (Heard line effects) occurs =
       let hears : Hears occurs.at line effects occurs.to = occurs.follows in
-      let one : SendsItsSignal (Heard line effects) = one_sends ps system lines time run.happenings (Heard line effects) occurs in
+      let one : SendsItsSignal (Heard line effects) = one_sends ps system lines time run.happenings (Heard line effects)
+      occurs in
       let parts : lines_of occurs.before ++ line ∷ hears.later ≡ lines =
       ap (λ (l : List ScriptLine). lines_of occurs.before ++ l) (sym hears.next)
       ∙ lines_heard ps system lines time occurs.before occurs.at behaviours occurs.execution in
@@ -221,8 +227,9 @@ module _ (ps : List Behaviour) (system : SystemValue) (lines : List ScriptLine) 
             wrong
       ]
 
-  module _ (Known : ℕ → Type 0) (known : (n : ℕ) → Known n) (k : ℕ) (to : RecordValue)
-      (to_there : slice_get records k ≡ Some to) where
+  module _ (Known : ℕ → Type 0) (by_script : (n : ℕ) → IsNamed heard n → Known n)
+      (by_output : (n j : ℕ) (one : RecordValue) → slice_get records j ≡ Some one → IsSentTo n one.events → Known n)
+      (k : ℕ) (to : RecordValue) (to_there : slice_get records k ≡ Some to) where
     to_of : IsOf ps system lines limit report behaviours run each_told (suc k) to
     to_of = record_of ps system lines limit report behaviours run each_told k to to_there
 
@@ -268,24 +275,43 @@ module _ (ps : List Behaviour) (system : SystemValue) (lines : List ScriptLine) 
       none_missing : sent ≡ sent_to m (events_of (deeds_of m run.happenings)) n → Missing
       none_missing full = record { missing = []; all = all_sent ∙ sym full; allowed = inl refl }
 
-      some_missing : m < n → now.given < n → Missing
-      some_missing less beyond = record {
+      some_missing : m < n → now.given < n → (sent_to m cut.early n ≡ []) ⊎ IsSentTo n cut.early → Missing
+      some_missing less beyond before = record {
         missing = sent_to m cut.early n;
         all = ap (λ (l : List Event). sent_to m l n) cut.events_are
             ∙ sent_to-append m n cut.early cut.late
             ∙ ap (λ (l : List Item). sent_to m cut.early n ++ l) (sym cut.put_is);
-        allowed = inr (record {
-          created = is_made k to to_there beyond;
-          other = λ same. let wrong : ⊥ = omega (arith, less, same, from_of.number, to_of.number) in wrong;
-          no_parent = λ is.
-              no_child j to.pid from_one from_there (omega (arith, less, from_of.number, to_of.number)) is;
-          known = known to.pid;
-        });
-      }
+        allowed = by_sent before;
+      } where
+        -- an output of its record names the number
+        in_record : IsSentTo n cut.early → IsSentTo n from_one.events
+        in_record one = record {
+          signal = one.signal;
+          values = one.values;
+          among = subst
+              (λ (l : List Event). Contains l
+              (event.Output one.signal (dest.Pid (Of n)) one.values (target.Instance n)))
+              (sym cut.events_are)
+              (Contains-append_left cut.early cut.late
+              (event.Output one.signal (dest.Pid (Of n)) one.values (target.Instance n)) one.among);
+        }
+
+        by_sent : (sent_to m cut.early n ≡ []) ⊎ IsSentTo n cut.early
+            → (sent_to m cut.early n ≡ []) ⊎ MayMiss Known from_one to
+        by_sent (inl nothing) = inl nothing
+        by_sent (inr one) =
+            inr (record {
+              created = is_made k to to_there beyond;
+              other = λ same. let wrong : ⊥ = omega (arith, less, same, from_of.number, to_of.number) in wrong;
+              no_parent = λ is.
+                  no_child j to.pid from_one from_there (omega (arith, less, from_of.number, to_of.number)) is;
+              known = subst (λ a. Known a) (sym to_of.number) (by_output n j from_one from_there (in_record one));
+            })
 
       by_cases : (n < m + 1) ⊎ (m + 1 ≤ n) → (now.given < n) ⊎ (n ≤ now.given) → Missing
       by_cases (inl behind) other = none_missing (all_behind system m n first behind now run.happenings orderly)
       by_cases (inr before) (inl beyond) = some_missing (omega (arith, before)) beyond
+          (sent_before m n cut.early cut.is_before)
       by_cases (inr before) (inr within) =
           none_missing (all_there system m n first now run.happenings orderly (omega (arith, within)))
 
@@ -320,12 +346,18 @@ module _ (ps : List Behaviour) (system : SystemValue) (lines : List ScriptLine) 
 
     env_put : (now.given < n) ⊎ (n ≤ now.given) → IsPutByEnv Known heard to (sends_from pid.Env n now run.happenings)
     env_put (inl beyond) =
-        let end : EndsWith (heard_by heard n) (sends_from pid.Env n now run.happenings) =
-        env_end n first now run.happenings sends in
+        let end : EnvEnd n first now run.happenings = env_end n first system now run.happenings orderly sends in
         record {
-          missing = end.0;
-          all = ap (λ a. heard_by heard a) to_of.number ∙ end.1;
-          allowed = inr (record { created = is_made k to to_there beyond; known = known to.pid });
+          missing = end.missing;
+          all = ap (λ a. heard_by heard a) to_of.number ∙ end.all;
+          allowed = elim end.named [
+            | inl nothing ↦ inl nothing
+            | inr named ↦
+                inr (record {
+                  created = is_made k to to_there beyond;
+                  known = subst (λ a. Known a) (sym to_of.number) (by_script n named);
+                })
+          ];
         }
     env_put (inr within) = record {
       missing = [];
@@ -336,7 +368,8 @@ module _ (ps : List Behaviour) (system : SystemValue) (lines : List ScriptLine) 
 
     are_put_told : ArePut Known heard records to put
     are_put_told = record {
-      instances = all_numbered (λ (from_one : RecordValue). IsPutBy Known from_one to (sent_by (Of from_one.pid) put)) records
+      instances = all_numbered (λ (from_one : RecordValue). IsPutBy Known from_one to (sent_by (Of from_one.pid) put))
+          records
           (λ j from_one from_there. is_put_by j from_one from_there);
       environment = subst (λ (l : List Item). IsPutByEnv Known heard to l) (sym env_sent)
           (env_put (cases_lt now.given n));

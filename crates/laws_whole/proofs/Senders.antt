@@ -73,7 +73,8 @@ module _ (P : Item → Type 0) (m : ℕ) (own : (item : Item) → item.sender �
   none_so : (done : List Effect) → done ≡ [] → AreSent P done
   none_so done none = subst (λ (l : List Effect). AreSent P l) (sym none) tt
 
-  created_so : (process : ProcessId) (values : List Value) (number : Option ℕ) → AreSent P (created process m values number)
+  created_so : (process : ProcessId) (values : List Value) (number : Option ℕ)
+      → AreSent P (created process m values number)
   created_so process values None = tt
   created_so process values (Some number) = tt
 
@@ -109,7 +110,8 @@ module _ (P : Item → Type 0) (m : ℕ) (own : (item : Item) → item.sender �
       both_so deed.effects (effects_of rest) (event_so deed.event deed.effects are.0) (deeds_so rest are.1)
 
 -- who is among the records
-pub contains_pid : (records : List RecordValue) (k : ℕ) (who : Identity) → slice_get (identities_of records) k ≡ Some who
+pub contains_pid : (records : List RecordValue) (k : ℕ) (who : Identity)
+    → slice_get (identities_of records) k ≡ Some who
     → Contains (map (λ (trace : RecordValue). Of trace.pid) records) (Of who.pid)
 contains_pid [] k who there = absurd (none-some who there)
 contains_pid (trace ∷ rest) zero who there =

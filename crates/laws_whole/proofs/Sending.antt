@@ -177,7 +177,8 @@ module _ (m n : ℕ) where
       ∙ ap (λ (l : List Item). l ++ sends_to n (effects_of rest)) (event_sends deed.event deed.effects are.0)
       ∙ ap (λ (l : List Item). sent_by_one m n deed.event ++ l) (deeds_send rest are.1)
 
-  pub sent_to-append : (first later : List Event) → sent_to m (first ++ later) n ≡ sent_to m first n ++ sent_to m later n
+  pub sent_to-append : (first later : List Event)
+      → sent_to m (first ++ later) n ≡ sent_to m first n ++ sent_to m later n
   sent_to-append first later = flat_map-append (sent_by_one m n) first later
 
 -- ---- whose the signals are that come

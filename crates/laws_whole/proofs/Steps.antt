@@ -2,20 +2,26 @@
 use Rattle.std.proofs.Common.{◌≡◌, ◌∙◌, ◌++◌, ◌+◌, ap, arith, length-append, refl, subst, sym, ℕ, List, [], ◌∷◌, None, Option, Some, length}
 use Rattle.std.specs.List.{flat_map}
 use Rattle.laws_creates.proofs.Creates.{deeds_whom, next_who, step_effects, step_makes, system_kept, who_count, whom}
+use Rattle.laws_creates.proofs.Numbers.{Numbered, all_numbered}
 use Rattle.laws_creates.specs.Creates.{created_in_one, identities}
 use Rattle.laws_whole.proofs.Cuts.{AreOrderly, IsOrderly}
 use Rattle.laws_whole.proofs.Hearing.{SendsItsSignal, line_effects, one_sends}
+use Rattle.laws_whole.proofs.Naming.{AreByPid, IsLineByPid, deeds_named, line_named, world_knows}
 use Rattle.laws_whole.proofs.Whos.{there_within}
 use Rattle.run_evaluation.specs.declared.identity.Identity.{Identity}
-use Rattle.run_semantics.specs.Effect.{Arm, Create, Effect, Send, effects_of}
+use Rattle.run_semantics.specs.Effect.{Arm, Create, Deed, Effect, Send, effects_of}
+use Rattle.sdl_interp.specs.Instance.{InstanceValue}
 use Rattle.sdl_script.specs.declared.script.ScriptLine.{ScriptLine}
 use Rattle.sdl_script.specs.declared.script.ScriptSignal.{ScriptSignal}
 use Rattle.sdl_system.specs.Behaviour.{Behaviour}
+use Rattle.sdl_system.specs.Route.{target_in}
 use Rattle.sdl_system.specs.System.{SystemValue}
+use Rattle.sdl_system.specs.declared.route.Source.TheVariants as source
 use Rattle.sdl_system.specs.declared.route.Target.{Target}
+use Rattle.sdl_system.specs.declared.route.Target.TheVariants.{Nobody}
 use Rattle.serial_order.proofs.Made.{MakeNext}
-use Rattle.serial_order.specs.Execution.{Execution, Expired, Follows, Happening, Heard, Moved, Ticked, begins, goes}
-use Rattle.serial_order.specs.RunState.{RunState, beginning}
+use Rattle.serial_order.specs.Execution.{Execution, Expired, Follows, Happening, Heard, Moved, Steps, Ticked, begins, goes}
+use Rattle.serial_order.specs.RunState.{RunState, beginning, heard_effects, living_of, world_at}
 use Rattle.serial_order.specs.Told.{Moment, first_moment, given_after, moment_after}
 
 -- ---- the moment behind all that happened
@@ -81,16 +87,41 @@ module _ (ps : List Behaviour) (system : SystemValue) (time : ℕ) where
             omega (arith, none, given, long)
         by_next (Ticked at) tick sends long = omega (arith, given, long)
 
+  -- what a step sends to one that is not there yet names it by its Pid
+  step_by_pid : (g : RunState) (who : Identity) (deeds : List Deed) (h : RunState) → Steps ps g who deeds h
+      → Numbered 1 (identities g.instances) → AreByPid (length g.instances) deeds
+  step_by_pid g who deeds h step numbered =
+      let old : InstanceValue = step.old in
+      subst (λ (list : List Deed). AreByPid (length g.instances) list) step.deeds_are
+      (deeds_named old.system old.who (world_at g) (length g.instances) old.store.time (world_knows g numbered)
+      step.goes.deeds step.goes.are_true)
+
+  -- and so does a line
+  line_by_pid : (g : RunState) → Numbered 1 (identities g.instances) → (o : Option ScriptSignal)
+      → (target : Target) × (heard_effects g o ≡ line_effects o target) × IsLineByPid (length g.instances) o target
+  line_by_pid g numbered None = (Nobody, refl, tt)
+  line_by_pid g numbered (Some signal) =
+      let target : Target =
+      target_in g.system.routes signal.item.name source.Env signal.to (living_of g.system g.instances).least in
+      (target, refl, line_named g numbered signal target refl)
+
   next_orderly : (g : RunState) (next : Happening) (h : RunState) → Follows ps time g next h → g.system ≡ system
-      → (now : Moment) → now.given ≡ length g.instances → IsOrderly system now next
-  next_orderly g (Moved who deeds) h step same now given = (
+      → Numbered 1 (identities g.instances) → (now : Moment) → now.given ≡ length g.instances
+      → IsOrderly system now next
+  next_orderly g (Moved who deeds) h step same numbered now given = (
     omega (arith, (there_within g.instances who.pid step.old step.is_there).1, given),
     step_effects ps g who deeds h step,
     subst (λ k. MakeNext system k (effects_of deeds)) (sym given) (step_makes ps g who deeds h step system same),
+    subst (λ k. AreByPid k deeds) (sym given) (step_by_pid g who deeds h step numbered),
   )
-  next_orderly g (Expired fuse) h expires same now given = tt
-  next_orderly g (Heard line effects) h hears same now given = tt
-  next_orderly g (Ticked at) h tick same now given = tt
+  next_orderly g (Expired fuse) h expires same numbered now given = tt
+  next_orderly g (Heard line effects) h hears same numbered now given =
+      let sent = line_by_pid g numbered line.signal in (
+        sent.0,
+        hears.effects_are ∙ sent.1,
+        subst (λ k. IsLineByPid k line.signal sent.0) (sym given) sent.2,
+      )
+  next_orderly g (Ticked at) h tick same numbered now given = tt
 
 -- what is so of all that happened
 pub record AreAllOrderly (system : SystemValue) (happenings : List Happening) (last : RunState) : Type 0 where
@@ -117,7 +148,8 @@ module _ (ps : List Behaviour) (system : SystemValue) (lines : List ScriptLine) 
       }) in
       record {
         orderly = orderly_append system (first_moment system) happenings next before.orderly
-            (next_orderly ps system time at next to follows same now before.given);
+            (next_orderly ps system time at next to follows same (all_numbered ps system time execution) now
+            before.given);
         given = ap (λ (m : Moment). m.given) (moment_from-append (first_moment system) happenings next)
             ∙ next_given ps system time at next to follows same sends now before.given;
       }

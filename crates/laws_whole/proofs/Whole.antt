@@ -1,9 +1,11 @@
 -- The report of a serial run is whole or cut.
-use Rattle.std.proofs.Common.{◌≡◌, ◌∙◌, ◌++◌, ap, subst, sym, ℕ, suc, Bool, true, false, List, Some, slice_get}
-use Rattle.std.proofs.lemmas.Option.{same_Some}
+use Rattle.std.proofs.Common.{◌≡◌, ◌∙◌, ◌++◌, ap, subst, sym, ℕ, suc, Bool, true, false, List, Some, slice_get, arith, inl, inr, zero, Contains, [], ◌∷◌}
+use Rattle.std.proofs.lemmas.List.Elements.{Contains-append_right}
+use Rattle.std.proofs.lemmas.Option.{none-some, same_Some}
 use Rattle.laws_timers.specs.Fused.{HistoriesAreInTime, NoTimerIsDue}
 use Rattle.laws_whole.proofs.Closing.{Found, IsQuietTo, all_due, found, history_in_time, puts_more}
 use Rattle.laws_whole.proofs.Course.{IsOf, all_records}
+use Rattle.laws_whole.proofs.Cuts.{IsSentTo}
 use Rattle.laws_whole.proofs.Finish.{ends_so}
 use Rattle.laws_whole.proofs.Hearing.{heard_of}
 use Rattle.laws_whole.proofs.Lists.{all_at}
@@ -11,7 +13,7 @@ use Rattle.laws_whole.proofs.Made.{are_made}
 use Rattle.laws_whole.proofs.Meant.{all_meant, all_right}
 use Rattle.laws_whole.proofs.Nulls.{all_caused}
 use Rattle.laws_whole.proofs.Puts.{are_put}
-use Rattle.laws_whole.specs.Whole.{SerialReportsAreWholeOrCut}
+use Rattle.laws_whole.specs.Whole.{EachMissingIsNamed, IsNamedIn, SerialReportsAreWholeOrCut}
 use Rattle.port_model.specs.History.{IsLegal, PortEvent}
 use Rattle.port_model.specs.Port.{PortState, empty_port}
 use Rattle.port_values.specs.declared.item.Item.{Item}
@@ -40,8 +42,8 @@ use Rattle.serial_order.specs.Report.{IsSerialReport}
 use Rattle.serial_order.specs.Told.{deeds_of, history_of}
 use Rattle.settle_meaning.specs.Identities.{identity_of}
 use Rattle.settle_meaning.specs.MeaningLaws.{ExpiriesHaveSets}
-use Rattle.settle_meaning.specs.Puts.{ArePut}
-use Rattle.settle_meaning.specs.Report.{HasHistory, IsWholeOrCut}
+use Rattle.settle_meaning.specs.Puts.{ArePut, Heard, IsNamed}
+use Rattle.settle_meaning.specs.Report.{HasHistory, IsReported}
 
 -- the laws below
 pub record Laws : Type 0 where
@@ -55,7 +57,10 @@ pub record Laws : Type 0 where
 
 module _ (laws : Laws) (ps : List Behaviour) (system : SystemValue) (lines : List ScriptLine) (limit : ℕ)
     (report : Report) (behaviours : AreBehaviours system ps) (env : AreFromEnv lines)
-    (run : IsSerialReport ps system lines limit report) where
+    (run : IsSerialReport ps system lines limit report) (Known : List Heard → ℕ → Type 0)
+    (by_script : (n : ℕ) → IsNamed (heard_of run.happenings) n → Known (heard_of run.happenings) n)
+    (by_output : (n j : ℕ) (one : RecordValue) → slice_get report.records.items j ≡ Some one → IsSentTo n one.events
+    → Known (heard_of run.happenings) n) where
   abbrev records : List RecordValue
   records = report.records.items
 
@@ -92,7 +97,8 @@ module _ (laws : Laws) (ps : List Behaviour) (system : SystemValue) (lines : Lis
     rests true ends is = all_at (Rests ps) run.last.instances k of.i of.there ends.rest
     rests false ends is = let wrong : ⊥ = cc in absurd wrong
 
-    quiet_at : (at : Position) → IsQuietAt d at of.i → IsQuietTo d report.end trace of.told.values deeds history of.i.store port at
+    quiet_at : (at : Position) → IsQuietAt d at of.i
+        → IsQuietTo d report.end trace of.told.values deeds history of.i.store port at
     quiet_at position.BeforeStart quiet = quiet
     quiet_at (position.In n) quiet = (
       quiet.0,
@@ -100,7 +106,8 @@ module _ (laws : Laws) (ps : List Behaviour) (system : SystemValue) (lines : Lis
     )
     quiet_at position.Ended quiet = tt
 
-    quiet : report.whole ≡ true → IsQuietTo d report.end trace of.told.values deeds history of.i.store port of.i.position
+    quiet : report.whole ≡ true → IsQuietTo d report.end trace of.told.values deeds history of.i.store port
+        of.i.position
     quiet is =
         let rest : Rests ps of.i = rests report.whole run.ends is in
         let same : rest.p ≡ p = same_Some rest.p p (sym rest.meant.listed ∙ of.told.meant.listed) in
@@ -111,7 +118,8 @@ module _ (laws : Laws) (ps : List Behaviour) (system : SystemValue) (lines : Lis
 
     closed : Found d report.end trace of.told.values deeds history of.i.store port report.whole
     closed =
-        found d report.end trace of.told.values deeds history of.i.store port report.whole of.i.position runs of.events quiet
+        found d report.end trace of.told.values deeds history of.i.store port report.whole of.i.position runs of.events
+        quiet
         (λ is. all_due report.end (suc k) port.timers
         (laws.not_due ps system lines limit report behaviours run is (suc k) of.i of.there))
 
@@ -120,10 +128,12 @@ module _ (laws : Laws) (ps : List Behaviour) (system : SystemValue) (lines : Lis
 
     legal : IsLegal empty_port whole_history port
     legal =
-        laws.legal d (identity_of trace) AtStart closed.place (first_store p of.told.values) of.i.store empty_port port closed.all
+        laws.legal d (identity_of trace) AtStart closed.place (first_store p of.told.values) of.i.store empty_port port
+        closed.all
         whole_history closed.runs
 
-    has_history : HasHistory (λ number. Unit {0}) ps system (heard_of run.happenings) report.whole report.end records trace
+    has_history : HasHistory (Known (heard_of run.happenings)) ps system (heard_of run.happenings) report.whole
+        report.end records trace
     has_history = record {
       history = whole_history;
       port = port;
@@ -138,10 +148,11 @@ module _ (laws : Laws) (ps : List Behaviour) (system : SystemValue) (lines : Lis
         recorded = closed.recorded;
         runs = closed.runs;
       };
-      put = subst (λ (l : List Item). ArePut (λ number. Unit {0}) (heard_of run.happenings) records trace l)
+      put = subst (λ (l : List Item). ArePut (Known (heard_of run.happenings)) (heard_of run.happenings) records trace
+          l)
           (sym (puts_more history closed.more closed.is_more))
           (are_put ps system lines limit report behaviours env run laws.told laws.matched laws.lines_heard
-          (λ number. Unit {0}) (λ number. tt) k trace there);
+          (Known (heard_of run.happenings)) by_script by_output k trace there);
       in_time = history_in_time history closed.more
           (laws.in_time ps system lines (end_of lines) run.happenings run.last behaviours run.execution (suc k))
           closed.is_more;
@@ -149,13 +160,14 @@ module _ (laws : Laws) (ps : List Behaviour) (system : SystemValue) (lines : Lis
       closes = closed.closes;
     }
 
-  pub is_whole_or_cut : IsWholeOrCut ps system lines limit report
-  is_whole_or_cut = record {
+  is_reported : IsReported Known ps system lines limit report
+  is_reported = record {
     heard = heard_of run.happenings;
     made = are_made ps system lines limit report behaviours run laws.told;
     nulls = all_caused ps system lines limit report behaviours run laws.told;
     each = all_records ps system lines limit report behaviours run laws.told
-        (HasHistory (λ number. Unit {0}) ps system (heard_of run.happenings) report.whole report.end records)
+        (HasHistory (Known (heard_of run.happenings)) ps system (heard_of run.happenings) report.whole report.end
+        records)
         (λ k trace there of. has_history k trace there of);
     outputs = all_meant ps system lines limit report behaviours run laws.told;
     signals = all_right ps system lines limit report behaviours run laws.told;
@@ -164,4 +176,24 @@ module _ (laws : Laws) (ps : List Behaviour) (system : SystemValue) (lines : Lis
 
 pub serial_reports : Laws → SerialReportsAreWholeOrCut
 serial_reports laws ps system lines limit report behaviours env run =
-    is_whole_or_cut laws ps system lines limit report behaviours env run
+    is_reported laws ps system lines limit report behaviours env run (λ heard number. Unit {0}) (λ n named. tt)
+    (λ n j one there sent. tt)
+
+-- where a record stands among all
+among : (records : List RecordValue) (j : ℕ) (one : RecordValue) → slice_get records j ≡ Some one → Contains records one
+among [] j one there = absurd (none-some one there)
+among (first ∷ rest) zero one there = (0, omega arith, same_Some first one there)
+among (first ∷ rest) (suc j) one there = Contains-append_right (first ∷ []) rest one (among rest j one there)
+
+pub each_missing_is_named : Laws → EachMissingIsNamed
+each_missing_is_named laws ps system lines limit report behaviours env run =
+    is_reported laws ps system lines limit report behaviours env run (IsNamedIn report.records.items)
+    (λ n named. inl named)
+    (λ n j one there sent.
+    inr (record {
+      trace = one;
+      among = among report.records.items j one there;
+      signal = sent.signal;
+      values = sent.values;
+      sent = sent.among;
+    }))

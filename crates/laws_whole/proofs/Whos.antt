@@ -3,12 +3,12 @@ use Rattle.std.proofs.Common.{◌≡◌, ◌∙◌, ◌⊎◌, ◌++◌, ◌+◌
 use Rattle.std.proofs.lemmas.List.Concat.{flat_map-append}
 use Rattle.std.proofs.lemmas.List.Elements.{All-append, All-cons, All-head, All-nil, All-tail, All-weaker}
 use Rattle.std.proofs.lemmas.Option.{none-some, same_Some, slice_get-map, slice_get_within}
-use Rattle.std.specs.Option.{option_map}
 use Rattle.std.specs.List.{flat_map}
+use Rattle.std.specs.Option.{option_map}
 use Rattle.laws_creates.proofs.Creates.{all_who, deeds_whom, effects_who, step_effects, step_makes, system_kept, who_append, who_count, whom}
 use Rattle.laws_creates.proofs.Numbers.{Numbered, created_numbered}
-use Rattle.laws_creates.specs.Creates.{created_by, created_in, created_in_one, identities}
 use Rattle.laws_creates.proofs.Steps.{MakeNext-split}
+use Rattle.laws_creates.specs.Creates.{created_by, created_in, created_in_one, identities}
 use Rattle.laws_whole.proofs.Lists.{all_at, all_flat, at_front, in_one_of}
 use Rattle.laws_whole.proofs.Occurs.{Occurs, all_occur}
 use Rattle.port_values.specs.declared.pid.Pid.TheVariants.{Null, Of}
