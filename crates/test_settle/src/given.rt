@@ -21,7 +21,7 @@ pub struct Given {
 
 /// The system of a specification, and a script for it.
 #[tactic(auto, using(crate::proofs::OfEnv::all_of_env))]
-pub fn given(rt: &impl Abort, alloc: Global, specification: &str, script: &str) -> Given
+pub fn make_given(rt: &impl Abort, alloc: Global, specification: &str, script: &str) -> Given
     ensures { All IsOfEnv result.script.lines.items }
 {
     let tree = parse(alloc, specification.as_bytes()).expect(rt, "a tree");

@@ -3,7 +3,7 @@
 ghost use Rattle.std.specs.Prelude.{All};
 ghost use Rattle.threads_environment.specs.Environment.{IsOfEnv};
 
-use crate::given::{Given, given, text_of};
+use crate::given::{Given, make_given, text_of};
 use crate::runs::{Plan, Way, settle_named};
 use run_record::{Report, RunError};
 use std::alloc::Global;
@@ -65,7 +65,7 @@ static LOSSES: [Loss; 4] = [
 #[test]
 fn lost_senders(rt: HostRuntime) {
     let alloc = rt.alloc();
-    let given = given(&rt, alloc, PING_PONG, "");
+    let given = make_given(&rt, alloc, PING_PONG, "");
     for loss in &LOSSES {
         expect_loss(&rt, alloc, &given, loss);
     }
@@ -98,7 +98,7 @@ fn is_told(settled: &Result<Report, RunError>, told: Option<u32>) -> bool {
 #[test]
 fn no_lost_senders(rt: HostRuntime) {
     let alloc = rt.alloc();
-    let given = given(&rt, alloc, PING_PONG, "");
+    let given = make_given(&rt, alloc, PING_PONG, "");
     let plan = Plan {
         alloc,
         limit: 2,
@@ -112,7 +112,7 @@ fn no_lost_senders(rt: HostRuntime) {
 #[test]
 fn lost_instance(rt: HostRuntime) {
     let alloc = rt.alloc();
-    let given = given(&rt, alloc, PING_PONG, "");
+    let given = make_given(&rt, alloc, PING_PONG, "");
     for number in 1..=2 {
         let plan = Plan {
             alloc,

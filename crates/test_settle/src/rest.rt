@@ -4,7 +4,7 @@ ghost use Rattle.std.specs.Prelude.{All};
 ghost use Rattle.threads_environment.specs.Environment.{IsOfEnv};
 
 use crate::cases::{CASES, Case};
-use crate::given::{Given, given, text_of};
+use crate::given::{Given, make_given, text_of};
 use crate::runs::{Plan, Way, settle_named};
 use serial_run::run_serial;
 use std::alloc::Global;
@@ -23,7 +23,7 @@ fn has_the_serial_text(rt: HostRuntime) {
 }
 
 fn expect_serial<R: Wait + Abort + Copy>(rt: &R, alloc: Global, case: &Case) {
-    let given = given(rt, alloc, case.specification, case.script);
+    let given = make_given(rt, alloc, case.specification, case.script);
     for limit in &LIMITS {
         let plan = Plan {
             alloc,
@@ -46,7 +46,7 @@ fn goes_on(rt: HostRuntime) {
 }
 
 fn expect_parted<R: Wait + Abort + Copy>(rt: &R, alloc: Global, case: &Case) {
-    let given = given(rt, alloc, case.specification, case.script);
+    let given = make_given(rt, alloc, case.specification, case.script);
     for count in 1..=9 {
         let plan = Plan {
             alloc,

@@ -1,6 +1,6 @@
 //! That two workers make steps at the same time, which no text tells.
 
-use crate::given::{given, text_with};
+use crate::given::{make_given, text_with};
 use sdl_workers::Gate;
 use std::sync::Wait;
 use std::sync::atomic::{AtomicBool, AtomicU32, Ordering};
@@ -98,7 +98,7 @@ impl<'r, C: Clock> Gate for Both<'r, C> {
 #[test]
 fn stop_and_workers(rt: HostRuntime) {
     let alloc = rt.alloc();
-    let given = given(&rt, alloc, SPECIFICATION, "");
+    let given = make_given(&rt, alloc, SPECIFICATION, "");
     for _ in 0..RUNS {
         let both = Both::new(&rt);
         let text = text_with(&rt, alloc, &given, 2, 1_000, &both);

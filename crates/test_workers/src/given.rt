@@ -23,7 +23,7 @@ pub struct Given {
 }
 
 /// The system of a specification, and a script for it.
-pub fn given(rt: &impl Abort, alloc: Global, specification: &str, script: &str) -> Given
+pub fn make_given(rt: &impl Abort, alloc: Global, specification: &str, script: &str) -> Given
     ensures { All (SendsFromEnv result.system) result.script.lines.items }
 {
     let tree = parse(alloc, specification.as_bytes()).expect(rt, "a tree");

@@ -3,7 +3,7 @@
 ghost use Rattle.std.specs.Prelude.{All};
 ghost use Rattle.sdl_script.specs.Script.{SendsFromEnv};
 
-use crate::given::{Given, given, lines_with, serial_text, text_with};
+use crate::given::{Given, lines_with, make_given, serial_text, text_with};
 use crate::texts::{CHAIN, MADE_UP, PING_PONG, Row, SIBLINGS, THOUSAND};
 use sdl_workers::Open;
 use std::alloc::Global;
@@ -46,7 +46,7 @@ fn a_pid_that_the_script_makes_up(rt: HostRuntime) {
 
 /// Sees that a row has its text serially, and with each number of workers.
 fn expect_row<R: Threads + Wait + Abort + Copy + Send + Sync>(rt: &R, alloc: Global, row: &Row) {
-    let given = given(rt, alloc, row.specification, row.script);
+    let given = make_given(rt, alloc, row.specification, row.script);
     assert!(rt;
         serial_text(rt, alloc, &given, LIMIT).as_str() == row.report,
         "serially"
@@ -77,7 +77,7 @@ fn expect_text<R: Threads + Wait + Abort + Copy + Send + Sync>(
 #[test]
 fn thousand(rt: HostRuntime) {
     let alloc = rt.alloc();
-    let given = given(&rt, alloc, THOUSAND, "");
+    let given = make_given(&rt, alloc, THOUSAND, "");
     let serial = serial_text(&rt, alloc, &given, LIMIT);
     let report = serial.as_str();
     assert!(rt; lines_with(report, "instance ") == 1_000);
@@ -92,7 +92,7 @@ fn thousand(rt: HostRuntime) {
 #[test]
 fn ping_pong(rt: HostRuntime) {
     let alloc = rt.alloc();
-    let given = given(&rt, alloc, PING_PONG, "");
+    let given = make_given(&rt, alloc, PING_PONG, "");
     for workers in &CREWS {
         expect_cut(&rt, alloc, &given, *workers);
     }
