@@ -5,26 +5,25 @@
 //! `docs/PERFORMANCE.md` has the method and the figures. The gate runs all of it with a small number.
 #![tactic(auto)]
 
-mod bare;
 mod command_line;
 mod measure;
 mod whole;
 
 use bench_texts::Shape;
 use command_line::Request;
-use measure::{Manner, Measure};
+use measure::Measure;
 use std::io;
 use std::process::ExitCode;
 use std::sync::Wait;
 use std::thread::Threads;
-use std::time::Clock;
+use std::time::{Clock, Instant};
 
 fn main(rt: HostRuntime) -> ExitCode {
     let is_done = match command_line::read_command_line(&rt) {
         Request::Answered => return ExitCode::SUCCESS,
         Request::Misused => return ExitCode::from(2),
-        Request::Measure { measure, manner } => measured(&rt, measure, manner),
-        Request::All { number, manner } => all_measured(&rt, number, manner),
+        Request::Measure { measure, is_timed } => measured(&rt, measure, is_timed),
+        Request::All { number, is_timed } => all_measured(&rt, number, is_timed),
         Request::Print(shape) => printed(&rt, shape),
     };
     match is_done {
@@ -34,13 +33,13 @@ fn main(rt: HostRuntime) -> ExitCode {
 }
 
 /// Measures everything, up to what fails. False where something did.
-fn all_measured<R: AllocGlobal + Print + Eprint + Clock + Threads + Wait + Copy + Send + Sync>(
+fn all_measured<R: AllocGlobal + Print + Eprint + Clock + Threads + Wait + Sync>(
     rt: &R,
     number: u64,
-    manner: Manner,
+    is_timed: bool,
 ) -> io::Result<bool> {
     for measure in &Measure::all(rt.alloc(), number)? {
-        if !measured(rt, *measure, manner)? {
+        if !measured(rt, *measure, is_timed)? {
             return Ok(false);
         }
     }
@@ -48,20 +47,21 @@ fn all_measured<R: AllocGlobal + Print + Eprint + Clock + Threads + Wait + Copy 
 }
 
 /// Measures, and tells how much was done. False where it failed, which is told on standard error.
-fn measured<R: AllocGlobal + Print + Eprint + Clock + Threads + Wait + Copy + Send + Sync>(
+fn measured<R: AllocGlobal + Print + Eprint + Clock + Threads + Wait + Sync>(
     rt: &R,
     measure: Measure,
-    manner: Manner,
+    is_timed: bool,
 ) -> io::Result<bool> {
-    let Some(done) = measure.done(rt, rt.alloc(), manner)? else {
+    let start = Instant::now(rt)?;
+    let Some(done) = measure.done(rt, rt.alloc()) else {
         eprintln!(rt; "bench: {measure}: out of memory, or the text is refused")?;
         return Ok(false);
     };
-    let count = done.count;
-    if manner.is_timed {
-        println!(rt; "{measure}: {count}, {} us", done.took.as_micros())?;
+    let took = start.elapsed(rt)?;
+    if is_timed {
+        println!(rt; "{measure}: {done}, {} us", took.as_micros())?;
     } else {
-        println!(rt; "{measure}: {count}")?;
+        println!(rt; "{measure}: {done}")?;
     }
     Ok(true)
 }
