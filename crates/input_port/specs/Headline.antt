@@ -20,7 +20,7 @@ use Rattle.port_inbox.specs.Put.{of, IsTimely}
 -- The headline, from the public contracts alone: each owner has a legal history of the standard's port of one thread, with just
 -- its own calls and what it drew.
 
--- A call of an owner with its reply. Draining is a take, a drain or a finish too that was refused for want of memory.
+-- A call of an owner with its reply. Draining is a take, a drain or a finish too that was refused for lack of memory.
 pub data OwnerCall : Type 0 where
   Taking : List Class → Taken → OwnerCall
   Draining : OwnerCall

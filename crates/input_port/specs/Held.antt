@@ -35,6 +35,6 @@ abbrev pub GatherHereIs : HeldState → HeldState → SenderState → Result (Un
 GatherHereIs old new sender result =
     MatchResult result (λ _. GathersHere old new sender) (λ back. ComesBack back sender × (new ≡ old))
 
--- what it leaves; for want of memory it comes back, and has drawn some entries
+-- what it leaves; for lack of memory it comes back, and has drawn some entries
 abbrev pub LeaveIs : HeldState → Result FinishedState (Refused HeldState) → Type 0
 LeaveIs old result = MatchResult result (λ end. Leaves old end) (λ back. (back.error ≡ Memory) × HasDrawnHere old back.value)

@@ -16,7 +16,7 @@ pub struct NewPort {
     pub desk: Desk,
 }
 
-/// An empty port of the instance `pid`. Refused for want of memory.
+/// An empty port of the instance `pid`. Refused for lack of memory.
 pub fn port(alloc: Global, pid: u32) -> Result<NewPort, PortError>
     ensures error { MatchResult result (λ _. Unit {0}) (λ error. error ≡ PortError.Memory) }
     ensures port { MatchResult result (λ made. made.port.pid ≡ pid) (λ _. Unit {0}) }

@@ -86,7 +86,7 @@ impl<'a, R: Wait + Copy> Held<'a, R> {
         self.receiver.next_due()
     }
 
-    /// Takes a sender in, before a stop and after it. For want of memory the sender comes back. That the port is the
+    /// Takes a sender in, before a stop and after it. For lack of memory the sender comes back. That the port is the
     /// sender's is the caller's condition.
     pub fn gather(&mut self, sender: Sender) -> Result<(), Refused<Sender>>
         requires { sender.port ≡ self.old.owner.port }
@@ -105,7 +105,7 @@ impl<'a, R: Wait + Copy> Held<'a, R> {
         self.receiver.gather(&self.rt, self.port, sender)
     }
 
-    /// Draws all that stands in the port, up to a fresh point, before a stop and after it. For want of memory it stops
+    /// Draws all that stands in the port, up to a fresh point, before a stop and after it. For lack of memory it stops
     /// before.
     pub fn drain(&mut self) -> Result<(), PortError>
         ensures port { self.new.owner.port ≡ self.old.owner.port }
@@ -133,7 +133,7 @@ impl<'a, R: Wait + Copy> Held<'a, R> {
     }
 
     /// Draws what stands in the port, and gives what is left: as `Owner::finish`, or after a stop as
-    /// `Retired::finish`. For want of memory the inbox comes back, and keeps what it has drawn.
+    /// `Retired::finish`. For lack of memory the inbox comes back, and keeps what it has drawn.
     pub fn finish(mut self) -> Result<Finished, Refused<Self>>
         ensures { LeaveIs self.entry result }
     {

@@ -67,7 +67,7 @@ impl Owner {
 
     /// Takes from the port (Z.102, priority input, save): draws entries until the selection takes one, or until none
     /// is left. After `Nothing` all that the owner knows of is drawn. In a state with a priority input an entry of one
-    /// that is drawn is taken at once; else everything is drawn first. For want of memory nothing is taken, and what
+    /// that is drawn is taken at once; else everything is drawn first. For lack of memory nothing is taken, and what
     /// was drawn stays in the port. That it is the owner's port is the caller's condition.
     pub fn take<R: Wait>(
         &mut self,
@@ -86,7 +86,7 @@ impl Owner {
         taken
     }
 
-    /// Draws all that stands in the port, up to a fresh point: then all that the owner knows of is drawn. For want of
+    /// Draws all that stands in the port, up to a fresh point: then all that the owner knows of is drawn. For lack of
     /// memory it stops before. That it is the owner's port is the caller's condition.
     pub fn drain<R: Wait>(&mut self, rt: &R, port: &Port) -> Result<(), PortError>
         requires { self.old.port ≡ port.now.queue }
@@ -101,7 +101,7 @@ impl Owner {
         drawn
     }
 
-    /// Takes a sender in: the owner then knows all that the sender had seen. For want of memory the sender comes back.
+    /// Takes a sender in: the owner then knows all that the sender had seen. For lack of memory the sender comes back.
     /// That the port is that of both is the caller's condition.
     pub fn gather<R: Wait>(
         &mut self,
@@ -122,7 +122,7 @@ impl Owner {
     }
 
     /// Takes a sender in and gives it back: the owner then knows all that the sender had seen, and the sender has seen
-    /// all that the owner knows. For want of memory the sender comes back as it was. That the port is that of both is
+    /// all that the owner knows. For lack of memory the sender comes back as it was. That the port is that of both is
     /// the caller's condition.
     pub fn meet<R: Wait>(
         &mut self,
@@ -142,7 +142,7 @@ impl Owner {
         met
     }
 
-    /// Sets a timer for the time `due`, after a reset. Refused with `SetsSpent` after 2^62 sets, and for want of
+    /// Sets a timer for the time `due`, after a reset. Refused with `SetsSpent` after 2^62 sets, and for lack of
     /// memory; the key is dropped then, and nothing changes.
     pub fn set(&mut self, key: TimerKey, due: Ticks) -> Result<Fuse, PortError>
         ensures port { self.new.port ≡ self.old.port }
@@ -186,7 +186,7 @@ impl Owner {
     }
 
     /// Gives all that waits in the port of the standard, in order: what was drawn and neither taken nor reset, each
-    /// timer's signal with its fuse. For want of memory the owner comes back as it was.
+    /// timer's signal with its fuse. For lack of memory the owner comes back as it was.
     pub fn into_entries(self) -> Result<Vec<Entry>, Refused<Owner>>
         ensures waiting { IfOk result (λ list. AreWaiting self.state.waiting self.pid self.armed list.items) }
         ensures back { IfErr result (λ back. ComesBack back self) }
@@ -207,7 +207,7 @@ impl Owner {
         }
     }
 
-    /// `drain`, and then `into_entries`: what was put and neither taken nor reset, in order. For want of memory the
+    /// `drain`, and then `into_entries`: what was put and neither taken nor reset, in order. For lack of memory the
     /// owner comes back, with what it has drawn in its port. That the port is the owner's is the caller's condition.
     pub fn finish<R: Wait>(mut self, rt: &R, port: &Port) -> Result<Finished, Refused<Owner>>
         requires { self.port ≡ port.now.queue }

@@ -58,7 +58,7 @@ impl Retired {
         self.before
     }
 
-    /// Takes a sender in, as `Owner::gather` does. For want of memory the sender comes back. That the port is that of
+    /// Takes a sender in, as `Owner::gather` does. For lack of memory the sender comes back. That the port is that of
     /// both is the caller's condition.
     pub fn gather<R: Wait>(
         &mut self,
@@ -80,7 +80,7 @@ impl Retired {
         gathered
     }
 
-    /// Draws all that stands in the port, up to a fresh point, and keeps it. For want of memory it stops before. That
+    /// Draws all that stands in the port, up to a fresh point, and keeps it. For lack of memory it stops before. That
     /// the port is the owner's is the caller's condition.
     pub fn drain<R: Wait>(&mut self, rt: &R, port: &Port) -> Result<(), PortError>
         requires { self.old.owner.port ≡ port.now.queue }
@@ -102,7 +102,7 @@ impl Retired {
         self.since
     }
 
-    /// `drain`, and then `into_entries`: what was put and not drawn before the stop, in order. For want of memory the
+    /// `drain`, and then `into_entries`: what was put and not drawn before the stop, in order. For lack of memory the
     /// value comes back, and keeps what it has drawn. That the port is the owner's is the caller's condition.
     pub fn finish<R: Wait>(mut self, rt: &R, port: &Port) -> Result<Finished, Refused<Retired>>
         requires { self.owner.port ≡ port.now.queue }

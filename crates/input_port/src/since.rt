@@ -8,7 +8,7 @@ use port_queue::refused::refused;
 use port_queue::{Port, Receiver, Sender};
 use std::sync::Wait;
 
-/// Takes a sender in. For want of memory it comes back, and nothing changes.
+/// Takes a sender in. For lack of memory it comes back, and nothing changes.
 pub fn gather<R: Wait>(
     receiver: &mut Receiver,
     since: &mut Vec<Entry>,

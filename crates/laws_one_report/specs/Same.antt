@@ -42,7 +42,7 @@ pub record AreSame (happenings others : List Happening) (last end : RunState) : 
 
 -- ---- executions
 
--- no instance failed for want of memory
+-- no instance failed for lack of memory
 abbrev pub LacksNothing : RunState → Type 0
 LacksNothing g = All (λ (i : InstanceValue). LackNothing i.events) g.instances
 

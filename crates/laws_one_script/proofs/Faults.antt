@@ -152,7 +152,7 @@ module _ (system : SystemValue) (before row : List Reading) (lines script : List
       let same = means.2 in
       omega (arith, late, ends, same, early)
 
-  -- none but want of memory
+  -- none but lack of memory
   pub no_fault_of : (f : Fault) → HasFault f system (end_of lines) line → f ≡ fault.Memory
   no_fault_of fault.Syntax h = absurd (no_syntax system line stands.reading.said says h.0 h.1)
   no_fault_of fault.BackInTime h = absurd (in_time h.0 h.1 h.2 h.3)

@@ -39,13 +39,13 @@ OneScript =
     (system : SystemValue) (text : List ℕ) (lines others : List ScriptLine)
     → SaysScript system text lines → SaysScript system text others → lines ≡ others
 
--- A text that says a script for the system is refused for want of memory alone.
+-- A text that says a script for the system is refused for lack of memory alone.
 abbrev pub NoFault : Type 0
 NoFault =
     (system : SystemValue) (text : List ℕ) (lines : List ScriptLine) (error : ScriptError)
     → SaysScript system text lines → IsScript system lines → Refuses error system text → error ≡ Memory
 
--- Two refusals of a text, neither of them for want of memory, are the same.
+-- Two refusals of a text, neither of them for lack of memory, are the same.
 abbrev pub OneRefusal : Type 0
 OneRefusal =
     (system : SystemValue) (text : List ℕ) (error other : ScriptError)

@@ -20,13 +20,13 @@ pub fn one_script()
     ensures script { OneScript }
 {}
 
-/// A text that says a script, as `read_script` reads one, has no fault for which one is refused. Of want of memory
+/// A text that says a script, as `read_script` reads one, has no fault for which one is refused. Of lack of memory
 /// nothing is said.
 pub fn no_fault()
     ensures { NoFault }
 {}
 
-/// A text is refused in one way: for one fault, in one line. Of want of memory nothing is said.
+/// A text is refused in one way: for one fault, in one line. Of lack of memory nothing is said.
 pub fn one_refusal()
     ensures { OneRefusal }
 {}

@@ -16,13 +16,13 @@ use Rattle.sdl_system.specs.declared.process.Process.{Process}
 
 -- ---- what is left open
 
--- Whether a failure is for want of memory. Of that alone no definition says when it comes: memory may be refused
+-- Whether a failure is for lack of memory. Of that alone no definition says when it comes: memory may be refused
 -- wherever it is asked for.
 abbrev pub is_want : Failure → Bool
 is_want Memory = true
 is_want why = false
 
--- the event is no failure for want of memory
+-- the event is no failure for lack of memory
 abbrev pub LacksNothing : Event → Type 0
 LacksNothing (event.FailedAt at why) = is_want why ≡ false
 LacksNothing (event.Failed why) = is_want why ≡ false

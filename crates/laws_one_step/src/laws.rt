@@ -3,7 +3,7 @@
 ghost use Rattle.laws_one_step.specs.Unique.{RestsForNow, StepsAlike};
 
 /// Two steps of one instance, from the same place, knowledge, port and world, are the same: they record the same
-/// events, do the same outside, and end alike. That is so where neither fails for want of memory (Z.101: agent,
+/// events, do the same outside, and end alike. That is so where neither fails for lack of memory (Z.101: agent,
 /// transition).
 pub fn steps_alike()
     ensures { StepsAlike }

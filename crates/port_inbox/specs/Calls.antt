@@ -19,7 +19,7 @@ use Rattle.port_inbox.specs.declared.placed.Placed.{Placed}
 use Rattle.port_inbox.specs.Ends.{OwnerState}
 use Rattle.port_inbox.specs.Put.{StartsWith, of, longer, IsTimely}
 
--- for want of memory what the call was given comes back as it was
+-- for lack of memory what the call was given comes back as it was
 abbrev pub ComesBack : {T : Type 0} → Refused T → T → Type 0
 ComesBack back value = (back.error ≡ Memory) × (back.value ≡ value)
 
@@ -106,7 +106,7 @@ pub record TakesHere (classes : List Class) (old new : OwnerState) (taken : Take
   pub fresh : taken ≡ Nothing → new.known ≡ new.drawn
   pub passed : Contains classes class.Priority → IsNoPriority classes taken → new.known ≡ new.drawn
 
--- The answer to a take. For want of memory nothing is taken, and some entries were drawn.
+-- The answer to a take. For lack of memory nothing is taken, and some entries were drawn.
 abbrev pub TakeIs : List Class → OwnerState → OwnerState → Result Taken PortError → Type 0
 TakeIs classes old new result =
     MatchResult result (λ taken. TakesHere classes old new taken) (λ error. (error ≡ Memory) × HasDrawn old new)

@@ -37,7 +37,7 @@ impl Alone {
         }
     }
 
-    /// Puts a signal behind all that waits. A stopped port drops it. For want of memory the signal comes back.
+    /// Puts a signal behind all that waits. A stopped port drops it. For lack of memory the signal comes back.
     #[inline(always)]
     pub fn put(&mut self, item: Item) -> Result<(), Refused<Item>>
         ensures state { MatchResult result
@@ -50,7 +50,7 @@ impl Alone {
     }
 
     /// Expires a timer, and says whether its signal was put: before its time, after another set or a reset, and by the
-    /// fuse of another port, nothing changes. For want of memory the fuse comes back. It asks nothing of the time,
+    /// fuse of another port, nothing changes. For lack of memory the fuse comes back. It asks nothing of the time,
     /// since an early expiry changes nothing.
     pub fn expire(&mut self, fuse: Fuse, at: Ticks) -> Result<bool, Refused<Fuse>>
         ensures expired { MatchResult result

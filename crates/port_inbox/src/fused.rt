@@ -16,7 +16,7 @@ use std::alloc::Global;
 use std::collections::VecDeque;
 
 /// Sets a timer of the port `pid`, and gives its fuse. Refused with `SetsSpent` after 2^62 sets, before all else, and
-/// for want of memory.
+/// for lack of memory.
 pub fn set(plain: &mut PlainPort, pid: u32, key: TimerKey, due: Ticks) -> Result<Fuse, PortError>
     ensures set { MatchResult result (λ fuse. (plain.new.state ≡ set_in plain.old.state key due)
         × (fuse ≡ record { pid = pid; key = key; arm = plain.old.state.sets + 1; due = due }))
@@ -57,7 +57,7 @@ pub fn draw(plain: &mut PlainPort, pid: u32, placed: Placed)
     }
 }
 
-/// Takes out all that waits in the port of the instance `pid`, in order, each timer's signal with its fuse. For want of
+/// Takes out all that waits in the port of the instance `pid`, in order, each timer's signal with its fuse. For lack of
 /// memory the port comes back.
 pub fn into_entries(alloc: Global, pid: u32, plain: PlainPort) -> Result<Vec<Entry>, PlainPort>
     ensures { MatchResult result (λ list. AreWaiting plain.state.waiting pid plain.armed list.items)

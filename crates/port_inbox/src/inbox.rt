@@ -22,7 +22,7 @@ pub trait Inbox {
     /// Whether all that comes into the port from outside is drawn from a queue that threads share.
     ghost shared: { Bool };
 
-    /// Takes from the port (Z.102, priority input, save). For want of memory nothing is taken; where nothing comes in
+    /// Takes from the port (Z.102, priority input, save). For lack of memory nothing is taken; where nothing comes in
     /// from a queue, none is wanted.
     fn take(&mut self, selection: &Selection) -> Result<Taken, PortError>
         requires { (Self.owning self.old).state.alive ≡ true }

@@ -58,7 +58,7 @@ impl Passed {
         self.entries.len() == 0
     }
 
-    /// Passes over an entry, which goes behind all others. For want of memory it comes back; and if another signal of
+    /// Passes over an entry, which goes behind all others. For lack of memory it comes back; and if another signal of
     /// its timer is among the others.
     pub fn push(&mut self, got: Got) -> Result<(), Got>
         ensures { MatchResult result (λ _. gots_in self.new ≡ gots_in self.old ++ got ∷ [])

@@ -47,7 +47,7 @@ impl Places {
         }
     }
 
-    /// Notes that an entry stands at this place. The reply is whether it is noted now: it isn't for want of memory, and
+    /// Notes that an entry stands at this place. The reply is whether it is noted now: it isn't for lack of memory, and
     /// where its name has that place already or its timer has one.
     pub fn note(&mut self, got: &Got, place: u64) -> bool
         ensures noted { IsTrue result → IsNoted got.now place self.old self.new }

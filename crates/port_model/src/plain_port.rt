@@ -84,7 +84,7 @@ impl PlainPort {
         self.waiting.reserve()
     }
 
-    /// Puts a signal behind all that waits. A stopped port drops it, and takes no memory. For want of memory the signal
+    /// Puts a signal behind all that waits. A stopped port drops it, and takes no memory. For lack of memory the signal
     /// comes back.
     #[inline(always)]
     pub fn put(&mut self, item: Item) -> Result<(), Refused<Item>>
@@ -123,7 +123,7 @@ impl PlainPort {
 
     /// Expires a timer (Z.102, timer): where it is Running by the set `arm` for the time `due`, and `at` is
     /// `due` or later, its signal goes behind all that waits. The reply is whether that was so. In every other case
-    /// nothing changes. The key comes back for want of memory, and nothing changes.
+    /// nothing changes. The key comes back for lack of memory, and nothing changes.
     ///
     /// The key is taken by value, as `put` takes a signal: it goes into the port, and nothing is copied.
     pub fn expire(
@@ -183,7 +183,7 @@ impl PlainPort {
     }
 
     /// Sets a timer for the time `due`, after a reset. The reply is the number of the set. Refused with
-    /// `SetsSpent` after 2^62 sets, and for want of memory; the key is dropped then, and nothing changes.
+    /// `SetsSpent` after 2^62 sets, and for lack of memory; the key is dropped then, and nothing changes.
     pub fn set(&mut self, key: TimerKey, due: Ticks) -> Result<Arm, PortError>
         ensures ok { OnOk result (self.new.state ≡ set_in self.old.state key due) }
         ensures arm { IfOk result (λ arm. arm ≡ self.old.state.sets + 1) }

@@ -86,7 +86,7 @@ impl Receiver {
 
     /// Takes from the port (Z.102, priority input, save): draws entries until the selection takes one, or until none
     /// is left. After `Nothing` all that the owner knows of is drawn. In a state with a priority input everything is
-    /// drawn first. For want of memory nothing is taken, and what was drawn stays in the port. That it is the owner's
+    /// drawn first. For lack of memory nothing is taken, and what was drawn stays in the port. That it is the owner's
     /// port is the caller's condition.
     pub fn take<R: Wait>(
         &mut self,
@@ -146,7 +146,7 @@ impl Receiver {
         Ok(self.choose(selection))
     }
 
-    /// Draws all that the queue holds, up to a fresh point. For want of memory it stops before. That it is the owner's
+    /// Draws all that the queue holds, up to a fresh point. For lack of memory it stops before. That it is the owner's
     /// port is the caller's condition.
     pub fn drain<R: Wait>(&mut self, rt: &R, port: &Port) -> Result<(), PortError>
         requires { self.old.port ≡ port.now.queue }
@@ -170,7 +170,7 @@ impl Receiver {
         self.plain.take(selection)
     }
 
-    /// Draws one entry, if the queue has one. The room for it is made first, so that no entry is lost for want of
+    /// Draws one entry, if the queue has one. The room for it is made first, so that no entry is lost for lack of
     /// memory.
     fn pull<R: Wait>(&mut self, rt: &R, port: &Port) -> Result<bool, PortError>
         requires { self.old.port ≡ port.now.queue }
@@ -190,7 +190,7 @@ impl Receiver {
         }
     }
 
-    /// Takes a sender in: the owner then knows all that the sender had seen. For want of memory the sender comes back.
+    /// Takes a sender in: the owner then knows all that the sender had seen. For lack of memory the sender comes back.
     /// That the port is that of both is the caller's condition.
     pub fn gather<R: Wait>(
         &mut self,
@@ -217,7 +217,7 @@ impl Receiver {
     }
 
     /// Takes a sender in and gives it back: the owner then knows all that the sender had seen, and the sender has seen
-    /// all that the owner knows. For want of memory the sender comes back as it was. That the port is that of both is
+    /// all that the owner knows. For lack of memory the sender comes back as it was. That the port is that of both is
     /// the caller's condition.
     pub fn meet<R: Wait>(
         &mut self,
@@ -241,7 +241,7 @@ impl Receiver {
         Ok(Sender::again(pass, tally))
     }
 
-    /// Sets a timer for the time `due`, after a reset. Refused with `SetsSpent` after 2^62 sets, and for want of
+    /// Sets a timer for the time `due`, after a reset. Refused with `SetsSpent` after 2^62 sets, and for lack of
     /// memory; the key is dropped then, and nothing changes.
     pub fn set(&mut self, key: TimerKey, due: Ticks) -> Result<Fuse, PortError>
         ensures port { self.new.port ≡ self.old.port }

@@ -75,7 +75,7 @@ impl Sender {
         self.signals
     }
 
-    /// Puts a signal behind all that this sender has seen. For want of memory, and after 2^61 entries, it comes back.
+    /// Puts a signal behind all that this sender has seen. For lack of memory, and after 2^61 entries, it comes back.
     /// That the port is the sender's is the caller's condition.
     pub fn put<R: Wait>(&mut self, rt: &R, port: &Port, item: Item) -> Result<(), Refused<Item>>
         requires { self.old.port ≡ port.now.queue }

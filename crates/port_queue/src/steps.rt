@@ -8,7 +8,7 @@ use port_inbox::Placed;
 use std::alloc::{AllocError, Global};
 use std::sync::Wait;
 
-/// A queue with nothing in it, and its first pass. Refused for want of memory.
+/// A queue with nothing in it, and its first pass. Refused for lack of memory.
 #[tactic(auto, using(crate::proofs::Moves::begins))]
 pub fn open(alloc: Global) -> Result<(Queue, Pass), AllocError>
     ensures { MatchResult result (λ made. IsSegPassOf made.0 made.1 × (made.1.me.view.client ≡ whole)) (λ _. Unit {0}) }

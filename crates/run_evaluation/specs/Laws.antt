@@ -16,7 +16,7 @@ use Rattle.run_evaluation.specs.Value.{value_at, value_of, values_at}
 use Rattle.run_evaluation.specs.declared.identity.Identity.{Identity}
 use Rattle.run_evaluation.specs.declared.store.Store.{Store}
 
--- whether an evaluation may fail so: never for want of memory, the length of a transition, an answer or a set
+-- whether an evaluation may fail so: never for lack of memory, the length of a transition, an answer or a set
 abbrev pub is_of_evaluation : Failure → Bool
 is_of_evaluation Overflow = true
 is_of_evaluation ZeroDivisor = true

@@ -4,7 +4,7 @@ ghost use Rattle.run_evaluation.specs.Laws.{FailsByItself, FailsLeftFirst, Fails
 
 use sdl_system::laws::takes_sort;
 
-/// An expression fails for a cause of its own, never for want of memory, the length of a transition, or a set.
+/// An expression fails for a cause of its own, never for lack of memory, the length of a transition, or a set.
 pub fn fails_by_itself()
     ensures { FailsByItself }
 {}

@@ -145,7 +145,7 @@ impl Record {
     }
 
     /// Makes room for so many events and, with them, so many values. Nothing else changes, and there is never less room
-    /// than before. Refused for want of memory, and for more than 65,535 values; but never where there is that room
+    /// than before. Refused for lack of memory, and for more than 65,535 values; but never where there is that room
     /// already.
     pub fn reserve(&mut self, events: usize, values: usize) -> Result<(), AllocError>
         ensures same { self.new ≡ with_room self.old self.new.room self.new.values_room }

@@ -29,7 +29,7 @@ pub trait World {
         ensures route { IsRoute system.now (value self.old) signal from to result }
         ensures same { value self.new ≡ value self.old };
 
-    /// Sends a signal. For want of memory it has not been sent.
+    /// Sends a signal. For lack of memory it has not been sent.
     fn send(&mut self, target: Target, item: Item) -> Result<(), AllocError>
         ensures ok { OnOk result (value self.new ≡ after_effect (value self.old) (Send target item)) }
         ensures err { OnErr result (value self.new ≡ value self.old) };
@@ -47,7 +47,7 @@ pub trait World {
         ensures { value self.new ≡ after_effect (value self.old) (Arm fuse) };
 
     /// Makes an instance of a process, for the instance of the number `parent`, with the values of its parameters. The
-    /// number of the new instance is the answer; None: as many live as may. For want of memory nothing has changed.
+    /// number of the new instance is the answer; None: as many live as may. For lack of memory nothing has changed.
     fn create(
         &mut self,
         process: ProcessId,

@@ -40,7 +40,7 @@ impl Machine {
     }
 }
 
-/// Makes room for an event with so many values, beside the free place. Refused for want of memory alone.
+/// Makes room for an event with so many values, beside the free place. Refused for lack of memory alone.
 pub fn make_room(machine: &mut Machine, values: usize) -> Result<(), Failure>
     ensures same { let now = machine.new.trace in
         machine.new ≡ record machine.old { trace = with_room machine.old.trace now.room now.values_room } }

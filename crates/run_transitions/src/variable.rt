@@ -18,7 +18,7 @@ pub fn sort_of(process: &Process, variable: VariableId) -> Option<Sort>
     }
 }
 
-/// The sorts of the parameters of a process. Refused for want of memory alone.
+/// The sorts of the parameters of a process. Refused for lack of memory alone.
 pub fn parameters_of(
     alloc: Global,
     system: &System,

@@ -18,7 +18,7 @@ pub struct Task {
 }
 
 /// The task that the words of the command line choose, the program's name first. Help that was asked for and a mistake
-/// are both an `Err`, as the crate `clap` tells them; so is want of memory.
+/// are both an `Err`, as the crate `clap` tells them; so is lack of memory.
 pub fn chosen(alloc: Global, words: &[String]) -> Result<Task, Error> {
     let command = command(alloc)?;
     let matches = command.try_get_matches_from(words)?;

@@ -141,7 +141,7 @@ IsTextRefused bytes (refusal.Build error) = IsBuildRefused bytes error
 IsTextRefused bytes (refusal.Script error) = IsScriptRefused bytes error
 IsTextRefused bytes (refusal.Run error) = ⊥
 
--- What a run may tell of itself: want of memory, with workers and without; that something is lost only with workers. A
+-- What a run may tell of itself: lack of memory, with workers and without; that something is lost only with workers. A
 -- serial run never loses anything.
 abbrev pub AllowsOfRun : Option ℕ → List ℕ → RunError → Type 0
 AllowsOfRun workers bytes run.Memory = IsRunRefused bytes
@@ -202,7 +202,7 @@ pub record BreaksOffTelling (input : Input) (options : Options) (old new : Optio
   pub says : Says input options how text
   pub breaks : gathered.BreaksOff old new text
 
--- After a fault of writing a beginning of the answer may have gone out. For want of memory that may be so, or nothing
+-- After a fault of writing a beginning of the answer may have gone out. For lack of memory that may be so, or nothing
 -- was written.
 abbrev pub Fails : TextFault → Input → Options → Option (List ℕ) → Option (List ℕ) → Type 0
 Fails fault.Read input options old new = ⊥
@@ -223,7 +223,7 @@ pub record BrokenOff (remaining : Option (List ℕ)) (options : Options) (old ne
   pub breaks : BreaksOffTelling input options old new
 
 -- After a fault of reading nothing was written; after a fault of writing a beginning of the answer may have gone out.
--- For want of memory either may be so.
+-- For lack of memory either may be so.
 abbrev pub Faulted : TextFault → Option (List ℕ) → Options → Option (List ℕ) → Option (List ℕ) → Type 0
 Faulted fault.Read remaining options old new = Keeps old new
 Faulted fault.Write remaining options old new = BrokenOff remaining options old new

@@ -8,7 +8,7 @@ use sdl_report::write_text;
 use std::alloc::{AllocError, Global};
 use std::io::Write;
 
-/// Writes the explanation of an input whose text is refused. A fault of writing is let go, and so is want of memory:
+/// Writes the explanation of an input whose text is refused. A fault of writing is let go, and so is lack of memory:
 /// what is wrong was told already.
 pub fn note_refusal<N: Write>(alloc: Global, input: &Input, notes: &mut N) {
     if let Err(refusal) = check_input(alloc, input) {

@@ -17,7 +17,7 @@ use sdl_parse::ParseError;
 use sdl_script::ScriptError;
 use std::alloc::{AllocError, Global};
 
-/// The line of a refusal by want of memory, and of a text that is too long. It needs no memory.
+/// The line of a refusal by lack of memory, and of a text that is too long. It needs no memory.
 pub fn fixed_line(refusal: &Refusal) -> Option<&'static str>
     ensures { IfSome result (λ line. line.now ≡ refusal_line refusal.now) }
 {

@@ -27,7 +27,7 @@ pub struct Other<'t> {
 #[derive(Clone, Copy, Debug)]
 pub struct Explanation<'t> {
     pub source: Source,
-    /// The line in which the refusal stands. None where it stands nowhere, as want of memory does.
+    /// The line in which the refusal stands. None where it stands nowhere, as lack of memory does.
     pub shown: Option<Excerpt<'t>>,
     pub advice: Advice<'t>,
     pub other: Option<Other<'t>>,

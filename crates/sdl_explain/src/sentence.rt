@@ -10,6 +10,6 @@ pub use broken::build_advice;
 pub use parse::parse_advice;
 pub use script::script_advice;
 
-/// The sentence for want of memory.
+/// The sentence for lack of memory.
 const NO_MEMORY: &str =
     "There was no memory for this text. Make it shorter, or give the program more.";

@@ -6,7 +6,7 @@ use crate::seat::MOST_SPLITS;
 use crate::{Seat, Table, steps};
 use std::alloc::{AllocError, Global};
 
-/// A table from which no number is drawn, and its first seat. Refused for want of memory.
+/// A table from which no number is drawn, and its first seat. Refused for lack of memory.
 pub fn table(alloc: Global) -> Result<(Table, Seat), AllocError>
     ensures { IfOk result (λ made. made.1 ≡ record { table = made.0.id; parts = 64; left = 63; drawn = []; seen = 0 }) }
 {

@@ -29,7 +29,7 @@ impl Model for Entries {
 }
 
 impl Entries {
-    /// Nothing is entered. Refused for want of memory.
+    /// Nothing is entered. Refused for lack of memory.
     pub fn new(alloc: Global) -> Result<Self, AllocError> {
         let mut cells = Vec::with_capacity(alloc, MOST_NUMBERS)?;
         for _ in 0..MOST_NUMBERS {

@@ -34,7 +34,7 @@ impl Model for Roster {
 }
 
 impl Roster {
-    /// Nobody lives in this system, and no create is under way. Refused for want of memory.
+    /// Nobody lives in this system, and no create is under way. Refused for lack of memory.
     #[tactic(auto, using(crate::proofs::Made::made_more))]
     pub fn new(alloc: Global, system: &System) -> Result<Self, AllocError>
         ensures { IfOk result (λ roster. roster ≡ none_living system.now.processes) }

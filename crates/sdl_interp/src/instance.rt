@@ -64,7 +64,7 @@ pub struct Closed<P: Inbox + Drop> {
 impl<'s, P: Inbox + Drop> Instance<'s, P> {
     /// An instance of a process of the system before its start, with these values of its parameters and an inbox of
     /// which nothing was asked so far. The process is the one that the system has at the number of it that stands in
-    /// `who`. For want of memory the inbox comes back.
+    /// `who`. For lack of memory the inbox comes back.
     pub fn new(
         alloc: Global,
         system: &'s System,
@@ -183,7 +183,7 @@ impl<'s> Instance<'s, Alone> {
         let _inbox = &self.inbox;
     }
 
-    /// Puts a signal into the port. A stopped port drops it. For want of memory the signal comes back.
+    /// Puts a signal into the port. A stopped port drops it. For lack of memory the signal comes back.
     #[inline(always)]
     pub fn put(&mut self, item: Item) -> Result<(), Refused<Item>>
         ensures { MatchResult result
@@ -196,7 +196,7 @@ impl<'s> Instance<'s, Alone> {
     }
 
     /// Expires a timer at a time, and says whether its signal was put: before its due time, after another set or a
-    /// reset, and by the fuse of another port, nothing changes. For want of memory the fuse comes back.
+    /// reset, and by the fuse of another port, nothing changes. For lack of memory the fuse comes back.
     pub fn expire(&mut self, fuse: Fuse, at: Ticks) -> Result<bool, Refused<Fuse>>
         ensures expired { MatchResult result
             (λ expired. expired ≡ ((fuse.pid == self.old.owner.pid)

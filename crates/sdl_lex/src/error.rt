@@ -28,7 +28,7 @@ pub enum LexError {
 }
 
 impl LexError {
-    /// Where the fault stands; want of memory stands nowhere.
+    /// Where the fault stands; lack of memory stands nowhere.
     pub fn place(&self) -> Option<Place>
         ensures { result ≡ spec.place self.now }
     {

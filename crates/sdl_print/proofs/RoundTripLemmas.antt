@@ -80,7 +80,7 @@ settled laws t text source is spelled =
     let F : List ℕ → Type 0 = λ again. SpellsText t again in
     ((laws is.0 source is.1).0 t (subst F is.2 spelled)).1 ∙ sym is.2
 
--- and refused for want of room alone
+-- and refused for lack of room alone
 pub readable : ReadsAgain → (e : ParseError) (text source : List ℕ) → IsCanonicalOf text source → Refuses e text → IsWantOfRoom e
 readable laws e text source is refuses =
     let F : List ℕ → Type 0 = λ again. Refuses e again in (laws is.0 source is.1).1 e (subst F is.2 refuses)

@@ -18,6 +18,6 @@ IsCanonicalOf again text = (t : Tree) × SpellsText t text × (again ≡ canonic
 abbrev pub HasWords : (Words → Type 0) → List ℕ → Type 0
 HasWords P text = (tokens : List Token) × Lexes text tokens × P (words_of text tokens)
 
--- A refusal that tells of no fault but want of room: memory is out, or the text is longer than a text may be.
+-- A refusal that tells of no fault but lack of room: memory is out, or the text is longer than a text may be.
 abbrev pub IsWantOfRoom : ParseError → Type 0
 IsWantOfRoom e = (e ≡ parser.Memory) ⊎ (e ≡ parser.Lex lexer.Memory) ⊎ (e ≡ parser.Lex lexer.TooLong)

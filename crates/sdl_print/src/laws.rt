@@ -19,7 +19,7 @@ pub fn canonical_spells_again()
 }
 
 /// Where a text spells a tree, the canonical text of the tree spells no other, but for places and spellings, and the
-/// text of what it spells is this text again; the parser refuses it for want of memory, or because it is longer than a
+/// text of what it spells is this text again; the parser refuses it for lack of memory, or because it is longer than a
 /// text may be, and for nothing else.
 pub fn reads_again()
     ensures { ReadsAgain }

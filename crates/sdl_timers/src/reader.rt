@@ -48,7 +48,7 @@ impl Reader {
         Ticks::new(self.word.shared.load::<Load>(&mut self.seat, 0))
     }
 
-    /// One more reader, which has seen what this one has. Refused for want of memory; this one is as it was.
+    /// One more reader, which has seen what this one has. Refused for lack of memory; this one is as it was.
     #[tactic(auto, using(crate::proofs::Steps::splits))]
     pub fn again(&mut self) -> Result<Reader, AllocError>
         ensures same { self.new ≡ self.old }

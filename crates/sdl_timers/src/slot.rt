@@ -57,7 +57,7 @@ impl Slot {
         }
     }
 
-    /// Puts a fuse behind all that it isn't due before. For want of memory it comes back, and so it does where 2^64 - 1
+    /// Puts a fuse behind all that it isn't due before. For lack of memory it comes back, and so it does where 2^64 - 1
     /// fuses were armed here before it; nothing changes then.
     pub fn arm(&mut self, fuse: Fuse) -> Result<(), Refused<Fuse>>
         ensures ok { OnOk result (self.new ≡ with_fuse fuse self.old) }
@@ -66,7 +66,7 @@ impl Slot {
         ensures memory { IfErr result (λ refused. refused.error ≡ PortError.Memory) }
     {
         // Two fuses of the same due keep the order in which they were armed, by a count of 64 bits. The fuse after the
-        // last count is refused, as for want of memory.
+        // last count is refused, as for lack of memory.
         let Some(armed) = self.armed.checked_add(1) else {
             return Err(out_of_memory(fuse));
         };

@@ -36,7 +36,7 @@ pub struct NewClock {
     pub reader: Reader,
 }
 
-/// A clock at time 0. Refused for want of memory.
+/// A clock at time 0. Refused for lack of memory.
 pub fn clock(alloc: Global) -> Result<NewClock, AllocError>
     ensures ticker { IfOk result (λ made. made.ticker ≡ 0) }
     ensures reader { IfOk result (λ made. made.reader ≡ 0) }
@@ -60,7 +60,7 @@ impl Ticker {
             .fetch_max::<Raise>(&mut self.seat, 0, to.get());
     }
 
-    /// A reader that has seen the clock's time. Refused for want of memory; the clock is as it was.
+    /// A reader that has seen the clock's time. Refused for lack of memory; the clock is as it was.
     #[tactic(auto, using(crate::proofs::Steps::splits))]
     pub fn reader(&mut self) -> Result<Reader, AllocError>
         ensures time { self.new ≡ self.old }

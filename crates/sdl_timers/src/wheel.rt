@@ -44,7 +44,7 @@ impl Wheel {
         }
     }
 
-    /// Arms a fuse: it waits behind all that it isn't due before. For want of memory the fuse comes back, and so it
+    /// Arms a fuse: it waits behind all that it isn't due before. For lack of memory the fuse comes back, and so it
     /// does where 2^64 - 1 fuses were armed in its slot before it; nothing changes then.
     pub fn arm(&mut self, fuse: Fuse) -> Result<(), Refused<Fuse>>
         ensures ok { OnOk result (self.new ≡ with_fuse fuse self.old) }

@@ -16,7 +16,7 @@ use std::alloc::Global;
 use std::collections::VecDeque;
 
 /// Runs a system serially on a script, until all instances rest, the script is at its end and no timer is due by then,
-/// or until `limit` transitions are made. Refused for want of memory alone.
+/// or until `limit` transitions are made. Refused for lack of memory alone.
 pub fn run_serial(
     alloc: Global,
     system: &System,

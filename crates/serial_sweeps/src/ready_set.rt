@@ -35,7 +35,7 @@ impl ReadySet {
         }
     }
 
-    /// The instance of this number may have something to do. For want of memory nothing changes.
+    /// The instance of this number may have something to do. For lack of memory nothing changes.
     pub fn wake(&mut self, number: u32) -> Result<(), AllocError>
         ensures ok { OnOk result ((n : ℕ) → Contains self.new n ↔ ((n ≡ number) ⊎ Contains self.old n)) }
         ensures err { OnErr result (self.new ≡ self.old) }

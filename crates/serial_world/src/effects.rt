@@ -50,7 +50,7 @@ impl<'a> Effects<'a> {
         Effects { first: None, rest }
     }
 
-    /// An act more. Refused for want of memory, but never where there is room; nothing has changed then.
+    /// An act more. Refused for lack of memory, but never where there is room; nothing has changed then.
     #[inline(always)]
     pub fn push(&mut self, effect: Effect) -> Result<(), AllocError>
         ensures ok { OnOk result (self.new.items ≡ self.old.items ++ effect ∷ []) }
@@ -62,7 +62,7 @@ impl<'a> Effects<'a> {
         Ok(())
     }
 
-    /// Makes room for one act more. Refused for want of memory, but never where there is room.
+    /// Makes room for one act more. Refused for lack of memory, but never where there is room.
     #[inline(always)]
     pub fn prepare(&mut self) -> Result<(), AllocError>
         ensures ok { OnOk result (self.new.has_room ≡ true) }

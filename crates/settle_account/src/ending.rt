@@ -18,8 +18,8 @@ pub struct Ending {
     pub limit: u64,
 }
 
-/// The time at which a run ends of whose script so many lines were heard. Lost with 0: it is whole, and a line of the script was not heard, or the limit is
-/// reached; or it is cut, and the limit isn't reached.
+/// The time at which a run ends of whose script so many lines were heard. Lost with 0: it is whole, and a line of the
+/// script was not heard, or the limit is reached; or it is cut, and the limit isn't reached.
 pub fn end_of_run(
     lines: &[ScriptLine],
     line: usize,

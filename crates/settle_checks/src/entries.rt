@@ -40,7 +40,7 @@ pub fn is_end(entry: Entry) -> bool
     }
 }
 
-/// Whether it is a failure for want of memory.
+/// Whether it is a failure for lack of memory.
 pub fn is_memory(entry: Entry) -> bool
     ensures { result ≡ identities.is_memory (event_of entry []) }
 {

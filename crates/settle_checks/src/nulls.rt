@@ -14,7 +14,7 @@ use run_record::{Entry, Record};
 use sdl_system::{ProcessId, System};
 
 /// Whether each create of null has a cause: as many records of its process as may live, or as many in all as there may
-/// be, or a failure for want of memory.
+/// be, or a failure for lack of memory.
 pub fn have_causes(system: &System, records: &[Record]) -> bool
     ensures { IsTrue result → All (λ (trace : RecordValue). All (HasCause system.now records.now) trace.events)
         records.now }
@@ -92,7 +92,7 @@ fn count_of(records: &[Record], process: ProcessId) -> usize
         .count()
 }
 
-/// Whether an instance failed for want of memory.
+/// Whether an instance failed for lack of memory.
 pub fn some_memory(records: &[Record]) -> bool
     ensures { result ≡ list_any meaning.fails_by_memory records.now }
 {

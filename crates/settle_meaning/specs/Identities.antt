@@ -76,7 +76,7 @@ count_of records process = count_by (is_of_process process) records
 abbrev pub most_of : SystemValue → ProcessId → Option ℕ
 most_of system process = option_map_or (λ (p : Process). p.maximum) (slice_get system.processes process.0) (Some 0)
 
--- a failure for want of memory
+-- a failure for lack of memory
 abbrev pub is_memory : Event → Bool
 is_memory (event.Failed Memory) = true
 is_memory (event.FailedAt at Memory) = true

@@ -24,7 +24,7 @@ pub struct Entrants {
     pub greatest: u32,
 }
 
-/// All instances that are entered. Refused for want of memory.
+/// All instances that are entered. Refused for lack of memory.
 pub fn all_entered(alloc: Global, entries: &Entries) -> Result<Entrants, AllocError>
     ensures numbers { IfOk result (λ all. AreNumbers all.ready) }
     ensures greatest { IfOk result (λ all. AreUpTo all.greatest all.ready) }

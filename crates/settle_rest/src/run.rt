@@ -17,7 +17,7 @@ use threads_shared::{Own, Shared};
 /// Goes on with a run on one thread, from the time `from` on: the instances step in sweeps by ascending number, and the
 /// clock moves only if all rest, until all rest, the script is at its end and no timer is due by then, or until `left`
 /// more transitions are made. Answers the time at which it stands. All threads of the run are joined: the caller's
-/// condition. What came of it is for the caller to check, since no clause says it. Refused for want of memory.
+/// condition. What came of it is for the caller to check, since no clause says it. Refused for lack of memory.
 pub fn run_rest<J: Run, R: Wait + Copy>(
     shared: &Shared<'_, '_, '_, J, R>,
     own: &mut Own<J>,

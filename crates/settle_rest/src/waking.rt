@@ -10,7 +10,7 @@ use run_record::Entry;
 use serial_sweeps::{Agenda, ReadySet};
 use std::alloc::AllocError;
 
-/// The instance of this number may have something to do. No instance has the number 0. For want of memory nothing changes.
+/// The instance of this number may have something to do. No instance has the number 0. For lack of memory nothing changes.
 pub fn wake(ready: &mut ReadySet, number: u32) -> Result<(), AllocError>
     ensures ok { OnOk result ((n : ℕ) → Contains ready.new n ↔ (((0 < n) × (n ≡ number)) ⊎ Contains ready.old n)) }
     ensures err { OnErr result (ready.new ≡ ready.old) }

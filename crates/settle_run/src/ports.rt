@@ -87,7 +87,7 @@ fn look_at<J: Run, K: Fixed, R: Wait + Copy>(
 
 /// Looks whether each sender that a port has given out was gathered there.
 ///
-/// An instance that finds no memory for a sender lets it go, and fails. So in a run in which none failed for want of
+/// An instance that finds no memory for a sender lets it go, and fails. So in a run in which none failed for lack of
 /// memory each sender has put something or will, and one that is missing was lost.
 fn all_gathered<J: Run, K: Fixed, R: Wait + Copy>(
     shared: &Shared<'_, '_, '_, J, R>,

@@ -20,10 +20,10 @@ pub trait Subject {
     /// One step.
     fn advance(&mut self, alloc: Global, runtime: &mut Runtime<'_>) -> Stepped;
 
-    /// Brings a signal into the port; false: for want of memory it is not there.
+    /// Brings a signal into the port; false: for lack of memory it is not there.
     fn hear(&mut self, item: Item) -> bool;
 
-    /// Brings the expiry of a timer into the port; false: for want of memory it is not there.
+    /// Brings the expiry of a timer into the port; false: for lack of memory it is not there.
     fn hear_expiry(&mut self, fuse: Fuse, at: Ticks) -> bool
         requires { fuse.due ≤ at };
 }

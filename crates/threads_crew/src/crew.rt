@@ -16,7 +16,7 @@ use threads_workers::{Crew, Director, Gate, work};
 
 /// Starts as many workers as may be, each on a thread of its own, and has the director direct the run on the calling
 /// thread, until the run is over. All threads are joined then, and the director comes back. A thread that can't be
-/// started is left out; without any, nothing is directed. Refused for want of memory.
+/// started is left out; without any, nothing is directed. Refused for lack of memory.
 pub fn direct<'l, J: Run + Send + Sync, R: Threads + Wait + Copy + Send + Sync, G: Gate + Sync>(
     shared: &Shared<'_, '_, '_, J, R>,
     director: Director<'l, J>,

@@ -8,7 +8,7 @@ use threads_ports::NumberSeat;
 use threads_senders::Run;
 use threads_shared::{Shared, making};
 
-/// Makes the instances with which the system begins, in the order of the text, and queues them. Refused for want of
+/// Makes the instances with which the system begins, in the order of the text, and queues them. Refused for lack of
 /// memory.
 pub fn begin<J: Run, R: Wait + Copy>(
     shared: &Shared<'_, '_, '_, J, R>,

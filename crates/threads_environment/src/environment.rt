@@ -69,7 +69,7 @@ impl<'l, J: Run> Environment<'l, J> {
 
     /// Hears the next line: its signal goes where the routes lead it by those that live now, which is noted. It is put
     /// into the port of an instance if there is a sender into that port, or the instance is entered, which answers the
-    /// instance, to be woken. Else the signal is gone. That a line is left is the caller's condition. For want of memory
+    /// instance, to be woken. Else the signal is gone. That a line is left is the caller's condition. For lack of memory
     /// nothing is heard, and nothing was put.
     pub fn hear<R: Wait + Copy>(
         &mut self,
@@ -90,7 +90,7 @@ impl<'l, J: Run> Environment<'l, J> {
     }
 
     /// Puts the expiry of a timer into the port of its instance, at the time `at`, and answers the instance, to be woken.
-    /// That its time has come is the caller's condition. Nothing is put where no instance can have the number. For want of
+    /// That its time has come is the caller's condition. Nothing is put where no instance can have the number. For lack of
     /// memory nothing was put, and the fuse is gone.
     pub fn expire<R: Wait + Copy>(
         &mut self,

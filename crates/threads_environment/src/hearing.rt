@@ -13,7 +13,7 @@ use threads_senders::{Peers, Run};
 use threads_shared::Shared;
 
 /// Hears the signal of a line, if it has one: sends it where the routes lead it, and notes its target. Answers the
-/// instance into whose port it was put. For want of memory nothing is noted, and nothing was put.
+/// instance into whose port it was put. For lack of memory nothing is noted, and nothing was put.
 pub fn hear_signal<J: Run, R: Wait + Copy>(
     shared: &Shared<'_, '_, '_, J, R>,
     signal: &Option<ScriptSignal>,

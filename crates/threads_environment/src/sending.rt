@@ -16,7 +16,7 @@ use threads_senders::{Peers, Run};
 use threads_shared::Shared;
 
 /// Sends a signal to a target: puts a copy of it into the port of the instance, if there is a sender into that port or the
-/// instance is entered. Answers the instance. None: the signal is gone. For want of memory nothing was put.
+/// instance is entered. Answers the instance. None: the signal is gone. For lack of memory nothing was put.
 pub fn send<J: Run, R: Wait + Copy>(
     shared: &Shared<'_, '_, '_, J, R>,
     peers: &mut Peers<J>,
@@ -45,7 +45,7 @@ pub fn send<J: Run, R: Wait + Copy>(
     Ok(Some(number))
 }
 
-/// Puts the expiry of a timer into the port of its instance, if an instance can have the number. For want of memory
+/// Puts the expiry of a timer into the port of its instance, if an instance can have the number. For lack of memory
 /// nothing was put.
 pub fn expire<J: Run, R: Wait + Copy>(
     shared: &Shared<'_, '_, '_, J, R>,

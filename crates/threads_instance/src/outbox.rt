@@ -51,7 +51,7 @@ impl<J: Run> Outbox<J> {
     }
 
     /// Adds a sender into the port of this instance. That there was none, that it is of this port, and that it has put
-    /// no signal, is the caller's condition. For want of memory nothing changes.
+    /// no signal, is the caller's condition. For lack of memory nothing changes.
     pub fn open(&mut self, number: u32, sender: Sender) -> Result<(), AllocError>
         requires unknown { is_known self.old.peers number ≡ false }
         requires port { sender.port ≡ J.ports number }
@@ -66,7 +66,7 @@ impl<J: Run> Outbox<J> {
     }
 
     /// Sends a signal: puts it into the port of this instance. That there is a sender, and that it's this port, is the
-    /// caller's condition. For want of memory, and after 2^61 entries, nothing changes.
+    /// caller's condition. For lack of memory, and after 2^61 entries, nothing changes.
     pub fn put<R: Wait>(
         &mut self,
         rt: &R,
@@ -100,7 +100,7 @@ impl<J: Run> Outbox<J> {
     }
 
     /// Puts the expiry of a timer into the port of this instance, at the time `at`. That its time has come, that there
-    /// is a sender, and that it's this port, is the caller's condition. For want of memory the fuse comes back.
+    /// is a sender, and that it's this port, is the caller's condition. For lack of memory the fuse comes back.
     pub fn expire<R: Wait>(
         &mut self,
         rt: &R,

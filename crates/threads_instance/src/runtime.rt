@@ -53,7 +53,7 @@ pub trait Runtime<J: Run> {
         ensures { kept self.new ≡ kept self.old ++ fuse ∷ [] };
 
     /// Makes an instance of a process, for the instance of the number `parent`, with the values of its parameters. The
-    /// number of the new instance is the answer; None: as many live as may. For want of memory nothing has changed.
+    /// number of the new instance is the answer; None: as many live as may. For lack of memory nothing has changed.
     fn create(
         &mut self,
         process: ProcessId,

@@ -94,7 +94,7 @@ impl<'s, J: Run, P: Inbox + Drop> ThreadInstance<'s, J, P> {
     }
 
     /// Makes one step at this time, as `Instance::step` does. What it sends is put at once; where that is refused,
-    /// its transition fails for want of memory. A signal to an instance that is not there yet is gone.
+    /// its transition fails for lack of memory. A signal to an instance that is not there yet is gone.
     pub fn step<R: Wait, O: Runtime<J>>(
         &mut self,
         alloc: Global,

@@ -147,7 +147,7 @@ fn lose<J: Run>(outbox: &mut Outbox<J>, number: u32, item: Item)
     outbox.lose(number, item);
 }
 
-/// Puts the expiry of a timer into the port of its instance, where its time has come. Else, and for want of memory, its
+/// Puts the expiry of a timer into the port of its instance, where its time has come. Else, and for lack of memory, its
 /// fuse is kept.
 #[tactic(auto, using(crate::proofs::Puts::arms_put, crate::proofs::Puts::arms_kept))]
 fn arm<J: Run, R: Wait, O: Runtime<J>>(
@@ -166,7 +166,7 @@ fn arm<J: Run, R: Wait, O: Runtime<J>>(
     }
 }
 
-/// Puts the expiry of a timer into the port of its instance, where its time has come. Else, and for want of memory, the
+/// Puts the expiry of a timer into the port of its instance, where its time has come. Else, and for lack of memory, the
 /// fuse comes back.
 #[tactic(auto, using(crate::proofs::Puts::expired))]
 fn expire<J: Run, R: Wait, O: Runtime<J>>(

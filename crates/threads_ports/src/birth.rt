@@ -21,7 +21,7 @@ pub struct NewPorts {
     pub owners: Vec<Option<Owner>>,
 }
 
-/// The ports of the numbers 1 to 1,000. Refused for want of memory.
+/// The ports of the numbers 1 to 1,000. Refused for lack of memory.
 #[tactic(auto, using(crate::proofs::Making::made_more))]
 pub fn ports(alloc: Global) -> Result<NewPorts, AllocError>
     ensures all { IfOk result (λ made. vec_len made.rows ≡ 1000) }
@@ -44,7 +44,7 @@ pub fn ports(alloc: Global) -> Result<NewPorts, AllocError>
     })
 }
 
-/// The port of a number. A port is refused for want of memory alone.
+/// The port of a number. A port is refused for lack of memory alone.
 fn port(alloc: Global, number: u32) -> Result<NewPort, AllocError>
     ensures owner { IfOk result (λ made. made.owner ≡ newborn made.port.queue number) }
     ensures desk { IfOk result (λ made. made.desk.port ≡ made.port.queue) }

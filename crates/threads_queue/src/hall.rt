@@ -48,7 +48,7 @@ impl Model for Hall {
 }
 
 impl Hall {
-    /// An empty queue, for a crew of so many workers, none of which sleeps. Refused for want of memory.
+    /// An empty queue, for a crew of so many workers, none of which sleeps. Refused for lack of memory.
     pub fn new(alloc: Global, crew: usize) -> Result<Self, AllocError>
         ensures { IfOk result (λ hall. hall ≡ record { queue = []; asleep = []; crew = crew; closed = false }) }
     {

@@ -67,7 +67,7 @@ pub struct Places<T: Drop> {
 }
 
 impl<T: Drop> Places<T> {
-    /// Places where nobody is. Refused for want of memory.
+    /// Places where nobody is. Refused for lack of memory.
     pub fn new(alloc: Global) -> Result<Self, AllocError> {
         let mut rows = Vec::with_capacity(alloc, MOST_PLACES)?;
         for _ in 0..MOST_PLACES {

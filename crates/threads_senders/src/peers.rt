@@ -66,7 +66,7 @@ impl<J: Run> Peers<J> {
         }
     }
 
-    /// Adds a sender into the port of this instance. For want of memory it comes back. That there was none, that it
+    /// Adds a sender into the port of this instance. For lack of memory it comes back. That there was none, that it
     /// is of this port, and that it has put no signal, is the caller's condition.
     pub fn open(&mut self, number: u32, sender: Sender) -> Result<(), Refused<Sender>>
         requires unknown { is_known self.old number ≡ false }
@@ -86,7 +86,7 @@ impl<J: Run> Peers<J> {
         }
     }
 
-    /// Puts a signal into the port of this instance. For want of memory, and after 2^61 entries, it comes back. That
+    /// Puts a signal into the port of this instance. For lack of memory, and after 2^61 entries, it comes back. That
     /// there is a sender, and that it's this port, is the caller's condition.
     ///
     /// Where what was put so far is the last of what an origin sends, and the signal is of that origin, it is so with

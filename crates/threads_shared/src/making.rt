@@ -16,7 +16,7 @@ use threads_senders::Run;
 
 /// Makes an instance of a process: it is entered, lives, and is in its place before its start, where it has something to
 /// do. Its number is the answer, and is the caller's to queue. None: as many live as may, or all numbers are drawn. Refused
-/// for want of memory.
+/// for lack of memory.
 pub fn make<J: Run, R: Wait + Copy>(
     shared: &Shared<'_, '_, '_, J, R>,
     seat: &mut NumberSeat<J>,

@@ -35,7 +35,7 @@ pub struct Own<J: Run> {
 }
 
 impl<J: Run> Own<J> {
-    /// The state with which a thread begins, in a system of so many processes. Refused for want of memory.
+    /// The state with which a thread begins, in a system of so many processes. Refused for lack of memory.
     pub fn new(
         alloc: Global,
         reader: Reader,
@@ -77,7 +77,7 @@ impl<J: Run> Own<J> {
         }
     }
 
-    /// Puts the fuses of a step into the wheel. For want of memory one is lost, and the run is to end.
+    /// Puts the fuses of a step into the wheel. For lack of memory one is lost, and the run is to end.
     pub fn arm<R: Wait>(&mut self, rt: &R, tables: &Tables) -> Result<(), AllocError> {
         if self.fuses.is_empty() {
             return Ok(());

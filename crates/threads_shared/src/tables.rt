@@ -19,7 +19,7 @@ pub struct Tables {
 
 impl Tables {
     /// The tables of a run of this system that begins, with so many workers and this limit of transitions. Refused for
-    /// want of memory.
+    /// lack of memory.
     pub fn new(
         alloc: Global,
         system: &System,

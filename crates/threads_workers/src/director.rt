@@ -47,7 +47,7 @@ impl<'l, J: Run> Director<'l, J> {
 
     /// Directs the run on the calling thread, until it is over: whenever nobody has anything to do, the clock moves to the
     /// next time at which a timer is due or the script has a line, and what is due then happens. At the end of the script,
-    /// with no timer due by then, it ends the run. Refused for want of memory.
+    /// with no timer due by then, it ends the run. Refused for lack of memory.
     pub fn direct<R: Wait + Copy>(
         &mut self,
         shared: &Shared<'_, '_, '_, J, R>,

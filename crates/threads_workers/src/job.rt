@@ -24,7 +24,7 @@ enum Left {
 }
 
 /// Makes steps of the instance of this number, until it finds nothing to do, ends, or has made a batch of them. Refused
-/// for want of memory for the run's own tables.
+/// for lack of memory for the run's own tables.
 pub fn steps_of<J: Run, R: Wait + Copy, G: Gate>(
     shared: &Shared<'_, '_, '_, J, R>,
     own: &mut Own<J>,
