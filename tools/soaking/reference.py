@@ -314,8 +314,7 @@ class Run:
         end = self.script[-1].time if self.script else 0
         try:
             while True:
-                while self.sweep():
-                    pass
+                self.come_to_rest()
                 due = [it[0] for it in self.fuses] + [line.time for line in self.script[:1]]
                 if not due or min(due) > end:
                     return self.trace("rest", f"end {end} whole")
@@ -323,6 +322,11 @@ class Run:
                 self.hear()
         except Cut:
             return self.trace("cut", f"end {self.time} cut")
+
+    def come_to_rest(self):
+        """Sweeps, until all instances rest."""
+        while self.sweep():
+            pass
 
     def hear(self):
         """What is due expires, and the lines of this time are heard."""

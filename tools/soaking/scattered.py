@@ -16,21 +16,7 @@ class Scattered(Run):
         self.lot = lot
         self.more = lot.randint(0, MOST_MORE)
 
-    def go(self) -> str:
-        """Makes the run, and tells its trace."""
-        end = self.script[-1].time if self.script else 0
-        try:
-            while True:
-                self.scatter()
-                due = [it[0] for it in self.fuses] + [line.time for line in self.script[:1]]
-                if not due or min(due) > end:
-                    return self.trace("rest", f"end {end} whole")
-                self.time = max(self.time, min(due))
-                self.hear()
-        except Cut:
-            return self.trace("cut", f"end {self.time} cut")
-
-    def scatter(self) -> None:
+    def come_to_rest(self) -> None:
         """Steps, until nothing happens any more: all rest, and nothing is on its way."""
         resting: set[Instance] = set()
         while len(resting) < len(self.instances):
