@@ -1,6 +1,6 @@
 //! The command line: what is measured, and with how much.
 
-use crate::measure::Measure;
+use crate::measure::{Manner, Measure};
 use bench_texts::{Shape, Way};
 use clap::builder::ValueParser;
 use clap::error::ErrorKind;
@@ -25,19 +25,25 @@ Whole runs of texts that are made for it:
   flood N      N signals that one instance sends to another's port
   busy N H     N instances make H transitions each; N is 1000 at most
   fuses N H    an instance sets and resets a timer H times while N others wait
+  priority N   N ordinary signals and after them N of a priority input, which are taken first
+  turns N      N signals that are saved, with one of a priority input after each
+  resets N H   an instance sets and resets a timer H times while the signals of N wait
 
 Checks of texts of one shape, in N bytes:
   states N, tasks N, processes N, decisions N
 
-  all N        each of them, with N for all numbers and 10000 N bytes";
+  all N        each of them, with N for all numbers and 10000 N bytes
+
+A run is serial without --workers. With --bare its time is that of the run alone: the text is read before, and no report
+is written.";
 
 /// The request of a command line.
 #[derive(Drop)]
 pub enum Request {
     /// To measure this.
-    Measure { measure: Measure, is_timed: bool },
+    Measure { measure: Measure, manner: Manner },
     /// To measure everything, with this number.
-    All { number: u64, is_timed: bool },
+    All { number: u64, manner: Manner },
     /// To print this text.
     Print(Shape),
     /// It asked for help, which was printed.
@@ -78,16 +84,30 @@ fn requested(matches: &ArgMatches<'_>) -> Option<Request> {
     let name = matches.get_str("WHAT")?;
     let number = matches.get_one::<u64>("N")?;
     let times = matches.get_one::<u64>("H")?;
-    let is_timed = matches.get_flag("time");
+    let manner = manner(matches);
     let is_printed = matches.get_flag("print");
     if name == "all" {
-        return (!is_printed).then_some(Request::All { number, is_timed });
+        return (!is_printed).then_some(Request::All { number, manner });
     }
     match Measure::named(name, number, times, way(matches))? {
         Measure::Text(shape) if is_printed => Some(Request::Print(shape)),
         Measure::Calls(..) if is_printed => None,
-        measure => Some(Request::Measure { measure, is_timed }),
+        measure => Some(Request::Measure { measure, manner }),
     }
+}
+
+/// How it is measured. A number of workers that fits no `u8` is not in the range of the option.
+fn manner(matches: &ArgMatches<'_>) -> Manner {
+    Manner {
+        is_timed: matches.get_flag("time"),
+        is_bare: matches.get_flag("bare"),
+        workers: workers_of(matches),
+    }
+}
+
+fn workers_of(matches: &ArgMatches<'_>) -> Option<u8> {
+    let workers = matches.get_one::<u64>("workers")?;
+    u8::try_from(workers).ok()
 }
 
 /// Which way round a ring.
@@ -124,7 +144,13 @@ fn with_options<'a>(alloc: Global, command: Command<'a>) -> Result<Command<'a>, 
             "print",
             "Prints the text, in place of what was done with it",
         ))?
-        .arg(flag(alloc, "time", "Prints how long it took, too"))
+        .arg(flag(alloc, "time", "Prints how long it took, too"))?
+        .arg(flag(
+            alloc,
+            "bare",
+            "Runs a text without the time that its reading and its report take",
+        ))?
+        .arg(workers(alloc))
 }
 
 /// The argument that names the thing to measure.
@@ -140,6 +166,15 @@ fn number<'a>(alloc: Global, name: &'a str, help: &'a str) -> Arg<'a> {
     Arg::new(alloc, name)
         .help(help)
         .value_parser(ValueParser::unsigned(1, 1_000_000_000))
+}
+
+/// The option for the worker threads of a run.
+fn workers<'a>(alloc: Global) -> Arg<'a> {
+    Arg::new(alloc, "workers")
+        .long("workers")
+        .value_name("N")
+        .help("How many worker threads a run has")
+        .value_parser(ValueParser::unsigned(1, 16))
 }
 
 /// An option without a value.

@@ -5,25 +5,26 @@
 //! `docs/PERFORMANCE.md` has the method and the figures. The gate runs all of it with a small number.
 #![tactic(auto)]
 
+mod bare;
 mod command_line;
 mod measure;
 mod whole;
 
 use bench_texts::Shape;
 use command_line::Request;
-use measure::Measure;
+use measure::{Manner, Measure};
 use std::io;
 use std::process::ExitCode;
 use std::sync::Wait;
 use std::thread::Threads;
-use std::time::{Clock, Instant};
+use std::time::Clock;
 
 fn main(rt: HostRuntime) -> ExitCode {
     let is_done = match command_line::read_command_line(&rt) {
         Request::Answered => return ExitCode::SUCCESS,
         Request::Misused => return ExitCode::from(2),
-        Request::Measure { measure, is_timed } => measured(&rt, measure, is_timed),
-        Request::All { number, is_timed } => all_measured(&rt, number, is_timed),
+        Request::Measure { measure, manner } => measured(&rt, measure, manner),
+        Request::All { number, manner } => all_measured(&rt, number, manner),
         Request::Print(shape) => printed(&rt, shape),
     };
     match is_done {
@@ -33,13 +34,13 @@ fn main(rt: HostRuntime) -> ExitCode {
 }
 
 /// Measures everything, up to what fails. False where something did.
-fn all_measured<R: AllocGlobal + Print + Eprint + Clock + Threads + Wait + Sync>(
+fn all_measured<R: AllocGlobal + Print + Eprint + Clock + Threads + Wait + Copy + Send + Sync>(
     rt: &R,
     number: u64,
-    is_timed: bool,
+    manner: Manner,
 ) -> io::Result<bool> {
     for measure in &Measure::all(rt.alloc(), number)? {
-        if !measured(rt, *measure, is_timed)? {
+        if !measured(rt, *measure, manner)? {
             return Ok(false);
         }
     }
@@ -47,21 +48,20 @@ fn all_measured<R: AllocGlobal + Print + Eprint + Clock + Threads + Wait + Sync>
 }
 
 /// Measures, and tells how much was done. False where it failed, which is told on standard error.
-fn measured<R: AllocGlobal + Print + Eprint + Clock + Threads + Wait + Sync>(
+fn measured<R: AllocGlobal + Print + Eprint + Clock + Threads + Wait + Copy + Send + Sync>(
     rt: &R,
     measure: Measure,
-    is_timed: bool,
+    manner: Manner,
 ) -> io::Result<bool> {
-    let start = Instant::now(rt)?;
-    let Some(done) = measure.done(rt, rt.alloc()) else {
+    let Some(done) = measure.done(rt, rt.alloc(), manner)? else {
         eprintln!(rt; "bench: {measure}: out of memory, or the text is refused")?;
         return Ok(false);
     };
-    let took = start.elapsed(rt)?;
-    if is_timed {
-        println!(rt; "{measure}: {done}, {} us", took.as_micros())?;
+    let count = done.count;
+    if manner.is_timed {
+        println!(rt; "{measure}: {count}, {} us", done.took.as_micros())?;
     } else {
-        println!(rt; "{measure}: {done}")?;
+        println!(rt; "{measure}: {count}")?;
     }
     Ok(true)
 }

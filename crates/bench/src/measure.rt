@@ -1,12 +1,13 @@
 //! What is measured.
 
-use crate::whole;
+use crate::{bare, whole};
 use bench_port::Calls;
 use bench_texts::{Shape, Way};
 use std::alloc::{AllocError, Global};
-use std::fmt;
 use std::sync::Wait;
 use std::thread::Threads;
+use std::time::{Clock, Duration, Instant};
+use std::{fmt, io};
 
 /// A thing to measure.
 #[derive(Clone, Copy)]
@@ -15,6 +16,24 @@ pub enum Measure {
     Calls(Calls, u64),
     /// The run of a text, or its check.
     Text(Shape),
+}
+
+/// How it is measured.
+#[derive(Clone, Copy)]
+pub struct Manner {
+    /// Whether the time is printed.
+    pub is_timed: bool,
+    /// Whether the time of a run is that of the run alone.
+    pub is_bare: bool,
+    /// How many worker threads a run has; none for a serial run.
+    pub workers: Option<u8>,
+}
+
+/// How much was done, and how long that took.
+#[derive(Clone, Copy)]
+pub struct Done {
+    pub count: u64,
+    pub took: Duration,
 }
 
 impl Measure {
@@ -38,11 +57,33 @@ impl Measure {
         Ok(all)
     }
 
-    /// Does it, and tells how much was done: signals taken, timers, or bytes written. None where it failed.
-    pub fn done<R: Threads + Wait + Sync>(self, rt: &R, alloc: Global) -> Option<u64> {
+    /// Does it, and tells how much was done: signals taken, timers, bytes written, or, of a bare run, events. None if it
+    /// failed.
+    pub fn done<R: Clock + Threads + Wait + Copy + Send + Sync>(
+        self,
+        rt: &R,
+        alloc: Global,
+        manner: Manner,
+    ) -> io::Result<Option<Done>> {
+        if let (Measure::Text(shape), true) = (self, manner.is_bare) {
+            return bare::ran(rt, alloc, shape, manner.workers);
+        }
+        let start = Instant::now(rt)?;
+        let count = self.count(rt, alloc, manner.workers);
+        let took = start.elapsed(rt)?;
+        Ok(count.map(|count| Done { count, took }))
+    }
+
+    /// Does it, and tells how much was done. None if it failed.
+    fn count<R: Threads + Wait + Copy + Send + Sync>(
+        self,
+        rt: &R,
+        alloc: Global,
+        workers: Option<u8>,
+    ) -> Option<u64> {
         match self {
             Measure::Calls(calls, times) => calls.done(rt, alloc, times),
-            Measure::Text(shape) => whole::written(alloc, shape),
+            Measure::Text(shape) => whole::written(rt, alloc, shape, workers),
         }
     }
 }

@@ -191,3 +191,105 @@ endsystem;
 {SCRIPT}"
     )
 }
+
+/// A sender fills a port with ordinary signals and then with as many of a priority input; meanwhile all are taken, one
+/// by one.
+pub fn priority(alloc: Global, signals: u64) -> Result<String, AllocError> {
+    let (all, row) = (signals.saturating_mul(2), signals.min(ROW / 2));
+    format!(in alloc;
+        "system Priority;
+signal common(Integer), urgent(Integer);
+process Source;
+  dcl sent Integer := 0, row Integer;
+  start;
+    nextstate open;
+  state open;
+    provided sent < {all};
+      task row := 0;
+      again: decision sent < {signals};
+        (true): output common(sent) to Sink;
+        (false): output urgent(sent) to Sink;
+      enddecision;
+      task sent := sent + 1, row := row + 1;
+      decision row < {row} and sent < {all};
+        (true): join again;
+        (false):
+      enddecision;
+      nextstate -;
+endprocess;
+process Sink;
+  dcl last Integer;
+  start;
+    nextstate open;
+  state open;
+    priority input urgent(last);
+      nextstate -;
+    input common(last);
+      nextstate -;
+endprocess;
+endsystem;
+{SCRIPT}"
+    )
+}
+
+/// A sender sends by turns a signal that is saved and one of a priority input; the latter are taken.
+pub fn turns(alloc: Global, signals: u64) -> Result<String, AllocError> {
+    let row = signals.min(ROW);
+    format!(in alloc;
+        "system Turns;
+signal kept(Integer), urgent(Integer);
+process Source;
+  dcl sent Integer := 0, row Integer;
+  start;
+    nextstate open;
+  state open;
+    provided sent < {signals};
+      task row := 0;
+      again: output kept(sent), urgent(sent) to Sink;
+      task sent := sent + 1, row := row + 1;
+      decision row < {row} and sent < {signals};
+        (true): join again;
+        (false):
+      enddecision;
+      nextstate -;
+endprocess;
+process Sink;
+  dcl last Integer;
+  start;
+    nextstate open;
+  state open;
+    save kept;
+    priority input urgent(last);
+      nextstate -;
+endprocess;
+endsystem;
+{SCRIPT}"
+    )
+}
+
+/// An instance sets timers whose signals wait in its port; then it sets and resets one after the other of them again.
+pub fn resets(alloc: Global, waiting: u64, resets: u64) -> Result<String, AllocError> {
+    format!(in alloc;
+        "system Resets;
+process Holder;
+  dcl held Integer := 0, turn Integer := 0;
+  timer late(Integer);
+  start;
+    nextstate holding;
+  state holding;
+    save late;
+    provided held < {waiting};
+      set(now, late(held));
+      task held := held + 1;
+      nextstate -;
+    provided held = {waiting} and turn < {resets};
+      set(now, late(turn mod {waiting}));
+      reset(late(turn mod {waiting}));
+      set(now, late(turn mod {waiting}));
+      task turn := turn + 1;
+      nextstate -;
+endprocess;
+endsystem;
+{SCRIPT}"
+    )
+}

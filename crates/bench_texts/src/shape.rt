@@ -1,6 +1,6 @@
 //! The shapes of texts that there are.
 
-use crate::runs::{busy, flood, fuses, ring, save};
+use crate::runs::{busy, flood, fuses, priority, resets, ring, save, turns};
 use crate::sized::{decisions, processes, states, tasks};
 use std::alloc::{AllocError, Global};
 use std::fmt;
@@ -36,6 +36,12 @@ pub enum Shape {
     Busy { workers: u64, turns: u64 },
     /// An instance sets and resets a timer so many times while others wait.
     Fuses { waiting: u64, sets: u64 },
+    /// So many ordinary signals stand in a port before as many of a priority input.
+    Priority { signals: u64 },
+    /// So many signals are saved, and one of a priority input comes after each.
+    Turns { signals: u64 },
+    /// An instance sets and resets a timer so many times while the signals of so many wait.
+    Resets { waiting: u64, resets: u64 },
     /// Processes of many states each, in so many bytes.
     States { bytes: u64 },
     /// One long transition of tasks and outputs.
@@ -69,6 +75,12 @@ impl Shape {
                 waiting: first,
                 sets: second,
             }),
+            "priority" => Some(Shape::Priority { signals: first }),
+            "turns" => Some(Shape::Turns { signals: first }),
+            "resets" => Some(Shape::Resets {
+                waiting: first,
+                resets: second,
+            }),
             _ => Shape::sized(name, first),
         }
     }
@@ -85,7 +97,7 @@ impl Shape {
     }
 
     /// All shapes by one number: each of their own is this one, and a text that is checked has 10,000 bytes for each.
-    pub fn all(number: u64) -> [Shape; 10] {
+    pub fn all(number: u64) -> [Shape; 13] {
         let bytes = number.saturating_mul(BYTES);
         [
             Shape::Ring {
@@ -111,6 +123,12 @@ impl Shape {
                 waiting: number,
                 sets: number,
             },
+            Shape::Priority { signals: number },
+            Shape::Turns { signals: number },
+            Shape::Resets {
+                waiting: number,
+                resets: number,
+            },
             Shape::States { bytes },
             Shape::Tasks { bytes },
             Shape::Processes { bytes },
@@ -125,7 +143,10 @@ impl Shape {
             | Shape::Save { .. }
             | Shape::Flood { .. }
             | Shape::Busy { .. }
-            | Shape::Fuses { .. } => true,
+            | Shape::Fuses { .. }
+            | Shape::Priority { .. }
+            | Shape::Turns { .. }
+            | Shape::Resets { .. } => true,
             Shape::States { .. }
             | Shape::Tasks { .. }
             | Shape::Processes { .. }
@@ -145,6 +166,12 @@ impl Shape {
             Shape::Flood { signals } => flood(alloc, signals),
             Shape::Busy { workers, turns } => busy(alloc, workers, turns),
             Shape::Fuses { waiting, sets } => fuses(alloc, waiting, sets),
+            Shape::Priority { signals } => priority(alloc, signals),
+            Shape::Turns { signals } => turns(alloc, signals),
+            Shape::Resets {
+                waiting,
+                resets: times,
+            } => resets(alloc, waiting, times),
             Shape::States { bytes } => states(alloc, bytes),
             Shape::Tasks { bytes } => tasks(alloc, bytes),
             Shape::Processes { bytes } => processes(alloc, bytes),
@@ -170,6 +197,9 @@ impl fmt::Display for Shape {
             Shape::Flood { signals } => write!(f, "flood {signals}"),
             Shape::Busy { workers, turns } => write!(f, "busy {workers} {turns}"),
             Shape::Fuses { waiting, sets } => write!(f, "fuses {waiting} {sets}"),
+            Shape::Priority { signals } => write!(f, "priority {signals}"),
+            Shape::Turns { signals } => write!(f, "turns {signals}"),
+            Shape::Resets { waiting, resets } => write!(f, "resets {waiting} {resets}"),
             Shape::States { bytes } => write!(f, "states {bytes}"),
             Shape::Tasks { bytes } => write!(f, "tasks {bytes}"),
             Shape::Processes { bytes } => write!(f, "processes {bytes}"),
