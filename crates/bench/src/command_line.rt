@@ -28,6 +28,8 @@ Whole runs of texts that are made for it:
   priority N   N ordinary signals and after them N of a priority input, which are taken first
   turns N      N signals that are saved, with one of a priority input after each
   resets N H   an instance sets and resets a timer H times while the signals of N wait
+  tokens N H   999 instances in a ring hand N tokens on, each H times; N is 999 at most
+  crowd N H    N instances send H signals each into one port; N is 999 at most
 
 Checks of texts of one shape, in N bytes:
   states N, tasks N, processes N, decisions N

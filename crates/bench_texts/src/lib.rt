@@ -8,5 +8,6 @@
 mod runs;
 mod shape;
 mod sized;
+mod together;
 
 pub use shape::{Shape, Way};

@@ -2,11 +2,15 @@
 
 use crate::runs::{busy, flood, fuses, priority, resets, ring, save, turns};
 use crate::sized::{decisions, processes, states, tasks};
+use crate::together::{crowd, tokens};
 use std::alloc::{AllocError, Global};
 use std::fmt;
 
 /// How many stations a ring has at most: with the instance that makes them there are 1,000.
 const MOST_STATIONS: u64 = 999;
+
+/// How many sources send into one port at most: with the instance that takes their signals there are 1,000.
+const MOST_SOURCES: u64 = 999;
 
 /// How many instances a process has at the start at most.
 const MOST_WORKERS: u64 = 1_000;
@@ -42,6 +46,10 @@ pub enum Shape {
     Turns { signals: u64 },
     /// An instance sets and resets a timer so many times while the signals of so many wait.
     Resets { waiting: u64, resets: u64 },
+    /// A ring of 999 stations hands so many tokens on, each so many times.
+    Tokens { tokens: u64, hops: u64 },
+    /// So many sources send so many signals each into one port.
+    Crowd { sources: u64, signals: u64 },
     /// Processes of many states each, in so many bytes.
     States { bytes: u64 },
     /// One long transition of tasks and outputs.
@@ -81,6 +89,14 @@ impl Shape {
                 waiting: first,
                 resets: second,
             }),
+            "tokens" if first <= MOST_STATIONS => Some(Shape::Tokens {
+                tokens: first,
+                hops: second,
+            }),
+            "crowd" if first <= MOST_SOURCES => Some(Shape::Crowd {
+                sources: first,
+                signals: second,
+            }),
             _ => Shape::sized(name, first),
         }
     }
@@ -97,7 +113,7 @@ impl Shape {
     }
 
     /// All shapes by one number: each of their own is this one, and a text that is checked has 10,000 bytes for each.
-    pub fn all(number: u64) -> [Shape; 13] {
+    pub fn all(number: u64) -> [Shape; 15] {
         let bytes = number.saturating_mul(BYTES);
         [
             Shape::Ring {
@@ -129,6 +145,14 @@ impl Shape {
                 waiting: number,
                 resets: number,
             },
+            Shape::Tokens {
+                tokens: number.min(MOST_STATIONS),
+                hops: number,
+            },
+            Shape::Crowd {
+                sources: number.min(MOST_SOURCES),
+                signals: number,
+            },
             Shape::States { bytes },
             Shape::Tasks { bytes },
             Shape::Processes { bytes },
@@ -146,7 +170,9 @@ impl Shape {
             | Shape::Fuses { .. }
             | Shape::Priority { .. }
             | Shape::Turns { .. }
-            | Shape::Resets { .. } => true,
+            | Shape::Resets { .. }
+            | Shape::Tokens { .. }
+            | Shape::Crowd { .. } => true,
             Shape::States { .. }
             | Shape::Tasks { .. }
             | Shape::Processes { .. }
@@ -172,6 +198,11 @@ impl Shape {
                 waiting,
                 resets: times,
             } => resets(alloc, waiting, times),
+            Shape::Tokens {
+                tokens: count,
+                hops,
+            } => tokens(alloc, count, hops),
+            Shape::Crowd { sources, signals } => crowd(alloc, sources, signals),
             Shape::States { bytes } => states(alloc, bytes),
             Shape::Tasks { bytes } => tasks(alloc, bytes),
             Shape::Processes { bytes } => processes(alloc, bytes),
@@ -198,6 +229,8 @@ impl fmt::Display for Shape {
             Shape::Busy { workers, turns } => write!(f, "busy {workers} {turns}"),
             Shape::Fuses { waiting, sets } => write!(f, "fuses {waiting} {sets}"),
             Shape::Priority { signals } => write!(f, "priority {signals}"),
+            Shape::Tokens { tokens, hops } => write!(f, "tokens {tokens} {hops}"),
+            Shape::Crowd { sources, signals } => write!(f, "crowd {sources} {signals}"),
             Shape::Turns { signals } => write!(f, "turns {signals}"),
             Shape::Resets { waiting, resets } => write!(f, "resets {waiting} {resets}"),
             Shape::States { bytes } => write!(f, "states {bytes}"),
