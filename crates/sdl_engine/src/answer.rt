@@ -13,6 +13,8 @@ use crate::refusal_text::{fixed_line, refusal_line};
 use sdl_report::{WriteFault, write_report, write_text};
 use std::alloc::Global;
 use std::io::Write;
+use std::thread::Threads;
+use threads_report::write_report_by_workers;
 
 /// Writes the report of a run.
 pub fn report<W: Write>(alloc: Global, run: &Run, writer: &mut W) -> Result<Outcome, TextFault>
@@ -23,11 +25,39 @@ pub fn report<W: Write>(alloc: Global, run: &Run, writer: &mut W) -> Result<Outc
         (W.contents writer.old) (W.contents writer.new)) }
 {
     match write_report(alloc, &run.report, &run.system, writer) {
-        Ok(()) if run.report.whole => Ok(Outcome::Whole),
-        Ok(()) => Ok(Outcome::Cut),
+        Ok(()) => Ok(outcome(run.report.whole)),
         Err(WriteFault::Write) => Err(TextFault::Write),
         Err(WriteFault::Memory) => Err(TextFault::Memory),
     }
+}
+
+/// Writes the report of a run, whose text so many workers make.
+pub fn report_by_workers<T: Threads + Sync, W: Write>(
+    rt: &T,
+    alloc: Global,
+    workers: u8,
+    run: &Run,
+    writer: &mut W,
+) -> Result<Outcome, TextFault>
+    ensures how { IfOk result (λ how. how ≡ outcome_by run.now.report.whole) }
+    ensures ok { OnOk result (Appends (W.contents writer.old) (W.contents writer.new)
+        (report_text run.now.system run.now.report)) }
+    ensures err { IfErr result (λ fault. BreaksOff fault (report_text run.now.system run.now.report)
+        (W.contents writer.old) (W.contents writer.new)) }
+{
+    let workers = usize::from(workers);
+    match write_report_by_workers(rt, alloc, workers, &run.report, &run.system, writer) {
+        Ok(()) => Ok(outcome(run.report.whole)),
+        Err(WriteFault::Write) => Err(TextFault::Write),
+        Err(WriteFault::Memory) => Err(TextFault::Memory),
+    }
+}
+
+/// The outcome of a run, by whether its report is whole.
+fn outcome(whole: bool) -> Outcome
+    ensures { result ≡ outcome_by whole }
+{
+    if whole { Outcome::Whole } else { Outcome::Cut }
 }
 
 /// Writes a canonical text.

@@ -4,7 +4,7 @@ ghost use Rattle.std.specs.Prelude.{◌≡◌, ◌≢◌, IfOk, IfErr, Some};
 ghost use Rattle.std.specs.Io.KnownBytes.{Keeps};
 ghost use Rattle.sdl_engine.specs.Answer.{Faulted, Fails, Tells, Written};
 
-use crate::answer::{refuse, report};
+use crate::answer::{refuse, report_by_workers};
 use crate::explained::note_refusal;
 use crate::input::{Input, read_input};
 use crate::options::{Command, Options, Outcome, TextFault};
@@ -95,7 +95,7 @@ fn tell_run_by_workers<T: Threads + Wait + Copy + Send + Sync, W: Write>(
         (W.contents writer.old) (W.contents writer.new)) }
 {
     match run_input_by_workers(rt, alloc, input, workers, options.limit) {
-        Ok(run) => report(alloc, &run, writer),
+        Ok(run) => report_by_workers(rt, alloc, workers, &run, writer),
         Err(refusal) => refuse(alloc, &refusal, writer),
     }
 }

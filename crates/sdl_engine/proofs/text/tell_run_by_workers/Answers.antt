@@ -9,17 +9,17 @@ pub returns-in-Ok-clause-ok : goal.returns-in-Ok-clause-ok
 returns-in-Ok-clause-ok g c =
     let run = c.in-Ok.run' in
     tells_by c.args.input.now c.args.options.now (outcome_by run.report.whole) (report_text run.system run.report)
-    _ _ c.report.result
+    _ _ c.report_by_workers.result
     (report_says c.args.input.now c.args.options.now (Some c.args.workers) run.system run.report run.report.whole
-    c.requires.command c.requires.workers refl c.in-Ok.ensures.ok) c.report.ensures.how c.report.ensures.ok
+    c.requires.command c.requires.workers refl c.in-Ok.ensures.ok) c.report_by_workers.ensures.how c.report_by_workers.ensures.ok
 
 pub returns-in-Ok-clause-err : goal.returns-in-Ok-clause-err
 returns-in-Ok-clause-err g c =
     let run = c.in-Ok.run' in
     fails_by c.args.input.now c.args.options.now (outcome_by run.report.whole) (report_text run.system run.report)
-    _ _ c.report.result
+    _ _ c.report_by_workers.result
     (report_says c.args.input.now c.args.options.now (Some c.args.workers) run.system run.report run.report.whole
-    c.requires.command c.requires.workers refl c.in-Ok.ensures.ok) c.report.ensures.err
+    c.requires.command c.requires.workers refl c.in-Ok.ensures.ok) c.report_by_workers.ensures.err
 
 pub returns-in-Err-clause-ok : goal.returns-in-Err-clause-ok
 returns-in-Err-clause-ok g c =
