@@ -45,13 +45,23 @@ fn transitions(report: &[u8]) -> usize {
         .count()
 }
 
-/// A closed pipe, and others that take no more.
-static ROOMS: [(usize, bool); 4] = [(0, true), (0, false), (20, true), (20, false)];
+/// A closed pipe, and others that take no more: of a short report, and of a long one, whose text several threads make.
+/// The limit, the room, and whether the writer fails.
+static ROOMS: [(u64, usize, bool); 8] = [
+    (50, 0, true),
+    (50, 0, false),
+    (50, 20, true),
+    (50, 20, false),
+    (2_000, 0, true),
+    (2_000, 0, false),
+    (2_000, 40_000, true),
+    (2_000, 40_000, false),
+];
 
 #[test]
 fn tells_a_writer_that_fails(rt: HostRuntime) {
-    for (room, fails) in &ROOMS {
-        expect_write_fault(&rt, rt.alloc(), *room, *fails);
+    for (limit, room, fails) in &ROOMS {
+        expect_write_fault(&rt, rt.alloc(), *limit, *room, *fails);
     }
 }
 
@@ -59,13 +69,14 @@ fn tells_a_writer_that_fails(rt: HostRuntime) {
 fn expect_write_fault<R: Threads + Wait + Copy + Send + Sync + Abort>(
     rt: &R,
     alloc: Global,
+    limit: u64,
     room: usize,
     fails: bool,
 ) {
     let options = Options {
         command: Command::Run,
         workers: Some(4),
-        limit: 50,
+        limit,
     };
     let mut writer = Narrow {
         taken: Vec::new(alloc),
@@ -75,6 +86,65 @@ fn expect_write_fault<R: Threads + Wait + Copy + Send + Sync + Abort>(
     let told = run_text(rt, alloc, &mut PING_PONG.as_bytes(), &mut writer, &options);
     assert!(rt; told == Err(TextFault::Write));
     assert!(rt; writer.taken.len() == room);
+}
+
+/// Instances whose reports are long, and the same whatever the schedule: three; one; one after three others that stop at
+/// once, so that a thread is left without a record.
+static LONG: [&str; 3] = [
+    "system S; process P (3); dcl n Integer := 0; start; nextstate s;
+state s; provided n < 1000; task n := n + 1; nextstate -; endprocess; endsystem;
+",
+    "system S; process P; dcl n Integer := 0; start; nextstate s;
+state s; provided n < 1000; task n := n + 1; nextstate -; endprocess; endsystem;
+",
+    "system S; process Q (3); start; stop; endprocess;
+process P; dcl n Integer := 0; start; nextstate s;
+state s; provided n < 2000; task n := n + 1; nextstate -; endprocess; endsystem;
+",
+];
+
+/// How many workers they are tried with.
+static MAKERS: [u8; 2] = [2, 4];
+
+#[test]
+fn makes_the_serial_text(rt: HostRuntime) {
+    for text in &LONG {
+        expect_serial_text(&rt, rt.alloc(), text);
+    }
+}
+
+/// Sees that the report of a run with workers is that of the serial run.
+fn expect_serial_text<R: Threads + Wait + Copy + Send + Sync + Abort>(
+    rt: &R,
+    alloc: Global,
+    text: &str,
+) {
+    let serial = report(rt, alloc, text, None);
+    for workers in &MAKERS {
+        let threaded = report(rt, alloc, text, Some(*workers));
+        assert!(rt;
+            threaded.as_slice() == serial.as_slice(),
+            "{workers} workers"
+        );
+    }
+}
+
+/// The report of a run, which is whole.
+fn report<R: Threads + Wait + Copy + Send + Sync + Abort>(
+    rt: &R,
+    alloc: Global,
+    text: &str,
+    workers: Option<u8>,
+) -> Vec<u8> {
+    let options = Options {
+        command: Command::Run,
+        workers,
+        limit: Options::DEFAULT_LIMIT,
+    };
+    let mut written = Vec::new(alloc);
+    let told = run_text(rt, alloc, &mut text.as_bytes(), &mut written, &options);
+    assert!(rt; told == Ok(Outcome::Whole));
+    written
 }
 
 /// A check has no use for workers, and a text that is refused starts none.
