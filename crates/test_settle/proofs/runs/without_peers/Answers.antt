@@ -13,12 +13,12 @@ new-requires-2 g c =
     let closing = c.args.closing in
     let parts = c.into_parts-trace in
     let by_peers = subst (λ (p : PeersState). IsLeftOfOne system ports closing.whole closing.trace closing.owner p)
-        (sym c.new.ensures)
-        (c.left_without_peers.ensures system ports closing.whole closing.trace closing.owner closing.peers
-        c.is_left.ensures) in
+    (sym c.new.ensures)
+    (c.left_without_peers.ensures system ports closing.whole closing.trace closing.owner closing.peers
+    c.is_left.ensures) in
     let by_owner = subst (λ (o : OwnerState). IsLeftOfOne system ports closing.whole closing.trace o c.new.result)
-        (sym parts.ensures.owner) by_peers in
+    (sym parts.ensures.owner) by_peers in
     let by_trace = subst (λ (t : RecordValue). IsLeftOfOne system ports closing.whole t parts.result.1.owner c.new.result)
-        (sym parts.ensures.trace) by_owner in
+    (sym parts.ensures.trace) by_owner in
     subst (λ (w : Bool). IsLeftOfOne system ports w parts.result.0 parts.result.1.owner c.new.result)
     (sym c.whole-whole.ensures) by_trace
