@@ -1,11 +1,11 @@
 -- The records of parts, and the texts of parts as they go out.
-use Rattle.std.proofs.Common.{◌≡◌, ◌∙◌, ℕ, zero, suc, ◌+◌, ◌<◌, ◌≤◌, List, [], ◌∷◌, ◌++◌, length, take, drop, get_or, Option, refl, sym, ap, subst, append_assoc, append-nil, length-append, take-append-drop, drop-cons, arith}
+use Rattle.std.proofs.Common.{◌≡◌, ◌∙◌, ℕ, suc, ◌+◌, ◌<◌, ◌≤◌, List, [], ◌∷◌, ◌++◌, length, take, drop, get_or, Option, refl, sym, ap, subst, append_assoc, append-nil, length-append, take-append-drop, drop-cons, arith}
 use Rattle.std.proofs.lemmas.List.{length-drop, take_at, take_more}
 use Rattle.std.proofs.lemmas.List.Concat.{flat_map-append}
 use Rattle.std.specs.List.{flat_map}
 use Rattle.std.specs.Io.KnownBytes.{Appends}
 use Rattle.run_record.specs.Record.{RecordValue}
-use Rattle.sdl_report.proofs.GatheredLemmas.{Breaks-after, Breaks-before, Breaks-part, Breaks-prefix}
+use Rattle.sdl_report.proofs.GatheredLemmas.{Breaks-after, Breaks-before, Breaks-prefix}
 use Rattle.sdl_report.specs.Gathered.{Breaks, BreaksOff}
 use Rattle.threads_report.specs.Parts.{joined}
 use Rattle.threads_report.specs.declared.part.Part.{Part}

@@ -41,8 +41,8 @@ pub fn parts_of<'a>(
     Ok(parts)
 }
 
-/// How many of the first records end within so many lines, or are in there with half of their own lines: the first record
-/// in any case.
+/// How many of the first records end within so many lines, or are in there with half of their own lines: the first
+/// record in any case.
 fn count_within(records: &[Record], share: usize) -> usize
     ensures within { result ≤ length records.now }
     ensures first { 0 < length records.now → 0 < result }

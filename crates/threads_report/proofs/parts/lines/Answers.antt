@@ -1,4 +1,4 @@
-use Rattle.std.proofs.Common.{◌≡◌, ◌-◌, ◌^◌, ◌∙◌, ap, arith, min, rules, sum_by, take_all}
+use Rattle.std.proofs.Common.{◌-◌, ◌^◌, ◌∙◌, ap, arith, min, rules, sum_by, take_all}
 use Rattle.std.proofs.lemmas.List.Sums.{sum_by_more}
 use Rattle.threads_report.specs.Parts.{line_count}
 use Rattle.threads_report.proofs.parts.lines.Goals as goal
