@@ -11,7 +11,8 @@ returns-in-Ok-clause-ok g c =
     tells_by c.args.input.now c.args.options.now (outcome_by run.report.whole) (report_text run.system run.report)
     _ _ c.report_by_workers.result
     (report_says c.args.input.now c.args.options.now (Some c.args.workers) run.system run.report run.report.whole
-    c.requires.command c.requires.workers refl c.in-Ok.ensures.ok) c.report_by_workers.ensures.how c.report_by_workers.ensures.ok
+    c.requires.command c.requires.workers refl c.in-Ok.ensures.ok) c.report_by_workers.ensures.how
+    c.report_by_workers.ensures.ok
 
 pub returns-in-Ok-clause-err : goal.returns-in-Ok-clause-err
 returns-in-Ok-clause-err g c =
