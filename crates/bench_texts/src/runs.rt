@@ -4,7 +4,26 @@ use crate::shape::Way;
 use std::alloc::{AllocError, Global};
 
 /// The script that sends nothing.
-const SCRIPT: &str = "%script\n0\n";
+pub(crate) const SCRIPT: &str = "%script\n0\n";
+
+/// A station of a ring: it waits for its neighbour's Pid, then hands on each token that has hops left.
+pub(crate) const STATION: &str = "process Station (0, 999);
+  dcl neighbour Pid, left Integer;
+  start;
+    nextstate alone;
+  state alone;
+    input next(neighbour);
+      nextstate joined;
+    save token;
+  state joined;
+    input token(left);
+      decision left > 0;
+        (true): output token(left - 1) to neighbour;
+        (false):
+      enddecision;
+      nextstate -;
+endprocess;
+";
 
 /// How many signals are sent in a row at most.
 const ROW: u64 = 2_000;
@@ -35,23 +54,7 @@ process Maker;
       output token({hops}) to {begin};
       stop;
 endprocess;
-process Station (0, 999);
-  dcl neighbour Pid, left Integer;
-  start;
-    nextstate alone;
-  state alone;
-    input next(neighbour);
-      nextstate joined;
-    save token;
-  state joined;
-    input token(left);
-      decision left > 0;
-        (true): output token(left - 1) to neighbour;
-        (false):
-      enddecision;
-      nextstate -;
-endprocess;
-endsystem;
+{STATION}endsystem;
 {SCRIPT}"
     )
 }

@@ -1,5 +1,6 @@
 //! Texts whose instances can act at the same time, so that more workers can make more of them.
 
+use crate::runs::{SCRIPT, STATION};
 use std::alloc::{AllocError, Global};
 
 /// A ring of 999 stations that hand so many tokens on, each so many times. A maker creates the stations, tells each its
@@ -29,26 +30,8 @@ process Maker;
       output next(first) to last;
       stop;
 endprocess;
-process Station (0, 999);
-  dcl neighbour Pid, left Integer;
-  start;
-    nextstate alone;
-  state alone;
-    input next(neighbour);
-      nextstate joined;
-    save token;
-  state joined;
-    input token(left);
-      decision left > 0;
-        (true): output token(left - 1) to neighbour;
-        (false):
-      enddecision;
-      nextstate -;
-endprocess;
-endsystem;
-%script
-0
-"
+{STATION}endsystem;
+{SCRIPT}"
     )
 }
 
@@ -76,8 +59,6 @@ process Sink;
       nextstate -;
 endprocess;
 endsystem;
-%script
-0
-"
+{SCRIPT}"
     )
 }
