@@ -3,6 +3,7 @@
 ghost use Rattle.std.specs.Prelude.{◌≡◌, [], true};
 ghost use Rattle.threads_senders.specs.Peers.{is_known};
 
+use crate::calls;
 use crate::peer_ends::{expect_drawn, item, key, with_sender};
 use input_port::{Owner, Port, Sender};
 use port_inbox::Fuse;
@@ -11,7 +12,7 @@ use std::alloc::Global;
 use std::marker::Brand;
 use std::process::Abort;
 use std::sync::Wait;
-use threads_senders::{Peers, Run};
+use threads_senders::{NotPut, Peers, Run};
 
 #[test]
 fn puts_to_another(rt: HostRuntime) {
@@ -33,10 +34,23 @@ fn puts_one<J: Run, R: Wait + Abort>(
     requires fresh { sender.seen ≡ [] }
 {
     let mut peers = Peers::<J>::new(alloc);
+    comes_back(rt, alloc, port, &mut peers);
     open(rt, &mut peers, 2, sender);
     put(rt, alloc, port, &mut peers);
     let sender = release(rt, peers);
     expect_drawn(rt, port, owner, sender, 1);
+}
+
+/// Without a sender a signal comes back with its values, and nothing is put.
+fn comes_back<J: Run, R: Wait + Abort>(rt: &R, alloc: Global, port: &Port, peers: &mut Peers<J>)
+    requires { port.now.queue ≡ J.ports 2 }
+{
+    let item = calls::item(rt, alloc, 5, 7);
+    let Err(NotPut::Unknown(back)) = peers.put(rt, port, 2, item) else {
+        panic!(rt; "a signal is put without a sender");
+    };
+    assert!(rt; calls::shown(&back) == (5, 7));
+    assert!(rt; !peers.is_known(2) && peers.sent(2) == 0);
 }
 
 /// A sender is added that was not known.

@@ -1,6 +1,6 @@
 -- What keeps the fact that what was put is the last of what is sent.
 use Rattle.std.proofs.Common.{◌≡◌, ◌∙◌, ap, append-nil, append_assoc, cond, nat_eq, refl, sym, subst, ℕ, Bool, true}
-use Rattle.std.proofs.Common.{false, List, [], ◌∷◌, ◌++◌, All, Option, None, Some, Result, Ok, Err, MatchResult, OnOk, IfSome}
+use Rattle.std.proofs.Common.{false, List, [], ◌∷◌, ◌++◌, All, Option, None, Some, Result, Ok, Err, MatchResult, IfSome}
 use Rattle.std.proofs.lemmas.List.Elements.{All-append, All-cons, All-nil}
 use Rattle.port_inbox.specs.Calls.{ComesBack}
 use Rattle.port_inbox.specs.declared.entry.Entry.TheVariants.{Signal, Timer}
@@ -117,20 +117,6 @@ last_in number old (Some s) is origin sends peers =
     subst (AreLast origin (sends number)) (ap put_in (sym is)) (peers number)
 
 -- ---- by what a call answers
-
-pub put_keeps : (number : ℕ) (item : Item) (result : Result (Unit {0}) (Refused Item)) (old new : PeersState)
-    → MatchResult result (λ _. PutsTo number 0 (Signal item) old new) (λ back. ComesBack back item × (new ≡ old))
-    → OnOk result ((origin : Pid) (sends : Sent) → item.sender ≡ origin → ArePeers origin sends old
-    → ArePeers origin (with_signal sends number item) new)
-put_keeps number item (Ok done) old new puts = kept_put number item old new puts
-put_keeps number item (Err back) old new puts = tt
-
-pub put_records : (number : ℕ) (item : Item) (result : Result (Unit {0}) (Refused Item)) (old new : PeersState)
-    → MatchResult result (λ _. PutsTo number 0 (Signal item) old new) (λ back. ComesBack back item × (new ≡ old))
-    → OnOk result ((who : ℕ) (events : List Event) (named : Dest) → item.sender ≡ Of who → ArePeersOf who events old
-    → ArePeersOf who (events ++ output_of item named number ∷ []) new)
-put_records number item (Ok done) old new puts = recorded_put number item old new puts
-put_records number item (Err back) old new puts = tt
 
 pub expire_keeps : (number at : ℕ) (fuse : Fuse) (result : Result (Unit {0}) (Refused Fuse)) (old new : PeersState)
     → MatchResult result (λ _. PutsTo number at (Timer fuse) old new) (λ back. ComesBack back fuse × (new ≡ old))

@@ -17,7 +17,7 @@ use Rattle.port_queue.specs.Ends.{SenderState, sent_by}
 use Rattle.port_values.specs.declared.item.Item.{Item}
 use Rattle.port_model.specs.declared.refused.Refused.{Refused}
 use Rattle.threads_senders.proofs.Signals.{signals_in-append}
-use Rattle.threads_senders.specs.Peers.{PeersState, PutsTo, put_by, put_to, sender_to}
+use Rattle.threads_senders.specs.Peers.{PeersState, PutsTo, is_known, put_by, put_to, sender_to}
 
 -- ---- one sender in the place of another, or of none
 
@@ -90,25 +90,36 @@ set_value-same (e ∷ es) number before after known same =
     set_value-same_by e es number before after (nat_eq number e.0) known same
     (λ there. set_value-same es number before after there same)
 
--- what a sender answers to a put, its owner answers
-pub put_answered : {T : Type 0} (number at : ℕ) (entry : Entry) (value : T) (result : Result (Unit {0}) (Refused T))
-    (old new : PeersState) (before after : SenderState) → sender_to old number ≡ Some before
-    → new ≡ set_value (nat_eq number) old after → PutIs before after at entry value result
-    → MatchResult result (λ _. PutsTo number at entry old new) (λ back. ComesBack back value × (new ≡ old))
-put_answered number at entry value (Ok done) old new before after known changed answer =
-    record { before = before; after = after; known = known; puts = answer; changed = changed }
-put_answered number at entry value (Err back) old new before after known changed answer =
-    (answer.0, changed ∙ set_value-same old number before after known answer.1)
+-- what a sender has put, its owner has put, by what it sees of the senders
+pub puts_through : (number at : ℕ) (entry : Entry) (items view new : PeersState) (before after : SenderState)
+    → items ≡ view → Some before ≡ sender_to items number → new ≡ set_value (nat_eq number) items after
+    → Puts before after at entry → PutsTo number at entry view new
+puts_through number at entry items view new before after is known changed puts =
+    subst (λ (old : PeersState). PutsTo number at entry old new) is
+    (record { before = before; after = after; known = sym known; puts = puts; changed = changed })
 
--- what its owner answers, by what it sees of the senders
+-- where a sender stays as it was, all do
+pub stays_through : (number : ℕ) (items view new : PeersState) (before after : SenderState)
+    → items ≡ view → Some before ≡ sender_to items number → new ≡ set_value (nat_eq number) items after
+    → after ≡ before → new ≡ view
+stays_through number items view new before after is known changed same =
+    changed ∙ set_value-same items number before after (sym known) same ∙ is
+
+-- what a sender answers, its owner answers
 pub put_through : {T : Type 0} (number at : ℕ) (entry : Entry) (value : T) (result : Result (Unit {0}) (Refused T))
     (items view new : PeersState) (before after : SenderState) → items ≡ view → Some before ≡ sender_to items number
     → new ≡ set_value (nat_eq number) items after → PutIs before after at entry value result
     → MatchResult result (λ _. PutsTo number at entry view new) (λ back. ComesBack back value × (new ≡ view))
-put_through number at entry value result items view new before after is known changed answer =
-    subst (λ (old : PeersState). MatchResult result (λ _. PutsTo number at entry old new)
-    (λ back. ComesBack back value × (new ≡ old))) is
-    (put_answered number at entry value result items new before after (sym known) changed answer)
+put_through number at entry value (Ok done) items view new before after is known changed answer =
+    puts_through number at entry items view new before after is known changed answer
+put_through number at entry value (Err back) items view new before after is known changed answer =
+    (answer.0, stays_through number items view new before after is known changed answer.1)
+
+-- a sender that is found is known, and one that isn't found is not
+pub is_found : (number : ℕ) (items view : PeersState) (sender : Option SenderState) → items ≡ view
+    → sender ≡ sender_to items number → is_known view number ≡ is_some sender
+is_found number items view sender is found =
+    ap (λ (l : PeersState). is_known l number) (sym is) ∙ ap is_some (sym found)
 
 -- ---- the last sender
 

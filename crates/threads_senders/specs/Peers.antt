@@ -1,5 +1,6 @@
 -- The senders of an instance or of the environment, and what they have put (Z.101: input port).
-use Rattle.std.specs.Prelude.{◌≡◌, ◌==◌, ℕ, Bool, nat_eq, List, [], ◌∷◌, ◌++◌, All, Option, Some, if◌then◌else◌, is_some}
+use Rattle.std.specs.Prelude.{◌≡◌, ◌==◌, ℕ, Bool, true, false, nat_eq, List, [], ◌∷◌, ◌++◌, All, Option, Some}
+use Rattle.std.specs.Prelude.{if◌then◌else◌, is_some}
 use Rattle.std.specs.declared.alloc.Global.{Global}
 use Rattle.std.specs.Map.{lookup, set_value}
 use Rattle.std.specs.Option.{option_map_or}
@@ -13,6 +14,8 @@ use Rattle.port_values.specs.declared.item.Item.{Item}
 use Rattle.port_values.specs.declared.pid.Pid.{Pid}
 use Rattle.port_values.specs.declared.pid.Pid.TheVariants.{Of}
 use Rattle.threads_senders.specs.Rows.{EndsWith}
+use Rattle.threads_senders.specs.declared.not_put.NotPut.{NotPut}
+use Rattle.threads_senders.specs.declared.not_put.NotPut.TheVariants.{Memory, Unknown}
 use Rattle.run_record.specs.Event.{Event}
 use Rattle.run_semantics.specs.Sent.{sent_to}
 use Rattle.run_semantics.specs.World.{Sent}
@@ -42,6 +45,11 @@ pub record PutsTo (number at : ℕ) (entry : Entry) (old new : PeersState) : Typ
   pub known : sender_to old number ≡ Some before
   pub puts : Puts before after at entry
   pub changed : new ≡ set_value (nat_eq number) old after
+
+-- A signal that is not put comes back as it was. The cause says whether there is a sender of this number.
+abbrev pub GivesBack : NotPut → Item → ℕ → PeersState → Type 0
+GivesBack (Unknown back) item number peers = (back ≡ item) × (is_known peers number ≡ false)
+GivesBack (Memory back) item number peers = (back ≡ item) × (is_known peers number ≡ true)
 
 -- ---- what they have put
 

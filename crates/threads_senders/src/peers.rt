@@ -5,13 +5,14 @@ ghost use Rattle.port_inbox.specs.Calls.{ComesBack};
 ghost use Rattle.port_inbox.specs.declared.entry.Entry.TheVariants.{Signal, Timer};
 ghost use Rattle.port_values.specs.declared.pid.Pid.{Pid};
 ghost use Rattle.port_values.specs.declared.pid.Pid.TheVariants.{Of};
-ghost use Rattle.threads_senders.specs.Peers.{is_known, put_by, put_to, sender_to, with_signal, AreLast, ArePeers, ArePeersOf, PutsTo};
+ghost use Rattle.threads_senders.specs.Peers.{is_known, put_by, put_to, sender_to, with_signal, GivesBack, PutsTo};
+ghost use Rattle.threads_senders.specs.Peers.{AreLast, ArePeers, ArePeersOf};
 ghost use Rattle.run_semantics.specs.Sent.{output_of};
 ghost use Rattle.run_semantics.specs.World.{Sent};
 ghost use Rattle.run_record.specs.Event.{Event};
 ghost use Rattle.sdl_system.specs.declared.route.Dest.{Dest};
 
-use crate::{Peer, Run};
+use crate::{NotPut, Peer, Run};
 use indexmap::IndexMap;
 use input_port::{Port, Sender};
 use port_inbox::{Fuse, Refused};
@@ -86,8 +87,8 @@ impl<J: Run> Peers<J> {
         }
     }
 
-    /// Puts a signal into the port of this instance. For lack of memory, and after 2^61 entries, it comes back. That
-    /// there is a sender, and that it's this port, is the caller's condition.
+    /// Puts a signal into the port of this instance, if there is a sender into it. If there is none, for lack of memory,
+    /// and after 2^61 entries, it comes back, and nothing changes. That it's this port is the caller's condition.
     ///
     /// Where what was put so far is the last of what an origin sends, and the signal is of that origin, it is so with
     /// the signal after all that it sent: of an instance, with its output after the record.
@@ -97,11 +98,10 @@ impl<J: Run> Peers<J> {
         port: &Port,
         number: u32,
         item: Item,
-    ) -> Result<(), Refused<Item>>
-        requires known { is_known self.old number ≡ true }
+    ) -> Result<(), NotPut>
         requires port { port.now.queue ≡ J.ports number }
         ensures put { MatchResult result (λ _. PutsTo number 0 (Signal item) self.old self.new)
-            (λ back. ComesBack back item × (self.new ≡ self.old)) }
+            (λ back. GivesBack back item number self.old × (self.new ≡ self.old)) }
         ensures known { (n : ℕ) → is_known self.new n ≡ is_known self.old n }
         ensures kept { OnOk result ((origin : Pid) (sends : Sent) → item.sender ≡ origin
             → ArePeers origin sends self.old → ArePeers origin (with_signal sends number item) self.new) }
@@ -110,13 +110,17 @@ impl<J: Run> Peers<J> {
             → ArePeersOf who (events ++ output_of item named number ∷ []) self.new) }
     {
         let Some(sender) = self.senders.get_mut(&number) else {
-            unreachable!()
+            return Err(NotPut::Unknown(item));
         };
-        sender.put(rt, port, item)
+        if let Err(Refused { value, .. }) = sender.put(rt, port, item) {
+            return Err(NotPut::Memory(value));
+        }
+        Ok(())
     }
 
-    /// Puts the expiry of a timer into the port of this instance, at the time `at`, as `put` does a signal. That its
-    /// time has come is the caller's condition, too.
+    /// Puts the expiry of a timer into the port of this instance, at the time `at`. For lack of memory, and after 2^61
+    /// entries, it comes back. That there is a sender, that it's this port, and that its time has come, is the caller's
+    /// condition.
     pub fn expire<R: Wait>(
         &mut self,
         rt: &R,
