@@ -4,9 +4,10 @@ ghost use Rattle.std.specs.Prelude.{◌≡◌, IfSome, true, vec_len};
 ghost use Rattle.port_queue.specs.Ends.{newborn};
 ghost use Rattle.run_semantics.specs.World.{has_port};
 ghost use Rattle.threads_ports.specs.Named.{HaveOwners};
+ghost use Rattle.threads_ports.specs.Owners.{owner_of, without_owner};
 
 use input_port::Owner;
-use std::marker::PhantomData;
+use std::marker::{Model, PhantomData};
 use threads_senders::Run;
 
 /// For each number the owner of its port, until it is given out.
@@ -14,8 +15,18 @@ use threads_senders::Run;
 pub struct Owners<J: Run> {
     rows: Vec<Option<Owner>>,
     of: PhantomData<J>,
-    ghost all: { vec_len rows ≡ 1000 },
-    ghost named: { HaveOwners J.ports rows.items },
+}
+
+impl<J: Run> Model for Owners<J> {
+    ghost use Rattle.std.specs.Prelude.{◌≡◌, vec_len};
+    ghost use Rattle.threads_ports.specs.Named.{HaveOwners};
+    ghost use Rattle.threads_ports.specs.Owners.{OwnersState};
+
+    ghost Value = { OwnersState };
+
+    ghost view = { λ o. o.rows.items };
+
+    ghost invariant = { λ o. (vec_len o.rows ≡ 1000) × HaveOwners J.ports o.rows.items };
 }
 
 impl<J: Run> Owners<J> {
@@ -23,6 +34,7 @@ impl<J: Run> Owners<J> {
     pub fn new(rows: Vec<Option<Owner>>) -> Self
         requires all { vec_len rows ≡ 1000 }
         requires named { HaveOwners J.ports rows.items }
+        ensures { result ≡ rows.items }
     {
         Owners {
             rows,
@@ -30,10 +42,13 @@ impl<J: Run> Owners<J> {
         }
     }
 
-    /// The owner of the port of this number, which has taken nothing. None: it was given out before.
+    /// The owner of the port of this number, which has taken nothing. None: it was given out before. After the call
+    /// there is none of this number, and those of all others stay.
     pub fn give(&mut self, number: u32) -> Option<Owner>
         requires { has_port number ≡ true }
-        ensures { IfSome result (λ owner. owner ≡ newborn (J.ports number) number) }
+        ensures given { result ≡ owner_of self.old number }
+        ensures left { self.new ≡ without_owner self.old number }
+        ensures fresh { IfSome result (λ owner. owner ≡ newborn (J.ports number) number) }
     {
         self.rows[number as usize - 1].take()
     }
