@@ -44,16 +44,16 @@ opened_same number (Err back) old new sender fresh is n = ap (λ (peers : PeersS
 
 -- ---- what was sent to each instance
 
-other_by : (port : Bool) (put : List Item) (item : Item) → put ++ [] ≡ cond (port && false) (put ++ item ∷ []) put
-other_by true put item = append-nil put
-other_by false put item = append-nil put
+none_by : (port : Bool) (sent : List Item) (item : Item) → sent ≡ cond (port && false) (sent ++ item ∷ []) sent
+none_by true sent item = refl
+none_by false sent item = refl
 
 on_by : (number n : ℕ) (put : List Item) (item : Item) (b : Bool) → nat_eq number n ≡ b → has_port number ≡ true
     → put ++ cond b (item ∷ []) [] ≡ cond (has_port n && b) (put ++ item ∷ []) put
 on_by number n put item true here port =
     let there : has_port n ≡ true = ap has_port (sym (eqb-true number n here)) ∙ port in
     ap (λ p. cond (p && true) (put ++ item ∷ []) put) (sym there)
-on_by number n put item false here port = other_by (has_port n) put item
+on_by number n put item false here port = append-nil put ∙ none_by (has_port n) put item
 
 nothing_by : (b : Bool) (put : List Item) → put ++ cond b [] [] ≡ put
 nothing_by true put = append-nil put
@@ -85,6 +85,19 @@ pub sent_one : (sent more : List (ℕ × Item)) (to : ℕ) (item : Item) → mor
 sent_one sent more to item is port number =
     ap (λ (l : List (ℕ × Item)). sent_in l number) is ∙ sent_in-append sent to item number
     ∙ on_by to number (sent_in sent number) item (nat_eq to number) refl port
+
+nowhere_by : (to number : ℕ) (sent : List Item) (item : Item) (b : Bool) → nat_eq to number ≡ b → has_port to ≡ false
+    → sent ≡ cond (has_port number && b) (sent ++ item ∷ []) sent
+nowhere_by to number sent item true here port =
+    let none : has_port number ≡ false = ap has_port (sym (eqb-true to number here)) ∙ port in
+    ap (λ p. cond (p && true) (sent ++ item ∷ []) sent) (sym none)
+nowhere_by to number sent item false here port = none_by (has_port number) sent item
+
+-- a signal to a number that nobody can have
+pub sent_nowhere : (sent : List (ℕ × Item)) (to : ℕ) (item : Item) → has_port to ≡ false → (number : ℕ)
+    → sent_in sent number ≡ sent_on (sent_in sent) to item number
+sent_nowhere sent to item port number =
+    nowhere_by to number (sent_in sent number) item (nat_eq to number) refl port
 
 -- where nothing was sent, nothing was put
 pub ends_none : AreEnds [] []
@@ -125,11 +138,16 @@ ends_lost number item sent peers unknown ends n =
 
 -- ---- by what a call answers
 
-pub put_sends : {E : Type 0} (result : Result (Unit {0}) E) (old new : OutboxState) (to : ℕ) (item : Item)
-    → MatchResult result (λ _. new.sent ≡ old.sent ++ (to, item) ∷ []) (λ _. new ≡ old) → has_port to ≡ true
+-- a signal that came back is sent by a later call
+pub sent_later : {E : Type 0} (result : Result (Unit {0}) E) (old between new : OutboxState) (to : ℕ) (item back : Item)
+    → back ≡ item → between ≡ old
+    → OnOk result ((number : ℕ) → sent_in new.sent number ≡ sent_on (sent_in between.sent) to back number)
     → OnOk result ((number : ℕ) → sent_in new.sent number ≡ sent_on (sent_in old.sent) to item number)
-put_sends (Ok done) old new to item is port = sent_one old.sent new.sent to item is port
-put_sends (Err error) old new to item is port = tt
+sent_later (Ok done) old between new to item back is same sent = λ number.
+    sent number
+    ∙ ap (λ (o : OutboxState). sent_on (sent_in o.sent) to back number) same
+    ∙ ap (λ (i : Item). sent_on (sent_in old.sent) to i number) is
+sent_later (Err error) old between new to item back is same sent = tt
 
 pub expired : (result : Result (Unit {0}) Fuse) (fuse : Fuse) (own time : ℕ) (old new : PeersState) → own ≡ fuse.pid
     → fuse.due ≤ time

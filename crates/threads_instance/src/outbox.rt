@@ -1,9 +1,9 @@
 //! What an instance sends with.
 
-ghost use Rattle.std.specs.Prelude.{◌≡◌, ◌≤◌, ◌++◌, ◌∷◌, [], ℕ, false, true, MatchResult, OnOk};
+ghost use Rattle.std.specs.Prelude.{◌≡◌, ◌≤◌, ◌++◌, ◌∷◌, [], ℕ, false, true, IfErr, MatchResult, OnOk};
 ghost use Rattle.port_inbox.specs.declared.entry.Entry.TheVariants.{Timer};
 ghost use Rattle.threads_instance.specs.Outbox.{AreEnds};
-ghost use Rattle.threads_senders.specs.Peers.{is_known, put_by, PutsTo};
+ghost use Rattle.threads_senders.specs.Peers.{is_known, put_by, GivesBack, PutsTo};
 
 use crate::sent::SentList;
 use input_port::{Port, Sender};
@@ -12,7 +12,7 @@ use port_values::{Item, Ticks};
 use std::alloc::{AllocError, Global};
 use std::marker::Model;
 use std::sync::Wait;
-use threads_senders::{Peers, Run};
+use threads_senders::{NotPut, Peers, Run};
 
 /// The senders of an instance, and what it has sent. `sent` is for proofs alone and takes no memory: so that a contract
 /// can say what was put, and what was sent before there was a sender.
@@ -65,28 +65,25 @@ impl<J: Run> Outbox<J> {
         }
     }
 
-    /// Sends a signal: puts it into the port of this instance. That there is a sender, and that it's this port, is the
-    /// caller's condition. For lack of memory, and after 2^61 entries, nothing changes.
+    /// Sends a signal: puts it into the port of this instance, if there is a sender into it. If there is none, for lack
+    /// of memory, and after 2^61 entries, it comes back, and nothing changes. That it's this port is the caller's
+    /// condition.
     pub fn put<R: Wait>(
         &mut self,
         rt: &R,
         port: &Port,
         number: u32,
         item: Item,
-    ) -> Result<(), AllocError>
-        requires known { is_known self.old.peers number ≡ true }
+    ) -> Result<(), NotPut>
         requires port { port.now.queue ≡ J.ports number }
         ensures sent { MatchResult result (λ _. self.new.sent ≡ self.old.sent ++ (number, item) ∷ [])
             (λ _. self.new ≡ self.old) }
+        ensures back { IfErr result (λ back. GivesBack back item number self.old.peers) }
     {
         let sent = self.sent.and(&number, &item);
-        match self.peers.put(rt, port, number, item) {
-            Ok(()) => {
-                self.sent = sent;
-                Ok(())
-            }
-            Err(_) => Err(AllocError),
-        }
+        self.peers.put(rt, port, number, item)?;
+        self.sent = sent;
+        Ok(())
     }
 
     /// Sends a signal to an instance that is not there: it is gone. That there is no sender into its port is the

@@ -1,6 +1,6 @@
 //! The world of an instance that makes a step in a run on threads.
 
-ghost use Rattle.std.specs.Prelude.{◌≡◌, ◌≤◌, ℕ, false, true, IfOk, MatchResult, OnErr, OnOk};
+ghost use Rattle.std.specs.Prelude.{◌≡◌, ◌≤◌, ℕ, false, true, MatchResult, OnErr, OnOk};
 ghost use Rattle.port_inbox.specs.declared.entry.Entry.TheVariants.{Timer};
 ghost use Rattle.threads_instance.specs.Outbox.{sent_in, Arms};
 ghost use Rattle.threads_instance.specs.ThreadWorld.{world_of};
@@ -15,7 +15,7 @@ use run_semantics::World;
 use sdl_system::{Dest, ProcessId, System, Target};
 use std::alloc::AllocError;
 use std::sync::Wait;
-use threads_senders::Run;
+use threads_senders::{NotPut, Run};
 
 /// The run, and what the instance sends with. Its number is `own`, and `time` the time of the step, for which the clock
 /// was read once. A signal is put at once.
@@ -46,16 +46,7 @@ impl<'a, J: Run, R: Wait, O: Runtime<J>> World for ThreadWorld<'a, J, R, O> {
         let Target::Instance(number) = target else {
             return Ok(());
         };
-        // A number that nobody can have.
-        if self.runtime.port(number).is_none() {
-            return Ok(());
-        }
-        if find(self.runtime, &mut self.outbox, number)? {
-            return put(self.rt, self.runtime, &mut self.outbox, number, item);
-        }
-        // A number that nobody has yet.
-        lose(&mut self.outbox, number, item);
-        Ok(())
+        send(self.rt, self.runtime, &mut self.outbox, number, item)
     }
 
     /// A timer that is due when it's set is put into the own port.
@@ -80,24 +71,51 @@ impl<'a, J: Run, R: Wait, O: Runtime<J>> World for ThreadWorld<'a, J, R, O> {
     }
 }
 
-/// Whether there is a sender into the port of this instance. If there is none and the instance is there, one is opened.
-fn find<J: Run, O: Runtime<J>>(
+/// Sends a signal to an instance: puts it into its port, if there is a sender into it.
+#[tactic(auto, using(crate::proofs::Puts::sent_one, crate::proofs::Puts::sent_nowhere))]
+fn send<J: Run, R: Wait, O: Runtime<J>>(
+    rt: &R,
     runtime: &mut O,
     outbox: &mut Outbox<J>,
     number: u32,
-) -> Result<bool, AllocError>
-    requires { has_port number ≡ true }
-    ensures known { IfOk result (λ known. known ≡ is_known outbox.new.peers number) }
-    ensures sent { outbox.new.sent ≡ outbox.old.sent }
+    item: Item,
+) -> Result<(), AllocError>
+    ensures ok { OnOk result ((n : ℕ) → sent_in outbox.new.sent n ≡ sent_on (sent_in outbox.old.sent) number item n) }
+    ensures err { OnErr result (outbox.new.sent ≡ outbox.old.sent) }
 {
-    if outbox.is_known(number) {
-        return Ok(true);
+    // A number that nobody can have.
+    let Some(port) = runtime.port(number) else {
+        return Ok(());
+    };
+    match outbox.put(rt, port, number, item) {
+        Ok(()) => Ok(()),
+        Err(NotPut::Unknown(back)) => send_first(rt, runtime, outbox, number, back),
+        Err(NotPut::Memory(_)) => Err(AllocError),
     }
+}
+
+/// Sends a signal to an instance into whose port there is no sender: one is opened, if the instance is there, and puts
+/// it.
+#[tactic(auto, using(crate::proofs::Puts::sent_one))]
+fn send_first<J: Run, R: Wait, O: Runtime<J>>(
+    rt: &R,
+    runtime: &mut O,
+    outbox: &mut Outbox<J>,
+    number: u32,
+    item: Item,
+) -> Result<(), AllocError>
+    requires port { has_port number ≡ true }
+    requires unknown { is_known outbox.old.peers number ≡ false }
+    ensures ok { OnOk result ((n : ℕ) → sent_in outbox.new.sent n ≡ sent_on (sent_in outbox.old.sent) number item n) }
+    ensures err { OnErr result (outbox.new.sent ≡ outbox.old.sent) }
+{
+    // A number that nobody has yet: the signal is gone.
     if !runtime.is_entered(number) {
-        return Ok(false);
+        outbox.lose(number, item);
+        return Ok(());
     }
     open(runtime, outbox, number)?;
-    Ok(true)
+    put(rt, runtime, outbox, number, item)
 }
 
 /// Sees to it that there is a sender into the port of this instance.
@@ -117,8 +135,8 @@ fn open<J: Run, O: Runtime<J>>(
     outbox.open(number, sender)
 }
 
-/// Puts a signal into the port of this instance.
-#[tactic(auto, using(crate::proofs::Puts::put_sends))]
+/// Puts a signal into the port of this instance, by the sender that is there.
+#[tactic(auto, using(crate::proofs::Puts::sent_one))]
 fn put<J: Run, R: Wait, O: Runtime<J>>(
     rt: &R,
     runtime: &O,
@@ -134,17 +152,10 @@ fn put<J: Run, R: Wait, O: Runtime<J>>(
     let Some(port) = runtime.port(number) else {
         unreachable!()
     };
-    outbox.put(rt, port, number, item)
-}
-
-/// Lets a signal go that is sent to an instance that is not there.
-#[tactic(auto, using(crate::proofs::Puts::sent_one))]
-fn lose<J: Run>(outbox: &mut Outbox<J>, number: u32, item: Item)
-    requires port { has_port number ≡ true }
-    requires unknown { is_known outbox.old.peers number ≡ false }
-    ensures { (n : ℕ) → sent_in outbox.new.sent n ≡ sent_on (sent_in outbox.old.sent) number item n }
-{
-    outbox.lose(number, item);
+    let Ok(()) = outbox.put(rt, port, number, item) else {
+        return Err(AllocError);
+    };
+    Ok(())
 }
 
 /// Puts the expiry of a timer into the port of its instance, where its time has come. Else, and for lack of memory, its
