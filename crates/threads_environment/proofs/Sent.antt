@@ -1,6 +1,7 @@
 -- What the senders have put and where they go, once one has come or has put something.
-use Rattle.std.proofs.Common.{◌≡◌, ◌∙◌, ap, cond, eqb-true, is_some, nat_eq, refl, sym, inl, inr, ⊎_elim, ◌⊎◌}
-use Rattle.std.proofs.Common.{ℕ, Bool, true, false, [], ◌∷◌, ◌++◌, Option, None, Some, Result, Ok, Err, MatchResult}
+use Rattle.std.proofs.Common.{◌≡◌, ◌∙◌, ap, cond, eqb-true, is_some, nat_eq, refl, subst, sym, inl, inr, ⊎_elim, ◌⊎◌}
+use Rattle.std.proofs.Common.{ℕ, Bool, true, false, [], ◌∷◌, ◌++◌, IfOk, Option, None, Some, Result, Ok, Err}
+use Rattle.std.proofs.Common.{MatchResult}
 use Rattle.port_inbox.specs.Calls.{ComesBack}
 use Rattle.port_inbox.specs.declared.entry.Entry.TheVariants.{Signal}
 use Rattle.port_model.specs.declared.refused.Refused.{Refused}
@@ -9,7 +10,7 @@ use Rattle.port_values.specs.declared.item.Item.{Item}
 use Rattle.run_semantics.specs.World.{has_port}
 use Rattle.sdl_system.specs.declared.route.Target.{Target}
 use Rattle.sdl_system.specs.declared.route.Target.TheVariants.{Instance}
-use Rattle.threads_environment.specs.Sending.{ArePutAlike, HavePorts, IsPutTo}
+use Rattle.threads_environment.specs.Sending.{ArePutAlike, HavePorts, IsGone, IsPutTo, IsSent}
 use Rattle.threads_senders.proofs.SenderLemmas.{put_to-puts}
 use Rattle.threads_senders.specs.Peers.{PeersState, PutsTo, is_known, put_to, sender_to}
 
@@ -59,3 +60,35 @@ put_as target number item copy old between new to is same puts = record {
       ∙ ap (λ l. l ++ cond (nat_eq number n) (copy ∷ []) []) (same n)
       ∙ ap (λ (i : Item). put_to old n ++ cond (nat_eq number n) (i ∷ []) []) is;
 }
+
+-- the instance that is meant
+which : (target : Target) (number n : ℕ) → target ≡ Instance number → target ≡ Instance n → number ≡ n
+which target number n to is = let same : Instance number ≡ Instance n = sym to ∙ is in cc
+
+-- a signal is gone to an instance into whose port there is no sender
+pub gone_to : (target : Target) (number : ℕ) (peers : PeersState) → target ≡ Instance number
+    → is_known peers number ≡ false → IsGone target peers peers
+gone_to target number peers to unknown = record {
+  unknown = λ n is. ap (λ m. is_known peers m) (sym (which target number n to is)) ∙ unknown;
+  same = λ n. refl;
+}
+
+unknown_by : (known port : Bool) → (known ≡ true → port ≡ true) → port ≡ false → known ≡ false
+unknown_by true port leads none = sym (leads refl) ∙ none
+unknown_by false port leads none = refl
+
+-- nobody can have the number
+pub gone_nowhere : (target : Target) (number : ℕ) (peers : PeersState) → target ≡ Instance number
+    → has_port number ≡ false → HavePorts peers → IsGone target peers peers
+gone_nowhere target number peers to port ports =
+    gone_to target number peers to (unknown_by (is_known peers number) (has_port number) (ports number) port)
+
+-- what came back is sent by a later call
+pub sent_later : {E : Type 0} (result : Result (Option ℕ) E) (target : Target) (number : ℕ) (item back : Item)
+    (old between new : PeersState) → target ≡ Instance number → back ≡ item → between ≡ old
+    → IfOk result (λ woken. IsSent (Instance number) back woken between new)
+    → IfOk result (λ woken. IsSent target item woken old new)
+sent_later result target number item back old between new to is same sent =
+    subst (λ (t : Target). IfOk result (λ woken. IsSent t item woken old new)) (sym to)
+    (subst (λ (i : Item). IfOk result (λ woken. IsSent (Instance number) i woken old new)) is
+    (subst (λ (peers : PeersState). IfOk result (λ woken. IsSent (Instance number) back woken peers new)) same sent))

@@ -1,8 +1,8 @@
 //! How the environment puts what it sends.
 
-ghost use Rattle.std.specs.Prelude.{◌≡◌, ◌≤◌, ℕ, false, true, IfOk, IfSome, OnErr, OnOk, is_some};
-ghost use Rattle.port_values.specs.declared.pid.Pid.TheVariants.{Env};
+ghost use Rattle.std.specs.Prelude.{◌≡◌, ◌≤◌, ℕ, false, true, IfOk, OnErr, OnOk};
 ghost use Rattle.run_semantics.specs.World.{has_port};
+ghost use Rattle.sdl_system.specs.declared.route.Target.TheVariants.{Instance};
 ghost use Rattle.threads_environment.specs.Sending.{ArePutAlike, Expires, HavePorts, IsOpened, IsSent};
 ghost use Rattle.threads_senders.specs.Peers.{is_known};
 
@@ -12,11 +12,11 @@ use port_values::{Item, Ticks};
 use sdl_system::Target;
 use std::alloc::AllocError;
 use std::sync::Wait;
-use threads_senders::{Peers, Run};
+use threads_senders::{NotPut, Peers, Run};
 use threads_shared::Shared;
 
-/// Sends a signal to a target: puts a copy of it into the port of the instance, if there is a sender into that port or the
-/// instance is entered. Answers the instance. None: the signal is gone. For lack of memory nothing was put.
+/// Sends a signal to a target: puts a copy of it into the port of the instance, if there is a sender into that port or
+/// the instance is entered. Answers the instance. None: the signal is gone. For lack of memory nothing was put.
 pub fn send<J: Run, R: Wait + Copy>(
     shared: &Shared<'_, '_, '_, J, R>,
     peers: &mut Peers<J>,
@@ -31,7 +31,8 @@ pub fn send<J: Run, R: Wait + Copy>(
     let Target::Instance(number) = target else {
         return Ok(None);
     };
-    let Some(port) = find(shared, peers, number)? else {
+    // A number that nobody can have.
+    let Some(port) = shared.common.ports.port(number) else {
         return Ok(None);
     };
     let copy = Item {
@@ -39,7 +40,35 @@ pub fn send<J: Run, R: Wait + Copy>(
         values: item.values.copied()?,
         sender: item.sender,
     };
-    let Ok(()) = peers.put(shared.rt, port, number, copy) else {
+    match peers.put(shared.rt, port, number, copy) {
+        Ok(()) => Ok(Some(number)),
+        Err(NotPut::Unknown(copy)) => send_first(shared, peers, port, number, copy),
+        Err(NotPut::Memory(_)) => Err(AllocError),
+    }
+}
+
+/// Sends a signal to an instance into whose port there is no sender: one is opened, if the instance is entered, and
+/// puts it. Answers the instance. None: the signal is gone. For lack of memory nothing was put.
+fn send_first<J: Run, R: Wait + Copy>(
+    shared: &Shared<'_, '_, '_, J, R>,
+    peers: &mut Peers<J>,
+    port: &Port,
+    number: u32,
+    item: Item,
+) -> Result<Option<u32>, AllocError>
+    requires there { has_port number ≡ true }
+    requires named { port.now.queue ≡ J.ports number }
+    requires unknown { is_known peers.old number ≡ false }
+    requires ports { HavePorts peers.old }
+    ensures ports { HavePorts peers.new }
+    ensures sent { IfOk result (λ woken. IsSent (Instance number) item woken peers.old peers.new) }
+    ensures err { OnErr result (ArePutAlike peers.old peers.new) }
+{
+    if shared.common.entries.find(number).is_none() {
+        return Ok(None);
+    }
+    open(shared, peers, number)?;
+    let Ok(()) = peers.put(shared.rt, port, number, item) else {
         return Err(AllocError);
     };
     Ok(Some(number))
@@ -68,30 +97,6 @@ pub fn expire<J: Run, R: Wait + Copy>(
         Ok(()) => Ok(()),
         Err(_) => Err(AllocError),
     }
-}
-
-/// The port of an instance into which a signal is put: there is a sender into it, or the instance is entered and one is
-/// opened. None: there is none, so that nothing was put into it so far.
-fn find<'p, J: Run, R: Wait + Copy>(
-    shared: &Shared<'_, '_, 'p, J, R>,
-    peers: &mut Peers<J>,
-    number: u32,
-) -> Result<Option<&'p Port>, AllocError>
-    requires { HavePorts peers.old }
-    ensures ports { HavePorts peers.new }
-    ensures same { ArePutAlike peers.old peers.new }
-    ensures known { IfOk result (λ port. is_some port ≡ is_known peers.new number) }
-    ensures unknown { IfOk result (λ port. is_some port ≡ false → is_known peers.old number ≡ false) }
-    ensures named { IfOk result (λ port. IfSome port (λ p. p.now.queue ≡ J.ports number)) }
-{
-    let Some(port) = shared.common.ports.port(number) else {
-        return Ok(None);
-    };
-    if !peers.is_known(number) && shared.common.entries.find(number).is_none() {
-        return Ok(None);
-    }
-    open(shared, peers, number)?;
-    Ok(Some(port))
 }
 
 /// Sees to it that there is a sender into the port of this instance.
