@@ -1,2 +1,3 @@
+pub mod Desks
 pub mod Named
 pub mod Owners
