@@ -11,7 +11,7 @@ use run_record::{Report, RunError};
 use sdl_instances::{Entries, Seat, Table};
 use sdl_script::ScriptLine;
 use sdl_system::System;
-use sdl_timers::{NewClock, clock};
+use sdl_timers::{NewClock, Reader, clock};
 use settle_run::settle;
 use std::alloc::Global;
 use std::sync::Wait;
@@ -105,14 +105,30 @@ fn run_shared<J: Run + Send + Sync, R: Threads + Wait + Copy + Send + Sync, G: G
     let environment = Environment::new(plan.alloc, plan.lines);
     begin(shared, &mut seat)?;
     let director = Director::new(environment, ticker);
+    let director = direct(shared, director, &mut reader, &mut seat, plan.workers, gate)?;
+    settle_joined(shared, plan, reader, seat, director)
+}
+
+/// Settles a run whose threads are all joined, unless one of them found no memory for the run's own tables.
+fn settle_joined<J: Run, R: Wait + Copy>(
+    shared: &Shared<'_, '_, '_, J, R>,
+    plan: Plan<'_>,
+    reader: Reader,
+    seat: NumberSeat<J>,
+    director: Director<'_, J>,
+) -> Result<Report, RunError>
+    requires { director.environment.lines ≡ plan.lines.now }
+    ensures settled { IfOk result (λ report. (ps : List Behaviour) → AreBehaviours shared.now.system.now ps
+        → IsSettled ps shared.now.system.now plan.entry.lines.now plan.entry.limit report) }
+{
+    if shared.tables.signs.has_failed() {
+        return Err(RunError::Memory);
+    }
     let Director {
         environment,
         time,
         ..
-    } = direct(shared, director, &mut reader, &mut seat, plan.workers, gate)?;
-    if shared.tables.signs.has_failed() {
-        return Err(RunError::Memory);
-    }
+    } = director;
     let processes = shared.system.processes().len();
     let mut own = Own::new(plan.alloc, reader, seat, processes, 1)?;
     settle(shared, &mut own, environment, time, plan.limit)
