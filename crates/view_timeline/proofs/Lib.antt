@@ -1,0 +1,16 @@
+pub mod ActLemmas
+pub mod Channels
+pub mod Closed
+pub mod CursorLemmas
+pub mod Firsts
+pub mod Gathering
+pub mod GoesLemmas
+pub mod Lifetimes
+pub mod MoveLemmas
+pub mod NextLemmas
+pub mod NoteLemmas
+pub mod RowLemmas
+pub mod Steps
+pub mod Takes
+pub mod TellingStart
+pub mod Tellings

@@ -1,0 +1,11 @@
+pub mod Cursor
+pub mod Did
+pub mod Effect
+pub mod Linked
+pub mod Lives
+pub mod Moves
+pub mod Replay
+pub mod Rows
+pub mod Telling
+pub mod Timeline
+pub mod Traffic

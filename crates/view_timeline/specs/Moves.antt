@@ -1,0 +1,66 @@
+-- The moves of a timeline, and what is done in them.
+use Rattle.std.specs.Prelude.{◌≡◌, ℕ, ◌==◌, ◌≤◌, true, false, List, [], ◌∷◌, length, map, Option, None, Some, slice_get, slice_range, if◌then◌else◌}
+use Rattle.std.specs.List.{filter, flat_map, AllByRecursion}
+use Rattle.std.specs.Option.{option_map_or}
+use Rattle.run_record.specs.Event as event
+use Rattle.run_record.specs.Record.{RecordValue}
+use Rattle.view_timeline.specs.Did.{Did, begins, did, time_of}
+use Rattle.view_timeline.specs.declared.moves.Move.{Move}
+
+-- the events of a move, and of a row of moves
+abbrev pub events_in : RecordValue → Move → List event.Event
+events_in trace move = slice_range trace.events move.first.0 move.end.0
+
+abbrev pub done_in : List RecordValue → Move → List Did
+done_in records move =
+    option_map_or (λ (trace : RecordValue). map (did trace.pid) (events_in trace move))
+    (slice_get records move.record.0) []
+
+abbrev pub done_by : List RecordValue → List Move → List Did
+done_by records moves = flat_map (done_in records) moves
+
+-- ---- each event stands once
+
+-- a transition: an event with which a move begins, and others with which none does
+abbrev pub IsTransition : List event.Event → Type 0
+IsTransition [] = ⊥
+IsTransition (first ∷ rest) = (begins first ≡ true) × AllByRecursion (λ (one : event.Event). begins one ≡ false) rest
+
+-- a move is a transition of one of the records
+pub record IsMove (records : List RecordValue) (move : Move) : Type 0 where
+  pub trace : RecordValue
+  pub is_there : slice_get records move.record.0 ≡ Some trace
+  pub transition : IsTransition (events_in trace move)
+
+-- the moves of the record at this place, in their order
+abbrev pub moves_of : ℕ → List Move → List Move
+moves_of place moves = filter (λ (move : Move). move.record.0 == place) moves
+
+-- each move goes on where the one before it ends, from one entry up to another
+abbrev pub GoOn : ℕ → List Move → ℕ → Type 0
+GoOn from [] end = from ≡ end
+GoOn from (move ∷ more) end = (move.first.0 ≡ from) × GoOn move.end.0 more end
+
+-- The moves of a record, in their order, are all its entries, in their order: every event stands once.
+pub record EachOnce (records : List RecordValue) (moves : List Move) : Type 0 where
+  pub transitions : AllByRecursion (IsMove records) moves
+  pub whole : (place : ℕ) (trace : RecordValue) → slice_get records place ≡ Some trace
+      → GoOn 0 (moves_of place moves) (length trace.events)
+
+-- ---- times
+
+-- when moves begin
+abbrev pub times : List Did → List (Option ℕ)
+times [] = []
+times (d ∷ more) = if begins d.event then time_of d.event ∷ times more else times more
+
+-- a record closes after all times
+abbrev pub IsNotLater : Option ℕ → Option ℕ → Type 0
+IsNotLater (Some one) (Some other) = one ≤ other
+IsNotLater one None = Unit {0}
+IsNotLater None (Some other) = ⊥
+
+-- none is later than one after it
+abbrev pub NeverFall : List (Option ℕ) → Type 0
+NeverFall [] = Unit {0}
+NeverFall (time ∷ later) = AllByRecursion (IsNotLater time) later × NeverFall later

@@ -1,0 +1,28 @@
+//! Why a report has no timeline.
+
+use crate::moves::Timeline;
+use std::alloc::AllocError;
+use thiserror::Error;
+
+/// Why a report has no timeline.
+#[derive(Debug, Drop, Error)]
+pub enum Untold {
+    /// The instance of this number can't go on: what it takes was never sent to it, or nothing created it. With the
+    /// timeline as far as it goes. The report of a run on one thread never is so.
+    #[error("instance #{number} can't go on")]
+    Stuck { told: Timeline, number: u32 },
+    /// No memory, or more than 2^32 events.
+    #[error("out of memory")]
+    Memory,
+}
+
+impl From<AllocError> for Untold {
+    ghost use Rattle.std.specs.Prelude.{◌≡◌};
+    ghost use Rattle.view_timeline.specs.declared.untold.Untold.TheVariants.{Memory};
+
+    ghost from_gives = { λ _ untold. untold ≡ Memory };
+
+    fn from(_error: AllocError) -> Untold {
+        Untold::Memory
+    }
+}
