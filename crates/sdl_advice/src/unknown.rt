@@ -1,0 +1,234 @@
+//! Advice on a name that stands for nothing that is wanted.
+
+use crate::advice::Advice;
+use crate::names::Names;
+use crate::nearest::{Nearest, lowered};
+use crate::site::Kind;
+use build_definitions::{Agent, SignalKind};
+use build_expressions::ValueEntry;
+use std::alloc::{AllocError, Global};
+
+/// Gives the advice on a name that stands for nothing of a kind.
+pub fn unknown_advice(
+    alloc: Global,
+    names: &Names<'_, '_>,
+    word: &str,
+    kind: Kind,
+) -> Result<Advice, AllocError> {
+    if kind == Kind::Sort {
+        return sort_advice(alloc, word);
+    }
+    let wanted = kind_text(kind);
+    if let Some(meaning) = names.meaning(word) {
+        return Ok(Advice {
+            text: format!(in alloc;
+                "`{word}` is {meaning}, and a {wanted} has to stand here. Name or define one."
+            )?,
+        });
+    }
+    let text = match nearest_name(alloc, names, word, kind)? {
+        Some(near) => format!(in alloc;
+            "`{word}` is no {wanted} in this scope or around it. Is `{near}` meant? Capitals count."
+        )?,
+        None => format!(in alloc;
+            "`{word}` is no {wanted} in this scope or around it. Define it, or mend the spelling; capitals count."
+        )?,
+    };
+    Ok(Advice { text })
+}
+
+fn kind_text(kind: Kind) -> &'static str {
+    match kind {
+        Kind::Sort => "sort",
+        Kind::Signal => "signal",
+        Kind::Timer => "timer",
+        Kind::Stimulus => "signal or timer",
+        Kind::SignalList => "signal list",
+        Kind::Channel => "channel",
+        Kind::Agent => "block or process",
+        Kind::Process => "process",
+        Kind::Variable => "variable",
+        Kind::Value => "variable or synonym",
+        Kind::Constant => "synonym",
+        Kind::Destination => "variable, synonym or process",
+    }
+}
+
+// ---- sorts
+
+static SORTS: [&str; 6] = ["Integer", "Natural", "Boolean", "Pid", "Time", "Duration"];
+
+/// Sorts of SDL that this language leaves out, and some of other languages that stand for none here.
+static LEFT_OUT: [&str; 16] = [
+    "array",
+    "bag",
+    "bit",
+    "bitstring",
+    "char",
+    "character",
+    "charstring",
+    "double",
+    "float",
+    "octet",
+    "octetstring",
+    "powerset",
+    "real",
+    "string",
+    "struct",
+    "vector",
+];
+
+/// Sorts of other languages, with those that stand for them.
+static FOREIGN: [(&str, &str); 5] = [
+    ("int", "Integer"),
+    ("long", "Integer"),
+    ("unsigned", "Natural"),
+    ("uint", "Natural"),
+    ("bool", "Boolean"),
+];
+
+fn sort_advice(alloc: Global, word: &str) -> Result<Advice, AllocError> {
+    let lower = lowered(alloc, word)?;
+    if is_among(&LEFT_OUT, lower.as_str()) {
+        return Advice::about(
+            alloc,
+            word,
+            "is no sort here, and none stands for it. Choose one of Integer, \
+            Natural, Boolean, Pid, Time and Duration.",
+        );
+    }
+    match near_sort(alloc, lower.as_str())? {
+        Some(near) => Ok(Advice {
+            text: format!(in alloc; "`{word}` is no sort. Is `{near}` meant? Capitals count.")?,
+        }),
+        None => Advice::about(
+            alloc,
+            word,
+            "is no sort. The sorts are Integer, Natural, Boolean, Pid, Time and \
+            Duration, and no others can be defined.",
+        ),
+    }
+}
+
+fn is_among(words: &[&'static str], word: &str) -> bool {
+    words.iter().any(|other| *other == word)
+}
+
+/// The sort that a word in lower case is near to.
+fn near_sort(alloc: Global, lower: &str) -> Result<Option<&'static str>, AllocError> {
+    for (foreign, sort) in &FOREIGN {
+        if *foreign == lower {
+            return Ok(Some(*sort));
+        }
+    }
+    let mut nearest = Nearest::to(lower);
+    for sort in &SORTS {
+        nearest.try_name(alloc, *sort)?;
+    }
+    Ok(nearest.found)
+}
+
+// ---- other kinds
+
+/// The nearest name of a kind that is seen.
+fn nearest_name<'t>(
+    alloc: Global,
+    names: &Names<'_, 't>,
+    word: &str,
+    kind: Kind,
+) -> Result<Option<&'t str>, AllocError> {
+    let lower = lowered(alloc, word)?;
+    let mut nearest = Nearest::to(lower.as_str());
+    try_signals(alloc, names, kind, &mut nearest)?;
+    try_values(alloc, names, kind, &mut nearest)?;
+    try_agents(alloc, names, kind, &mut nearest)?;
+    try_lists(alloc, names, kind, &mut nearest)?;
+    try_channels(alloc, names, kind, &mut nearest)?;
+    Ok(nearest.found)
+}
+
+fn try_signals<'t>(
+    alloc: Global,
+    names: &Names<'_, 't>,
+    kind: Kind,
+    nearest: &mut Nearest<'_, 't>,
+) -> Result<(), AllocError> {
+    for entry in &names.tables.signals {
+        let is_wanted = match entry.kind {
+            SignalKind::Signal => matches!(kind, Kind::Signal | Kind::Stimulus),
+            SignalKind::Timer { .. } => matches!(kind, Kind::Timer | Kind::Stimulus),
+        };
+        if is_wanted && names.sees(entry.scope) {
+            nearest.try_name(alloc, entry.name.text.as_str())?;
+        }
+    }
+    Ok(())
+}
+
+fn try_values<'t>(
+    alloc: Global,
+    names: &Names<'_, 't>,
+    kind: Kind,
+    nearest: &mut Nearest<'_, 't>,
+) -> Result<(), AllocError> {
+    for value in &names.tables.values {
+        let is_wanted = match value.entry {
+            ValueEntry::Variable { .. } => {
+                matches!(kind, Kind::Variable | Kind::Value | Kind::Destination)
+            }
+            ValueEntry::Synonym { .. } => {
+                matches!(kind, Kind::Value | Kind::Constant | Kind::Destination)
+            }
+        };
+        if is_wanted && names.sees(value.scope) {
+            nearest.try_name(alloc, value.name.text.as_str())?;
+        }
+    }
+    Ok(())
+}
+
+fn try_agents<'t>(
+    alloc: Global,
+    names: &Names<'_, 't>,
+    kind: Kind,
+    nearest: &mut Nearest<'_, 't>,
+) -> Result<(), AllocError> {
+    for agent in &names.tables.agents {
+        let is_wanted = match agent.agent {
+            Agent::Process(_) => matches!(kind, Kind::Process | Kind::Agent | Kind::Destination),
+            Agent::Block(_) => kind == Kind::Agent,
+        };
+        if is_wanted && names.sees(agent.scope) {
+            nearest.try_name(alloc, agent.name.text.as_str())?;
+        }
+    }
+    Ok(())
+}
+
+fn try_lists<'t>(
+    alloc: Global,
+    names: &Names<'_, 't>,
+    kind: Kind,
+    nearest: &mut Nearest<'_, 't>,
+) -> Result<(), AllocError> {
+    for list in &names.tables.lists {
+        if kind == Kind::SignalList && names.sees(list.scope) {
+            nearest.try_name(alloc, list.definition.name.text.as_str())?;
+        }
+    }
+    Ok(())
+}
+
+fn try_channels<'t>(
+    alloc: Global,
+    names: &Names<'_, 't>,
+    kind: Kind,
+    nearest: &mut Nearest<'_, 't>,
+) -> Result<(), AllocError> {
+    for channel in &names.tables.channels {
+        if kind == Kind::Channel && names.sees(channel.scope) {
+            nearest.try_name(alloc, channel.definition.name.text.as_str())?;
+        }
+    }
+    Ok(())
+}
