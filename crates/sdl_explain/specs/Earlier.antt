@@ -15,3 +15,8 @@ pub record IsEarlier (text word : List ℕ) (than : Place) (excerpt : Excerpt) :
   pub before : IsBefore excerpt.place than
   pub spelled : take (length word) excerpt.behind.now ≡ word
   pub marked : excerpt.width ≡ length word
+
+-- The excerpt is that of a place of the text before the other one.
+pub record StandsBefore (text : List ℕ) (than : Place) (excerpt : Excerpt) : Type 0 where
+  pub of_text : IsExcerpt text excerpt.place excerpt
+  pub before : IsBefore excerpt.place than

@@ -8,10 +8,10 @@ use Rattle.sdl_lex.specs.declared.error.LexError.TheVariants as lex
 use Rattle.sdl_lex.specs.declared.place.Place.{Place}
 use Rattle.sdl_parse.specs.declared.error.ParseError.{ParseError}
 use Rattle.sdl_parse.specs.declared.error.ParseError.TheVariants as parse
-use Rattle.parse_cursor.specs.declared.fault.Wanted.TheVariants.{ThisName}
+use Rattle.parse_cursor.specs.declared.fault.Wanted.TheVariants as wants
 use Rattle.sdl_script.specs.declared.script.ScriptError.{ScriptError}
 use Rattle.sdl_script.specs.declared.script.ScriptError.TheVariants as script
-use Rattle.sdl_explain.specs.Earlier.{IsEarlier}
+use Rattle.sdl_explain.specs.Earlier.{IsEarlier, StandsBefore}
 use Rattle.sdl_explain.specs.Excerpt.{IsExcerpt, IsNowhere}
 use Rattle.sdl_explain.specs.declared.excerpt.Excerpt.{Excerpt}
 use Rattle.sdl_explain.specs.declared.explanation.Other.{Other}
@@ -64,10 +64,13 @@ IsShownLine text (Some number) (Some excerpt) =
 
 -- ---- the other place
 
--- the name that has to be repeated
-abbrev pub repeated_in : ParseError → Option (List ℕ)
-repeated_in (parse.Expected place (ThisName name)) = Some (string_bytes name)
-repeated_in error = None
+-- Where another name has to stand, just that name stands at a place before. Where a keyword or a mark has to stand, it
+-- is any place before. No other refusal has another place.
+abbrev pub PrecedesFault : List ℕ → ParseError → Other → Type 0
+PrecedesFault text (parse.Expected place (wants.ThisName name)) other =
+    IsEarlier text (string_bytes name) place other.excerpt
+PrecedesFault text (parse.Expected place (wants.Mark mark)) other = StandsBefore text place other.excerpt
+PrecedesFault text error other = ⊥
 
 -- the word at which a rule is broken
 abbrev pub repeated_by : BuildError → Option (List ℕ)

@@ -17,9 +17,9 @@ abbrev pub cut_of : List ℕ → List ℕ
 cut_of bytes = if nat_lt 60 (length bytes) then codes "..." else []
 
 -- the first row up to the place: the number of the line, and of what stands before the place the last 60 bytes
-abbrev pub front : Excerpt → List ℕ
-front excerpt =
-    decimal excerpt.place.line ++ codes " | " ++ cut_of excerpt.before.now
+abbrev pub front : ℕ → Excerpt → List ℕ
+front number excerpt =
+    decimal number ++ codes " | " ++ cut_of excerpt.before.now
     ++ map shown_byte (drop (length excerpt.before.now - 60) excerpt.before.now)
 
 -- the row of the line: behind this front come the first 60 bytes from the place on
@@ -32,6 +32,6 @@ caret_row begin excerpt =
     map blank_for begin
     ++ replicate (min excerpt.width (max (length (take 60 excerpt.behind.now)) 1)) 94 ++ 10 ∷ []
 
--- both rows
-abbrev pub rows : Excerpt → List ℕ
-rows excerpt = line_row (front excerpt) excerpt ++ caret_row (front excerpt) excerpt
+-- both rows of a line that has this number
+abbrev pub rows : ℕ → Excerpt → List ℕ
+rows number excerpt = line_row (front number excerpt) excerpt ++ caret_row (front number excerpt) excerpt

@@ -7,11 +7,12 @@ ghost use Rattle.sdl_explain.specs.Refused.{IsShown, Repeats, build_place, repea
 
 use crate::definition::first_definition;
 use crate::earlier::earlier;
-use crate::explanation::{Explanation, Other, Source};
+use crate::explanation::{Explanation, Other};
 use crate::mention::first_mention;
 use crate::parse::shown_at;
 use crate::sentence::build_advice;
 use build_faults::Rule;
+use sdl_advice::{Advice, wanted_advice};
 use sdl_build::BuildError;
 use sdl_lex::Place;
 use sdl_parse::parse;
@@ -23,18 +24,42 @@ use std::alloc::{AllocError, Global};
 pub fn explain_build<'t>(
     alloc: Global,
     text: &'t [u8],
-    error: &'t BuildError,
+    error: &BuildError,
 ) -> Result<Explanation<'t>, AllocError>
     ensures shown { IfOk result (λ told. IsShown text.now (build_place error.now) told.shown) }
     ensures other { IfOk result (λ told. IfSome told.other
         (Repeats text.now (build_place error.now) (repeated_by error.now))) }
 {
+    let advice = advice_of(alloc, text, error)?;
+    let other = other_of(alloc, text, error)?;
     Ok(Explanation {
-        source: Source::Specification,
         shown: shown_at(text, build_place(error)),
-        advice: build_advice(error),
-        other: other_of(alloc, text, error)?,
+        advice,
+        other,
     })
+}
+
+/// Gives the advice on a specification that has no system, if it can in the words of what was wanted at the place.
+fn advice_of(alloc: Global, text: &[u8], error: &BuildError) -> Result<Advice, AllocError> {
+    if let BuildError::Broken { rule, word } = error {
+        if let Some(advice) = wanted_in(alloc, text, *rule, word)? {
+            return Ok(advice);
+        }
+    }
+    build_advice(alloc, error)
+}
+
+/// The advice on what was wanted at the place of a word, which a text is read again for.
+fn wanted_in(
+    alloc: Global,
+    text: &[u8],
+    rule: Rule,
+    word: &Name,
+) -> Result<Option<Advice>, AllocError> {
+    match parse(alloc, text) {
+        Ok(tree) => wanted_advice(alloc, &tree, rule, word),
+        Err(_) => Ok(None),
+    }
 }
 
 /// Where a rule is broken.

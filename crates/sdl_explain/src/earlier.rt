@@ -1,7 +1,7 @@
-//! Another place at which a word stands, before the one that is told.
+//! Another place before the one that is told.
 
 ghost use Rattle.std.specs.Prelude.{◌≡◌, ◌↔◌, IfSome, IsTrue, length, take};
-ghost use Rattle.sdl_explain.specs.Earlier.{IsBefore, IsEarlier};
+ghost use Rattle.sdl_explain.specs.Earlier.{IsBefore, IsEarlier, StandsBefore};
 
 use crate::excerpt::Excerpt;
 use sdl_lex::Place;
@@ -13,6 +13,18 @@ pub fn earlier<'t>(text: &'t [u8], place: Place, word: &[u8], than: Place) -> Op
     let excerpt = Excerpt::at(text, place)?;
     let is_word = excerpt.width == word.len() && begins_with(excerpt.behind, word);
     if is_word && is_before(place, than) {
+        Some(excerpt)
+    } else {
+        None
+    }
+}
+
+/// The excerpt at a place, where that stands before another one.
+pub fn before<'t>(text: &'t [u8], place: Place, than: Place) -> Option<Excerpt<'t>>
+    ensures { IfSome result (StandsBefore text.now than) }
+{
+    let excerpt = Excerpt::at(text, place)?;
+    if is_before(place, than) {
         Some(excerpt)
     } else {
         None

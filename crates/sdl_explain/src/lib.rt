@@ -1,13 +1,13 @@
-//! Why a text is refused, said for a human: the line in which it stands, a mark under the place, and a sentence that
-//! says which rule is broken and what to do about it.
+//! Why a text is refused, said for a human: the place as editors read it, a sentence that says what was wanted and what
+//! to do, and the line with a mark under the place.
 //!
 //! `explain_parse`, `explain_build` and `explain_script` make the explanation of a refusal over the text that was
-//! refused. What is shown is the line of the place, and where another place matters one before it at which the same
-//! word stands: the contracts promise so much. Which sentence belongs to which refusal is a table, of which no contract
-//! speaks.
+//! refused. What is shown is the line of the place, and if another place matters one before it: for a name that is there
+//! again, the place of the same word. The contracts promise so much. Which sentence belongs to which refusal is a table,
+//! of which no contract speaks. What was wanted of a name or a sort is said by `sdl_advice`.
 #![tactic(auto)]
 
-mod advice;
+mod around;
 mod build;
 mod byte;
 mod definition;
@@ -15,17 +15,19 @@ mod earlier;
 mod excerpt;
 mod explanation;
 mod line;
+mod marked;
 mod mention;
 mod offset;
 mod opening;
+mod origin;
 mod parse;
 mod rows;
 mod script;
 mod sentence;
 
-pub use advice::Advice;
 pub use build::explain_build;
 pub use excerpt::Excerpt;
-pub use explanation::{Explanation, Other, Source};
+pub use explanation::{Explanation, Other};
+pub use origin::Origin;
 pub use parse::explain_parse;
 pub use script::explain_script;

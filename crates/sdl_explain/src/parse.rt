@@ -1,36 +1,39 @@
 //! The explanation of a text that is no specification.
 
 ghost use Rattle.std.specs.Prelude.{◌≡◌, IfOk, IfSome};
-ghost use Rattle.sdl_explain.specs.Earlier.{IsEarlier};
-ghost use Rattle.sdl_explain.specs.Refused.{IsShown, Repeats, lex_place, parse_place, repeated_in};
+ghost use Rattle.sdl_explain.specs.Earlier.{IsEarlier, StandsBefore};
+ghost use Rattle.sdl_explain.specs.Refused.{IsShown, PrecedesFault, lex_place, parse_place};
 
-use crate::earlier::earlier;
+use crate::around::Around;
+use crate::earlier::{before, earlier};
 use crate::excerpt::Excerpt;
-use crate::explanation::{Explanation, Other, Source};
+use crate::explanation::{Explanation, Other};
 use crate::opening::opening_of;
 use crate::sentence::parse_advice;
 use parse_cursor::Wanted;
 use sdl_lex::{LexError, Place};
 use sdl_parse::ParseError;
+use sdl_tree::Mark;
 use std::alloc::{AllocError, Global};
 
-/// Explains why a text is no specification. Where a name has to be repeated behind an `end..` word, the other place is
-/// that of the name. A text that is too long is not shown.
+/// Explains why a text is no specification. If a name has to be repeated after an `end..` word, the other place is that
+/// of the name. If a semicolon is missing at the end of a line, it is that of the word that it has to follow. A text
+/// that is too long is not shown.
 pub fn explain_parse<'t>(
     alloc: Global,
     text: &'t [u8],
-    error: &'t ParseError,
+    error: &ParseError,
 ) -> Result<Explanation<'t>, AllocError>
     ensures shown { IfOk result (λ told. IsShown text.now (parse_place error.now) told.shown) }
-    ensures other { IfOk result (λ told. IfSome told.other
-        (Repeats text.now (parse_place error.now) (repeated_in error.now))) }
+    ensures other { IfOk result (λ told. IfSome told.other (PrecedesFault text.now error.now)) }
 {
     let shown = shown_at(text, parse_place(error));
+    let advice = parse_advice(alloc, text, error, &shown)?;
+    let other = other_of(alloc, text, error)?;
     Ok(Explanation {
-        source: Source::Specification,
         shown,
-        advice: parse_advice(error, &shown),
-        other: other_of(alloc, text, error)?,
+        advice,
+        other,
     })
 }
 
@@ -68,17 +71,20 @@ pub fn shown_at<'t>(text: &'t [u8], place: Option<Place>) -> Option<Excerpt<'t>>
     Excerpt::at(text, place?)
 }
 
-/// The place of the name that has to be repeated.
+/// The place of the name that has to be repeated, and of the word that a semicolon has to follow.
 fn other_of<'t>(
     alloc: Global,
     text: &'t [u8],
     error: &ParseError,
 ) -> Result<Option<Other<'t>>, AllocError>
-    ensures { IfOk result (λ other. IfSome other (Repeats text.now (parse_place error.now) (repeated_in error.now))) }
+    ensures { IfOk result (λ other. IfSome other (PrecedesFault text.now error.now)) }
 {
     match error {
         ParseError::Expected(place, Wanted::ThisName(name)) => {
             name_to_repeat(alloc, text, *place, name.as_str())
+        }
+        ParseError::Expected(place, Wanted::Mark(Mark::Semicolon)) => {
+            word_to_follow(alloc, text, *place)
         }
         _ => Ok(None),
     }
@@ -99,6 +105,30 @@ fn name_to_repeat<'t>(
     match earlier(text, opening, name.as_bytes(), place) {
         Some(excerpt) => Ok(Some(Other {
             sentence: "It stands here:",
+            excerpt,
+        })),
+        None => Ok(None),
+    }
+}
+
+/// The last word before a place, if it is in an earlier line.
+fn word_to_follow<'t>(
+    alloc: Global,
+    text: &'t [u8],
+    place: Place,
+) -> Result<Option<Other<'t>>, AllocError>
+    ensures { IfOk result (λ other. IfSome other (λ it. StandsBefore text.now place it.excerpt)) }
+{
+    let around = Around::of(alloc, text, place)?;
+    let Some(word) = around.before else {
+        return Ok(None);
+    };
+    if word.place.line == place.line {
+        return Ok(None);
+    }
+    match before(text, word.place, place) {
+        Some(excerpt) => Ok(Some(Other {
+            sentence: "It is missing after this word:",
             excerpt,
         })),
         None => Ok(None),

@@ -10,12 +10,17 @@ use std::alloc::{AllocError, Global};
 /// So many bytes are shown of what stands before a place, and so many from it on.
 const MOST_SHOWN: usize = 60;
 
-/// Adds the rows of an excerpt: its line with its number, cut to a window around the place if it is long, and under it
+/// Adds the rows of an excerpt: its line with this number, cut to a window around the place if it is long, and under it
 /// carets where the marked bytes stand.
-pub fn push_rows(alloc: Global, text: &mut Vec<u8>, excerpt: &Excerpt<'_>) -> Result<(), AllocError>
-    ensures { OnOk result (text.new.items ≡ text.old.items ++ rows excerpt.now) }
+pub fn push_rows(
+    alloc: Global,
+    text: &mut Vec<u8>,
+    number: usize,
+    excerpt: &Excerpt<'_>,
+) -> Result<(), AllocError>
+    ensures { OnOk result (text.new.items ≡ text.old.items ++ rows number excerpt.now) }
 {
-    let front = front_of(alloc, excerpt)?;
+    let front = front_of(alloc, number, excerpt)?;
     push_line(text, &front, excerpt)?;
     push_marks(text, &front, excerpt)
 }
@@ -49,10 +54,9 @@ pub fn push_line_end(text: &mut Vec<u8>) -> Result<(), AllocError>
 }
 
 /// The first row up to the place: the number of the line, and what is shown before the place.
-fn front_of(alloc: Global, excerpt: &Excerpt<'_>) -> Result<Vec<u8>, AllocError>
-    ensures { IfOk result (λ text. text.items ≡ front excerpt.now) }
+fn front_of(alloc: Global, number: usize, excerpt: &Excerpt<'_>) -> Result<Vec<u8>, AllocError>
+    ensures { IfOk result (λ text. text.items ≡ front number excerpt.now) }
 {
-    let number = excerpt.place.line;
     let margin = format!(in alloc; "{number} | ")?;
     let mut text = Vec::from_slice(alloc, margin.as_bytes())?;
     push_cut(&mut text, excerpt.before)?;

@@ -1,26 +1,31 @@
 //! The explanation of a script that is refused.
 
-ghost use Rattle.std.specs.Prelude.{◌≡◌, ◌≤◌, None, length};
+ghost use Rattle.std.specs.Prelude.{◌≡◌, ◌≤◌, None, length, IfOk};
 ghost use Rattle.sdl_explain.specs.Refused.{IsShownLine, script_line};
 
 use crate::excerpt::Excerpt;
-use crate::explanation::{Explanation, Source};
+use crate::explanation::Explanation;
 use crate::sentence::script_advice;
 use sdl_lex::Place;
 use sdl_script::ScriptError;
+use std::alloc::{AllocError, Global};
 
 /// Explains why a script is refused.
-pub fn explain_script<'t>(script: &'t [u8], error: ScriptError) -> Explanation<'t>
-    ensures shown { IsShownLine script.now (script_line error) result.shown }
-    ensures other { result.other ≡ None }
+pub fn explain_script<'t>(
+    alloc: Global,
+    script: &'t [u8],
+    error: ScriptError,
+) -> Result<Explanation<'t>, AllocError>
+    ensures shown { IfOk result (λ told. IsShownLine script.now (script_line error) told.shown) }
+    ensures other { IfOk result (λ told. told.other ≡ None) }
 {
     let shown = shown_line(script, error);
-    Explanation {
-        source: Source::Script,
+    let advice = script_advice(alloc, error, &shown)?;
+    Ok(Explanation {
         shown,
-        advice: script_advice(error, &shown),
+        advice,
         other: None,
-    }
+    })
 }
 
 /// The number of the line that is refused.

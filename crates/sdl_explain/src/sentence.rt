@@ -1,7 +1,9 @@
 //! The sentences that tell a human which rule is broken and what to do about it. One that is about a word goes on
-//! behind that word, in quotes.
+//! after that word, in quotes.
 
 mod broken;
+mod byte;
+mod foreign;
 mod left_out;
 mod parse;
 mod script;

@@ -1,17 +1,18 @@
-//! What is said of the rules that a specification breaks.
+//! Sentences about the rules that a specification breaks.
 
-use crate::advice::Advice;
 use build_faults::Rule;
+use sdl_advice::Advice;
 use sdl_build::BuildError;
+use std::alloc::{AllocError, Global};
 
 /// Gives the advice on a specification that has no system.
-pub fn build_advice(error: &BuildError) -> Advice<'_> {
+pub fn build_advice(alloc: Global, error: &BuildError) -> Result<Advice, AllocError> {
     match error {
         BuildError::Broken { rule, word } => {
             let word = word.text.as_str();
-            Advice::about(word, broken_sentence(*rule, word))
+            Advice::about(alloc, word, broken_sentence(*rule, word))
         }
-        BuildError::Memory => Advice::alone(super::NO_MEMORY),
+        BuildError::Memory => Advice::alone(alloc, super::NO_MEMORY),
     }
 }
 
@@ -30,8 +31,8 @@ fn broken_sentence(rule: Rule, word: &str) -> &'static str {
              with the definition of what it is given to."
         }
         Rule::TwiceInState => {
-            "stands in this state already, or a signal of it does: a state says but once what it does with a signal, by \
-             an input, a priority input or a save. Take one of the two away."
+            "stands in this state already, or a signal of it does: a state says but once what it does with a signal, \
+             by an input, a priority input or a save. Take one of the two away."
         }
         Rule::NoState => no_state(word),
         Rule::NoLabel => {
@@ -39,13 +40,13 @@ fn broken_sentence(rule: Rule, word: &str) -> &'static str {
              go on at, or a connection of this name, or mend the spelling."
         }
         Rule::NoRoute => {
-            "reaches nobody: no path leads it from here to a process or to the environment. Name it behind `with` \
+            "reaches nobody: no path leads it from here to a process or to the environment. Name it after `with` \
              in a channel that begins here, or say by `to` who gets it."
         }
         Rule::BadCount => bad_count(word),
         Rule::NoEnd => {
-            "begins a path that runs off its end. Let each way through it end with `nextstate`, `stop` or `join`, those \
-             too that go on behind an `enddecision`."
+            "begins a path that runs off its end. Let each way through it end with `nextstate`, `stop` or `join`, \
+             those too that go on after an `enddecision`."
         }
         Rule::Limit => {
             "is one more than this tool takes: 1,000 signals with timers, 16 parameters, 200 processes, 1,000 \

@@ -1,13 +1,13 @@
-//! What is said of constructs of the standard that this language leaves out, and what stands for them where something
+//! Sentences about constructs of the standard that this language leaves out, and what stands for them where something
 //! does.
 
-/// Gives the sentence about a word that is left out, in lower case. `text` is a character string, and `provided` stands
-/// after the end of a priority input.
+/// Gives the sentence about a word that is left out, in lower case. `text` is a character string, and `provided`
+/// follows the end of a priority input.
 pub fn left_out_sentence(word: &str) -> &'static str {
     match word {
-        "text" => "A character string can stand behind `comment` alone: no sort has it as a value.",
+        "text" => "A character string can follow `comment` alone: no sort has it as a value.",
         "provided" => {
-            "can't stand behind a priority input, which has no condition. Make it an input with a condition, or ask \
+            "can't follow a priority input, which has no condition. Make it an input with a condition, or ask \
              by a decision."
         }
         "signalroute" | "gate" => {
@@ -36,7 +36,8 @@ pub fn left_out_sentence(word: &str) -> &'static str {
              the script."
         }
         "if" | "alternative" | "select" => {
-            "isn't part of this language. A `decision` chooses between transitions."
+            "isn't part of this language. A `decision` chooses: `decision n = 0; (true): stop; else: nextstate -; \
+             enddecision;`."
         }
         "this" => "isn't part of this language. Name the process itself.",
         "referenced" => {

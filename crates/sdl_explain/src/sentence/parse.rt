@@ -1,49 +1,122 @@
-//! What is said of a text that is no specification.
+//! Sentences about a text that is no specification.
 
-use crate::advice::Advice;
+use crate::around::{Around, mark_of};
 use crate::excerpt::Excerpt;
+use crate::marked::about_marked;
+use crate::sentence::byte::byte_sentence;
+use crate::sentence::foreign::{COMMENT, foreign_advice};
 use crate::sentence::left_out::left_out_sentence;
 use parse_cursor::Wanted;
-use sdl_lex::LexError;
+use sdl_advice::Advice;
+use sdl_lex::{LexError, Place};
 use sdl_parse::ParseError;
+use sdl_tree::Mark;
+use std::alloc::{AllocError, Global};
 
 /// Gives the advice on a text that is no specification. `shown` is the part of it that is shown.
-pub fn parse_advice<'t>(error: &'t ParseError, shown: &Option<Excerpt<'t>>) -> Advice<'t> {
+pub fn parse_advice(
+    alloc: Global,
+    text: &[u8],
+    error: &ParseError,
+    shown: &Option<Excerpt<'_>>,
+) -> Result<Advice, AllocError> {
     match error {
-        ParseError::Lex(error) => lex_advice(*error, shown),
-        ParseError::Expected(_, wanted) => expected_advice(wanted, shown),
-        ParseError::LeftOut(_, word) => left_out_advice(word.as_str()),
-        ParseError::TooDeep(_) => Advice::about_marked(shown, TOO_DEEP),
-        ParseError::Memory => Advice::alone(super::NO_MEMORY),
+        ParseError::Lex(error) => lex_advice(alloc, *error, shown),
+        ParseError::Expected(place, wanted) => {
+            let around = Around::of(alloc, text, *place)?;
+            expected_advice(alloc, &around, wanted, shown)
+        }
+        ParseError::LeftOut(place, word) => { left_out_advice(alloc, text, *place, word.as_str()) }
+        ParseError::TooDeep(_) => about_marked(alloc, shown, TOO_DEEP),
+        ParseError::Memory => Advice::alone(alloc, super::NO_MEMORY),
     }
 }
 
-fn lex_advice<'t>(error: LexError, shown: &Option<Excerpt<'t>>) -> Advice<'t> {
-    let sentence = lex_sentence(error);
-    match error {
-        LexError::NumberTooBig(_) => Advice::about_marked(shown, sentence),
-        _ => Advice::alone(sentence),
+fn lex_advice(
+    alloc: Global,
+    error: LexError,
+    shown: &Option<Excerpt<'_>>,
+) -> Result<Advice, AllocError> {
+    match (error, shown) {
+        (LexError::NumberTooBig(_), _) => { about_marked(alloc, shown, lex_sentence(error)) }
+        (LexError::BadByte(_) | LexError::OpenString(_), Some(excerpt))
+            if follows_comment(excerpt.before) => { Advice::alone(alloc, COMMENT) }
+        (LexError::BadByte(_), Some(excerpt)) => {
+            Advice::alone(alloc, byte_sentence(excerpt.behind))
+        }
+        _ => Advice::alone(alloc, lex_sentence(error)),
     }
 }
 
-fn expected_advice<'t>(wanted: &'t Wanted, shown: &Option<Excerpt<'t>>) -> Advice<'t> {
+/// Whether something that is a comment in other languages begins in front of a place in its line.
+fn follows_comment(before: &[u8]) -> bool {
+    before.windows(2).any(|pair| matches!(pair, b"//" | b"--"))
+}
+
+fn expected_advice(
+    alloc: Global,
+    around: &Around<'_>,
+    wanted: &Wanted,
+    shown: &Option<Excerpt<'_>>,
+) -> Result<Advice, AllocError> {
+    if let Some(advice) = foreign_advice(alloc, around, wanted)? {
+        return Ok(advice);
+    }
     match wanted {
         Wanted::Mark(_) | Wanted::ThisName(_) => {
-            Advice::about(wanted.text(), expected_sentence(wanted))
+            Advice::about(alloc, wanted.text(), expected_sentence(wanted))
         }
-        Wanted::Name if is_word_marked(shown) => Advice::about_marked(shown, KEYWORD_AS_NAME),
-        _ => Advice::alone(expected_sentence(wanted)),
+        Wanted::Name if is_word_marked(shown) => { about_marked(alloc, shown, KEYWORD_AS_NAME) }
+        _ => Advice::alone(alloc, expected_sentence(wanted)),
     }
 }
 
 /// Of a character string the refusal tells a word that doesn't stand in the text.
-fn left_out_advice(word: &str) -> Advice<'_> {
-    let sentence = left_out_sentence(word);
+fn left_out_advice(
+    alloc: Global,
+    text: &[u8],
+    place: Place,
+    word: &str,
+) -> Result<Advice, AllocError> {
     if word == "text" {
-        Advice::alone(sentence)
-    } else {
-        Advice::about(word, sentence)
+        return Advice::alone(alloc, left_out_sentence(word));
     }
+    let around = Around::of(alloc, text, place)?;
+    if word != "provided" && wants_name(mark_of(around.before)) {
+        return Advice::about(alloc, word, LEFT_OUT_AS_NAME);
+    }
+    Advice::about(alloc, word, left_out_sentence(word))
+}
+
+/// Whether a name has to follow this word.
+fn wants_name(before: Option<Mark>) -> bool {
+    matches!(
+        before,
+        Some(
+            Mark::System
+                | Mark::Block
+                | Mark::Process
+                | Mark::Channel
+                | Mark::Connect
+                | Mark::Connection
+                | Mark::Signal
+                | Mark::SignalList
+                | Mark::SignalSet
+                | Mark::Synonym
+                | Mark::Dcl
+                | Mark::Fpar
+                | Mark::Timer
+                | Mark::State
+                | Mark::NextState
+                | Mark::Join
+                | Mark::Input
+                | Mark::Save
+                | Mark::Output
+                | Mark::Create
+                | Mark::Task
+                | Mark::With
+        )
+    )
 }
 
 /// Whether a word is marked, and no number or mark.
@@ -57,13 +130,17 @@ fn is_word_marked(shown: &Option<Excerpt<'_>>) -> bool {
     }
 }
 
+/// The sentence about a word that is left out and stands at the place of a name.
+const LEFT_OUT_AS_NAME: &str =
+    "is a word of SDL, though this language leaves it out, and so it can't be a name. Choose another.";
+
 /// The sentence about a keyword that stands at the place of a name.
 const KEYWORD_AS_NAME: &str = "is a keyword, and a name has to stand here. Choose another word.";
 
 /// The sentence about a parenthesis or a decision that opens inside of too many others.
 const TOO_DEEP: &str =
     "opens inside of 64 other parentheses and decisions. Give an inner expression to a variable by a task before, or \
-     put an inner part behind a connection and go there by a join.";
+     put an inner part into a connection and go there by a join.";
 
 /// Gives the sentence about a text without tokens.
 fn lex_sentence(error: LexError) -> &'static str {
@@ -92,14 +169,12 @@ fn lex_sentence(error: LexError) -> &'static str {
 /// Gives the sentence about a place at which something else has to stand.
 fn expected_sentence(wanted: &Wanted) -> &'static str {
     match wanted {
-        Wanted::Mark(_) => {
-            "has to stand here, or before it something that may be left out, and neither does."
-        }
+        Wanted::Mark(_) => { "has to stand here, or something that can come before it." }
         Wanted::Name => "A name has to stand here.",
         Wanted::Number => "A number has to stand here: a priority is no expression.",
-        Wanted::Text => "A character string, `'..'`, has to stand here, behind `comment`.",
+        Wanted::Text => "A character string, `'..'`, has to stand here, after `comment`.",
         Wanted::Expression => "An expression has to stand here.",
-        Wanted::Action => "An action or a terminator has to stand here, behind its label.",
+        Wanted::Action => "An action or a terminator has to stand here, after its label.",
         Wanted::Point => {
             "An end of the channel has to stand here: `env`, or the name of a block or a process."
         }

@@ -1,0 +1,52 @@
+//! Sentences about bytes with which no word, number or mark begins, most of which come from other languages.
+
+/// Gives the sentence about these bytes, the first of which begins nothing.
+pub fn byte_sentence(bytes: &[u8]) -> &'static str {
+    match bytes {
+        [b'!', b'=', ..] => "`/=` asks whether two values differ, and not `!=`.",
+        [b'!', ..] => "`not` turns a Boolean round, and not `!`.",
+        [b'&', ..] => "`and` joins two Booleans, and not `&` or `&&`.",
+        [b'|', ..] => "`or` joins two Booleans, and not `|` or `||`.",
+        [b'.', b'.', ..] => "A range has a colon, as in `(1:5):`, and not `..`.",
+        [b'.', b'0'..=b'9', ..] => {
+            "Numbers are whole: a Time and a Duration count ticks. Write a whole number, and let a tick be shorter."
+        }
+        [b'.', ..] => {
+            "There is no dot: nothing has fields, and a name has only letters, digits and `_`. Choose such a name."
+        }
+        [b'"', ..] => {
+            "A character string is written `'..'`, and can follow `comment` alone: no sort has it as a value."
+        }
+        [b'{' | b'}', ..] => {
+            "There are no braces. What opens with a keyword such as `process` or `state` closes with `endprocess` or \
+             `endstate`."
+        }
+        [b'[' | b']', ..] => "There are no arrays. Write a variable for each place.",
+        [b'#', ..] => "A comment is written `/* .. */` here. `#` begins one in a script alone.",
+        [b'%', ..] => percent_sentence(bytes),
+        [b'_', ..] => "A name begins with a letter, and not with `_`.",
+        [b'^', ..] => "There are no powers and no operators on bits.",
+        [b'?', ..] => "There is no `?`. A `decision` chooses between transitions.",
+        [b'\\', ..] => "There is no backslash. A line goes on in the next one without a mark.",
+        [128..=255, ..] => {
+            "A name has ASCII letters, digits and `_`. Other letters can be in a comment, `/* .. */`, or in a \
+             character string."
+        }
+        _ => {
+            "No word, number or mark begins with this byte. Take it away, or put it into a comment, `/* .. */`."
+        }
+    }
+}
+
+/// Gives the sentence about a percent sign, which begins the line before a script.
+fn percent_sentence(bytes: &[u8]) -> &'static str {
+    let begins_script = match bytes.get(..7) {
+        Some(word) => word.eq_ignore_ascii_case(b"%script"),
+        None => false,
+    };
+    if begins_script {
+        "A script follows a line that is `%script` and nothing else: in lower case, with no blank before or after it."
+    } else {
+        "The remainder of a division is `mod` or `rem`, and not `%`."
+    }
+}
