@@ -5,7 +5,7 @@ use Rattle.conformance.specs.Judgement.{AnswersOtherwise, DiffersBy, IsAnswer, I
 use Rattle.conformance.specs.declared.case.Answer.{Answer}
 use Rattle.conformance.specs.declared.case.Case.{Case}
 use Rattle.conformance.specs.declared.judge.Difference.{Difference}
-use Rattle.conformance.specs.declared.judge.Difference.TheVariants.{Arguments, Output, Status, Again}
+use Rattle.conformance.specs.declared.judge.Difference.TheVariants.{Arguments, Output, Status, Again, Explained}
 
 -- a canonical text and what a check of it answers
 pub again_found : {P E : Type 0} (options : Options) (answer again : Answer) (r : Result (Option P) E) → IsAnswer answer.output.items options again.output.items again.status → IfOk r (λ found. IsNone found ↔ (answer.output.items ≡ again.output.items)) → IfOk r (λ found. MatchOption found (IsCanonical options answer) (λ _. IsUnstable options answer))
@@ -19,5 +19,6 @@ pub differs_by_answer : (case : Case) (answer : Answer) (how : Difference) → I
     → DiffersBy case how
 differs_by_answer case answer Arguments kind other = absurd kind
 differs_by_answer case answer (Again pair) kind other = absurd kind
+differs_by_answer case answer (Explained pair) kind other = absurd kind
 differs_by_answer case answer (Output pair) kind other = (answer, other)
 differs_by_answer case answer (Status want told) kind other = (answer, other)

@@ -1,5 +1,5 @@
 -- What is found of a case, said of what the program may answer.
-use Rattle.std.specs.Prelude.{◌≡◌, ◌≢◌, ◌≤◌, ℕ, List, [], Some, Result, Ok, Err, MatchResult, length}
+use Rattle.std.specs.Prelude.{◌≡◌, ◌≢◌, ◌≤◌, ℕ, List, [], None, Some, Result, Ok, Err, MatchResult, length}
 use Rattle.sdl_engine.specs.Answer.{Faulted, Written}
 use Rattle.sdl_engine.specs.declared.options.Command.TheVariants as command
 use Rattle.sdl_engine.specs.declared.options.Options.{Options}
@@ -27,7 +27,7 @@ status_of (Err fault) = 3
 pub record IsAnswer (input : List ℕ) (options : Options) (output : List ℕ) (status : ℕ) : Type 0 where
   pub came : Result Outcome TextFault
   pub ends : status ≡ status_of came
-  pub writes : MatchResult came (λ how. Written (Some input) options how (Some []) (Some output)) (λ fault. Faulted fault (Some input) options (Some []) (Some output))
+  pub writes : MatchResult came (λ how. Written (Some input) None options how (Some []) (Some output)) (λ fault. Faulted fault (Some input) None options (Some []) (Some output))
 
 -- the same output and the same status
 pub record IsSame (want told : Answer) : Type 0 where
@@ -71,12 +71,14 @@ pub record AnswersUnstably (case : Case) (answer : Answer) : Type 0 where
 abbrev pub IsOfAnswer : Difference → Type 0
 IsOfAnswer difference.Arguments = ⊥
 IsOfAnswer (difference.Again pair) = ⊥
+IsOfAnswer (difference.Explained pair) = ⊥
 IsOfAnswer other = Unit {0}
 
 -- in what a case differs
 abbrev pub DiffersBy : Case → Difference → Type 0
 DiffersBy case difference.Arguments = case.asked ≡ asked.Unknown
 DiffersBy case (difference.Again pair) = (answer : Answer) × AnswersUnstably case answer
+DiffersBy case (difference.Explained pair) = Answers case case.wanted
 DiffersBy case other = (answer : Answer) × AnswersOtherwise case answer
 
 -- what a verdict says of its case

@@ -1,10 +1,10 @@
-//! What the program answers.
+//! What the program answers, and what it notes of a refusal.
 
 ghost use Rattle.conformance.specs.Judgement.{IsAnswer, status_of};
 ghost use Rattle.std.specs.Prelude.{◌≡◌};
 
 use crate::case::Answer;
-use sdl_engine::{Options, Outcome, TextFault, run_text};
+use sdl_engine::{Names, Notes, Options, Outcome, Source, TextFault, run_and_note, run_text};
 use std::alloc::Global;
 use std::sync::Wait;
 use std::thread::Threads;
@@ -23,6 +23,33 @@ pub fn answer_of<T: Threads + Wait + Copy + Send + Sync>(
     let outcome = run_text(rt, alloc, &mut reader, &mut output, options);
     let status = status_of(&outcome);
     Answer { status, output }
+}
+
+/// What the engine notes of an input for a human.
+pub fn notes_of<T: Threads + Wait + Copy + Send + Sync>(
+    rt: &T,
+    alloc: Global,
+    input: &[u8],
+    options: &Options,
+) -> Vec<u8> {
+    let mut source = Source {
+        text: input,
+        script: None::<&[u8]>,
+    };
+    let mut notes = Notes {
+        writer: Vec::new(alloc),
+        names: Names {
+            text: Names::STANDARD_INPUT,
+            script: Names::STANDARD_INPUT,
+        },
+        explains: true,
+        strict: false,
+        failed: false,
+    };
+    let mut output = Vec::new(alloc);
+    let _ = run_and_note(rt, alloc, &mut source, &mut output, &mut notes, options);
+    let Notes { writer, .. } = notes;
+    writer
 }
 
 /// The exit status that the program gives.

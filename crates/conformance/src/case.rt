@@ -27,4 +27,6 @@ pub struct Case {
     pub asked: Asked,
     pub input: Vec<u8>,
     pub wanted: Answer,
+    /// What standard error has to say of a refused text that is explained.
+    pub explained: Option<Vec<u8>>,
 }

@@ -24,7 +24,7 @@ pub enum FormatError {
     Workers,
     #[error("a status is a number from 0 to 255")]
     Status,
-    #[error("a block is `input`, `output` or `table`")]
+    #[error("a block is `input`, `output`, `explained` or `table`")]
     Block,
     #[error("no input")]
     NoInput,

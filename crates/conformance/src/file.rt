@@ -84,6 +84,7 @@ fn case_with_workers(
         asked,
         input: case.input.clone()?,
         wanted: case.wanted.clone()?,
+        explained: None,
     })
 }
 
@@ -98,7 +99,11 @@ fn single_case(alloc: Global, section: &Section<'_>) -> Result<Case, FormatFault
     let name = String::from_str(alloc, section.name)?;
     let input = text_of(alloc, input, None)?;
     let output = text_of(alloc, output, None)?;
-    Ok(case_of(section, name, input, output))
+    let mut case = case_of(section, name, input, output);
+    if let Some(explained) = section.blocks.explained {
+        case.explained = Some(text_of(alloc, explained, None)?);
+    }
+    Ok(case)
 }
 
 /// Appends the case of each row.
@@ -191,5 +196,6 @@ fn case_of(section: &Section<'_>, name: String, input: Vec<u8>, output: Vec<u8>)
             status: section.status,
             output,
         },
+        explained: None,
     }
 }

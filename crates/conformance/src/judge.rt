@@ -3,7 +3,7 @@
 ghost use Rattle.std.specs.Prelude.{◌≡◌, ◌↔◌, IfOk, IfSome, IsNone, MatchOption};
 ghost use Rattle.conformance.specs.Judgement.{Answers, AnswersOtherwise, IsCanonical, IsOfAnswer, IsSame, IsUnstable, Upholds};
 
-use crate::answer::answer_of;
+use crate::answer::{answer_of, notes_of};
 use crate::case::{Answer, Asked, Case};
 use crate::compare::{LinePair, first_difference};
 use sdl_engine::{Command, Options};
@@ -31,6 +31,8 @@ pub enum Difference {
     Status { want: u8, told: u8 },
     /// Its canonical text has another canonical text.
     Again(LinePair),
+    /// It is answered as wanted, and explained otherwise.
+    Explained(LinePair),
 }
 
 impl fmt::Display for Difference {
@@ -42,6 +44,7 @@ impl fmt::Display for Difference {
                 write!(f, "status\n  want: {want}\n  told: {told}")
             }
             Difference::Again(pair) => write!(f, "canonical text again, {pair}"),
+            Difference::Explained(pair) => write!(f, "explained, {pair}"),
         }
     }
 }
@@ -55,7 +58,10 @@ pub fn judge<T: Threads + Wait + Copy + Send + Sync>(
     ensures { IfOk result (Upholds case.now) }
 {
     match case.asked {
-        Asked::Command(options) => judge_command(rt, alloc, case, &options),
+        Asked::Command(options) => match judge_command(rt, alloc, case, &options)? {
+            Verdict::AsWanted => judge_notes(rt, alloc, case, &options),
+            Verdict::Differs(difference) => Ok(Verdict::Differs(difference)),
+        },
         Asked::Unknown => Ok(Verdict::Differs(Difference::Arguments)),
     }
 }
@@ -73,6 +79,26 @@ fn judge_command<T: Threads + Wait + Copy + Send + Sync>(
     match difference_again(rt, alloc, &answer, options)? {
         Some(pair) => Ok(Verdict::Differs(Difference::Again(pair))),
         None => judge_answer(alloc, case, &answer),
+    }
+}
+
+/// Compares what is noted for a human, of a case that is answered as wanted.
+fn judge_notes<T: Threads + Wait + Copy + Send + Sync>(
+    rt: &T,
+    alloc: Global,
+    case: &Case,
+    options: &Options,
+) -> Result<Verdict, AllocError>
+    requires { Answers case.now case.now.wanted }
+    ensures { IfOk result (Upholds case.now) }
+{
+    let Some(want) = &case.explained else {
+        return Ok(Verdict::AsWanted);
+    };
+    let told = notes_of(rt, alloc, case.input.as_slice(), options);
+    match first_difference(alloc, want.as_slice(), told.as_slice())? {
+        Some(pair) => Ok(Verdict::Differs(Difference::Explained(pair))),
+        None => Ok(Verdict::AsWanted),
     }
 }
 

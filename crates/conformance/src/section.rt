@@ -38,6 +38,7 @@ impl Section<'_> {
 pub struct Blocks<'a> {
     pub input: Option<Lines<'a>>,
     pub output: Option<Lines<'a>>,
+    pub explained: Option<Lines<'a>>,
     pub table: Option<Lines<'a>>,
 }
 
@@ -140,6 +141,7 @@ fn read_blocks(lines: Lines<'_>) -> Result<Blocks<'_>, FormatFault> {
     let mut blocks = Blocks {
         input: None,
         output: None,
+        explained: None,
         table: None,
     };
     let mut rest = lines;
@@ -160,6 +162,7 @@ fn with_block<'a>(
     let Blocks {
         input,
         output,
+        explained,
         table,
     } = blocks;
     match title.text {
@@ -171,11 +174,17 @@ fn with_block<'a>(
             output: Some(text),
             ..blocks
         }),
+        b"---- explained" if explained.is_none() => Ok(Blocks {
+            explained: Some(text),
+            ..blocks
+        }),
         b"---- table" if table.is_none() => Ok(Blocks {
             table: Some(text),
             ..blocks
         }),
-        b"---- input" | b"---- output" | b"---- table" => Err(title.fault(FormatError::Twice)),
+        b"---- input" | b"---- output" | b"---- explained" | b"---- table" => {
+            Err(title.fault(FormatError::Twice))
+        }
         _ => Err(title.fault(FormatError::Block)),
     }
 }

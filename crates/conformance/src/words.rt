@@ -18,9 +18,13 @@ pub fn read_words(line: &str) -> Asked {
     }
 }
 
-/// The options of a check. None: a word stands after it.
+/// What a check is asked, after which no word stands but `--explain`.
 fn check_options(mut words: SplitWhitespace<'_>) -> Option<Options> {
-    words.next().is_none().then_some(Options {
+    let mut word = words.next();
+    if word == Some("--explain") {
+        word = words.next();
+    }
+    word.is_none().then_some(Options {
         command: Command::Check,
         workers: None,
         limit: Options::DEFAULT_LIMIT,

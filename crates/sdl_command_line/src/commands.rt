@@ -10,7 +10,7 @@ const VERSION: &str = "0.1.0 (rattle logic dac8208d650f15bf)";
 
 /// The text after the help of the program.
 const HELP: &str =
-    "Both commands read a file, or standard input: a specification in SDL/PR, and behind a line `%script` a script.
+    "Both commands read a file, or standard input: a specification in SDL/PR, and after a line `%script` a script.
 
 Examples:
   sdlrun run examples/counter.sdl
@@ -22,6 +22,7 @@ Exit status:
   2  the text is refused, by one line on standard output; --explain says more on standard error
   3  the run is refused, or a file can't be opened, or reading, writing or memory failed
   4  the command line has a mistake
+  6  an instance failed, in a run with --strict
 
 docs/LANGUAGE.md has the language, the script, the trace and all refusals.";
 
@@ -29,8 +30,9 @@ docs/LANGUAGE.md has the language, the script, the trace and all refusals.";
 const CHECK_HELP: &str =
     "It makes all checks of the specification, and reads the script for it, as a run does, and then runs nothing.
 
-Example:
-  echo 'SYSTEM s; SIGNAL a; endsystem;' | sdlrun check";
+Examples:
+  echo 'SYSTEM s; SIGNAL a; endsystem;' | sdlrun check
+  sdlrun check --quiet --explain examples/counter.sdl";
 
 /// The text after the help of `run`.
 const RUN_HELP: &str =
@@ -67,7 +69,8 @@ fn check<'a>(alloc: Global) -> Result<Command<'a>, AllocError> {
     check
         .arg(file(alloc))?
         .arg(script(alloc))?
-        .arg(explain(alloc))
+        .arg(explain(alloc))?
+        .arg(quiet(alloc))
 }
 
 /// The command that runs a text.
@@ -79,13 +82,14 @@ fn run<'a>(alloc: Global) -> Result<Command<'a>, AllocError> {
         .arg(script(alloc))?
         .arg(workers(alloc))?
         .arg(limit(alloc))?
+        .arg(strict(alloc))?
         .arg(explain(alloc))
 }
 
 /// The file of the specification.
 fn file<'a>(alloc: Global) -> Arg<'a> {
     Arg::new(alloc, "file").value_name("FILE").help(
-        "The specification, with its script behind it; standard input if not given",
+        "The specification, with its script after it; standard input if not given, or if it is `-`",
     )
 }
 
@@ -94,7 +98,9 @@ fn script<'a>(alloc: Global) -> Arg<'a> {
     Arg::new(alloc, "script")
         .long("script")
         .value_name("FILE")
-        .help("The script, which then does not stand behind the specification")
+        .help(
+            "A script that takes the place of the one after the specification; `-` is standard input",
+        )
         .action(ArgAction::Set)
 }
 
@@ -116,6 +122,22 @@ fn limit<'a>(alloc: Global) -> Arg<'a> {
         .help("Cuts the run after N transitions, 1 to 1000000000; 1000000 if not given")
         .action(ArgAction::Set)
         .value_parser(ValueParser::unsigned(1, Options::MOST_LIMIT))
+}
+
+/// Whether nothing is written of a text that is accepted.
+fn quiet<'a>(alloc: Global) -> Arg<'a> {
+    Arg::new(alloc, "quiet")
+        .long("quiet")
+        .help("Writes nothing if the text is accepted; the exit status tells")
+        .action(ArgAction::SetTrue)
+}
+
+/// Whether a failure of an instance counts as one of the program.
+fn strict<'a>(alloc: Global) -> Arg<'a> {
+    Arg::new(alloc, "strict")
+        .long("strict")
+        .help("Ends with status 6 if an instance failed, and tells each failure on standard error")
+        .action(ArgAction::SetTrue)
 }
 
 /// Whether a refusal is explained.

@@ -9,4 +9,4 @@ mod request;
 mod task;
 
 pub use request::{Request, read_command_line};
-pub use task::{Task, chosen};
+pub use task::{InputFile, Task, chosen};

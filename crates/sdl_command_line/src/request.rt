@@ -29,9 +29,20 @@ pub fn read_command_line<R: Env + AllocGlobal + Print + Eprint>(rt: &R) -> Reque
         Err(_) => return Request::Fault(TextFault::Memory),
     };
     match chosen(rt.alloc(), words.as_slice()) {
-        Ok(task) => Request::Read(task),
+        Ok(task) => request_of(rt, task),
         Err(error) => told(rt, &error),
     }
+}
+
+/// The request of a task. To read both texts from standard input is a mistake, which is told.
+fn request_of<R: Eprint>(rt: &R, task: Task) -> Request {
+    if task.reads_standard_input_twice() {
+        let _ = eprintln!(rt;
+            "error: a specification and its script can't both be read from standard input"
+        );
+        return Request::Misused;
+    }
+    Request::Read(task)
 }
 
 /// Prints what clap has to say.

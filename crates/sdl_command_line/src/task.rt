@@ -11,10 +11,42 @@ pub struct Task {
     pub options: Options,
     /// Whether a refusal of the text is explained on standard error.
     pub explain: bool,
-    /// The file of the specification; where there is none, standard input is read.
-    pub file: Option<String>,
-    /// The file of the script; where there is none, it stands behind the specification.
-    pub script: Option<String>,
+    /// Whether nothing is written of a text that is accepted.
+    pub quiet: bool,
+    /// Whether a failure of an instance counts as one of the program.
+    pub strict: bool,
+    /// The specification, which a script may follow.
+    pub text: InputFile,
+    /// A script of its own, which takes the place of the one that follows the specification.
+    pub script: Option<InputFile>,
+}
+
+impl Task {
+    /// Whether the specification and its script are both read from standard input, which gives only one of them.
+    pub fn reads_standard_input_twice(&self) -> bool {
+        self.text.is_standard_input()
+            && match &self.script {
+                Some(script) => script.is_standard_input(),
+                None => false,
+            }
+    }
+}
+
+/// Where a text is read.
+#[derive(Drop)]
+pub enum InputFile {
+    StandardInput,
+    /// The file of this name.
+    Named(String),
+}
+
+impl InputFile {
+    pub fn is_standard_input(&self) -> bool {
+        match self {
+            InputFile::StandardInput => true,
+            InputFile::Named(_) => false,
+        }
+    }
 }
 
 /// The task that the words of the command line choose, the program's name first. Help that was asked for and a mistake
@@ -28,15 +60,23 @@ pub fn chosen(alloc: Global, words: &[String]) -> Result<Task, Error> {
 /// The task of the command that is met.
 fn met_task(alloc: Global, matches: &ArgMatches<'_>) -> Result<Task, AllocError> {
     if let Some(run) = matches.subcommand_matches("run") {
-        return task_of(alloc, run_options(run), run);
+        let mut task = task_of(alloc, run_options(run), run)?;
+        task.strict = run.get_flag("strict");
+        return Ok(task);
     }
     match matches.subcommand_matches("check") {
-        Some(check) => task_of(alloc, CHECK, check),
+        Some(check) => {
+            let mut task = task_of(alloc, CHECK, check)?;
+            task.quiet = check.get_flag("quiet");
+            Ok(task)
+        }
         // One of the two has to stand there.
         None => Ok(Task {
             options: CHECK,
             explain: false,
-            file: None,
+            quiet: false,
+            strict: false,
+            text: InputFile::StandardInput,
             script: None,
         }),
     }
@@ -67,20 +107,30 @@ fn workers_of(run: &ArgMatches<'_>) -> Option<u8> {
     u8::try_from(workers).ok()
 }
 
-/// The task of a command with these options, the files that are named with it, and whether it explains a refusal.
+/// What a command is to do with the files that are named with it, and whether it explains a refusal.
 fn task_of(alloc: Global, options: Options, named: &ArgMatches<'_>) -> Result<Task, AllocError> {
+    let text = match named.get_str("file") {
+        Some(name) => input_file(alloc, name)?,
+        None => InputFile::StandardInput,
+    };
+    let script = match named.get_str("script") {
+        Some(name) => Some(input_file(alloc, name)?),
+        None => None,
+    };
     Ok(Task {
         options,
         explain: named.get_flag("explain"),
-        file: name_of(alloc, named.get_str("file"))?,
-        script: name_of(alloc, named.get_str("script"))?,
+        quiet: false,
+        strict: false,
+        text,
+        script,
     })
 }
 
-/// The name of a file, to keep.
-fn name_of(alloc: Global, name: Option<&str>) -> Result<Option<String>, AllocError> {
-    match name {
-        Some(name) => Ok(Some(String::from_str(alloc, name)?)),
-        None => Ok(None),
+/// Where a text of this name is read: `-` is standard input.
+fn input_file(alloc: Global, name: &str) -> Result<InputFile, AllocError> {
+    if name == "-" {
+        return Ok(InputFile::StandardInput);
     }
+    Ok(InputFile::Named(String::from_str(alloc, name)?))
 }

@@ -1,16 +1,17 @@
 -- What the calls of a command give, put together into what is said of the input.
 use Rattle.std.proofs.Common.{◌≡◌, sym, subst, refl, inl, inr, ℕ, List, Option, None, Some, Bool, true, false, Result, Ok, Err, IfOk, IfErr, OnOk}
 use Rattle.std.specs.Io.KnownBytes.{Appends}
+use Rattle.sdl_input.specs.Input.{IsRead}
+use Rattle.sdl_input.specs.declared.input.Input.{Input}
+use Rattle.sdl_input.specs.declared.input.Input.TheVariants.{Held, TooLong}
+use Rattle.sdl_input.specs.declared.texts.Texts.{Texts}
 use Rattle.sdl_report.specs.ReportText.{report_text}
 use Rattle.run_record.specs.declared.record.Report.{Report}
 use Rattle.run_record.specs.declared.run_error.RunError.{RunError}
 use Rattle.run_record.specs.declared.run_error.RunError.TheVariants as run
 use Rattle.sdl_system.specs.System.{SystemValue}
 use Rattle.sdl_engine.specs.Answer.{Allows, AllowsOfRun, BreaksOff, FailsToTell, Faulted, Fails, IsRunOfInput, IsRunRefused, PrintsInput, Refuses, Says, SaysCut, SaysWhole, Tells, Written, outcome_by, outcome_of}
-use Rattle.sdl_engine.specs.Input.{IsRead}
 use Rattle.sdl_engine.specs.RefusalText.{refusal_line}
-use Rattle.sdl_engine.specs.declared.input.Input.{Input}
-use Rattle.sdl_engine.specs.declared.input.Input.TheVariants.{Bytes, TooLong}
 use Rattle.sdl_engine.specs.declared.options.Command.{Command}
 use Rattle.sdl_engine.specs.declared.options.Command.TheVariants as command
 use Rattle.sdl_engine.specs.declared.options.Options.{Options}
@@ -26,19 +27,19 @@ pub report_says : (input : Input) (options : Options) (workers : Option ℕ) (sy
     (whole : Bool) → options.command ≡ command.Run → options.workers ≡ workers → report.whole ≡ whole →
     IsRunOfInput input workers options.limit system report →
     Says input options (outcome_by whole) (report_text system report)
-report_says (Bytes bytes) options workers system report true asked by is run =
-    subst (λ c. SaysWhole c options.workers bytes.items options.limit (report_text system report)) (sym asked) (record {
+report_says (Held texts) options workers system report true asked by is run =
+    subst (λ c. SaysWhole c options.workers texts options.limit (report_text system report)) (sym asked) (record {
       system = system;
       report = report;
-      run = subst (λ w. IsRunOfInput (Bytes bytes) w options.limit system report) (sym by) run;
+      run = subst (λ w. IsRunOfInput (Held texts) w options.limit system report) (sym by) run;
       is_whole = is;
       says = refl;
     })
-report_says (Bytes bytes) options workers system report false asked by is run =
-    subst (λ c. SaysCut c options.workers bytes.items options.limit (report_text system report)) (sym asked) (record {
+report_says (Held texts) options workers system report false asked by is run =
+    subst (λ c. SaysCut c options.workers texts options.limit (report_text system report)) (sym asked) (record {
       system = system;
       report = report;
-      run = subst (λ w. IsRunOfInput (Bytes bytes) w options.limit system report) (sym by) run;
+      run = subst (λ w. IsRunOfInput (Held texts) w options.limit system report) (sym by) run;
       is_whole = is;
       says = refl;
     })
@@ -47,8 +48,8 @@ report_says TooLong options workers system report whole asked by is run = absurd
 -- so is the canonical text of its specification
 pub canonical_says : (input : Input) (options : Options) (text : List ℕ) → options.command ≡ command.Check →
     PrintsInput input text → Says input options outcome.Whole text
-canonical_says (Bytes bytes) options text asked prints =
-    subst (λ c. SaysWhole c options.workers bytes.items options.limit text) (sym asked) prints
+canonical_says (Held texts) options text asked prints =
+    subst (λ c. SaysWhole c options.workers texts options.limit text) (sym asked) prints
 canonical_says TooLong options text asked prints = absurd prints
 
 -- and the line of a refusal
@@ -59,21 +60,21 @@ refuses asked workers input why allowed = record { refused = why; allowed = allo
 -- what a check may tell doesn't hang on workers
 pub check_allows : (workers : Option ℕ) (input : Input) (refused : Refusal) → Allows command.Check None input refused →
     Allows command.Check workers input refused
-check_allows workers (Bytes bytes) refused allowed = allowed
+check_allows workers (Held texts) refused allowed = allowed
 check_allows workers TooLong refused allowed = allowed
 
 -- with workers a run may tell either of itself
-pub run_allows : (workers : ℕ) (bytes : List ℕ) (error : RunError) → IsRunRefused bytes →
-    AllowsOfRun (Some workers) bytes error
-run_allows workers bytes run.Memory refused = refused
-run_allows workers bytes (run.Lost number) refused = refused
+pub run_allows : (workers : ℕ) (texts : Texts) (error : RunError) → IsRunRefused texts →
+    AllowsOfRun (Some workers) texts error
+run_allows workers texts run.Memory refused = refused
+run_allows workers texts (run.Lost number) refused = refused
 
 says_refused : (input : Input) (options : Options) (why : Refusal) (line : List ℕ) →
     Refuses options.command options.workers input (outcome_of why) line → Says input options (outcome_of why) line
-says_refused (Bytes bytes) options (refusal.Parse error) line r = r
-says_refused (Bytes bytes) options (refusal.Build error) line r = r
-says_refused (Bytes bytes) options (refusal.Script error) line r = r
-says_refused (Bytes bytes) options (refusal.Run error) line r = r
+says_refused (Held texts) options (refusal.Parse error) line r = r
+says_refused (Held texts) options (refusal.Build error) line r = r
+says_refused (Held texts) options (refusal.Script error) line r = r
+says_refused (Held texts) options (refusal.Run error) line r = r
 says_refused TooLong options (refusal.Parse error) line r = r
 says_refused TooLong options (refusal.Build error) line r = r
 says_refused TooLong options (refusal.Script error) line r = r
@@ -162,21 +163,23 @@ failed_by asked workers input options why old new r is by allowed off =
 
 -- ---- the whole program: the input was read first
 
-pub written_by : (remaining old new : Option (List ℕ)) (input : Input) (options : Options)
-    (r : Result Outcome TextFault) → IsRead remaining input → IfOk r (λ how. Tells input options how old new) →
-    IfOk r (λ how. Written remaining options how old new)
-written_by remaining old new input options (Ok how) read tells = record { input = input; read = read; tells = tells }
-written_by remaining old new input options (Err why) read tells = tt
+pub written_by : (text : Option (List ℕ)) (script : Option (Option (List ℕ))) (old new : Option (List ℕ))
+    (input : Input) (options : Options) (r : Result Outcome TextFault) → IsRead text script input →
+    IfOk r (λ how. Tells input options how old new) → IfOk r (λ how. Written text script options how old new)
+written_by text script old new input options (Ok how) read tells = record { input = input; read = read; tells = tells }
+written_by text script old new input options (Err why) read tells = tt
 
-faulted : (remaining old new : Option (List ℕ)) (input : Input) (options : Options) (why : TextFault) →
-    IsRead remaining input → Fails why input options old new → Faulted why remaining options old new
-faulted remaining old new input options fault.Read read off = absurd off
-faulted remaining old new input options fault.Write read off = record { input = input; read = read; breaks = off }
-faulted remaining old new input options fault.Memory read off =
+faulted : (text : Option (List ℕ)) (script : Option (Option (List ℕ))) (old new : Option (List ℕ)) (input : Input)
+    (options : Options) (why : TextFault) → IsRead text script input → Fails why input options old new →
+    Faulted why text script options old new
+faulted text script old new input options fault.Read read off = absurd off
+faulted text script old new input options fault.Write read off = record { input = input; read = read; breaks = off }
+faulted text script old new input options fault.Memory read off =
     elim off [ inl kept ↦ inl kept | inr broken ↦ inr (record { input = input; read = read; breaks = broken }) ]
 
-pub faulted_by : (remaining old new : Option (List ℕ)) (input : Input) (options : Options)
-    (r : Result Outcome TextFault) → IsRead remaining input → IfErr r (λ why. Fails why input options old new) →
-    IfErr r (λ why. Faulted why remaining options old new)
-faulted_by remaining old new input options (Ok how) read off = tt
-faulted_by remaining old new input options (Err why) read off = faulted remaining old new input options why read off
+pub faulted_by : (text : Option (List ℕ)) (script : Option (Option (List ℕ))) (old new : Option (List ℕ))
+    (input : Input) (options : Options) (r : Result Outcome TextFault) → IsRead text script input →
+    IfErr r (λ why. Fails why input options old new) → IfErr r (λ why. Faulted why text script options old new)
+faulted_by text script old new input options (Ok how) read off = tt
+faulted_by text script old new input options (Err why) read off =
+    faulted text script old new input options why read off

@@ -5,6 +5,11 @@ use Rattle.sdl_build.specs.Built.{IsBuilt}
 use Rattle.sdl_build.specs.Outcome.{IsRefusedAs}
 use Rattle.sdl_build.specs.declared.error.BuildError.{BuildError}
 use Rattle.serial_order.specs.Report.{IsSerialReport}
+use Rattle.sdl_input.specs.Input.{IsRead}
+use Rattle.sdl_input.specs.Parts.{HasParts}
+use Rattle.sdl_input.specs.declared.input.Input.{Input}
+use Rattle.sdl_input.specs.declared.input.Input.TheVariants.{Held, TooLong}
+use Rattle.sdl_input.specs.declared.texts.Texts.{Texts}
 use Rattle.sdl_lex.specs.declared.error.LexError.TheVariants as lex
 use Rattle.sdl_parse.specs.Parser.{SpellsText}
 use Rattle.sdl_parse.specs.Parser as parser
@@ -26,10 +31,7 @@ use Rattle.sdl_tree.specs.Canonical.{canonical_text}
 use Rattle.sdl_tree.specs.Tree.{Tree}
 use Rattle.settle_meaning.specs.Report.{IsSettled}
 use Rattle.sdl_engine.specs.Behaviours.{AreOfText}
-use Rattle.sdl_engine.specs.Input.{IsParted, IsRead}
 use Rattle.sdl_engine.specs.RefusalText.{refusal_line}
-use Rattle.sdl_engine.specs.declared.input.Input.{Input}
-use Rattle.sdl_engine.specs.declared.input.Input.TheVariants.{Bytes, TooLong}
 use Rattle.sdl_engine.specs.declared.options.Command.{Command}
 use Rattle.sdl_engine.specs.declared.options.Command.TheVariants as command
 use Rattle.sdl_engine.specs.declared.options.Options.{Options}
@@ -44,10 +46,10 @@ use Rattle.sdl_engine.specs.declared.refusal.Refusal.TheVariants as refusal
 
 -- The input is accepted: its specification spells the tree, the system is built of it, and the lines are those of the
 -- script behind it.
-pub record IsAccepted (input : List ℕ) (tree : Tree) (system : SystemValue) (lines : List ScriptLine) : Type 0 where
+pub record IsAccepted (texts : Texts) (tree : Tree) (system : SystemValue) (lines : List ScriptLine) : Type 0 where
   pub specification : List ℕ
   pub script : List ℕ
-  pub parted : IsParted input specification script
+  pub parted : HasParts texts specification script
   pub spelled : SpellsText tree specification
   pub built : IsBuilt tree system
   pub is_script : IsScript system lines
@@ -61,29 +63,29 @@ IsReportBy (Some workers) ps system lines limit report = IsSettled ps system lin
 
 -- The report is that of a run of the system of an accepted input on its script, cut at the limit if it comes to that: so
 -- for all behaviours that the texts of the processes have, and they have some.
-pub record IsRunOf (input : List ℕ) (workers : Option ℕ) (limit : ℕ) (system : SystemValue)
+pub record IsRunOf (texts : Texts) (workers : Option ℕ) (limit : ℕ) (system : SystemValue)
     (report : Report) : Type 0 where
   pub tree : Tree
   pub lines : List ScriptLine
-  pub accepted : IsAccepted input tree system lines
+  pub accepted : IsAccepted texts tree system lines
   pub behaves : (ps : List Behaviour) × AreOfText accepted.built.context system ps
   pub ran : (ps : List Behaviour) → AreOfText accepted.built.context system ps
       → IsReportBy workers ps system lines limit report
 
 -- the text of the report of such a run, of one that is whole or of one that was cut
-pub record Reports (input : List ℕ) (workers : Option ℕ) (limit : ℕ) (whole : Bool) (text : List ℕ) : Type 0 where
+pub record Reports (texts : Texts) (workers : Option ℕ) (limit : ℕ) (whole : Bool) (text : List ℕ) : Type 0 where
   pub system : SystemValue
   pub report : Report
-  pub run : IsRunOf input workers limit system report
+  pub run : IsRunOf texts workers limit system report
   pub is_whole : report.whole ≡ whole
   pub says : text ≡ report_text system report
 
 -- the canonical text of the tree of an accepted input
-pub record Prints (input : List ℕ) (text : List ℕ) : Type 0 where
+pub record Prints (texts : Texts) (text : List ℕ) : Type 0 where
   pub tree : Tree
   pub system : SystemValue
   pub lines : List ScriptLine
-  pub accepted : IsAccepted input tree system lines
+  pub accepted : IsAccepted texts tree system lines
   pub canonical : text ≡ canonical_text tree
 
 -- ---- asked
@@ -100,27 +102,27 @@ outcome_of (refusal.Run error) = outcome.RunRefused
 outcome_of refused = outcome.TextRefused
 
 -- a specification has no tokens, or they spell no tree, as is told
-pub record IsParseRefused (input : List ℕ) (error : ParseError) : Type 0 where
+pub record IsParseRefused (texts : Texts) (error : ParseError) : Type 0 where
   pub specification : List ℕ
   pub script : List ℕ
-  pub parted : IsParted input specification script
+  pub parted : HasParts texts specification script
   pub refused : parser.Refuses error specification
 
 -- a specification spells a tree in which the rule that is told is broken, or there was no memory to build its system
-pub record IsBuildRefused (input : List ℕ) (error : BuildError) : Type 0 where
+pub record IsBuildRefused (texts : Texts) (error : BuildError) : Type 0 where
   pub specification : List ℕ
   pub script : List ℕ
-  pub parted : IsParted input specification script
+  pub parted : HasParts texts specification script
   pub tree : Tree
   pub spelled : SpellsText tree specification
   pub refused : IsRefusedAs tree error
 
 -- a specification spells a tree of which a system is built, and the script for this is refused at the line, and for the
 -- fault, that is told
-pub record IsScriptRefused (input : List ℕ) (error : ScriptError) : Type 0 where
+pub record IsScriptRefused (texts : Texts) (error : ScriptError) : Type 0 where
   pub specification : List ℕ
   pub script : List ℕ
-  pub parted : IsParted input specification script
+  pub parted : HasParts texts specification script
   pub tree : Tree
   pub spelled : SpellsText tree specification
   pub system : SystemValue
@@ -128,34 +130,34 @@ pub record IsScriptRefused (input : List ℕ) (error : ScriptError) : Type 0 whe
   pub at_fault : faults.Refuses error system script
 
 -- a run is refused only of an input that is accepted
-pub record IsRunRefused (input : List ℕ) : Type 0 where
+pub record IsRunRefused (texts : Texts) : Type 0 where
   pub tree : Tree
   pub system : SystemValue
   pub lines : List ScriptLine
-  pub accepted : IsAccepted input tree system lines
+  pub accepted : IsAccepted texts tree system lines
 
--- the text of these bytes is not accepted, as is told
-abbrev pub IsTextRefused : List ℕ → Refusal → Type 0
-IsTextRefused bytes (refusal.Parse error) = IsParseRefused bytes error
-IsTextRefused bytes (refusal.Build error) = IsBuildRefused bytes error
-IsTextRefused bytes (refusal.Script error) = IsScriptRefused bytes error
-IsTextRefused bytes (refusal.Run error) = ⊥
+-- the texts are not accepted, as is told
+abbrev pub IsTextRefused : Texts → Refusal → Type 0
+IsTextRefused texts (refusal.Parse error) = IsParseRefused texts error
+IsTextRefused texts (refusal.Build error) = IsBuildRefused texts error
+IsTextRefused texts (refusal.Script error) = IsScriptRefused texts error
+IsTextRefused texts (refusal.Run error) = ⊥
 
 -- What a run may tell of itself: lack of memory, with workers and without; that something is lost only with workers. A
 -- serial run never loses anything.
-abbrev pub AllowsOfRun : Option ℕ → List ℕ → RunError → Type 0
-AllowsOfRun workers bytes run.Memory = IsRunRefused bytes
-AllowsOfRun None bytes (run.Lost number) = ⊥
-AllowsOfRun (Some workers) bytes (run.Lost number) = IsRunRefused bytes
+abbrev pub AllowsOfRun : Option ℕ → Texts → RunError → Type 0
+AllowsOfRun workers texts run.Memory = IsRunRefused texts
+AllowsOfRun None texts (run.Lost number) = ⊥
+AllowsOfRun (Some workers) texts (run.Lost number) = IsRunRefused texts
 
--- what a command may tell of these bytes: both the same of the text, and a run also of itself
-abbrev pub AllowsOf : Command → Option ℕ → List ℕ → Refusal → Type 0
-AllowsOf command.Run workers bytes (refusal.Run error) = AllowsOfRun workers bytes error
-AllowsOf how workers bytes refused = IsTextRefused bytes refused
+-- what a command may tell of these texts: both the same of the texts, and a run also of itself
+abbrev pub AllowsOf : Command → Option ℕ → Texts → Refusal → Type 0
+AllowsOf command.Run workers texts (refusal.Run error) = AllowsOfRun workers texts error
+AllowsOf how workers texts refused = IsTextRefused texts refused
 
 -- the same of an input: one that is too long is a text that is too long
 abbrev pub Allows : Command → Option ℕ → Input → Refusal → Type 0
-Allows how workers (Bytes bytes) refused = AllowsOf how workers bytes.items refused
+Allows how workers (Held texts) refused = AllowsOf how workers texts refused
 Allows how workers TooLong refused = refused ≡ refusal.Parse (parse.Lex lex.TooLong)
 
 -- one line that tells a refusal of this input
@@ -168,21 +170,20 @@ pub record Refuses (asked : Command) (workers : Option ℕ) (input : Input) (ref
 
 -- ---- what is written
 
--- what is written of these bytes where they are accepted: of a check the canonical text, of a run its report
-abbrev pub SaysWhole : Command → Option ℕ → List ℕ → ℕ → List ℕ → Type 0
-SaysWhole command.Check workers bytes limit text = Prints bytes text
-SaysWhole command.Run workers bytes limit text = Reports bytes workers limit true text
+-- what is written of these texts where they are accepted: of a check the canonical text, of a run its report
+abbrev pub SaysWhole : Command → Option ℕ → Texts → ℕ → List ℕ → Type 0
+SaysWhole command.Check workers texts limit text = Prints texts text
+SaysWhole command.Run workers texts limit text = Reports texts workers limit true text
 
 -- the report of a run that was cut; a check is never cut
-abbrev pub SaysCut : Command → Option ℕ → List ℕ → ℕ → List ℕ → Type 0
-SaysCut command.Check workers bytes limit text = ⊥
-SaysCut command.Run workers bytes limit text = Reports bytes workers limit false text
+abbrev pub SaysCut : Command → Option ℕ → Texts → ℕ → List ℕ → Type 0
+SaysCut command.Check workers texts limit text = ⊥
+SaysCut command.Run workers texts limit text = Reports texts workers limit false text
 
 -- what is written of this input, by the outcome
 abbrev pub Says : Input → Options → Outcome → List ℕ → Type 0
-Says (Bytes bytes) options outcome.Whole text =
-    SaysWhole options.command options.workers bytes.items options.limit text
-Says (Bytes bytes) options outcome.Cut text = SaysCut options.command options.workers bytes.items options.limit text
+Says (Held texts) options outcome.Whole text = SaysWhole options.command options.workers texts options.limit text
+Says (Held texts) options outcome.Cut text = SaysCut options.command options.workers texts options.limit text
 Says TooLong options outcome.Whole text = ⊥
 Says TooLong options outcome.Cut text = ⊥
 Says input options outcome.TextRefused text =
@@ -210,33 +211,35 @@ Fails fault.Write input options old new = BreaksOffTelling input options old new
 Fails fault.Memory input options old new = Keeps old new ⊎ BreaksOffTelling input options old new
 
 -- The whole input was read, and what is written of it went out.
-pub record Written (remaining : Option (List ℕ)) (options : Options) (how : Outcome)
+pub record Written (text : Option (List ℕ)) (script : Option (Option (List ℕ))) (options : Options) (how : Outcome)
     (old new : Option (List ℕ)) : Type 0 where
   pub input : Input
-  pub read : IsRead remaining input
+  pub read : IsRead text script input
   pub tells : Tells input options how old new
 
 -- The whole input was read, and a beginning of what is to be written of it went out, and not all of it.
-pub record BrokenOff (remaining : Option (List ℕ)) (options : Options) (old new : Option (List ℕ)) : Type 0 where
+pub record BrokenOff (text : Option (List ℕ)) (script : Option (Option (List ℕ))) (options : Options)
+    (old new : Option (List ℕ)) : Type 0 where
   pub input : Input
-  pub read : IsRead remaining input
+  pub read : IsRead text script input
   pub breaks : BreaksOffTelling input options old new
 
 -- After a fault of reading nothing was written; after a fault of writing a beginning of the answer may have gone out.
 -- For lack of memory either may be so.
-abbrev pub Faulted : TextFault → Option (List ℕ) → Options → Option (List ℕ) → Option (List ℕ) → Type 0
-Faulted fault.Read remaining options old new = Keeps old new
-Faulted fault.Write remaining options old new = BrokenOff remaining options old new
-Faulted fault.Memory remaining options old new = Keeps old new ⊎ BrokenOff remaining options old new
+abbrev pub Faulted : TextFault → Option (List ℕ) → Option (Option (List ℕ)) → Options →
+    Option (List ℕ) → Option (List ℕ) → Type 0
+Faulted fault.Read text script options old new = Keeps old new
+Faulted fault.Write text script options old new = BrokenOff text script options old new
+Faulted fault.Memory text script options old new = Keeps old new ⊎ BrokenOff text script options old new
 
 -- the canonical text of an input's specification
 abbrev pub PrintsInput : Input → List ℕ → Type 0
-PrintsInput (Bytes bytes) text = Prints bytes.items text
+PrintsInput (Held texts) text = Prints texts text
 PrintsInput TooLong text = ⊥
 
 -- the run of an input
 abbrev pub IsRunOfInput : Input → Option ℕ → ℕ → SystemValue → Report → Type 0
-IsRunOfInput (Bytes bytes) workers limit system report = IsRunOf bytes.items workers limit system report
+IsRunOfInput (Held texts) workers limit system report = IsRunOf texts workers limit system report
 IsRunOfInput TooLong workers limit system report = ⊥
 
 -- whether a report is whole, as an outcome

@@ -1,4 +1,3 @@
 pub mod Answer
 pub mod Behaviours
-pub mod Input
 pub mod RefusalText

@@ -1,12 +1,13 @@
 //! What is written of a text: a report, a canonical text, or the line of a refusal.
 
-ghost use Rattle.std.specs.Prelude.{◌≡◌, IfOk, IfErr, OnOk};
-ghost use Rattle.std.specs.Io.KnownBytes.{Appends};
+ghost use Rattle.std.specs.Prelude.{◌≡◌, ◌≢◌, IfOk, IfErr, OnOk, false};
+ghost use Rattle.std.specs.Io.KnownBytes.{Appends, Keeps};
 ghost use Rattle.sdl_report.specs.ReportText.{report_text};
 ghost use Rattle.sdl_engine.specs.Answer.{BreaksOff, FailsToTell, outcome_by, outcome_of};
 ghost use Rattle.sdl_engine.specs.RefusalText.{refusal_line};
 
-use crate::options::{Outcome, TextFault};
+use crate::notes::{Notes, note_run};
+use crate::options::{Options, Outcome, TextFault};
 use crate::pipeline::Run;
 use crate::refusal::Refusal;
 use crate::refusal_text::{fixed_line, refusal_line};
@@ -16,8 +17,29 @@ use std::io::Write;
 use std::thread::Threads;
 use threads_report::write_report_by_workers;
 
+/// Writes the report of a run, and then notes what there is to say of it.
+pub fn report<W: Write, N: Write>(
+    alloc: Global,
+    run: &Run,
+    writer: &mut W,
+    notes: &mut Notes<'_, N>,
+    options: &Options,
+) -> Result<Outcome, TextFault>
+    ensures how { IfOk result (λ how. how ≡ outcome_by run.now.report.whole) }
+    ensures ok { OnOk result (Appends (W.contents writer.old) (W.contents writer.new)
+        (report_text run.now.system run.now.report)) }
+    ensures err { IfErr result (λ fault. BreaksOff fault (report_text run.now.system run.now.report)
+        (W.contents writer.old) (W.contents writer.new)) }
+    ensures quiet { result ≢ Ok Outcome.Cut → notes.old.strict ≡ false →
+        Keeps (N.contents notes.old.writer) (N.contents notes.new.writer) }
+{
+    let outcome = write_run(alloc, run, writer)?;
+    note_run(alloc, run, options, outcome, notes);
+    Ok(outcome)
+}
+
 /// Writes the report of a run.
-pub fn report<W: Write>(alloc: Global, run: &Run, writer: &mut W) -> Result<Outcome, TextFault>
+fn write_run<W: Write>(alloc: Global, run: &Run, writer: &mut W) -> Result<Outcome, TextFault>
     ensures how { IfOk result (λ how. how ≡ outcome_by run.now.report.whole) }
     ensures ok { OnOk result (Appends (W.contents writer.old) (W.contents writer.new)
         (report_text run.now.system run.now.report)) }
@@ -31,8 +53,31 @@ pub fn report<W: Write>(alloc: Global, run: &Run, writer: &mut W) -> Result<Outc
     }
 }
 
+/// Writes the report of a run, whose text so many workers make, and then notes what there is to say of it.
+pub fn report_by_workers<T: Threads + Sync, W: Write, N: Write>(
+    rt: &T,
+    alloc: Global,
+    workers: u8,
+    run: &Run,
+    writer: &mut W,
+    notes: &mut Notes<'_, N>,
+    options: &Options,
+) -> Result<Outcome, TextFault>
+    ensures how { IfOk result (λ how. how ≡ outcome_by run.now.report.whole) }
+    ensures ok { OnOk result (Appends (W.contents writer.old) (W.contents writer.new)
+        (report_text run.now.system run.now.report)) }
+    ensures err { IfErr result (λ fault. BreaksOff fault (report_text run.now.system run.now.report)
+        (W.contents writer.old) (W.contents writer.new)) }
+    ensures quiet { result ≢ Ok Outcome.Cut → notes.old.strict ≡ false →
+        Keeps (N.contents notes.old.writer) (N.contents notes.new.writer) }
+{
+    let outcome = write_run_by_workers(rt, alloc, workers, run, writer)?;
+    note_run(alloc, run, options, outcome, notes);
+    Ok(outcome)
+}
+
 /// Writes the report of a run, whose text so many workers make.
-pub fn report_by_workers<T: Threads + Sync, W: Write>(
+fn write_run_by_workers<T: Threads + Sync, W: Write>(
     rt: &T,
     alloc: Global,
     workers: u8,

@@ -1,38 +1,83 @@
 //! The explanation of a refusal, for a human.
 
-use crate::input::{Input, parts};
+use crate::notes::Names;
 use crate::pipeline::check_input;
 use crate::refusal::Refusal;
-use sdl_explain::{explain_build, explain_parse, explain_script};
-use sdl_report::write_text;
+use sdl_explain::{Origin, explain_build, explain_parse, explain_script};
+use sdl_input::{Input, Texts};
 use std::alloc::{AllocError, Global};
-use std::io::Write;
 
-/// Writes the explanation of an input whose text is refused. A fault of writing is let go, and so is lack of memory:
-/// what is wrong was told already.
-pub fn note_refusal<N: Write>(alloc: Global, input: &Input, notes: &mut N) {
-    if let Err(refusal) = check_input(alloc, input) {
-        if let Ok(text) = explained(alloc, input, &refusal) {
-            let _ = write_text(notes, &text);
-        }
+/// The explanation of an input, empty if nothing is wrong with it.
+pub fn explanation_of(
+    alloc: Global,
+    input: &Input,
+    names: &Names<'_>,
+) -> Result<Vec<u8>, AllocError> {
+    match check_input(alloc, input) {
+        Ok(_) => Ok(Vec::new(alloc)),
+        Err(refusal) => explained(alloc, input, names, &refusal),
     }
 }
 
 /// The explanation of the refusal of an input.
-fn explained(alloc: Global, input: &Input, refusal: &Refusal) -> Result<Vec<u8>, AllocError> {
-    let (specification, script) = parts(bytes_of(input));
+fn explained(
+    alloc: Global,
+    input: &Input,
+    names: &Names<'_>,
+    refusal: &Refusal,
+) -> Result<Vec<u8>, AllocError> {
+    let (specification, script) = parts_of(input);
+    let origin = Origin {
+        name: names.text,
+        lines_before: 0,
+    };
     match refusal {
-        Refusal::Parse(error) => explain_parse(alloc, specification, error)?.text(alloc),
-        Refusal::Build(error) => explain_build(alloc, specification, error)?.text(alloc),
-        Refusal::Script(error) => explain_script(script, *error).text(alloc),
+        Refusal::Parse(error) => {
+            let explanation = explain_parse(alloc, specification, error)?;
+            explanation.text(alloc, &origin)
+        }
+        Refusal::Build(error) => {
+            let explanation = explain_build(alloc, specification, error)?;
+            explanation.text(alloc, &origin)
+        }
+        Refusal::Script(error) => {
+            let explanation = explain_script(alloc, script, *error)?;
+            explanation.text(alloc, &origin_of_script(input, names))
+        }
         Refusal::Run(_) => Ok(Vec::new(alloc)),
     }
 }
 
-/// The bytes that are held of an input; none of one that is too long.
-fn bytes_of(input: &Input) -> &[u8] {
+/// The specification and the script of an input; nothing of one that is too long.
+fn parts_of(input: &Input) -> (&[u8], &[u8]) {
     match input {
-        Input::Bytes(bytes) => bytes.as_slice(),
-        Input::TooLong => &[],
+        Input::Held(texts) => texts.parts(),
+        Input::TooLong => {
+            let nothing: &[u8] = &[];
+            (nothing, nothing)
+        }
     }
+}
+
+/// Where the script comes from: a file of its own, or the one of the specification, in which it follows that and a line
+/// `%script`.
+fn origin_of_script<'n>(input: &Input, names: &Names<'n>) -> Origin<'n> {
+    match input {
+        Input::Held(Texts { script: None, .. }) => {
+            let (specification, _) = parts_of(input);
+            Origin {
+                name: names.text,
+                lines_before: line_ends(specification).saturating_add(1),
+            }
+        }
+        _ => Origin {
+            name: names.script,
+            lines_before: 0,
+        },
+    }
+}
+
+/// How many lines of a text have an end.
+fn line_ends(text: &[u8]) -> usize {
+    text.iter().filter(|byte| **byte == b'\n').count()
 }

@@ -5,11 +5,11 @@ ghost use Rattle.std.specs.String.{string_bytes};
 ghost use Rattle.sdl_tree.specs.Views.{tree_value};
 ghost use Rattle.sdl_engine.specs.Answer.{Allows, AllowsOf, IsAccepted, IsRunOf, IsRunOfInput, IsTextRefused, Prints, PrintsInput};
 
-use crate::input::{Input, parts};
 use crate::options::Command;
 use crate::refusal::Refusal;
 use run_record::Report;
 use sdl_build::build;
+use sdl_input::{Input, Texts};
 use sdl_lex::LexError;
 use sdl_parse::{ParseError, parse};
 use sdl_print::print;
@@ -30,12 +30,12 @@ struct Accepted {
 }
 
 /// Takes an input: its tokens and tree, its system and its script, in this order. The first fault refuses it.
-fn accept(alloc: Global, bytes: &[u8]) -> Result<Accepted, Refusal>
+fn accept(alloc: Global, texts: &Texts) -> Result<Accepted, Refusal>
     ensures ok { IfOk result (λ accepted.
-        IsAccepted bytes.now (tree_value accepted.tree) accepted.system accepted.script.lines.items) }
-    ensures err { IfErr result (IsTextRefused bytes.now) }
+        IsAccepted texts.now (tree_value accepted.tree) accepted.system accepted.script.lines.items) }
+    ensures err { IfErr result (IsTextRefused texts.now) }
 {
-    let (specification, script) = parts(bytes);
+    let (specification, script) = texts.parts();
     let tree = match parse(alloc, specification) {
         Ok(tree) => tree,
         Err(error) => return Err(Refusal::Parse(error)),
@@ -61,16 +61,16 @@ pub fn check_input(alloc: Global, input: &Input) -> Result<String, Refusal>
     ensures err { IfErr result (Allows Command.Check None input.now) }
 {
     match input {
-        Input::Bytes(bytes) => check_bytes(alloc, bytes.as_slice()),
+        Input::Held(texts) => check_texts(alloc, texts),
         Input::TooLong => Err(Refusal::Parse(ParseError::Lex(LexError::TooLong))),
     }
 }
 
-fn check_bytes(alloc: Global, bytes: &[u8]) -> Result<String, Refusal>
-    ensures ok { IfOk result (λ text. Prints bytes.now (string_bytes text)) }
-    ensures err { IfErr result (AllowsOf Command.Check None bytes.now) }
+fn check_texts(alloc: Global, texts: &Texts) -> Result<String, Refusal>
+    ensures ok { IfOk result (λ text. Prints texts.now (string_bytes text)) }
+    ensures err { IfErr result (AllowsOf Command.Check None texts.now) }
 {
-    let accepted = accept(alloc, bytes)?;
+    let accepted = accept(alloc, texts)?;
     match print(alloc, &accepted.tree) {
         Ok(text) => Ok(text),
         Err(_) => Err(Refusal::Parse(ParseError::Memory)),
@@ -90,16 +90,16 @@ pub fn run_input(alloc: Global, input: &Input, limit: u64) -> Result<Run, Refusa
     ensures err { IfErr result (Allows Command.Run None input.now) }
 {
     match input {
-        Input::Bytes(bytes) => run_bytes(alloc, bytes.as_slice(), limit),
+        Input::Held(texts) => run_texts(alloc, texts, limit),
         Input::TooLong => Err(Refusal::Parse(ParseError::Lex(LexError::TooLong))),
     }
 }
 
-fn run_bytes(alloc: Global, bytes: &[u8], limit: u64) -> Result<Run, Refusal>
-    ensures ok { IfOk result (λ run. IsRunOf bytes.now None limit run.system run.report) }
-    ensures err { IfErr result (AllowsOf Command.Run None bytes.now) }
+fn run_texts(alloc: Global, texts: &Texts, limit: u64) -> Result<Run, Refusal>
+    ensures ok { IfOk result (λ run. IsRunOf texts.now None limit run.system run.report) }
+    ensures err { IfErr result (AllowsOf Command.Run None texts.now) }
 {
-    let accepted = accept(alloc, bytes)?;
+    let accepted = accept(alloc, texts)?;
     match run_serial(alloc, &accepted.system, &accepted.script, limit) {
         Ok(report) => Ok(Run {
             system: accepted.system,
@@ -121,22 +121,22 @@ pub fn run_input_by_workers<T: Threads + Wait + Copy + Send + Sync>(
     ensures err { IfErr result (Allows Command.Run (Some workers) input.now) }
 {
     match input {
-        Input::Bytes(bytes) => run_bytes_by_workers(rt, alloc, bytes.as_slice(), workers, limit),
+        Input::Held(texts) => run_texts_by_workers(rt, alloc, texts, workers, limit),
         Input::TooLong => Err(Refusal::Parse(ParseError::Lex(LexError::TooLong))),
     }
 }
 
-fn run_bytes_by_workers<T: Threads + Wait + Copy + Send + Sync>(
+fn run_texts_by_workers<T: Threads + Wait + Copy + Send + Sync>(
     rt: &T,
     alloc: Global,
-    bytes: &[u8],
+    texts: &Texts,
     workers: u8,
     limit: u64,
 ) -> Result<Run, Refusal>
-    ensures ok { IfOk result (λ run. IsRunOf bytes.now (Some workers) limit run.system run.report) }
-    ensures err { IfErr result (AllowsOf Command.Run (Some workers) bytes.now) }
+    ensures ok { IfOk result (λ run. IsRunOf texts.now (Some workers) limit run.system run.report) }
+    ensures err { IfErr result (AllowsOf Command.Run (Some workers) texts.now) }
 {
-    let accepted = accept(alloc, bytes)?;
+    let accepted = accept(alloc, texts)?;
     let count = usize::from(workers);
     match run(
         rt,

@@ -1,14 +1,15 @@
 //! The program without threads: a check, or a run on the thread that calls it. No call here waits, so each returns.
 
-ghost use Rattle.std.specs.Prelude.{◌≡◌, ◌≢◌, IfOk, IfErr, None};
+ghost use Rattle.std.specs.Prelude.{◌≡◌, ◌≢◌, IfOk, IfErr, None, false, option_map};
 ghost use Rattle.std.specs.Io.KnownBytes.{Keeps};
 ghost use Rattle.sdl_engine.specs.Answer.{Faulted, Fails, IsSerial, Tells, Written};
 
 use crate::answer::{canonical, refuse, report};
-use crate::explained::note_refusal;
-use crate::input::{Input, read_input};
+use crate::notes::{Notes, note_refusal, silent_notes};
 use crate::options::{Command, Options, Outcome, TextFault};
 use crate::pipeline::{check_input, run_input};
+use crate::reading::{read_input, read_source};
+use sdl_input::{Input, Source};
 use std::alloc::Global;
 use std::io::{Read, Write};
 
@@ -21,54 +22,60 @@ pub fn run_text_serially<R: Read, W: Write>(
     options: &Options,
 ) -> Result<Outcome, TextFault>
     requires { IsSerial options.now }
-    ensures ok { IfOk result (λ how. Written (R.remaining reader.old) options.now how
+    ensures ok { IfOk result (λ how. Written (R.remaining reader.old) None options.now how
         (W.contents writer.old) (W.contents writer.new)) }
-    ensures err { IfErr result (λ fault. Faulted fault (R.remaining reader.old) options.now
+    ensures err { IfErr result (λ fault. Faulted fault (R.remaining reader.old) None options.now
         (W.contents writer.old) (W.contents writer.new)) }
 {
     let input = read_input(alloc, reader)?;
-    tell_serially(alloc, &input, writer, options)
+    let mut notes = silent_notes();
+    tell_serially(alloc, &input, writer, &mut notes, options)
 }
 
-/// Does what `run_and_explain` does where no thread is asked for: this is a check, or a run without workers (the
+/// Does what `run_and_note` does where no thread is asked for: this is a check, or a run without workers (the
 /// caller's condition).
-pub fn run_and_explain_serially<R: Read, W: Write, N: Write>(
+pub fn run_and_note_serially<R: Read, S: Read, W: Write, N: Write>(
     alloc: Global,
-    reader: &mut R,
+    source: &mut Source<R, S>,
     writer: &mut W,
-    notes: &mut N,
+    notes: &mut Notes<'_, N>,
     options: &Options,
 ) -> Result<Outcome, TextFault>
     requires { IsSerial options.now }
-    ensures ok { IfOk result (λ how. Written (R.remaining reader.old) options.now how
-        (W.contents writer.old) (W.contents writer.new)) }
-    ensures err { IfErr result (λ fault. Faulted fault (R.remaining reader.old) options.now
-        (W.contents writer.old) (W.contents writer.new)) }
-    ensures quiet { result ≢ Ok Outcome.TextRefused → Keeps (N.contents notes.old) (N.contents notes.new) }
+    ensures ok { IfOk result (λ how. Written (R.remaining source.old.text) (option_map S.remaining source.old.script)
+        options.now how (W.contents writer.old) (W.contents writer.new)) }
+    ensures err { IfErr result (λ fault. Faulted fault (R.remaining source.old.text)
+        (option_map S.remaining source.old.script) options.now (W.contents writer.old) (W.contents writer.new)) }
+    ensures quiet { result ≢ Ok Outcome.TextRefused → result ≢ Ok Outcome.Cut → notes.old.strict ≡ false →
+        Keeps (N.contents notes.old.writer) (N.contents notes.new.writer) }
+    ensures silent { notes.old.explains ≡ false → result ≢ Ok Outcome.Cut → notes.old.strict ≡ false →
+        Keeps (N.contents notes.old.writer) (N.contents notes.new.writer) }
 {
-    let input = read_input(alloc, reader)?;
-    let told = tell_serially(alloc, &input, writer, options);
-    if let Ok(Outcome::TextRefused) = &told {
-        note_refusal(alloc, &input, notes);
-    }
+    let input = read_source(alloc, source)?;
+    let explains = notes.explains;
+    let told = tell_serially(alloc, &input, writer, notes, options);
+    note_refusal(alloc, &input, &told, explains, notes);
     told
 }
 
-/// Writes what the command asks for of an input, or the line of its refusal.
-pub fn tell_serially<W: Write>(
+/// Writes what the command asks for of an input, or the line of its refusal, and notes what there is to say of a run.
+pub fn tell_serially<W: Write, N: Write>(
     alloc: Global,
     input: &Input,
     writer: &mut W,
+    notes: &mut Notes<'_, N>,
     options: &Options,
 ) -> Result<Outcome, TextFault>
     requires { IsSerial options.now }
     ensures ok { IfOk result (λ how. Tells input.now options.now how (W.contents writer.old) (W.contents writer.new)) }
     ensures err { IfErr result (λ fault. Fails fault input.now options.now
         (W.contents writer.old) (W.contents writer.new)) }
+    ensures quiet { result ≢ Ok Outcome.Cut → notes.old.strict ≡ false →
+        Keeps (N.contents notes.old.writer) (N.contents notes.new.writer) }
 {
     match options.command {
         Command::Check => tell_check(alloc, input, writer, options),
-        Command::Run => tell_run(alloc, input, writer, options),
+        Command::Run => tell_run(alloc, input, writer, notes, options),
     }
 }
 
@@ -91,10 +98,11 @@ fn tell_check<W: Write>(
 }
 
 /// Runs an input serially and writes the report, or the line of its refusal.
-fn tell_run<W: Write>(
+fn tell_run<W: Write, N: Write>(
     alloc: Global,
     input: &Input,
     writer: &mut W,
+    notes: &mut Notes<'_, N>,
     options: &Options,
 ) -> Result<Outcome, TextFault>
     requires command { options.now.command ≡ Command.Run }
@@ -102,9 +110,11 @@ fn tell_run<W: Write>(
     ensures ok { IfOk result (λ how. Tells input.now options.now how (W.contents writer.old) (W.contents writer.new)) }
     ensures err { IfErr result (λ fault. Fails fault input.now options.now
         (W.contents writer.old) (W.contents writer.new)) }
+    ensures quiet { result ≢ Ok Outcome.Cut → notes.old.strict ≡ false →
+        Keeps (N.contents notes.old.writer) (N.contents notes.new.writer) }
 {
     match run_input(alloc, input, options.limit) {
-        Ok(run) => report(alloc, &run, writer),
+        Ok(run) => report(alloc, &run, writer, notes, options),
         Err(refusal) => refuse(alloc, &refusal, writer),
     }
 }

@@ -1,15 +1,16 @@
 //! The whole program over any reader and writer.
 
-ghost use Rattle.std.specs.Prelude.{◌≡◌, ◌≢◌, IfOk, IfErr, Some};
+ghost use Rattle.std.specs.Prelude.{◌≡◌, ◌≢◌, IfOk, IfErr, None, Some, false, option_map};
 ghost use Rattle.std.specs.Io.KnownBytes.{Keeps};
 ghost use Rattle.sdl_engine.specs.Answer.{Faulted, Fails, Tells, Written};
 
 use crate::answer::{refuse, report_by_workers};
-use crate::explained::note_refusal;
-use crate::input::{Input, read_input};
+use crate::notes::{Notes, note_refusal, silent_notes};
 use crate::options::{Command, Options, Outcome, TextFault};
 use crate::pipeline::run_input_by_workers;
+use crate::reading::{read_input, read_source};
 use crate::serial::tell_serially;
+use sdl_input::{Input, Source};
 use std::alloc::Global;
 use std::io::{Read, Write};
 use std::sync::Wait;
@@ -26,65 +27,73 @@ pub fn run_text<T: Threads + Wait + Copy + Send + Sync, R: Read, W: Write>(
     writer: &mut W,
     options: &Options,
 ) -> Result<Outcome, TextFault>
-    ensures ok { IfOk result (λ how. Written (R.remaining reader.old) options.now how
+    ensures ok { IfOk result (λ how. Written (R.remaining reader.old) None options.now how
         (W.contents writer.old) (W.contents writer.new)) }
-    ensures err { IfErr result (λ fault. Faulted fault (R.remaining reader.old) options.now
+    ensures err { IfErr result (λ fault. Faulted fault (R.remaining reader.old) None options.now
         (W.contents writer.old) (W.contents writer.new)) }
 {
     let input = read_input(alloc, reader)?;
-    tell(rt, alloc, &input, writer, options)
+    let mut notes = silent_notes();
+    tell(rt, alloc, &input, writer, &mut notes, options)
 }
 
-/// Does what `run_text` does, and where the text is refused writes an explanation for a human to the notes, once the
-/// line of the refusal went out. A fault of writing the notes changes nothing.
-pub fn run_and_explain<T: Threads + Wait + Copy + Send + Sync, R: Read, W: Write, N: Write>(
+/// Does what `run_text` does for the text of a source and its script, and then tells a human more in the notes: why the
+/// text is refused, if that is asked for; what cut the run; and each failure of an instance, if that is asked for. A
+/// fault of writing the notes changes nothing.
+pub fn run_and_note<T: Threads + Wait + Copy + Send + Sync, R: Read, S: Read, W: Write, N: Write>(
     rt: &T,
     alloc: Global,
-    reader: &mut R,
+    source: &mut Source<R, S>,
     writer: &mut W,
-    notes: &mut N,
+    notes: &mut Notes<'_, N>,
     options: &Options,
 ) -> Result<Outcome, TextFault>
-    ensures ok { IfOk result (λ how. Written (R.remaining reader.old) options.now how
-        (W.contents writer.old) (W.contents writer.new)) }
-    ensures err { IfErr result (λ fault. Faulted fault (R.remaining reader.old) options.now
-        (W.contents writer.old) (W.contents writer.new)) }
-    ensures quiet { result ≢ Ok Outcome.TextRefused → Keeps (N.contents notes.old) (N.contents notes.new) }
+    ensures ok { IfOk result (λ how. Written (R.remaining source.old.text) (option_map S.remaining source.old.script)
+        options.now how (W.contents writer.old) (W.contents writer.new)) }
+    ensures err { IfErr result (λ fault. Faulted fault (R.remaining source.old.text)
+        (option_map S.remaining source.old.script) options.now (W.contents writer.old) (W.contents writer.new)) }
+    ensures quiet { result ≢ Ok Outcome.TextRefused → result ≢ Ok Outcome.Cut → notes.old.strict ≡ false →
+        Keeps (N.contents notes.old.writer) (N.contents notes.new.writer) }
+    ensures silent { notes.old.explains ≡ false → result ≢ Ok Outcome.Cut → notes.old.strict ≡ false →
+        Keeps (N.contents notes.old.writer) (N.contents notes.new.writer) }
 {
-    let input = read_input(alloc, reader)?;
-    let told = tell(rt, alloc, &input, writer, options);
-    if let Ok(Outcome::TextRefused) = &told {
-        note_refusal(alloc, &input, notes);
-    }
+    let input = read_source(alloc, source)?;
+    let explains = notes.explains;
+    let told = tell(rt, alloc, &input, writer, notes, options);
+    note_refusal(alloc, &input, &told, explains, notes);
     told
 }
 
-/// Writes what the command asks for of an input, or the line of its refusal.
-fn tell<T: Threads + Wait + Copy + Send + Sync, W: Write>(
+/// Writes what the command asks for of an input, or the line of its refusal, and notes what there is to say of a run.
+fn tell<T: Threads + Wait + Copy + Send + Sync, W: Write, N: Write>(
     rt: &T,
     alloc: Global,
     input: &Input,
     writer: &mut W,
+    notes: &mut Notes<'_, N>,
     options: &Options,
 ) -> Result<Outcome, TextFault>
     ensures ok { IfOk result (λ how. Tells input.now options.now how (W.contents writer.old) (W.contents writer.new)) }
     ensures err { IfErr result (λ fault. Fails fault input.now options.now
         (W.contents writer.old) (W.contents writer.new)) }
+    ensures quiet { result ≢ Ok Outcome.Cut → notes.old.strict ≡ false →
+        Keeps (N.contents notes.old.writer) (N.contents notes.new.writer) }
 {
     match (options.command, options.workers) {
         (Command::Run, Some(workers)) => {
-            tell_run_by_workers(rt, alloc, input, writer, options, workers)
+            tell_run_by_workers(rt, alloc, input, writer, notes, options, workers)
         }
-        _ => tell_serially(alloc, input, writer, options),
+        _ => tell_serially(alloc, input, writer, notes, options),
     }
 }
 
 /// Runs an input on so many threads and writes the report, or the line of its refusal.
-fn tell_run_by_workers<T: Threads + Wait + Copy + Send + Sync, W: Write>(
+fn tell_run_by_workers<T: Threads + Wait + Copy + Send + Sync, W: Write, N: Write>(
     rt: &T,
     alloc: Global,
     input: &Input,
     writer: &mut W,
+    notes: &mut Notes<'_, N>,
     options: &Options,
     workers: u8,
 ) -> Result<Outcome, TextFault>
@@ -93,9 +102,11 @@ fn tell_run_by_workers<T: Threads + Wait + Copy + Send + Sync, W: Write>(
     ensures ok { IfOk result (λ how. Tells input.now options.now how (W.contents writer.old) (W.contents writer.new)) }
     ensures err { IfErr result (λ fault. Fails fault input.now options.now
         (W.contents writer.old) (W.contents writer.new)) }
+    ensures quiet { result ≢ Ok Outcome.Cut → notes.old.strict ≡ false →
+        Keeps (N.contents notes.old.writer) (N.contents notes.new.writer) }
 {
     match run_input_by_workers(rt, alloc, input, workers, options.limit) {
-        Ok(run) => report_by_workers(rt, alloc, workers, &run, writer),
+        Ok(run) => report_by_workers(rt, alloc, workers, &run, writer, notes, options),
         Err(refusal) => refuse(alloc, &refusal, writer),
     }
 }

@@ -2,15 +2,18 @@
 //! its process instances and writes the exact trace of each; `check` writes its canonical text. Either writes one line
 //! instead that names a refusal and its place.
 //!
-//! `sdl_engine`'s `run_text` is the whole tool over any reader and writer; `main` has the command line read by
-//! `sdl_command_line`, has `run_text` called on the text that is named there, and maps its answer to an exit status.
+//! `sdl_engine`'s `run_and_note` is the whole tool over any readers and writers; `main` has the command line read by
+//! `sdl_command_line`, has `run_and_note` called on the text that is named there, and maps its answer to an exit status.
 #![tactic(auto)]
 
+mod opened;
 mod reading;
 
-use reading::{Failure, tell};
+use opened::Failure;
+use reading::{Told, tell};
 use sdl_command_line::{Request, read_command_line};
 use sdl_engine::{Outcome, TextFault};
+use std::io;
 use std::process::ExitCode;
 
 fn main(rt: HostRuntime) -> ExitCode {
@@ -20,13 +23,23 @@ fn main(rt: HostRuntime) -> ExitCode {
         Request::Misused => return ExitCode::from(4),
         Request::Fault(fault) => return ended(&rt, fault),
     };
-    match tell(&rt, &rt, task) {
-        Ok(Outcome::Whole) => ExitCode::SUCCESS,
-        Ok(Outcome::Cut) => ExitCode::from(1),
-        Ok(Outcome::TextRefused) => ExitCode::from(2),
-        Ok(Outcome::RunRefused) => ExitCode::from(3),
-        Err(Failure::Unopened(name)) => unopened(&rt, name.as_str()),
+    match tell(&rt, &rt, &task) {
+        Ok(told) => status_of(told),
+        Err(Failure::Unopened(name, error)) => unopened(&rt, name.as_str(), &error),
         Err(Failure::Text(fault)) => ended(&rt, fault),
+    }
+}
+
+/// The exit status that tells what came of a text.
+fn status_of(told: Told) -> ExitCode {
+    if told.failed {
+        return ExitCode::from(6);
+    }
+    match told.outcome {
+        Outcome::Whole => ExitCode::SUCCESS,
+        Outcome::Cut => ExitCode::from(1),
+        Outcome::TextRefused => ExitCode::from(2),
+        Outcome::RunRefused => ExitCode::from(3),
     }
 }
 
@@ -36,8 +49,8 @@ fn ended(rt: &impl Eprint, fault: TextFault) -> ExitCode {
     ExitCode::from(3)
 }
 
-/// Says on standard error which file can't be opened.
-fn unopened(rt: &impl Eprint, name: &str) -> ExitCode {
-    let _ = eprintln!(rt; "sdlrun: {name} can't be opened");
+/// Says on standard error which file can't be opened, and why.
+fn unopened(rt: &impl Eprint, name: &str, error: &io::Error) -> ExitCode {
+    let _ = eprintln!(rt; "sdlrun: {name} can't be opened: {error}");
     ExitCode::from(3)
 }

@@ -1,108 +1,117 @@
-//! The text that is read: a file or standard input, and behind it a script's file, if one is named.
+//! The text that is read: a file or standard input, and a script of its own, if one is named.
 
-ghost use Rattle.sdl_engine.specs.Answer.{IsSerial};
-
-use sdl_command_line::Task;
+use crate::opened::{Failure, Opened, open_input};
+use sdl_command_line::{InputFile, Task};
 use sdl_engine::{
-    Options, Outcome, TextFault, run_and_explain, run_and_explain_serially, run_text,
-    run_text_serially,
+    Names, Notes, Options, Outcome, Source, TextFault, run_and_note, run_and_note_serially,
 };
-use std::fs::File;
-use std::io::Read;
+use std::io::{Stderr, Write};
 use std::sync::Wait;
 use std::thread::Threads;
 
-/// The text between a specification and the script of another file: the line that parts them, at the begin of a line.
-const BETWEEN: &[u8] = b"\n%script\n";
-
-/// Why nothing can be told of a text.
-#[derive(Drop)]
-pub enum Failure {
-    /// The file of this name can't be opened.
-    Unopened(String),
-    Text(TextFault),
+/// What came of a text.
+#[derive(Clone, Copy)]
+pub struct Told {
+    pub outcome: Outcome,
+    /// Whether an instance failed, if that counts.
+    pub failed: bool,
 }
 
 /// Does what the command line asks for with the text that it names. `threads` starts the workers, if any are asked for.
 pub fn tell<T: Threads + Wait + Copy + Send + Sync>(
     rt: &HostRuntime,
     threads: &T,
-    task: Task,
-) -> Result<Outcome, Failure> {
-    let Task {
-        options,
-        explain,
-        file,
-        script,
-    } = task;
-    let file = opened(rt, file)?;
-    let script = opened(rt, script)?;
-    let told = match (file, script) {
-        (Some(file), Some(script)) => {
-            let mut reader = file.chain(BETWEEN).chain(script);
-            tell_of(rt, threads, &mut reader, &options, explain)
-        }
-        (Some(mut file), None) => tell_of(rt, threads, &mut file, &options, explain),
-        (None, Some(script)) => {
-            let mut reader = rt.stdin().chain(BETWEEN).chain(script);
-            tell_of(rt, threads, &mut reader, &options, explain)
-        }
-        (None, None) => tell_of(rt, threads, &mut rt.stdin(), &options, explain),
+    task: &Task,
+) -> Result<Told, Failure> {
+    let mut source = open_source(rt, task)?;
+    let mut notes = Notes {
+        writer: rt.stderr(),
+        names: names_of(task),
+        explains: task.explain,
+        strict: task.strict,
+        failed: false,
     };
-    told.map_err(Failure::Text)
-}
-
-/// Does it with the text of a reader, and explains a refusal on standard error if that is asked for.
-fn tell_of<T: Threads + Wait + Copy + Send + Sync, R: Read>(
-    rt: &HostRuntime,
-    threads: &T,
-    reader: &mut R,
-    options: &Options,
-    explain: bool,
-) -> Result<Outcome, TextFault> {
-    if options.is_serial() {
-        return tell_serially(rt, reader, options, explain);
-    }
-    let mut writer = rt.stdout();
-    if explain {
-        let mut notes = rt.stderr();
-        run_and_explain(
+    let outcome = if task.quiet {
+        tell_refusal(rt, threads, &mut source, &mut notes, &task.options)
+    } else {
+        let mut writer = rt.stdout();
+        tell_to(
+            rt,
             threads,
-            rt.alloc(),
-            reader,
+            &mut source,
             &mut writer,
             &mut notes,
-            options,
+            &task.options,
         )
-    } else {
-        run_text(threads, rt.alloc(), reader, &mut writer, options)
-    }
-}
-
-/// Does it without threads, so that it always returns.
-fn tell_serially<R: Read>(
-    rt: &HostRuntime,
-    reader: &mut R,
-    options: &Options,
-    explain: bool,
-) -> Result<Outcome, TextFault>
-    requires { IsSerial options.now }
-{
-    let mut writer = rt.stdout();
-    if explain {
-        run_and_explain_serially(rt.alloc(), reader, &mut writer, &mut rt.stderr(), options)
-    } else {
-        run_text_serially(rt.alloc(), reader, &mut writer, options)
-    }
-}
-
-/// The file of this name, if there is one.
-fn opened(rt: &HostRuntime, name: Option<String>) -> Result<Option<File>, Failure> {
-    let Some(name) = name else {
-        return Ok(None);
     };
-    match File::open(rt, name.as_str()) {
-        Ok(file) => Ok(Some(file)),
-        Err(_) => Err(Failure::Unopened(name)),
+    match outcome {
+        Ok(outcome) => Ok(Told {
+            outcome,
+            failed: notes.failed,
+        }),
+        Err(fault) => Err(Failure::Text(fault)),
+    }
+}
+
+/// The text and the script that a task names, opened.
+fn open_source(rt: &HostRuntime, task: &Task) -> Result<Source<Opened, Opened>, Failure> {
+    let text = open_input(rt, &task.text)?;
+    let script = match &task.script {
+        Some(script) => Some(open_input(rt, script)?),
+        None => None,
+    };
+    Ok(Source { text, script })
+}
+
+/// Does it, and writes nothing of a text that is accepted.
+fn tell_refusal<T: Threads + Wait + Copy + Send + Sync>(
+    rt: &HostRuntime,
+    threads: &T,
+    source: &mut Source<Opened, Opened>,
+    notes: &mut Notes<'_, Stderr>,
+    options: &Options,
+) -> Result<Outcome, TextFault> {
+    let mut held = Vec::new(rt.alloc());
+    let outcome = tell_to(rt, threads, source, &mut held, notes, options)?;
+    if outcome == Outcome::Whole {
+        return Ok(outcome);
+    }
+    match rt.stdout().write_all(&held) {
+        Ok(()) => Ok(outcome),
+        Err(_) => Err(TextFault::Write),
+    }
+}
+
+/// Does it with this writer; without threads, where none are asked for, so that it always returns.
+fn tell_to<T: Threads + Wait + Copy + Send + Sync, W: Write>(
+    rt: &HostRuntime,
+    threads: &T,
+    source: &mut Source<Opened, Opened>,
+    writer: &mut W,
+    notes: &mut Notes<'_, Stderr>,
+    options: &Options,
+) -> Result<Outcome, TextFault> {
+    if options.is_serial() {
+        run_and_note_serially(rt.alloc(), source, writer, notes, options)
+    } else {
+        run_and_note(threads, rt.alloc(), source, writer, notes, options)
+    }
+}
+
+/// How explanations name the files.
+fn names_of(task: &Task) -> Names<'_> {
+    Names {
+        text: name_of(&task.text),
+        script: match &task.script {
+            Some(script) => name_of(script),
+            None => name_of(&task.text),
+        },
+    }
+}
+
+fn name_of(file: &InputFile) -> &str {
+    match file {
+        InputFile::StandardInput => Names::STANDARD_INPUT,
+        InputFile::Named(name) => name.as_str(),
     }
 }

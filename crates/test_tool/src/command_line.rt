@@ -2,7 +2,7 @@
 
 use clap::Error;
 use clap::error::ErrorKind;
-use sdl_command_line::{Task, chosen};
+use sdl_command_line::{InputFile, Task, chosen};
 use sdl_engine::{Command, Options};
 use std::alloc::Global;
 use std::process::Abort;
@@ -12,7 +12,7 @@ use std::process::Abort;
 type Asked<'a> = (Command, Option<u8>, u64, Option<&'a str>, Option<&'a str>);
 
 /// Command lines with what they ask for; none for a mistake, and for help.
-static LINES: [(&str, Option<Asked<'static>>); 27] = [
+static LINES: [(&str, Option<Asked<'static>>); 31] = [
     (
         "sdlrun check",
         Some((Command::Check, None, 1_000_000, None, None)),
@@ -53,6 +53,16 @@ static LINES: [(&str, Option<Asked<'static>>); 27] = [
         "sdlrun run --workers=16 --limit 5 a",
         Some((Command::Run, Some(16), 5, Some("a"), None)),
     ),
+    (
+        "sdlrun run -",
+        Some((Command::Run, None, 1_000_000, None, None)),
+    ),
+    (
+        "sdlrun check --quiet --script - a",
+        Some((Command::Check, None, 1_000_000, Some("a"), Some("-"))),
+    ),
+    ("sdlrun run --quiet a", None),
+    ("sdlrun check --strict a", None),
     ("sdlrun run --workers 0", None),
     ("sdlrun run --workers 17", None),
     ("sdlrun run --workers 257", None),
@@ -92,6 +102,30 @@ fn explains_where_asked(rt: HostRuntime) {
     for (line, explain) in &EXPLAINED {
         let told = told(&rt, rt.alloc(), line);
         assert!(rt; is_explained(&told) == *explain, "{line}");
+    }
+}
+
+/// Command lines, and whether they have both texts read from standard input.
+static BOTH: [(&str, bool); 5] = [
+    ("sdlrun run", false),
+    ("sdlrun run --script -", true),
+    ("sdlrun run --script - -", true),
+    ("sdlrun run --script - a", false),
+    ("sdlrun run --script a -", false),
+];
+
+#[test]
+fn tells_who_reads_standard_input_twice(rt: HostRuntime) {
+    for (line, both) in &BOTH {
+        let told = told(&rt, rt.alloc(), line);
+        assert!(rt; reads_twice(&told) == *both, "{line}");
+    }
+}
+
+fn reads_twice(told: &Result<Task, Error>) -> bool {
+    match told {
+        Ok(task) => task.reads_standard_input_twice(),
+        Err(_) => false,
     }
 }
 
@@ -136,20 +170,23 @@ fn asked_by(told: &Result<Task, Error>) -> Option<Asked<'_>> {
         workers,
         limit,
     } = task.options;
-    Some((
-        command,
-        workers,
-        limit,
-        name_in(&task.file),
-        name_in(&task.script),
-    ))
+    Some((command, workers, limit, named(&task.text), script_in(task)))
 }
 
-fn name_in(name: &Option<String>) -> Option<&str> {
-    match name {
-        Some(name) => Some(name.as_str()),
-        None => None,
+/// The name of a file; none of standard input.
+fn named(file: &InputFile) -> Option<&str> {
+    match file {
+        InputFile::StandardInput => None,
+        InputFile::Named(name) => Some(name.as_str()),
     }
+}
+
+/// The name of the script of its own; `-` for standard input, and none if there is no such script.
+fn script_in(task: &Task) -> Option<&str> {
+    let Some(script) = &task.script else {
+        return None;
+    };
+    Some(named(script).unwrap_or("-"))
 }
 
 fn is_explained(told: &Result<Task, Error>) -> bool {

@@ -1,7 +1,9 @@
 //! What a human is told of a refusal, beside its line.
 
 use crate::devices::Narrow;
-use sdl_engine::{Command, Options, Outcome, run_and_explain_serially};
+use sdl_engine::{
+    Command, Names, Notes, Options, Outcome, Source, TextFault, run_and_note_serially,
+};
 use std::alloc::Global;
 use std::process::Abort;
 
@@ -13,23 +15,39 @@ static CHECK: Options = Options {
 
 static TWICE: &str = "system S;\nsignal a;\n\tsignal b,\ta;\nendsystem;\n";
 
-static TWICE_EXPLAINED: &str = "In the specification:
+static TWICE_EXPLAINED: &str =
+    "twice.sdl:3:12: `a` is defined in this scope already. Give one of the two another name, or take one away.
 3 | \tsignal b,\ta;
     \t         \t^
-`a` is defined in this scope already. Give one of the two another name, or take one away.
-It is defined first here:
+twice.sdl:2:8: It is defined first here:
 2 | signal a;
            ^
 ";
 
 static BAD_LINE: &str = "system S; signal a; endsystem;\n%script\n0\n 7 a\n";
 
-static BAD_LINE_EXPLAINED: &str = "In the script:
-2 |  7 a
+/// The line is the fourth of the file, and the second of the script.
+static BAD_LINE_EXPLAINED: &str =
+    "twice.sdl:4:4: `a` can't be sent: no signal of the system itself has this name; or no \
+channel leads it from `env` to a process, or no process has the name after `to`. Define it in the system, name it in a \
+channel from `env`, or mend the spelling.
+4 |  7 a
        ^
-`a` can't be sent: no signal of the system itself has this name; or no channel leads it from `env` to a process, or no \
-process has the name behind `to`. Define it in the system, name it in a channel from `env`, or mend the spelling.
 ";
+
+/// Notes that explain refusals to a writer.
+fn explaining<N>(writer: N) -> Notes<'static, N> {
+    Notes {
+        writer,
+        names: Names {
+            text: "twice.sdl",
+            script: "own.script",
+        },
+        explains: true,
+        strict: false,
+        failed: false,
+    }
+}
 
 #[test]
 fn shows_both_definitions(rt: HostRuntime) {
@@ -43,25 +61,96 @@ fn shows_a_line_of_the_script(rt: HostRuntime) {
 
 /// Sees that a text is refused, and that this is what a human is told of it.
 fn expect_notes(rt: &impl Abort, alloc: Global, text: &str, explained: &str) {
-    let mut reader = text.as_bytes();
+    let mut source = Source {
+        text: text.as_bytes(),
+        script: None::<&[u8]>,
+    };
     let mut written = Vec::new(alloc);
-    let mut notes = Vec::new(alloc);
-    let told = run_and_explain_serially(alloc, &mut reader, &mut written, &mut notes, &CHECK);
+    let mut notes = explaining(Vec::new(alloc));
+    let told = run_and_note_serially(alloc, &mut source, &mut written, &mut notes, &CHECK);
     assert!(rt; told == Ok(Outcome::TextRefused));
-    assert!(rt; notes.as_slice() == explained.as_bytes());
+    assert!(rt; notes.writer.as_slice() == explained.as_bytes());
+}
+
+static FAILING: &str =
+    "system S; process P (2, 2); dcl n Integer := 0; start; task n := 1 / n; stop; endprocess;
+process Q; start; stop; endprocess; endsystem;
+";
+
+static FAILURES: &str = "sdlrun: instance #1 P failed: ZeroDivisor
+sdlrun: instance #2 P failed: ZeroDivisor
+";
+
+#[test]
+fn tells_failures_where_asked(rt: HostRuntime) {
+    let told = failures_of(&rt, rt.alloc(), FAILING, true);
+    assert!(rt; told.failed);
+    assert!(rt; told.writer.as_slice() == FAILURES.as_bytes());
+    let told = failures_of(&rt, rt.alloc(), FAILING, false);
+    assert!(rt; !told.failed);
+    assert!(rt; told.writer.is_empty());
+}
+
+/// What a run that is whole notes, strictly or not.
+fn failures_of(
+    rt: &impl Abort,
+    alloc: Global,
+    text: &str,
+    strict: bool,
+) -> Notes<'static, Vec<u8>> {
+    let mut notes = explaining(Vec::new(alloc));
+    notes.strict = strict;
+    let told = run(alloc, text, 1_000, &mut notes);
+    assert!(rt; told == Ok(Outcome::Whole));
+    notes
+}
+
+fn run(
+    alloc: Global,
+    text: &str,
+    limit: u64,
+    notes: &mut Notes<'_, Vec<u8>>,
+) -> Result<Outcome, TextFault> {
+    let options = Options {
+        command: Command::Run,
+        workers: None,
+        limit,
+    };
+    let mut source = Source {
+        text: text.as_bytes(),
+        script: None::<&[u8]>,
+    };
+    let mut written = Vec::new(alloc);
+    run_and_note_serially(alloc, &mut source, &mut written, notes, &options)
+}
+
+static LOOP: &str =
+    "system S; process P; start; nextstate s; state s; provided true; nextstate -; endprocess; endsystem;\n";
+
+static CUT: &str = "sdlrun: cut after 5 transitions; the clock never moved; --limit shows less\n";
+
+#[test]
+fn tells_what_cut_a_run(rt: HostRuntime) {
+    let mut notes = explaining(Vec::new(rt.alloc()));
+    let told = run(rt.alloc(), LOOP, 5, &mut notes);
+    assert!(rt; told == Ok(Outcome::Cut));
+    assert!(rt; notes.writer.as_slice() == CUT.as_bytes());
 }
 
 /// The line of the refusal is told all the same.
 #[test]
 fn goes_on_where_nothing_can_be_noted(rt: HostRuntime) {
-    let mut reader = TWICE.as_bytes();
+    let mut source = Source {
+        text: TWICE.as_bytes(),
+        script: None::<&[u8]>,
+    };
     let mut written = Vec::new(rt.alloc());
-    let mut notes = Narrow {
+    let mut notes = explaining(Narrow {
         taken: Vec::new(rt.alloc()),
         room: 4,
         fails: true,
-    };
-    let told = run_and_explain_serially(rt.alloc(), &mut reader, &mut written, &mut notes, &CHECK);
+    });
+    let told = run_and_note_serially(rt.alloc(), &mut source, &mut written, &mut notes, &CHECK);
     assert!(rt; told == Ok(Outcome::TextRefused));
     assert!(rt; written.as_slice() == b"build 3:12 Duplicate a\n".as_slice());
 }

@@ -20,6 +20,8 @@ mod engine;
 #[cfg(test)]
 mod explains;
 #[cfg(test)]
+mod own_script;
+#[cfg(test)]
 mod prefixes;
 #[cfg(test)]
 mod specifications;

@@ -1,10 +1,13 @@
+use Rattle.std.proofs.Common.{None, subst, sym}
 use Rattle.sdl_tree.specs.Views.{tree_value}
-use Rattle.sdl_engine.proofs.AnswerLaws.{run_allows}
 use Rattle.sdl_engine.proofs.BehaviourLemmas.{behaviours_of_text, some_behaviours}
-use Rattle.sdl_engine.proofs.pipeline.run_bytes_by_workers.Goals as goal
+use Rattle.sdl_engine.specs.Answer.{AllowsOf, IsRunRefused}
+use Rattle.sdl_engine.specs.declared.options.Command.TheVariants as command
+use Rattle.sdl_engine.specs.declared.refusal.Refusal.TheVariants as refusal
+use Rattle.sdl_engine.proofs.pipeline.run_texts.Goals as goal
 
 pub returns-in-Ok-clause-ok : goal.returns-in-Ok-clause-ok
-returns-in-Ok-clause-ok g c =
+returns-in-Ok-clause-ok c =
     let taken = c.in_ok-accepted.accepted in
     let accepted = c.in_ok-accepted.ensures.ok in
     record {
@@ -13,15 +16,16 @@ returns-in-Ok-clause-ok g c =
       accepted = accepted;
       behaves = some_behaviours (tree_value taken.tree) taken.system accepted.built;
       ran = λ ps of.
-          c.in-Ok.ensures ps (behaviours_of_text (tree_value taken.tree) taken.system accepted.built ps of);
+          c.in-Ok.ensures.serial ps (behaviours_of_text (tree_value taken.tree) taken.system accepted.built ps of);
     }
 
 pub returns-in-Err-clause-err : goal.returns-in-Err-clause-err
-returns-in-Err-clause-err g c =
+returns-in-Err-clause-err c =
     let taken = c.in_ok-accepted.accepted in
-    run_allows c.args.workers c.args.bytes.now c.in-Err.error (record {
+    let refused : IsRunRefused c.args.texts.now = record {
       tree = tree_value taken.tree;
       system = taken.system;
       lines = taken.script.lines.items;
       accepted = c.in_ok-accepted.ensures.ok;
-    })
+    } in
+    subst (λ error. AllowsOf command.Run None c.args.texts.now (refusal.Run error)) (sym c.in-Err.ensures.err) refused
