@@ -110,12 +110,12 @@ class ThreadSoak:
         )  # fmt: skip
 
     def run(self, job: Job) -> tuple[int, str]:
-        """The status and the output of a run, which must write nothing else."""
+        """The status and the output of a run, which must write nothing else, except what cut it."""
         ran = self.ask(job, ["--workers", str(job.workers)] if self.has_workers else [], self.seconds)
         if ran.returncode == REFUSES_OPTIONS:
             raise NoThreads(f"{' '.join(ran.args)}: {ran.stderr.decode(errors='replace')}")
         demand(ran.returncode in (0, 1, 3), f"status {ran.returncode}: {ran.stdout[:200]!r} {ran.stderr[:500]!r}")
-        demand(not ran.stderr, f"on standard error: {ran.stderr[:500]!r}")
+        demand(trace.is_note(ran.returncode, ran.stderr), f"on standard error: {ran.stderr[:500]!r}")
         return ran.returncode, ran.stdout.decode()
 
     def judge(self, job: Job, status: int, report: str) -> None:

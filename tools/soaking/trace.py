@@ -14,6 +14,10 @@ INSIDE = re.compile(
 CLOSES = re.compile(r"(rest|cut) \w+")
 LAST = re.compile(r"end (\d+) (whole|cut)")
 REFUSAL = re.compile(r"((lex|parse|build) (\d+:\d+ \w+( \S+)?|Memory)|script (\d+ \w+|Memory)|run Memory)\n")
+CUT_NOTE = re.compile(
+    rb"sdlrun: cut after \d+ transitions"
+    rb"(; the clock never moved; --limit shows less| at time [1-9]\d*; --limit shows less, or more)\n"
+)
 
 
 class Wrong(Exception):
@@ -45,6 +49,11 @@ class Trace:
     records: list
     time: int
     is_cut: bool
+
+
+def is_note(status, said):
+    """Whether standard error says what it has to: what cut a run, and nothing else."""
+    return CUT_NOTE.fullmatch(said) is not None if status == 1 else not said
 
 
 def read(text):
