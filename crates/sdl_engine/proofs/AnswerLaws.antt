@@ -5,12 +5,15 @@ use Rattle.sdl_input.specs.Input.{IsRead}
 use Rattle.sdl_input.specs.declared.input.Input.{Input}
 use Rattle.sdl_input.specs.declared.input.Input.TheVariants.{Held, TooLong}
 use Rattle.sdl_input.specs.declared.texts.Texts.{Texts}
+use Rattle.sdl_report.specs.Gathered as gathered
 use Rattle.sdl_report.specs.ReportText.{report_text}
+use Rattle.sdl_report.specs.declared.write_whole.WriteFault.{WriteFault}
+use Rattle.sdl_report.specs.declared.write_whole.WriteFault.TheVariants as written
 use Rattle.run_record.specs.declared.record.Report.{Report}
 use Rattle.run_record.specs.declared.run_error.RunError.{RunError}
 use Rattle.run_record.specs.declared.run_error.RunError.TheVariants as run
 use Rattle.sdl_system.specs.System.{SystemValue}
-use Rattle.sdl_engine.specs.Answer.{Allows, AllowsOfRun, BreaksOff, FailsToTell, Faulted, Fails, IsRunOfInput, IsRunRefused, PrintsInput, Refuses, Says, SaysCut, SaysWhole, Tells, Written, outcome_by, outcome_of}
+use Rattle.sdl_engine.specs.Answer.{Allows, AllowsOfRun, BreaksOff, FailsToTell, Faulted, Fails, IsRunOfInput, IsRunRefused, PrintsInput, Refuses, Says, SaysCut, SaysWhole, Tells, Written, fault_of, outcome_by, outcome_of}
 use Rattle.sdl_engine.specs.RefusalText.{refusal_line}
 use Rattle.sdl_engine.specs.declared.options.Command.{Command}
 use Rattle.sdl_engine.specs.declared.options.Command.TheVariants as command
@@ -90,6 +93,12 @@ refusal_says asked workers input options why is by allowed =
     (refuses asked workers input why allowed)))
 
 -- ---- what a call's result says
+
+-- what went out of a text before a fault of writing it
+pub breaks_off : (why : WriteFault) (text : List ℕ) (old new : Option (List ℕ)) → gathered.BreaksOff old new text →
+    BreaksOff (fault_of why) text old new
+breaks_off written.Write text old new off = off
+breaks_off written.Memory text old new off = off
 
 pub tells_by : (input : Input) (options : Options) (expected : Outcome) (text : List ℕ) (old new : Option (List ℕ))
     (r : Result Outcome TextFault) → Says input options expected text → IfOk r (λ how. how ≡ expected) →

@@ -17,6 +17,8 @@ use Rattle.sdl_parse.specs.declared.error.ParseError.{ParseError}
 use Rattle.sdl_parse.specs.declared.error.ParseError.TheVariants as parse
 use Rattle.sdl_report.specs.Gathered as gathered
 use Rattle.sdl_report.specs.ReportText.{report_text}
+use Rattle.sdl_report.specs.declared.write_whole.WriteFault.{WriteFault}
+use Rattle.sdl_report.specs.declared.write_whole.WriteFault.TheVariants as written
 use Rattle.run_record.specs.declared.record.Report.{Report}
 use Rattle.run_record.specs.declared.run_error.RunError.{RunError}
 use Rattle.run_record.specs.declared.run_error.RunError.TheVariants as run
@@ -246,6 +248,11 @@ IsRunOfInput TooLong workers limit system report = ⊥
 abbrev pub outcome_by : Bool → Outcome
 outcome_by true = outcome.Whole
 outcome_by false = outcome.Cut
+
+-- a fault of writing, as a fault of the program
+abbrev pub fault_of : WriteFault → TextFault
+fault_of written.Write = fault.Write
+fault_of written.Memory = fault.Memory
 
 -- what went out of a text before this fault of writing it, or before memory was refused: not all of it
 abbrev pub BreaksOff : TextFault → List ℕ → Option (List ℕ) → Option (List ℕ) → Type 0

@@ -11,7 +11,7 @@ use crate::options::{Options, Outcome, TextFault};
 use crate::pipeline::Run;
 use crate::refusal::Refusal;
 use crate::refusal_text::{fixed_line, refusal_line};
-use sdl_report::{WriteFault, write_report, write_text};
+use sdl_report::{write_report, write_text};
 use std::alloc::Global;
 use std::io::Write;
 use std::thread::Threads;
@@ -46,11 +46,8 @@ fn write_run<W: Write>(alloc: Global, run: &Run, writer: &mut W) -> Result<Outco
     ensures err { IfErr result (λ fault. BreaksOff fault (report_text run.now.system run.now.report)
         (W.contents writer.old) (W.contents writer.new)) }
 {
-    match write_report(alloc, &run.report, &run.system, writer) {
-        Ok(()) => Ok(outcome(run.report.whole)),
-        Err(WriteFault::Write) => Err(TextFault::Write),
-        Err(WriteFault::Memory) => Err(TextFault::Memory),
-    }
+    write_report(alloc, &run.report, &run.system, writer)?;
+    Ok(outcome(run.report.whole))
 }
 
 /// Writes the report of a run, whose text so many workers make, and then notes what there is to say of it.
@@ -91,11 +88,8 @@ fn write_run_by_workers<T: Threads + Sync, W: Write>(
         (W.contents writer.old) (W.contents writer.new)) }
 {
     let workers = usize::from(workers);
-    match write_report_by_workers(rt, alloc, workers, &run.report, &run.system, writer) {
-        Ok(()) => Ok(outcome(run.report.whole)),
-        Err(WriteFault::Write) => Err(TextFault::Write),
-        Err(WriteFault::Memory) => Err(TextFault::Memory),
-    }
+    write_report_by_workers(rt, alloc, workers, &run.report, &run.system, writer)?;
+    Ok(outcome(run.report.whole))
 }
 
 /// The outcome of a run, by whether its report is whole.
@@ -140,9 +134,6 @@ fn write_as<W: Write>(outcome: Outcome, text: &str, writer: &mut W) -> Result<Ou
     ensures ok { OnOk result (Appends (W.contents writer.old) (W.contents writer.new) text.now) }
     ensures err { IfErr result (λ fault. BreaksOff fault text.now (W.contents writer.old) (W.contents writer.new)) }
 {
-    match write_text(writer, text.as_bytes()) {
-        Ok(()) => Ok(outcome),
-        Err(WriteFault::Write) => Err(TextFault::Write),
-        Err(WriteFault::Memory) => Err(TextFault::Memory),
-    }
+    write_text(writer, text.as_bytes())?;
+    Ok(outcome)
 }

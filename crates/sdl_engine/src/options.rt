@@ -3,6 +3,7 @@
 ghost use Rattle.std.specs.Prelude.{◌↔◌, IsTrue};
 ghost use Rattle.sdl_engine.specs.Answer.{IsSerial};
 
+use sdl_report::WriteFault;
 use thiserror::Error;
 
 /// A command, by the text that it asks for.
@@ -64,4 +65,18 @@ pub enum TextFault {
     /// The input could not be held, or the output not be made.
     #[error("out of memory")]
     Memory,
+}
+
+impl From<WriteFault> for TextFault {
+    ghost use Rattle.std.specs.Prelude.{◌≡◌};
+    ghost use Rattle.sdl_engine.specs.Answer.{fault_of};
+
+    ghost from_gives = { λ written fault. fault ≡ fault_of written };
+
+    fn from(fault: WriteFault) -> TextFault {
+        match fault {
+            WriteFault::Write => TextFault::Write,
+            WriteFault::Memory => TextFault::Memory,
+        }
+    }
 }
