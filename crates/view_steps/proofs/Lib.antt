@@ -1,0 +1,4 @@
+pub mod Opening
+pub mod Passing
+pub mod Ranges
+pub mod Writing

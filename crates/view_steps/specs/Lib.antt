@@ -1,0 +1,4 @@
+pub mod Living
+pub mod Step
+pub mod Walk
+pub mod Written

@@ -1,0 +1,13 @@
+-- What a step says.
+use Rattle.run_record.specs.Entry.{event_of}
+use Rattle.view_steps.specs.Walk.{StepValue}
+use Rattle.view_steps.specs.declared.walk.Step.{Step}
+
+abbrev pub step_value : Step → StepValue
+step_value step = record {
+  trace = step.«record».now;
+  event = event_of step.entry step.values.now;
+  link = step.link;
+  place = step.place;
+  closes = step.closes;
+}
