@@ -1,0 +1,103 @@
+-- A timeline as lines of text.
+use Rattle.std.specs.Prelude.{ℕ, ◌==◌, Bool, true, false, List, [], ◌++◌, codes, count_by, sum_by, if◌then◌else◌}
+use Rattle.std.specs.List.{flat_map}
+use Rattle.std.specs.Fmt.{decimal}
+use Rattle.port_model.specs.declared.got.Got as got
+use Rattle.port_model.specs.declared.got.Got.TheVariants as came
+use Rattle.port_values.specs.declared.pid.Pid as pid
+use Rattle.port_values.specs.declared.pid.Pid.TheVariants as who
+use Rattle.sdl_system.specs.System.{SystemValue}
+use Rattle.run_record.specs.Event as event
+use Rattle.run_record.specs.Failure.{failure_text}
+use Rattle.run_record.specs.Record.{RecordValue}
+use Rattle.run_record.specs.declared.record.Report.{Report}
+use Rattle.sdl_report.specs.Name.{process_name}
+use Rattle.sdl_report.specs.ReportText.{end_text, event_text, line, stimulus_text}
+use Rattle.view_steps.specs.Living.{is_living}
+use Rattle.view_steps.specs.Walk.{StepValue, all_steps}
+use Rattle.view_timeline.specs.declared.moves.Link.{Link}
+use Rattle.view_timeline.specs.declared.moves.Link.TheVariants as is
+use Rattle.view_timeline.specs.declared.moves.Timeline.{Timeline}
+
+-- `#7 Initiator`
+abbrev pub instance_text : SystemValue → RecordValue → List ℕ
+instance_text system trace = codes "#" ++ decimal trace.pid ++ codes " " ++ process_name system trace.process
+
+-- the time of a transition, and whose it is
+abbrev pub when_text : SystemValue → RecordValue → ℕ → List ℕ
+when_text system trace at = decimal at ++ codes " " ++ instance_text system trace
+
+-- What became of what was sent, where nobody took it, by whether its receiver lives on: it waits for one that does, and
+-- for another one it's gone.
+abbrev pub fate_text : Bool → Link → List ℕ
+fate_text living is.Plain = []
+fate_text living (is.Arrow arrow) = []
+fate_text living is.Gone = codes " gone"
+fate_text true is.Waits = codes " waits"
+fate_text false is.Waits = codes " gone"
+
+-- The line of an event: that of the report, with whose it is where a move opens, and what became of what was sent.
+abbrev pub linked_text : SystemValue → Timeline → RecordValue → event.Event → Link → List ℕ
+linked_text system told trace (event.Start at) link = when_text system trace at ++ codes " start"
+linked_text system told trace (event.Consumed at got) link =
+    when_text system trace at ++ codes " input " ++ stimulus_text system trace got
+linked_text system told trace (event.Prior at got) link =
+    when_text system trace at ++ codes " priority " ++ stimulus_text system trace got
+linked_text system told trace (event.Discarded at got) link =
+    when_text system trace at ++ codes " discard " ++ stimulus_text system trace got
+linked_text system told trace (event.Provided at number) link =
+    when_text system trace at ++ codes " provided " ++ decimal number
+linked_text system told trace (event.FailedAt at why) link =
+    when_text system trace at ++ codes " failed " ++ failure_text why
+linked_text system told trace (event.Rest state) link =
+    instance_text system trace ++ codes " " ++ event_text system trace (event.Rest state)
+linked_text system told trace (event.Cut state) link =
+    instance_text system trace ++ codes " " ++ event_text system trace (event.Cut state)
+linked_text system told trace (event.Output signal to values target) link =
+    event_text system trace (event.Output signal to values target) ++ fate_text (is_living told target) link
+linked_text system told trace other link = event_text system trace other
+
+abbrev pub step_line : SystemValue → Timeline → StepValue → List ℕ
+step_line system told step = line (linked_text system told step.trace step.event step.link)
+
+-- ---- what of the script was heard
+
+abbrev pub is_env_pid : pid.Pid → Bool
+is_env_pid who.Null = false
+is_env_pid who.Env = true
+is_env_pid (who.Of number) = false
+
+abbrev pub is_env : got.Got → Bool
+is_env (came.Signal item) = is_env_pid item.sender
+is_env (came.Timer key) = false
+
+-- whether the event takes a signal of the environment
+abbrev pub is_heard : event.Event → Bool
+is_heard (event.Consumed at got) = is_env got
+is_heard (event.Prior at got) = is_env got
+is_heard (event.Discarded at got) = is_env got
+is_heard _ = false
+
+-- how many signals of the environment an instance took, and all of them
+abbrev pub heard_in : RecordValue → ℕ
+heard_in trace = count_by is_heard trace.events
+
+abbrev pub heard : List RecordValue → ℕ
+heard records = sum_by heard_in records
+
+-- `script: 3 signals, 1 taken`, where not all were
+abbrev pub script_text : ℕ → ℕ → List ℕ
+script_text sent taken =
+    if sent == taken then []
+    else line (codes "script: " ++ decimal sent ++ codes " signals, " ++ decimal taken ++ codes " taken")
+
+-- ---- the text
+
+-- the end of the run, and what of the script was heard
+abbrev pub closing_text : Report → ℕ → List ℕ
+closing_text report sent = line (end_text report) ++ script_text sent (heard report.records.items)
+
+-- A line for each event in the order of the timeline, the end of the run, and what of the script was heard.
+abbrev pub lines_text : SystemValue → Report → Timeline → ℕ → List ℕ
+lines_text system report told sent =
+    flat_map (step_line system told) (all_steps report.records.items told) ++ closing_text report sent
