@@ -1,0 +1,94 @@
+//! Specifications with scripts, and the texts of their timelines.
+
+use crate::{inres, kinds, lost, workers};
+use sdl_build::build;
+use sdl_parse::parse;
+use sdl_script::{Script, read_script};
+use serial_run::run_serial;
+use std::alloc::Global;
+use std::process::Abort;
+use view_json::write_json;
+use view_lines::write_lines;
+use view_timeline::timeline;
+
+static LIMIT: u64 = 1_000_000;
+
+#[test]
+fn tells_inres(rt: HostRuntime) {
+    expect_texts(
+        &rt,
+        rt.alloc(),
+        inres::TEXT,
+        LIMIT,
+        inres::LINES,
+        inres::JSON,
+    );
+}
+
+#[test]
+fn tells_what_is_lost(rt: HostRuntime) {
+    expect_texts(&rt, rt.alloc(), lost::TEXT, LIMIT, lost::LINES, lost::JSON);
+}
+
+#[test]
+fn tells_a_run_that_is_cut(rt: HostRuntime) {
+    expect_texts(
+        &rt,
+        rt.alloc(),
+        lost::TEXT,
+        2,
+        lost::CUT_LINES,
+        lost::CUT_JSON,
+    );
+}
+
+#[test]
+fn tells_workers(rt: HostRuntime) {
+    expect_texts(
+        &rt,
+        rt.alloc(),
+        workers::TEXT,
+        LIMIT,
+        workers::LINES,
+        workers::JSON,
+    );
+}
+
+#[test]
+fn tells_each_kind_of_event(rt: HostRuntime) {
+    expect_texts(
+        &rt,
+        rt.alloc(),
+        kinds::TEXT,
+        LIMIT,
+        kinds::LINES,
+        kinds::JSON,
+    );
+}
+
+/// Sees that the run of a specification with its script, up to so many transitions, has these lines, and this JSON.
+fn expect_texts<R: Abort>(rt: &R, alloc: Global, text: &str, limit: u64, lines: &str, json: &str) {
+    let (specification, script) = text.split_once("%script\n").unwrap_or((text, ""));
+    let tree = parse(alloc, specification.as_bytes()).expect(rt, "a tree");
+    let system = build(alloc, &tree).expect(rt, "a system");
+    let script = read_script(alloc, &system, script.as_bytes()).expect(rt, "a script");
+    let report = run_serial(alloc, &system, &script, limit).expect(rt, "a report");
+    let told = timeline(alloc, &report).expect(rt, "a timeline");
+    let mut written = Vec::new(alloc);
+    let done = write_lines(alloc, &report, &told, sent(&script), &system, &mut written);
+    assert!(rt; done.is_ok());
+    assert!(rt; written.as_slice() == lines.as_bytes());
+    let mut written = Vec::new(alloc);
+    let done = write_json(alloc, &report, &told, &system, &mut written);
+    assert!(rt; done.is_ok());
+    assert!(rt; written.as_slice() == json.as_bytes());
+}
+
+/// How many signals the environment sends: a line of a script may have none.
+fn sent(script: &Script) -> usize {
+    script
+        .lines
+        .iter()
+        .filter(|line| line.signal.is_some())
+        .count()
+}
