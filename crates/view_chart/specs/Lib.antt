@@ -1,0 +1,4 @@
+pub mod Markup
+pub mod Selection
+pub mod Words
+pub mod Written

@@ -1,0 +1,110 @@
+//! Which instances have a column, and which moves are drawn.
+
+use crate::chart::ColumnId;
+use crate::layout::Subject;
+use crate::passage::{Passage, Walk};
+use crate::selection::Selection;
+use run_record::{Record, Report};
+use sdl_report::process_name;
+use std::alloc::{AllocError, Global};
+use view_timeline::Timeline;
+
+/// So many columns are drawn, apart from the environment's.
+pub const MOST_COLUMNS: u32 = 100;
+
+/// The columns of records: those of the first instances that are wanted and that do something at the times that are
+/// wanted.
+#[derive(Drop)]
+pub struct Plan {
+    columns: Vec<Option<ColumnId>>,
+    /// How many have one.
+    pub count: u32,
+    /// How many more would have one if there were no limit.
+    pub more: u32,
+}
+
+impl Plan {
+    /// The columns for a selection. Column 0 is the environment's.
+    pub fn new(
+        alloc: Global,
+        subject: &Subject<'_>,
+        selection: &Selection,
+    ) -> Result<Self, AllocError> {
+        let report = subject.report;
+        let acting = acting(alloc, report, subject.timeline, selection)?;
+        let mut plan = Plan {
+            columns: Vec::with_capacity(alloc, report.records.len())?,
+            count: 0,
+            more: 0,
+        };
+        for (record, acts) in report.records.iter().zip(acting.iter()) {
+            let process = process_name(subject.system, record.process());
+            if *acts && selection.has_instance(record.pid(), process) {
+                plan.give()?;
+            } else {
+                plan.columns.push(None)?;
+            }
+        }
+        Ok(plan)
+    }
+
+    /// The next record has a column, if there is room for one more.
+    fn give(&mut self) -> Result<(), AllocError> {
+        if self.count < MOST_COLUMNS {
+            self.count += 1;
+            self.columns.push(Some(ColumnId(self.count)))?;
+        } else {
+            self.more = self.more.saturating_add(1);
+            self.columns.push(None)?;
+        }
+        Ok(())
+    }
+
+    /// The column of the record at this place, if it has one.
+    pub fn column(&self, place: usize) -> Option<ColumnId> {
+        self.columns.get(place).copied().flatten()
+    }
+
+    /// The column of the instance of this number, if it has one: records stand by ascending number, from 1 on.
+    pub fn column_of(&self, number: u32) -> Option<ColumnId> {
+        self.column(number.checked_sub(1)? as usize)
+    }
+
+    /// The column of a record.
+    pub fn column_of_record(&self, record: &Record) -> Option<ColumnId> {
+        self.column_of(record.pid())
+    }
+}
+
+/// Which records have a move at a time that is wanted.
+fn acting(
+    alloc: Global,
+    report: &Report,
+    timeline: &Timeline,
+    selection: &Selection,
+) -> Result<Vec<bool>, AllocError> {
+    let mut acting = Vec::with_capacity(alloc, report.records.len())?;
+    for _record in &report.records {
+        acting.push(false)?;
+    }
+    let mut walk = Walk::new(alloc, report, timeline)?;
+    for one in &timeline.moves {
+        let Some(passage) = walk.passage(one) else {
+            break;
+        };
+        if is_wanted(&passage, selection)
+            && let Some(acts) = acting.get_mut(one.record.0 as usize)
+        {
+            *acts = true;
+        }
+    }
+    Ok(acting)
+}
+
+/// Whether a move is made at a time that is wanted.
+pub fn is_wanted(passage: &Passage, selection: &Selection) -> bool {
+    match passage.at() {
+        Some(at) => selection.has_time(at),
+        None => false,
+    }
+}

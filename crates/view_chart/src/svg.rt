@@ -1,0 +1,52 @@
+//! A chart as a picture of its own.
+
+ghost use Rattle.std.specs.Prelude.{OnErr, OnOk};
+ghost use Rattle.view_chart.specs.Written.{IsBrokenOff, IsWritten};
+
+use crate::chart::Chart;
+use crate::drawing::Drawing;
+use crate::picture::{ABOVE, height, push_body, push_description, push_escaped, push_heads};
+use crate::pixels::Pixels;
+use crate::style::{STYLE, TIPS};
+use sdl_report::{WriteFault, write_text};
+use std::alloc::{AllocError, Global};
+use std::io::Write;
+
+/// Writes a chart as SVG, with this title. After a fault a prefix of a text has gone out, and not all of it.
+pub fn write_svg<W: Write>(
+    alloc: Global,
+    chart: &Chart,
+    title: &str,
+    writer: &mut W,
+) -> Result<(), WriteFault>
+    ensures ok { OnOk result (IsWritten (W.contents writer.old) (W.contents writer.new)) }
+    ensures err { OnErr result (IsBrokenOff (W.contents writer.old) (W.contents writer.new)) }
+{
+    let text = svg_text(alloc, chart, title)?;
+    write_text(writer, text.as_str().as_bytes())
+}
+
+/// The picture as SVG.
+pub fn svg_text(alloc: Global, chart: &Chart, title: &str) -> Result<String, AllocError> {
+    let drawing = Drawing::new(alloc, chart, Pixels(62))?;
+    let width = drawing.width().0;
+    let height = height(&drawing).0;
+    let mut text = String::new(alloc);
+    text.push_str("<svg xmlns=\"http://www.w3.org/2000/svg\"")?;
+    write!(
+        text,
+        " viewBox=\"0 0 {width} {height}\" width=\"{width}\" height=\"{height}\""
+    )?;
+    text.push_str(" role=\"img\" aria-labelledby=\"t d\">\n<title id=\"t\">")?;
+    push_escaped(&mut text, title)?;
+    text.push_str(": message sequence chart of a run</title>\n<desc id=\"d\">")?;
+    push_description(&mut text, chart)?;
+    write!(
+        text,
+        "</desc>\n<style>\n{STYLE}</style>\n{TIPS}\n<rect class=\"page\" width=\"{width}\" height=\"{height}\"/>\n"
+    )?;
+    push_body(&mut text, &drawing, ABOVE)?;
+    push_heads(&mut text, &drawing, Pixels(4), false)?;
+    text.push_str("</svg>\n")?;
+    Ok(text)
+}
