@@ -1,0 +1,3 @@
+mod Headed
+mod Pushed
+mod Words
