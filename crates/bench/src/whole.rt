@@ -1,7 +1,7 @@
 //! Whole runs and checks, through the function that `sdlrun` is over.
 
 use bench_texts::Shape;
-use sdl_engine::{Command, Options, Outcome, run_text};
+use sdl_engine::{Command, Options, Outcome, View, run_text};
 use std::alloc::Global;
 use std::io::{self, Write};
 use std::sync::Wait;
@@ -39,6 +39,7 @@ pub fn written<R: Threads + Wait + Copy + Send + Sync>(
         } else {
             Command::Check
         },
+        view: View::Trace,
         workers,
         limit: Options::MOST_LIMIT,
     };

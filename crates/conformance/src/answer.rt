@@ -45,6 +45,8 @@ pub fn notes_of<T: Threads + Wait + Copy + Send + Sync>(
         explains: true,
         strict: false,
         failed: false,
+        keeps: false,
+        run: None,
     };
     let mut output = Vec::new(alloc);
     let _ = run_and_note(rt, alloc, &mut source, &mut output, &mut notes, options);

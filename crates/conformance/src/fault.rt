@@ -24,7 +24,9 @@ pub enum FormatError {
     Workers,
     #[error("a status is a number from 0 to 255")]
     Status,
-    #[error("a block is `input`, `output`, `explained` or `table`")]
+    #[error("`lines` and `json` are blocks of a run")]
+    View,
+    #[error("a block is `input`, `output`, `explained`, `lines`, `json` or `table`")]
     Block,
     #[error("no input")]
     NoInput,

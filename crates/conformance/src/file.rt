@@ -6,7 +6,8 @@ use crate::fault::{FormatError, FormatFault};
 use crate::lines::{Line, Lines, lines_of};
 use crate::section::{CASE, Section, read_section};
 use crate::table::{is_row, read_row};
-use crate::words::{read_words, with_workers};
+use crate::words::{read_words, with_view, with_workers};
+use sdl_engine::View;
 use std::alloc::Global;
 use std::collections::BTreeSet;
 
@@ -48,6 +49,8 @@ fn add_cases(
         Some(table) => add_rows(alloc, section, table, cases),
         None => {
             let case = single_case(alloc, section)?;
+            add_view(alloc, section, &case, View::Lines, cases)?;
+            add_view(alloc, section, &case, View::Json, cases)?;
             add_case(alloc, section, case, cases)
         }
     }
@@ -84,6 +87,53 @@ fn case_with_workers(
         asked,
         input: case.input.clone()?,
         wanted: case.wanted.clone()?,
+        explained: None,
+    })
+}
+
+/// Appends the same run in this view, if its section says how it is told there.
+fn add_view(
+    alloc: Global,
+    section: &Section<'_>,
+    case: &Case,
+    view: View,
+    cases: &mut Vec<Case>,
+) -> Result<(), FormatFault> {
+    let (title, block) = match view {
+        View::Trace => return Ok(()),
+        View::Lines => ("lines", section.blocks.lines),
+        View::Json => ("json", section.blocks.json),
+    };
+    let Some(block) = block else {
+        return Ok(());
+    };
+    let output = text_of(alloc, block, None)?;
+    let told = case_with_view(alloc, section, case, view, title, output)?;
+    cases.push(told)?;
+    Ok(())
+}
+
+/// The same run, told as this output.
+fn case_with_view(
+    alloc: Global,
+    section: &Section<'_>,
+    case: &Case,
+    view: View,
+    title: &str,
+    output: Vec<u8>,
+) -> Result<Case, FormatFault> {
+    let Some(asked) = with_view(case.asked, view) else {
+        return Err(section.fault(FormatError::View));
+    };
+    let name = case.name.as_str();
+    Ok(Case {
+        name: format!(in alloc; "{name}/{title}")?,
+        asked,
+        input: case.input.clone()?,
+        wanted: Answer {
+            status: case.wanted.status,
+            output,
+        },
         explained: None,
     })
 }

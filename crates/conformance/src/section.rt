@@ -39,7 +39,25 @@ pub struct Blocks<'a> {
     pub input: Option<Lines<'a>>,
     pub output: Option<Lines<'a>>,
     pub explained: Option<Lines<'a>>,
+    /// What the run is told as with `--lines`, and with `--json`.
+    pub lines: Option<Lines<'a>>,
+    pub json: Option<Lines<'a>>,
     pub table: Option<Lines<'a>>,
+}
+
+impl<'a> Blocks<'a> {
+    /// The block of this title.
+    fn block(&mut self, title: &[u8]) -> Option<&mut Option<Lines<'a>>> {
+        match title {
+            b"---- input" => Some(&mut self.input),
+            b"---- output" => Some(&mut self.output),
+            b"---- explained" => Some(&mut self.explained),
+            b"---- lines" => Some(&mut self.lines),
+            b"---- json" => Some(&mut self.json),
+            b"---- table" => Some(&mut self.table),
+            _ => None,
+        }
+    }
 }
 
 /// The head of a section: all between its name and the first block.
@@ -142,49 +160,30 @@ fn read_blocks(lines: Lines<'_>) -> Result<Blocks<'_>, FormatFault> {
         input: None,
         output: None,
         explained: None,
+        lines: None,
+        json: None,
         table: None,
     };
     let mut rest = lines;
     while let Some((title, below)) = rest.split_first() {
         let (text, after) = below.split_at_mark(BLOCK);
-        blocks = with_block(blocks, title, text.without_empty_end())?;
+        add_block(&mut blocks, title, text.without_empty_end())?;
         rest = after;
     }
     Ok(blocks)
 }
 
-/// The blocks with one more.
-fn with_block<'a>(
-    blocks: Blocks<'a>,
+fn add_block<'a>(
+    blocks: &mut Blocks<'a>,
     title: Line<'a>,
     text: Lines<'a>,
-) -> Result<Blocks<'a>, FormatFault> {
-    let Blocks {
-        input,
-        output,
-        explained,
-        table,
-    } = blocks;
-    match title.text {
-        b"---- input" if input.is_none() => Ok(Blocks {
-            input: Some(text),
-            ..blocks
-        }),
-        b"---- output" if output.is_none() => Ok(Blocks {
-            output: Some(text),
-            ..blocks
-        }),
-        b"---- explained" if explained.is_none() => Ok(Blocks {
-            explained: Some(text),
-            ..blocks
-        }),
-        b"---- table" if table.is_none() => Ok(Blocks {
-            table: Some(text),
-            ..blocks
-        }),
-        b"---- input" | b"---- output" | b"---- explained" | b"---- table" => {
-            Err(title.fault(FormatError::Twice))
-        }
-        _ => Err(title.fault(FormatError::Block)),
+) -> Result<(), FormatFault> {
+    let Some(block) = blocks.block(title.text) else {
+        return Err(title.fault(FormatError::Block));
+    };
+    if block.is_some() {
+        return Err(title.fault(FormatError::Twice));
     }
+    *block = Some(text);
+    Ok(())
 }

@@ -1,7 +1,7 @@
 //! The words of a command line.
 
 use crate::case::Asked;
-use sdl_engine::{Command, Options};
+use sdl_engine::{Command, Options, View};
 use std::str::SplitWhitespace;
 
 /// Reads the words after the program's name.
@@ -26,15 +26,18 @@ fn check_options(mut words: SplitWhitespace<'_>) -> Option<Options> {
     }
     word.is_none().then_some(Options {
         command: Command::Check,
+        view: View::Trace,
         workers: None,
         limit: Options::DEFAULT_LIMIT,
     })
 }
 
-/// The options of a run by the words after it: its workers, and then its limit. None: they are other words.
+/// The options of a run by the words after it: its workers, its limit, and how it is told, in this order. None: they are
+/// other words.
 fn run_options(mut words: SplitWhitespace<'_>) -> Option<Options> {
     let mut options = Options {
         command: Command::Run,
+        view: View::Trace,
         workers: None,
         limit: Options::DEFAULT_LIMIT,
     };
@@ -50,7 +53,20 @@ fn run_options(mut words: SplitWhitespace<'_>) -> Option<Options> {
         options.limit = limit(number)?;
         word = words.next();
     }
+    if let Some(view) = word.and_then(view) {
+        options.view = view;
+        word = words.next();
+    }
     word.is_none().then_some(options)
+}
+
+/// How a run is told, by the word that asks for it.
+fn view(word: &str) -> Option<View> {
+    match word {
+        "--lines" => Some(View::Lines),
+        "--json" => Some(View::Json),
+        _ => None,
+    }
 }
 
 /// The same asked with as many workers as the word says; none where no run is asked for, or the word says no number of
@@ -62,6 +78,16 @@ pub fn with_workers(asked: Asked, word: &str) -> Option<Asked> {
                 workers: Some(workers(word)?),
                 ..options
             }))
+        }
+        _ => None,
+    }
+}
+
+/// The same asked in this view; none where no run is asked for.
+pub fn with_view(asked: Asked, view: View) -> Option<Asked> {
+    match asked {
+        Asked::Command(options) if options.command == Command::Run => {
+            Some(Asked::Command(Options { view, ..options }))
         }
         _ => None,
     }

@@ -20,7 +20,7 @@ Exit status:
   0  whole: the text was checked, or the run came to its end
   1  the run was cut at its limit
   2  the text is refused, by one line on standard output; --explain says more on standard error
-  3  the run is refused, or a file can't be opened, or reading, writing or memory failed
+  3  the run is refused, or a file can't be opened or written, or reading, writing or memory failed
   4  the command line has a mistake
   6  an instance failed, in a run with --strict
 
@@ -49,7 +49,7 @@ Without --workers the run is serial, and its trace is always the same. With work
 
 Examples:
   sdlrun run --limit 100 < examples/counter.sdl
-  sdlrun run --workers 4 examples/counter.sdl";
+  sdlrun run --lines --chart inres.svg examples/inres.sdl";
 
 /// The program with its commands.
 pub fn command<'a>(alloc: Global) -> Result<Command<'a>, AllocError> {
@@ -73,15 +73,28 @@ fn check<'a>(alloc: Global) -> Result<Command<'a>, AllocError> {
         .arg(quiet(alloc))
 }
 
+/// The command that runs a text, as it tells of its mistakes itself.
+pub fn named_run<'a>(alloc: Global) -> Result<Command<'a>, AllocError> {
+    run(alloc)?.bin_name("sdlrun run")
+}
+
 /// The command that runs a text.
 fn run<'a>(alloc: Global) -> Result<Command<'a>, AllocError> {
     let run = Command::new(alloc, "run")
-        .about("Runs a specification on its script and writes the trace of each instance")
+        .about(
+            "Runs a specification on its script and writes the trace of each instance, or draws the run",
+        )
         .after_help(RUN_HELP);
     run.arg(file(alloc))?
         .arg(script(alloc))?
         .arg(workers(alloc))?
         .arg(limit(alloc))?
+        .arg(lines(alloc)?)?
+        .arg(json(alloc))?
+        .arg(chart(alloc))?
+        .arg(only(alloc)?)?
+        .arg(time(alloc, "from", "Draws nothing before time T")?)?
+        .arg(time(alloc, "until", "Draws nothing after time T")?)?
         .arg(strict(alloc))?
         .arg(explain(alloc))
 }
@@ -122,6 +135,56 @@ fn limit<'a>(alloc: Global) -> Arg<'a> {
         .help("Cuts the run after N transitions, 1 to 1000000000; 1000000 if not given")
         .action(ArgAction::Set)
         .value_parser(ValueParser::unsigned(1, Options::MOST_LIMIT))
+}
+
+/// Whether a run is told in its order.
+fn lines<'a>(alloc: Global) -> Result<Arg<'a>, AllocError> {
+    Arg::new(alloc, "lines")
+        .long("lines")
+        .help("Writes the trace in the order of the run, and what waits or is gone")
+        .action(ArgAction::SetTrue)
+        .conflicts_with("json")
+}
+
+/// Whether a run is told in its order, as JSON.
+fn json<'a>(alloc: Global) -> Arg<'a> {
+    Arg::new(alloc, "json")
+        .long("json")
+        .help("Writes the same as JSON, a line for each transition")
+        .action(ArgAction::SetTrue)
+}
+
+/// The file of a chart.
+fn chart<'a>(alloc: Global) -> Arg<'a> {
+    Arg::new(alloc, "chart")
+        .long("chart")
+        .value_name("NAME")
+        .help(
+            "Draws the run into the file NAME as a message sequence chart: .svg or .html, or .mpr as text of Z.120",
+        )
+        .action(ArgAction::Set)
+}
+
+/// The instances that a picture shows.
+fn only<'a>(alloc: Global) -> Result<Arg<'a>, AllocError> {
+    Arg::new(alloc, "only")
+        .long("only")
+        .value_name("INSTANCES")
+        .help("Draws these instances alone, such as `Initiator,#5`: those of a process, and #5")
+        .action(ArgAction::Append)
+        .value_delimiter(',')
+        .requires_arg("chart")
+}
+
+/// The first or the last time that a picture shows.
+fn time<'a>(alloc: Global, name: &'a str, help: &'a str) -> Result<Arg<'a>, AllocError> {
+    Arg::new(alloc, name)
+        .long(name)
+        .value_name("T")
+        .help(help)
+        .action(ArgAction::Set)
+        .value_parser(ValueParser::unsigned(0, u64::MAX))
+        .requires_arg("chart")
 }
 
 /// Whether nothing is written of a text that is accepted.

@@ -4,9 +4,12 @@
 //! choose what. Options are read within their ranges, so what is chosen can be done as it is.
 #![tactic(auto)]
 
+mod chart;
 mod commands;
+mod mistake;
 mod request;
 mod task;
 
+pub use chart::ChartFile;
 pub use request::{Request, read_command_line};
 pub use task::{InputFile, Task, chosen};

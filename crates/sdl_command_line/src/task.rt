@@ -1,8 +1,11 @@
 //! What is to be done, and which words choose it.
 
-use crate::commands::command;
+use crate::chart::{ChartFile, chart_file};
+use crate::commands::{command, named_run};
+use crate::mistake::Mistake;
+use clap::error::ErrorKind;
 use clap::{ArgMatches, Error};
-use sdl_engine::{Command, Options};
+use sdl_engine::{Command, Options, View};
 use std::alloc::{AllocError, Global};
 
 /// A task: a command with its options, and the text that it is for.
@@ -19,6 +22,8 @@ pub struct Task {
     pub text: InputFile,
     /// A script of its own, which takes the place of the one that follows the specification.
     pub script: Option<InputFile>,
+    /// The chart that is made of a run.
+    pub chart: Option<ChartFile>,
 }
 
 impl Task {
@@ -54,14 +59,28 @@ impl InputFile {
 pub fn chosen(alloc: Global, words: &[String]) -> Result<Task, Error> {
     let command = command(alloc)?;
     let matches = command.try_get_matches_from(words)?;
-    Ok(met_task(alloc, &matches)?)
+    match met_task(alloc, &matches) {
+        Ok(task) => Ok(task),
+        Err(mistake) => Err(told_mistake(alloc, mistake)?),
+    }
+}
+
+/// A mistake of a run, as `clap` tells it.
+fn told_mistake(alloc: Global, mistake: Mistake) -> Result<Error, AllocError> {
+    if mistake == Mistake::Memory {
+        return Err(AllocError);
+    }
+    let text = format!(in alloc; "{mistake}")?;
+    let mut run = named_run(alloc)?;
+    run.error(ErrorKind::ValueValidation, text.as_str())
 }
 
 /// The task of the command that is met.
-fn met_task(alloc: Global, matches: &ArgMatches<'_>) -> Result<Task, AllocError> {
+fn met_task(alloc: Global, matches: &ArgMatches<'_>) -> Result<Task, Mistake> {
     if let Some(run) = matches.subcommand_matches("run") {
         let mut task = task_of(alloc, run_options(run), run)?;
         task.strict = run.get_flag("strict");
+        task.chart = chart_file(alloc, run)?;
         return Ok(task);
     }
     match matches.subcommand_matches("check") {
@@ -78,6 +97,7 @@ fn met_task(alloc: Global, matches: &ArgMatches<'_>) -> Result<Task, AllocError>
             strict: false,
             text: InputFile::StandardInput,
             script: None,
+            chart: None,
         }),
     }
 }
@@ -85,6 +105,7 @@ fn met_task(alloc: Global, matches: &ArgMatches<'_>) -> Result<Task, AllocError>
 /// A check runs nothing, so it has no workers, and no limit of its own.
 const CHECK: Options = Options {
     command: Command::Check,
+    view: View::Trace,
     workers: None,
     limit: Options::DEFAULT_LIMIT,
 };
@@ -96,8 +117,20 @@ fn run_options(run: &ArgMatches<'_>) -> Options {
         .unwrap_or(Options::DEFAULT_LIMIT);
     Options {
         command: Command::Run,
+        view: view_of(run),
         workers: workers_of(run),
         limit,
+    }
+}
+
+/// How a run is told.
+fn view_of(run: &ArgMatches<'_>) -> View {
+    if run.get_flag("lines") {
+        View::Lines
+    } else if run.get_flag("json") {
+        View::Json
+    } else {
+        View::Trace
     }
 }
 
@@ -124,6 +157,7 @@ fn task_of(alloc: Global, options: Options, named: &ArgMatches<'_>) -> Result<Ta
         strict: false,
         text,
         script,
+        chart: None,
     })
 }
 

@@ -6,15 +6,15 @@ use Rattle.sdl_input.specs.declared.input.Input.{Input}
 use Rattle.sdl_input.specs.declared.input.Input.TheVariants.{Held, TooLong}
 use Rattle.sdl_input.specs.declared.texts.Texts.{Texts}
 use Rattle.sdl_report.specs.Gathered as gathered
-use Rattle.sdl_report.specs.ReportText.{report_text}
 use Rattle.sdl_report.specs.declared.write_whole.WriteFault.{WriteFault}
 use Rattle.sdl_report.specs.declared.write_whole.WriteFault.TheVariants as written
 use Rattle.run_record.specs.declared.record.Report.{Report}
 use Rattle.run_record.specs.declared.run_error.RunError.{RunError}
 use Rattle.run_record.specs.declared.run_error.RunError.TheVariants as run
 use Rattle.sdl_system.specs.System.{SystemValue}
-use Rattle.sdl_engine.specs.Answer.{Allows, AllowsOfRun, BreaksOff, FailsToTell, Faulted, Fails, IsRunOfInput, IsRunRefused, PrintsInput, Refuses, Says, SaysCut, SaysWhole, Tells, Written, fault_of, outcome_by, outcome_of}
+use Rattle.sdl_engine.specs.Answer.{Allows, AllowsOfRun, BreaksOff, BreaksOffRun, BreaksOffTelling, FailsToTell, FailsToTellRun, Faulted, Fails, IsRunOfInput, IsRunRefused, PrintsInput, Refuses, Says, SaysCut, SaysWhole, Tells, TellsRun, Written, fault_of, outcome_by, outcome_of}
 use Rattle.sdl_engine.specs.RefusalText.{refusal_line}
+use Rattle.sdl_engine.specs.Views.{IsTold}
 use Rattle.sdl_engine.specs.declared.options.Command.{Command}
 use Rattle.sdl_engine.specs.declared.options.Command.TheVariants as command
 use Rattle.sdl_engine.specs.declared.options.Options.{Options}
@@ -22,37 +22,40 @@ use Rattle.sdl_engine.specs.declared.options.Outcome.{Outcome}
 use Rattle.sdl_engine.specs.declared.options.Outcome.TheVariants as outcome
 use Rattle.sdl_engine.specs.declared.options.TextFault.{TextFault}
 use Rattle.sdl_engine.specs.declared.options.TextFault.TheVariants as fault
+use Rattle.sdl_engine.specs.declared.options.View.{View}
 use Rattle.sdl_engine.specs.declared.refusal.Refusal.{Refusal}
 use Rattle.sdl_engine.specs.declared.refusal.Refusal.TheVariants as refusal
 
--- the report of a run is what is said of its input
-pub report_says : (input : Input) (options : Options) (workers : Option ℕ) (system : SystemValue) (report : Report)
-    (whole : Bool) → options.command ≡ command.Run → options.workers ≡ workers → report.whole ≡ whole →
-    IsRunOfInput input workers options.limit system report →
-    Says input options (outcome_by whole) (report_text system report)
-report_says (Held texts) options workers system report true asked by is run =
-    subst (λ c. SaysWhole c options.workers texts options.limit (report_text system report)) (sym asked) (record {
+-- what tells a run is what is said of its input
+pub run_says : (input : Input) (options : Options) (workers : Option ℕ) (system : SystemValue) (report : Report)
+    (sent : ℕ) (whole : Bool) (text : List ℕ) → options.command ≡ command.Run → options.workers ≡ workers →
+    report.whole ≡ whole → IsRunOfInput input workers options.limit system report sent →
+    IsTold options.view system report sent text → Says input options (outcome_by whole) text
+run_says (Held texts) options workers system report sent true text asked by is run told =
+    subst (λ c. SaysWhole c options.workers texts options.limit options.view text) (sym asked) (record {
       system = system;
       report = report;
-      run = subst (λ w. IsRunOfInput (Held texts) w options.limit system report) (sym by) run;
+      sent = sent;
+      run = subst (λ w. IsRunOfInput (Held texts) w options.limit system report sent) (sym by) run;
       is_whole = is;
-      says = refl;
+      says = told;
     })
-report_says (Held texts) options workers system report false asked by is run =
-    subst (λ c. SaysCut c options.workers texts options.limit (report_text system report)) (sym asked) (record {
+run_says (Held texts) options workers system report sent false text asked by is run told =
+    subst (λ c. SaysCut c options.workers texts options.limit options.view text) (sym asked) (record {
       system = system;
       report = report;
-      run = subst (λ w. IsRunOfInput (Held texts) w options.limit system report) (sym by) run;
+      sent = sent;
+      run = subst (λ w. IsRunOfInput (Held texts) w options.limit system report sent) (sym by) run;
       is_whole = is;
-      says = refl;
+      says = told;
     })
-report_says TooLong options workers system report whole asked by is run = absurd run
+run_says TooLong options workers system report sent whole text asked by is run told = absurd run
 
 -- so is the canonical text of its specification
 pub canonical_says : (input : Input) (options : Options) (text : List ℕ) → options.command ≡ command.Check →
     PrintsInput input text → Says input options outcome.Whole text
 canonical_says (Held texts) options text asked prints =
-    subst (λ c. SaysWhole c options.workers texts options.limit text) (sym asked) prints
+    subst (λ c. SaysWhole c options.workers texts options.limit options.view text) (sym asked) prints
 canonical_says TooLong options text asked prints = absurd prints
 
 -- and the line of a refusal
@@ -192,3 +195,67 @@ pub faulted_by : (text : Option (List ℕ)) (script : Option (Option (List ℕ))
 faulted_by text script old new input options (Ok how) read off = tt
 faulted_by text script old new input options (Err why) read off =
     faulted text script old new input options why read off
+
+-- ---- a run
+
+pub run_tells : (input : Input) (options : Options) (workers : Option ℕ) (system : SystemValue) (report : Report)
+    (sent : ℕ) (old new : Option (List ℕ)) (r : Result Outcome TextFault) → options.command ≡ command.Run →
+    options.workers ≡ workers → IsRunOfInput input workers options.limit system report sent →
+    IfOk r (λ how. how ≡ outcome_by report.whole) → OnOk r (TellsRun options.view system report sent old new) →
+    IfOk r (λ how. Tells input options how old new)
+run_tells input options workers system report sent old new (Ok how) asked by run is tells = record {
+  text = tells.text;
+  says = subst (λ o. Says input options o tells.text) (sym is)
+      (run_says input options workers system report sent report.whole tells.text asked by refl run tells.says);
+  out = tells.out;
+}
+run_tells input options workers system report sent old new (Err why) asked by run is tells = tt
+
+breaks_off_run : (input : Input) (options : Options) (workers : Option ℕ) (system : SystemValue) (report : Report)
+    (sent : ℕ) (old new : Option (List ℕ)) → options.command ≡ command.Run → options.workers ≡ workers →
+    IsRunOfInput input workers options.limit system report sent →
+    BreaksOffRun options.view system report sent old new → BreaksOffTelling input options old new
+breaks_off_run input options workers system report sent old new asked by run off = record {
+  how = outcome_by report.whole;
+  text = off.text;
+  says = run_says input options workers system report sent report.whole off.text asked by refl run off.says;
+  breaks = off.breaks;
+}
+
+run_fails' : (input : Input) (options : Options) (workers : Option ℕ) (system : SystemValue) (report : Report)
+    (sent : ℕ) (old new : Option (List ℕ)) (why : TextFault) → options.command ≡ command.Run →
+    options.workers ≡ workers → IsRunOfInput input workers options.limit system report sent →
+    FailsToTellRun why options.view system report sent old new → Fails why input options old new
+run_fails' input options workers system report sent old new fault.Read asked by run off = absurd off
+run_fails' input options workers system report sent old new fault.Write asked by run off =
+    breaks_off_run input options workers system report sent old new asked by run off
+run_fails' input options workers system report sent old new fault.Memory asked by run off = elim off [
+  | inl kept ↦ inl kept
+  | inr broken ↦ inr (breaks_off_run input options workers system report sent old new asked by run broken)
+]
+
+pub run_fails : (input : Input) (options : Options) (workers : Option ℕ) (system : SystemValue) (report : Report)
+    (sent : ℕ) (old new : Option (List ℕ)) (r : Result Outcome TextFault) → options.command ≡ command.Run →
+    options.workers ≡ workers → IsRunOfInput input workers options.limit system report sent →
+    IfErr r (λ why. FailsToTellRun why options.view system report sent old new) →
+    IfErr r (λ why. Fails why input options old new)
+run_fails input options workers system report sent old new (Ok how) asked by run off = tt
+run_fails input options workers system report sent old new (Err why) asked by run off =
+    run_fails' input options workers system report sent old new why asked by run off
+
+-- ---- a view
+
+-- what went out of a text that tells a run, before a fault of writing it
+pub view_fails : (why : WriteFault) (view : View) (system : SystemValue) (report : Report) (sent : ℕ)
+    (text : List ℕ) (old new : Option (List ℕ)) → IsTold view system report sent text →
+    gathered.BreaksOff old new text → FailsToTellRun (fault_of why) view system report sent old new
+view_fails written.Write view system report sent text old new told off = record {
+  text = text;
+  says = told;
+  breaks = off;
+}
+view_fails written.Memory view system report sent text old new told off = inr (record {
+  text = text;
+  says = told;
+  breaks = off;
+})

@@ -16,7 +16,6 @@ use Rattle.sdl_parse.specs.Parser as parser
 use Rattle.sdl_parse.specs.declared.error.ParseError.{ParseError}
 use Rattle.sdl_parse.specs.declared.error.ParseError.TheVariants as parse
 use Rattle.sdl_report.specs.Gathered as gathered
-use Rattle.sdl_report.specs.ReportText.{report_text}
 use Rattle.sdl_report.specs.declared.write_whole.WriteFault.{WriteFault}
 use Rattle.sdl_report.specs.declared.write_whole.WriteFault.TheVariants as written
 use Rattle.run_record.specs.declared.record.Report.{Report}
@@ -34,6 +33,7 @@ use Rattle.sdl_tree.specs.Tree.{Tree}
 use Rattle.settle_meaning.specs.Report.{IsSettled}
 use Rattle.sdl_engine.specs.Behaviours.{AreOfText}
 use Rattle.sdl_engine.specs.RefusalText.{refusal_line}
+use Rattle.sdl_engine.specs.Views.{IsTold, signals_of}
 use Rattle.sdl_engine.specs.declared.options.Command.{Command}
 use Rattle.sdl_engine.specs.declared.options.Command.TheVariants as command
 use Rattle.sdl_engine.specs.declared.options.Options.{Options}
@@ -41,6 +41,8 @@ use Rattle.sdl_engine.specs.declared.options.Outcome.{Outcome}
 use Rattle.sdl_engine.specs.declared.options.Outcome.TheVariants as outcome
 use Rattle.sdl_engine.specs.declared.options.TextFault.{TextFault}
 use Rattle.sdl_engine.specs.declared.options.TextFault.TheVariants as fault
+use Rattle.sdl_engine.specs.declared.options.View.{View}
+use Rattle.sdl_engine.specs.declared.options.View.TheVariants as views
 use Rattle.sdl_engine.specs.declared.refusal.Refusal.{Refusal}
 use Rattle.sdl_engine.specs.declared.refusal.Refusal.TheVariants as refusal
 
@@ -64,23 +66,26 @@ IsReportBy None ps system lines limit report = IsSerialReport ps system lines li
 IsReportBy (Some workers) ps system lines limit report = IsSettled ps system lines limit report
 
 -- The report is that of a run of the system of an accepted input on its script, cut at the limit if it comes to that: so
--- for all behaviours that the texts of the processes have, and they have some.
-pub record IsRunOf (texts : Texts) (workers : Option ℕ) (limit : ℕ) (system : SystemValue)
-    (report : Report) : Type 0 where
+-- for all behaviours that the texts of the processes have, and they have some. The script has so many signals.
+pub record IsRunOf (texts : Texts) (workers : Option ℕ) (limit : ℕ) (system : SystemValue) (report : Report)
+    (sent : ℕ) : Type 0 where
   pub tree : Tree
   pub lines : List ScriptLine
   pub accepted : IsAccepted texts tree system lines
   pub behaves : (ps : List Behaviour) × AreOfText accepted.built.context system ps
   pub ran : (ps : List Behaviour) → AreOfText accepted.built.context system ps
       → IsReportBy workers ps system lines limit report
+  pub signals : sent ≡ signals_of lines
 
--- the text of the report of such a run, of one that is whole or of one that was cut
-pub record Reports (texts : Texts) (workers : Option ℕ) (limit : ℕ) (whole : Bool) (text : List ℕ) : Type 0 where
+-- the text that tells the report of such a run, of one that is whole or of one that was cut
+pub record Reports (texts : Texts) (workers : Option ℕ) (limit : ℕ) (view : View) (whole : Bool)
+    (text : List ℕ) : Type 0 where
   pub system : SystemValue
   pub report : Report
-  pub run : IsRunOf texts workers limit system report
+  pub sent : ℕ
+  pub run : IsRunOf texts workers limit system report sent
   pub is_whole : report.whole ≡ whole
-  pub says : text ≡ report_text system report
+  pub says : IsTold view system report sent text
 
 -- the canonical text of the tree of an accepted input
 pub record Prints (texts : Texts) (text : List ℕ) : Type 0 where
@@ -95,6 +100,10 @@ pub record Prints (texts : Texts) (text : List ℕ) : Type 0 where
 -- No thread is asked for: a run has no workers. A check has no use for them.
 abbrev pub IsSerial : Options → Type 0
 IsSerial options = options.command ≡ command.Run → options.workers ≡ None
+
+-- Notes have nothing to say of the order: it is asked for of a run alone, and the trace doesn't tell it.
+abbrev pub TellsNoOrder : Options → Type 0
+TellsNoOrder options = options.command ≡ command.Run → options.view ≡ views.Trace
 
 -- ---- refused
 
@@ -173,19 +182,21 @@ pub record Refuses (asked : Command) (workers : Option ℕ) (input : Input) (ref
 -- ---- what is written
 
 -- what is written of these texts where they are accepted: of a check the canonical text, of a run its report
-abbrev pub SaysWhole : Command → Option ℕ → Texts → ℕ → List ℕ → Type 0
-SaysWhole command.Check workers texts limit text = Prints texts text
-SaysWhole command.Run workers texts limit text = Reports texts workers limit true text
+abbrev pub SaysWhole : Command → Option ℕ → Texts → ℕ → View → List ℕ → Type 0
+SaysWhole command.Check workers texts limit view text = Prints texts text
+SaysWhole command.Run workers texts limit view text = Reports texts workers limit view true text
 
 -- the report of a run that was cut; a check is never cut
-abbrev pub SaysCut : Command → Option ℕ → Texts → ℕ → List ℕ → Type 0
-SaysCut command.Check workers texts limit text = ⊥
-SaysCut command.Run workers texts limit text = Reports texts workers limit false text
+abbrev pub SaysCut : Command → Option ℕ → Texts → ℕ → View → List ℕ → Type 0
+SaysCut command.Check workers texts limit view text = ⊥
+SaysCut command.Run workers texts limit view text = Reports texts workers limit view false text
 
 -- what is written of this input, by the outcome
 abbrev pub Says : Input → Options → Outcome → List ℕ → Type 0
-Says (Held texts) options outcome.Whole text = SaysWhole options.command options.workers texts options.limit text
-Says (Held texts) options outcome.Cut text = SaysCut options.command options.workers texts options.limit text
+Says (Held texts) options outcome.Whole text =
+    SaysWhole options.command options.workers texts options.limit options.view text
+Says (Held texts) options outcome.Cut text =
+    SaysCut options.command options.workers texts options.limit options.view text
 Says TooLong options outcome.Whole text = ⊥
 Says TooLong options outcome.Cut text = ⊥
 Says input options outcome.TextRefused text =
@@ -240,9 +251,9 @@ PrintsInput (Held texts) text = Prints texts text
 PrintsInput TooLong text = ⊥
 
 -- the run of an input
-abbrev pub IsRunOfInput : Input → Option ℕ → ℕ → SystemValue → Report → Type 0
-IsRunOfInput (Held texts) workers limit system report = IsRunOf texts workers limit system report
-IsRunOfInput TooLong workers limit system report = ⊥
+abbrev pub IsRunOfInput : Input → Option ℕ → ℕ → SystemValue → Report → ℕ → Type 0
+IsRunOfInput (Held texts) workers limit system report sent = IsRunOf texts workers limit system report sent
+IsRunOfInput TooLong workers limit system report sent = ⊥
 
 -- whether a report is whole, as an outcome
 abbrev pub outcome_by : Bool → Outcome
@@ -259,6 +270,27 @@ abbrev pub BreaksOff : TextFault → List ℕ → Option (List ℕ) → Option (
 BreaksOff fault.Read text old new = ⊥
 BreaksOff fault.Write text old new = gathered.BreaksOff old new text
 BreaksOff fault.Memory text old new = gathered.BreaksOff old new text
+
+-- the text that tells a run went out
+pub record TellsRun (view : View) (system : SystemValue) (report : Report) (sent : ℕ)
+    (old new : Option (List ℕ)) : Type 0 where
+  pub text : List ℕ
+  pub says : IsTold view system report sent text
+  pub out : Appends old new text
+
+-- a beginning of the text that tells a run went out, and not all of it
+pub record BreaksOffRun (view : View) (system : SystemValue) (report : Report) (sent : ℕ)
+    (old new : Option (List ℕ)) : Type 0 where
+  pub text : List ℕ
+  pub says : IsTold view system report sent text
+  pub breaks : gathered.BreaksOff old new text
+
+-- what went out of a run before this fault: nothing, where there was no memory for its order
+abbrev pub FailsToTellRun : TextFault → View → SystemValue → Report → ℕ → Option (List ℕ) → Option (List ℕ) → Type 0
+FailsToTellRun fault.Read view system report sent old new = ⊥
+FailsToTellRun fault.Write view system report sent old new = BreaksOffRun view system report sent old new
+FailsToTellRun fault.Memory view system report sent old new =
+    Keeps old new ⊎ BreaksOffRun view system report sent old new
 
 -- what went out of the line of a refusal, which is made first: nothing, where there was no memory to make it
 abbrev pub FailsToTell : TextFault → List ℕ → Option (List ℕ) → Option (List ℕ) → Type 0

@@ -1,3 +1,4 @@
 pub mod Answer
 pub mod Behaviours
 pub mod RefusalText
+pub mod Views

@@ -1,23 +1,22 @@
-//! What is written of a text: a report, a canonical text, or the line of a refusal.
+//! What is written of a text: its run, a canonical text, or the line of a refusal.
 
 ghost use Rattle.std.specs.Prelude.{◌≡◌, ◌≢◌, IfOk, IfErr, OnOk, false};
 ghost use Rattle.std.specs.Io.KnownBytes.{Appends, Keeps};
-ghost use Rattle.sdl_report.specs.ReportText.{report_text};
-ghost use Rattle.sdl_engine.specs.Answer.{BreaksOff, FailsToTell, outcome_by, outcome_of};
+ghost use Rattle.sdl_engine.specs.Answer.{BreaksOff, FailsToTell, FailsToTellRun, TellsRun, outcome_by, outcome_of};
 ghost use Rattle.sdl_engine.specs.RefusalText.{refusal_line};
 
 use crate::notes::{Notes, note_run};
-use crate::options::{Options, Outcome, TextFault};
-use crate::pipeline::Run;
+use crate::options::{Options, Outcome, TextFault, View};
 use crate::refusal::Refusal;
 use crate::refusal_text::{fixed_line, refusal_line};
-use sdl_report::{write_report, write_text};
+use crate::run::Run;
+use crate::views::{write_view, write_view_by_workers};
+use sdl_report::write_text;
 use std::alloc::Global;
 use std::io::Write;
 use std::thread::Threads;
-use threads_report::write_report_by_workers;
 
-/// Writes the report of a run, and then notes what there is to say of it.
+/// Writes a run in the view that is asked for, and then notes what there is to say of it.
 pub fn report<W: Write, N: Write>(
     alloc: Global,
     run: &Run,
@@ -26,31 +25,21 @@ pub fn report<W: Write, N: Write>(
     options: &Options,
 ) -> Result<Outcome, TextFault>
     ensures how { IfOk result (λ how. how ≡ outcome_by run.now.report.whole) }
-    ensures ok { OnOk result (Appends (W.contents writer.old) (W.contents writer.new)
-        (report_text run.now.system run.now.report)) }
-    ensures err { IfErr result (λ fault. BreaksOff fault (report_text run.now.system run.now.report)
+    ensures ok { OnOk result (TellsRun options.now.view run.now.system run.now.report run.now.sent
         (W.contents writer.old) (W.contents writer.new)) }
-    ensures quiet { result ≢ Ok Outcome.Cut → notes.old.strict ≡ false →
+    ensures err { IfErr result (λ fault. FailsToTellRun fault options.now.view run.now.system run.now.report
+        run.now.sent (W.contents writer.old) (W.contents writer.new)) }
+    ensures quiet { result ≢ Ok Outcome.Cut → notes.old.strict ≡ false → options.now.view ≡ View.Trace →
         Keeps (N.contents notes.old.writer) (N.contents notes.new.writer) }
 {
-    let outcome = write_run(alloc, run, writer)?;
-    note_run(alloc, run, options, outcome, notes);
+    let stuck = write_view(alloc, run, options.view, writer)?;
+    let outcome = outcome(run.report.whole);
+    note_run(alloc, run, options, outcome, stuck, notes);
     Ok(outcome)
 }
 
-/// Writes the report of a run.
-fn write_run<W: Write>(alloc: Global, run: &Run, writer: &mut W) -> Result<Outcome, TextFault>
-    ensures how { IfOk result (λ how. how ≡ outcome_by run.now.report.whole) }
-    ensures ok { OnOk result (Appends (W.contents writer.old) (W.contents writer.new)
-        (report_text run.now.system run.now.report)) }
-    ensures err { IfErr result (λ fault. BreaksOff fault (report_text run.now.system run.now.report)
-        (W.contents writer.old) (W.contents writer.new)) }
-{
-    write_report(alloc, &run.report, &run.system, writer)?;
-    Ok(outcome(run.report.whole))
-}
-
-/// Writes the report of a run, whose text so many workers make, and then notes what there is to say of it.
+/// Writes a run in the view that is asked for; so many workers make the text of its report. Then it notes what there is
+/// to say of it.
 pub fn report_by_workers<T: Threads + Sync, W: Write, N: Write>(
     rt: &T,
     alloc: Global,
@@ -61,35 +50,17 @@ pub fn report_by_workers<T: Threads + Sync, W: Write, N: Write>(
     options: &Options,
 ) -> Result<Outcome, TextFault>
     ensures how { IfOk result (λ how. how ≡ outcome_by run.now.report.whole) }
-    ensures ok { OnOk result (Appends (W.contents writer.old) (W.contents writer.new)
-        (report_text run.now.system run.now.report)) }
-    ensures err { IfErr result (λ fault. BreaksOff fault (report_text run.now.system run.now.report)
+    ensures ok { OnOk result (TellsRun options.now.view run.now.system run.now.report run.now.sent
         (W.contents writer.old) (W.contents writer.new)) }
-    ensures quiet { result ≢ Ok Outcome.Cut → notes.old.strict ≡ false →
+    ensures err { IfErr result (λ fault. FailsToTellRun fault options.now.view run.now.system run.now.report
+        run.now.sent (W.contents writer.old) (W.contents writer.new)) }
+    ensures quiet { result ≢ Ok Outcome.Cut → notes.old.strict ≡ false → options.now.view ≡ View.Trace →
         Keeps (N.contents notes.old.writer) (N.contents notes.new.writer) }
 {
-    let outcome = write_run_by_workers(rt, alloc, workers, run, writer)?;
-    note_run(alloc, run, options, outcome, notes);
+    let stuck = write_view_by_workers(rt, alloc, workers, run, options.view, writer)?;
+    let outcome = outcome(run.report.whole);
+    note_run(alloc, run, options, outcome, stuck, notes);
     Ok(outcome)
-}
-
-/// Writes the report of a run, whose text so many workers make.
-fn write_run_by_workers<T: Threads + Sync, W: Write>(
-    rt: &T,
-    alloc: Global,
-    workers: u8,
-    run: &Run,
-    writer: &mut W,
-) -> Result<Outcome, TextFault>
-    ensures how { IfOk result (λ how. how ≡ outcome_by run.now.report.whole) }
-    ensures ok { OnOk result (Appends (W.contents writer.old) (W.contents writer.new)
-        (report_text run.now.system run.now.report)) }
-    ensures err { IfErr result (λ fault. BreaksOff fault (report_text run.now.system run.now.report)
-        (W.contents writer.old) (W.contents writer.new)) }
-{
-    let workers = usize::from(workers);
-    write_report_by_workers(rt, alloc, workers, &run.report, &run.system, writer)?;
-    Ok(outcome(run.report.whole))
 }
 
 /// The outcome of a run, by whether its report is whole.

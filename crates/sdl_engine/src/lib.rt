@@ -1,28 +1,34 @@
 //! The whole tool over any reader and writer: `run_text` reads a specification with its script, and writes the
-//! canonical text, the report of a run, or the one line that refuses the text. `run_and_note` does the same for a text
-//! and a script of its own, and tells a human more: why a text is refused, what cut a run, which instances failed.
+//! canonical text, a run, or the one line that refuses the text. A run is told by its report, or in its order, as lines
+//! or as JSON. `run_and_note` does the same for a text and a script of its own, and tells a human more: why a text is
+//! refused, what cut a run, which instances failed.
 //! `run_text_serially` and `run_and_note_serially` do it without threads, so they always return.
 //!
 //! The theorem of the tool is the contract of `run_text`; the other three have the same clauses. What is below it: an
-//! input that is read (`reading`), the way from there to a text or a report (`pipeline`), what is written of either
-//! (`answer`), and what a human is told beside (`notes`, `explained`).
+//! input that is read (`reading`), the way from there to a text or a run (`pipeline`), what is written of either
+//! (`answer`), of a run by the view (`views`, `order`), and what a human is told beside (`notes`, `explained`).
 #![tactic(auto)]
 
 mod answer;
 mod explained;
 mod notes;
 mod options;
+mod order;
 mod pipeline;
 mod reading;
 mod refusal;
 mod refusal_text;
+mod run;
 mod serial;
 mod text;
+mod views;
 
 pub use notes::{Names, Notes};
-pub use options::{Command, Options, Outcome, TextFault};
+pub use options::{Command, Options, Outcome, TextFault, View};
+pub use order::{Order, order_of};
 pub use refusal::Refusal;
 pub use refusal_text::{fixed_line, refusal_line};
+pub use run::Run;
 pub use sdl_input::Source;
 pub use serial::{run_and_note_serially, run_text_serially};
 pub use text::{run_and_note, run_text};

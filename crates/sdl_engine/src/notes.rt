@@ -1,11 +1,12 @@
-//! What a human is told beside the answer: why a text is refused, what cut a run, and which instances failed.
+//! What a human is told beside the answer: why a text is refused, what cut a run, which instances failed, and from where
+//! on the order of a run isn't known. And the run itself, for those who draw it.
 
-ghost use Rattle.std.specs.Prelude.{◌≡◌, ◌≢◌, false};
+ghost use Rattle.std.specs.Prelude.{◌≡◌, ◌≢◌, None, Some, false, true};
 ghost use Rattle.std.specs.Io.KnownBytes.{Keeps};
 
 use crate::explained::explanation_of;
 use crate::options::{Options, Outcome, TextFault};
-use crate::pipeline::Run;
+use crate::run::Run;
 use run_record::{Entry, Failure, Record, Report};
 use sdl_input::Input;
 use sdl_report::write_text;
@@ -38,6 +39,10 @@ pub struct Notes<'n, N> {
     pub strict: bool,
     /// Whether an instance failed, as far as failures are told.
     pub failed: bool,
+    /// Whether the run is kept for those who draw it.
+    pub keeps: bool,
+    /// The run of an input that is accepted, if it is kept.
+    pub run: Option<Run>,
 }
 
 /// Notes that tell nothing.
@@ -51,6 +56,8 @@ pub fn silent_notes() -> Notes<'static, Empty> {
         explains: false,
         strict: false,
         failed: false,
+        keeps: false,
+        run: None,
     }
 }
 
@@ -77,19 +84,45 @@ pub fn note_refusal<N: Write>(
     }
 }
 
-/// Tells each failure of an instance, if that is asked for, and what cut a run that came to this.
+/// Tells each failure of an instance, if that is asked for, what cut a run that came to this, and from which instance on
+/// its order isn't known.
 pub fn note_run<N: Write>(
     alloc: Global,
     run: &Run,
     options: &Options,
     outcome: Outcome,
+    stuck: Option<u32>,
     notes: &mut Notes<'_, N>,
 )
-    ensures { outcome ≢ Outcome.Cut → notes.old.strict ≡ false →
+    ensures { outcome ≢ Outcome.Cut → notes.old.strict ≡ false → stuck ≡ None →
         Keeps (N.contents notes.old.writer) (N.contents notes.new.writer) }
 {
     note_failures(alloc, run, notes);
     note_cut(alloc, run, options, outcome, notes);
+    note_stuck(alloc, stuck, notes);
+}
+
+/// Keeps a run for those who draw it, if that is asked for.
+pub fn keep_run<N: Write>(run: Run, notes: &mut Notes<'_, N>)
+    ensures kept { notes.old.keeps ≡ true → notes.new ≡ record notes.old { run = Some run } }
+    ensures asked { notes.old.keeps ≡ false → notes.new ≡ notes.old }
+    ensures quiet { Keeps (N.contents notes.old.writer) (N.contents notes.new.writer) }
+{
+    if notes.keeps {
+        notes.run = Some(run);
+    }
+}
+
+/// Tells from which instance on the order of a run isn't known, if there is one.
+fn note_stuck<N: Write>(alloc: Global, stuck: Option<u32>, notes: &mut Notes<'_, N>)
+    ensures { stuck ≡ None → Keeps (N.contents notes.old.writer) (N.contents notes.new.writer) }
+{
+    let Some(number) = stuck else {
+        return;
+    };
+    if let Ok(text) = stuck_text(alloc, number) {
+        let _ = write_text(&mut notes.writer, text.as_str().as_bytes());
+    }
 }
 
 /// Tells what cut a run that came to this.
@@ -131,6 +164,11 @@ fn cut_text(alloc: Global, report: &Report, limit: u64) -> Result<String, AllocE
     format!(in alloc;
         "sdlrun: cut after {limit} transitions at time {end}; --limit shows less, or more\n"
     )
+}
+
+/// What is said of an order that isn't known from this instance on.
+fn stuck_text(alloc: Global, number: u32) -> Result<String, AllocError> {
+    format!(in alloc; "sdlrun: the order isn't known from instance #{number} on\n")
 }
 
 /// Tells each failure of an instance.

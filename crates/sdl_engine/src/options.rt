@@ -15,10 +15,23 @@ pub enum Command {
     Run,
 }
 
+/// How a run is told.
+#[derive(Clone, Copy, Debug, PartialEq, Eq)]
+pub enum View {
+    /// The report: what each instance did.
+    Trace,
+    /// The lines of the report in the order of the run.
+    Lines,
+    /// A JSON object for each transition, in the order of the run.
+    Json,
+}
+
 /// The command for a text, and how it is carried out.
 #[derive(Clone, Copy, Debug, PartialEq, Eq)]
 pub struct Options {
     pub command: Command,
+    /// How a run is told. A check has no use for it.
+    pub view: View,
     /// How many worker threads run the instances, from 1 to 16. None: the run is serial. A check starts none.
     pub workers: Option<u8>,
     /// The number of transitions at which a run is cut, from 1 to 1,000,000,000.

@@ -1,12 +1,14 @@
 //! An input taken, checked and run: from its bytes to the canonical text of its specification, or to a report.
 
-ghost use Rattle.std.specs.Prelude.{IfOk, IfErr, None, Some};
+ghost use Rattle.std.specs.Prelude.{◌≡◌, IfOk, IfErr, None, Some};
 ghost use Rattle.std.specs.String.{string_bytes};
 ghost use Rattle.sdl_tree.specs.Views.{tree_value};
 ghost use Rattle.sdl_engine.specs.Answer.{Allows, AllowsOf, IsAccepted, IsRunOf, IsRunOfInput, IsTextRefused, Prints, PrintsInput};
+ghost use Rattle.sdl_engine.specs.Views.{signals_of};
 
 use crate::options::Command;
 use crate::refusal::Refusal;
+use crate::run::{Run, signals_of};
 use run_record::Report;
 use sdl_build::build;
 use sdl_input::{Input, Texts};
@@ -27,6 +29,23 @@ struct Accepted {
     tree: Tree,
     system: System,
     script: Script,
+}
+
+impl Accepted {
+    /// Its run, of which this is the report.
+    fn into_run(self, report: Report) -> Run
+        ensures system { result.system ≡ self.system }
+        ensures report { result.report ≡ report }
+        ensures sent { result.sent ≡ signals_of self.script.lines.items }
+    {
+        let sent = signals_of(&self.script);
+        Run {
+            tree: self.tree,
+            system: self.system,
+            report,
+            sent,
+        }
+    }
 }
 
 /// Takes an input: its tokens and tree, its system and its script, in this order. The first fault refuses it.
@@ -77,16 +96,9 @@ fn check_texts(alloc: Global, texts: &Texts) -> Result<String, Refusal>
     }
 }
 
-/// A system and what its run did.
-#[derive(Drop)]
-pub struct Run {
-    pub system: System,
-    pub report: Report,
-}
-
 /// The serial run of an input, cut after so many transitions, or why there is none.
 pub fn run_input(alloc: Global, input: &Input, limit: u64) -> Result<Run, Refusal>
-    ensures ok { IfOk result (λ run. IsRunOfInput input.now None limit run.system run.report) }
+    ensures ok { IfOk result (λ run. IsRunOfInput input.now None limit run.system run.report run.sent) }
     ensures err { IfErr result (Allows Command.Run None input.now) }
 {
     match input {
@@ -96,15 +108,12 @@ pub fn run_input(alloc: Global, input: &Input, limit: u64) -> Result<Run, Refusa
 }
 
 fn run_texts(alloc: Global, texts: &Texts, limit: u64) -> Result<Run, Refusal>
-    ensures ok { IfOk result (λ run. IsRunOf texts.now None limit run.system run.report) }
+    ensures ok { IfOk result (λ run. IsRunOf texts.now None limit run.system run.report run.sent) }
     ensures err { IfErr result (AllowsOf Command.Run None texts.now) }
 {
     let accepted = accept(alloc, texts)?;
     match run_serial(alloc, &accepted.system, &accepted.script, limit) {
-        Ok(report) => Ok(Run {
-            system: accepted.system,
-            report,
-        }),
+        Ok(report) => Ok(accepted.into_run(report)),
         Err(error) => Err(Refusal::Run(error)),
     }
 }
@@ -117,7 +126,7 @@ pub fn run_input_by_workers<T: Threads + Wait + Copy + Send + Sync>(
     workers: u8,
     limit: u64,
 ) -> Result<Run, Refusal>
-    ensures ok { IfOk result (λ run. IsRunOfInput input.now (Some workers) limit run.system run.report) }
+    ensures ok { IfOk result (λ run. IsRunOfInput input.now (Some workers) limit run.system run.report run.sent) }
     ensures err { IfErr result (Allows Command.Run (Some workers) input.now) }
 {
     match input {
@@ -133,7 +142,7 @@ fn run_texts_by_workers<T: Threads + Wait + Copy + Send + Sync>(
     workers: u8,
     limit: u64,
 ) -> Result<Run, Refusal>
-    ensures ok { IfOk result (λ run. IsRunOf texts.now (Some workers) limit run.system run.report) }
+    ensures ok { IfOk result (λ run. IsRunOf texts.now (Some workers) limit run.system run.report run.sent) }
     ensures err { IfErr result (AllowsOf Command.Run (Some workers) texts.now) }
 {
     let accepted = accept(alloc, texts)?;
@@ -147,10 +156,7 @@ fn run_texts_by_workers<T: Threads + Wait + Copy + Send + Sync>(
         limit,
         &Open,
     ) {
-        Ok(report) => Ok(Run {
-            system: accepted.system,
-            report,
-        }),
+        Ok(report) => Ok(accepted.into_run(report)),
         Err(error) => Err(Refusal::Run(error)),
     }
 }

@@ -2,10 +2,10 @@
 
 ghost use Rattle.std.specs.Prelude.{◌≡◌, ◌≢◌, IfOk, IfErr, None, false, option_map};
 ghost use Rattle.std.specs.Io.KnownBytes.{Keeps};
-ghost use Rattle.sdl_engine.specs.Answer.{Faulted, Fails, IsSerial, Tells, Written};
+ghost use Rattle.sdl_engine.specs.Answer.{Faulted, Fails, IsSerial, Tells, TellsNoOrder, Written};
 
 use crate::answer::{canonical, refuse, report};
-use crate::notes::{Notes, note_refusal, silent_notes};
+use crate::notes::{Notes, keep_run, note_refusal, silent_notes};
 use crate::options::{Command, Options, Outcome, TextFault};
 use crate::pipeline::{check_input, run_input};
 use crate::reading::{read_input, read_source};
@@ -47,9 +47,9 @@ pub fn run_and_note_serially<R: Read, S: Read, W: Write, N: Write>(
     ensures err { IfErr result (λ fault. Faulted fault (R.remaining source.old.text)
         (option_map S.remaining source.old.script) options.now (W.contents writer.old) (W.contents writer.new)) }
     ensures quiet { result ≢ Ok Outcome.TextRefused → result ≢ Ok Outcome.Cut → notes.old.strict ≡ false →
-        Keeps (N.contents notes.old.writer) (N.contents notes.new.writer) }
+        TellsNoOrder options.now → Keeps (N.contents notes.old.writer) (N.contents notes.new.writer) }
     ensures silent { notes.old.explains ≡ false → result ≢ Ok Outcome.Cut → notes.old.strict ≡ false →
-        Keeps (N.contents notes.old.writer) (N.contents notes.new.writer) }
+        TellsNoOrder options.now → Keeps (N.contents notes.old.writer) (N.contents notes.new.writer) }
 {
     let input = read_source(alloc, source)?;
     let explains = notes.explains;
@@ -70,7 +70,7 @@ pub fn tell_serially<W: Write, N: Write>(
     ensures ok { IfOk result (λ how. Tells input.now options.now how (W.contents writer.old) (W.contents writer.new)) }
     ensures err { IfErr result (λ fault. Fails fault input.now options.now
         (W.contents writer.old) (W.contents writer.new)) }
-    ensures quiet { result ≢ Ok Outcome.Cut → notes.old.strict ≡ false →
+    ensures quiet { result ≢ Ok Outcome.Cut → notes.old.strict ≡ false → TellsNoOrder options.now →
         Keeps (N.contents notes.old.writer) (N.contents notes.new.writer) }
 {
     match options.command {
@@ -110,11 +110,15 @@ fn tell_run<W: Write, N: Write>(
     ensures ok { IfOk result (λ how. Tells input.now options.now how (W.contents writer.old) (W.contents writer.new)) }
     ensures err { IfErr result (λ fault. Fails fault input.now options.now
         (W.contents writer.old) (W.contents writer.new)) }
-    ensures quiet { result ≢ Ok Outcome.Cut → notes.old.strict ≡ false →
+    ensures quiet { result ≢ Ok Outcome.Cut → notes.old.strict ≡ false → TellsNoOrder options.now →
         Keeps (N.contents notes.old.writer) (N.contents notes.new.writer) }
 {
     match run_input(alloc, input, options.limit) {
-        Ok(run) => report(alloc, &run, writer, notes, options),
+        Ok(run) => {
+            let told = report(alloc, &run, writer, notes, options);
+            keep_run(run, notes);
+            told
+        }
         Err(refusal) => refuse(alloc, &refusal, writer),
     }
 }

@@ -2,10 +2,10 @@
 
 ghost use Rattle.std.specs.Prelude.{◌≡◌, ◌≢◌, IfOk, IfErr, None, Some, false, option_map};
 ghost use Rattle.std.specs.Io.KnownBytes.{Keeps};
-ghost use Rattle.sdl_engine.specs.Answer.{Faulted, Fails, Tells, Written};
+ghost use Rattle.sdl_engine.specs.Answer.{Faulted, Fails, Tells, TellsNoOrder, Written};
 
 use crate::answer::{refuse, report_by_workers};
-use crate::notes::{Notes, note_refusal, silent_notes};
+use crate::notes::{Notes, keep_run, note_refusal, silent_notes};
 use crate::options::{Command, Options, Outcome, TextFault};
 use crate::pipeline::run_input_by_workers;
 use crate::reading::{read_input, read_source};
@@ -53,9 +53,9 @@ pub fn run_and_note<T: Threads + Wait + Copy + Send + Sync, R: Read, S: Read, W:
     ensures err { IfErr result (λ fault. Faulted fault (R.remaining source.old.text)
         (option_map S.remaining source.old.script) options.now (W.contents writer.old) (W.contents writer.new)) }
     ensures quiet { result ≢ Ok Outcome.TextRefused → result ≢ Ok Outcome.Cut → notes.old.strict ≡ false →
-        Keeps (N.contents notes.old.writer) (N.contents notes.new.writer) }
+        TellsNoOrder options.now → Keeps (N.contents notes.old.writer) (N.contents notes.new.writer) }
     ensures silent { notes.old.explains ≡ false → result ≢ Ok Outcome.Cut → notes.old.strict ≡ false →
-        Keeps (N.contents notes.old.writer) (N.contents notes.new.writer) }
+        TellsNoOrder options.now → Keeps (N.contents notes.old.writer) (N.contents notes.new.writer) }
 {
     let input = read_source(alloc, source)?;
     let explains = notes.explains;
@@ -76,7 +76,7 @@ fn tell<T: Threads + Wait + Copy + Send + Sync, W: Write, N: Write>(
     ensures ok { IfOk result (λ how. Tells input.now options.now how (W.contents writer.old) (W.contents writer.new)) }
     ensures err { IfErr result (λ fault. Fails fault input.now options.now
         (W.contents writer.old) (W.contents writer.new)) }
-    ensures quiet { result ≢ Ok Outcome.Cut → notes.old.strict ≡ false →
+    ensures quiet { result ≢ Ok Outcome.Cut → notes.old.strict ≡ false → TellsNoOrder options.now →
         Keeps (N.contents notes.old.writer) (N.contents notes.new.writer) }
 {
     match (options.command, options.workers) {
@@ -102,11 +102,15 @@ fn tell_run_by_workers<T: Threads + Wait + Copy + Send + Sync, W: Write, N: Writ
     ensures ok { IfOk result (λ how. Tells input.now options.now how (W.contents writer.old) (W.contents writer.new)) }
     ensures err { IfErr result (λ fault. Fails fault input.now options.now
         (W.contents writer.old) (W.contents writer.new)) }
-    ensures quiet { result ≢ Ok Outcome.Cut → notes.old.strict ≡ false →
+    ensures quiet { result ≢ Ok Outcome.Cut → notes.old.strict ≡ false → TellsNoOrder options.now →
         Keeps (N.contents notes.old.writer) (N.contents notes.new.writer) }
 {
     match run_input_by_workers(rt, alloc, input, workers, options.limit) {
-        Ok(run) => report_by_workers(rt, alloc, workers, &run, writer, notes, options),
+        Ok(run) => {
+            let told = report_by_workers(rt, alloc, workers, &run, writer, notes, options);
+            keep_run(run, notes);
+            told
+        }
         Err(refusal) => refuse(alloc, &refusal, writer),
     }
 }

@@ -1,11 +1,12 @@
 //! `sdlrun` reads a specification in SDL/PR with a script of timed signals, from files or standard input. `run` runs
-//! its process instances and writes the exact trace of each; `check` writes its canonical text. Either writes one line
-//! instead that names a refusal and its place.
+//! its process instances and writes the exact trace of each, or all in one order, and draws a chart of it; `check` writes
+//! its canonical text. Either writes one line instead that names a refusal and its place.
 //!
 //! `sdl_engine`'s `run_and_note` is the whole tool over any readers and writers; `main` has the command line read by
 //! `sdl_command_line`, has `run_and_note` called on the text that is named there, and maps its answer to an exit status.
 #![tactic(auto)]
 
+mod drawn;
 mod opened;
 mod reading;
 
@@ -25,7 +26,8 @@ fn main(rt: HostRuntime) -> ExitCode {
     };
     match tell(&rt, &rt, &task) {
         Ok(told) => status_of(told),
-        Err(Failure::Unopened(name, error)) => unopened(&rt, name.as_str(), &error),
+        Err(Failure::Unopened(name, error)) => { no_file(&rt, name.as_str(), "opened", &error) }
+        Err(Failure::Unwritten(name, error)) => { no_file(&rt, name.as_str(), "written", &error) }
         Err(Failure::Text(fault)) => ended(&rt, fault),
     }
 }
@@ -49,8 +51,8 @@ fn ended(rt: &impl Eprint, fault: TextFault) -> ExitCode {
     ExitCode::from(3)
 }
 
-/// Says on standard error which file can't be opened, and why.
-fn unopened(rt: &impl Eprint, name: &str, error: &io::Error) -> ExitCode {
-    let _ = eprintln!(rt; "sdlrun: {name} can't be opened: {error}");
+/// Says on standard error which file can't be opened or written, and why.
+fn no_file(rt: &impl Eprint, name: &str, what: &str, error: &io::Error) -> ExitCode {
+    let _ = eprintln!(rt; "sdlrun: {name} can't be {what}: {error}");
     ExitCode::from(3)
 }

@@ -11,6 +11,8 @@ use std::io::{self, ErrorKind, Read, Stdin};
 pub enum Failure {
     /// The file of this name can't be opened, and why.
     Unopened(String, io::Error),
+    /// The file of this name can't be written, and why.
+    Unwritten(String, io::Error),
     Text(TextFault),
 }
 

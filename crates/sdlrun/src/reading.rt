@@ -1,9 +1,10 @@
 //! The text that is read: a file or standard input, and a script of its own, if one is named.
 
+use crate::drawn::draw_file;
 use crate::opened::{Failure, Opened, open_input};
 use sdl_command_line::{InputFile, Task};
 use sdl_engine::{
-    Names, Notes, Options, Outcome, Source, TextFault, run_and_note, run_and_note_serially,
+    Names, Notes, Options, Outcome, Source, TextFault, View, run_and_note, run_and_note_serially,
 };
 use std::io::{Stderr, Write};
 use std::sync::Wait;
@@ -17,40 +18,67 @@ pub struct Told {
     pub failed: bool,
 }
 
-/// Does what the command line asks for with the text that it names. `threads` starts the workers, if any are asked for.
+/// Does what the command line asks for with the text that it names, and then draws the run, if that is asked for.
+/// `threads` starts the workers, if any are asked for.
 pub fn tell<T: Threads + Wait + Copy + Send + Sync>(
     rt: &HostRuntime,
     threads: &T,
     task: &Task,
 ) -> Result<Told, Failure> {
     let mut source = open_source(rt, task)?;
-    let mut notes = Notes {
+    let mut notes = notes_of(rt, task);
+    let outcome = match tell_text(rt, threads, task, &mut source, &mut notes) {
+        Ok(outcome) => outcome,
+        Err(fault) => return Err(Failure::Text(fault)),
+    };
+    draw_run(rt, task, &notes)?;
+    Ok(Told {
+        outcome,
+        failed: notes.failed,
+    })
+}
+
+/// What standard error is to have of it.
+fn notes_of<'t>(rt: &HostRuntime, task: &'t Task) -> Notes<'t, Stderr> {
+    Notes {
         writer: rt.stderr(),
         names: names_of(task),
         explains: task.explain,
         strict: task.strict,
         failed: false,
-    };
-    let outcome = if task.quiet {
-        tell_refusal(rt, threads, &mut source, &mut notes, &task.options)
-    } else {
-        let mut writer = rt.stdout();
-        tell_to(
-            rt,
-            threads,
-            &mut source,
-            &mut writer,
-            &mut notes,
-            &task.options,
-        )
-    };
-    match outcome {
-        Ok(outcome) => Ok(Told {
-            outcome,
-            failed: notes.failed,
-        }),
-        Err(fault) => Err(Failure::Text(fault)),
+        keeps: task.chart.is_some(),
+        run: None,
     }
+}
+
+/// Writes what is asked for of the text.
+fn tell_text<T: Threads + Wait + Copy + Send + Sync>(
+    rt: &HostRuntime,
+    threads: &T,
+    task: &Task,
+    source: &mut Source<Opened, Opened>,
+    notes: &mut Notes<'_, Stderr>,
+) -> Result<Outcome, TextFault> {
+    if task.quiet {
+        return tell_refusal(rt, threads, source, notes, &task.options);
+    }
+    let mut writer = rt.stdout();
+    tell_to(rt, threads, source, &mut writer, notes, &task.options)
+}
+
+/// Draws the run that is kept, if there is one. What isn't known of its order is said once.
+fn draw_run(rt: &HostRuntime, task: &Task, notes: &Notes<'_, Stderr>) -> Result<(), Failure> {
+    let (Some(chart), Some(run)) = (&task.chart, &notes.run) else {
+        return Ok(());
+    };
+    let stuck = draw_file(rt, run, chart)?;
+    if task.options.view != View::Trace {
+        return Ok(());
+    }
+    if let Some(number) = stuck {
+        let _ = eprintln!(rt; "sdlrun: the order isn't known from instance #{number} on");
+    }
+    Ok(())
 }
 
 /// The text and the script that a task names, opened.

@@ -2,10 +2,13 @@
 
 use clap::Error;
 use clap::error::ErrorKind;
+use port_values::Ticks;
 use sdl_command_line::{InputFile, Task, chosen};
-use sdl_engine::{Command, Options};
+use sdl_engine::{Command, Options, View};
+use sdl_views::Form;
 use std::alloc::Global;
 use std::process::Abort;
+use view_chart::Selection;
 
 /// The request of a command line: the command, the workers and the limit, and the files of the specification and the
 /// script.
@@ -90,6 +93,124 @@ fn command_lines(rt: HostRuntime) {
     }
 }
 
+/// Command lines, and how a run is told; none for a mistake.
+static VIEWS: [(&str, Option<View>); 7] = [
+    ("sdlrun run a", Some(View::Trace)),
+    ("sdlrun run --lines a", Some(View::Lines)),
+    ("sdlrun run --workers 2 --json", Some(View::Json)),
+    ("sdlrun run --lines --json a", None),
+    ("sdlrun run --lines --lines a", None),
+    ("sdlrun check --lines a", None),
+    ("sdlrun check --json a", None),
+];
+
+#[test]
+fn tells_runs_as_asked(rt: HostRuntime) {
+    for (line, view) in &VIEWS {
+        let told = told(&rt, rt.alloc(), line);
+        assert!(rt; view_in(&told) == *view, "{line}");
+    }
+}
+
+fn view_in(told: &Result<Task, Error>) -> Option<View> {
+    match told {
+        Ok(task) => Some(task.options.view),
+        Err(_) => None,
+    }
+}
+
+/// A chart: its file and its form, how many words choose its instances, and its first and its last time.
+type Drawn<'a> = (&'a str, Form, usize, Option<u64>, Option<u64>);
+
+/// Command lines, and the chart that is drawn.
+static CHARTS: [(&str, Option<Drawn<'static>>); 6] = [
+    ("sdlrun run a.svg", None),
+    (
+        "sdlrun run --chart a.svg",
+        Some(("a.svg", Form::Svg, 0, None, None)),
+    ),
+    (
+        "sdlrun run --json --chart=b/a.svg.html b",
+        Some(("b/a.svg.html", Form::Html, 0, None, None)),
+    ),
+    (
+        "sdlrun run b --chart a.mpr",
+        Some(("a.mpr", Form::Msc, 0, None, None)),
+    ),
+    (
+        "sdlrun run --only P,#2 --from 3 --chart a.svg",
+        Some(("a.svg", Form::Svg, 2, Some(3), None)),
+    ),
+    (
+        "sdlrun run --chart a.html --until 5 --only P --only Q,R",
+        Some(("a.html", Form::Html, 3, None, Some(5))),
+    ),
+];
+
+#[test]
+fn draws_what_is_asked(rt: HostRuntime) {
+    for (line, drawn) in &CHARTS {
+        let told = told(&rt, rt.alloc(), line);
+        assert!(rt; told.is_ok(), "{line}");
+        assert!(rt; drawn_by(&told) == *drawn, "{line}");
+    }
+}
+
+fn drawn_by(told: &Result<Task, Error>) -> Option<Drawn<'_>> {
+    let Ok(
+        Task {
+            chart: Some(chart),
+            ..
+        },
+    ) = told
+    else {
+        return None;
+    };
+    let Selection { only, from, until } = &chart.selection;
+    Some((
+        chart.name.as_str(),
+        chart.form,
+        only.len(),
+        ticks(from),
+        ticks(until),
+    ))
+}
+
+fn ticks(time: &Option<Ticks>) -> Option<u64> {
+    match time {
+        Some(time) => Some(time.get()),
+        None => None,
+    }
+}
+
+/// Mistakes in the options of a chart.
+static MISDRAWN: [&str; 16] = [
+    "sdlrun run --chart",
+    "sdlrun run --chart a.png",
+    "sdlrun run --chart a",
+    "sdlrun run --chart -",
+    "sdlrun run --chart a.svg --chart b.svg",
+    "sdlrun run --only P",
+    "sdlrun run --from 1",
+    "sdlrun run --until 1",
+    "sdlrun run --chart a.svg --from x",
+    "sdlrun run --chart a.svg --until -1",
+    "sdlrun run --chart a.svg --only #",
+    "sdlrun run --chart a.svg --only #4294967296",
+    "sdlrun run --chart a.svg --only P,,Q",
+    "sdlrun run --chart a.mpr --only P",
+    "sdlrun run --chart a.mpr --from 0",
+    "sdlrun check --chart a.svg",
+];
+
+#[test]
+fn refuses_charts_that_cannot_be(rt: HostRuntime) {
+    for line in &MISDRAWN {
+        let told = told(&rt, rt.alloc(), line);
+        assert!(rt; told.is_err(), "{line}");
+    }
+}
+
 /// Command lines, and whether a refusal is explained.
 static EXPLAINED: [(&str, bool); 3] = [
     ("sdlrun check", false),
@@ -169,6 +290,7 @@ fn asked_by(told: &Result<Task, Error>) -> Option<Asked<'_>> {
         command,
         workers,
         limit,
+        ..
     } = task.options;
     Some((command, workers, limit, named(&task.text), script_in(task)))
 }

@@ -5,7 +5,8 @@ ghost use Rattle.sdl_engine.specs.Answer.{IsSerial};
 use crate::devices::{Hurried, Narrow, Restless, Torn, Trickle};
 use sdl_build::BuildError;
 use sdl_engine::{
-    Command, Options, Outcome, Refusal, TextFault, fixed_line, refusal_line, run_text_serially,
+    Command, Options, Outcome, Refusal, TextFault, View, fixed_line, refusal_line,
+    run_text_serially,
 };
 use sdl_lex::LexError;
 use sdl_parse::ParseError;
@@ -32,6 +33,25 @@ static REPORT: &str = "instance #1 P parent null
 end 7 whole
 ";
 
+static LINES: &str = "0 #1 P start
+  set t 3
+  nextstate s
+2 #1 P discard a from env
+3 #1 P input t from #1
+  stop
+end 7 whole
+";
+
+static JSON: &str = "\
+    {\"at\":0,\"instance\":1,\"process\":\"P\",\"by\":\"start\",\
+    \"does\":[{\"set\":\"t\",\"values\":[],\"due\":3},{\"nextstate\":\"s\"}]}\n\
+    {\"at\":2,\"instance\":1,\"process\":\"P\",\"by\":\"discard\",\"signal\":\"a\",\"values\":[],\
+    \"from\":\"env\",\"does\":[]}\n\
+    {\"at\":3,\"instance\":1,\"process\":\"P\",\"by\":\"input\",\"signal\":\"t\",\"values\":[],\
+    \"from\":\"#1\",\"does\":[{\"stop\":true}]}\n\
+    {\"end\":7,\"whole\":true,\"instances\":[{\"instance\":1,\"process\":\"P\",\"parent\":null}]}\n\
+";
+
 static CANONICAL: &str = "system S ;
 signal a ;
 process P ;
@@ -56,12 +76,28 @@ static REFUSAL: &str = "script 1 UnknownSignal\n";
 
 static RUN: Options = Options {
     command: Command::Run,
+    view: View::Trace,
+    workers: None,
+    limit: Options::DEFAULT_LIMIT,
+};
+
+static RUN_IN_LINES: Options = Options {
+    command: Command::Run,
+    view: View::Lines,
+    workers: None,
+    limit: Options::DEFAULT_LIMIT,
+};
+
+static RUN_IN_JSON: Options = Options {
+    command: Command::Run,
+    view: View::Json,
     workers: None,
     limit: Options::DEFAULT_LIMIT,
 };
 
 static CHECK: Options = Options {
     command: Command::Check,
+    view: View::Trace,
     workers: None,
     limit: Options::DEFAULT_LIMIT,
 };
@@ -69,6 +105,8 @@ static CHECK: Options = Options {
 #[test]
 fn reads_and_writes_single_bytes(rt: HostRuntime) {
     expect_single_bytes(&rt, rt.alloc(), &RUN, REPORT);
+    expect_single_bytes(&rt, rt.alloc(), &RUN_IN_LINES, LINES);
+    expect_single_bytes(&rt, rt.alloc(), &RUN_IN_JSON, JSON);
     expect_single_bytes(&rt, rt.alloc(), &CHECK, CANONICAL);
 }
 
@@ -134,6 +172,8 @@ fn expect_restless(
 #[test]
 fn tells_a_writer_that_fails(rt: HostRuntime) {
     expect_narrow_writers(&rt, rt.alloc(), &RUN, TEXT, REPORT);
+    expect_narrow_writers(&rt, rt.alloc(), &RUN_IN_LINES, TEXT, LINES);
+    expect_narrow_writers(&rt, rt.alloc(), &RUN_IN_JSON, TEXT, JSON);
     expect_narrow_writers(&rt, rt.alloc(), &CHECK, TEXT, CANONICAL);
     expect_narrow_writers(&rt, rt.alloc(), &RUN, REFUSED, REFUSAL);
 }

@@ -2,13 +2,14 @@
 
 use crate::devices::Narrow;
 use sdl_engine::{
-    Command, Names, Notes, Options, Outcome, Source, TextFault, run_and_note_serially,
+    Command, Names, Notes, Options, Outcome, Source, TextFault, View, run_and_note_serially,
 };
 use std::alloc::Global;
 use std::process::Abort;
 
 static CHECK: Options = Options {
     command: Command::Check,
+    view: View::Trace,
     workers: None,
     limit: Options::DEFAULT_LIMIT,
 };
@@ -46,6 +47,8 @@ fn explaining<N>(writer: N) -> Notes<'static, N> {
         explains: true,
         strict: false,
         failed: false,
+        keeps: false,
+        run: None,
     }
 }
 
@@ -113,6 +116,7 @@ fn run(
 ) -> Result<Outcome, TextFault> {
     let options = Options {
         command: Command::Run,
+        view: View::Trace,
         workers: None,
         limit,
     };

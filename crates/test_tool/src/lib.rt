@@ -1,5 +1,5 @@
 //! Tests of what no single text can show. Of the whole tool: readers and writers that fail, lines that need no memory,
-//! what a human is told of a refusal, which words of a command line choose what, and runs on worker threads. Of its
+//! what a human is told of a refusal, which words of a command line choose what, charts of runs, and runs on worker threads. Of its
 //! crates for texts: that a canonical text is read as the same tree again, that each beginning of a text is refused by
 //! one line, and their calls.
 //!
@@ -9,6 +9,8 @@
 
 #[cfg(test)]
 mod again;
+#[cfg(test)]
+mod charts;
 #[cfg(test)]
 mod command_line;
 #[cfg(test)]

@@ -2,7 +2,7 @@
 
 use crate::devices::Torn;
 use sdl_engine::{
-    Command, Names, Notes, Options, Outcome, Source, TextFault, run_and_note_serially,
+    Command, Names, Notes, Options, Outcome, Source, TextFault, View, run_and_note_serially,
 };
 use std::alloc::Global;
 use std::io::Read;
@@ -10,6 +10,7 @@ use std::process::Abort;
 
 static RUN: Options = Options {
     command: Command::Run,
+    view: View::Trace,
     workers: None,
     limit: Options::DEFAULT_LIMIT,
 };
@@ -65,6 +66,8 @@ fn run<S: Read + Drop>(alloc: Global, script: Option<S>) -> Told {
         explains: true,
         strict: false,
         failed: false,
+        keeps: false,
+        run: None,
     };
     let mut written = Vec::new(alloc);
     let outcome = run_and_note_serially(alloc, &mut source, &mut written, &mut notes, &RUN);

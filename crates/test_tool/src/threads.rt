@@ -1,7 +1,7 @@
 //! Runs on worker threads through the whole tool: what every schedule has, where the text is the schedule's own.
 
 use crate::devices::Narrow;
-use sdl_engine::{Command, Options, Outcome, TextFault, run_text};
+use sdl_engine::{Command, Options, Outcome, TextFault, View, run_text};
 use std::alloc::Global;
 use std::process::Abort;
 use std::sync::Wait;
@@ -28,6 +28,7 @@ fn cuts_at_the_limit(rt: HostRuntime) {
 fn expect_cut<R: Threads + Wait + Copy + Send + Sync + Abort>(rt: &R, alloc: Global, workers: u8) {
     let options = Options {
         command: Command::Run,
+        view: View::Trace,
         workers: Some(workers),
         limit: 50,
     };
@@ -75,6 +76,7 @@ fn expect_write_fault<R: Threads + Wait + Copy + Send + Sync + Abort>(
 ) {
     let options = Options {
         command: Command::Run,
+        view: View::Trace,
         workers: Some(4),
         limit,
     };
@@ -138,6 +140,7 @@ fn report<R: Threads + Wait + Copy + Send + Sync + Abort>(
 ) -> Vec<u8> {
     let options = Options {
         command: Command::Run,
+        view: View::Trace,
         workers,
         limit: Options::DEFAULT_LIMIT,
     };
@@ -180,6 +183,7 @@ fn expect_text<R: Threads + Wait + Copy + Send + Sync + Abort>(
 ) {
     let options = Options {
         command,
+        view: View::Trace,
         workers: Some(2),
         limit: Options::DEFAULT_LIMIT,
     };

@@ -2,9 +2,9 @@ use Rattle.std.proofs.KnownBytes.{Keeps-trans}
 use Rattle.sdl_engine.proofs.text.run_and_note.Goals as goal
 
 pub returns-clause-quiet : goal.returns-clause-quiet
-returns-clause-quiet g c = λ refused cut strict.
-    Keeps-trans _ _ _ (c.tell-told.ensures.quiet cut strict) (c.note_refusal.ensures.refused refused)
+returns-clause-quiet g c = λ refused cut strict order.
+    Keeps-trans _ _ _ (c.tell-told.ensures.quiet cut strict order) (c.note_refusal.ensures.refused refused)
 
 pub returns-clause-silent : goal.returns-clause-silent
-returns-clause-silent g c = λ asked cut strict.
-    Keeps-trans _ _ _ (c.tell-told.ensures.quiet cut strict) (c.note_refusal.ensures.asked asked)
+returns-clause-silent g c = λ asked cut strict order.
+    Keeps-trans _ _ _ (c.tell-told.ensures.quiet cut strict order) (c.note_refusal.ensures.asked asked)

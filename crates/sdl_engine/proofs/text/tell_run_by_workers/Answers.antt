@@ -1,26 +1,27 @@
-use Rattle.std.proofs.Common.{Some, refl}
-use Rattle.sdl_report.specs.ReportText.{report_text}
-use Rattle.sdl_engine.specs.Answer.{outcome_by}
+use Rattle.std.proofs.Common.{Some}
+use Rattle.std.proofs.KnownBytes.{Keeps-trans}
 use Rattle.sdl_engine.specs.declared.options.Command.TheVariants as command
-use Rattle.sdl_engine.proofs.AnswerLaws.{failed_by, fails_by, refused_by, report_says, tells_by}
+use Rattle.sdl_engine.proofs.AnswerLaws.{failed_by, refused_by, run_fails, run_tells}
 use Rattle.sdl_engine.proofs.text.tell_run_by_workers.Goals as goal
 
 pub returns-in-Ok-clause-ok : goal.returns-in-Ok-clause-ok
 returns-in-Ok-clause-ok g c =
     let run = c.in-Ok.run' in
-    tells_by c.args.input.now c.args.options.now (outcome_by run.report.whole) (report_text run.system run.report)
-    _ _ c.report_by_workers.result
-    (report_says c.args.input.now c.args.options.now (Some c.args.workers) run.system run.report run.report.whole
-    c.requires.command c.requires.workers refl c.in-Ok.ensures.ok) c.report_by_workers.ensures.how
-    c.report_by_workers.ensures.ok
+    run_tells c.args.input.now c.args.options.now (Some c.args.workers) run.system run.report run.sent _ _
+    c.report_by_workers-told.result c.requires.command c.requires.workers c.in-Ok.ensures.ok
+    c.report_by_workers-told.ensures.how c.report_by_workers-told.ensures.ok
 
 pub returns-in-Ok-clause-err : goal.returns-in-Ok-clause-err
 returns-in-Ok-clause-err g c =
     let run = c.in-Ok.run' in
-    fails_by c.args.input.now c.args.options.now (outcome_by run.report.whole) (report_text run.system run.report)
-    _ _ c.report_by_workers.result
-    (report_says c.args.input.now c.args.options.now (Some c.args.workers) run.system run.report run.report.whole
-    c.requires.command c.requires.workers refl c.in-Ok.ensures.ok) c.report_by_workers.ensures.err
+    run_fails c.args.input.now c.args.options.now (Some c.args.workers) run.system run.report run.sent _ _
+    c.report_by_workers-told.result c.requires.command c.requires.workers c.in-Ok.ensures.ok
+    c.report_by_workers-told.ensures.err
+
+pub returns-in-Ok-clause-quiet : goal.returns-in-Ok-clause-quiet
+returns-in-Ok-clause-quiet g c = λ cut strict order.
+    Keeps-trans _ _ _ (c.report_by_workers-told.ensures.quiet cut strict (order c.requires.command))
+    c.keep_run.ensures.quiet
 
 pub returns-in-Err-clause-ok : goal.returns-in-Err-clause-ok
 returns-in-Err-clause-ok g c =

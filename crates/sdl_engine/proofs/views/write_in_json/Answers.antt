@@ -1,0 +1,30 @@
+use Rattle.std.proofs.Common.{refl}
+use Rattle.std.proofs.lemmas.Result.{err_from_is_err_and}
+use Rattle.view_json.specs.JsonText.{json_text}
+use Rattle.sdl_engine.specs.declared.options.View.TheVariants as views
+use Rattle.sdl_engine.proofs.AnswerLaws.{view_fails}
+use Rattle.sdl_engine.proofs.views.write_in_json.Goals as goal
+
+pub returns-in_err-write_json-clause-err : goal.returns-in_err-write_json-clause-err
+returns-in_err-write_json-clause-err g c =
+    let p = err_from_is_err_and c.from_residual-in_err-write_json.result c.from_residual-in_err-write_json.ensures.1 in
+    let run = c.args.run.now in
+    let order = c.in_ok-order.order in
+    rw (p.1, p.2) (view_fails _ views.Json run.system run.report run.sent (json_text run.system run.report order.told) _ _
+    (record { told = order.told; stuck = order.stuck; is_timeline = c.in_ok-order.ensures.told; says = refl })
+    c.in_err-write_json.ensures.err)
+
+pub returns-clause-ok : goal.returns-clause-ok
+returns-clause-ok g c =
+    let run = c.args.run.now in
+    let order = c.in_ok-order.order in
+    record {
+      text = json_text run.system run.report order.told;
+      says = record {
+        told = order.told;
+        stuck = order.stuck;
+        is_timeline = c.in_ok-order.ensures.told;
+        says = refl;
+      };
+      out = c.in_ok-write_json.ensures.ok;
+    }

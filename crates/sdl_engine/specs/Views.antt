@@ -1,0 +1,61 @@
+-- How a run is told: by its report, or in the order of a timeline of the report.
+use Rattle.std.specs.Prelude.{◌≡◌, ℕ, Bool, List, Option, None, Some, count_by, is_some}
+use Rattle.run_record.specs.Record.{RecordValue}
+use Rattle.run_record.specs.declared.record.Report.{Report}
+use Rattle.sdl_report.specs.ReportText.{report_text}
+use Rattle.sdl_script.specs.declared.script.ScriptLine.{ScriptLine}
+use Rattle.sdl_system.specs.System.{SystemValue}
+use Rattle.view_json.specs.JsonText.{json_text}
+use Rattle.view_lines.specs.LinesText.{lines_text}
+use Rattle.view_timeline.specs.Moves.{EachOnce}
+use Rattle.view_timeline.specs.Timeline.{AllTakes, AreArrows, AreInOrder, AreLiving, IsElseUnlinked, IsForward, IsStuck, IsWaiting}
+use Rattle.view_timeline.specs.declared.moves.Timeline.{Timeline}
+use Rattle.sdl_engine.specs.declared.options.View.{View}
+use Rattle.sdl_engine.specs.declared.options.View.TheVariants as views
+
+-- ---- the script
+
+-- whether the environment sends a signal by this line
+abbrev pub has_signal : ScriptLine → Bool
+has_signal line = is_some line.signal
+
+-- how many signals it sends
+abbrev pub signals_of : List ScriptLine → ℕ
+signals_of lines = count_by has_signal lines
+
+-- ---- the order
+
+-- A timeline of these records tells each event once. Times never fall, and a move is made by an instance that lives. Each
+-- take of a signal of an instance has an arrow from where it was sent, and arrows of one kind come in the same order at
+-- both ends. What was sent to an instance and has no arrow waits, or is gone.
+pub record IsTimeline (records : List RecordValue) (told : Timeline) : Type 0 where
+  pub each_once : EachOnce records told.moves.items
+  pub forward : IsForward records told
+  pub arrows : AreArrows records told
+  pub all_takes : AllTakes records told
+  pub in_order : AreInOrder records told
+  pub waiting : IsWaiting records told
+  pub else_unlinked : IsElseUnlinked records told
+  pub living : AreLiving records told
+
+-- A timeline, or what can be told of the records if the instance of this number can't go on.
+abbrev pub IsTimelineTo : Option ℕ → List RecordValue → Timeline → Type 0
+IsTimelineTo None records told = IsTimeline records told
+IsTimelineTo (Some number) records told = IsStuck records told number
+
+-- ---- the text
+
+-- this is the text of a timeline of these records, as far as it goes
+pub record IsInOrder (records : List RecordValue) (text_of : Timeline → List ℕ) (text : List ℕ) : Type 0 where
+  pub told : Timeline
+  pub stuck : Option ℕ
+  pub is_timeline : IsTimelineTo stuck records told
+  pub says : text ≡ text_of told
+
+-- The text tells the report of a run, to whose instances the environment sends so many signals.
+abbrev pub IsTold : View → SystemValue → Report → ℕ → List ℕ → Type 0
+IsTold views.Trace system report sent text = text ≡ report_text system report
+IsTold views.Lines system report sent text =
+    IsInOrder report.records.items (λ told. lines_text system report told sent) text
+IsTold views.Json system report sent text =
+    IsInOrder report.records.items (λ told. json_text system report told) text

@@ -1,0 +1,74 @@
+-- What the calls of a drawing give, put together into what is said of it.
+use Rattle.std.proofs.Common.{◌≡◌, ◌≢◌, ℕ, List, Option, inr, refl}
+use Rattle.sdl_engine.specs.Answer.{fault_of}
+use Rattle.sdl_engine.specs.Views.{IsTimelineTo}
+use Rattle.sdl_engine.specs.declared.run.Run.{Run}
+use Rattle.sdl_report.specs.Gathered.{BreaksOff}
+use Rattle.sdl_report.specs.declared.write_whole.WriteFault.{WriteFault}
+use Rattle.sdl_report.specs.declared.write_whole.WriteFault.TheVariants as written
+use Rattle.std.specs.Io.KnownBytes.{Appends}
+use Rattle.std.specs.String.{string_bytes}
+use Rattle.view_chart.specs.Written.{IsBrokenOff, IsWritten}
+use Rattle.view_msc.specs.MscText.{msc_text}
+use Rattle.view_timeline.specs.declared.moves.Timeline.{Timeline}
+use Rattle.sdl_views.specs.Drawn.{FailsToDraw, IsBegun, IsChart, IsDrawn}
+use Rattle.sdl_views.specs.declared.form.Form.{Form}
+use Rattle.sdl_views.specs.declared.form.Form.TheVariants as forms
+
+-- ---- pictures
+
+is_picture : (form : Form) (run : Run) (text : List ℕ) → form ≢ forms.Msc → IsChart form run text
+is_picture forms.Svg run text no_text = tt
+is_picture forms.Html run text no_text = tt
+is_picture forms.Msc run text no_text = absurd (no_text refl)
+
+pub picture_drawn : (form : Form) (run : Run) (old new : Option (List ℕ)) → form ≢ forms.Msc → IsWritten old new →
+    IsDrawn form run old new
+picture_drawn form run old new no_text out = record {
+  text = out.0;
+  chart = is_picture form run out.0 no_text;
+  out = out.1;
+}
+
+pub picture_fails : (why : WriteFault) (form : Form) (run : Run) (old new : Option (List ℕ)) → form ≢ forms.Msc →
+    IsBrokenOff old new → FailsToDraw (fault_of why) form run old new
+picture_fails why form run old new no_text off = fails why
+  where
+    begun : IsBegun form run old new
+    begun = record { text = off.0; chart = is_picture form run off.0 no_text; breaks = off.1 }
+
+    fails : (why : WriteFault) → FailsToDraw (fault_of why) form run old new
+    fails written.Write = begun
+    fails written.Memory = inr begun
+
+-- ---- texts of Z.120
+
+text_of : Run → Timeline → List ℕ
+text_of run told = msc_text (string_bytes run.tree.name.text) run.system told run.report
+
+pub text_drawn : (run : Run) (stuck : Option ℕ) (told : Timeline) (old new : Option (List ℕ)) →
+    IsTimelineTo stuck run.report.records.items told →
+    Appends old new (msc_text (string_bytes run.tree.name.text) run.system told run.report) →
+    IsDrawn forms.Msc run old new
+text_drawn run stuck told old new is out = record {
+  text = text_of run told;
+  chart = record { told = told; stuck = stuck; is_timeline = is; says = refl };
+  out = out;
+}
+
+pub text_fails : (why : WriteFault) (run : Run) (stuck : Option ℕ) (told : Timeline) (old new : Option (List ℕ)) →
+    IsTimelineTo stuck run.report.records.items told →
+    BreaksOff old new (msc_text (string_bytes run.tree.name.text) run.system told run.report) →
+    FailsToDraw (fault_of why) forms.Msc run old new
+text_fails why run stuck told old new is off = fails why
+  where
+    begun : IsBegun forms.Msc run old new
+    begun = record {
+      text = text_of run told;
+      chart = record { told = told; stuck = stuck; is_timeline = is; says = refl };
+      breaks = off;
+    }
+
+    fails : (why : WriteFault) → FailsToDraw (fault_of why) forms.Msc run old new
+    fails written.Write = begun
+    fails written.Memory = inr begun

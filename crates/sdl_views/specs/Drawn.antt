@@ -1,0 +1,36 @@
+-- What a writer has got of the chart of a run.
+use Rattle.std.specs.Prelude.{ℕ, ◌⊎◌, List, Option}
+use Rattle.std.specs.Io.KnownBytes.{Appends, Keeps}
+use Rattle.std.specs.String.{string_bytes}
+use Rattle.sdl_engine.specs.Views.{IsInOrder}
+use Rattle.sdl_engine.specs.declared.options.TextFault.{TextFault}
+use Rattle.sdl_engine.specs.declared.options.TextFault.TheVariants as faults
+use Rattle.sdl_engine.specs.declared.run.Run.{Run}
+use Rattle.sdl_report.specs.Gathered.{BreaksOff}
+use Rattle.view_msc.specs.MscText.{msc_text}
+use Rattle.sdl_views.specs.declared.form.Form.{Form}
+use Rattle.sdl_views.specs.declared.form.Form.TheVariants as forms
+
+-- A text of Z.120 is that of a timeline of the run, by the name of its system. Of a picture nothing is said.
+abbrev pub IsChart : Form → Run → List ℕ → Type 0
+IsChart forms.Msc run text = IsInOrder run.report.records.items
+    (λ told. msc_text (string_bytes run.tree.name.text) run.system told run.report) text
+IsChart other run text = Unit {0}
+
+-- a chart of the run has gone out
+pub record IsDrawn (form : Form) (run : Run) (old new : Option (List ℕ)) : Type 0 where
+  pub text : List ℕ
+  pub chart : IsChart form run text
+  pub out : Appends old new text
+
+-- a beginning of a chart has gone out, and not all of it
+pub record IsBegun (form : Form) (run : Run) (old new : Option (List ℕ)) : Type 0 where
+  pub text : List ℕ
+  pub chart : IsChart form run text
+  pub breaks : BreaksOff old new text
+
+-- what has gone out before this fault: nothing, where there was no memory for the order
+abbrev pub FailsToDraw : TextFault → Form → Run → Option (List ℕ) → Option (List ℕ) → Type 0
+FailsToDraw faults.Read form run old new = ⊥
+FailsToDraw faults.Write form run old new = IsBegun form run old new
+FailsToDraw faults.Memory form run old new = Keeps old new ⊎ IsBegun form run old new
