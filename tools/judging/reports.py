@@ -47,7 +47,7 @@ class Report:
 def of_case(case) -> Report | None:
     """The report of a case of a run, if it ends in one."""
     last = case.output.rstrip(b"\n").split(b"\n")[-1]
-    if case.words[:1] != ["run"] or not last.startswith(b"end "):
+    if case.words[:1] != ["run"] or not last.startswith(b"end ") or "--lines" in case.words:
         return None
     limit = int(case.words[case.words.index("--limit") + 1]) if "--limit" in case.words else DEFAULT_LIMIT
     # A comment may have any byte.
