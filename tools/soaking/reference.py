@@ -1,9 +1,11 @@
 """A run as LANGUAGE.md tells it, made by the plainest means: lists that are searched, and no thought of cost.
 
-It knows the tree of a specification and not its text, shares no code with the program, and writes the same trace."""
+It knows the tree of a specification and not its text, shares no code with the program, and writes the same trace. It
+keeps the order of the run, too (`order.py`)."""
 
 from dataclasses import dataclass, field
 
+from soaking.order import Order, lose, of_value, of_values
 from soaking.specification import ENVIRONMENT, Process
 from soaking.tables import Code, Table
 from soaking.transitions import Create, Output, Reset, Set, Task
@@ -22,12 +24,13 @@ class Ended(Exception):
 
 @dataclass(eq=False)
 class Entry:
-    """What waits in a port; the signal of a timer has the number of its set."""
+    """What waits in a port; the signal of a timer has the number of its set, and that of an instance what sent it."""
 
     signal: object
     values: tuple
     sender: str
     number: int = 0
+    deed: dict | None = None
 
 
 @dataclass(eq=False)
@@ -69,15 +72,20 @@ class Instance:
 
     # ---- a step
 
-    def say(self, text):
+    def say(self, text, **deed):
+        """A line of what the transition does."""
         self.lines.append(text)
+        return self.run.order.do(text, **deed)
 
-    def begin(self, text):
+    def begin(self, text, **opening):
         """The line of something that happens now."""
-        self.say(f"{self.run.time} {text}")
+        self.lines.append(f"{self.run.time} {text}")
+        self.run.order.begin(self.run.time, self, text, **opening)
 
     def finish(self):
         self.lives = False
+        for entry in self.port:
+            lose(entry)
         self.port, self.timers = [], {}
 
     def step(self):
@@ -85,7 +93,7 @@ class Instance:
         if not self.lives:
             return False, False
         if self.position == "start":
-            self.begin("start")
+            self.begin("start", by="start")
             self.transit(self.process.start)
             return True, True
         try:
@@ -94,7 +102,7 @@ class Instance:
             if found is None:
                 return self.look()
         except Failure as failure:
-            self.begin(f"failed {failure}")
+            self.begin(f"failed {failure}", by="failed", failure=str(failure))
             self.finish()
             return True, False
         self.consume(*found)
@@ -118,7 +126,9 @@ class Instance:
 
     def consume(self, entry, reaction):
         self.sender = entry.sender
-        self.begin(f"{reaction.kind} {signal_text(entry.signal, entry.values)} from {entry.sender}")
+        text = f"{reaction.kind} {signal_text(entry.signal, entry.values)} from {entry.sender}"
+        taken = {"signal": entry.signal.name, "values": of_values(entry.values), "from": of_value(entry.sender)}
+        self.begin(text, by=reaction.kind, **taken, **self.run.order.take(entry))
         if reaction.kind == "discard":
             return
         self.transit(reaction.body, zip(reaction.places, entry.values))
@@ -128,7 +138,7 @@ class Instance:
         for number, stimulus in self.table.continuous(self.position):
             if value_of(stimulus.condition, self):
                 self.sender = self.name
-                self.begin(f"provided {number}")
+                self.begin(f"provided {number}", by="provided", number=number)
                 self.transit(stimulus.body)
                 return True, True
         return False, False
@@ -145,7 +155,7 @@ class Instance:
             while True:
                 place = self.visit(code, place)
         except Failure as failure:
-            self.say(f"  failed {failure}")
+            self.say(f"  failed {failure}", failed=str(failure))
             self.finish()
         except Ended:
             pass
@@ -168,11 +178,11 @@ class Instance:
         if node.word == "join":
             return code.labels[node.name]
         if node.word == "stop":
-            self.say("  stop")
+            self.say("  stop", stop=True)
             self.finish()
         else:
             self.position = self.position if node.name == "-" else node.name
-            self.say(f"  nextstate {self.position}")
+            self.say(f"  nextstate {self.position}", nextstate=self.position)
         raise Ended
 
     def decide(self, node):
@@ -181,7 +191,8 @@ class Instance:
     def task(self, task):
         for variable, expression in task.pairs:
             self.values[variable] = at(variable.sort, value_of(expression, self))
-            self.say(f"  task {variable.name} := {told(self.values[variable])}")
+            value = self.values[variable]
+            self.say(f"  task {variable.name} := {told(value)}", task=variable.name, value=of_value(value))
 
     def output(self, output):
         for signal, expressions in output.signals:
@@ -190,8 +201,9 @@ class Instance:
                 to = value_of(to, self)
             values = values_at(expressions, signal.sorts, self)
             target = self.run.target(self.process, signal, to, self.created)
-            self.say(f"  output {signal_text(signal, values)} to {target}")
-            self.acts.append(("send", target, Entry(signal, values, self.name)))
+            text = f"  output {signal_text(signal, values)} to {target}"
+            deed = self.say(text, output=signal.name, values=of_values(values), to=of_value(target))
+            self.acts.append(("send", target, Entry(signal, values, self.name, deed=deed)))
 
     def key(self, timer, expressions):
         return timer, values_at(expressions, timer.sorts, self)
@@ -210,7 +222,8 @@ class Instance:
             self.cancel(key)
             self.sets += 1
             self.timers[key] = self.sets
-            self.say(f"  set {signal_text(*key)} {max(0, due)}")
+            text = f"  set {signal_text(*key)} {max(0, due)}"
+            self.say(text, set=timer.name, values=of_values(key[1]), due=max(0, due))
             self.acts.append(("arm", max(0, due), self.number, self.sets, key))
 
     def reset(self, statement):
@@ -218,7 +231,7 @@ class Instance:
             for timer, expressions in group:
                 key = self.key(timer, expressions)
                 self.cancel(key)
-                self.say(f"  reset {signal_text(*key)}")
+                self.say(f"  reset {signal_text(*key)}", reset=timer.name, values=of_values(key[1]))
 
     def create(self, statement):
         process = statement.process
@@ -232,7 +245,8 @@ class Instance:
             self.created.append(child)
             self.acts.append(("add", child))
             self.offspring = child.name
-        self.say(f"  create {process.name} {self.offspring}")
+        made = None if self.offspring == "null" else number
+        self.say(f"  create {process.name} {self.offspring}", create=process.name, instance=made)
 
 
 class Run:
@@ -244,6 +258,7 @@ class Run:
         self.codes = {process: Code(process) for process in self.processes}
         self.tables = {process: Table(process) for process in self.processes}
         self.time, self.made, self.instances, self.fuses = 0, 0, [], []
+        self.order, self.signals = Order(), sum(line.signal is not None for line in self.script)
         for process in self.processes:
             for _ in range(process.initial):
                 self.instances.append(self.instance(process, len(self.instances) + 1, "null", ()))
@@ -274,6 +289,8 @@ class Run:
         number = int(target[1:]) if target.startswith("#") else 0
         if 0 < number <= len(self.instances) and self.instances[number - 1].lives:
             self.instances[number - 1].port.append(entry)
+        elif target.startswith("#"):
+            lose(entry)
 
     def expire(self, number, sets, key):
         instance = self.instances[number - 1]
@@ -311,17 +328,26 @@ class Run:
 
     def go(self):
         """Makes the run, and tells its trace."""
+        self.word, self.end = self.make()
+        return self.trace()
+
+    def last(self):
+        """The last line."""
+        return f"end {self.end} {'whole' if self.word == 'rest' else 'cut'}"
+
+    def make(self):
+        """Makes the run, and tells how its records close, and when it ends."""
         end = self.script[-1].time if self.script else 0
         try:
             while True:
                 self.come_to_rest()
                 due = [it[0] for it in self.fuses] + [line.time for line in self.script[:1]]
                 if not due or min(due) > end:
-                    return self.trace("rest", f"end {end} whole")
+                    return "rest", end
                 self.time = max(self.time, min(due))
                 self.hear()
         except Cut:
-            return self.trace("cut", f"end {self.time} cut")
+            return "cut", self.time
 
     def come_to_rest(self):
         """Sweeps, until all instances rest."""
@@ -339,9 +365,9 @@ class Run:
                 target = self.target(ENVIRONMENT, line.signal, line.to)
                 self.put(target, Entry(line.signal, tuple(line.values), "env"))
 
-    def trace(self, word, last):
+    def trace(self):
         lines = []
         for it in self.instances:
             lines += [f"instance {it.name} {it.process.name} parent {it.parent}", *it.lines]
-            lines += [f"{word} {it.position}"] if it.lives else []
-        return "".join(line + "\n" for line in [*lines, last])
+            lines += [f"{self.word} {it.position}"] if it.lives else []
+        return "".join(line + "\n" for line in [*lines, self.last()])
