@@ -43,7 +43,7 @@ picture_fails why form run old new no_text off = fails why
 
 -- ---- texts of Z.120
 
-text_of : Run → Timeline → List ℕ
+abbrev text_of : Run → Timeline → List ℕ
 text_of run told = msc_text (string_bytes run.tree.name.text) run.system told run.report
 
 pub text_drawn : (run : Run) (stuck : Option ℕ) (told : Timeline) (old new : Option (List ℕ)) →
