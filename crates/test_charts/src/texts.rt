@@ -1,8 +1,12 @@
 //! A run as text of Z.120.
 
 use crate::relay::{RELAY, SCRIPT};
-use crate::runs::{Run, run_of};
+use crate::runs::run_of;
+use run_record::Report;
+use sdl_system::System;
+use std::alloc::Global;
 use view_msc::write_msc;
+use view_timeline::timeline;
 
 static TEXT: &str = "msc Relay;
 inst Sender_1: process Sender, Keeper_2: process Keeper, Keeper_3: process Keeper;
@@ -20,22 +24,21 @@ Keeper_3: endinstance comment 'rest keeping';
 endmsc; /* end 3 whole */
 ";
 
+/// What is written of a run.
+fn written(alloc: Global, system: &System, report: &Report) -> Option<Vec<u8>> {
+    match timeline(alloc, report) {
+        Ok(told) => {
+            let mut written = Vec::new(alloc);
+            let done = write_msc(alloc, "Relay", system, &told, report, &mut written);
+            if done.is_ok() { Some(written) } else { None }
+        }
+        Err(_) => None,
+    }
+}
+
 #[test]
 fn writes_a_run(rt: HostRuntime) {
-    let Run {
-        system,
-        report,
-        timeline,
-    } = run_of(&rt, rt.alloc(), RELAY, SCRIPT, 1_000_000);
-    let mut written = Vec::new(rt.alloc());
-    let done = write_msc(
-        rt.alloc(),
-        "Relay",
-        &system,
-        &timeline,
-        &report,
-        &mut written,
-    );
-    assert!(rt; done.is_ok());
-    assert!(rt; written.as_slice() == TEXT.as_bytes());
+    let run = run_of(&rt, rt.alloc(), RELAY, SCRIPT, 1_000_000);
+    let text = written(rt.alloc(), &run.system, &run.report).expect(&rt, "a text");
+    assert!(rt; text.as_slice() == TEXT.as_bytes());
 }
