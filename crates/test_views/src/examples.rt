@@ -1,9 +1,11 @@
 //! Specifications with scripts, and the texts of their timelines.
 
 use crate::{inres, kinds, lost, workers};
+use run_record::Report;
 use sdl_build::build;
 use sdl_parse::parse;
 use sdl_script::{Script, read_script};
+use sdl_system::System;
 use serial_run::run_serial;
 use std::alloc::Global;
 use std::process::Abort;
@@ -73,15 +75,34 @@ fn expect_texts<R: Abort>(rt: &R, alloc: Global, text: &str, limit: u64, lines: 
     let system = build(alloc, &tree).expect(rt, "a system");
     let script = read_script(alloc, &system, script.as_bytes()).expect(rt, "a script");
     let report = run_serial(alloc, &system, &script, limit).expect(rt, "a report");
-    let told = timeline(alloc, &report).expect(rt, "a timeline");
-    let mut written = Vec::new(alloc);
-    let done = write_lines(alloc, &report, &told, sent(&script), &system, &mut written);
-    assert!(rt; done.is_ok());
+    let written = in_lines(alloc, &system, &report, sent(&script)).expect(rt, "lines");
     assert!(rt; written.as_slice() == lines.as_bytes());
-    let mut written = Vec::new(alloc);
-    let done = write_json(alloc, &report, &told, &system, &mut written);
-    assert!(rt; done.is_ok());
+    let written = in_json(alloc, &system, &report).expect(rt, "JSON");
     assert!(rt; written.as_slice() == json.as_bytes());
+}
+
+/// The lines of a report, if it has a timeline and they can be written.
+fn in_lines(alloc: Global, system: &System, report: &Report, sent: usize) -> Option<Vec<u8>> {
+    match timeline(alloc, report) {
+        Ok(told) => {
+            let mut written = Vec::new(alloc);
+            let done = write_lines(alloc, report, &told, sent, system, &mut written);
+            if done.is_ok() { Some(written) } else { None }
+        }
+        Err(_) => None,
+    }
+}
+
+/// The JSON of a report, if it has a timeline and can be written.
+fn in_json(alloc: Global, system: &System, report: &Report) -> Option<Vec<u8>> {
+    match timeline(alloc, report) {
+        Ok(told) => {
+            let mut written = Vec::new(alloc);
+            let done = write_json(alloc, report, &told, system, &mut written);
+            if done.is_ok() { Some(written) } else { None }
+        }
+        Err(_) => None,
+    }
 }
 
 /// How many signals the environment sends: a line of a script may have none.

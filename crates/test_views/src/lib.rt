@@ -1,6 +1,5 @@
-//! Tests of the views of a report: reports made by hand, with their moves and links; and specifications with scripts,
-//! with their lines and their JSON. They stand above the views, so that these aren't proved a second time for their
-//! tests.
+//! Tests of the views of a report: specifications with scripts, with their lines and their JSON. They stand above the
+//! views, so that these aren't proved a second time for their tests.
 #![tactic(auto)]
 
 #[cfg(test)]
@@ -11,7 +10,5 @@ mod inres;
 mod kinds;
 #[cfg(test)]
 mod lost;
-#[cfg(test)]
-mod timelines;
 #[cfg(test)]
 mod workers;
