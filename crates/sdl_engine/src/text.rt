@@ -38,8 +38,9 @@ pub fn run_text<T: Threads + Wait + Copy + Send + Sync, R: Read, W: Write>(
 }
 
 /// Does what `run_text` does for the text of a source and its script, and then tells a human more in the notes: why the
-/// text is refused, if that is asked for; what cut the run; and each failure of an instance, if that is asked for. A
-/// fault of writing the notes changes nothing.
+/// text is refused, if that is asked for; what cut the run; each failure of an instance, if that is asked for; and from
+/// which instance on the order of the run isn't known. The notes keep the run, if that is asked for. A fault of writing
+/// the notes changes nothing.
 pub fn run_and_note<T: Threads + Wait + Copy + Send + Sync, R: Read, S: Read, W: Write, N: Write>(
     rt: &T,
     alloc: Global,
