@@ -7,9 +7,10 @@ use Rattle.view_timeline.specs.Linked.{IsByLiving, IsElsePlain, IsInOrder, IsSen
 use Rattle.view_timeline.specs.Moves.{EachOnce, GoOn, moves_of}
 use Rattle.view_timeline.specs.Replay.{timeline_of}
 use Rattle.view_timeline.specs.Rows.{Waiting}
-use Rattle.view_timeline.specs.Telling.{AllDone, HasLeft, IsTold, IsUpTo, Keeps, done_of}
+use Rattle.view_timeline.specs.Telling.{AllDone, HasLeft, IsTold, IsUpTo, Keeps, NobodyNow, StopsAt, done_of}
 use Rattle.view_timeline.specs.Timeline.{AllTakes, AreArrows, AreInOrder, AreLiving, IsBegun, IsElseUnlinked, IsForward, IsStuck, IsWaiting}
 use Rattle.view_timeline.specs.Traffic.{ledger_of}
+use Rattle.view_timeline.proofs.Closings.{nobody-then, why-left}
 use Rattle.view_timeline.proofs.Gathering.{each-map}
 use Rattle.view_timeline.proofs.MoveLemmas.{get-both}
 use Rattle.view_timeline.proofs.Steps.{IsRightNow, waits}
@@ -83,8 +84,9 @@ module _ (records : List RecordValue) (telling : Telling) (time : Option ℕ) (k
       record { end = t.cursor.told; within = omega (arith, many, all, told); whole = t.told }
 
   -- what is told where something is left
-  pub stuck-told : (place number : ℕ) → HasLeft telling place number → IsStuck records (timeline_of telling) number
-  stuck-told place number has =
+  pub stuck-told : (place number : ℕ) → HasLeft telling place number → (start : Telling) → Keeps records start
+      → NobodyNow records start → StopsAt records start telling place → IsStuck records (timeline_of telling) number
+  stuck-told place number has start kept nobody stops =
       let there = get-both telling.cursors.items records keeps.as_many place has.cursor has.is_there in
       let t : IsTold telling.moves.items place there.0 telling.cursors.items = keeps.told place there.0 there.1 in
       let same : t.cursor ≡ has.cursor =
@@ -111,4 +113,12 @@ module _ (records : List RecordValue) (telling : Telling) (time : Option ℕ) (k
         end = t.cursor.told;
         told_is = t.told;
         left = omega (arith, left, many, all, told);
+        made = start.moves.items;
+        closings = stops.closing.closings;
+        moves_are = stops.closing.moves;
+        only_close = stops.closing.only;
+        nobody = nobody-then records start telling kept nobody place stops;
+        next = stops.next;
+        is_next = stops.is_next;
+        why = why-left records start telling kept nobody place stops;
       }

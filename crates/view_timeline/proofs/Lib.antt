@@ -1,10 +1,12 @@
 pub mod ActLemmas
 pub mod Channels
 pub mod Closed
+pub mod Closings
 pub mod CursorLemmas
 pub mod Firsts
 pub mod Gathering
 pub mod GoesLemmas
+pub mod Hindrances
 pub mod Lifetimes
 pub mod MoveLemmas
 pub mod NextLemmas

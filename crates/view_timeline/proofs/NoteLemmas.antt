@@ -1,6 +1,6 @@
 -- What is noted of an event, by what its entry does.
 use Rattle.std.proofs.Common.{◌≡◌, ℕ, ◌+◌, ◌==◌, Bool, true, false, List, [], ◌∷◌, ◌++◌, length, take, drop, set, nat_eq, None, Some, Result, Ok, Err, refl, sym, ◌∙◌, ap, subst, append-nil, arith, if◌then◌else◌}
-use Rattle.std.specs.Prelude.{IfOk, IsTrue, OnOk}
+use Rattle.std.specs.Prelude.{IfOk, IsFalse, IsTrue, OnOk}
 use Rattle.std.proofs.lemmas.List.{drop_all, take_all}
 use Rattle.indexmap.specs.IndexSet.{IndexSet, contains}
 use Rattle.port_values.specs.declared.item.SignalId.{SignalId}
@@ -16,10 +16,11 @@ use Rattle.sdl_system.specs.declared.route.Dest.{Dest}
 use Rattle.sdl_system.specs.declared.route.Dest.TheVariants as to
 use Rattle.sdl_system.specs.declared.route.Target as target
 use Rattle.sdl_system.specs.declared.route.Target.TheVariants as reached
-use Rattle.view_timeline.specs.Did.{Message, did, message_got, sent_by}
+use Rattle.view_timeline.specs.Did.{Message, did, message_got, sent_by, taken_by}
 use Rattle.view_timeline.specs.Effect.{effect_in}
+use Rattle.view_timeline.specs.Hindered.{IsFirst}
 use Rattle.view_timeline.specs.Rows.{letter}
-use Rattle.view_timeline.specs.Traffic.{Ledger, Links, Notes, Passes, Puts, Takes, arrow}
+use Rattle.view_timeline.specs.Traffic.{IsMissing, Ledger, Links, Notes, Passes, Puts, Takes, arrow}
 use Rattle.view_timeline.specs.declared.moves.Link.TheVariants as is
 use Rattle.view_timeline.specs.declared.channel.Channel.{Channel}
 use Rattle.view_timeline.specs.declared.entries.Effect.{Effect}
@@ -87,6 +88,34 @@ notes-takes own one values got old new result is living links =
     (Notes (did own (event_of one values)) old new)
     (λ l. notes-does own one values (effect.Takes got) old new is (l, living)) links
 
+-- what isn't noted takes a signal that doesn't wait first
+abbrev pub Misses : ℕ → List Value → Effect → Ledger → Type 0
+Misses own values (effect.Takes got) old = IsMissing (message_got own (got_of got values)) old
+Misses own values _ old = ⊥
+
+misses-effect : (own : ℕ) (one : entry.Entry) (values : List Value) (old : Ledger)
+    → Misses own values (effect_in one) old → IsMissing (taken_by own (event_of one values)) old
+misses-effect own (kept.Consumed at got) values old misses = misses
+misses-effect own (kept.Prior at got) values old misses = misses
+misses-effect own (kept.Discarded at got) values old misses = misses
+misses-effect own (kept.Create process None) values old misses = absurd misses
+misses-effect own (kept.Create process (Some number)) values old misses = absurd misses
+misses-effect own _ values old misses = absurd misses
+
+pub not_noted-so : {E : Type 0} (result : Result Bool E) (P Q : Type 0) → (P → Q)
+    → IfOk result (λ noted. IsFalse noted → P) → IfOk result (λ noted. IsFalse noted → Q)
+not_noted-so (Ok b) P Q so was = λ is. so (was is)
+not_noted-so (Err e) P Q so was = tt
+
+pub misses-takes : {E : Type 0} (own : ℕ) (one : entry.Entry) (values : List Value) (got : Stimulus) (old : Ledger)
+    (result : Result Bool E) → effect.Takes got ≡ effect_in one
+    → IfOk result (λ noted. IsFalse noted → IsMissing (message_got own (got_of got values)) old)
+    → IfOk result (λ noted. IsFalse noted → IsMissing (taken_by own (event_of one values)) old)
+misses-takes own one values got old result is missing =
+    not_noted-so result (IsMissing (message_got own (got_of got values)) old)
+    (IsMissing (taken_by own (event_of one values)) old)
+    (λ m. misses-effect own one values old (subst (λ (e : Effect). Misses own values e old) is m)) missing
+
 -- what comes from no instance is no message
 pub got-outside : (own : ℕ) (got : Stimulus) (values : List Value)
     → ((number : ℕ) → got.origin ≡ from.Instance number → ⊥) → message_got own (got_of got values) ≡ None
@@ -115,6 +144,17 @@ got-inside own sender got values old new result is takes =
     (Links None (message_got own (got_of got values)) old new)
     (λ t. subst (λ (o : origin.Origin). Links None (message_got own (got_from o got.name values)) old new) (sym is) t)
     takes
+
+pub got-misses : {E : Type 0} (own sender : ℕ) (got : Stimulus) (values : List Value) (old : Ledger)
+    (result : Result Bool E) → got.origin ≡ from.Instance sender
+    → IfOk result (λ taken. IsFalse taken
+    → IsFirst values (old.rows (record { sender = sender; receiver = own; signal = got.name })) → ⊥)
+    → IfOk result (λ noted. IsFalse noted → IsMissing (message_got own (got_of got values)) old)
+got-misses own sender got values old result is missing =
+    not_noted-so result (IsFirst values (old.rows (record { sender = sender; receiver = own; signal = got.name })) → ⊥)
+    (IsMissing (message_got own (got_of got values)) old)
+    (λ m. subst (λ (o : origin.Origin). IsMissing (message_got own (got_from o got.name values)) old) (sym is) m)
+    missing
 
 -- an output that reaches no instance, and one that does
 pub sent-outside : (own : ℕ) (signal : SignalId) (named : Dest) (values : List Value) (goal : target.Target)

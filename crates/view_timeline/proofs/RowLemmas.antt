@@ -1,5 +1,5 @@
 -- Rows in their table, where one of them changes.
-use Rattle.std.proofs.Common.{◌≡◌, Bool, true, false, cond, not, List, [], ◌∷◌, ◌++◌, map, get_or, None, Some, refl, sym, ◌∙◌, ap, subst, append-nil, if◌then◌else◌}
+use Rattle.std.proofs.Common.{◌≡◌, Bool, true, false, cond, not, List, [], ◌∷◌, ◌++◌, map, get_or, slice_get, None, Some, refl, sym, ◌∙◌, ap, subst, append-nil, if◌then◌else◌}
 use Rattle.std.specs.Option.{IsSome}
 use Rattle.std.proofs.lemmas.List.{map-append}
 use Rattle.std.specs.Map.{lookup}
@@ -8,6 +8,7 @@ use Rattle.indexmap.specs.IndexMap.{IndexMap, UpdatesBy, get}
 use Rattle.port_values.specs.Same.{same_values, same_values-Decides}
 use Rattle.port_values.specs.declared.value.Value.{Value}
 use Rattle.view_timeline.specs.Did.{same_channel}
+use Rattle.view_timeline.specs.Hindered.{IsFirst}
 use Rattle.view_timeline.specs.Rows.{RowsState, Waiting, all_waiting, letter, row_of, waiting_of}
 use Rattle.view_timeline.proofs.Channels.{same-apart, same-true, same_itself}
 use Rattle.view_timeline.specs.declared.channel.Channel.{Channel}
@@ -96,6 +97,30 @@ module _ {S : Type 0} (old new : IndexMap Channel Row S) (channel : Channel) (ro
       ∙ ap (λ vs. (record { place = one.event.0; values = vs }) ∷ all_waiting now) same
       ∙ ap (λ l. (record { place = one.event.0; values = values }) ∷ l) (sym (row-own old new channel now changed))
 
+  -- nothing waits in it
+  pub row-empty : slice_get row.signals.items 0 ≡ None → (values : List Value) → IsFirst values (row_of old channel) → ⊥
+  row-empty none values first =
+      no_first row.signals.items none (subst (IsFirst values) was first)
+    where
+      no_first : (items : List Sent) → slice_get items 0 ≡ None → IsFirst values (map waiting_of items) → ⊥
+      no_first [] none first = first
+      no_first (one ∷ items) none first = let no : ⊥ = cc in no
+
+  -- what waits first in it has other values
+  pub row-differs : (front : Sent) → front ≡ get_or row.signals.items 0 front → (values : List Value)
+      → (front.values.now ≡ values → ⊥) → IsFirst values (row_of old channel) → ⊥
+  row-differs front seen values differ first = by row.signals.items seen (subst (IsFirst values) was first)
+    where
+      by : (items : List Sent) → front ≡ get_or items 0 front → IsFirst values (map waiting_of items) → ⊥
+      by [] seen first = first
+      by (one ∷ items) seen first = differ (ap (λ (s : Sent). s.values.now) seen ∙ first)
+
+-- where no row is, nothing waits
+pub row-none : {S : Type 0} (rows : IndexMap Channel Row S) (channel : Channel) → get same_channel rows channel ≡ None
+    → (values : List Value) → IsFirst values (row_of rows channel) → ⊥
+row-none rows channel none values first =
+    subst (IsFirst values) (ap (λ o. option_map_or all_waiting o []) none) first
+
 -- a row of its own begins, once none was found
 pub row-begins : {S : Type 0} (old seen new : IndexMap Channel Row S) (channel : Channel) (row : Row) (one : Sent)
     → get same_channel old channel ≡ None → seen ≡ old
@@ -125,9 +150,21 @@ not-false : (b : Bool) → not b ≡ false → b ≡ true
 not-false true e = refl
 not-false false e = sym e
 
+not-true : (b : Bool) → not b ≡ true → b ≡ false
+not-true true e = sym e
+not-true false e = refl
+
 -- values that don't differ are the same
 pub values-same : (xs ys : List Value) (differ : Bool) → differ ≡ not (same_values xs ys) → differ ≡ false → xs ≡ ys
 values-same xs ys differ is same = (same_values-Decides xs ys).0 (not-false (same_values xs ys) (sym is ∙ same))
+
+-- values that differ aren't the same
+pub values-differ : (xs ys : List Value) (differ : Bool) → differ ≡ not (same_values xs ys) → differ ≡ true → xs ≡ ys
+    → ⊥
+values-differ xs ys differ is true_is same =
+    let e : true ≡ false = sym ((same_values-Decides xs ys).1 same) ∙ not-true (same_values xs ys) (sym is ∙ true_is) in
+    let no : ⊥ = cc in
+    no
 
 -- rows that are the same on a channel and on all others
 pub rows-same : (old new : RowsState) (channel : Channel) → new channel ≡ old channel

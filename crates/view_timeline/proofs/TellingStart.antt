@@ -10,7 +10,7 @@ use Rattle.view_timeline.specs.Lives.{is_initial, is_null}
 use Rattle.view_timeline.specs.Moves.{GoOn, IsMove, done_by, moves_of}
 use Rattle.view_timeline.specs.Rows.{RowsState}
 use Rattle.view_timeline.proofs.Steps.{tells-at, waits}
-use Rattle.view_timeline.specs.Telling.{IsUpTo, Keeps, done_of}
+use Rattle.view_timeline.specs.Telling.{IsLatest, IsUpTo, Keeps, done_of}
 use Rattle.view_timeline.specs.Traffic.{Ledger, Tells, ledger_of}
 use Rattle.view_timeline.specs.declared.channel.Channel.{Channel}
 use Rattle.view_timeline.specs.declared.telling.Telling.{Telling}
@@ -65,6 +65,13 @@ pub up_to-fresh : (records : List RecordValue) (telling : Telling) → telling.m
     → IsUpTo (Some 0) (done_of records telling)
 up_to-fresh records telling moves =
     subst (λ ms. IsUpTo (Some 0) (done_by records ms)) (sym moves) (record { forward = tt; up_to = tt })
+
+pub latest-fresh : (records : List RecordValue) (telling : Telling) → telling.moves.items ≡ [] → telling.latest ≡ 0
+    → IsLatest telling.latest (done_of records telling)
+latest-fresh records telling moves time = record {
+  up_to = subst (λ (t : ℕ). IsUpTo (Some t) (done_of records telling)) (sym time) (up_to-fresh records telling moves);
+  is_told = λ some. let no : ⊥ = omega (arith, some, time) in absurd no;
+}
 
 -- ---- one record more
 

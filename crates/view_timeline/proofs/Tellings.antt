@@ -1,5 +1,5 @@
 -- A move that is made keeps what is told.
-use Rattle.std.proofs.Common.{◌≡◌, ℕ, ◌+◌, ◌==◌, Bool, true, false, List, [], ◌∷◌, ◌++◌, length, length-append, length-set, map, set, slice_get, Some, refl, sym, ◌∙◌, ap, subst, arith, append_assoc, eq-eqb}
+use Rattle.std.proofs.Common.{◌≡◌, ℕ, ◌+◌, ◌==◌, None, Bool, true, false, List, [], ◌∷◌, ◌++◌, length, length-append, length-set, map, set, slice_get, Some, refl, sym, ◌∙◌, ap, subst, arith, append_assoc, eq-eqb}
 use Rattle.std.proofs.lemmas.Bool.{false_from_ne_true, eqb-true}
 use Rattle.std.specs.List.{AllByRecursion}
 use Rattle.std.specs.Option.{option_map_or}
@@ -7,15 +7,19 @@ use Rattle.run_record.specs.Entry.{event_of}
 use Rattle.run_record.specs.Record.{RecordValue}
 use Rattle.view_timeline.specs.Cursor.{CursorValue}
 use Rattle.view_timeline.specs.Did.{begins, did, time_of}
+use Rattle.view_timeline.specs.Hindered.{IsClosing}
 use Rattle.view_timeline.specs.Lives.{lives}
 use Rattle.view_timeline.specs.Moves.{GoOn, IsMove, IsTransition, done_by, done_in, events_in, moves_of, times}
 use Rattle.view_timeline.specs.Telling.{Acts, AreTold, IsAt, IsNext, IsTold, IsUpTo, Keeps, done_of}
 use Rattle.view_timeline.specs.Traffic.{Ledger, Notes, Tells, ledger_of}
+use Rattle.view_timeline.proofs.ActLemmas.{notes-links, untimed-takes_none}
 use Rattle.view_timeline.proofs.Gathering.{all-append}
+use Rattle.view_timeline.proofs.Hindrances.{get-middle}
 use Rattle.view_timeline.proofs.MoveLemmas.{flat_map-last, get-both, get-set_other, get-set_same, go_on-last, moves_of-other, moves_of-own, range-middle, times-move, up_to-move}
 use Rattle.view_timeline.proofs.Takes.{tells-notes}
 use Rattle.view_timeline.specs.declared.cursor.Next.{Next}
 use Rattle.view_timeline.specs.declared.telling.Telling.{Telling}
+use Rattle.view_timeline.specs.declared.moves.Link.{Link}
 use Rattle.view_timeline.specs.declared.moves.Move.{Move}
 
 -- ---- a move
@@ -188,6 +192,46 @@ module _ (records : List RecordValue) (old : Telling) (moves_now : List Move) (c
         (ap times all_done ∙ times-move (done_of records old) next.number
         (event_of next.entry next.values.now) made.acts.acts made.begun made.acts.none_begins)
         was
+
+    times_on : times (done_by records moves_now)
+        ≡ times (done_of records old) ++ time_of (event_of next.entry next.values.now) ∷ []
+    times_on =
+        ap times all_done
+        ∙ times-move (done_of records old) next.number (event_of next.entry next.values.now) made.acts.acts made.begun
+        made.acts.none_begins
+
+    closing_on : time_of (event_of next.entry next.values.now) ≡ None → IsClosing records m
+    closing_on none = record {
+      trace = trace;
+      is_there = ap (slice_get records) made.record_is ∙ is_there;
+      event = event_of next.entry next.values.now;
+      event_is =
+          ap (λ l. slice_get l m.first.0) all_of
+          ∙ ap (slice_get (told_of.at.first ++ ((event_of next.entry next.values.now)
+          ∷ (made.acts.acts ++ end.left)))) (sym first_at)
+          ∙ get-middle told_of.at.first (event_of next.entry next.values.now) (made.acts.acts ++ end.left);
+      no_time = none;
+    }
+
+  -- when the move is made
+  pub times-made : times (done_by records moves_now)
+      ≡ times (done_of records old) ++ time_of (event_of next.entry next.values.now) ∷ []
+  times-made = times_on there.0 there.1
+
+  -- a move at no time closes its record
+  pub closing-made : time_of (event_of next.entry next.values.now) ≡ None → IsClosing records m
+  closing-made = closing_on there.0 there.1
+
+  -- and it changes no link
+  pub links-made : time_of (event_of next.entry next.values.now) ≡ None
+      → (more : List Link) × (now.links ≡ (ledger_of old.traffic).links ++ more)
+  links-made none =
+      let one = notes-links (did next.number (event_of next.entry next.values.now)) (ledger_of old.traffic) noted
+      (untimed-takes_none next.number (event_of next.entry next.values.now) none) made.notes in (
+        one.0 ∷ made.acts.more,
+        made.acts.links ∙ ap (λ l. l ++ made.acts.more) one.1
+            ∙ append_assoc (ledger_of old.traffic).links (one.0 ∷ []) made.acts.more,
+      )
 
   pub keeps-made : AreTold records moves_now cursors_now now
   keeps-made = keeps_on there.0 there.1

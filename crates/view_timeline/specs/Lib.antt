@@ -1,6 +1,7 @@
 pub mod Cursor
 pub mod Did
 pub mod Effect
+pub mod Hindered
 pub mod Linked
 pub mod Lives
 pub mod Moves

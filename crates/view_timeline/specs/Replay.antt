@@ -1,14 +1,15 @@
 -- A run that is made again.
-use Rattle.std.specs.Prelude.{◌+◌, ◌-◌, ◌^◌, ℕ, List, Some, if◌then◌else◌}
+use Rattle.std.specs.Prelude.{◌+◌, ◌-◌, ◌^◌, ℕ, List, if◌then◌else◌}
 use Rattle.run_record.specs.Record.{RecordValue}
-use Rattle.view_timeline.specs.Telling.{IsUpTo, Keeps, done_of}
+use Rattle.view_timeline.specs.Telling.{IsLatest, Keeps, done_of}
 use Rattle.view_timeline.specs.declared.replay.Replay.{Replay}
 use Rattle.view_timeline.specs.declared.telling.Telling.{Telling}
 use Rattle.view_timeline.specs.declared.moves.Timeline.{Timeline}
 
--- what is told holds, and nothing of it is later than the clock
+-- what is told holds, and its latest time is known
 abbrev pub Goes : List RecordValue → Replay → Type 0
-Goes records replay = Keeps records replay.telling × IsUpTo (Some replay.clock) (done_of records replay.telling)
+Goes records replay =
+    Keeps records replay.telling × IsLatest replay.telling.latest (done_of records replay.telling)
 
 -- how many times may come still, and the hearing of the environment
 abbrev pub until : Replay → ℕ

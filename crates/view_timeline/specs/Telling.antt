@@ -1,14 +1,16 @@
 -- A timeline of which some moves are told.
-use Rattle.std.specs.Prelude.{◌≡◌, ◌<◌, ℕ, List, [], ◌∷◌, ◌++◌, ◌+◌, false, length, map, Option, Some, slice_get}
+use Rattle.std.specs.Prelude.{◌≡◌, ◌<◌, ℕ, List, [], ◌∷◌, ◌++◌, ◌+◌, false, length, map, Option, Some, Contains, slice_get}
 use Rattle.std.specs.List.{AllByRecursion}
 use Rattle.run_record.specs.Event.{Event}
 use Rattle.run_record.specs.Record.{RecordValue}
 use Rattle.run_record.specs.Entry.{event_of}
 use Rattle.view_timeline.specs.Cursor.{CursorValue}
-use Rattle.view_timeline.specs.Did.{Did, begins, did}
+use Rattle.view_timeline.specs.Did.{Did, begins, did, time_of}
 use Rattle.view_timeline.specs.Moves.{GoOn, IsMove, IsNotLater, NeverFall, done_by, moves_of, times}
 use Rattle.view_timeline.specs.Traffic.{Ledger, Tells, ledger_of}
 use Rattle.view_timeline.specs.declared.cursor.Next.{Next}
+use Rattle.view_timeline.specs.Hindered.{IsClosing, IsHeld, IsNextOf, Hindered}
+use Rattle.view_timeline.specs.declared.moves.Link.{Link}
 use Rattle.view_timeline.specs.declared.moves.Move.{Move}
 use Rattle.view_timeline.specs.declared.telling.Telling.{Telling}
 
@@ -47,6 +49,11 @@ pub record IsUpTo (time : Option ℕ) (done : List Did) : Type 0 where
   pub forward : NeverFall (times done)
   pub up_to : AllByRecursion (λ (one : Option ℕ). IsNotLater one time) (times done)
 
+-- no time that is told is later than this one, and it is told, or the first
+pub record IsLatest (time : ℕ) (done : List Did) : Type 0 where
+  pub up_to : IsUpTo (Some time) done
+  pub is_told : 0 < time → Contains (times done) (Some time)
+
 -- the next event of the record at this place, and what is left behind it
 pub record IsNext (telling : Telling) (place : ℕ) (next : Next) : Type 0 where
   pub cursor : CursorValue
@@ -66,6 +73,8 @@ pub record Acts (start end : CursorValue) (old new : Ledger) : Type 0 where
   pub none_begins : AllByRecursion (λ (one : Event). begins one ≡ false) acts
   pub tells : (records : List RecordValue) (before : List Did) → Tells records before old
       → Tells records (before ++ map (did start.number) acts) new
+  pub more : List Link
+  pub links : new.links ≡ old.links ++ more
 
 -- all of a record is told, or some of it is left, of the instance of this number
 abbrev pub IsDone : Telling → ℕ → Type 0
@@ -79,3 +88,57 @@ pub record HasLeft (telling : Telling) (place : ℕ) (number : ℕ) : Type 0 whe
   pub is_there : slice_get telling.cursors.items place ≡ Some cursor
   pub number_is : cursor.number ≡ number
   pub left : 0 < length cursor.left
+
+-- ---- what changes
+
+-- no move is told
+pub record IsUnmoved (old new : Telling) : Type 0 where
+  pub moves : new.moves.items ≡ old.moves.items
+  pub cursors : new.cursors.items ≡ old.cursors.items
+  pub links : new.traffic.links.items ≡ old.traffic.links.items
+
+-- how many events are left
+abbrev pub sum_left : List CursorValue → ℕ
+sum_left [] = 0
+sum_left (cursor ∷ more) = length cursor.left + sum_left more
+
+abbrev pub events_left : Telling → ℕ
+events_left telling = sum_left telling.cursors.items
+
+-- the record at this place can't go on
+abbrev pub IsHeldNow : List RecordValue → Telling → ℕ → Type 0
+IsHeldNow records telling place = IsHeld records telling.moves.items telling.traffic.links.items place
+
+abbrev pub NobodyNow : List RecordValue → Telling → Type 0
+NobodyNow records telling = (place : ℕ) → IsHeldNow records telling place
+
+-- the record at this place closes
+pub record Closes (records : List RecordValue) (old new : Telling) (place : ℕ) : Type 0 where
+  pub move : Move
+  pub moves : new.moves.items ≡ old.moves.items ++ move ∷ []
+  pub is_of : move.record.0 ≡ place
+  pub closing : IsClosing records move
+  pub more : List Link
+  pub links : new.traffic.links.items ≡ old.traffic.links.items ++ more
+
+-- records close
+pub record Closing (records : List RecordValue) (old new : Telling) : Type 0 where
+  pub closings : List Move
+  pub moves : new.moves.items ≡ old.moves.items ++ closings
+  pub only : AllByRecursion (IsClosing records) closings
+  pub more : List Link
+  pub links : new.traffic.links.items ≡ old.traffic.links.items ++ more
+
+-- why an event of the record at this place is left then: it begins a transition, or it can't be told, or comes after
+-- the close
+pub data Stays (records : List RecordValue) (new : Telling) (closings : List Move) (place : ℕ) (next : Did) : Type 0 where
+  transition : (at : ℕ) → time_of next.event ≡ Some at → Stays records new closings place next
+  hindered :
+      Hindered records (done_of records new) new.traffic.links.items next → Stays records new closings place next
+  closed : (moves_of place closings ≡ [] → ⊥) → Stays records new closings place next
+
+pub record StopsAt (records : List RecordValue) (old new : Telling) (place : ℕ) : Type 0 where
+  pub closing : Closing records old new
+  pub next : Did
+  pub is_next : IsNextOf records new.moves.items place next
+  pub why : Stays records new closing.closings place next

@@ -1,13 +1,15 @@
 -- What a timeline of a report is.
-use Rattle.std.specs.Prelude.{◌≡◌, ℕ, ◌<◌, ◌≤◌, nat_eq, true, List, [], Some, slice_get, length}
+use Rattle.std.specs.Prelude.{◌≡◌, ℕ, ◌<◌, ◌≤◌, nat_eq, true, List, [], ◌++◌, Some, slice_get, length}
 use Rattle.std.specs.List.{AllByRecursion}
 use Rattle.indexmap.specs.IndexSet.{contains}
 use Rattle.run_record.specs.Record.{RecordValue}
 use Rattle.view_timeline.specs.Did.{Did}
+use Rattle.view_timeline.specs.Hindered.{IsClosing, IsNextOf, NobodyGoesOn, WhyLeft}
 use Rattle.view_timeline.specs.Lives.{lives}
 use Rattle.view_timeline.specs.Linked.{Each, IsBelow, IsByLiving, IsDrawn, IsElsePlain, IsInOrder, IsSentSo, IsTakenByArrow}
 use Rattle.view_timeline.specs.Moves.{GoOn, IsMove, NeverFall, done_by, moves_of, times}
 use Rattle.view_timeline.specs.declared.channel.Channel.{Channel}
+use Rattle.view_timeline.specs.declared.moves.Move.{Move}
 use Rattle.view_timeline.specs.declared.moves.Timeline.{Timeline}
 use Rattle.view_timeline.specs.declared.untold.Untold.{Untold}
 use Rattle.view_timeline.specs.declared.untold.Untold.TheVariants as untold
@@ -60,7 +62,7 @@ AreBegun records told = (place : ℕ) (trace : RecordValue) → slice_get record
     → IsBegun trace place told
 
 -- A timeline as far as it goes: it says what a timeline says, of the first events of each record; and of one of this
--- number some are left.
+-- number some are left. Once the moves of `made` were told, nobody could go on; then records closed.
 pub record IsStuck (records : List RecordValue) (told : Timeline) (number : ℕ) : Type 0 where
   pub transitions : AllByRecursion (IsMove records) told.moves.items
   pub begun : AreBegun records told
@@ -78,6 +80,14 @@ pub record IsStuck (records : List RecordValue) (told : Timeline) (number : ℕ)
   pub end : ℕ
   pub told_is : GoOn 0 (moves_of place told.moves.items) end
   pub left : end < length trace.events
+  pub made : List Move
+  pub closings : List Move
+  pub moves_are : told.moves.items ≡ made ++ closings
+  pub only_close : AllByRecursion (IsClosing records) closings
+  pub nobody : NobodyGoesOn records made told.links.items
+  pub next : Did
+  pub is_next : IsNextOf records told.moves.items place next
+  pub why : WhyLeft records made closings told.links.items place next
 
 abbrev pub IsUntold : List RecordValue → Untold → Type 0
 IsUntold records (untold.Stuck told number) = IsStuck records told number

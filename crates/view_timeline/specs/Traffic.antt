@@ -4,6 +4,7 @@ use Rattle.std.specs.List.{AllByRecursion}
 use Rattle.indexmap.specs.IndexSet.{contains}
 use Rattle.run_record.specs.Record.{RecordValue}
 use Rattle.view_timeline.specs.Did.{Did, Message, sent, taken}
+use Rattle.view_timeline.specs.Hindered.{IsFirst}
 use Rattle.view_timeline.specs.Linked.{Each, IsBelow, IsDrawn, IsRight, put_on, taken_on}
 use Rattle.view_timeline.specs.Lives.{lives, lives_on}
 use Rattle.view_timeline.specs.Rows.{RowsState, Waiting, letter, row_of, waiting_on}
@@ -78,6 +79,11 @@ Links None None old new = Passes old new
 pub record Notes (d : Did) (old new : Ledger) : Type 0 where
   pub living : (number : ℕ) → new.living number ≡ lives_on number d (old.living number)
   pub links : Links (sent d) (taken d) old new
+
+-- what an event takes doesn't wait first
+abbrev pub IsMissing : Option Message → Ledger → Type 0
+IsMissing (Some message) old = IsFirst message.values (old.rows message.channel) → ⊥
+IsMissing None old = ⊥
 
 -- nothing is told
 pub record IsSame (old new : Ledger) : Type 0 where

@@ -1,9 +1,9 @@
 //! The sweeps of a run, made again from its records.
 
-ghost use Rattle.std.specs.Prelude.{◌≡◌, ◌<◌, ℕ, List, None, IfErr, IfNone, IfOk, IfSome, IsFalse, IsTrue, OnOk};
+ghost use Rattle.std.specs.Prelude.{◌≡◌, ◌<◌, ◌≤◌, ℕ, List, None, IfErr, IfNone, IfOk, IfSome, IsFalse, IsTrue, OnOk};
 ghost use Rattle.run_record.specs.Record.{RecordValue};
 ghost use Rattle.view_timeline.specs.Replay.{Goes, timeline_of, until};
-ghost use Rattle.view_timeline.specs.Telling.{AllDone, HasLeft, IsUpTo, Keeps, done_of};
+ghost use Rattle.view_timeline.specs.Telling.{AllDone, Closing, HasLeft, IsUpTo, Keeps, NobodyNow, StopsAt, done_of, events_left};
 ghost use Rattle.view_timeline.specs.Moves.{EachOnce};
 ghost use Rattle.view_timeline.specs.Timeline.{AllTakes, AreArrows, AreInOrder, AreLiving, IsElseUnlinked, IsForward, IsUntold, IsWaiting};
 
@@ -24,7 +24,8 @@ use std::collections::BTreeSet;
 /// it have to wait for the next one. Once nobody can go on, what the environment sends at time 0 is heard, and then the
 /// clock moves to the next time at which one of them does something.
 ///
-/// Stuck where what an instance takes is never sent to it, or nothing creates it.
+/// Stuck where nobody can go on at any time, and events are left. What an instance takes is never sent to it then, or in
+/// another order; or nothing creates it.
 pub fn timeline(alloc: Global, report: &Report) -> Result<Timeline, Untold>
     ensures each_once { IfOk result (λ told. EachOnce report.now.records.items told.moves.items) }
     ensures forward { IfOk result (IsForward report.now.records.items) }
@@ -55,8 +56,6 @@ struct Replay<'r> {
     heard: bool,
     /// Those whose next transition comes later.
     later: BTreeSet<Later>,
-    /// At most so many moves are left.
-    left: usize,
 }
 
 /// An instance goes on at this time.
@@ -72,22 +71,54 @@ impl<'r> Replay<'r> {
         ensures { IfOk result (Goes report.now.records.items) }
     {
         let telling = Telling::new(alloc, &report.records)?;
-        let mut left = 0usize;
-        for record in &report.records {
-            left = left.checked_add(record.len()).ok_or(AllocError)?;
-        }
         Ok(Replay {
             telling,
             clock: Ticks::new(0),
             heard: false,
             later: BTreeSet::new(alloc),
-            left,
         })
     }
 
-    /// Makes all transitions that can be made.
+    /// Makes transitions until nobody can go on.
     fn run(&mut self, alloc: Global) -> Result<(), AllocError>
-        ensures { (records : List RecordValue) → Goes records self.old → OnOk result (Goes records self.new) }
+        ensures goes { (records : List RecordValue) → Goes records self.old → OnOk result (Goes records self.new) }
+        ensures nobody { (records : List RecordValue) → Goes records self.old
+            → OnOk result (NobodyNow records self.new.telling) }
+    {
+        'rounds: loop {
+            self.sweep(alloc)?;
+            let made = self.rouse(alloc)?;
+            if !made {
+                return Ok(());
+            }
+        }
+    }
+
+    /// Asks everybody, one record after the other, whatever the time is, until one of them makes a transition. Says
+    /// whether one does. None does if the records stand by number and were made by a run, since then the sweeps make all
+    /// transitions.
+    fn rouse(&mut self, alloc: Global) -> Result<bool, AllocError>
+        ensures goes { (records : List RecordValue) → Goes records self.old → OnOk result (Goes records self.new) }
+        ensures fewer { IfOk result (λ made. IsTrue made
+            → events_left self.new.telling < events_left self.old.telling) }
+        ensures nobody { (records : List RecordValue) → Goes records self.old
+            → IfOk result (λ made. IsFalse made → NobodyNow records self.new.telling) }
+    {
+        let count = self.telling.cursors.len();
+        for place in 0..count {
+            let record = record_at(place)?;
+            let made = self.telling.transition(alloc, record)?;
+            if made {
+                return Ok(true);
+            }
+        }
+        Ok(false)
+    }
+
+    /// Makes the transitions of the sweeps, from one time to the next.
+    fn sweep(&mut self, alloc: Global) -> Result<(), AllocError>
+        ensures goes { (records : List RecordValue) → Goes records self.old → OnOk result (Goes records self.new) }
+        ensures left { OnOk result (events_left self.new.telling ≤ events_left self.old.telling) }
     {
         'times: loop {
             self.settle(alloc)?;
@@ -98,34 +129,35 @@ impl<'r> Replay<'r> {
         }
     }
 
-    /// Makes transitions until nobody can go on.
+    /// Makes transitions until nobody can go on at this time.
     fn settle(&mut self, alloc: Global) -> Result<(), AllocError>
         ensures goes { (records : List RecordValue) → Goes records self.old → OnOk result (Goes records self.new) }
         ensures clock { self.new.clock ≡ self.old.clock }
         ensures heard { self.new.heard ≡ self.old.heard }
+        ensures left { OnOk result (events_left self.new.telling ≤ events_left self.old.telling) }
     {
-        'moves: while self.left > 0 {
+        'moves: loop {
             let made = self.make_transition(alloc)?;
             if !made {
                 return Ok(());
             }
         }
-        Ok(())
     }
 
     /// Asks one instance after the other until one of them makes a transition. Says whether one does.
     fn make_transition(&mut self, alloc: Global) -> Result<bool, AllocError>
-        requires { 0 < self.old.left }
         ensures goes { (records : List RecordValue) → Goes records self.old → OnOk result (Goes records self.new) }
         ensures clock { self.new.clock ≡ self.old.clock }
         ensures heard { self.new.heard ≡ self.old.heard }
-        ensures fewer { IfOk result (λ made. IsTrue made → self.new.left < self.old.left) }
+        ensures fewer { IfOk result (λ made. IsTrue made
+            → events_left self.new.telling < events_left self.old.telling) }
+        ensures left { IfOk result (λ made. IsFalse made
+            → events_left self.new.telling ≡ events_left self.old.telling) }
     {
         while let Some(number) = self.telling.traffic.sweep.take_turn() {
             let made = self.step(alloc, number)?;
             if made {
                 self.telling.traffic.sweep.wake(number)?;
-                self.left -= 1;
                 return Ok(true);
             }
         }
@@ -137,7 +169,10 @@ impl<'r> Replay<'r> {
         ensures goes { (records : List RecordValue) → Goes records self.old → OnOk result (Goes records self.new) }
         ensures clock { self.new.clock ≡ self.old.clock }
         ensures heard { self.new.heard ≡ self.old.heard }
-        ensures left { self.new.left ≡ self.old.left }
+        ensures fewer { IfOk result (λ made. IsTrue made
+            → events_left self.new.telling < events_left self.old.telling) }
+        ensures left { IfOk result (λ made. IsFalse made
+            → events_left self.new.telling ≡ events_left self.old.telling) }
         ensures still { IfOk result (λ made. IsFalse made
             → self.new.telling.traffic.sweep ≡ self.old.telling.traffic.sweep) }
     {
@@ -157,13 +192,14 @@ impl<'r> Replay<'r> {
         if !self.heard && is_from_outside(&next.entry) {
             return Ok(false);
         }
-        self.telling.transition(alloc, record, self.clock)
+        self.telling.transition(alloc, record)
     }
 
     /// What the environment sends at time 0 is heard, or the clock moves. Says whether there was anything to wait for.
     fn tick(&mut self) -> Result<bool, AllocError>
         ensures goes { (records : List RecordValue) → Goes records self.old → OnOk result (Goes records self.new) }
         ensures later { IfOk result (λ ticked. IsTrue ticked → until self.new < until self.old) }
+        ensures left { events_left self.new.telling ≡ events_left self.old.telling }
     {
         self.telling.traffic.sweep.begin();
         if !self.heard {
@@ -192,6 +228,11 @@ impl<'r> Replay<'r> {
             → IfOk result (λ left. IfNone left (AllDone self.new.telling)) }
         ensures left { IfOk result (λ left. IfSome left (λ number. (place : ℕ)
             × HasLeft self.new.telling place number)) }
+        ensures closing { (records : List RecordValue) → Goes records self.old
+            → OnOk result (Closing records self.old.telling self.new.telling) }
+        ensures stops { (records : List RecordValue) → Goes records self.old
+            → IfOk result (λ left. IfSome left (λ number. (place : ℕ)
+            × HasLeft self.new.telling place number × StopsAt records self.old.telling self.new.telling place)) }
     {
         for place in 0..self.telling.cursors.len() {
             let record = record_at(place)?;

@@ -1,6 +1,7 @@
 //! What waits in the ports of instances.
 
 ghost use Rattle.std.specs.Prelude.{◌≡◌, ◌++◌, ◌∷◌, IfNone, IfSome, OnOk, Some, []};
+ghost use Rattle.view_timeline.specs.Hindered.{IsFirst};
 ghost use Rattle.view_timeline.specs.Rows.{letter, row_of};
 ghost use Rattle.view_timeline.specs.declared.channel.Channel.{Channel};
 
@@ -62,6 +63,7 @@ impl<'r> Rows<'r> {
         ensures others { (other : Channel) → (other ≡ channel → ⊥)
             → row_of self.new.rows other ≡ row_of self.old.rows other }
         ensures none { IfNone result (row_of self.new.rows channel ≡ row_of self.old.rows channel) }
+        ensures missing { IfNone result (IsFirst values.now (row_of self.old.rows channel) → ⊥) }
     {
         let row = self.rows.get_mut(&channel)?;
         let first = row.signals.front()?;

@@ -1,11 +1,13 @@
 //! A timeline of which some moves are told.
 
-ghost use Rattle.std.specs.Prelude.{◌≡◌, ◌==◌, ◌&&◌, ◌||◌, ℕ, List, IfNone, IfOk, IfSome, IsFalse, OnOk, slice_get};
+ghost use Rattle.std.specs.Prelude.{◌≡◌, ◌==◌, ◌<◌, ◌&&◌, ◌||◌, ◌++◌, ◌∷◌, ℕ, List, [], None, IfNone, IfOk, IfSome, IsFalse, IsTrue, OnOk, slice_get};
 ghost use Rattle.run_record.specs.Entry.{event_of};
 ghost use Rattle.run_record.specs.Record.{RecordValue};
-ghost use Rattle.view_timeline.specs.Did.{time_of};
+ghost use Rattle.view_timeline.specs.Did.{did, time_of};
+ghost use Rattle.view_timeline.specs.Hindered.{Hindered};
 ghost use Rattle.view_timeline.specs.Lives.{is_null};
-ghost use Rattle.view_timeline.specs.Telling.{Acts, HasLeft, IsDone, IsNext, IsUpTo, Keeps, done_of};
+ghost use Rattle.view_timeline.specs.Moves.{times};
+ghost use Rattle.view_timeline.specs.Telling.{Acts, Closes, Closing, HasLeft, IsDone, IsHeldNow, IsLatest, IsNext, IsUnmoved, IsUpTo, Keeps, StopsAt, done_of, events_left};
 ghost use Rattle.view_timeline.specs.Traffic.{ledger_of};
 
 use crate::cursor::{Cursor, Next};
@@ -16,19 +18,20 @@ use port_values::{Pid, Ticks};
 use run_record::Record;
 use std::alloc::{AllocError, Global};
 
-/// The moves that are told so far, and what of each record is left.
+/// The moves that are told so far, and what of each record is left. The last transition was at the latest time.
 #[derive(Drop)]
 pub struct Telling<'r> {
     pub moves: Vec<Move>,
     pub cursors: Vec<Cursor<'r>>,
     pub traffic: Traffic<'r>,
+    pub latest: Ticks,
 }
 
 impl<'r> Telling<'r> {
     /// Nothing is told. Those live with which the system begins.
     pub fn new(alloc: Global, records: &'r [Record]) -> Result<Self, AllocError>
         ensures keeps { IfOk result (λ telling. Keeps records.now telling) }
-        ensures up_to { IfOk result (λ telling. IsUpTo (Some 0) (done_of records.now telling)) }
+        ensures latest { IfOk result (λ telling. IsLatest telling.latest (done_of records.now telling)) }
     {
         let mut cursors = Vec::new(alloc);
         let mut traffic = Traffic::new(alloc);
@@ -38,26 +41,28 @@ impl<'r> Telling<'r> {
             admit(&mut traffic, record)?;
         }
         let moves = Vec::new(alloc);
+        let latest = Ticks::new(0);
         Ok(Telling {
             moves,
             cursors,
             traffic,
+            latest,
         })
     }
 
-    /// Makes the next move of a record, if it's a transition at this time and can be made. Says whether it's made; else
-    /// nothing changes.
-    pub fn transition(
-        &mut self,
-        alloc: Global,
-        place: RecordId,
-        clock: Ticks,
-    ) -> Result<bool, AllocError>
+    /// Makes the next move of a record, if it's a transition that can be made, and no time that is told is later. Says
+    /// whether it's made; else nothing changes.
+    pub fn transition(&mut self, alloc: Global, place: RecordId) -> Result<bool, AllocError>
         ensures keeps { (records : List RecordValue) → Keeps records self.old → OnOk result (Keeps records self.new) }
-        ensures up_to { (records : List RecordValue) → Keeps records self.old
-            → IsUpTo (Some clock) (done_of records self.old)
-            → OnOk result (IsUpTo (Some clock) (done_of records self.new)) }
+        ensures latest { (records : List RecordValue) → Keeps records self.old
+            → IsLatest self.old.latest (done_of records self.old)
+            → OnOk result (IsLatest self.new.latest (done_of records self.new)) }
         ensures still { IfOk result (λ made. IsFalse made → self.new.traffic.sweep ≡ self.old.traffic.sweep) }
+        ensures fewer { IfOk result (λ made. IsTrue made → events_left self.new < events_left self.old) }
+        ensures unmoved { IfOk result (λ made. IsFalse made → IsUnmoved self.old self.new) }
+        ensures held { (records : List RecordValue) → Keeps records self.old
+            → IsLatest self.old.latest (done_of records self.old)
+            → IfOk result (λ made. IsFalse made → IsHeldNow records self.old place.0) }
     {
         let Some(next) = self.next_of(place) else {
             return Ok(false);
@@ -65,10 +70,15 @@ impl<'r> Telling<'r> {
         let Some(at) = time_of(&next.entry) else {
             return Ok(false);
         };
-        if at.get() != clock.get() {
+        if at.get() < self.latest.get() {
             return Ok(false);
         }
-        self.make(alloc, place, next)
+        let made = self.make(alloc, place, next)?;
+        if !made {
+            return Ok(false);
+        }
+        self.latest = at;
+        Ok(true)
     }
 
     /// Makes the last move of a record, if it's how that closes. Says whose events are left then.
@@ -80,14 +90,22 @@ impl<'r> Telling<'r> {
         ensures left { IfOk result (λ whose. IfSome whose (HasLeft self.new place.0)) }
         ensures others { OnOk result ((other : ℕ) → (other ≡ place.0 → ⊥)
             → slice_get self.new.cursors.items other ≡ slice_get self.old.cursors.items other) }
+        ensures closing { (records : List RecordValue) → Keeps records self.old
+            → OnOk result (Closing records self.old self.new) }
+        ensures stops { (records : List RecordValue) → Keeps records self.old
+            → IfOk result (λ whose. IfSome whose (λ number. StopsAt records self.old self.new place.0)) }
     {
         let Some(next) = self.next_of(place) else {
             return Ok(None);
         };
+        let number = next.number;
         if time_of(&next.entry).is_some() {
-            return Ok(Some(next.number));
+            return Ok(Some(number));
         }
-        self.make(alloc, place, next)?;
+        let made = self.make(alloc, place, next)?;
+        if !made {
+            return Ok(Some(number));
+        }
         Ok(self.whose_next(place))
     }
 
@@ -123,6 +141,19 @@ impl<'r> Telling<'r> {
         ensures still { IfOk result (λ made. IsFalse made → self.new.traffic.sweep ≡ self.old.traffic.sweep) }
         ensures others { OnOk result ((other : ℕ) → (other ≡ place.0 → ⊥)
             → slice_get self.new.cursors.items other ≡ slice_get self.old.cursors.items other) }
+        ensures latest { self.new.latest ≡ self.old.latest }
+        ensures fewer { IfOk result (λ made. IsTrue made → events_left self.new < events_left self.old) }
+        ensures unmoved { IfOk result (λ made. IsFalse made → IsUnmoved self.old self.new) }
+        ensures hindered { (records : List RecordValue) → Keeps records self.old
+            → IfOk result (λ made. IsFalse made
+            → Hindered records (done_of records self.old) self.old.traffic.links.items
+            (did next.entry.number (event_of next.entry.entry next.entry.values.now))) }
+        ensures told { (records : List RecordValue) → Keeps records self.old
+            → IfOk result (λ made. IsTrue made → times (done_of records self.new)
+            ≡ times (done_of records self.old) ++ time_of (event_of next.entry.entry next.entry.values.now) ∷ []) }
+        ensures closes { (records : List RecordValue) → Keeps records self.old
+            → time_of (event_of next.entry.entry next.entry.values.now) ≡ None
+            → IfOk result (λ made. IsTrue made → Closes records self.old self.new place.0) }
     {
         if !begins(&next.entry) {
             return Ok(false);

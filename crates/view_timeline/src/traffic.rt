@@ -4,9 +4,10 @@ ghost use Rattle.std.specs.Prelude.{◌≡◌, ℕ, ◌+◌, ◌==◌, ◌&&◌,
 ghost use Rattle.run_record.specs.Entry.{event_of, got_of};
 ghost use Rattle.run_record.specs.Event as event;
 ghost use Rattle.sdl_system.specs.declared.route.Dest.{Dest};
-ghost use Rattle.view_timeline.specs.Did.{did, message_got, sent_by};
+ghost use Rattle.view_timeline.specs.Did.{did, message_got, sent_by, taken_by};
 ghost use Rattle.view_timeline.specs.declared.channel.Channel.{Channel};
-ghost use Rattle.view_timeline.specs.Traffic.{IsSame, Links, Notes, Passes, Puts, Takes, ledger_of};
+ghost use Rattle.view_timeline.specs.Hindered.{IsFirst};
+ghost use Rattle.view_timeline.specs.Traffic.{IsMissing, IsSame, Links, Notes, Passes, Puts, Takes, ledger_of};
 
 use crate::channel::Channel;
 use crate::entries::{Effect, effect_of};
@@ -78,6 +79,8 @@ impl<'r> Traffic<'r> {
         ensures noted { IfOk result (λ noted. IsTrue noted
             → Notes (did own (event_of entry.now values.now)) (ledger_of self.old) (ledger_of self.new)) }
         ensures not_noted { IfOk result (λ noted. IsFalse noted → IsSame (ledger_of self.old) (ledger_of self.new)) }
+        ensures missing { IfOk result (λ noted. IsFalse noted
+            → IsMissing (taken_by own (event_of entry.now values.now)) (ledger_of self.old)) }
         ensures still { IfOk result (λ noted. IsFalse noted → self.new.sweep ≡ self.old.sweep) }
     {
         match effect_of(entry) {
@@ -126,6 +129,8 @@ impl<'r> Traffic<'r> {
         ensures noted { IfOk result (λ noted. IsTrue noted
             → Links None (message_got own (got_of got values.now)) (ledger_of self.old) (ledger_of self.new)) }
         ensures not_noted { IfOk result (λ noted. IsFalse noted → IsSame (ledger_of self.old) (ledger_of self.new)) }
+        ensures missing { IfOk result (λ noted. IsFalse noted
+            → IsMissing (message_got own (got_of got values.now)) (ledger_of self.old)) }
         ensures living { self.new.living ≡ self.old.living }
         ensures still { IfOk result (λ noted. IsFalse noted → self.new.sweep ≡ self.old.sweep) }
     {
@@ -207,6 +212,8 @@ impl<'r> Traffic<'r> {
         ensures taken { IfOk result (λ taken. IsTrue taken
             → Takes (record { channel = channel; values = values.now }) (ledger_of self.old) (ledger_of self.new)) }
         ensures not_taken { IfOk result (λ taken. IsFalse taken → IsSame (ledger_of self.old) (ledger_of self.new)) }
+        ensures missing { IfOk result (λ taken. IsFalse taken
+            → IsFirst values.now ((ledger_of self.old).rows channel) → ⊥) }
         ensures living { self.new.living ≡ self.old.living }
         ensures still { IfOk result (λ taken. IsFalse taken → self.new.sweep ≡ self.old.sweep) }
     {

@@ -12,7 +12,7 @@ loop-number-preserved c = record {
   goes = λ records going. c.in_ok-made.ensures.goes records (c.loop-number.invariant.goes records going);
   clock = c.in_ok-made.ensures.clock ∙ c.loop-number.invariant.clock;
   heard = c.in_ok-made.ensures.heard ∙ c.loop-number.invariant.heard;
-  left = c.in_ok-made.ensures.left ∙ c.loop-number.invariant.left;
+  left = c.in_ok-made.ensures.left c.if-made.false ∙ c.loop-number.invariant.left;
 }
 
 pub loop-number-smaller : goal.loop-number-smaller
@@ -25,3 +25,9 @@ loop-number-smaller c =
 pub returns-then-made-clause-goes : goal.returns-then-made-clause-goes
 returns-then-made-clause-goes c = λ records going.
     c.in_ok-made.ensures.goes records (c.loop-number.invariant.goes records going)
+
+pub returns-then-made-clause-fewer : goal.returns-then-made-clause-fewer
+returns-then-made-clause-fewer c = λ yes.
+    let fewer = c.in_ok-made.ensures.fewer c.if-made.true in
+    let same = c.loop-number.invariant.left in
+    omega (arith, fewer, same)

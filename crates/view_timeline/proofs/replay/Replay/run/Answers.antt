@@ -1,21 +1,25 @@
--- What is told stays so from one time to the next.
+-- In the last round nobody goes on.
 use Rattle.std.proofs.Common.{arith}
-use Rattle.view_timeline.proofs.GoesLemmas.{until-same}
 use Rattle.view_timeline.proofs.replay.Replay.run.Goals as goal
 
-pub times-init : goal.times-init
-times-init c = λ records going. going
+pub rounds-init : goal.rounds-init
+rounds-init c = λ records going. going
 
-pub times-preserved : goal.times-preserved
-times-preserved c = λ records going.
-    c.in_ok-ticked.ensures.goes records (c.in_ok-settle.ensures.goes records (c.times.invariant records going))
+pub rounds-preserved : goal.rounds-preserved
+rounds-preserved c = λ records going.
+    c.in_ok-made.ensures.goes records (c.in_ok-sweep.ensures.goes records (c.rounds.invariant records going))
 
-pub times-smaller : goal.times-smaller
-times-smaller c =
-    let later = c.in_ok-ticked.ensures.later c.if-not-ticked.false in
-    let same = until-same c.settle.new.self c.times.self c.in_ok-settle.ensures.clock c.in_ok-settle.ensures.heard in
-    omega (arith, later, same)
+pub rounds-smaller : goal.rounds-smaller
+rounds-smaller c =
+    let fewer = c.in_ok-made.ensures.fewer c.if-not-made.false in
+    let swept = c.in_ok-sweep.ensures.left in
+    omega (arith, fewer, swept)
 
-pub returns-then-not-ticked : goal.returns-then-not-ticked
-returns-then-not-ticked c = λ records going.
-    c.in_ok-ticked.ensures.goes records (c.in_ok-settle.ensures.goes records (c.times.invariant records going))
+pub returns-then-not-made-clause-goes : goal.returns-then-not-made-clause-goes
+returns-then-not-made-clause-goes c = λ records going.
+    c.in_ok-made.ensures.goes records (c.in_ok-sweep.ensures.goes records (c.rounds.invariant records going))
+
+pub returns-then-not-made-clause-nobody : goal.returns-then-not-made-clause-nobody
+returns-then-not-made-clause-nobody c = λ records going.
+    c.in_ok-made.ensures.nobody records (c.in_ok-sweep.ensures.goes records (c.rounds.invariant records going))
+    c.if-not-made.true

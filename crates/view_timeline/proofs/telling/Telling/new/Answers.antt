@@ -1,7 +1,7 @@
 -- Nothing is told of the records that are taken in.
 use Rattle.std.proofs.Common.{◌∙◌, ◌<◌, ap, arith, length, map, subst, take}
 use Rattle.std.proofs.lemmas.List.{take_all}
-use Rattle.view_timeline.proofs.TellingStart.{IsFresh, fresh, fresh-cursors, fresh-more, fresh-records, keeps-fresh, up_to-fresh}
+use Rattle.view_timeline.proofs.TellingStart.{IsFresh, fresh, fresh-cursors, fresh-more, fresh-records, keeps-fresh, latest-fresh}
 use Rattle.view_timeline.specs.Rows.{row_of}
 use Rattle.view_timeline.specs.Traffic.{ledger_of}
 use Rattle.view_timeline.proofs.telling.Telling.new.Goals as goal
@@ -35,17 +35,27 @@ loop-record-preserved c =
           (λ channel. ap (λ rows. row_of rows.rows channel) admitted.rows) admitted.living);
     }
 
-pub returns-clause-up_to : goal.returns-clause-up_to
-returns-clause-up_to c = up_to-fresh c.args.records.now
-    (record { moves = c.new-moves.result; cursors = c.loop-record.cursors; traffic = c.loop-record.traffic })
-    c.new-moves.ensures.items
+pub returns-clause-latest : goal.returns-clause-latest
+returns-clause-latest c = latest-fresh c.args.records.now
+    (record {
+      moves = c.new-moves.result;
+      cursors = c.loop-record.cursors;
+      traffic = c.loop-record.traffic;
+      latest = c.new-latest.result;
+    })
+    c.new-moves.ensures.items c.new-latest.ensures
 
 pub returns-clause-keeps : goal.returns-clause-keeps
 returns-clause-keeps c =
     let records = c.args.records.now in
     let all = take_all c.loop-record.record-index records (omega arith) in
     keeps-fresh records
-    (record { moves = c.new-moves.result; cursors = c.loop-record.cursors; traffic = c.loop-record.traffic })
+    (record {
+      moves = c.new-moves.result;
+      cursors = c.loop-record.cursors;
+      traffic = c.loop-record.traffic;
+      latest = c.new-latest.result;
+    })
     c.new-moves.ensures.items
     (c.loop-record.invariant.cursors ∙ ap (map fresh) all)
     (subst (λ rs. IsFresh rs (ledger_of c.loop-record.traffic)) all c.loop-record.invariant.ledger)

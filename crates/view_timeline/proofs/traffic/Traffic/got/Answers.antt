@@ -1,6 +1,6 @@
 -- What comes from no instance has no link; what one sent is taken.
 use Rattle.std.proofs.Common.{None, subst, sym}
-use Rattle.view_timeline.proofs.NoteLemmas.{got-inside, got-outside}
+use Rattle.view_timeline.proofs.NoteLemmas.{got-inside, got-misses, got-outside}
 use Rattle.view_timeline.specs.Traffic.{Links, ledger_of}
 use Rattle.view_timeline.proofs.traffic.Traffic.got.Goals as goal
 
@@ -14,3 +14,8 @@ pub returns-clause-noted : goal.returns-clause-noted
 returns-clause-noted c =
     got-inside c.args.own c.in-Instance.sender c.args.got c.args.values.now (ledger_of c.args.self.now)
     (ledger_of c.take.new.self) c.take.result c.in-Instance.is c.take.ensures.taken
+
+pub returns-clause-missing : goal.returns-clause-missing
+returns-clause-missing c =
+    got-misses c.args.own c.in-Instance.sender c.args.got c.args.values.now (ledger_of c.args.self.now) c.take.result
+    c.in-Instance.is c.take.ensures.missing

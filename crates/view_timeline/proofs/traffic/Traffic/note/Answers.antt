@@ -1,5 +1,5 @@
 -- What an entry does is noted.
-use Rattle.view_timeline.proofs.NoteLemmas.{living-same, notes-does, notes-takes}
+use Rattle.view_timeline.proofs.NoteLemmas.{living-same, misses-takes, notes-does, notes-takes}
 use Rattle.view_timeline.specs.Traffic.{ledger_of}
 use Rattle.view_timeline.specs.declared.entries.Effect.TheVariants as effect
 use Rattle.view_timeline.proofs.traffic.Traffic.note.Goals as goal
@@ -9,6 +9,11 @@ returns-in-Takes-clause-noted c =
     notes-takes c.args.own c.args.entry.now c.args.values.now c.in-Takes.got (ledger_of c.args.self.now)
     (ledger_of c.got.new.self) c.got.result c.in-Takes.ensures (living-same _ _ c.got.ensures.living)
     c.got.ensures.noted
+
+pub returns-in-Takes-clause-missing : goal.returns-in-Takes-clause-missing
+returns-in-Takes-clause-missing c =
+    misses-takes c.args.own c.args.entry.now c.args.values.now c.in-Takes.got (ledger_of c.args.self.now) c.got.result
+    c.in-Takes.ensures c.got.ensures.missing
 
 pub returns-in_ok-output-in-Sends-clause-noted : goal.returns-in_ok-output-in-Sends-clause-noted
 returns-in_ok-output-in-Sends-clause-noted c = λ _.

@@ -27,3 +27,6 @@ returns-clause-taken c = λ _.
     (omega (arith, c.mark.auto.links, c.deref_mut.ensures.len))
     ∙ c.mark.ensures ∙ ap (λ links. set links place (arrow old.arrows)) c.deref_mut.ensures.value))
     c.in_ok-arrows.ensures
+
+pub returns-in_default-clause-missing : goal.returns-in_default-clause-missing
+returns-in_default-clause-missing c = λ _. c.in_default.ensures.missing
