@@ -8,6 +8,7 @@ use Rattle.port_values.specs.declared.item.SignalId.{SignalId}
 use Rattle.port_values.specs.declared.pid.Pid as pid
 use Rattle.port_values.specs.declared.value.Value.{Value}
 use Rattle.sdl_system.specs.System.{SystemValue}
+use Rattle.sdl_system.specs.declared.route.Target.{Target}
 use Rattle.run_record.specs.Entry.{sender_of}
 use Rattle.run_record.specs.Event as event
 use Rattle.run_record.specs.Event.{values_got}
@@ -16,8 +17,8 @@ use Rattle.run_record.specs.Record.{RecordValue}
 use Rattle.run_record.specs.declared.record.Report.{Report}
 use Rattle.sdl_report.specs.Name.{process_name, signal_name, state_name, variable_name}
 use Rattle.sdl_report.specs.ReportText.{line}
-use Rattle.view_json.specs.JsonValue.{key, link_json, object, pid_json, quoted, target_json, value_json, values_json}
-use Rattle.view_steps.specs.Living.{is_living}
+use Rattle.view_json.specs.JsonValue.{arrow_json, fate_json, key, object, pid_json, quoted, target_json, truth_json, value_json, values_json}
+use Rattle.view_steps.specs.Fate.{fate_of}
 use Rattle.view_steps.specs.Walk.{StepValue, all_steps}
 use Rattle.view_timeline.specs.declared.moves.Link.{Link}
 use Rattle.view_timeline.specs.declared.moves.Timeline.{Timeline}
@@ -33,11 +34,11 @@ when_json system trace at =
 abbrev pub by_json : SystemValue → RecordValue → ℕ → List ℕ → List ℕ
 by_json system trace at word = when_json system trace at ++ key (codes "by") ++ quoted word
 
--- a signal or a timer with its values, who sent it, and its link
+-- a signal or a timer with its values, who sent it, and its arrow
 abbrev pub message_json : SystemValue → SignalId → List Value → pid.Pid → Link → List ℕ
 message_json system signal values sender link =
     key (codes "signal") ++ quoted (signal_name system signal) ++ key (codes "values") ++ values_json values
-    ++ key (codes "from") ++ pid_json sender ++ link_json true link
+    ++ key (codes "from") ++ pid_json sender ++ arrow_json link
 
 abbrev pub got_json : SystemValue → RecordValue → Got → Link → List ℕ
 got_json system trace got link =
@@ -65,13 +66,17 @@ abbrev pub created_json : Option ℕ → List ℕ
 created_json (Some number) = decimal number
 created_json None = codes "null"
 
+-- whom an output reached, and its arrow, or what became of it
+abbrev pub reached_json : Timeline → Target → Link → List ℕ
+reached_json told target link = target_json target ++ arrow_json link ++ fate_json (fate_of told target link)
+
 abbrev pub deed_json : SystemValue → Timeline → RecordValue → event.Event → Link → List ℕ
 deed_json system told trace (event.Task variable value) link =
     object (codes "task") (quoted (variable_name system trace.process variable) ++ key (codes "value")
     ++ value_json value)
 deed_json system told trace (event.Output signal to values target) link =
     object (codes "output") (quoted (signal_name system signal) ++ key (codes "values") ++ values_json values
-    ++ key (codes "to") ++ target_json target ++ link_json (is_living told target) link)
+    ++ key (codes "to") ++ reached_json told target link)
 deed_json system told trace (event.Set timer due) link =
     object (codes "set") (quoted (signal_name system timer.name) ++ key (codes "values") ++ values_json timer.values
     ++ key (codes "due") ++ decimal due)
@@ -87,7 +92,7 @@ deed_json system told trace other link = []
 
 -- ---- the lines
 
--- how a record closes stands in the last line
+-- how a record closes is in the last line
 abbrev pub is_closing : event.Event → Bool
 is_closing (event.Rest state) = true
 is_closing (event.Cut state) = true
@@ -144,8 +149,7 @@ instances_json system (trace ∷ more) =
 
 abbrev pub end_json : SystemValue → Report → List ℕ
 end_json system report =
-    object (codes "end") (decimal report.end ++ key (codes "whole")
-    ++ (if report.whole then codes "true" else codes "false")
+    object (codes "end") (decimal report.end ++ key (codes "whole") ++ truth_json report.whole
     ++ key (codes "instances") ++ instances_json system report.records.items)
 
 -- a line for each transition in the order of the timeline, and one for the end

@@ -1,5 +1,5 @@
 -- Keys and values of JSON (RFC 8259).
-use Rattle.std.specs.Prelude.{ℕ, ◌+◌, ◌∷◌, ◌++◌, Bool, true, false, List, [], codes}
+use Rattle.std.specs.Prelude.{ℕ, ◌+◌, ◌∷◌, ◌++◌, Bool, true, false, List, [], Option, None, Some, codes}
 use Rattle.std.specs.List.{flat_map}
 use Rattle.std.specs.Fmt.{decimal, signed_decimal}
 use Rattle.port_values.specs.declared.pid.Pid as pid
@@ -8,6 +8,8 @@ use Rattle.port_values.specs.declared.value.Value.{Value}
 use Rattle.port_values.specs.declared.value.Value.TheVariants as sort
 use Rattle.sdl_system.specs.declared.route.Target as target
 use Rattle.sdl_system.specs.declared.route.Target.TheVariants as reached
+use Rattle.view_steps.specs.Fate.{fate_word}
+use Rattle.view_steps.specs.declared.fate.Fate.{Fate}
 use Rattle.view_timeline.specs.declared.moves.Link.{Link}
 use Rattle.view_timeline.specs.declared.moves.Link.TheVariants as is
 
@@ -39,11 +41,14 @@ target_json reached.Env = quoted (codes "env")
 target_json reached.Null = codes "null"
 target_json reached.Nobody = quoted (codes "nobody")
 
+abbrev pub truth_json : Bool → List ℕ
+truth_json true = codes "true"
+truth_json false = codes "false"
+
 -- numbers and truth values as those of JSON
 abbrev pub value_json : Value → List ℕ
 value_json (sort.Int number) = signed_decimal number
-value_json (sort.Bool true) = codes "true"
-value_json (sort.Bool false) = codes "false"
+value_json (sort.Bool truth) = truth_json truth
 value_json (sort.Pid pid) = pid_json pid
 value_json (sort.Time ticks) = signed_decimal ticks
 value_json (sort.Duration ticks) = signed_decimal ticks
@@ -56,10 +61,14 @@ abbrev pub values_json : List Value → List ℕ
 values_json [] = codes "[]"
 values_json (value ∷ values) = codes "[" ++ value_json value ++ more_json values ++ codes "]"
 
--- The number of an arrow, from 1; or what became of what was sent and nobody took, by whether its receiver lives on.
-abbrev pub link_json : Bool → Link → List ℕ
-link_json living is.Plain = []
-link_json living (is.Arrow arrow) = key (codes "arrow") ++ decimal (arrow.0 + 1)
-link_json living is.Gone = key (codes "gone") ++ codes "true"
-link_json true is.Waits = key (codes "waits") ++ codes "true"
-link_json false is.Waits = key (codes "gone") ++ codes "true"
+-- the number of an arrow, from 1
+abbrev pub arrow_json : Link → List ℕ
+arrow_json is.Plain = []
+arrow_json (is.Arrow arrow) = key (codes "arrow") ++ decimal (arrow.0 + 1)
+arrow_json is.Gone = []
+arrow_json is.Waits = []
+
+-- what became of what was sent, if nobody took it
+abbrev pub fate_json : Option Fate → List ℕ
+fate_json None = []
+fate_json (Some fate) = key (fate_word fate) ++ codes "true"

@@ -1,13 +1,13 @@
 //! The line of the end.
 
-ghost use Rattle.std.specs.Prelude.{◌≡◌, ◌++◌, [], codes, if◌then◌else◌, OnOk};
+ghost use Rattle.std.specs.Prelude.{◌≡◌, ◌++◌, [], codes, OnOk};
 ghost use Rattle.std.specs.String.{string_bytes};
 ghost use Rattle.run_record.specs.Entry.{event_of};
 ghost use Rattle.sdl_report.specs.ReportText.{line};
 ghost use Rattle.view_json.specs.JsonText.{closing_json, end_json, instance_json, instances_json, last_event, whose_json};
 ghost use Rattle.view_json.specs.JsonValue.{key, pid_json, quoted};
 
-use crate::pieces::{push_key, push_pid, push_text};
+use crate::pieces::{push_key, push_pid, push_text, push_truth};
 use port_values::Pid;
 use run_record::{Entry, Record, Report};
 use sdl_report::{process_name, push_number, state_name};
@@ -15,7 +15,7 @@ use sdl_system::System;
 use std::alloc::AllocError;
 
 /// Appends when the run ended, whether it is whole, and its instances.
-pub fn push_closing(text: &mut String, report: &Report, system: &System) -> Result<(), AllocError>
+pub fn push_end(text: &mut String, report: &Report, system: &System) -> Result<(), AllocError>
     ensures { OnOk result (string_bytes text.new ≡ string_bytes text.old ++ line (end_json system.now report.now)) }
 {
     text.push_str("{\"end\":")?;
@@ -25,16 +25,6 @@ pub fn push_closing(text: &mut String, report: &Report, system: &System) -> Resu
     push_key(text, "instances")?;
     push_instances(text, &report.records, system)?;
     text.push_str("}\n")
-}
-
-fn push_truth(text: &mut String, truth: bool) -> Result<(), AllocError>
-    ensures { OnOk result (string_bytes text.new ≡ string_bytes text.old
-        ++ (if truth then codes "true" else codes "false")) }
-{
-    if truth {
-        return text.push_str("true");
-    }
-    text.push_str("false")
 }
 
 /// Appends the instances in their order.

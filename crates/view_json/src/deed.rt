@@ -5,19 +5,18 @@ ghost use Rattle.std.specs.Fmt.{decimal};
 ghost use Rattle.std.specs.String.{string_bytes};
 ghost use Rattle.run_record.specs.Entry.{event_of};
 ghost use Rattle.sdl_report.specs.Name.{process_name, signal_name, variable_name};
-ghost use Rattle.view_json.specs.JsonText.{created_json, deed_json};
-ghost use Rattle.view_json.specs.JsonValue.{key, link_json, object, quoted, target_json, value_json, values_json};
-ghost use Rattle.view_steps.specs.Living.{is_living};
+ghost use Rattle.view_json.specs.JsonText.{created_json, deed_json, reached_json};
+ghost use Rattle.view_json.specs.JsonValue.{key, object, quoted, value_json, values_json};
 
 use crate::pieces::{
-    push_count, push_key, push_link, push_quoted, push_target, push_value, push_values,
+    push_arrow, push_count, push_fate, push_key, push_quoted, push_target, push_value, push_values,
 };
 use port_values::{SignalId, Value};
 use run_record::{Entry, Record};
 use sdl_report::{process_name, push_number, signal_name, state_name, variable_name};
 use sdl_system::{ProcessId, System, Target, VariableId};
 use std::alloc::AllocError;
-use view_steps::{Step, is_living};
+use view_steps::{Step, fate_of};
 use view_timeline::{Link, Timeline};
 
 /// Appends what an event of a transition does.
@@ -86,14 +85,14 @@ fn push_output(
     ensures { OnOk result (string_bytes text.new ≡ string_bytes text.old
         ++ object (codes "output") (quoted (signal_name system.now signal)
         ++ key (codes "values") ++ values_json step.now.values.now
-        ++ key (codes "to") ++ target_json target ++ link_json (is_living told.now target) step.now.link)) }
+        ++ key (codes "to") ++ reached_json told.now target step.now.link)) }
 {
     push_signal(text, "output", signal, step.values, system)?;
     push_reached(text, target, step.link, told)?;
     text.push('}')
 }
 
-/// Appends whom an output reached, and its link.
+/// Appends whom an output reached, and its arrow, or what became of it.
 fn push_reached(
     text: &mut String,
     target: Target,
@@ -101,11 +100,12 @@ fn push_reached(
     told: &Timeline,
 ) -> Result<(), AllocError>
     ensures { OnOk result (string_bytes text.new ≡ string_bytes text.old
-        ++ key (codes "to") ++ target_json target ++ link_json (is_living told.now target) link) }
+        ++ key (codes "to") ++ reached_json told.now target link) }
 {
     push_key(text, "to")?;
     push_target(text, target)?;
-    push_link(text, is_living(told, target), link)
+    push_arrow(text, link)?;
+    push_fate(text, fate_of(told, target, link))
 }
 
 /// Appends a set.

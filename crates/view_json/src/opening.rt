@@ -1,12 +1,12 @@
 //! How the object of a transition opens.
 
-ghost use Rattle.std.specs.Prelude.{◌≡◌, ◌++◌, codes, true, OnOk};
+ghost use Rattle.std.specs.Prelude.{◌≡◌, ◌++◌, codes, OnOk};
 ghost use Rattle.std.specs.String.{string_bytes};
 ghost use Rattle.run_record.specs.Entry.{event_of, got_of};
 ghost use Rattle.view_json.specs.JsonText.{by_json, got_json, message_json, opening, taken_json, when_json};
-ghost use Rattle.view_json.specs.JsonValue.{key, link_json, pid_json};
+ghost use Rattle.view_json.specs.JsonValue.{arrow_json, key, pid_json};
 
-use crate::pieces::{push_count, push_key, push_link, push_pid, push_text, push_values};
+use crate::pieces::{push_arrow, push_count, push_key, push_pid, push_text, push_values};
 use port_values::{Pid, SignalId, Value};
 use run_record::{Entry, Record, Stimulus};
 use sdl_report::{process_name, push_number, signal_name};
@@ -92,7 +92,7 @@ fn push_got(
     push_message(text, got.name, step.values, sender, step.link, system)
 }
 
-/// Appends a signal or a timer with its values, who sent it, and its link.
+/// Appends a signal or a timer with its values, who sent it, and its arrow.
 fn push_message(
     text: &mut String,
     signal: SignalId,
@@ -109,12 +109,12 @@ fn push_message(
     push_from(text, sender, link)
 }
 
-/// Appends who sent what is taken, and its link.
+/// Appends who sent what is taken, and its arrow.
 fn push_from(text: &mut String, sender: Pid, link: Link) -> Result<(), AllocError>
     ensures { OnOk result (string_bytes text.new ≡ string_bytes text.old
-        ++ key (codes "from") ++ pid_json sender ++ link_json true link) }
+        ++ key (codes "from") ++ pid_json sender ++ arrow_json link) }
 {
     push_key(text, "from")?;
     push_pid(text, sender)?;
-    push_link(text, true, link)
+    push_arrow(text, link)
 }

@@ -3,12 +3,13 @@
 ghost use Rattle.std.specs.Prelude.{◌≡◌, ◌++◌, codes, OnOk};
 ghost use Rattle.std.specs.Fmt.{decimal};
 ghost use Rattle.std.specs.String.{string_bytes};
-ghost use Rattle.view_json.specs.JsonValue.{key, link_json, number_json, pid_json, quoted, target_json, value_json, values_json};
+ghost use Rattle.view_json.specs.JsonValue.{arrow_json, fate_json, key, number_json, pid_json, quoted, target_json, truth_json, value_json, values_json};
 
 use port_values::{Pid, Value};
 use sdl_report::{push_number, push_signed};
 use sdl_system::Target;
 use std::alloc::AllocError;
+use view_steps::Fate;
 use view_timeline::Link;
 
 /// Appends a text in quotes.
@@ -85,9 +86,19 @@ pub fn push_value(text: &mut String, value: &Value) -> Result<(), AllocError>
         Value::Int(number) | Value::Time(number) | Value::Duration(number) => {
             push_signed(text, *number)
         }
-        Value::Bool(true) => text.push_str("true"),
-        Value::Bool(false) => text.push_str("false"),
+        Value::Bool(truth) => push_truth(text, *truth),
         Value::Pid(pid) => push_pid(text, *pid),
+    }
+}
+
+/// Appends a truth value.
+pub fn push_truth(text: &mut String, truth: bool) -> Result<(), AllocError>
+    ensures { OnOk result (string_bytes text.new ≡ string_bytes text.old ++ truth_json truth) }
+{
+    if truth {
+        text.push_str("true")
+    } else {
+        text.push_str("false")
     }
 }
 
@@ -109,27 +120,25 @@ pub fn push_values(text: &mut String, values: &[Value]) -> Result<(), AllocError
     text.push(']')
 }
 
-/// Appends the number of an arrow, or what became of a signal that nobody took, by whether its receiver lives on.
-pub fn push_link(text: &mut String, living: bool, link: Link) -> Result<(), AllocError>
-    ensures { OnOk result (string_bytes text.new ≡ string_bytes text.old ++ link_json living link) }
+/// Appends the number of an arrow, from 1, or nothing.
+pub fn push_arrow(text: &mut String, link: Link) -> Result<(), AllocError>
+    ensures { OnOk result (string_bytes text.new ≡ string_bytes text.old ++ arrow_json link) }
 {
     match link {
-        Link::Plain => Ok(()),
         Link::Arrow(arrow) => push_count(text, "arrow", arrow.0 as u64 + 1),
-        Link::Gone => push_true(text, "gone"),
-        Link::Waits => {
-            if living {
-                push_true(text, "waits")
-            } else {
-                push_true(text, "gone")
-            }
-        }
+        Link::Plain | Link::Gone | Link::Waits => Ok(()),
     }
 }
 
-fn push_true(text: &mut String, name: &str) -> Result<(), AllocError>
-    ensures { OnOk result (string_bytes text.new ≡ string_bytes text.old ++ key name.now ++ codes "true") }
+/// Appends what became of a signal that nobody took, or nothing.
+pub fn push_fate(text: &mut String, fate: Option<Fate>) -> Result<(), AllocError>
+    ensures { OnOk result (string_bytes text.new ≡ string_bytes text.old ++ fate_json fate) }
 {
-    push_key(text, name)?;
-    text.push_str("true")
+    match fate {
+        None => Ok(()),
+        Some(fate) => {
+            push_key(text, fate.word())?;
+            text.push_str("true")
+        }
+    }
 }

@@ -1,5 +1,5 @@
 -- A timeline as lines of text.
-use Rattle.std.specs.Prelude.{ℕ, ◌==◌, Bool, true, false, List, [], ◌++◌, codes, count_by, sum_by, if◌then◌else◌}
+use Rattle.std.specs.Prelude.{ℕ, ◌==◌, Bool, true, false, List, [], ◌++◌, Option, None, Some, codes, count_by, sum_by, if◌then◌else◌}
 use Rattle.std.specs.List.{flat_map}
 use Rattle.std.specs.Fmt.{decimal}
 use Rattle.port_model.specs.declared.got.Got as got
@@ -13,10 +13,10 @@ use Rattle.run_record.specs.Record.{RecordValue}
 use Rattle.run_record.specs.declared.record.Report.{Report}
 use Rattle.sdl_report.specs.Name.{process_name}
 use Rattle.sdl_report.specs.ReportText.{end_text, event_text, line, stimulus_text}
-use Rattle.view_steps.specs.Living.{is_living}
+use Rattle.view_steps.specs.Fate.{fate_of, fate_word}
 use Rattle.view_steps.specs.Walk.{StepValue, all_steps}
+use Rattle.view_steps.specs.declared.fate.Fate.{Fate}
 use Rattle.view_timeline.specs.declared.moves.Link.{Link}
-use Rattle.view_timeline.specs.declared.moves.Link.TheVariants as is
 use Rattle.view_timeline.specs.declared.moves.Timeline.{Timeline}
 
 -- `#7 Initiator`
@@ -27,16 +27,12 @@ instance_text system trace = codes "#" ++ decimal trace.pid ++ codes " " ++ proc
 abbrev pub when_text : SystemValue → RecordValue → ℕ → List ℕ
 when_text system trace at = decimal at ++ codes " " ++ instance_text system trace
 
--- What became of what was sent, where nobody took it, by whether its receiver lives on: it waits for one that does, and
--- for another one it's gone.
-abbrev pub fate_text : Bool → Link → List ℕ
-fate_text living is.Plain = []
-fate_text living (is.Arrow arrow) = []
-fate_text living is.Gone = codes " gone"
-fate_text true is.Waits = codes " waits"
-fate_text false is.Waits = codes " gone"
+-- what became of what was sent, if nobody took it
+abbrev pub fate_text : Option Fate → List ℕ
+fate_text None = []
+fate_text (Some fate) = codes " " ++ fate_word fate
 
--- The line of an event: that of the report, with whose it is where a move opens, and what became of what was sent.
+-- The line of an event: that of the report. If a move opens, it says whose it is. An output says what became of it.
 abbrev pub linked_text : SystemValue → Timeline → RecordValue → event.Event → Link → List ℕ
 linked_text system told trace (event.Start at) link = when_text system trace at ++ codes " start"
 linked_text system told trace (event.Consumed at got) link =
@@ -54,7 +50,7 @@ linked_text system told trace (event.Rest state) link =
 linked_text system told trace (event.Cut state) link =
     instance_text system trace ++ codes " " ++ event_text system trace (event.Cut state)
 linked_text system told trace (event.Output signal to values target) link =
-    event_text system trace (event.Output signal to values target) ++ fate_text (is_living told target) link
+    event_text system trace (event.Output signal to values target) ++ fate_text (fate_of told target link)
 linked_text system told trace other link = event_text system trace other
 
 abbrev pub step_line : SystemValue → Timeline → StepValue → List ℕ
@@ -85,7 +81,7 @@ heard_in trace = count_by is_heard trace.events
 abbrev pub heard : List RecordValue → ℕ
 heard records = sum_by heard_in records
 
--- `script: 3 signals, 1 taken`, where not all were
+-- `script: 3 signals, 1 taken`, if not all were
 abbrev pub script_text : ℕ → ℕ → List ℕ
 script_text sent taken =
     if sent == taken then []

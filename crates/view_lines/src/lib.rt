@@ -1,5 +1,5 @@
 //! A timeline as lines of text: the lines of the report in the order of the run, each transition with its instance, and
-//! after an output what became of the signal where nobody took it.
+//! after an output what became of the signal if nobody took it.
 #![tactic(auto)]
 
 mod lines;

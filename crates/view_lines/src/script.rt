@@ -8,7 +8,7 @@ ghost use Rattle.view_lines.specs.LinesText.{heard, heard_in, is_env, is_heard, 
 use run_record::{Entry, Origin, Record, Report, Stimulus};
 use std::alloc::AllocError;
 
-/// Appends `script: 3 signals, 1 taken`, where not all were.
+/// Appends `script: 3 signals, 1 taken`, if not all were.
 pub fn push_script(text: &mut String, report: &Report, sent: usize) -> Result<(), AllocError>
     ensures { OnOk result (string_bytes text.new ≡ string_bytes text.old
         ++ script_text sent (heard report.now.records.items)) }

@@ -12,11 +12,11 @@ use run_record::{Entry, Record, Stimulus};
 use sdl_report::{process_name, push_event, push_number, push_signal, push_stimulus, push_target};
 use sdl_system::{System, Target};
 use std::alloc::AllocError;
-use view_steps::{Step, is_living};
-use view_timeline::{Link, Timeline};
+use view_steps::{Fate, Step, fate_of};
+use view_timeline::Timeline;
 
 /// Appends the line of an event of a timeline.
-pub fn push_step(
+pub fn push_step_line(
     text: &mut String,
     step: &Step<'_>,
     told: &Timeline,
@@ -48,7 +48,7 @@ pub fn push_step(
         | Entry::OutputToProcess { signal, target, .. }
         | Entry::OutputToPid { signal, target, .. } => {
             push_sent(text, *signal, step.values, *target, system)?;
-            push_fate(text, is_living(told, *target), step.link)?;
+            push_fate(text, fate_of(told, *target, step.link))?;
             text.push('\n')
         }
         Entry::Task { .. }
@@ -129,18 +129,14 @@ fn push_sent(
 }
 
 /// Appends ` gone` or ` waits`, or nothing.
-fn push_fate(text: &mut String, living: bool, link: Link) -> Result<(), AllocError>
-    ensures { OnOk result (string_bytes text.new ≡ string_bytes text.old ++ fate_text living link) }
+fn push_fate(text: &mut String, fate: Option<Fate>) -> Result<(), AllocError>
+    ensures { OnOk result (string_bytes text.new ≡ string_bytes text.old ++ fate_text fate) }
 {
-    match link {
-        Link::Plain | Link::Arrow(_) => Ok(()),
-        Link::Gone => text.push_str(" gone"),
-        Link::Waits => {
-            if living {
-                text.push_str(" waits")
-            } else {
-                text.push_str(" gone")
-            }
+    match fate {
+        None => Ok(()),
+        Some(fate) => {
+            text.push(' ')?;
+            text.push_str(fate.word())
         }
     }
 }

@@ -1,3 +1,2 @@
-mod Headed
 mod Pushed
 mod Words

@@ -1,5 +1,5 @@
 -- Events as text of Z.120.
-use Rattle.std.specs.Prelude.{ℕ, ◌+◌, ◌-◌, Bool, true, false, List, [], ◌++◌, Option, Some, None, codes, slice_get, if◌then◌else◌}
+use Rattle.std.specs.Prelude.{ℕ, ◌+◌, ◌-◌, List, [], ◌++◌, Option, Some, None, codes, slice_get, if◌then◌else◌}
 use Rattle.std.specs.Option.{option_map_or}
 use Rattle.std.specs.Fmt.{decimal}
 use Rattle.port_model.specs.declared.got.Got as got
@@ -19,7 +19,8 @@ use Rattle.run_record.specs.declared.failure.Failure.{Failure}
 use Rattle.run_record.specs.Record.{RecordValue}
 use Rattle.sdl_report.specs.Name.{signal_name, process_name, state_name, variable_name}
 use Rattle.view_msc.specs.Keyword.{is_keyword}
-use Rattle.view_steps.specs.Living.{lives_on}
+use Rattle.view_steps.specs.Fate.{fate_of, fate_word}
+use Rattle.view_steps.specs.declared.fate.Fate.{Fate}
 use Rattle.view_timeline.specs.declared.moves.Link.{Link}
 use Rattle.view_timeline.specs.declared.moves.Link.TheVariants as is
 use Rattle.view_timeline.specs.declared.moves.Timeline.{Timeline}
@@ -34,7 +35,7 @@ word name = if is_keyword name then name ++ codes "_" else name
 abbrev pub instance_name : SystemValue → ProcessId → ℕ → List ℕ
 instance_name system process number = process_name system process ++ codes "_" ++ decimal number
 
--- the instance of this number: records stand by ascending number, from 1 on
+-- the instance of this number: records are in the order of their numbers, from 1 on
 abbrev pub party_name : SystemValue → List RecordValue → ℕ → List ℕ
 party_name system records number =
     option_map_or (λ (trace : RecordValue). instance_name system trace.process number) (slice_get records (number - 1))
@@ -74,23 +75,15 @@ taken_text system records (came.Signal item) link =
 taken_text system records (came.Timer key) link =
     codes "timeout " ++ message_text system key.name is.Plain key.values
 
--- an instance to which a signal was sent that nobody took, and what became of that
-abbrev pub lost_text : List ℕ → List ℕ → List ℕ
-lost_text receiver fate = codes "lost " ++ receiver ++ comment fate
-
--- An instance to which a signal was sent, by whether it lives on: a signal that nobody took waits for one that does,
--- and for another one it is gone.
-abbrev pub reached_text : Bool → List ℕ → Link → List ℕ
-reached_text living receiver is.Plain = receiver
-reached_text living receiver (is.Arrow arrow) = receiver
-reached_text living receiver is.Gone = lost_text receiver (codes "gone")
-reached_text true receiver is.Waits = lost_text receiver (codes "waits")
-reached_text false receiver is.Waits = lost_text receiver (codes "gone")
+-- an instance to which a signal was sent, and what became of that, if nobody took it
+abbrev pub reached_text : List ℕ → Option Fate → List ℕ
+reached_text receiver None = receiver
+reached_text receiver (Some fate) = codes "lost " ++ receiver ++ comment (fate_word fate)
 
 -- whom an output reached
 abbrev pub receiver_text : SystemValue → List RecordValue → Timeline → Target → Link → List ℕ
 receiver_text system records told (reached.Instance number) link =
-    reached_text (lives_on told number) (party_name system records number) link
+    reached_text (party_name system records number) (fate_of told (reached.Instance number) link)
 receiver_text system records told reached.Env link = codes "env"
 receiver_text system records told reached.Null link = codes "lost"
 receiver_text system records told reached.Nobody link = codes "lost"

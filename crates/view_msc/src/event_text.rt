@@ -5,7 +5,7 @@ ghost use Rattle.std.specs.String.{string_bytes};
 ghost use Rattle.port_values.specs.Text.{value_text};
 ghost use Rattle.run_record.specs.Entry.{event_of, got_of};
 ghost use Rattle.sdl_report.specs.Name.{variable_name};
-ghost use Rattle.view_msc.specs.EventText.{at_text, closed_text, created_text, due_text, entered_text, event_text, failed_at_text, failed_text, lost_text, message_text, output_text, party_name, provided_text, reached_text, receiver_text, refused_text, reset_text, sender_name, set_text, start_text, taken_text};
+ghost use Rattle.view_msc.specs.EventText.{at_text, closed_text, created_text, due_text, entered_text, event_text, failed_at_text, failed_text, message_text, output_text, party_name, provided_text, reached_text, receiver_text, refused_text, reset_text, sender_name, set_text, start_text, taken_text};
 ghost use Rattle.view_timeline.specs.declared.moves.Link.TheVariants as is;
 
 use crate::names::{
@@ -16,6 +16,7 @@ use run_record::{Entry, Failure, Origin, Record, Stimulus};
 use sdl_report::{process_name, push_number, push_value, state_name, variable_name};
 use sdl_system::{ProcessId, System, Target};
 use std::alloc::AllocError;
+use view_steps::{Fate, fate_of};
 use view_timeline::Link;
 
 /// Appends an event of a record, an entry with its values and its link, without the `;` after it.
@@ -211,43 +212,33 @@ fn push_receiver(
 {
     match target {
         Target::Instance(number) => {
-            let living = cast.told.living.contains(&number);
-            push_reached(text, number, living, link, cast)
+            push_reached(text, number, fate_of(cast.told, target, link), cast)
         }
         Target::Env => text.push_str("env"),
         Target::Null | Target::Nobody => text.push_str("lost"),
     }
 }
 
-/// Appends an instance to which a signal was sent, by whether it lives on, and what became of a signal that nobody
-/// took.
+/// Appends an instance to which a signal was sent, and what became of that, if nobody took it.
 fn push_reached(
     text: &mut String,
     number: u32,
-    living: bool,
-    link: Link,
+    fate: Option<Fate>,
     cast: &Cast<'_>,
 ) -> Result<(), AllocError>
     ensures { OnOk result (string_bytes text.new ≡ string_bytes text.old
-        ++ reached_text living (party_name cast.now.system.now cast.now.report.now.records.items number) link) }
+        ++ reached_text (party_name cast.now.system.now cast.now.report.now.records.items number) fate) }
 {
-    match link {
-        Link::Plain | Link::Arrow(_) => push_party_name(text, number, cast),
-        Link::Waits if living => push_lost(text, number, "waits", cast),
-        Link::Gone | Link::Waits => push_lost(text, number, "gone", cast),
+    match fate {
+        None => push_party_name(text, number, cast),
+        Some(fate) => {
+            text.push_str("lost ")?;
+            push_party_name(text, number, cast)?;
+            text.push_str(" comment '")?;
+            text.push_str(fate.word())?;
+            text.push_str("'")
+        }
     }
-}
-
-/// Appends an instance that didn't take a signal, and what became of that.
-fn push_lost(text: &mut String, number: u32, fate: &str, cast: &Cast<'_>) -> Result<(), AllocError>
-    ensures { OnOk result (string_bytes text.new ≡ string_bytes text.old
-        ++ lost_text (party_name cast.now.system.now cast.now.report.now.records.items number) fate.now) }
-{
-    text.push_str("lost ")?;
-    push_party_name(text, number, cast)?;
-    text.push_str(" comment '")?;
-    text.push_str(fate)?;
-    text.push_str("'")
 }
 
 /// Appends a set, with the time when the timer is due.

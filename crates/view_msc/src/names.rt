@@ -14,8 +14,8 @@ use sdl_system::{ProcessId, System};
 use std::alloc::AllocError;
 use view_timeline::{ArrowId, Link, Timeline};
 
-/// What an event is told of: its system, the report, whose instances are named, and the timeline, which knows who lives
-/// on.
+/// What the text of an event needs: the system, the report with the records of all instances, and the timeline, which
+/// knows who lives on.
 #[derive(Clone, Copy)]
 pub struct Cast<'r> {
     pub system: &'r System,
@@ -49,7 +49,7 @@ pub fn push_instance_name(
     push_number(text, number as u64)
 }
 
-/// Appends the name of the instance of this number: records stand by ascending number, from 1 on.
+/// Appends the name of the instance of this number: records are in the order of their numbers, from 1 on.
 pub fn push_party_name(text: &mut String, number: u32, cast: &Cast<'_>) -> Result<(), AllocError>
     ensures { OnOk result (string_bytes text.new ≡ string_bytes text.old
         ++ party_name cast.now.system.now cast.now.report.now.records.items number) }

@@ -43,7 +43,7 @@ steps-none records (move ∷ moves) =
     (slice_get records move.record.0) in
     (λ i. first i ++ steps records moves (after i)) ∙ steps-none records moves
 
--- nothing is left where no links are
+-- nothing is left if there are no links
 pub left-none : (records : List RecordValue) (cursors : List CursorValue) (moves : List Move)
     → left_of records cursors moves [] ≡ []
 left-none records cursors [] = refl

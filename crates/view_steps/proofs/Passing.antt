@@ -29,7 +29,7 @@ step_of trace event link place closes = record {
   closes = closes;
 }
 
--- what holds of each record and its cursor, where one cursor goes on
+-- what holds of each record and its cursor, if one cursor goes on
 goes-all : (P : ℕ → RecordValue → CursorValue → Type 0) (records : List RecordValue) (cursors : List CursorValue)
     (at : ℕ) (trace : RecordValue) (old new : CursorValue) → slice_get records at ≡ Some trace
     → slice_get cursors at ≡ Some old → P at trace new

@@ -1,4 +1,4 @@
--- A text that goes out step by step, and then its end.
+-- A text of a timeline: its heading, its steps and its end go out.
 use Rattle.std.proofs.Common.{◌≡◌, ℕ, ◌+◌, ◌<◌, List, [], ◌∷◌, ◌++◌, length, Option, refl, sym, ap, ◌∙◌, subst, append_assoc, append-nil, length-append, arith}
 use Rattle.std.proofs.lemmas.List.{flat_map_more}
 use Rattle.std.proofs.lemmas.List.Concat.{flat_map-append}
@@ -54,50 +54,56 @@ module _ {X : Type 0} (f : X → List ℕ) (passed : List X) (x : X) (a b c : Op
       subst (Breaks a g c) path
       (Breaks-after a b c g h (flat_map f passed) (f x ++ (rest ++ after)) before (break (rest ++ after) far))
 
--- ---- the whole text: the steps, and its end
+-- ---- the whole text: the heading, the steps, and the end
 
 -- nothing has gone out
 pub breaks-none : (held : Option (List ℕ)) (steps closing : List ℕ) → 0 < length closing
     → BreaksOff held held (steps ++ closing)
 breaks-none held steps closing some = Breaks-prefix held held (steps ++ closing) (before-now held [] steps closing some)
 
-module _ (held held' : Option (List ℕ)) (first written steps closing : List ℕ) (some : 0 < length closing)
-    (empty : first ≡ []) (are : written ≡ steps) where
-  -- a break inside the steps
-  pub breaks-steps : BreaksBefore held first held' written → BreaksOff held held' (steps ++ closing)
-  breaks-steps break =
-      let b : BreaksBefore held [] held' steps =
-      subst (λ (w : List ℕ). BreaksBefore held [] held' w) are
-      (subst (λ (f : List ℕ). BreaksBefore held f held' written) empty break) in
-      Breaks-prefix held held' (steps ++ closing) (b closing some)
+module _ (held held' : Option (List ℕ)) (first heading headed written steps closing : List ℕ)
+    (some : 0 < length closing) (empty : first ≡ []) (is_headed : headed ≡ first ++ heading) (are : written ≡ steps)
+  where
+    gathers_heading : Grows held [] held headed heading
+    gathers_heading = Grows-gathered held [] headed heading (is_headed ∙ ap (λ l. l ++ heading) empty)
 
-  module _ (text : List ℕ) (grows : Grows held first held' text written) where
-    from_nothing : Grows held [] held' text steps
-    from_nothing =
-        subst (λ (w : List ℕ). Grows held [] held' text w) are
-        (subst (λ (f : List ℕ). Grows held f held' text written) empty grows)
+    -- a break inside the steps
+    pub breaks-steps : BreaksBefore held headed held' written → BreaksOff held held' ((heading ++ steps) ++ closing)
+    breaks-steps break =
+        let b : BreaksBefore held headed held' steps =
+        subst (λ (w : List ℕ). BreaksBefore held headed held' w) are break in
+        Breaks-prefix held held' ((heading ++ steps) ++ closing)
+        (subst (Breaks held [] held') (sym (append_assoc heading steps closing))
+        (Breaks-after held held held' [] headed heading (steps ++ closing) gathers_heading (b closing some)))
 
-    -- the end can't be made
-    pub breaks-closing : BreaksOff held held' (steps ++ closing)
-    breaks-closing =
-        Breaks-prefix held held' (steps ++ closing)
-        (Breaks-after held held' held' [] text steps closing from_nothing (before-now held' text [] closing some))
+    module _ (text : List ℕ) (grows : Grows held headed held' text written) where
+      from_nothing : Grows held [] held' text (heading ++ steps)
+      from_nothing =
+          Grows-trans held held held' [] headed text heading steps gathers_heading
+          (subst (λ (w : List ℕ). Grows held headed held' text w) are grows)
 
-    module _ (sent : Option (List ℕ)) (whole : List ℕ) (is : whole ≡ text ++ closing) where
-      -- a break while the rest goes out
-      pub breaks-sent : Breaks held' whole sent [] → BreaksOff held sent (steps ++ closing)
-      breaks-sent break =
-          let all : List ℕ = steps ++ closing in
-          let gathered : Grows held [] held' whole all =
-          Grows-trans held held' held' [] text whole steps closing from_nothing
-          (Grows-gathered held' text whole closing is) in
-          Breaks-prefix held sent all
-          (subst (Breaks held [] sent) (append-nil all) (Breaks-after held held' sent [] whole all [] gathered break))
+      -- the end can't be made
+      pub breaks-closing : BreaksOff held held' ((heading ++ steps) ++ closing)
+      breaks-closing =
+          Breaks-prefix held held' ((heading ++ steps) ++ closing)
+          (Breaks-after held held' held' [] text (heading ++ steps) closing from_nothing
+          (before-now held' text [] closing some))
 
-      -- all has gone out
-      pub appends-sent : Appends held' sent whole → Appends held sent (steps ++ closing)
-      appends-sent out =
-          let g : Grows held [] held' text steps = from_nothing in
-          let path : g.0 ++ whole ≡ steps ++ closing =
-          ap (λ l. g.0 ++ l) is ∙ sym (append_assoc g.0 text closing) ∙ ap (λ l. l ++ closing) g.2 in
-          subst (Appends held sent) path (Appends-trans held held' sent g.0 whole g.1 out)
+      module _ (sent : Option (List ℕ)) (whole : List ℕ) (is : whole ≡ text ++ closing) where
+        -- a break while the rest goes out
+        pub breaks-sent : Breaks held' whole sent [] → BreaksOff held sent ((heading ++ steps) ++ closing)
+        breaks-sent break =
+            let all : List ℕ = (heading ++ steps) ++ closing in
+            let gathered : Grows held [] held' whole all =
+            Grows-trans held held' held' [] text whole (heading ++ steps) closing from_nothing
+            (Grows-gathered held' text whole closing is) in
+            Breaks-prefix held sent all
+            (subst (Breaks held [] sent) (append-nil all) (Breaks-after held held' sent [] whole all [] gathered break))
+
+        -- all has gone out
+        pub appends-sent : Appends held' sent whole → Appends held sent ((heading ++ steps) ++ closing)
+        appends-sent out =
+            let g : Grows held [] held' text (heading ++ steps) = from_nothing in
+            let path : g.0 ++ whole ≡ (heading ++ steps) ++ closing =
+            ap (λ l. g.0 ++ l) is ∙ sym (append_assoc g.0 text closing) ∙ ap (λ l. l ++ closing) g.2 in
+            subst (Appends held sent) path (Appends-trans held held' sent g.0 whole g.1 out)

@@ -1,4 +1,4 @@
-pub mod Living
+pub mod Fate
 pub mod Step
 pub mod Walk
 pub mod Written

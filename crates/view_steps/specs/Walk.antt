@@ -52,7 +52,7 @@ all_steps records told = steps records told.moves.items told.links.items
 
 -- ---- on the way
 
--- the events of a move that are left, where so many of the record are passed
+-- the events of a move that are left, if so many of the record are passed
 abbrev pub left_in : RecordValue → ℕ → Move → List Event
 left_in trace passed move = slice_range trace.events passed move.end.0
 
@@ -62,7 +62,7 @@ left_from records move moves links trace passed =
     steps_in trace (passed - move.first.0) (left_in trace passed move) links
     ++ steps records moves (drop (length (left_in trace passed move)) links)
 
--- what is left, where a walk is in the first of the moves, and the cursors say how much of each record is passed
+-- what is left, if a walk is in the first of the moves, and the cursors say how much of each record is passed
 abbrev pub left_of : List RecordValue → List CursorValue → List Move → List Link → List StepValue
 left_of records cursors [] links = []
 left_of records cursors (move ∷ moves) links =

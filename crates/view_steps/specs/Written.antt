@@ -1,6 +1,14 @@
--- A text that goes out step by step.
+-- A text of a timeline, which goes out event by event.
 use Rattle.std.specs.Prelude.{ℕ, ◌<◌, List, ◌++◌, length, Option}
+use Rattle.std.specs.List.{flat_map}
+use Rattle.run_record.specs.Record.{RecordValue}
 use Rattle.sdl_report.specs.Gathered.{Breaks}
+use Rattle.view_steps.specs.Walk.{StepValue, all_steps}
+use Rattle.view_timeline.specs.declared.moves.Timeline.{Timeline}
+
+-- the heading, what each event adds in the order of the timeline, and the end
+abbrev pub whole_text : List ℕ → (StepValue → List ℕ) → List ℕ → List RecordValue → Timeline → List ℕ
+whole_text heading step closing records told = (heading ++ flat_map step (all_steps records told)) ++ closing
 
 -- The bytes were to come after the gathered text, and more after them. Of all that a beginning has gone out, and not
 -- all.

@@ -1,8 +1,10 @@
-//! A timeline, event by event: what every text of a timeline goes through.
+//! A timeline, event by event: what every text of a timeline goes through, and how such a text goes out.
 #![tactic(auto)]
 
-mod living;
+mod fate;
+mod timeline_text;
 mod walk;
 
-pub use living::is_living;
+pub use fate::{Fate, fate_of};
+pub use timeline_text::{TimelineText, write_timeline};
 pub use walk::{Step, Walk};

@@ -3,11 +3,10 @@ use Rattle.std.specs.List.{flat_map}
 use Rattle.std.specs.String.{string_bytes}
 use Rattle.sdl_report.specs.Gathered.{Grows}
 use Rattle.sdl_report.proofs.GatheredLemmas.{Grows-gathered, OnErr-any}
-use Rattle.view_msc.specs.MscText.{step_text}
 use Rattle.view_steps.specs.Step.{step_value}
 use Rattle.view_steps.specs.Walk.{StepValue}
 use Rattle.view_steps.proofs.Writing.{breaks-step, grows-step}
-use Rattle.view_msc.proofs.msc.write_steps.Goals as goal
+use Rattle.view_steps.proofs.timeline_text.write_steps.Goals as goal
 
 pub loop-step-init : goal.loop-step-init
 loop-step-init g c = (
@@ -19,8 +18,7 @@ loop-step-init g c = (
 
 pub returns-in_err-write_step-clause-err : goal.returns-in_err-write_step-clause-err
 returns-in_err-write_step-clause-err g c =
-    let cast = c.args.cast.now in
-    let f = step_text cast.system.now cast.report.now.records.items cast.told.now in
+    let f = g.T.TimelineText.step_text c.args.view.now in
     let passed = c.loop-step.invariant.0 in
     OnErr-any c.from_residual.result
     (breaks-step f passed (step_value c.in-Some.step) _ _ _ _ _ c.loop-step.invariant.2 _ _
@@ -28,8 +26,7 @@ returns-in_err-write_step-clause-err g c =
 
 pub loop-step-preserved : goal.loop-step-preserved
 loop-step-preserved g c =
-    let cast = c.args.cast.now in
-    let f = step_text cast.system.now cast.report.now.records.items cast.told.now in
+    let f = g.T.TimelineText.step_text c.args.view.now in
     let passed = c.loop-step.invariant.0 in
     let step = step_value c.in-Some.step in (
       passed ++ step ∷ [],
@@ -42,8 +39,7 @@ loop-step-smaller g c = let e = ap length c.in-Some.ensures in omega (arith, e)
 
 pub returns-clause-ok : goal.returns-clause-ok
 returns-clause-ok g c =
-    let cast = c.args.cast.now in
-    let f = step_text cast.system.now cast.report.now.records.items cast.told.now in
+    let f = g.T.TimelineText.step_text c.args.view.now in
     let passed = c.loop-step.invariant.0 in
     subst
     (λ (l : List StepValue). Grows (g.W.Write.contents c.args.writer.now) (string_bytes c.args.text.now)

@@ -2,13 +2,13 @@ use Rattle.std.proofs.Common.{[], ◌∷◌, ◌++◌, codes}
 use Rattle.sdl_report.specs.ReportText.{end_text}
 use Rattle.std.specs.String.{string_bytes}
 use Rattle.view_msc.proofs.Pushed.{grown, pushed}
-use Rattle.view_msc.proofs.msc.push_last.Goals as goal
+use Rattle.view_msc.proofs.msc.MscTimelineText.push_closing.Goals as goal
 
 pub returns : goal.returns
 returns c =
     let text = string_bytes c.args.text.now in
     let end = 10 ∷ codes "endmsc; /* " in
-    let how = end_text c.args.report.now in
+    let how = end_text c.args.self.now.cast.report.now in
     let close = codes " */" in
     pushed c.push_str-3.result _ text (end ++ how ++ close) (10 ∷ [])
     (grown text (end ++ how) close (grown text end how c.in_ok-push_str.ensures.bytes c.in_ok-push_end_text.ensures)

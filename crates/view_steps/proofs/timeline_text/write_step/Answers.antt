@@ -1,15 +1,14 @@
 use Rattle.std.specs.String.{string_bytes}
 use Rattle.sdl_report.proofs.GatheredLemmas.{OnErr-any}
-use Rattle.view_json.specs.JsonText.{step_json}
 use Rattle.view_steps.specs.Step.{step_value}
 use Rattle.view_steps.proofs.Writing.{before-gathered, before-now}
-use Rattle.view_json.proofs.json.write_step.Goals as goal
+use Rattle.view_steps.proofs.timeline_text.write_step.Goals as goal
 
 pub returns-in_err-push_step-clause-err : goal.returns-in_err-push_step-clause-err
 returns-in_err-push_step-clause-err g c = OnErr-any c.from_residual.result (before-now _ _ _)
 
 pub returns-in_err-send-clause-err : goal.returns-in_err-send-clause-err
 returns-in_err-send-clause-err g c =
-    let bytes = step_json c.args.system.now c.args.told.now (step_value c.args.step.now) in
+    let bytes = g.T.TimelineText.step_text c.args.view.now (step_value c.args.step.now) in
     OnErr-any c.from_residual-in_err-send.result
     (before-gathered _ _ (string_bytes c.args.text.now) _ bytes c.in_ok-push_step.ensures c.in_err-send.ensures.err)
