@@ -1,1 +1,2 @@
+pub mod CoveredLaws
 pub mod DrawnLaws

@@ -1,4 +1,2 @@
-pub mod Markup
 pub mod Selection
 pub mod Words
-pub mod Written

@@ -11,7 +11,7 @@ use sdl_system::StateId;
 use std::alloc::AllocError;
 
 impl<'r> Layout<'r> {
-    /// Draws an event that stands at one column alone.
+    /// Draws an event that is at one column alone.
     pub fn act(
         &mut self,
         column: ColumnId,

@@ -119,7 +119,7 @@ pub struct Arrow {
     pub told: String,
 }
 
-/// What stands at a line.
+/// What is at a line.
 #[derive(Clone, Copy, PartialEq, Eq)]
 pub enum Sign {
     /// A state that is entered.
@@ -207,7 +207,7 @@ impl Chart {
 }
 
 impl Arrow {
-    /// Where it is straight, it has one row.
+    /// The row of its tip, if that is at a line, else of its tail. A level arrow has one row.
     pub fn row(&self) -> Row {
         match (self.tail, self.tip) {
             (_, Tip::At(spot)) | (Tail::At(spot), _) => spot.row,

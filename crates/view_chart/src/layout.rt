@@ -1,7 +1,7 @@
 //! From the moves of a timeline to the rows of a chart.
 
 use crate::chart::Chart;
-use crate::passage::Walk;
+use crate::passage::MoveWalk;
 use crate::plan::Plan;
 use crate::rows::Layout;
 use crate::selection::Selection;
@@ -32,7 +32,7 @@ pub fn lay_out(
 ) -> Result<Chart, AllocError> {
     let plan = Plan::new(alloc, &subject, selection)?;
     let mut layout = Layout::new(alloc, &subject, plan)?;
-    let mut walk = Walk::new(alloc, subject.report, subject.timeline)?;
+    let mut walk = MoveWalk::new(alloc, subject.report, subject.timeline)?;
     for one in &subject.timeline.moves {
         let Some(passage) = walk.passage(one) else {
             break;

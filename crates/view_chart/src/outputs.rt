@@ -1,4 +1,4 @@
-//! Outputs.
+//! Outputs: each is an arrow.
 
 use crate::chart::{Arrow, ColumnId, Fate, Row, Spot, Tail, Tip};
 use crate::rows::Layout;

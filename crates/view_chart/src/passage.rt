@@ -29,9 +29,9 @@ impl<'r> Passage<'r> {
     }
 }
 
-/// A walk along the moves of a timeline.
+/// A walk along the moves of a timeline. It ends early if the timeline isn't one of this report.
 #[derive(Drop)]
-pub struct Walk<'r> {
+pub struct MoveWalk<'r> {
     report: &'r Report,
     /// The links of the events that are still to come.
     links: &'r [Link],
@@ -39,25 +39,23 @@ pub struct Walk<'r> {
     behind: Vec<usize>,
 }
 
-impl<'r> Walk<'r> {
+impl<'r> MoveWalk<'r> {
     /// The walk before the first move.
     pub fn new(
         alloc: Global,
         report: &'r Report,
         timeline: &'r Timeline,
     ) -> Result<Self, AllocError> {
-        let mut behind = Vec::with_capacity(alloc, report.records.len())?;
-        for _record in &report.records {
-            behind.push(0usize)?;
-        }
-        Ok(Walk {
+        let mut behind = Vec::new(alloc);
+        behind.resize(report.records.len(), 0usize)?;
+        Ok(MoveWalk {
             report,
             links: timeline.links.as_slice(),
             behind,
         })
     }
 
-    /// What happens in the next move. None where the timeline isn't one of this report.
+    /// What happens in the next move. None if the timeline isn't one of this report.
     pub fn passage(&mut self, next: &Move) -> Option<Passage<'r>> {
         let place = next.record.0 as usize;
         let report: &'r Report = self.report;

@@ -2,14 +2,14 @@
 
 use crate::chart::ColumnId;
 use crate::layout::Subject;
-use crate::passage::{Passage, Walk};
+use crate::passage::{MoveWalk, Passage};
 use crate::selection::Selection;
 use run_record::{Record, Report};
 use sdl_report::process_name;
 use std::alloc::{AllocError, Global};
 use view_timeline::Timeline;
 
-/// So many columns are drawn, apart from the environment's.
+/// At most so many columns are drawn, apart from the environment's and the others'.
 pub const MOST_COLUMNS: u32 = 100;
 
 /// The columns of records: those of the first instances that are wanted and that do something at the times that are
@@ -65,7 +65,7 @@ impl Plan {
         self.columns.get(place).copied().flatten()
     }
 
-    /// The column of the instance of this number, if it has one: records stand by ascending number, from 1 on.
+    /// The column of the instance of this number, if it has one: records are by ascending number, from 1 on.
     pub fn column_of(&self, number: u32) -> Option<ColumnId> {
         self.column(number.checked_sub(1)? as usize)
     }
@@ -83,11 +83,9 @@ fn acting(
     timeline: &Timeline,
     selection: &Selection,
 ) -> Result<Vec<bool>, AllocError> {
-    let mut acting = Vec::with_capacity(alloc, report.records.len())?;
-    for _record in &report.records {
-        acting.push(false)?;
-    }
-    let mut walk = Walk::new(alloc, report, timeline)?;
+    let mut acting = Vec::new(alloc);
+    acting.resize(report.records.len(), false)?;
+    let mut walk = MoveWalk::new(alloc, report, timeline)?;
     for one in &timeline.moves {
         let Some(passage) = walk.passage(one) else {
             break;

@@ -15,7 +15,7 @@ use sdl_system::{StateId, System};
 use std::alloc::{AllocError, Global};
 use view_timeline::Link;
 
-/// So many transitions are drawn.
+/// At most so many transitions are drawn.
 pub const MOST_TRANSITIONS: u32 = 2_000;
 
 /// How far a column is drawn.
@@ -266,14 +266,15 @@ fn push_more(text: &mut String, transitions: u32, instances: u32) -> Result<(), 
 
 /// So many columns of which nothing is drawn.
 fn progress_of(alloc: Global, columns: usize) -> Result<Vec<Progress>, AllocError> {
-    let mut progress = Vec::with_capacity(alloc, columns)?;
-    for _column in 0..columns {
-        progress.push(Progress {
+    let mut progress = Vec::new(alloc);
+    progress.resize(
+        columns,
+        Progress {
             free: Row(0),
             state: None,
             left_out: false,
-        })?;
-    }
+        },
+    )?;
     Ok(progress)
 }
 

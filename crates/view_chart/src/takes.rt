@@ -1,4 +1,4 @@
-//! Takes from the port.
+//! Takes from the port: tips of arrows, and timers that expire.
 
 use crate::chart::{Arrow, ColumnId, Fate, Row, Sign, Spot, Tail, Tip};
 use crate::rows::Layout;
@@ -180,7 +180,7 @@ impl<'r> Layout<'r> {
     }
 }
 
-/// The label of a signal whose output isn't drawn, with the number of its sender where the arrow doesn't show it.
+/// The label of a signal whose output isn't drawn, with the number of its sender if the arrow doesn't show it.
 fn label_of(
     alloc: Global,
     signal: &str,

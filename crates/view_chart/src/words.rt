@@ -11,7 +11,7 @@ use sdl_report::{process_name, push_event, push_signal};
 use sdl_system::{System, Target};
 use std::alloc::{AllocError, Global};
 
-/// A label has at most so many bytes; what is longer is cut, and stands whole in the title.
+/// A label has at most so many bytes; what is longer is cut, and is whole in the title.
 const LONGEST: usize = 40;
 
 /// A signal or a timer with its values, as a label.
@@ -26,7 +26,7 @@ pub fn signal_label(
     clipped(alloc, text.as_str())
 }
 
-/// The beginning of a text, with two dots where something is left out. Names are ASCII.
+/// The beginning of a text, with two dots if something is left out. Names are ASCII.
 pub fn clipped(alloc: Global, text: &str) -> Result<String, AllocError> {
     let mut label = String::new(alloc);
     if text.len() <= LONGEST {
@@ -94,7 +94,7 @@ pub fn push_target(
     }
 }
 
-/// Appends the instance of this number: records stand by ascending number, from 1 on.
+/// Appends the instance of this number: records are by ascending number, from 1 on.
 pub fn push_number_of(
     text: &mut String,
     system: &System,
@@ -111,7 +111,7 @@ pub fn push_number_of(
     }
 }
 
-/// The label of an output, with a remark, and with the receiver's number where it has no column.
+/// The label of an output, with a remark, and with the receiver's number if it has no column.
 pub fn label_with(
     alloc: Global,
     signal: &str,

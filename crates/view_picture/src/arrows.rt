@@ -1,11 +1,11 @@
-//! The arrows of signals.
+//! The arrows of signals and of creates.
 
-use crate::chart::{Arrow, ColumnId, Creation, Fate, Row, Spot, Tail, Tip};
 use crate::drawing::{Drawing, beside};
 use crate::heads::push_head;
 use crate::pixels::{Pixels, width_of};
 use crate::spacing::leads_right;
 use std::alloc::AllocError;
+use view_chart::{Arrow, ColumnId, Creation, Fate, Row, Spot, Tail, Tip};
 
 /// The classes of an arrow: of its line, its tip, and its label.
 #[derive(Clone, Copy)]
@@ -281,7 +281,7 @@ fn push_line(
     )
 }
 
-/// Appends a level line with a dot at its end: full where the signal is gone, else hollow.
+/// Appends a level line with a dot at its end: full if the signal is gone, else hollow.
 fn push_dotted(
     text: &mut String,
     drawing: &Drawing,

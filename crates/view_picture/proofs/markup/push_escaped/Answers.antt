@@ -4,8 +4,8 @@ use Rattle.std.proofs.lemmas.Iterator.Consumers.{YieldsList-end}
 use Rattle.std.proofs.lemmas.List.{flat_map_more, map-id}
 use Rattle.std.specs.List.{flat_map}
 use Rattle.std.specs.String.{string_bytes}
-use Rattle.view_chart.specs.Markup.{escape}
-use Rattle.view_chart.proofs.picture.push_escaped.Goals as goal
+use Rattle.view_picture.specs.Markup.{escape}
+use Rattle.view_picture.proofs.markup.push_escaped.Goals as goal
 
 pub loop-letter-preserved : goal.loop-letter-preserved
 loop-letter-preserved c =

@@ -1,9 +1,9 @@
 //! From rows and columns to places in a picture.
 
-use crate::chart::{Chart, Column, ColumnId, Ending, Head, Row};
 use crate::pixels::Pixels;
 use crate::spacing::{Spacing, half_head};
 use std::alloc::{AllocError, Global};
+use view_chart::{Chart, Column, ColumnId, Ending, Head, Row};
 
 /// From one row to the next.
 const ROW: u32 = 26;
@@ -21,6 +21,7 @@ pub struct Drawing<'c> {
 }
 
 impl<'c> Drawing<'c> {
+    /// A chart whose first row is at `top`.
     pub fn new(alloc: Global, chart: &'c Chart, top: Pixels) -> Result<Self, AllocError> {
         Ok(Drawing {
             chart,
@@ -29,6 +30,7 @@ impl<'c> Drawing<'c> {
         })
     }
 
+    /// How wide the picture is.
     pub fn width(&self) -> Pixels {
         self.spacing.width
     }
@@ -48,6 +50,7 @@ impl<'c> Drawing<'c> {
         self.spacing.line(column)
     }
 
+    /// The column of this number, if there is one.
     pub fn column(&self, column: ColumnId) -> Option<&'c Column> {
         let chart: &'c Chart = self.chart;
         chart.columns.get(column.0 as usize)
@@ -61,7 +64,7 @@ impl<'c> Drawing<'c> {
         }
     }
 
-    /// The edge of what stands at the line of a column, at its right or else at its left: of a bar, if it is an
+    /// The edge of what is at the line of a column, at its right or else at its left: of a bar, if it is an
     /// instance's.
     pub fn edge(&self, column: ColumnId, is_right: bool) -> Pixels {
         let half = match self.column(column) {

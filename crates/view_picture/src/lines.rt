@@ -1,9 +1,9 @@
 //! What is drawn under all else: the lines of times and columns, and the bars of transitions.
 
-use crate::chart::{Bar, Column, ColumnId, Ending, Head, TimeLine};
 use crate::drawing::{BAR, Drawing};
 use crate::pixels::Pixels;
 use std::alloc::AllocError;
+use view_chart::{Bar, Column, ColumnId, Ending, Head, TimeLine};
 
 /// Appends the lines of the times.
 pub fn push_times(text: &mut String, drawing: &Drawing) -> Result<(), AllocError> {
@@ -66,7 +66,7 @@ fn push_column(
     push_foot(text, column, line, to)
 }
 
-/// Appends the foot of an instance that lives on: full, or hollow where the run was cut.
+/// Appends the foot of an instance that lives on: full, or hollow if the run was cut.
 fn push_foot(text: &mut String, column: &Column, line: Pixels, y: u32) -> Result<(), AllocError> {
     let Head::Instance { number, process } = &column.head else {
         return Ok(());

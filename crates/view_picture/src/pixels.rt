@@ -8,19 +8,21 @@ ghost use Rattle.std.specs.Prelude.{◌≡◌, ◌+◌, ◌-◌, ◌*◌, ◌/�
 pub struct Pixels(pub u32);
 
 impl Pixels {
+    /// So much further, or longer.
     pub fn plus(self, more: u32) -> Pixels
         ensures { result.0 ≡ min (self.0 + more) (2 ^ 32 - 1) }
     {
         Pixels(self.0.saturating_add(more))
     }
 
-    /// Never below 0.
+    /// So much nearer, or shorter; never below 0.
     pub fn minus(self, less: u32) -> Pixels
         ensures { result.0 ≡ self.0 - less }
     {
         Pixels(self.0.saturating_sub(less))
     }
 
+    /// So many lengths.
     pub fn times(self, count: u32) -> Pixels
         ensures { result.0 ≡ min (self.0 * count) (2 ^ 32 - 1) }
     {

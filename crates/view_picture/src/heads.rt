@@ -1,9 +1,9 @@
 //! The heads of columns.
 
-use crate::chart::{Column, Head};
 use crate::pixels::Pixels;
 use crate::spacing::half_head;
 use std::alloc::AllocError;
+use view_chart::{Column, Head};
 
 /// Appends the head of a column, in the middle of `x`, with its upper edge at `y`. It is 34 pixels high.
 pub fn push_head(

@@ -1,9 +1,9 @@
 //! The signs at the lines of columns (Z.120: condition, timer, stop).
 
-use crate::chart::{Mark, Sign};
 use crate::drawing::Drawing;
 use crate::pixels::{Pixels, width_of};
 use std::alloc::AllocError;
+use view_chart::{Mark, Sign};
 
 /// Appends the signs.
 pub fn push_signs(text: &mut String, drawing: &Drawing) -> Result<(), AllocError> {
@@ -24,17 +24,17 @@ fn push_sign(text: &mut String, drawing: &Drawing, mark: &Mark) -> Result<(), Al
         Sign::State => push_state(text, x, y, label),
         Sign::Set => {
             push_hourglass(text, x, y)?;
-            push_stem(text, x, y, "timer\"", false)?;
+            push_stem(text, x, y, "timer", None)?;
             push_label(text, "timertext halo", x.plus(44), y, label)
         }
         Sign::Timeout => {
             push_hourglass(text, x, y)?;
-            push_stem(text, x, y, "timer\" marker-end=\"url(#c)\"", true)?;
+            push_stem(text, x, y, "timer", Some("c"))?;
             push_label(text, "timertext halo", x.plus(44), y, label)
         }
         Sign::Discard => {
             push_hourglass(text, x, y)?;
-            push_stem(text, x, y, "lost\" marker-end=\"url(#b)\"", true)?;
+            push_stem(text, x, y, "lost", Some("b"))?;
             push_label(text, "losttext halo", x.plus(44), y, label)
         }
         Sign::Reset => {
@@ -78,21 +78,28 @@ fn push_hourglass(text: &mut String, x: Pixels, y: Pixels) -> Result<(), AllocEr
     )
 }
 
-/// Appends the line between a bar and an hourglass, from this one if `is_back`.
+/// Appends the line between a bar and an hourglass: an arrow back to the bar, if there is a tip.
 fn push_stem(
     text: &mut String,
     x: Pixels,
     y: Pixels,
     class: &str,
-    is_back: bool,
+    tip: Option<&str>,
 ) -> Result<(), AllocError> {
     let near = x.plus(5).0;
     let far = x.plus(32).0;
     let line = y.0;
-    let (x1, x2) = if is_back { (far, near) } else { (near, far) };
+    write!(text, "<line class=\"{class}\"")?;
+    let (x1, x2) = match tip {
+        Some(tip) => {
+            write!(text, " marker-end=\"url(#{tip})\"")?;
+            (far, near)
+        }
+        None => (near, far),
+    };
     write!(
         text,
-        "<line class=\"{class} x1=\"{x1}\" y1=\"{line}\" x2=\"{x2}\" y2=\"{line}\"/>"
+        " x1=\"{x1}\" y1=\"{line}\" x2=\"{x2}\" y2=\"{line}\"/>"
     )
 }
 

@@ -1,17 +1,19 @@
 //! Where the columns of a chart are.
 
-use crate::chart::{Arrow, Chart, Column, ColumnId, Head, Mark, Sign, Tail, Tip};
 use crate::pixels::{Pixels, width_of};
 use std::alloc::{AllocError, Global};
+use view_chart::{Arrow, Chart, Column, ColumnId, Head, Mark, Sign, Tail, Tip};
 
-/// The least way from one column to the next, and the most that labels may want.
+/// The least way from one column to the next.
 const LEAST_GAP: Pixels = Pixels(116);
 
+/// The most that labels may want of it.
 const MOST_GAP: Pixels = Pixels(330);
 
-/// The least width of a picture, and of the place for times at its left edge.
+/// The least width of a picture.
 const LEAST_WIDTH: Pixels = Pixels(200);
 
+/// The least width of the place for times at its left edge.
 const LEAST_EDGE: Pixels = Pixels(40);
 
 /// What is wanted around the line of a column.
@@ -21,7 +23,7 @@ struct Room {
     left: Pixels,
     /// For labels at its right.
     right: Pixels,
-    /// For what stands in the middle, at each side.
+    /// For what is in the middle, at each side.
     half: Pixels,
 }
 
@@ -104,21 +106,23 @@ fn width_of_number(number: u64) -> Pixels {
 
 /// What is wanted around each column.
 fn rooms_of(alloc: Global, chart: &Chart) -> Result<Vec<Room>, AllocError> {
+    let mut rooms = rooms_of_heads(alloc, chart)?;
+    make_room_for_marks(&mut rooms, chart);
+    for arrow in &chart.arrows {
+        make_room_for_arrow(&mut rooms, arrow);
+    }
+    Ok(rooms)
+}
+
+/// What the head of each column wants.
+fn rooms_of_heads(alloc: Global, chart: &Chart) -> Result<Vec<Room>, AllocError> {
     let mut rooms = Vec::with_capacity(alloc, chart.columns.len())?;
     for column in &chart.columns {
         rooms.push(Room {
             left: Pixels(0),
             right: Pixels(0),
-            half: Pixels(half_head(column).0).plus(4),
+            half: half_head(column).plus(4),
         })?;
-    }
-    for mark in &chart.marks {
-        if let Some(room) = rooms.get_mut(mark.spot.column.0 as usize) {
-            make_room_for_mark(room, mark);
-        }
-    }
-    for arrow in &chart.arrows {
-        make_room_for_arrow(&mut rooms, arrow);
     }
     Ok(rooms)
 }
@@ -132,6 +136,14 @@ pub fn half_head(column: &Column) -> Pixels {
     };
     let width = width_of(name).plus(18).or_more(Pixels(36));
     Pixels(width.0 / 2)
+}
+
+fn make_room_for_marks(rooms: &mut Vec<Room>, chart: &Chart) {
+    for mark in &chart.marks {
+        if let Some(room) = rooms.get_mut(mark.spot.column.0 as usize) {
+            make_room_for_mark(room, mark);
+        }
+    }
 }
 
 fn make_room_for_mark(room: &mut Room, mark: &Mark) {

@@ -1,17 +1,13 @@
 //! The whole of a picture: what is drawn under what, and its words for those who don't see it.
 
-ghost use Rattle.std.specs.Prelude.{◌≡◌, ◌++◌, OnOk};
-ghost use Rattle.std.specs.String.{string_bytes};
-ghost use Rattle.view_chart.specs.Markup.{escape, escaped};
-
 use crate::arrows::{push_creations, push_levels, push_slope_labels, push_slopes};
-use crate::chart::{Chart, ColumnId, Head};
 use crate::drawing::Drawing;
 use crate::heads::push_head;
 use crate::lines::{push_bars, push_columns, push_times};
 use crate::pixels::Pixels;
 use crate::signs::push_signs;
 use std::alloc::AllocError;
+use view_chart::{Chart, ColumnId, Head};
 
 /// How far the lines of columns begin above the first row, in a picture with its heads.
 pub const ABOVE: Pixels = Pixels(20);
@@ -87,27 +83,5 @@ fn push_name(text: &mut String, head: &Head) -> Result<(), AllocError> {
         Head::Env => text.push_str("env"),
         Head::Others => text.push_str("others"),
         Head::Instance { number, process } => write!(text, "{process} #{number}"),
-    }
-}
-
-/// Appends a text in which nothing is markup.
-pub fn push_escaped(text: &mut String, words: &str) -> Result<(), AllocError>
-    ensures { OnOk result (string_bytes text.new ≡ string_bytes text.old ++ escaped words.now) }
-{
-    for letter in words.chars() {
-        push_letter(text, letter)?;
-    }
-    Ok(())
-}
-
-fn push_letter(text: &mut String, letter: char) -> Result<(), AllocError>
-    ensures { OnOk result (string_bytes text.new ≡ string_bytes text.old ++ escape letter) }
-{
-    match letter {
-        '<' => text.push_str("&lt;"),
-        '>' => text.push_str("&gt;"),
-        '&' => text.push_str("&amp;"),
-        '"' => text.push_str("&quot;"),
-        _ => text.push(letter),
     }
 }

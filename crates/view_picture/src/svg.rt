@@ -1,16 +1,17 @@
 //! A chart as a picture of its own.
 
 ghost use Rattle.std.specs.Prelude.{OnErr, OnOk};
-ghost use Rattle.view_chart.specs.Written.{IsBrokenOff, IsWritten};
+ghost use Rattle.view_picture.specs.Written.{IsBrokenOff, IsWritten};
 
-use crate::chart::Chart;
 use crate::drawing::Drawing;
-use crate::picture::{ABOVE, height, push_body, push_description, push_escaped, push_heads};
+use crate::markup::push_escaped;
+use crate::picture::{ABOVE, height, push_body, push_description, push_heads};
 use crate::pixels::Pixels;
 use crate::style::{STYLE, TIPS};
 use sdl_report::{WriteFault, write_text};
 use std::alloc::{AllocError, Global};
 use std::io::Write;
+use view_chart::Chart;
 
 /// Writes a chart as SVG, with this title. After a fault a prefix of a text has gone out, and not all of it.
 pub fn write_svg<W: Write>(
@@ -27,7 +28,7 @@ pub fn write_svg<W: Write>(
 }
 
 /// The picture as SVG.
-pub fn svg_text(alloc: Global, chart: &Chart, title: &str) -> Result<String, AllocError> {
+fn svg_text(alloc: Global, chart: &Chart, title: &str) -> Result<String, AllocError> {
     let drawing = Drawing::new(alloc, chart, Pixels(62))?;
     let width = drawing.width().0;
     let height = height(&drawing).0;

@@ -1,16 +1,17 @@
 //! A chart in a page that scrolls, with heads that stay at the top.
 
 ghost use Rattle.std.specs.Prelude.{OnErr, OnOk};
-ghost use Rattle.view_chart.specs.Written.{IsBrokenOff, IsWritten};
+ghost use Rattle.view_picture.specs.Written.{IsBrokenOff, IsWritten};
 
-use crate::chart::Chart;
 use crate::drawing::Drawing;
-use crate::picture::{height, push_body, push_description, push_escaped, push_heads};
+use crate::markup::push_escaped;
+use crate::picture::{height, push_body, push_description, push_heads};
 use crate::pixels::Pixels;
 use crate::style::{PAGE_STYLE, STYLE, TIPS};
 use sdl_report::{WriteFault, write_text};
 use std::alloc::{AllocError, Global};
 use std::io::Write;
+use view_chart::Chart;
 
 /// What the signs mean, for readers who don't know Z.120.
 const SIGNS: &str = concat!(
@@ -43,7 +44,7 @@ pub fn write_html<W: Write>(
 }
 
 /// The page as HTML.
-pub fn html_text(alloc: Global, chart: &Chart, title: &str) -> Result<String, AllocError> {
+fn html_text(alloc: Global, chart: &Chart, title: &str) -> Result<String, AllocError> {
     let drawing = Drawing::new(alloc, chart, Pixels(14))?;
     let mut text = String::new(alloc);
     push_top(&mut text, title)?;

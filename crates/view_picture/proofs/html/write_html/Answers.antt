@@ -4,7 +4,7 @@ use Rattle.std.proofs.lemmas.Result.{on_err_weaker, on_ok_weaker}
 use Rattle.std.specs.Io.KnownBytes.{Appends}
 use Rattle.sdl_report.specs.Gathered.{BreaksOff}
 use Rattle.sdl_report.proofs.GatheredLemmas.{OnErr-any}
-use Rattle.view_chart.proofs.svg.write_svg.Goals as goal
+use Rattle.view_picture.proofs.html.write_html.Goals as goal
 
 pub returns-in_err-text-clause-err : goal.returns-in_err-text-clause-err
 returns-in_err-text-clause-err g c =
