@@ -19,21 +19,18 @@ pub fn target_advice(
     let Some(process) = process_around(tables, word.place) else {
         return Ok(None);
     };
-    let lower = lowered(alloc, word.text.as_str())?;
-    let mut nearest = Nearest::to(lower.as_str());
-    if rule == Rule::NoState {
-        try_states(alloc, tables, process, &mut nearest)?;
-    } else {
-        try_labels(alloc, tables, process, &mut nearest)?;
-    }
-    let Some(near) = nearest.found else {
-        return Ok(None);
-    };
     let text = word.text.as_str();
+    let lower = lowered(alloc, text)?;
+    let mut nearest = Nearest::to(lower.as_str());
     let kind = if rule == Rule::NoState {
+        try_states(alloc, tables, process, &mut nearest)?;
         "state"
     } else {
+        try_labels(alloc, tables, process, &mut nearest)?;
         "label"
+    };
+    let Some(near) = nearest.found else {
+        return Ok(None);
     };
     Ok(Some(Advice {
         text: format!(in alloc;

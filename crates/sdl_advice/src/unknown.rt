@@ -1,11 +1,14 @@
 //! Advice on a name that stands for nothing that is wanted.
 
+mod sort;
+
 use crate::advice::Advice;
 use crate::names::Names;
 use crate::nearest::{Nearest, lowered};
-use crate::site::Kind;
+use crate::unknown::sort::sort_advice;
 use build_definitions::{Agent, SignalKind};
 use build_expressions::ValueEntry;
+use explain_sites::Kind;
 use std::alloc::{AllocError, Global};
 
 /// Gives the advice on a name that stands for nothing of a kind.
@@ -53,82 +56,6 @@ fn kind_text(kind: Kind) -> &'static str {
         Kind::Destination => "variable, synonym or process",
     }
 }
-
-// ---- sorts
-
-static SORTS: [&str; 6] = ["Integer", "Natural", "Boolean", "Pid", "Time", "Duration"];
-
-/// Sorts of SDL that this language leaves out, and some of other languages that stand for none here.
-static LEFT_OUT: [&str; 16] = [
-    "array",
-    "bag",
-    "bit",
-    "bitstring",
-    "char",
-    "character",
-    "charstring",
-    "double",
-    "float",
-    "octet",
-    "octetstring",
-    "powerset",
-    "real",
-    "string",
-    "struct",
-    "vector",
-];
-
-/// Sorts of other languages, with those that stand for them.
-static FOREIGN: [(&str, &str); 5] = [
-    ("int", "Integer"),
-    ("long", "Integer"),
-    ("unsigned", "Natural"),
-    ("uint", "Natural"),
-    ("bool", "Boolean"),
-];
-
-fn sort_advice(alloc: Global, word: &str) -> Result<Advice, AllocError> {
-    let lower = lowered(alloc, word)?;
-    if is_among(&LEFT_OUT, lower.as_str()) {
-        return Advice::about(
-            alloc,
-            word,
-            "is no sort here, and none stands for it. Choose one of Integer, \
-            Natural, Boolean, Pid, Time and Duration.",
-        );
-    }
-    match near_sort(alloc, lower.as_str())? {
-        Some(near) => Ok(Advice {
-            text: format!(in alloc; "`{word}` is no sort. Is `{near}` meant? Capitals count.")?,
-        }),
-        None => Advice::about(
-            alloc,
-            word,
-            "is no sort. The sorts are Integer, Natural, Boolean, Pid, Time and \
-            Duration, and no others can be defined.",
-        ),
-    }
-}
-
-fn is_among(words: &[&'static str], word: &str) -> bool {
-    words.iter().any(|other| *other == word)
-}
-
-/// The sort that a word in lower case is near to.
-fn near_sort(alloc: Global, lower: &str) -> Result<Option<&'static str>, AllocError> {
-    for (foreign, sort) in &FOREIGN {
-        if *foreign == lower {
-            return Ok(Some(*sort));
-        }
-    }
-    let mut nearest = Nearest::to(lower);
-    for sort in &SORTS {
-        nearest.try_name(alloc, *sort)?;
-    }
-    Ok(nearest.found)
-}
-
-// ---- other kinds
 
 /// The nearest name of a kind that is seen.
 fn nearest_name<'t>(

@@ -3,12 +3,11 @@
 use crate::advice::Advice;
 use crate::misfit::misfit_advice;
 use crate::names::Names;
-use crate::site::{Site, What};
-use crate::sites::Sites;
 use crate::target::target_advice;
 use crate::unknown::unknown_advice;
 use build_definitions::Definitions;
 use build_faults::{Faults, Rule};
+use explain_sites::{Site, What, sites_of};
 use sdl_tree::{Name, Tree};
 use std::alloc::{AllocError, Global};
 
@@ -37,7 +36,7 @@ fn site_advice<'t>(
     rule: Rule,
     word: &Name,
 ) -> Result<Option<Advice>, AllocError> {
-    let sites = Sites::of(alloc, tree, tables)?;
+    let sites = sites_of(alloc, tree, tables)?;
     for site in &sites {
         if site.place == word.place {
             if let Some(advice) = advice_at(alloc, tables, rule, word, site)? {

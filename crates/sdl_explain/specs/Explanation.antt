@@ -2,8 +2,8 @@
 use Rattle.std.specs.Prelude.{ℕ, List, [], ◌∷◌, ◌++◌, Option, None, Some}
 use Rattle.std.specs.String.{string_bytes}
 use Rattle.sdl_explain.specs.Origin.{line_number, location}
-use Rattle.sdl_explain.specs.Rows.{rows}
-use Rattle.sdl_explain.specs.declared.excerpt.Excerpt.{Excerpt}
+use Rattle.explain_lines.specs.Rows.{rows}
+use Rattle.explain_lines.specs.declared.excerpt.Excerpt.{Excerpt}
 use Rattle.sdl_explain.specs.declared.explanation.Explanation.{Explanation}
 use Rattle.sdl_explain.specs.declared.explanation.Other.{Other}
 use Rattle.sdl_explain.specs.declared.origin.Origin.{Origin}

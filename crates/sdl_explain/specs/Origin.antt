@@ -1,7 +1,7 @@
 -- The place in a file at which a part of the input has an excerpt.
 use Rattle.std.specs.Prelude.{ℕ, ◌+◌, ◌-◌, ◌^◌, min, List, [], ◌++◌, Option, None, Some, codes}
 use Rattle.std.specs.Fmt.{decimal}
-use Rattle.sdl_explain.specs.declared.excerpt.Excerpt.{Excerpt}
+use Rattle.explain_lines.specs.declared.excerpt.Excerpt.{Excerpt}
 use Rattle.sdl_explain.specs.declared.origin.Origin.{Origin}
 
 -- the number of the line in the file
@@ -12,7 +12,7 @@ line_number origin excerpt = min (excerpt.place.line + origin.lines_before) (2 ^
 abbrev pub numbered : ℕ → List ℕ
 numbered number = codes ":" ++ decimal number
 
--- the line and the column; nothing where there is no place
+-- the line and the column; nothing if there is no place
 abbrev pub place_text : Origin → Option Excerpt → List ℕ
 place_text origin None = []
 place_text origin (Some excerpt) = numbered (line_number origin excerpt) ++ numbered excerpt.place.column

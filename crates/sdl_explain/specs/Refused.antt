@@ -11,9 +11,9 @@ use Rattle.sdl_parse.specs.declared.error.ParseError.TheVariants as parse
 use Rattle.parse_cursor.specs.declared.fault.Wanted.TheVariants as wants
 use Rattle.sdl_script.specs.declared.script.ScriptError.{ScriptError}
 use Rattle.sdl_script.specs.declared.script.ScriptError.TheVariants as script
-use Rattle.sdl_explain.specs.Earlier.{IsEarlier, StandsBefore}
-use Rattle.sdl_explain.specs.Excerpt.{IsExcerpt, IsNowhere}
-use Rattle.sdl_explain.specs.declared.excerpt.Excerpt.{Excerpt}
+use Rattle.explain_lines.specs.Earlier.{IsEarlier, StandsBefore}
+use Rattle.explain_lines.specs.Excerpt.{IsExcerpt, IsNowhere}
+use Rattle.explain_lines.specs.declared.excerpt.Excerpt.{Excerpt}
 use Rattle.sdl_explain.specs.declared.explanation.Other.{Other}
 
 -- ---- the line of the refusal
@@ -49,13 +49,13 @@ script_line (script.UnknownSignal number) = Some number
 script_line (script.Arguments number) = Some number
 script_line script.Memory = None
 
--- the line is shown in which the place lies; nothing, where there is no place or the text has none like it
+-- the line is shown in which the place lies; nothing, if there is no place or the text has none like it
 abbrev pub IsShown : List ℕ → Option Place → Option Excerpt → Type 0
 IsShown text None shown = shown ≡ None
 IsShown text (Some place) None = IsNowhere text place
 IsShown text (Some place) (Some excerpt) = IsExcerpt text place excerpt
 
--- the line of this number is shown, with a place in it; nothing, where the text has none of that number
+-- the line of this number is shown, with a place in it; nothing, if the text has none of that number
 abbrev pub IsShownLine : List ℕ → Option ℕ → Option Excerpt → Type 0
 IsShownLine text None shown = shown ≡ None
 IsShownLine text (Some number) None = IsNowhere text (record { line = number; column = 1 })
@@ -64,7 +64,7 @@ IsShownLine text (Some number) (Some excerpt) =
 
 -- ---- the other place
 
--- Where another name has to stand, just that name stands at a place before. Where a keyword or a mark has to stand, it
+-- If another name has to stand there, just that name is at a place before. If a keyword or a mark has to stand there, it
 -- is any place before. No other refusal has another place.
 abbrev pub PrecedesFault : List ℕ → ParseError → Other → Type 0
 PrecedesFault text (parse.Expected place (wants.ThisName name)) other =
@@ -77,7 +77,7 @@ abbrev pub repeated_by : BuildError → Option (List ℕ)
 repeated_by (build.Broken rule word) = Some (string_bytes word.text)
 repeated_by build.Memory = None
 
--- the other place stands before that of the refusal, and the same word stands there
+-- the other place comes before that of the refusal, and the same word is there
 abbrev pub Repeats : List ℕ → Option Place → Option (List ℕ) → Other → Type 0
 Repeats text (Some place) (Some word) other = IsEarlier text word place other.excerpt
 Repeats text (Some place) None other = ⊥

@@ -3,9 +3,8 @@
 ghost use Rattle.std.specs.Prelude.{◌≡◌, [], ◌∷◌, ◌++◌, IfOk, OnOk};
 ghost use Rattle.sdl_explain.specs.Explanation.{explanation_text, other_text, shown_rows};
 
-use crate::excerpt::Excerpt;
 use crate::origin::{Origin, push_location};
-use crate::rows::{push_line_end, push_rows};
+use explain_lines::{Excerpt, push_line_end, push_rows};
 use sdl_advice::Advice;
 use std::alloc::{AllocError, Global};
 
@@ -19,7 +18,7 @@ pub struct Other<'t> {
 /// Why a text is refused, for a human.
 #[derive(Debug, Drop)]
 pub struct Explanation<'t> {
-    /// The line in which the refusal stands. None where it stands nowhere, as lack of memory does.
+    /// The line of the refusal. None if that has no place, as lack of memory.
     pub shown: Option<Excerpt<'t>>,
     pub advice: Advice,
     pub other: Option<Other<'t>>,

@@ -2,31 +2,21 @@
 //! to do, and the line with a mark under the place.
 //!
 //! `explain_parse`, `explain_build` and `explain_script` make the explanation of a refusal over the text that was
-//! refused. What is shown is the line of the place, and if another place matters one before it: for a name that is there
-//! again, the place of the same word. The contracts promise so much. Which sentence belongs to which refusal is a table,
-//! of which no contract speaks. What was wanted of a name or a sort is said by `sdl_advice`.
+//! refused. What is shown is the line of the place (`explain_lines`), and if another place matters one before it: for a
+//! name that is there again, the place of the same word. The contracts promise so much. Which sentence belongs to which
+//! refusal is a table, of which no contract speaks. What was wanted of a name or a sort is said by `sdl_advice`.
 #![tactic(auto)]
 
-mod around;
 mod build;
-mod byte;
-mod definition;
-mod earlier;
-mod excerpt;
 mod explanation;
-mod line;
 mod marked;
-mod mention;
-mod offset;
-mod opening;
 mod origin;
 mod parse;
-mod rows;
 mod script;
 mod sentence;
+mod shown;
 
 pub use build::explain_build;
-pub use excerpt::Excerpt;
 pub use explanation::{Explanation, Other};
 pub use origin::Origin;
 pub use parse::explain_parse;

@@ -1,6 +1,6 @@
 //! Advice about the word that is marked.
 
-use crate::excerpt::Excerpt;
+use explain_lines::Excerpt;
 use sdl_advice::Advice;
 use std::alloc::{AllocError, Global};
 use std::str;

@@ -3,7 +3,7 @@
 ghost use Rattle.std.specs.Prelude.{◌≡◌, ◌++◌, OnOk};
 ghost use Rattle.sdl_explain.specs.Origin.{line_number, location, numbered, place_text};
 
-use crate::excerpt::Excerpt;
+use explain_lines::Excerpt;
 use std::alloc::{AllocError, Global};
 
 /// The file in which a specification or a script is, for messages from which editors jump to a place.

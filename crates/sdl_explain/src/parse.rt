@@ -1,15 +1,13 @@
 //! The explanation of a text that is no specification.
 
 ghost use Rattle.std.specs.Prelude.{◌≡◌, IfOk, IfSome};
-ghost use Rattle.sdl_explain.specs.Earlier.{IsEarlier, StandsBefore};
+ghost use Rattle.explain_lines.specs.Earlier.{IsEarlier, StandsBefore};
 ghost use Rattle.sdl_explain.specs.Refused.{IsShown, PrecedesFault, lex_place, parse_place};
 
-use crate::around::Around;
-use crate::earlier::{before, earlier};
-use crate::excerpt::Excerpt;
 use crate::explanation::{Explanation, Other};
-use crate::opening::opening_of;
 use crate::sentence::parse_advice;
+use crate::shown::shown_at;
+use explain_lines::{Around, earlier_place, earlier_word, opening_of};
 use parse_cursor::Wanted;
 use sdl_lex::{LexError, Place};
 use sdl_parse::ParseError;
@@ -64,13 +62,6 @@ fn lex_place(error: LexError) -> Option<Place>
     }
 }
 
-/// The line of a place, if there is one.
-pub fn shown_at<'t>(text: &'t [u8], place: Option<Place>) -> Option<Excerpt<'t>>
-    ensures { IsShown text.now place result }
-{
-    Excerpt::at(text, place?)
-}
-
 /// The place of the name that has to be repeated, and of the word that a semicolon has to follow.
 fn other_of<'t>(
     alloc: Global,
@@ -90,7 +81,7 @@ fn other_of<'t>(
     }
 }
 
-/// Where the name stands that has to be repeated at a place.
+/// Where the name is that has to be repeated at a place.
 fn name_to_repeat<'t>(
     alloc: Global,
     text: &'t [u8],
@@ -102,7 +93,7 @@ fn name_to_repeat<'t>(
     let Some(opening) = opening_of(alloc, text, place, name)? else {
         return Ok(None);
     };
-    match earlier(text, opening, name.as_bytes(), place) {
+    match earlier_word(text, opening, name.as_bytes(), place) {
         Some(excerpt) => Ok(Some(Other {
             sentence: "It stands here:",
             excerpt,
@@ -126,7 +117,7 @@ fn word_to_follow<'t>(
     if word.place.line == place.line {
         return Ok(None);
     }
-    match before(text, word.place, place) {
+    match earlier_place(text, word.place, place) {
         Some(excerpt) => Ok(Some(Other {
             sentence: "It is missing after this word:",
             excerpt,

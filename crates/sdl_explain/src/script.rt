@@ -3,9 +3,9 @@
 ghost use Rattle.std.specs.Prelude.{◌≡◌, ◌≤◌, None, length, IfOk};
 ghost use Rattle.sdl_explain.specs.Refused.{IsShownLine, script_line};
 
-use crate::excerpt::Excerpt;
 use crate::explanation::Explanation;
 use crate::sentence::script_advice;
+use explain_lines::Excerpt;
 use sdl_lex::Place;
 use sdl_script::ScriptError;
 use std::alloc::{AllocError, Global};
@@ -64,7 +64,7 @@ fn shown_line<'t>(script: &'t [u8], error: ScriptError) -> Option<Excerpt<'t>>
     }
 }
 
-/// In which column of its line stands what a refusal is about: the time, or the word behind it.
+/// In which column of its line is what a refusal is about: the time, or the word after it.
 fn column_of(line: &[u8], error: ScriptError) -> usize {
     let (spaces, time) = line.split_at(spaces_len(line));
     match error {
@@ -76,7 +76,7 @@ fn column_of(line: &[u8], error: ScriptError) -> usize {
     }
 }
 
-/// How many blanks and tabs stand in front.
+/// How many blanks and tabs come first.
 fn spaces_len(bytes: &[u8]) -> usize
     ensures { result ≤ length bytes.now }
 {
@@ -86,7 +86,7 @@ fn spaces_len(bytes: &[u8]) -> usize
         .count()
 }
 
-/// How many digits stand in front.
+/// How many digits come first.
 fn digits_len(bytes: &[u8]) -> usize
     ensures { result ≤ length bytes.now }
 {

@@ -1,6 +1,6 @@
 //! Sentences about habits from other languages, and about words at a place that is not theirs.
 
-use crate::around::{Around, mark_of, name_of};
+use explain_lines::{Around, mark_of, name_of};
 use parse_cursor::Wanted;
 use sdl_advice::{Advice, lowered};
 use sdl_tree::{Mark, keyword_of};

@@ -1,11 +1,10 @@
 //! Sentences about a text that is no specification.
 
-use crate::around::{Around, mark_of};
-use crate::excerpt::Excerpt;
 use crate::marked::about_marked;
 use crate::sentence::byte::byte_sentence;
 use crate::sentence::foreign::{COMMENT, foreign_advice};
 use crate::sentence::left_out::left_out_sentence;
+use explain_lines::{Around, Excerpt, mark_of};
 use parse_cursor::Wanted;
 use sdl_advice::Advice;
 use sdl_lex::{LexError, Place};

@@ -1,7 +1,7 @@
 //! Sentences about the lines of a script.
 
-use crate::excerpt::Excerpt;
 use crate::marked::about_marked;
+use explain_lines::Excerpt;
 use sdl_advice::Advice;
 use sdl_script::ScriptError;
 use std::alloc::{AllocError, Global};

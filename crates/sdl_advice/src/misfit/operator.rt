@@ -1,0 +1,62 @@
+//! Advice on an operator or a sign, and operands that it doesn't take.
+
+use crate::advice::Advice;
+use crate::names::Names;
+use crate::sorts::{operand_of, sides_of, sort_of};
+use sdl_tree::{Chain, Expression, UnaryOperator};
+use std::alloc::{AllocError, Global};
+
+/// Of an operator between two operands.
+pub fn operator_advice(
+    alloc: Global,
+    names: &Names<'_, '_>,
+    word: &str,
+    chain: &Chain,
+    number: usize,
+) -> Result<Option<Advice>, AllocError> {
+    let Some((left, right)) = sides_of(names, chain, number) else {
+        return Ok(None);
+    };
+    let left = operand_of(left);
+    let right = operand_of(right);
+    let takes = operator_takes(word);
+    Ok(Some(Advice {
+        text: format!(in alloc; "`{word}` stands between {left} and {right}. It takes {takes}.")?,
+    }))
+}
+
+/// What an operator takes.
+fn operator_takes(word: &str) -> &'static str {
+    match word {
+        "+" => "two Integers, two Durations, or a Time and a Duration",
+        "-" => "two Integers, two Times, two Durations, or a Time and a Duration after it",
+        "<" | "<=" | ">" | ">=" => "two Integers, two Times or two Durations",
+        "=" | "/=" => "two values of one sort",
+        "*" | "/" => "two Integers",
+        _ if word.eq_ignore_ascii_case("mod") || word.eq_ignore_ascii_case("rem") => "two Integers",
+        _ => "two Booleans",
+    }
+}
+
+/// Of a sign before an operand.
+pub fn sign_advice(
+    alloc: Global,
+    names: &Names<'_, '_>,
+    operator: UnaryOperator,
+    operand: &Expression,
+) -> Result<Option<Advice>, AllocError> {
+    let Some(told) = sort_of(names, operand) else {
+        return Ok(None);
+    };
+    let told = operand_of(told);
+    let text = match operator {
+        UnaryOperator::Minus => format!(in alloc;
+            "`-` stands before {told}. It takes an Integer or a Duration."
+        )?,
+        UnaryOperator::Not => format!(in alloc;
+            "`not` stands before {told}. It takes a Boolean, and binds tighter than all other operators: write \
+             parentheses, as in `not (a = b)`."
+        )?,
+    };
+    Ok(Some(Advice { text }))
+}

@@ -1,0 +1,86 @@
+//! Advice on a name that is no sort.
+
+use crate::advice::Advice;
+use crate::nearest::{Nearest, lowered};
+use std::alloc::{AllocError, Global};
+
+static SORTS: [&str; 6] = ["Integer", "Natural", "Boolean", "Pid", "Time", "Duration"];
+
+/// Sorts of SDL that this language leaves out, and some of other languages that stand for none here.
+static LEFT_OUT: [&str; 16] = [
+    "array",
+    "bag",
+    "bit",
+    "bitstring",
+    "char",
+    "character",
+    "charstring",
+    "double",
+    "float",
+    "octet",
+    "octetstring",
+    "powerset",
+    "real",
+    "string",
+    "struct",
+    "vector",
+];
+
+/// Sorts of other languages, with those that stand for them.
+static FOREIGN: [(&str, &str); 5] = [
+    ("int", "Integer"),
+    ("long", "Integer"),
+    ("unsigned", "Natural"),
+    ("uint", "Natural"),
+    ("bool", "Boolean"),
+];
+
+/// Gives the advice on a word that stands for no sort.
+pub fn sort_advice(alloc: Global, word: &str) -> Result<Advice, AllocError> {
+    let lower = lowered(alloc, word)?;
+    if is_among(&LEFT_OUT, lower.as_str()) {
+        return Advice::about(
+            alloc,
+            word,
+            "is no sort here, and none stands for it. Choose one of Integer, \
+            Natural, Boolean, Pid, Time and Duration.",
+        );
+    }
+    match near_sort(alloc, lower.as_str())? {
+        Some(near) => Ok(Advice {
+            text: format!(in alloc; "`{word}` is no sort. Is `{near}` meant? Capitals count.")?,
+        }),
+        None => Advice::about(
+            alloc,
+            word,
+            "is no sort. The sorts are Integer, Natural, Boolean, Pid, Time and \
+            Duration, and no others can be defined.",
+        ),
+    }
+}
+
+fn is_among(words: &[&'static str], word: &str) -> bool {
+    words.iter().any(|other| *other == word)
+}
+
+/// The sort that a word in lower case is near to.
+fn near_sort(alloc: Global, lower: &str) -> Result<Option<&'static str>, AllocError> {
+    if let Some(sort) = foreign_sort(lower) {
+        return Ok(Some(sort));
+    }
+    let mut nearest = Nearest::to(lower);
+    for sort in &SORTS {
+        nearest.try_name(alloc, *sort)?;
+    }
+    Ok(nearest.found)
+}
+
+/// The sort that stands for one of another language.
+fn foreign_sort(lower: &str) -> Option<&'static str> {
+    for (foreign, sort) in &FOREIGN {
+        if *foreign == lower {
+            return Some(*sort);
+        }
+    }
+    None
+}
