@@ -1,0 +1,3 @@
+pub mod GoalLemmas
+pub mod GoalListLemmas
+pub mod NameLemmas

@@ -1,0 +1,11 @@
+use Rattle.std.proofs.Common.{◌∙◌, ap}
+use Rattle.view_sections.specs.Lcov.{tracefile_text}
+use Rattle.view_sections.proofs.lcov.tracefile.Goals as goal
+
+pub returns : goal.returns
+returns c = (
+  c.in_ok-lines.lines.items,
+  c.in_ok-lines.ensures,
+  c.in_ok-text.ensures
+      ∙ ap (tracefile_text c.args.knowledge c.args.source.now c.args.sections.now) c.deref.ensures.value,
+)
