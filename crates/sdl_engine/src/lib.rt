@@ -1,7 +1,7 @@
 //! The whole tool over any reader and writer: `run_text` reads a specification with its script, and writes the
 //! canonical text, a run, or the one line that refuses the text. A run is told by its report, or in its order, as lines
 //! or as JSON. `run_and_note` does the same for a text and a script of its own, and tells a human more: why a text is
-//! refused, what cut a run, which instances failed.
+//! refused, what cut a run, which instances failed. It keeps the run that was told, with its texts, if that is asked for.
 //! `run_text_serially` and `run_and_note_serially` do it without threads, so they always return.
 //!
 //! The theorem of the tool is the contract of `run_text`; the other three have the same clauses. What is below it: an

@@ -1,14 +1,15 @@
 //! What a human is told beside the answer: why a text is refused, what cut a run, which instances failed, and from where
-//! on the order of a run isn't known. And the run itself, for those who draw it.
+//! on the order of a run isn't known. And the run itself with its texts, for those who draw it or tell what it covered.
 
 ghost use Rattle.std.specs.Prelude.{◌≡◌, ◌≢◌, None, Some, false, true};
 ghost use Rattle.std.specs.Io.KnownBytes.{Keeps};
+ghost use Rattle.sdl_engine.specs.Kept.{texts_with};
 
 use crate::explained::explanation_of;
 use crate::options::{Options, Outcome, TextFault};
 use crate::run::Run;
 use run_record::{Entry, Failure, Record, Report};
-use sdl_input::Input;
+use sdl_input::{Input, Texts};
 use sdl_report::write_text;
 use std::alloc::{AllocError, Global};
 use std::io::{self, Empty, Write};
@@ -39,10 +40,12 @@ pub struct Notes<'n, N> {
     pub strict: bool,
     /// Whether an instance failed, as far as failures are told.
     pub failed: bool,
-    /// Whether the run is kept for those who draw it.
+    /// Whether the run is kept for those who draw it, or tell what it covered.
     pub keeps: bool,
     /// The run of an input that is accepted, if it is kept.
     pub run: Option<Run>,
+    /// The texts of this input, if its run is kept.
+    pub texts: Option<Texts>,
 }
 
 /// Notes that tell nothing.
@@ -58,6 +61,7 @@ pub fn silent_notes() -> Notes<'static, Empty> {
         failed: false,
         keeps: false,
         run: None,
+        texts: None,
     }
 }
 
@@ -72,6 +76,7 @@ pub fn note_refusal<N: Write>(
     ensures refused { told.now ≢ Ok Outcome.TextRefused →
         Keeps (N.contents notes.old.writer) (N.contents notes.new.writer) }
     ensures asked { explains ≡ false → Keeps (N.contents notes.old.writer) (N.contents notes.new.writer) }
+    ensures rest { notes.new ≡ record notes.old { writer = notes.new.writer } }
 {
     if !explains {
         return;
@@ -102,15 +107,24 @@ pub fn note_run<N: Write>(
     note_stuck(alloc, stuck, notes);
 }
 
-/// Keeps a run for those who draw it, if that is asked for.
-pub fn keep_run<N: Write>(run: Run, notes: &mut Notes<'_, N>)
-    ensures kept { notes.old.keeps ≡ true → notes.new ≡ record notes.old { run = Some run } }
-    ensures asked { notes.old.keeps ≡ false → notes.new ≡ notes.old }
+/// Keeps a run for those who draw it, or tell what it covered, if that is asked for.
+pub fn keep_run<N: Write>(run: Run, keeps: bool, notes: &mut Notes<'_, N>)
+    ensures kept { keeps ≡ true → notes.new ≡ record notes.old { run = Some run } }
+    ensures asked { keeps ≡ false → notes.new ≡ record notes.old { run = None } }
     ensures quiet { Keeps (N.contents notes.old.writer) (N.contents notes.new.writer) }
 {
-    if notes.keeps {
-        notes.run = Some(run);
-    }
+    notes.run = if keeps { Some(run) } else { None };
+}
+
+/// Keeps the texts of an input, if its run is kept.
+pub fn keep_texts<N: Write>(input: Input, notes: &mut Notes<'_, N>)
+    ensures kept { notes.new ≡ record notes.old { texts = texts_with notes.old.run input } }
+    ensures quiet { Keeps (N.contents notes.old.writer) (N.contents notes.new.writer) }
+{
+    notes.texts = match (&notes.run, input) {
+        (Some(_), Input::Held(texts)) => Some(texts),
+        _ => None,
+    };
 }
 
 /// Tells from which instance on the order of a run isn't known, if there is one.

@@ -3,9 +3,10 @@
 ghost use Rattle.std.specs.Prelude.{◌≡◌, ◌≢◌, IfOk, IfErr, None, false, option_map};
 ghost use Rattle.std.specs.Io.KnownBytes.{Keeps};
 ghost use Rattle.sdl_engine.specs.Answer.{Faulted, Fails, IsSerial, Tells, TellsNoOrder, Written};
+ghost use Rattle.sdl_engine.specs.Kept.{IsKept, KeepsRun};
 
 use crate::answer::{canonical, refuse, report};
-use crate::notes::{Notes, keep_run, note_refusal, silent_notes};
+use crate::notes::{Notes, keep_run, keep_texts, note_refusal, silent_notes};
 use crate::options::{Command, Options, Outcome, TextFault};
 use crate::pipeline::{check_input, run_input};
 use crate::reading::{read_input, read_source};
@@ -50,11 +51,16 @@ pub fn run_and_note_serially<R: Read, S: Read, W: Write, N: Write>(
         TellsNoOrder options.now → Keeps (N.contents notes.old.writer) (N.contents notes.new.writer) }
     ensures silent { notes.old.explains ≡ false → result ≢ Ok Outcome.Cut → notes.old.strict ≡ false →
         TellsNoOrder options.now → Keeps (N.contents notes.old.writer) (N.contents notes.new.writer) }
+    ensures kept { IfOk result (λ how. IsKept notes.old.keeps (R.remaining source.old.text)
+        (option_map S.remaining source.old.script) options.now how notes.new.run notes.new.texts
+        (W.contents writer.old) (W.contents writer.new)) }
 {
     let input = read_source(alloc, source)?;
     let explains = notes.explains;
+    notes.run = None;
     let told = tell_serially(alloc, &input, writer, notes, options);
     note_refusal(alloc, &input, &told, explains, notes);
+    keep_texts(input, notes);
     told
 }
 
@@ -72,6 +78,8 @@ pub fn tell_serially<W: Write, N: Write>(
         (W.contents writer.old) (W.contents writer.new)) }
     ensures quiet { result ≢ Ok Outcome.Cut → notes.old.strict ≡ false → TellsNoOrder options.now →
         Keeps (N.contents notes.old.writer) (N.contents notes.new.writer) }
+    ensures kept { notes.old.run ≡ None → IfOk result (λ how. KeepsRun notes.old.keeps input.now options.now how
+        notes.new.run (W.contents writer.old) (W.contents writer.new)) }
 {
     match options.command {
         Command::Check => tell_check(alloc, input, writer, options),
@@ -112,11 +120,14 @@ fn tell_run<W: Write, N: Write>(
         (W.contents writer.old) (W.contents writer.new)) }
     ensures quiet { result ≢ Ok Outcome.Cut → notes.old.strict ≡ false → TellsNoOrder options.now →
         Keeps (N.contents notes.old.writer) (N.contents notes.new.writer) }
+    ensures kept { notes.old.run ≡ None → IfOk result (λ how. KeepsRun notes.old.keeps input.now options.now how
+        notes.new.run (W.contents writer.old) (W.contents writer.new)) }
 {
+    let keeps = notes.keeps;
     match run_input(alloc, input, options.limit) {
         Ok(run) => {
             let told = report(alloc, &run, writer, notes, options);
-            keep_run(run, notes);
+            keep_run(run, keeps, notes);
             told
         }
         Err(refusal) => refuse(alloc, &refusal, writer),

@@ -3,9 +3,10 @@
 ghost use Rattle.std.specs.Prelude.{◌≡◌, ◌≢◌, IfOk, IfErr, None, Some, false, option_map};
 ghost use Rattle.std.specs.Io.KnownBytes.{Keeps};
 ghost use Rattle.sdl_engine.specs.Answer.{Faulted, Fails, Tells, TellsNoOrder, Written};
+ghost use Rattle.sdl_engine.specs.Kept.{IsKept, KeepsRun};
 
 use crate::answer::{refuse, report_by_workers};
-use crate::notes::{Notes, keep_run, note_refusal, silent_notes};
+use crate::notes::{Notes, keep_run, keep_texts, note_refusal, silent_notes};
 use crate::options::{Command, Options, Outcome, TextFault};
 use crate::pipeline::run_input_by_workers;
 use crate::reading::{read_input, read_source};
@@ -39,8 +40,8 @@ pub fn run_text<T: Threads + Wait + Copy + Send + Sync, R: Read, W: Write>(
 
 /// Does what `run_text` does for the text of a source and its script, and then tells a human more in the notes: why the
 /// text is refused, if that is asked for; what cut the run; each failure of an instance, if that is asked for; and from
-/// which instance on the order of the run isn't known. The notes keep the run, if that is asked for. A fault of writing
-/// the notes changes nothing.
+/// which instance on the order of the run isn't known. The notes keep the run that was told with its texts, if that is
+/// asked for, and nothing else. A fault of writing the notes changes nothing.
 pub fn run_and_note<T: Threads + Wait + Copy + Send + Sync, R: Read, S: Read, W: Write, N: Write>(
     rt: &T,
     alloc: Global,
@@ -57,11 +58,16 @@ pub fn run_and_note<T: Threads + Wait + Copy + Send + Sync, R: Read, S: Read, W:
         TellsNoOrder options.now → Keeps (N.contents notes.old.writer) (N.contents notes.new.writer) }
     ensures silent { notes.old.explains ≡ false → result ≢ Ok Outcome.Cut → notes.old.strict ≡ false →
         TellsNoOrder options.now → Keeps (N.contents notes.old.writer) (N.contents notes.new.writer) }
+    ensures kept { IfOk result (λ how. IsKept notes.old.keeps (R.remaining source.old.text)
+        (option_map S.remaining source.old.script) options.now how notes.new.run notes.new.texts
+        (W.contents writer.old) (W.contents writer.new)) }
 {
     let input = read_source(alloc, source)?;
     let explains = notes.explains;
+    notes.run = None;
     let told = tell(rt, alloc, &input, writer, notes, options);
     note_refusal(alloc, &input, &told, explains, notes);
+    keep_texts(input, notes);
     told
 }
 
@@ -79,6 +85,8 @@ fn tell<T: Threads + Wait + Copy + Send + Sync, W: Write, N: Write>(
         (W.contents writer.old) (W.contents writer.new)) }
     ensures quiet { result ≢ Ok Outcome.Cut → notes.old.strict ≡ false → TellsNoOrder options.now →
         Keeps (N.contents notes.old.writer) (N.contents notes.new.writer) }
+    ensures kept { notes.old.run ≡ None → IfOk result (λ how. KeepsRun notes.old.keeps input.now options.now how
+        notes.new.run (W.contents writer.old) (W.contents writer.new)) }
 {
     match (options.command, options.workers) {
         (Command::Run, Some(workers)) => {
@@ -105,11 +113,14 @@ fn tell_run_by_workers<T: Threads + Wait + Copy + Send + Sync, W: Write, N: Writ
         (W.contents writer.old) (W.contents writer.new)) }
     ensures quiet { result ≢ Ok Outcome.Cut → notes.old.strict ≡ false → TellsNoOrder options.now →
         Keeps (N.contents notes.old.writer) (N.contents notes.new.writer) }
+    ensures kept { notes.old.run ≡ None → IfOk result (λ how. KeepsRun notes.old.keeps input.now options.now how
+        notes.new.run (W.contents writer.old) (W.contents writer.new)) }
 {
+    let keeps = notes.keeps;
     match run_input_by_workers(rt, alloc, input, workers, options.limit) {
         Ok(run) => {
             let told = report_by_workers(rt, alloc, workers, &run, writer, notes, options);
-            keep_run(run, notes);
+            keep_run(run, keeps, notes);
             told
         }
         Err(refusal) => refuse(alloc, &refusal, writer),
