@@ -21,7 +21,7 @@ pub fn chart_file(alloc: Global, run: &ArgMatches<'_>) -> Result<Option<ChartFil
     let Some(name) = run.get_str("chart") else {
         return Ok(None);
     };
-    let form = Form::of_file(name).ok_or(Mistake::Ending)?;
+    let form = Form::of_file(name).ok_or(Mistake::ChartEnding)?;
     let selection = selection(alloc, run)?;
     if !form.is_picture() && selects(&selection) {
         return Err(Mistake::Whole);

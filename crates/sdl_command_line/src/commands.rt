@@ -15,6 +15,7 @@ const HELP: &str =
 Examples:
   sdlrun run examples/counter.sdl
   sdlrun run < examples/counter.sdl
+  sdlrun run --coverage counter.txt examples/counter.sdl
 
 Exit status:
   0  whole: the text was checked, or the run came to its end
@@ -49,7 +50,8 @@ Without --workers the run is serial, and its trace is always the same. With work
 
 Examples:
   sdlrun run --limit 100 < examples/counter.sdl
-  sdlrun run --lines --chart inres.svg examples/inres.sdl";
+  sdlrun run --lines --chart inres.svg examples/inres.sdl
+  sdlrun run --coverage inres.txt examples/inres.sdl";
 
 /// The program with its commands.
 pub fn command<'a>(alloc: Global) -> Result<Command<'a>, AllocError> {
@@ -82,7 +84,7 @@ pub fn named_run<'a>(alloc: Global) -> Result<Command<'a>, AllocError> {
 fn run<'a>(alloc: Global) -> Result<Command<'a>, AllocError> {
     let run = Command::new(alloc, "run")
         .about(
-            "Runs a specification on its script and writes the trace of each instance, or draws the run",
+            "Runs a specification on its script, and writes the trace of each instance, a chart, or what the run covered",
         )
         .after_help(RUN_HELP);
     run.arg(file(alloc))?
@@ -95,6 +97,7 @@ fn run<'a>(alloc: Global) -> Result<Command<'a>, AllocError> {
         .arg(only(alloc)?)?
         .arg(time(alloc, "from", "Draws nothing before time T")?)?
         .arg(time(alloc, "until", "Draws nothing after time T")?)?
+        .arg(coverage(alloc))?
         .arg(strict(alloc))?
         .arg(explain(alloc))
 }
@@ -185,6 +188,17 @@ fn time<'a>(alloc: Global, name: &'a str, help: &'a str) -> Result<Arg<'a>, Allo
         .action(ArgAction::Set)
         .value_parser(ValueParser::unsigned(0, u64::MAX))
         .requires_arg("chart")
+}
+
+/// The file that tells what a run covered.
+fn coverage<'a>(alloc: Global) -> Arg<'a> {
+    Arg::new(alloc, "coverage")
+        .long("coverage")
+        .value_name("NAME")
+        .help(
+            "Writes what the run covered into the file NAME: .txt for people, or .info as LCOV reads it",
+        )
+        .action(ArgAction::Set)
 }
 
 /// Whether nothing is written of a text that is accepted.

@@ -6,10 +6,12 @@
 
 mod chart;
 mod commands;
+mod coverage;
 mod mistake;
 mod request;
 mod task;
 
 pub use chart::ChartFile;
+pub use coverage::CoverageFile;
 pub use request::{Request, read_command_line};
 pub use task::{InputFile, Task, chosen};

@@ -7,7 +7,9 @@ use thiserror::Error;
 #[derive(Clone, Copy, Debug, PartialEq, Eq, Error)]
 pub enum Mistake {
     #[error("the name of a chart ends with `.svg`, `.html` or `.mpr`")]
-    Ending,
+    ChartEnding,
+    #[error("the name of a file for --coverage ends with `.txt` or `.info`")]
+    CoverageEnding,
     #[error("--only takes names of processes and numbers of instances, as in `--only Initiator,#5`")]
     Only,
     #[error("--only, --from and --until choose what a picture shows; a chart in `.mpr` has the whole run")]

@@ -2,6 +2,7 @@
 
 use crate::chart::{ChartFile, chart_file};
 use crate::commands::{command, named_run};
+use crate::coverage::{CoverageFile, coverage_file};
 use crate::mistake::Mistake;
 use clap::error::ErrorKind;
 use clap::{ArgMatches, Error};
@@ -24,6 +25,8 @@ pub struct Task {
     pub script: Option<InputFile>,
     /// The chart that is made of a run.
     pub chart: Option<ChartFile>,
+    /// The file that tells what a run covered.
+    pub coverage: Option<CoverageFile>,
 }
 
 impl Task {
@@ -81,6 +84,7 @@ fn met_task(alloc: Global, matches: &ArgMatches<'_>) -> Result<Task, Mistake> {
         let mut task = task_of(alloc, run_options(run), run)?;
         task.strict = run.get_flag("strict");
         task.chart = chart_file(alloc, run)?;
+        task.coverage = coverage_file(alloc, run)?;
         return Ok(task);
     }
     match matches.subcommand_matches("check") {
@@ -98,6 +102,7 @@ fn met_task(alloc: Global, matches: &ArgMatches<'_>) -> Result<Task, Mistake> {
             text: InputFile::StandardInput,
             script: None,
             chart: None,
+            coverage: None,
         }),
     }
 }
@@ -158,6 +163,7 @@ fn task_of(alloc: Global, options: Options, named: &ArgMatches<'_>) -> Result<Ta
         text,
         script,
         chart: None,
+        coverage: None,
     })
 }
 

@@ -1,13 +1,15 @@
 //! `sdlrun` reads a specification in SDL/PR with a script of timed signals, from files or standard input. `run` runs
-//! its process instances and writes the exact trace of each, or all in one order, and draws a chart of it; `check` writes
-//! its canonical text. Either writes one line instead that names a refusal and its place.
+//! its process instances and writes the exact trace of each, or all in one order, draws a chart of it, and tells what it
+//! covered; `check` writes its canonical text. Either writes one line instead that names a refusal and its place.
 //!
 //! `sdl_engine`'s `run_and_note` is the whole tool over any readers and writers; `main` has the command line read by
 //! `sdl_command_line`, has `run_and_note` called on the text that is named there, and maps its answer to an exit status.
 #![tactic(auto)]
 
+mod covered;
 mod drawn;
 mod opened;
+mod paper;
 mod reading;
 
 use opened::Failure;

@@ -1,11 +1,13 @@
 //! The text that is read: a file or standard input, and a script of its own, if one is named.
 
+use crate::covered::cover_file;
 use crate::drawn::draw_file;
 use crate::opened::{Failure, Opened, open_input};
 use sdl_command_line::{InputFile, Task};
 use sdl_engine::{
     Names, Notes, Options, Outcome, Source, TextFault, View, run_and_note, run_and_note_serially,
 };
+use sdl_views::ToldRun;
 use std::io::{Stderr, Write};
 use std::sync::Wait;
 use std::thread::Threads;
@@ -18,8 +20,8 @@ pub struct Told {
     pub failed: bool,
 }
 
-/// Does what the command line asks for with the text that it names, and then draws the run, if that is asked for.
-/// `threads` starts the workers, if any are asked for.
+/// Does what the command line asks for with the text that it names. Then it draws the run, and tells what it covered, if
+/// that is asked for. `threads` starts the workers, if any are asked for.
 pub fn tell<T: Threads + Wait + Copy + Send + Sync>(
     rt: &HostRuntime,
     threads: &T,
@@ -32,6 +34,7 @@ pub fn tell<T: Threads + Wait + Copy + Send + Sync>(
         Err(fault) => return Err(Failure::Text(fault)),
     };
     draw_run(rt, task, &notes)?;
+    cover_run(rt, task, &notes)?;
     Ok(Told {
         outcome,
         failed: notes.failed,
@@ -46,8 +49,9 @@ fn notes_of<'t>(rt: &HostRuntime, task: &'t Task) -> Notes<'t, Stderr> {
         explains: task.explain,
         strict: task.strict,
         failed: false,
-        keeps: task.chart.is_some(),
+        keeps: task.chart.is_some() || task.coverage.is_some(),
         run: None,
+        texts: None,
     }
 }
 
@@ -79,6 +83,20 @@ fn draw_run(rt: &HostRuntime, task: &Task, notes: &Notes<'_, Stderr>) -> Result<
         let _ = eprintln!(rt; "sdlrun: the order isn't known from instance #{number} on");
     }
     Ok(())
+}
+
+/// Tells what the run covered that is kept, if there is one.
+fn cover_run(rt: &HostRuntime, task: &Task, notes: &Notes<'_, Stderr>) -> Result<(), Failure> {
+    let (Some(coverage), Some(run), Some(texts)) = (&task.coverage, &notes.run, &notes.texts) else {
+        return Ok(());
+    };
+    let told = ToldRun {
+        run,
+        texts,
+        options: &task.options,
+        source: notes.names.text,
+    };
+    cover_file(rt, &told, coverage)
 }
 
 /// The text and the script that a task names, opened.

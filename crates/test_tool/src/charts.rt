@@ -44,6 +44,7 @@ fn notes(alloc: Global, text: &str, keeps: bool) -> Notes<'static, Vec<u8>> {
         failed: false,
         keeps,
         run: None,
+        texts: None,
     };
     let mut written = Vec::new(alloc);
     let _ = run_and_note_serially(alloc, &mut source, &mut written, &mut notes, &RUN);

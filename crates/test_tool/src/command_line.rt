@@ -211,6 +211,72 @@ fn refuses_charts_that_cannot_be(rt: HostRuntime) {
     }
 }
 
+/// A file that tells what a run covered, and its form.
+type Covered<'a> = (&'a str, view_covered::Form);
+
+/// Command lines, and the file that tells what the run covered.
+static COVERAGE: [(&str, Option<Covered<'static>>); 5] = [
+    ("sdlrun run a.txt", None),
+    (
+        "sdlrun run --coverage a.txt",
+        Some(("a.txt", view_covered::Form::Plain)),
+    ),
+    (
+        "sdlrun run --coverage=b/a.txt.info b",
+        Some(("b/a.txt.info", view_covered::Form::Lcov)),
+    ),
+    (
+        "sdlrun run b --coverage .info --workers 2",
+        Some((".info", view_covered::Form::Lcov)),
+    ),
+    (
+        "sdlrun run --json --chart a.svg --coverage a.txt --strict a",
+        Some(("a.txt", view_covered::Form::Plain)),
+    ),
+];
+
+#[test]
+fn covers_what_is_asked(rt: HostRuntime) {
+    for (line, covered) in &COVERAGE {
+        let told = told(&rt, rt.alloc(), line);
+        assert!(rt; told.is_ok(), "{line}");
+        assert!(rt; covered_by(&told) == *covered, "{line}");
+    }
+}
+
+fn covered_by(told: &Result<Task, Error>) -> Option<Covered<'_>> {
+    match told {
+        Ok(
+            Task {
+                coverage: Some(coverage),
+                ..
+            },
+        ) => Some((coverage.name.as_str(), coverage.form)),
+        _ => None,
+    }
+}
+
+/// Mistakes in the option of a file that tells what a run covered.
+static MISCOVERED: [&str; 9] = [
+    "sdlrun run --coverage",
+    "sdlrun run --coverage a",
+    "sdlrun run --coverage -",
+    "sdlrun run --coverage a.svg",
+    "sdlrun run --coverage a.TXT",
+    "sdlrun run --coverage a.txt.",
+    "sdlrun run --chart a.info",
+    "sdlrun run --coverage a.txt --coverage a.info",
+    "sdlrun check --coverage a.txt",
+];
+
+#[test]
+fn refuses_coverage_that_cannot_be(rt: HostRuntime) {
+    for line in &MISCOVERED {
+        let told = told(&rt, rt.alloc(), line);
+        assert!(rt; told.is_err(), "{line}");
+    }
+}
+
 /// Command lines, and whether a refusal is explained.
 static EXPLAINED: [(&str, bool); 3] = [
     ("sdlrun check", false),

@@ -49,6 +49,7 @@ fn explaining<N>(writer: N) -> Notes<'static, N> {
         failed: false,
         keeps: false,
         run: None,
+        texts: None,
     }
 }
 

@@ -1,7 +1,7 @@
 //! Tests of what no single text can show. Of the whole tool: readers and writers that fail, lines that need no memory,
-//! what a human is told of a refusal, which words of a command line choose what, charts of runs, and runs on worker threads. Of its
-//! crates for texts: that a canonical text is read as the same tree again, that each beginning of a text is refused by
-//! one line, and their calls.
+//! what a human is told of a refusal, which words of a command line choose what, charts of runs, what runs covered, and
+//! runs on worker threads. Of its crates for texts: that a canonical text is read as the same tree again, that each
+//! beginning of a text is refused by one line, and their calls.
 //!
 //! They stand above all other crates, so that none of these is proved a second time for its tests. Texts with what is
 //! written of them are cases of `conformance`.
@@ -13,6 +13,8 @@ mod again;
 mod charts;
 #[cfg(test)]
 mod command_line;
+#[cfg(test)]
+mod coverage;
 #[cfg(test)]
 mod devices;
 #[cfg(test)]

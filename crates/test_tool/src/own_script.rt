@@ -68,6 +68,7 @@ fn run<S: Read + Drop>(alloc: Global, script: Option<S>) -> Told {
         failed: false,
         keeps: false,
         run: None,
+        texts: None,
     };
     let mut written = Vec::new(alloc);
     let outcome = run_and_note_serially(alloc, &mut source, &mut written, &mut notes, &RUN);

@@ -1,0 +1,26 @@
+//! What a command line asks to be told of what a run covered.
+
+use crate::mistake::Mistake;
+use clap::ArgMatches;
+use sdl_views::coverage_form;
+use std::alloc::Global;
+use view_covered::Form;
+
+/// What a run covered, and the file into which it goes.
+#[derive(Drop)]
+pub struct CoverageFile {
+    pub name: String,
+    pub form: Form,
+}
+
+/// The file of what a run covered, if one is asked for.
+pub fn coverage_file(alloc: Global, run: &ArgMatches<'_>) -> Result<Option<CoverageFile>, Mistake> {
+    let Some(name) = run.get_str("coverage") else {
+        return Ok(None);
+    };
+    let form = coverage_form(name).ok_or(Mistake::CoverageEnding)?;
+    Ok(Some(CoverageFile {
+        name: String::from_str(alloc, name)?,
+        form,
+    }))
+}

@@ -1,0 +1,19 @@
+//! The file that tells what a run covered.
+
+use crate::opened::Failure;
+use crate::paper::Paper;
+use sdl_command_line::CoverageFile;
+use sdl_views::{ToldRun, cover};
+
+/// Writes what a run covered into the file that is named.
+pub fn cover_file(
+    rt: &HostRuntime,
+    told: &ToldRun<'_>,
+    coverage: &CoverageFile,
+) -> Result<(), Failure> {
+    let mut paper = Paper::create(rt, coverage.name.as_str())?;
+    match cover(rt.alloc(), told, coverage.form, &mut paper) {
+        Ok(()) => Ok(()),
+        Err(fault) => Err(paper.failure(fault)),
+    }
+}
