@@ -1,11 +1,14 @@
 -- What is found of a case, said of what the program may answer.
-use Rattle.std.specs.Prelude.{◌≡◌, ◌≢◌, ◌≤◌, ℕ, List, [], None, Some, Result, Ok, Err, MatchResult, length}
+use Rattle.std.specs.Prelude.{◌≡◌, ◌≢◌, ◌≤◌, ◌⊎◌, ℕ, List, [], Option, None, Some, Result, Ok, Err, MatchResult, length}
 use Rattle.sdl_engine.specs.Answer.{Faulted, Written}
 use Rattle.sdl_engine.specs.declared.options.Command.TheVariants as command
 use Rattle.sdl_engine.specs.declared.options.Options.{Options}
 use Rattle.sdl_engine.specs.declared.options.Outcome.{Outcome}
 use Rattle.sdl_engine.specs.declared.options.Outcome.TheVariants as outcome
 use Rattle.sdl_engine.specs.declared.options.TextFault.{TextFault}
+use Rattle.sdl_engine.specs.declared.run.Run.{Run}
+use Rattle.sdl_views.specs.Drawn.{IsDrawn}
+use Rattle.sdl_views.specs.declared.form.Form.{Form}
 use Rattle.conformance.specs.declared.case.Answer.{Answer}
 use Rattle.conformance.specs.declared.case.Asked.TheVariants as asked
 use Rattle.conformance.specs.declared.case.Case.{Case}
@@ -28,6 +31,19 @@ pub record IsAnswer (input : List ℕ) (options : Options) (output : List ℕ) (
   pub came : Result Outcome TextFault
   pub ends : status ≡ status_of came
   pub writes : MatchResult came (λ how. Written (Some input) None options how (Some []) (Some output)) (λ fault. Faulted fault (Some input) None options (Some []) (Some output))
+
+-- a chart in this form of the run that was kept; of a text that is refused none was, and nothing is drawn
+abbrev pub IsChartOf : Form → Option Run → List ℕ → Type 0
+IsChartOf form (Some run) chart = IsDrawn form run (Some []) (Some chart)
+IsChartOf form None chart = chart ≡ []
+
+-- A chart in this form may be drawn of the input: the status goes with what the engine answered, and the chart is that
+-- of a run that was kept then.
+pub record IsChart (input : List ℕ) (options : Options) (form : Form) (chart : List ℕ) (status : ℕ) : Type 0 where
+  pub output : List ℕ
+  pub told : IsAnswer input options output status
+  pub kept : Option Run
+  pub drawn : IsChartOf form kept chart
 
 -- the same output and the same status
 pub record IsSame (want told : Answer) : Type 0 where
@@ -55,9 +71,20 @@ pub record Answers (case : Case) (answer : Answer) : Type 0 where
   pub told : IsAnswer case.input.items options answer.output.items answer.status
   pub again : IsCanonical options answer
 
--- what was answered to the command of a case is not the wanted answer
+-- this was drawn of the run of a case
+pub record Draws (case : Case) (chart : Answer) : Type 0 where
+  pub options : Options
+  pub form : Form
+  pub request : case.asked ≡ asked.Chart options form
+  pub drawn : IsChart case.input.items options form chart.output.items chart.status
+
+-- this came of what is asked: of a command, or of a chart
+abbrev pub IsAnswered : Case → Answer → Type 0
+IsAnswered case answer = Answers case answer ⊎ Draws case answer
+
+-- what came of what is asked is not the wanted answer
 pub record AnswersOtherwise (case : Case) (answer : Answer) : Type 0 where
-  pub answers : Answers case answer
+  pub answers : IsAnswered case answer
   pub other : IsSame case.wanted answer → ⊥
 
 -- what was answered has another canonical text than itself
@@ -81,7 +108,12 @@ DiffersBy case (difference.Again pair) = (answer : Answer) × AnswersUnstably ca
 DiffersBy case (difference.Explained pair) = Answers case case.wanted
 DiffersBy case other = (answer : Answer) × AnswersOtherwise case answer
 
+-- whether a verdict says that a case is answered as wanted
+abbrev pub IsAsWanted : Verdict → Type 0
+IsAsWanted verdict.AsWanted = Unit {0}
+IsAsWanted (verdict.Differs how) = ⊥
+
 -- what a verdict says of its case
 abbrev pub Upholds : Case → Verdict → Type 0
-Upholds case verdict.AsWanted = Answers case case.wanted
+Upholds case verdict.AsWanted = IsAnswered case case.wanted
 Upholds case (verdict.Differs how) = DiffersBy case how

@@ -32,26 +32,48 @@ pub fn notes_of<T: Threads + Wait + Copy + Send + Sync>(
     input: &[u8],
     options: &Options,
 ) -> Vec<u8> {
-    let mut source = Source {
-        text: input,
-        script: None::<&[u8]>,
-    };
-    let mut notes = Notes {
+    let mut notes = silent_notes(alloc);
+    notes.explains = true;
+    let _ = noted_answer(rt, alloc, input, &mut notes, options);
+    let Notes { writer, .. } = notes;
+    writer
+}
+
+/// Notes that tell nothing, of an input from standard input.
+pub fn silent_notes(alloc: Global) -> Notes<'static, Vec<u8>> {
+    Notes {
         writer: Vec::new(alloc),
         names: Names {
             text: Names::STANDARD_INPUT,
             script: Names::STANDARD_INPUT,
         },
-        explains: true,
+        explains: false,
         strict: false,
         failed: false,
         keeps: false,
         run: None,
+        texts: None,
+    }
+}
+
+/// Runs the engine on an input, and has it note what is asked for.
+pub fn noted_answer<T: Threads + Wait + Copy + Send + Sync>(
+    rt: &T,
+    alloc: Global,
+    input: &[u8],
+    notes: &mut Notes<'_, Vec<u8>>,
+    options: &Options,
+) -> Answer
+    ensures { IsAnswer input.now options.now result.output.items result.status }
+{
+    let mut source = Source {
+        text: input,
+        script: None::<&[u8]>,
     };
     let mut output = Vec::new(alloc);
-    let _ = run_and_note(rt, alloc, &mut source, &mut output, &mut notes, options);
-    let Notes { writer, .. } = notes;
-    writer
+    let outcome = run_and_note(rt, alloc, &mut source, &mut output, notes, options);
+    let status = status_of(&outcome);
+    Answer { status, output }
 }
 
 /// The exit status that the program gives.

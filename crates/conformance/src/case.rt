@@ -1,12 +1,15 @@
 //! What a case is.
 
 use sdl_engine::Options;
+use sdl_views::Form;
 
 /// The request to the program, on its command line.
 #[derive(Clone, Copy)]
 pub enum Asked {
     /// A command of the engine.
     Command(Options),
+    /// The chart of a run, in this form.
+    Chart { options: Options, form: Form },
     /// Words that the driver doesn't know.
     Unknown,
 }
@@ -22,7 +25,7 @@ pub struct Answer {
 #[derive(Drop)]
 pub struct Case {
     /// Of a table's row the table's name, a slash and the row's number. With workers a slash follows, `workers-` and how
-    /// many.
+    /// many. Of a view or a chart a slash follows and the title of its block.
     pub name: String,
     pub asked: Asked,
     pub input: Vec<u8>,

@@ -26,7 +26,9 @@ pub enum FormatError {
     Status,
     #[error("`lines` and `json` are blocks of a run")]
     View,
-    #[error("a block is `input`, `output`, `explained`, `lines`, `json` or `table`")]
+    #[error("`svg` and `mpr` are blocks of a run without workers")]
+    Chart,
+    #[error("a block is `input`, `output`, `explained`, `lines`, `json`, `svg`, `mpr` or `table`")]
     Block,
     #[error("no input")]
     NoInput,

@@ -1,13 +1,14 @@
 //! The cases of a file.
 
-use crate::case::{Answer, Case};
+use crate::case::{Answer, Asked, Case};
 use crate::escape::expand;
 use crate::fault::{FormatError, FormatFault};
 use crate::lines::{Line, Lines, lines_of};
 use crate::section::{CASE, Section, read_section};
 use crate::table::{is_row, read_row};
-use crate::words::{read_words, with_view, with_workers};
+use crate::words::{read_words, with_chart, with_view, with_workers};
 use sdl_engine::View;
+use sdl_views::Form;
 use std::alloc::Global;
 use std::collections::BTreeSet;
 
@@ -51,6 +52,8 @@ fn add_cases(
             let case = single_case(alloc, section)?;
             add_view(alloc, section, &case, View::Lines, cases)?;
             add_view(alloc, section, &case, View::Json, cases)?;
+            add_chart(alloc, section, &case, Form::Svg, cases)?;
+            add_chart(alloc, section, &case, Form::Msc, cases)?;
             add_case(alloc, section, case, cases)
         }
     }
@@ -107,24 +110,57 @@ fn add_view(
     let Some(block) = block else {
         return Ok(());
     };
+    let Some(asked) = with_view(case.asked, view) else {
+        return Err(section.fault(FormatError::View));
+    };
+    add_told(alloc, case, asked, title, block, cases)
+}
+
+/// Appends the chart of the same run in this form, if its section has it.
+fn add_chart(
+    alloc: Global,
+    section: &Section<'_>,
+    case: &Case,
+    form: Form,
+    cases: &mut Vec<Case>,
+) -> Result<(), FormatFault> {
+    let (title, block) = match form {
+        Form::Svg => ("svg", section.blocks.svg),
+        Form::Html => return Ok(()),
+        Form::Msc => ("mpr", section.blocks.mpr),
+    };
+    let Some(block) = block else {
+        return Ok(());
+    };
+    let Some(asked) = with_chart(case.asked, form) else {
+        return Err(section.fault(FormatError::Chart));
+    };
+    add_told(alloc, case, asked, title, block, cases)
+}
+
+/// Appends the same run, asked in this way and told as its block of this title says.
+fn add_told(
+    alloc: Global,
+    case: &Case,
+    asked: Asked,
+    title: &str,
+    block: Lines<'_>,
+    cases: &mut Vec<Case>,
+) -> Result<(), FormatFault> {
     let output = text_of(alloc, block, None)?;
-    let told = case_with_view(alloc, section, case, view, title, output)?;
+    let told = case_told(alloc, case, asked, title, output)?;
     cases.push(told)?;
     Ok(())
 }
 
-/// The same run, told as this output.
-fn case_with_view(
+/// The same run, asked in this way and told as this output.
+fn case_told(
     alloc: Global,
-    section: &Section<'_>,
     case: &Case,
-    view: View,
+    asked: Asked,
     title: &str,
     output: Vec<u8>,
 ) -> Result<Case, FormatFault> {
-    let Some(asked) = with_view(case.asked, view) else {
-        return Err(section.fault(FormatError::View));
-    };
     let name = case.name.as_str();
     Ok(Case {
         name: format!(in alloc; "{name}/{title}")?,

@@ -1,12 +1,14 @@
 //! Whether a case is answered as wanted.
 
 ghost use Rattle.std.specs.Prelude.{◌≡◌, ◌↔◌, IfOk, IfSome, IsNone, MatchOption};
-ghost use Rattle.conformance.specs.Judgement.{Answers, AnswersOtherwise, IsCanonical, IsOfAnswer, IsSame, IsUnstable, Upholds};
+ghost use Rattle.conformance.specs.Judgement.{Answers, AnswersOtherwise, IsAnswered, IsAsWanted, IsCanonical, IsOfAnswer, IsSame, IsUnstable, Upholds};
 
 use crate::answer::{answer_of, notes_of};
 use crate::case::{Answer, Asked, Case};
+use crate::chart::chart_of;
 use crate::compare::{LinePair, first_difference};
 use sdl_engine::{Command, Options};
+use sdl_views::Form;
 use std::alloc::{AllocError, Global};
 use std::fmt;
 use std::sync::Wait;
@@ -49,7 +51,7 @@ impl fmt::Display for Difference {
     }
 }
 
-/// Asks the engine a case, and compares what it answers.
+/// Asks the engine a case, and compares what it answers, or what is drawn of its run.
 pub fn judge<T: Threads + Wait + Copy + Send + Sync>(
     rt: &T,
     alloc: Global,
@@ -62,6 +64,7 @@ pub fn judge<T: Threads + Wait + Copy + Send + Sync>(
             Verdict::AsWanted => judge_notes(rt, alloc, case, &options),
             Verdict::Differs(difference) => Ok(Verdict::Differs(difference)),
         },
+        Asked::Chart { options, form } => judge_chart(rt, alloc, case, &options, form),
         Asked::Unknown => Ok(Verdict::Differs(Difference::Arguments)),
     }
 }
@@ -102,9 +105,25 @@ fn judge_notes<T: Threads + Wait + Copy + Send + Sync>(
     }
 }
 
-fn judge_answer(alloc: Global, case: &Case, answer: &Answer) -> Result<Verdict, AllocError>
-    requires { Answers case.now answer.now }
+/// Compares what is drawn of a run.
+fn judge_chart<T: Threads + Wait + Copy + Send + Sync>(
+    rt: &T,
+    alloc: Global,
+    case: &Case,
+    options: &Options,
+    form: Form,
+) -> Result<Verdict, AllocError>
+    requires { case.now.asked ≡ Asked.Chart options.now form }
     ensures { IfOk result (Upholds case.now) }
+{
+    let chart = chart_of(rt, alloc, case.input.as_slice(), options, form)?;
+    judge_answer(alloc, case, &chart)
+}
+
+fn judge_answer(alloc: Global, case: &Case, answer: &Answer) -> Result<Verdict, AllocError>
+    requires { IsAnswered case.now answer.now }
+    ensures upholds { IfOk result (Upholds case.now) }
+    ensures compared { IfOk result (λ verdict. IsAsWanted verdict ↔ IsSame case.now.wanted answer.now) }
 {
     match compare(alloc, &case.wanted, answer)? {
         Some(difference) => Ok(judge_other(case, answer, difference)),
@@ -116,7 +135,8 @@ fn judge_answer(alloc: Global, case: &Case, answer: &Answer) -> Result<Verdict, 
 fn judge_other(_case: &Case, _answer: &Answer, difference: Difference) -> Verdict
     requires answers { AnswersOtherwise _case.now _answer.now }
     requires kind { IsOfAnswer difference }
-    ensures { Upholds _case.now result }
+    ensures upholds { Upholds _case.now result }
+    ensures differs { result ≡ Verdict.Differs difference }
 {
     Verdict::Differs(difference)
 }

@@ -3,11 +3,13 @@
 //!
 //! A case is bytes in a file: a command line, an input, the output and the exit status that are wanted of the
 //! program. `file` reads the cases of a file, with the escapes of `escape`; `judge` runs one, and its contract says
-//! that a case is as wanted only where the engine's own theorem holds of the wanted output; `tally` counts.
+//! that a case is as wanted only where the engine's own theorem holds of the wanted output, or the wanted chart may be
+//! drawn of a run (`chart`); `tally` counts.
 #![tactic(auto)]
 
 mod answer;
 mod case;
+mod chart;
 mod collection;
 mod compare;
 mod driver;

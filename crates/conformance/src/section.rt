@@ -42,6 +42,9 @@ pub struct Blocks<'a> {
     /// What the run is told as with `--lines`, and with `--json`.
     pub lines: Option<Lines<'a>>,
     pub json: Option<Lines<'a>>,
+    /// What is drawn of the run as a picture, and as text of Z.120.
+    pub svg: Option<Lines<'a>>,
+    pub mpr: Option<Lines<'a>>,
     pub table: Option<Lines<'a>>,
 }
 
@@ -54,6 +57,8 @@ impl<'a> Blocks<'a> {
             b"---- explained" => Some(&mut self.explained),
             b"---- lines" => Some(&mut self.lines),
             b"---- json" => Some(&mut self.json),
+            b"---- svg" => Some(&mut self.svg),
+            b"---- mpr" => Some(&mut self.mpr),
             b"---- table" => Some(&mut self.table),
             _ => None,
         }
@@ -162,6 +167,8 @@ fn read_blocks(lines: Lines<'_>) -> Result<Blocks<'_>, FormatFault> {
         explained: None,
         lines: None,
         json: None,
+        svg: None,
+        mpr: None,
         table: None,
     };
     let mut rest = lines;

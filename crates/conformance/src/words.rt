@@ -2,6 +2,7 @@
 
 use crate::case::Asked;
 use sdl_engine::{Command, Options, View};
+use sdl_views::Form;
 use std::str::SplitWhitespace;
 
 /// Reads the words after the program's name.
@@ -88,6 +89,16 @@ pub fn with_view(asked: Asked, view: View) -> Option<Asked> {
     match asked {
         Asked::Command(options) if options.command == Command::Run => {
             Some(Asked::Command(Options { view, ..options }))
+        }
+        _ => None,
+    }
+}
+
+/// The chart of the same run in this form; none where no run without workers is asked for.
+pub fn with_chart(asked: Asked, form: Form) -> Option<Asked> {
+    match asked {
+        Asked::Command(options) if options.command == Command::Run && options.workers.is_none() => {
+            Some(Asked::Chart { options, form })
         }
         _ => None,
     }
