@@ -1,8 +1,9 @@
 """A run as LANGUAGE.md tells it, made by the plainest means: lists that are searched, and no thought of cost.
 
 It knows the tree of a specification and not its text, shares no code with the program, and writes the same trace. It
-keeps the order of the run, too (`order.py`)."""
+keeps the order of the run, too (`order.py`), and how often it passed what there is to cover (`coverage.py`)."""
 
+from collections import Counter
 from dataclasses import dataclass, field
 
 from soaking.order import Order, lose, of_value, of_values
@@ -131,6 +132,7 @@ class Instance:
         self.begin(text, by=reaction.kind, **taken, **self.run.order.take(entry))
         if reaction.kind == "discard":
             return
+        self.count("rest" if reaction.is_star else entry.signal)
         self.transit(reaction.body, zip(reaction.places, entry.values))
 
     def look(self):
@@ -139,6 +141,7 @@ class Instance:
             if value_of(stimulus.condition, self):
                 self.sender = self.name
                 self.begin(f"provided {number}", by="provided", number=number)
+                self.count(number)
                 self.transit(stimulus.body)
                 return True, True
         return False, False
@@ -166,9 +169,7 @@ class Instance:
         if isinstance(node, int):
             return node
         if isinstance(node, (Task, Output, Set, Reset, Create, dict)) or node.word == "join":
-            if self.left == 0:
-                raise Failure("TooLong")
-            self.left -= 1
+            self.spend()
         if isinstance(node, dict):
             return self.decide(node)
         if isinstance(node, (Task, Output, Set, Reset, Create)):
@@ -183,10 +184,25 @@ class Instance:
         else:
             self.position = self.position if node.name == "-" else node.name
             self.say(f"  nextstate {self.position}", nextstate=self.position)
+            self.count("entered")
         raise Ended
 
+    def count(self, what):
+        """Counts what the state does, or that it is entered."""
+        self.run.passes[self.process, self.position, what] += 1
+
+    def spend(self):
+        """Makes one of the statements that a transition may have."""
+        if self.left == 0:
+            raise Failure("TooLong")
+        self.left -= 1
+
     def decide(self, node):
-        return place_of_answer(node, value_of(node["question"], self))
+        place = place_of_answer(node, value_of(node["question"], self))
+        if self.run.has_marks:
+            self.spend()
+        self.run.passes[node["bodies"][place]] += 1
+        return place
 
     def task(self, task):
         for variable, expression in task.pairs:
@@ -250,9 +266,10 @@ class Instance:
 
 
 class Run:
-    """A whole run, by sweeps."""
+    """A whole run, by sweeps. With marks each part of a decision costs a statement more."""
 
-    def __init__(self, system, routes, script, limit):
+    def __init__(self, system, routes, script, limit, has_marks=False):
+        self.has_marks, self.passes = has_marks, Counter()
         self.system, self.routes, self.script, self.limit = system, routes, list(script), limit
         self.processes = system.processes()
         self.codes = {process: Code(process) for process in self.processes}

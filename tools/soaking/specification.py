@@ -5,6 +5,8 @@ So the canonical text of each specification is known before any program has seen
 
 from dataclasses import dataclass, field
 
+from soaking.coverage import Notes
+
 ENVIRONMENT = None
 WORDS = set(
     "system endsystem block endblock process endprocess channel endchannel nodelay connect from to with env signal"
@@ -23,6 +25,7 @@ class Writer:
         self.canonical = []
         self.uses = []
         self.values = []
+        self.covered = Notes()
 
     def often(self, part):
         return self.lot.random() < part
@@ -270,6 +273,7 @@ class Process:
     timers: list = field(default_factory=list)
 
     def put(self, writer):
+        writer.covered.process(self)
         writer.put("process", self.name)
         for item in self.counts or []:
             writer.put(item) if isinstance(item, str) else item.put(writer)
@@ -309,15 +313,20 @@ class State:
         writer.put("state", *["*"] * self.is_star)
         if self.names:
             writer.put(*["("] * self.is_star)
-            writer.listed(self.names, writer.put)
+            writer.listed(self.names, lambda name: self.put_name(writer, name))
             writer.put(*[")"] * self.is_star)
         writer.end()
         for stimulus in self.stimuli:
-            stimulus.put(writer)
+            stimulus.put(writer, self)
         if writer.often(0.6):
             writer.close("endstate", writer.lot.choice(self.names) if self.names and not self.is_star else None, False)
         else:
             writer.canonical += ["endstate", ";"]
+
+    def put_name(self, writer, name):
+        if not self.is_star:
+            writer.covered.state(len(writer.shown), name)
+        writer.put(name)
 
     def covers(self, name):
         return (name in self.names) != self.is_star
@@ -345,12 +354,14 @@ class Input:
     is_urgent: bool = False
     condition: object = None
     body: object = None
+    is_continuous = False
 
-    def put(self, writer):
+    def put(self, writer, state):
         writer.put(*["priority"] * self.is_urgent, "input")
         if self.pairs:
-            writer.listed(self.pairs, lambda pair: self.put_pair(writer, *pair))
+            writer.listed(self.pairs, lambda pair: self.put_pair(writer, state, *pair))
         else:
+            writer.covered.stimulus(len(writer.shown), state, self)
             writer.put("*")
         writer.end()
         if self.condition is not None:
@@ -359,8 +370,8 @@ class Input:
             writer.end()
         self.body.put(writer)
 
-    @staticmethod
-    def put_pair(writer, signal, variables):
+    def put_pair(self, writer, state, signal, variables):
+        writer.covered.stimulus(len(writer.shown), state, self, signal)
         writer.put(signal.name)
         if variables:
             writer.put("(")
@@ -377,7 +388,7 @@ class Save:
 
     items: list
 
-    def put(self, writer):
+    def put(self, writer, _state):
         writer.put("save")
         put_signals(writer, self.items) if self.items else writer.put("*")
         writer.end()
@@ -392,8 +403,10 @@ class Continuous:
     priority: object = None
     counter: object = None
     body: object = None
+    is_continuous = True
 
-    def put(self, writer):
+    def put(self, writer, state):
+        writer.covered.stimulus(len(writer.shown), state, self)
         writer.put("provided")
         writer.value(self.condition, "Boolean")
         writer.end()

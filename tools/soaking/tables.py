@@ -14,6 +14,7 @@ class Reaction:
     kind: str
     places: list = None
     body: object = None
+    is_star: bool = False
 
 
 class Code:
@@ -41,7 +42,7 @@ class Code:
                 self.nodes.append(statement)
 
     def decision(self, decision):
-        node = {"question": decision.question, "parts": [], "else": None, "jumps": []}
+        node = {"question": decision.question, "parts": [], "else": None, "bodies": {}}
         self.nodes.append(node)
         jumps = []
         for answers, body in [*decision.parts, *[(None, decision.otherwise)] * (decision.otherwise is not None)]:
@@ -49,6 +50,7 @@ class Code:
                 node["else"] = len(self.nodes)
             else:
                 node["parts"].append((answers, len(self.nodes)))
+            node["bodies"][len(self.nodes)] = body
             self.add(body)
             jumps.append(len(self.nodes))
             self.nodes.append(None)
@@ -87,7 +89,7 @@ class Table:
                 is_open = truths.get(id(stimulus), True)
                 kind = "priority" if stimulus.is_urgent else "input" if is_open else "save"
                 if not stimulus.pairs:
-                    star = Reaction(kind, [], stimulus.body)
+                    star = Reaction(kind, [], stimulus.body, True)
                 for one, places in stimulus.pairs:
                     if one is signal:
                         return Reaction(kind, places, stimulus.body)

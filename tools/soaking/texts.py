@@ -5,13 +5,8 @@ ODD = ["'", "view", "9223372036854775808", "$", "/*", "*", "-", "sender", "x", "
 COMMENTS = ["/* c */", "/**/", "/* ; endsystem; */", "/* a\nb */", "/* \u00e9 ** / ' */"]
 
 
-def laid_out(lot, tokens):
-    """Tokens with gaps between them; two words are always parted."""
-    return "".join(pieces(lot, tokens))
-
-
 def pieces(lot, tokens):
-    """Tokens, each with the gap behind it."""
+    """Tokens, each with the gap behind it; two words are always parted."""
     is_dense, end = lot.random() < 0.2, lot.choice(["\n", "\n", "\n", "\r\n"])
     for token, after in zip(tokens, [*tokens[1:], None]):
         may_touch = token in TIGHT or after in TIGHT

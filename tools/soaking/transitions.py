@@ -2,6 +2,7 @@
 
 from dataclasses import dataclass
 
+from soaking.coverage import Part
 from soaking.specification import Process, Signal
 
 
@@ -144,19 +145,28 @@ class Decision:
     label: object = None
 
     def put(self, writer):
+        decision = len(writer.shown), writer.covered.decision()
         writer.put("decision")
         self.question.put(writer)
         writer.end()
-        for answers, body in self.parts:
-            writer.put("(")
-            writer.listed(answers, lambda answer: answer.put(writer))
-            writer.put(")", ":")
+        parts = [*self.parts, *[(None, self.otherwise)] * (self.otherwise is not None)]
+        for number, (answers, body) in enumerate(parts):
+            start = len(writer.shown)
+            self.put_answers(writer, answers)
+            writer.covered.part(Part(start, len(writer.shown), answers is None, body, *decision, number))
+            writer.put(":")
             body.put(writer)
-        if self.otherwise is not None:
-            writer.put("else", ":")
-            self.otherwise.put(writer)
         writer.put("enddecision")
         writer.end()
+
+    @staticmethod
+    def put_answers(writer, answers):
+        if answers is None:
+            writer.put("else")
+            return
+        writer.put("(")
+        writer.listed(answers, lambda answer: answer.put(writer))
+        writer.put(")")
 
 
 @dataclass(eq=False)
