@@ -1,5 +1,5 @@
 -- What the calls of a drawing give, put together into what is said of it.
-use Rattle.std.proofs.Common.{◌≡◌, ◌≢◌, ℕ, List, Option, inr, refl}
+use Rattle.std.proofs.Common.{◌≢◌, ℕ, List, Option, inr, refl}
 use Rattle.sdl_engine.specs.Answer.{fault_of}
 use Rattle.sdl_engine.specs.Views.{IsTimelineTo}
 use Rattle.sdl_engine.specs.declared.run.Run.{Run}

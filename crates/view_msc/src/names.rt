@@ -1,9 +1,7 @@
 //! The names of instances, messages and other things in Z.120.
 
-ghost use Rattle.std.specs.Prelude.{◌≡◌, ◌++◌, codes, OnOk};
-ghost use Rattle.std.specs.Fmt.{decimal};
+ghost use Rattle.std.specs.Prelude.{◌≡◌, ◌++◌, OnOk};
 ghost use Rattle.std.specs.String.{string_bytes};
-ghost use Rattle.port_values.specs.Text.{values_text};
 ghost use Rattle.view_msc.specs.EventText.{instance_name, message_name, message_text, party_name, sender_name, word};
 
 use crate::keyword::is_keyword;

@@ -1,6 +1,6 @@
 //! Who lives, what waits, and the links of the events that are told.
 
-ghost use Rattle.std.specs.Prelude.{◌≡◌, ℕ, ◌+◌, ◌==◌, ◌&&◌, Some, None, IfOk, IsTrue, IsFalse, OnOk, true, false, if◌then◌else◌, slice_set, []};
+ghost use Rattle.std.specs.Prelude.{◌≡◌, ℕ, ◌+◌, ◌==◌, Some, None, IfOk, IsTrue, IsFalse, OnOk, true, false, if◌then◌else◌, slice_set, []};
 ghost use Rattle.run_record.specs.Entry.{event_of, got_of};
 ghost use Rattle.run_record.specs.Event as event;
 ghost use Rattle.sdl_system.specs.declared.route.Dest.{Dest};
