@@ -15,7 +15,7 @@ use sdl_tree::{Bound, Counts, Expression, Mark, Spelling};
 use std::alloc::{AllocError, Global};
 
 /// How many instances of a process there are at the start, and how many there may be at most; None: any number.
-#[derive(Clone, Copy, Debug, PartialEq, Eq)]
+#[derive(Clone, Copy, PartialEq, Eq)]
 pub struct InstanceCounts {
     pub initial: i64,
     pub maximum: Option<i64>,

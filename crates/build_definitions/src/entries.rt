@@ -9,11 +9,11 @@ use sdl_tree::{
 };
 
 /// A signal list, by its place among all signal lists of the specification in the order of the text.
-#[derive(Clone, Copy, Debug, PartialEq, Eq)]
+#[derive(Clone, Copy, PartialEq, Eq)]
 pub struct SignalListId(pub u32);
 
 /// A channel, by its place among all channels of the specification in the order of the text.
-#[derive(Clone, Copy, Debug, PartialEq, Eq)]
+#[derive(Clone, Copy, PartialEq, Eq)]
 pub struct ChannelId(pub u32);
 
 /// A block of the system. Its number is its place in the table.
@@ -33,7 +33,7 @@ pub struct ProcessEntry<'t> {
 }
 
 /// A block or a process, by its number.
-#[derive(Clone, Copy, Debug, PartialEq, Eq)]
+#[derive(Clone, Copy, PartialEq, Eq)]
 pub enum Agent {
     Block(BlockId),
     Process(ProcessId),

@@ -3,7 +3,7 @@
 use sdl_tree::KeywordValue;
 
 /// Where an expression stands: it decides which operands may stand in it.
-#[derive(Clone, Copy, Debug, PartialEq, Eq)]
+#[derive(Clone, Copy, PartialEq, Eq)]
 pub enum Context {
     /// In a transition.
     Transition,

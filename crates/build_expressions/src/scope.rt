@@ -8,7 +8,7 @@ use port_values::{SignalId, Value};
 use sdl_system::{ProcessId, Sort, VariableId};
 
 /// The outcome of a constant expression.
-#[derive(Clone, Copy, Debug, PartialEq, Eq)]
+#[derive(Clone, Copy, PartialEq, Eq)]
 pub enum Constant {
     Value(Value),
     /// It has no value: an operation in it has none, or it rests on a synonym without a value, as on a circle of
@@ -19,11 +19,11 @@ pub enum Constant {
 }
 
 /// A synonym, by its place among all synonyms of the specification in the order of the text.
-#[derive(Clone, Copy, Debug, PartialEq, Eq)]
+#[derive(Clone, Copy, PartialEq, Eq)]
 pub struct SynonymId(pub u32);
 
 /// The declaration of a name in an expression. A sort is None if the name of the sort is no sort's.
-#[derive(Clone, Copy, Debug, PartialEq, Eq)]
+#[derive(Clone, Copy, PartialEq, Eq)]
 pub enum ValueEntry {
     /// A variable or a formal parameter.
     Variable {
@@ -63,7 +63,7 @@ fn constant_at(constants: &[Constant], synonym: SynonymId) -> Constant
 }
 
 /// The meaning of a name in an expression: a variable, or the constant of a synonym.
-#[derive(Clone, Copy, Debug, PartialEq, Eq)]
+#[derive(Clone, Copy, PartialEq, Eq)]
 pub enum ValueMeaning {
     /// A variable or a formal parameter.
     Variable {
@@ -78,7 +78,7 @@ pub enum ValueMeaning {
 
 /// The meaning of the name of a signal or of a timer, with the sorts of its parameters. A sort is None if the name of
 /// the sort is no sort's.
-#[derive(Clone, Copy, Debug)]
+#[derive(Clone, Copy)]
 pub enum SignalMeaning<'s> {
     Signal {
         number: SignalId,
@@ -93,7 +93,7 @@ pub enum SignalMeaning<'s> {
 }
 
 /// The meaning of the name of a process or of a block. A process has the sorts of its formal parameters.
-#[derive(Clone, Copy, Debug)]
+#[derive(Clone, Copy)]
 pub enum AgentMeaning<'s> {
     Process {
         number: ProcessId,

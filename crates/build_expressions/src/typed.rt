@@ -12,7 +12,7 @@ use sdl_tree::KeywordValue;
 use std::alloc::{AllocError, Global};
 
 /// An expression with its names resolved, and its kind.
-#[derive(Debug, Drop)]
+#[derive(Drop)]
 pub struct Typed {
     pub kind: OperandSort,
     /// None where a synonym in it has no value or is refused, which is told where the synonym is defined.

@@ -8,7 +8,7 @@ use sdl_tree::{Mark, Name, Number, Spelling};
 use std::marker::Model;
 
 /// A token of the text: how it is spelled, and where it stands.
-#[derive(Clone, Copy, Debug)]
+#[derive(Clone, Copy)]
 pub struct Token<'t> {
     pub text: &'t str,
     pub place: Place,
@@ -103,7 +103,7 @@ impl Rule {
 }
 
 /// A rule that is broken at a token.
-#[derive(Clone, Copy, Debug)]
+#[derive(Clone, Copy)]
 pub struct Fault<'t> {
     pub rule: Rule,
     pub token: Token<'t>,
@@ -130,7 +130,7 @@ impl<'t> Fault<'t> {
 }
 
 /// The fault to tell among those that were noted.
-#[derive(Debug, Drop)]
+#[derive(Drop)]
 pub struct Faults<'t> {
     first: Option<Fault<'t>>,
 }

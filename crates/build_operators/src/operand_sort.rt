@@ -4,7 +4,7 @@ use sdl_system::Sort;
 
 /// The sort of an operand, its kind for short: a Natural is an Integer. An expression of numbers and operators alone is
 /// free: it fits Integer, Time and Duration.
-#[derive(Clone, Copy, Debug, PartialEq, Eq)]
+#[derive(Clone, Copy, PartialEq, Eq)]
 pub enum OperandSort {
     Free,
     Integer,

@@ -8,14 +8,14 @@ use sdl_system::{Arithmetic, Comparison, Logic, NumberSort, Operation};
 use sdl_tree::{Operator, UnaryOperator};
 
 /// An operation on two values, and the sort of what it gives.
-#[derive(Clone, Copy, Debug, PartialEq, Eq)]
+#[derive(Clone, Copy, PartialEq, Eq)]
 pub struct TypedOperation {
     pub operation: Operation,
     pub kind: OperandSort,
 }
 
 /// An operation on one value, and the sort of what it gives.
-#[derive(Clone, Copy, Debug, PartialEq, Eq)]
+#[derive(Clone, Copy, PartialEq, Eq)]
 pub struct TypedUnaryOperation {
     pub operation: sdl_system::UnaryOperation,
     pub kind: OperandSort,

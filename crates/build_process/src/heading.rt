@@ -3,7 +3,7 @@
 use sdl_system::{SignalSet, Variable};
 
 /// The heading of a process, with its variables and its valid input set.
-#[derive(Debug, Drop)]
+#[derive(Drop)]
 pub struct Heading {
     pub name: String,
     /// How many instances there are at the start.

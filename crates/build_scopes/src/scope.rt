@@ -3,7 +3,7 @@
 use sdl_system::{BlockId, ProcessId};
 
 /// A scope: the system, or one of its blocks or processes.
-#[derive(Clone, Copy, Debug, PartialEq, Eq)]
+#[derive(Clone, Copy, PartialEq, Eq)]
 pub enum ScopeId {
     System,
     Block(BlockId),
@@ -11,7 +11,7 @@ pub enum ScopeId {
 }
 
 /// The scopes round a place in the text, beside the system.
-#[derive(Clone, Copy, Debug, PartialEq, Eq)]
+#[derive(Clone, Copy, PartialEq, Eq)]
 pub struct ScopePath {
     /// The process, in one.
     pub process: Option<ProcessId>,

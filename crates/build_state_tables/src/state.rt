@@ -14,7 +14,7 @@ use sdl_tree::Name;
 use std::alloc::{AllocError, Global};
 
 /// The states of a process, and what they do.
-#[derive(Debug, Drop)]
+#[derive(Drop)]
 pub struct Tables {
     /// The states, in the order in which the text first names them.
     pub states: Vec<State>,

@@ -10,7 +10,7 @@ use build_faults::Token;
 use sdl_system::{ConditionId, VariableId};
 
 /// The response of a state to a signal. Conditions and transitions are named by their numbers in the process.
-#[derive(Debug, Drop)]
+#[derive(Drop)]
 pub enum Response {
     /// The signal begins a transition where its enabling condition is true, and waits where that is false.
     Input {
@@ -28,7 +28,7 @@ pub enum Response {
 }
 
 /// A word of a stimulus, with the signals of which it speaks there, and what is done with them.
-#[derive(Debug, Drop)]
+#[derive(Drop)]
 pub struct Mention<'t> {
     pub token: Token<'t>,
     pub subjects: Vec<Subject>,
@@ -36,7 +36,7 @@ pub struct Mention<'t> {
 }
 
 /// How the signals of an input begin its transition.
-#[derive(Clone, Copy, Debug, PartialEq, Eq)]
+#[derive(Clone, Copy, PartialEq, Eq)]
 pub enum Manner {
     /// Each in its turn, where the condition is true if there is one.
     Input(Option<ConditionId>),

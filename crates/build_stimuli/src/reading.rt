@@ -22,7 +22,7 @@ use sdl_tree::{
 use std::alloc::{AllocError, Global};
 
 /// A continuous signal, with the number that is its priority, where it has one.
-#[derive(Clone, Copy, Debug, PartialEq, Eq)]
+#[derive(Clone, Copy, PartialEq, Eq)]
 pub struct ContinuousSignal {
     pub condition: ConditionId,
     pub priority: Option<i64>,
@@ -30,7 +30,7 @@ pub struct ContinuousSignal {
 }
 
 /// A part with the states to which it belongs, and with its stimuli in the order of the text.
-#[derive(Debug, Drop)]
+#[derive(Drop)]
 pub struct Part<'t> {
     pub states: &'t States,
     pub mentions: Vec<Mention<'t>>,
@@ -40,7 +40,7 @@ pub struct Part<'t> {
 }
 
 /// The numbering of the transitions and conditions of a process.
-#[derive(Debug, Drop)]
+#[derive(Drop)]
 pub struct Numbering {
     /// The transition that comes next.
     pub next: TransitionId,
@@ -49,7 +49,7 @@ pub struct Numbering {
 }
 
 /// The parts of the states of a process, with the numbering of their transitions and conditions.
-#[derive(Debug, Drop)]
+#[derive(Drop)]
 pub struct Reading<'t> {
     pub numbering: Numbering,
     pub parts: Vec<Part<'t>>,

@@ -3,7 +3,7 @@
 use port_values::SignalId;
 
 /// Of what a state speaks.
-#[derive(Clone, Copy, Debug, PartialEq, Eq, Hash)]
+#[derive(Clone, Copy, PartialEq, Eq, Hash)]
 pub enum Subject {
     /// A signal or a timer, by its name.
     Signal(SignalId),

@@ -6,7 +6,7 @@ use std::alloc::AllocError;
 
 /// A transition of a process, counted from 0 in the order of the text: the start, then each stimulus that begins one
 /// and each connection.
-#[derive(Clone, Copy, Debug, PartialEq, Eq, PartialOrd, Ord, Hash)]
+#[derive(Clone, Copy, PartialEq, Eq, PartialOrd, Ord, Hash)]
 pub struct TransitionId(pub u32);
 
 impl TransitionId {

@@ -28,7 +28,7 @@ pub enum EscapeError {
 }
 
 /// An error, and how many bytes of the text stand before it.
-#[derive(Debug, Drop)]
+#[derive(Drop)]
 pub struct Misread {
     pub at: usize,
     pub error: EscapeError,

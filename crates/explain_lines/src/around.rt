@@ -7,7 +7,7 @@ use sdl_tree::Mark;
 use std::alloc::{AllocError, Global};
 
 /// The words around a place. Each is None if the text has no word there.
-#[derive(Clone, Copy, Debug)]
+#[derive(Clone, Copy)]
 pub struct Around<'t> {
     /// The word three words before the place.
     pub earliest: Option<PlacedWord<'t>>,

@@ -6,7 +6,7 @@ use crate::width::width_of;
 use sdl_lex::Place;
 
 /// A line of a text, parted at the byte that stands at a place.
-#[derive(Clone, Copy, Debug)]
+#[derive(Clone, Copy)]
 pub struct Excerpt<'t> {
     pub place: Place,
     /// The part of the line before the place.

@@ -5,7 +5,7 @@ use sdl_lex::Place;
 use sdl_tree::{Chain, Expression, Name, SortName, UnaryOperator};
 
 /// What a name has to stand for.
-#[derive(Clone, Copy, Debug, PartialEq, Eq)]
+#[derive(Clone, Copy, PartialEq, Eq)]
 pub enum Kind {
     Sort,
     Signal,

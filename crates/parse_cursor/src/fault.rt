@@ -9,7 +9,7 @@ use std::alloc::{AllocError, AllocFailed};
 use std::fmt;
 
 /// A fault of the front of the cursor, which has the place. A reading that comes to one leaves the cursor there.
-#[derive(Debug, Drop)]
+#[derive(Drop)]
 pub enum Fault {
     /// Another token stands there than what must.
     Expected(Wanted),

@@ -13,7 +13,7 @@ use std::alloc::{AllocError, Global};
 use std::str;
 
 /// The meaning of a token, with its text where the text decides.
-#[derive(Clone, Copy, Debug)]
+#[derive(Clone, Copy)]
 pub enum Word<'t> {
     /// A keyword, a literal or another mark in this spelling.
     Fixed(Mark, Case),
@@ -27,7 +27,7 @@ pub enum Word<'t> {
 }
 
 /// A word and the place of its token.
-#[derive(Clone, Copy, Debug)]
+#[derive(Clone, Copy)]
 pub struct PlacedWord<'t> {
     pub word: Word<'t>,
     pub place: Place,

@@ -1,7 +1,7 @@
 //! Places in the grammar.
 
 /// A place in the grammar: all that the reading of an item depends on besides the words.
-#[derive(Clone, Copy, Debug)]
+#[derive(Clone, Copy)]
 pub struct At {
     /// How many parentheses and decisions may stand inside each other.
     pub depth: usize,

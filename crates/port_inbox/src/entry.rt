@@ -7,7 +7,7 @@ use port_values::{Arm, Item, Ticks, TimerKey};
 
 /// A timer that was set: which port set it, its key, by which set of that port, and the time at which it expires.
 /// `Owner::set` makes it.
-#[derive(Debug, PartialEq, Eq, Drop)]
+#[derive(PartialEq, Eq, Drop)]
 pub struct Fuse {
     pid: u32,
     key: TimerKey,
@@ -67,7 +67,7 @@ impl Fuse {
 }
 
 /// An entry of a port: a signal, or a timer that has expired.
-#[derive(Debug, PartialEq, Eq, Drop)]
+#[derive(PartialEq, Eq, Drop)]
 pub enum Entry {
     Signal(Item),
     Timer(Fuse),

@@ -18,7 +18,7 @@ use std::collections::VecDeque;
 use std::marker::Model;
 
 /// A list of what waits, in two parts: the entries that were passed over, and the rest, which has room for both.
-#[derive(Debug, Drop)]
+#[derive(Drop)]
 pub struct Backlog {
     passed: Passed,
     rest: VecDeque<Got>,

@@ -7,7 +7,7 @@ ghost use Rattle.port_model.specs.Timers.{is_signal_of};
 use port_values::{Item, SignalId, TimerKey};
 
 /// An entry that waits in a port: a signal, or the signal of a timer that has expired.
-#[derive(Debug, PartialEq, Eq, Drop)]
+#[derive(PartialEq, Eq, Drop)]
 pub enum Got {
     Signal(Item),
     Timer(TimerKey),

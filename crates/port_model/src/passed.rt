@@ -16,7 +16,7 @@ use std::marker::Model;
 
 /// Entries that were passed over, in the order in which they came: by their places, which rise. Each call takes a time
 /// that is logarithmic in their number.
-#[derive(Debug, Drop)]
+#[derive(Drop)]
 pub struct Passed {
     entries: BTreeMap<u64, Got>,
     places: Places,

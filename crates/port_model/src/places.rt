@@ -10,14 +10,14 @@ use std::collections::{BTreeMap, BTreeSet};
 use std::marker::Model;
 
 /// A name, and a place at which an entry of this name stands. In order by name, and those of one name by place.
-#[derive(Clone, Copy, Debug, PartialEq, Eq, PartialOrd, Ord)]
+#[derive(Clone, Copy, PartialEq, Eq, PartialOrd, Ord)]
 pub struct NamedPlace {
     pub name: SignalId,
     pub place: u64,
 }
 
 /// The places of entries: all of them by name, and those of timers' signals by timer.
-#[derive(Debug, Drop)]
+#[derive(Drop)]
 pub struct Places {
     names: BTreeSet<NamedPlace>,
     timers: BTreeMap<TimerKey, u64>,

@@ -19,7 +19,7 @@ use std::marker::Model;
 pub const MOST_SETS: u64 = 1 << 62;
 
 /// An input port for one thread: a list of what waits and the active timers.
-#[derive(Debug, Drop)]
+#[derive(Drop)]
 pub struct PlainPort {
     waiting: Backlog,
     timers: Timers,
@@ -28,7 +28,7 @@ pub struct PlainPort {
 }
 
 /// The rest of a port that is given up: all that waits, in order, and the table of the active timers.
-#[derive(Debug, Drop)]
+#[derive(Drop)]
 pub struct PortParts {
     pub waiting: VecDeque<Got>,
     pub timers: Timers,

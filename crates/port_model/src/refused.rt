@@ -3,7 +3,7 @@
 use crate::PortError;
 
 /// Why a call was refused, and what it was given, which comes back as it was or as the call says.
-#[derive(Debug, PartialEq, Eq, Drop)]
+#[derive(PartialEq, Eq, Drop)]
 pub struct Refused<T> {
     pub error: PortError,
     pub value: T,

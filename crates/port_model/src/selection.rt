@@ -6,7 +6,7 @@ use port_values::SignalId;
 use std::marker::Model;
 
 /// The way in which a state treats a signal or a timer of one name.
-#[derive(Clone, Copy, Debug, PartialEq, Eq)]
+#[derive(Clone, Copy, PartialEq, Eq)]
 pub enum Class {
     /// Named by a priority input.
     Priority,
@@ -19,7 +19,7 @@ pub enum Class {
 }
 
 /// The class of each name in one state. The class of a name stands at its number; a name past the end is `Discard`.
-#[derive(Debug, Drop)]
+#[derive(Drop)]
 pub struct Selection {
     classes: Vec<Class>,
     has_priority: bool,

@@ -3,7 +3,7 @@
 use crate::Got;
 
 /// The answer of a take.
-#[derive(Debug, PartialEq, Eq, Drop)]
+#[derive(PartialEq, Eq, Drop)]
 pub enum Taken {
     /// Taken by an input or a priority input.
     Consumed(Got),

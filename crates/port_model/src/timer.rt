@@ -9,7 +9,7 @@ pub struct ActiveTimer {
 }
 
 /// How far an active timer is, by the set `arm`.
-#[derive(Clone, Copy, Debug, PartialEq, Eq)]
+#[derive(Clone, Copy, PartialEq, Eq)]
 pub enum Phase {
     /// Set for the time `due`.
     Running { arm: Arm, due: Ticks },

@@ -12,7 +12,7 @@ use std::collections::{BTreeMap, BTreeSet};
 use std::marker::Model;
 
 /// The entry of a table for an active timer: its set, its due time, and whether it has expired, so that its signal waits.
-#[derive(Clone, Copy, Debug)]
+#[derive(Clone, Copy)]
 pub struct Timer {
     pub arm: Arm,
     pub due: Ticks,
@@ -29,7 +29,7 @@ impl Timer {
 
 /// The active timers by their keys, and the due times of those that run. The end of a port gives the signal of a timer
 /// back with its fuse, so the number of the set and the due time stay while the signal waits.
-#[derive(Debug, Drop)]
+#[derive(Drop)]
 pub struct Timers {
     table: BTreeMap<TimerKey, Timer>,
     deadlines: BTreeSet<Deadline>,

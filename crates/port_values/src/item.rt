@@ -3,11 +3,11 @@
 use crate::{Pid, Values};
 
 /// The name of a signal or of a timer, as its number in the system. Signals and timers share these numbers.
-#[derive(Clone, Copy, Debug, PartialEq, Eq, PartialOrd, Ord, Hash)]
+#[derive(Clone, Copy, PartialEq, Eq, PartialOrd, Ord, Hash)]
 pub struct SignalId(pub u32);
 
 /// A signal on its way to an instance or in its port.
-#[derive(Debug, PartialEq, Eq, Drop)]
+#[derive(PartialEq, Eq, Drop)]
 pub struct Item {
     pub name: SignalId,
     pub values: Values,

@@ -6,7 +6,7 @@ ghost use Rattle.port_values.specs.Text.{pid_text};
 use std::fmt;
 
 /// The identity of an instance: what `self`, `parent`, `offspring` and `sender` hold.
-#[derive(Clone, Copy, Debug, PartialEq, Eq, PartialOrd, Ord)]
+#[derive(Clone, Copy, PartialEq, Eq, PartialOrd, Ord)]
 pub enum Pid {
     /// No instance: `null`.
     Null,

@@ -5,7 +5,7 @@ ghost use Rattle.std.specs.Prelude.{◌≡◌, max, min};
 use std::marker::Model;
 
 /// A time, in ticks since the run began.
-#[derive(Clone, Copy, Debug, PartialEq, Eq, PartialOrd, Ord, Hash)]
+#[derive(Clone, Copy, PartialEq, Eq, PartialOrd, Ord, Hash)]
 pub struct Ticks {
     ticks: u64,
 }

@@ -6,7 +6,7 @@ use crate::{SignalId, Values};
 use std::alloc::AllocError;
 
 /// The key of a timer among those of its instance: name and values. A timer without parameters has no values.
-#[derive(Debug, PartialEq, Eq, PartialOrd, Ord, Drop)]
+#[derive(PartialEq, Eq, PartialOrd, Ord, Drop)]
 pub struct TimerKey {
     pub name: SignalId,
     pub values: Values,

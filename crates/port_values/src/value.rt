@@ -7,7 +7,7 @@ use crate::Pid;
 use std::fmt;
 
 /// A value of one of the predefined sorts. Times and durations are in ticks.
-#[derive(Clone, Copy, Debug, PartialEq, Eq, PartialOrd, Ord)]
+#[derive(Clone, Copy, PartialEq, Eq, PartialOrd, Ord)]
 pub enum Value {
     Int(i64),
     Bool(bool),

@@ -12,7 +12,7 @@ use std::marker::Model;
 
 /// The values that a signal or a timer carries, in the order of its parameters. Up to two of them lie in it; more need
 /// memory of their own.
-#[derive(Clone, Debug)]
+#[derive(Clone)]
 pub struct Values {
     list: SmallVec<Value, 2>,
 }

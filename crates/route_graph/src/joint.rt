@@ -9,7 +9,7 @@ use route_network::{End, Scope};
 use sdl_system::BlockId;
 
 /// Which of the two lists of a connect.
-#[derive(Clone, Copy, Debug, PartialEq, Eq)]
+#[derive(Clone, Copy, PartialEq, Eq)]
 pub enum Side {
     /// The channels around the block.
     Outer,

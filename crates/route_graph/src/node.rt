@@ -7,7 +7,7 @@ use route_network::PathId;
 use sdl_system::{BlockId, ProcessId};
 
 /// Where a signal may be on its way.
-#[derive(Clone, Copy, Debug, PartialEq, Eq)]
+#[derive(Clone, Copy, PartialEq, Eq)]
 pub enum Node {
     /// At its source.
     Source,

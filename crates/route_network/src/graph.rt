@@ -15,7 +15,7 @@ use crate::mask::{joined, mask_at};
 use std::alloc::{AllocError, Global};
 
 /// A step to another node.
-#[derive(Clone, Copy, Debug, PartialEq, Eq)]
+#[derive(Clone, Copy, PartialEq, Eq)]
 pub struct Step {
     pub to: usize,
     /// The list whose signals alone may pass, if there is one.
@@ -23,13 +23,13 @@ pub struct Step {
 }
 
 /// The steps that lead on from a node.
-#[derive(Debug, Drop)]
+#[derive(Drop)]
 struct Row {
     steps: Vec<Step>,
 }
 
 /// For each node the steps that lead on from it.
-#[derive(Debug, Drop)]
+#[derive(Drop)]
 pub struct Graph {
     rows: Vec<Row>,
     ghost closed: { IsClosed rows.items },

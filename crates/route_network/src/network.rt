@@ -4,18 +4,18 @@ use crate::list::{ListId, SignalList};
 use sdl_system::{BlockId, ProcessId};
 
 /// A path of a channel, counted from 0 over the whole text. A channel with two paths has two numbers.
-#[derive(Clone, Copy, Debug, PartialEq, Eq, PartialOrd, Ord, Hash)]
+#[derive(Clone, Copy, PartialEq, Eq, PartialOrd, Ord, Hash)]
 pub struct PathId(pub u32);
 
 /// A scope that has channels. Blocks stand in the system's own scope alone.
-#[derive(Clone, Copy, Debug, PartialEq, Eq)]
+#[derive(Clone, Copy, PartialEq, Eq)]
 pub enum Scope {
     System,
     Block(BlockId),
 }
 
 /// An end of a channel.
-#[derive(Clone, Copy, Debug, PartialEq, Eq)]
+#[derive(Clone, Copy, PartialEq, Eq)]
 pub enum End {
     /// The environment of the scope: all that is around it.
     Env,
@@ -24,7 +24,7 @@ pub enum End {
 }
 
 /// A path of a channel: it leads from an end to an end in its scope, and carries the signals of a list.
-#[derive(Clone, Copy, Debug, PartialEq, Eq)]
+#[derive(Clone, Copy, PartialEq, Eq)]
 pub struct ChannelPath {
     pub scope: Scope,
     pub from: End,
@@ -33,7 +33,7 @@ pub struct ChannelPath {
 }
 
 /// A connect of a block: it joins channels that end at the block with channels in it that end at its border.
-#[derive(Debug, Drop)]
+#[derive(Drop)]
 pub struct Connect {
     pub block: BlockId,
     /// The paths of the channels around the block.
@@ -43,7 +43,7 @@ pub struct Connect {
 }
 
 /// A process, as far as signals on their way to it go.
-#[derive(Clone, Copy, Debug, PartialEq, Eq)]
+#[derive(Clone, Copy, PartialEq, Eq)]
 pub struct Process {
     pub scope: Scope,
     /// The signals that it inputs or saves by name, and those of its `signalset`.
@@ -52,14 +52,13 @@ pub struct Process {
 }
 
 /// A block.
-#[derive(Clone, Copy, Debug, PartialEq, Eq)]
+#[derive(Clone, Copy, PartialEq, Eq)]
 pub struct Block {
     /// It has no channel of its own, so implied channels join its processes and its border.
     pub is_implied: bool,
 }
 
 /// All that joins the agents of a system.
-#[derive(Debug)]
 pub struct Network {
     /// How many signals and timers there are.
     pub signals: u32,
@@ -93,7 +92,7 @@ impl Drop for Network {
 }
 
 /// Who sends a signal: the environment of the system, or a process in its scope.
-#[derive(Clone, Copy, Debug, PartialEq, Eq)]
+#[derive(Clone, Copy, PartialEq, Eq)]
 pub struct Source {
     pub end: End,
     pub scope: Scope,

@@ -19,13 +19,13 @@ use port_values::SignalId;
 use std::alloc::{AllocError, Global};
 
 /// For each list, by its number, the signals that it stands for.
-#[derive(Debug, Drop)]
+#[derive(Drop)]
 pub struct SignalSets {
     columns: Vec<Column>,
 }
 
 /// The masks of all lists for 64 signals.
-#[derive(Debug, Drop)]
+#[derive(Drop)]
 struct Column {
     masks: Vec<u64>,
 }

@@ -4,7 +4,7 @@ use port_values::Pid;
 use sdl_system::ProcessId;
 
 /// Who an instance is, from its creation to its end.
-#[derive(Clone, Copy, Debug, PartialEq, Eq)]
+#[derive(Clone, Copy, PartialEq, Eq)]
 pub struct Identity {
     pub process: ProcessId,
     /// Its own number, which `self` holds.

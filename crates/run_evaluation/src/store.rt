@@ -14,7 +14,7 @@ use port_values::{Pid, Ticks, Value};
 use sdl_system::Expression;
 
 /// The store of an instance: all that it knows, except who it is and what its port has.
-#[derive(Debug, Drop)]
+#[derive(Drop)]
 pub struct Store {
     pub variables: Variables,
     /// The instance that it created last, or null.

@@ -8,7 +8,7 @@ use sdl_system::VariableId;
 use std::marker::Model;
 
 /// The variables of an instance, by number. None: never assigned.
-#[derive(Debug, Drop)]
+#[derive(Drop)]
 pub struct Variables {
     list: Vec<Option<Value>>,
 }

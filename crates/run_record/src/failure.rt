@@ -3,7 +3,7 @@
 use std::fmt;
 
 /// The cause for which an instance fails.
-#[derive(Clone, Copy, Debug, PartialEq, Eq)]
+#[derive(Clone, Copy, PartialEq, Eq)]
 pub enum Failure {
     /// A number past 64 bits signed.
     Overflow,

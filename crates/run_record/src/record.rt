@@ -75,7 +75,6 @@ impl Model for Record {
 
 /// The report of a run: the records by ascending number, the time at its end, and whether it is whole or was cut at the
 /// limit of transitions.
-#[derive(Debug)]
 pub struct Report {
     pub records: Vec<Record>,
     pub end: Ticks,

@@ -12,7 +12,7 @@ use run_record::{Failure, Record};
 use sdl_system::StateId;
 
 /// Where an instance is between two steps.
-#[derive(Clone, Copy, Debug, PartialEq, Eq)]
+#[derive(Clone, Copy, PartialEq, Eq)]
 pub enum Position {
     BeforeStart,
     In(StateId),
@@ -21,7 +21,7 @@ pub enum Position {
 
 /// The machine of an instance: what it knows, and what it did so far. Until it ends, one place of its record is free,
 /// so that a failure can be recorded.
-#[derive(Debug, Drop)]
+#[derive(Drop)]
 pub struct Machine {
     pub store: Store,
     pub trace: Record,

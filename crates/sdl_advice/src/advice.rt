@@ -3,7 +3,7 @@
 use std::alloc::{AllocError, Global};
 
 /// One line that says which rule is broken and what to do about it.
-#[derive(Debug, Drop)]
+#[derive(Drop)]
 pub struct Advice {
     pub text: String,
 }

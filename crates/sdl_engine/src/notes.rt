@@ -15,7 +15,7 @@ use std::alloc::{AllocError, Global};
 use std::io::{self, Empty, Write};
 
 /// The files of an input, as explanations name them.
-#[derive(Clone, Copy, Debug)]
+#[derive(Clone, Copy)]
 pub struct Names<'n> {
     /// The file of the specification, and of the script that follows it.
     pub text: &'n str,

@@ -7,7 +7,7 @@ use sdl_report::WriteFault;
 use thiserror::Error;
 
 /// A command, by the text that it asks for.
-#[derive(Clone, Copy, Debug, PartialEq, Eq)]
+#[derive(Clone, Copy, PartialEq, Eq)]
 pub enum Command {
     /// The canonical text of the specification, where its system can be built and the script is one for it.
     Check,
@@ -16,7 +16,7 @@ pub enum Command {
 }
 
 /// How a run is told.
-#[derive(Clone, Copy, Debug, PartialEq, Eq)]
+#[derive(Clone, Copy, PartialEq, Eq)]
 pub enum View {
     /// The report: what each instance did.
     Trace,
@@ -27,7 +27,7 @@ pub enum View {
 }
 
 /// The command for a text, and how it is carried out.
-#[derive(Clone, Copy, Debug, PartialEq, Eq)]
+#[derive(Clone, Copy, PartialEq, Eq)]
 pub struct Options {
     pub command: Command,
     /// How a run is told. A check has no use for it.
@@ -58,7 +58,7 @@ impl Options {
 
 /// The outcome, by what was written: the report of a run that is whole, or of one that was cut at its limit; the line
 /// that refuses the text; or the line that refuses the run. A text that was checked is whole.
-#[derive(Clone, Copy, Debug, PartialEq, Eq)]
+#[derive(Clone, Copy, PartialEq, Eq)]
 pub enum Outcome {
     Whole,
     Cut,

@@ -9,14 +9,14 @@ use sdl_advice::Advice;
 use std::alloc::{AllocError, Global};
 
 /// A place before that of the refusal that has to do with it, and what is said of it.
-#[derive(Clone, Copy, Debug)]
+#[derive(Clone, Copy)]
 pub struct Other<'t> {
     pub sentence: &'static str,
     pub excerpt: Excerpt<'t>,
 }
 
 /// Why a text is refused, for a human.
-#[derive(Debug, Drop)]
+#[derive(Drop)]
 pub struct Explanation<'t> {
     /// The line of the refusal. None if that has no place, as lack of memory.
     pub shown: Option<Excerpt<'t>>,

@@ -7,7 +7,7 @@ use explain_lines::Excerpt;
 use std::alloc::{AllocError, Global};
 
 /// The file in which a specification or a script is, for messages from which editors jump to a place.
-#[derive(Clone, Copy, Debug)]
+#[derive(Clone, Copy)]
 pub struct Origin<'n> {
     /// The name of the file.
     pub name: &'n str,

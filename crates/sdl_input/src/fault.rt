@@ -1,7 +1,7 @@
 //! Why nothing is held.
 
 /// Why what a source has could not be held.
-#[derive(Clone, Copy, Debug, PartialEq, Eq)]
+#[derive(Clone, Copy, PartialEq, Eq)]
 pub enum ReadFault {
     /// A reader answered an error, or was read too often.
     Read,

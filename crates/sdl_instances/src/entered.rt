@@ -4,7 +4,7 @@ use port_values::Pid;
 use sdl_system::ProcessId;
 
 /// The entry of an instance: all that there is to know of it, from its create on.
-#[derive(Clone, Copy, Debug, PartialEq, Eq)]
+#[derive(Clone, Copy, PartialEq, Eq)]
 pub struct Entered {
     /// Its number, from 1.
     pub pid: u32,

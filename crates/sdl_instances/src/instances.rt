@@ -7,7 +7,7 @@ use crate::numbers::Numbers;
 use std::marker::Model;
 
 /// How many instances there may be, and how many creates are under way.
-#[derive(Clone, Copy, Debug)]
+#[derive(Clone, Copy)]
 pub struct Limit {
     /// How many there may be at most.
     pub maximum: u32,
@@ -17,7 +17,7 @@ pub struct Limit {
 
 /// Those of a process that live, and its limit where it has a maximum. Without one any number may be made, so
 /// reservations aren't counted.
-#[derive(Debug, Drop)]
+#[derive(Drop)]
 pub struct Instances {
     living: Numbers,
     limit: Option<Limit>,

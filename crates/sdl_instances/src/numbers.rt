@@ -11,7 +11,7 @@ const WORDS: usize = 16;
 const BITS: u32 = 64;
 
 /// A set of numbers below 1,024, kept as a bit for each.
-#[derive(Debug, Drop)]
+#[derive(Drop)]
 pub struct Numbers {
     words: [u64; WORDS],
     count: u32,

@@ -15,7 +15,7 @@ use std::marker::Model;
 ///
 /// Who makes an instance reserves first. With a reservation the create can no more be refused for the maximum: it
 /// comes to life, or the reservation is given back.
-#[derive(Debug, Drop)]
+#[derive(Drop)]
 pub struct Roster {
     processes: Vec<Instances>,
     least: Vec<Option<u32>>,

@@ -44,7 +44,7 @@ impl<'s, P: Inbox + Drop> Model for Instance<'s, P> {
 }
 
 /// The result of a step.
-#[derive(Clone, Copy, Debug, PartialEq, Eq)]
+#[derive(Clone, Copy, PartialEq, Eq)]
 pub enum Stepped {
     /// A transition, or a discard; the instance lives on.
     Moved,

@@ -19,13 +19,13 @@ use std::error::Error;
 use std::fmt;
 
 /// A script: its lines in order, without those that say nothing. Their times never fall.
-#[derive(Debug, Drop)]
+#[derive(Drop)]
 pub struct Script {
     pub lines: Vec<ScriptLine>,
 }
 
 /// A time, and the signal that the environment sends then, if there is one.
-#[derive(Debug, Drop)]
+#[derive(Drop)]
 pub struct ScriptLine {
     pub at: Ticks,
     pub signal: Option<ScriptSignal>,
@@ -33,7 +33,7 @@ pub struct ScriptLine {
 
 /// A signal from the environment, and where it goes: along a path, to the first process of a name, or to an instance by
 /// its number.
-#[derive(Debug, Drop)]
+#[derive(Drop)]
 pub struct ScriptSignal {
     pub item: Item,
     pub to: Dest,

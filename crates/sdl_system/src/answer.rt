@@ -7,7 +7,7 @@ use crate::operation::{Comparison, compare};
 use port_values::Value;
 
 /// An answer of a decision: the values with which the value of the question is compared.
-#[derive(Clone, Copy, Debug, PartialEq, Eq)]
+#[derive(Clone, Copy, PartialEq, Eq)]
 pub enum Answer {
     /// The value itself.
     Value(Value),

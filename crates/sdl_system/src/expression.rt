@@ -7,7 +7,7 @@ use port_values::{SignalId, Value};
 /// An expression. Operators of one level stand in one chain, which groups to the left; what stood in parentheses stands
 /// in its place.
 #[cycle(expression)]
-#[derive(Debug, Drop)]
+#[derive(Drop)]
 pub enum Expression {
     /// A literal, or the value of a synonym.
     Value(Value),
@@ -28,7 +28,7 @@ pub enum Expression {
 }
 
 /// The instances that an instance knows by a word.
-#[derive(Clone, Copy, Debug, PartialEq, Eq)]
+#[derive(Clone, Copy, PartialEq, Eq)]
 pub enum PidExpression {
     /// The instance itself.
     SelfPid,
@@ -42,7 +42,7 @@ pub enum PidExpression {
 
 /// Operands joined by operations of one level, which group to the left.
 #[cycle(expression)]
-#[derive(Debug, Drop)]
+#[derive(Drop)]
 pub struct Chain {
     pub first: Expression,
     pub rest: Vec<Link>,
@@ -50,7 +50,7 @@ pub struct Chain {
 
 /// An operation and the operand behind it.
 #[cycle(expression)]
-#[derive(Debug, Drop)]
+#[derive(Drop)]
 pub struct Link {
     pub operation: Operation,
     pub operand: Expression,

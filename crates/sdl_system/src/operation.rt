@@ -8,7 +8,7 @@ use port_values::Value;
 use thiserror::Error;
 
 /// The sorts of numbers. A Natural is an Integer here.
-#[derive(Clone, Copy, Debug, PartialEq, Eq)]
+#[derive(Clone, Copy, PartialEq, Eq)]
 pub enum NumberSort {
     Integer,
     Time,
@@ -16,7 +16,7 @@ pub enum NumberSort {
 }
 
 /// An operation on two values.
-#[derive(Clone, Copy, Debug, PartialEq, Eq)]
+#[derive(Clone, Copy, PartialEq, Eq)]
 pub enum Operation {
     /// On two numbers: a number of this sort.
     Arithmetic(Arithmetic, NumberSort),
@@ -27,7 +27,7 @@ pub enum Operation {
 }
 
 /// The operations on numbers.
-#[derive(Clone, Copy, Debug, PartialEq, Eq)]
+#[derive(Clone, Copy, PartialEq, Eq)]
 pub enum Arithmetic {
     Plus,
     Minus,
@@ -41,7 +41,7 @@ pub enum Arithmetic {
 }
 
 /// The questions about two values.
-#[derive(Clone, Copy, Debug, PartialEq, Eq)]
+#[derive(Clone, Copy, PartialEq, Eq)]
 pub enum Comparison {
     Equal,
     NotEqual,
@@ -52,7 +52,7 @@ pub enum Comparison {
 }
 
 /// The operations on truths. Both operands are evaluated.
-#[derive(Clone, Copy, Debug, PartialEq, Eq)]
+#[derive(Clone, Copy, PartialEq, Eq)]
 pub enum Logic {
     Implies,
     Or,
@@ -61,7 +61,7 @@ pub enum Logic {
 }
 
 /// An operation on one value.
-#[derive(Clone, Copy, Debug, PartialEq, Eq)]
+#[derive(Clone, Copy, PartialEq, Eq)]
 pub enum UnaryOperation {
     /// The number with the other sign, of this sort.
     Minus(NumberSort),

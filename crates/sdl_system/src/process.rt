@@ -12,7 +12,6 @@ use crate::statement::Node;
 use port_values::{SignalId, Value};
 
 /// A process, of which instances are made.
-#[derive(Debug)]
 pub struct Process {
     pub name: String,
     /// How many instances there are at the start.
@@ -55,7 +54,7 @@ impl Drop for Process {
 }
 
 /// A variable, with the value that it has before the start, where it has one.
-#[derive(Debug, Drop)]
+#[derive(Drop)]
 pub struct Variable {
     pub name: String,
     pub sort: Sort,
@@ -63,7 +62,7 @@ pub struct Variable {
 }
 
 /// A state, and the table of what it does.
-#[derive(Debug, Drop)]
+#[derive(Drop)]
 pub struct State {
     pub name: String,
     pub table: TableId,

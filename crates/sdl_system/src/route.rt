@@ -8,14 +8,14 @@ use crate::id::ProcessId;
 use port_values::{Pid, SignalId};
 
 /// Who sends a signal: the environment, or an instance of a process.
-#[derive(Clone, Copy, Debug, PartialEq, Eq)]
+#[derive(Clone, Copy, PartialEq, Eq)]
 pub enum Source {
     Env,
     Process(ProcessId),
 }
 
 /// The destination that an output names.
-#[derive(Clone, Copy, Debug, PartialEq, Eq)]
+#[derive(Clone, Copy, PartialEq, Eq)]
 pub enum Dest {
     /// Nothing: the signal goes along a path.
     Path,
@@ -35,11 +35,11 @@ pub enum Target {
 }
 
 /// A list of receivers, by its number.
-#[derive(Clone, Copy, Debug, PartialEq, Eq)]
+#[derive(Clone, Copy, PartialEq, Eq)]
 pub struct ReceiversId(pub u32);
 
 /// Where paths lead a signal from one source.
-#[derive(Clone, Copy, Debug, PartialEq, Eq)]
+#[derive(Clone, Copy, PartialEq, Eq)]
 pub struct Reach {
     /// The processes.
     pub receivers: ReceiversId,
@@ -51,7 +51,6 @@ pub struct Reach {
 
 /// Where paths lead each signal from each source. Sources share their lists of receivers. Whether a source reaches
 /// itself is kept apart from them, since implied channels lead from each process to all the others.
-#[derive(Debug)]
 pub struct Routes {
     /// Lists of processes, each in the order of the text.
     pub lists: Vec<Vec<ProcessId>>,

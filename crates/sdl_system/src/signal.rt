@@ -9,7 +9,7 @@ use port_values::SignalId;
 use std::marker::Model;
 
 /// A signal, or a timer, whose signal comes when it is due. They share their numbers, in the order of the text.
-#[derive(Debug, Drop)]
+#[derive(Drop)]
 pub struct Signal {
     pub name: String,
     /// The sorts of its values.
@@ -19,7 +19,7 @@ pub struct Signal {
 }
 
 /// The part of a timer besides its name and the sorts of its values.
-#[derive(Clone, Copy, Debug, PartialEq, Eq)]
+#[derive(Clone, Copy, PartialEq, Eq)]
 pub struct Timer {
     /// The process whose instances set it.
     pub process: ProcessId,
@@ -28,7 +28,7 @@ pub struct Timer {
 }
 
 /// A set of signals and timers.
-#[derive(Debug, Drop)]
+#[derive(Drop)]
 pub struct SignalSet {
     members: Vec<bool>,
 }

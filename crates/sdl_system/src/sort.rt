@@ -8,7 +8,7 @@ use port_values::{Pid, Value};
 
 /// A sort of values. Natural values are the Integer values that aren't negative, and count as Integer in every
 /// expression.
-#[derive(Clone, Copy, Debug, PartialEq, Eq)]
+#[derive(Clone, Copy, PartialEq, Eq)]
 pub enum Sort {
     Boolean,
     Integer,

@@ -11,7 +11,6 @@ use std::marker::Model;
 
 /// The table of a state: its reactions to signals, its enabling conditions and its continuous signals. States whose
 /// parts are the same share it.
-#[derive(Debug)]
 pub struct StateTable {
     /// The class of each signal where every condition is true.
     pub selection: Selection,
@@ -42,7 +41,6 @@ impl Drop for StateTable {
 const FEW: usize = 8;
 
 /// The reactions of a state, one to each signal that it names.
-#[derive(Debug)]
 pub struct Reactions {
     by_signal: IndexMap<SignalId, Reaction>,
 }
@@ -92,7 +90,7 @@ impl Reactions {
 }
 
 /// The reaction of a state to a signal.
-#[derive(Debug, Drop)]
+#[derive(Drop)]
 pub enum Reaction {
     /// The signal begins a transition where its enabling condition is true, and waits where that is false.
     Input {
@@ -107,14 +105,14 @@ pub enum Reaction {
 
 /// Where the values of a signal go, and the transition that it begins. A value without a variable is dropped, and so
 /// are those past the end of the list.
-#[derive(Debug, Drop)]
+#[derive(Drop)]
 pub struct Reception {
     pub variables: Vec<Option<VariableId>>,
     pub begin: NodeId,
 }
 
 /// The class of a signal where every condition is true, and the condition without which it waits.
-#[derive(Clone, Copy, Debug, PartialEq, Eq)]
+#[derive(Clone, Copy, PartialEq, Eq)]
 pub struct Choice {
     pub class: Class,
     pub condition: Option<ConditionId>,
@@ -136,14 +134,14 @@ impl Choice {
 }
 
 /// An enabling condition, with what waits while it is false.
-#[derive(Debug, Drop)]
+#[derive(Drop)]
 pub struct Enabling {
     pub condition: ConditionId,
     pub signals: Enabled,
 }
 
 /// The signals of an input with an enabling condition.
-#[derive(Debug, Drop)]
+#[derive(Drop)]
 pub enum Enabled {
     /// Those that the input names.
     Named(Vec<SignalId>),
@@ -152,7 +150,7 @@ pub enum Enabled {
 }
 
 /// A continuous signal: its transition begins where its condition is true and the port has nothing to be consumed.
-#[derive(Clone, Copy, Debug, PartialEq, Eq)]
+#[derive(Clone, Copy, PartialEq, Eq)]
 pub struct Continuous {
     pub condition: ConditionId,
     /// Its number among the continuous signals of the state, from 1 in the order of the text.

@@ -12,14 +12,13 @@ use port_values::{SignalId, Value};
 
 /// A statement, and the node that comes next: after a decision the one behind its `enddecision`, after a join the one
 /// at its label. None comes behind what ends a transition, nor behind a decision all of whose parts end.
-#[derive(Debug, Drop)]
+#[derive(Drop)]
 pub struct Node {
     pub statement: Statement,
     pub next: Option<NodeId>,
 }
 
 /// The statement of a node. One with a list counts once.
-#[derive(Debug)]
 pub enum Statement {
     Task(Vec<Assignment>),
     Output(Output),
@@ -54,28 +53,28 @@ impl Drop for Statement {
 }
 
 /// `variable := value`.
-#[derive(Debug, Drop)]
+#[derive(Drop)]
 pub struct Assignment {
     pub variable: VariableId,
     pub value: Expression,
 }
 
 /// Signals that are sent, in their order.
-#[derive(Debug, Drop)]
+#[derive(Drop)]
 pub struct Output {
     pub signals: Vec<Sending>,
     pub to: Option<Destination>,
 }
 
 /// A signal that is sent, with its values.
-#[derive(Debug, Drop)]
+#[derive(Drop)]
 pub struct Sending {
     pub signal: SignalId,
     pub values: Vec<Expression>,
 }
 
 /// Where the signals of an output go.
-#[derive(Debug, Drop)]
+#[derive(Drop)]
 pub enum Destination {
     /// The living instance of the process with the least number.
     Process(ProcessId),
@@ -84,21 +83,21 @@ pub enum Destination {
 }
 
 /// A timer with its values.
-#[derive(Debug, Drop)]
+#[derive(Drop)]
 pub struct TimerUse {
     pub timer: SignalId,
     pub values: Vec<Expression>,
 }
 
 /// A timer that is set, and when it is due.
-#[derive(Debug, Drop)]
+#[derive(Drop)]
 pub struct Setting {
     pub timer: TimerUse,
     pub due: Due,
 }
 
 /// When a timer is due.
-#[derive(Debug, Drop)]
+#[derive(Drop)]
 pub enum Due {
     At(Expression),
     /// So many ticks from now: the timer's default duration.
@@ -106,14 +105,14 @@ pub enum Due {
 }
 
 /// A process of which an instance is made, with the values of its parameters.
-#[derive(Debug, Drop)]
+#[derive(Drop)]
 pub struct Creation {
     pub process: ProcessId,
     pub values: Vec<Expression>,
 }
 
 /// A question, and where its answers lead. The first branch with an answer that the value meets is taken.
-#[derive(Debug, Drop)]
+#[derive(Drop)]
 pub struct Decision {
     pub question: Expression,
     pub branches: Vec<Branch>,
@@ -136,7 +135,7 @@ impl Decision {
 }
 
 /// The answers of a decision that lead one way.
-#[derive(Debug, Drop)]
+#[derive(Drop)]
 pub struct Branch {
     pub answers: Vec<Answer>,
     pub way: Way,
@@ -153,5 +152,5 @@ impl Branch {
 
 /// The node at which a part of a decision begins: its own first one, or the one behind the decision where it has none.
 /// None is there where the part has no statement and nothing stands behind the decision.
-#[derive(Clone, Copy, Debug, PartialEq, Eq)]
+#[derive(Clone, Copy, PartialEq, Eq)]
 pub struct Way(pub Option<NodeId>);

@@ -17,7 +17,6 @@ use std::marker::Model;
 
 /// A specification whose names are resolved. Signals, with timers among them, and processes stand in the order of the
 /// text, and a number is a place in these lists.
-#[derive(Debug)]
 pub struct System {
     signals: Vec<Signal>,
     processes: Vec<Process>,

@@ -1,7 +1,7 @@
 //! In which form a chart is written.
 
 /// In which form a chart is written.
-#[derive(Clone, Copy, Debug, PartialEq, Eq)]
+#[derive(Clone, Copy, PartialEq, Eq)]
 pub enum Form {
     /// A picture.
     Svg,

@@ -8,7 +8,7 @@ use sdl_script::ScriptLine;
 use std::alloc::Global;
 
 /// The result of a turn.
-#[derive(Clone, Copy, Debug, PartialEq, Eq)]
+#[derive(Clone, Copy, PartialEq, Eq)]
 pub enum Made {
     /// There was nothing to do.
     Nothing,

@@ -5,7 +5,7 @@ use port_values::{Item, Values};
 use sdl_system::{ProcessId, Target};
 
 /// An effect that a step of an instance has outside of it. It is done when the step is over.
-#[derive(Debug, Drop)]
+#[derive(Drop)]
 pub enum Effect {
     /// A signal is sent.
     Send {

@@ -12,7 +12,7 @@ use std::marker::Model;
 const MOST_INSTANCES: u32 = 1_000;
 
 /// For each process the least number of its living instances, and how many live; and how many numbers were given.
-#[derive(Debug, Drop)]
+#[derive(Drop)]
 pub struct Living {
     least: Vec<Option<u32>>,
     counts: Vec<u32>,

@@ -11,7 +11,7 @@ use sdl_script::ScriptLine;
 use settle_checks::{latest, transitions};
 
 /// How a run ended: whether it is whole, the time by then, and its limit of transitions.
-#[derive(Clone, Copy, Debug)]
+#[derive(Clone, Copy)]
 pub struct Ending {
     pub whole: bool,
     pub at: Ticks,

@@ -14,7 +14,7 @@ use run_record::{Entry, Record};
 use std::sync::Wait;
 
 /// The state of a port as the record of its instance was closed.
-#[derive(Clone, Copy, Debug, PartialEq, Eq)]
+#[derive(Clone, Copy, PartialEq, Eq)]
 pub struct PortThen {
     /// Whether it lived.
     pub lived: bool,

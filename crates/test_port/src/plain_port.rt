@@ -152,6 +152,7 @@ fn expire(
 ) -> bool {
     let (arm, due, at) = (Arm::new(arm), Ticks::new(due), Ticks::new(at));
     port.expire(key.copied().expect(rt, "memory"), arm, due, at)
+        .ok()
         .expect(rt, "memory")
 }
 

@@ -24,7 +24,7 @@ pub struct Hall {
 }
 
 /// The next turn of a worker.
-#[derive(Clone, Copy, Debug, PartialEq, Eq)]
+#[derive(Clone, Copy, PartialEq, Eq)]
 pub enum Turn {
     /// It has numbers in its own queue. More are left, for this worker that sleeps: it is to be unparked.
     Work { wake: Option<usize> },

@@ -13,7 +13,7 @@ use threads_shared::{Own, Seated, Shared, StepRuntime};
 const MOST_STEPS: u32 = 32;
 
 /// The result of a job.
-#[derive(Clone, Copy, Debug, PartialEq, Eq)]
+#[derive(Clone, Copy, PartialEq, Eq)]
 enum Left {
     /// The instance found nothing to do.
     Idle,

@@ -4,7 +4,7 @@ use port_values::SignalId;
 use sdl_system::{ProcessId, StateId};
 
 /// Something that may happen in a state of a process.
-#[derive(Clone, Copy, Debug, PartialEq, Eq, Hash)]
+#[derive(Clone, Copy, PartialEq, Eq, Hash)]
 pub struct Point {
     pub process: ProcessId,
     pub state: StateId,
@@ -12,7 +12,7 @@ pub struct Point {
 }
 
 /// What may happen in a state.
-#[derive(Clone, Copy, Debug, PartialEq, Eq, Hash)]
+#[derive(Clone, Copy, PartialEq, Eq, Hash)]
 pub enum Passage {
     /// The state is entered.
     Entered,

@@ -17,7 +17,7 @@ use view_goals::goals_of;
 use view_sections::{Knowledge, Section, plain_text, tracefile};
 
 /// A form of the text.
-#[derive(Clone, Copy, Debug, PartialEq, Eq)]
+#[derive(Clone, Copy, PartialEq, Eq)]
 pub enum Form {
     /// For people.
     Plain,

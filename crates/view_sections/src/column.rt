@@ -8,7 +8,7 @@ use crate::item::{Item, Section};
 use std::alloc::AllocError;
 
 /// The widths of the columns, without the blanks between them.
-#[derive(Clone, Copy, Debug)]
+#[derive(Clone, Copy)]
 pub struct Widths {
     pub at: usize,
     pub process: usize,

@@ -7,7 +7,7 @@ use crate::item::{Item, Kind, Section};
 use std::alloc::AllocError;
 
 /// A group of items.
-#[derive(Clone, Copy, Debug, PartialEq, Eq)]
+#[derive(Clone, Copy, PartialEq, Eq)]
 pub enum Group {
     States,
     Stimuli,

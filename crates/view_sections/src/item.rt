@@ -26,7 +26,7 @@ pub struct Item {
 }
 
 /// What it is.
-#[derive(Clone, Copy, Debug, PartialEq, Eq)]
+#[derive(Clone, Copy, PartialEq, Eq)]
 pub enum Kind {
     State,
     Stimulus,
@@ -35,7 +35,7 @@ pub enum Kind {
 }
 
 /// A part of a decision, by numbers.
-#[derive(Clone, Copy, Debug, PartialEq, Eq)]
+#[derive(Clone, Copy, PartialEq, Eq)]
 pub struct Branch {
     /// The line of the decision.
     pub line: usize,
@@ -45,7 +45,7 @@ pub struct Branch {
 }
 
 /// Whether it is known how often the parts of decisions were passed.
-#[derive(Clone, Copy, Debug, PartialEq, Eq)]
+#[derive(Clone, Copy, PartialEq, Eq)]
 pub enum Knowledge {
     Known,
     /// The run was one with workers: another one may go another way.

@@ -7,7 +7,7 @@ use sdl_system::Target;
 use view_timeline::{Link, Timeline};
 
 /// What became of a signal that nobody took.
-#[derive(Clone, Copy, Debug, PartialEq, Eq)]
+#[derive(Clone, Copy, PartialEq, Eq)]
 pub enum Fate {
     /// It waits in the port of an instance that lives on.
     Waits,

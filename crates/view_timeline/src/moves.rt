@@ -3,24 +3,24 @@
 use indexmap::IndexSet;
 
 /// A record of a report, by its place among them, from 0.
-#[derive(Clone, Copy, Debug, PartialEq, Eq)]
+#[derive(Clone, Copy, PartialEq, Eq)]
 pub struct RecordId(pub u32);
 
 /// An entry of a record, from 0.
-#[derive(Clone, Copy, Debug, PartialEq, Eq)]
+#[derive(Clone, Copy, PartialEq, Eq)]
 pub struct EntryId(pub u32);
 
 /// An event of a timeline, from 0 in the order of the moves.
-#[derive(Clone, Copy, Debug, PartialEq, Eq)]
+#[derive(Clone, Copy, PartialEq, Eq)]
 pub struct EventId(pub u32);
 
 /// An arrow of a timeline, from 0 in the order of the takes.
-#[derive(Clone, Copy, Debug, PartialEq, Eq)]
+#[derive(Clone, Copy, PartialEq, Eq)]
 pub struct ArrowId(pub u32);
 
 /// A transition of an instance, or the rest or the cut with which its record closes: the entries of a record from
 /// `first` up to `end`, without that.
-#[derive(Clone, Copy, Debug, PartialEq, Eq)]
+#[derive(Clone, Copy, PartialEq, Eq)]
 pub struct Move {
     pub record: RecordId,
     pub first: EntryId,
@@ -28,7 +28,7 @@ pub struct Move {
 }
 
 /// What an event has to do with another one.
-#[derive(Clone, Copy, Debug, PartialEq, Eq)]
+#[derive(Clone, Copy, PartialEq, Eq)]
 pub enum Link {
     /// Nothing.
     Plain,
@@ -43,7 +43,6 @@ pub enum Link {
 /// One order of all that was done: the moves, and the links of all events in the order of the moves. The arrows have
 /// the numbers below `arrows`. `living` has the numbers of the instances that live on: what waits for another one is
 /// gone with it.
-#[derive(Debug)]
 pub struct Timeline {
     pub moves: Vec<Move>,
     pub links: Vec<Link>,

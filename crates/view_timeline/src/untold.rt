@@ -2,17 +2,14 @@
 
 use crate::moves::Timeline;
 use std::alloc::AllocError;
-use thiserror::Error;
 
 /// Why a report has no timeline.
-#[derive(Debug, Drop, Error)]
+#[derive(Drop)]
 pub enum Untold {
     /// The instance of this number can't go on: what it takes was never sent to it, or nothing created it. With the
     /// timeline as far as it goes. The report of a run on one thread never is so.
-    #[error("instance #{number} can't go on")]
     Stuck { told: Timeline, number: u32 },
     /// No memory, or more than 2^32 events.
-    #[error("out of memory")]
     Memory,
 }
 
