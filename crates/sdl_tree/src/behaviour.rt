@@ -5,14 +5,13 @@ use crate::expressions::{Applied, Expression, Operator};
 use crate::name::{Name, Number, Spelling};
 
 /// The start transition, with its word.
-#[derive(Debug, Drop)]
+#[derive(Drop)]
 pub struct Start {
     pub word: Spelling,
     pub transition: Transition,
 }
 
 /// A part of the body of a process after the start: a state part or a free action.
-#[derive(Debug)]
 pub enum BodyPart {
     State(StatePart),
     FreeAction(FreeAction),
@@ -28,14 +27,14 @@ impl Drop for BodyPart {
 }
 
 /// One `state`, with the states that it is a part of. Several parts may name one state.
-#[derive(Debug, Drop)]
+#[derive(Drop)]
 pub struct StatePart {
     pub states: States,
     pub stimuli: Vec<Stimulus>,
 }
 
 /// The states that a part belongs to.
-#[derive(Debug, Drop)]
+#[derive(Drop)]
 pub enum States {
     Named(Vec<Name>),
     /// `*`: all states but some. None are left out where no parentheses stand.
@@ -46,7 +45,7 @@ pub enum States {
 }
 
 /// A stimulus of a state part, for which it waits or which it saves.
-#[derive(Debug, Drop)]
+#[derive(Drop)]
 pub enum Stimulus {
     Input(InputPart),
     Priority(PriorityInput),
@@ -55,7 +54,7 @@ pub enum Stimulus {
 }
 
 /// Signals that begin one transition, with the word `input` and the enabling condition, where one stands.
-#[derive(Debug, Drop)]
+#[derive(Drop)]
 pub struct InputPart {
     pub word: Spelling,
     pub inputs: Inputs,
@@ -64,14 +63,14 @@ pub struct InputPart {
 }
 
 /// The condition under which an input is taken, with the word `provided`.
-#[derive(Debug, Drop)]
+#[derive(Drop)]
 pub struct EnablingCondition {
     pub word: Spelling,
     pub condition: Expression,
 }
 
 /// The signals of an input.
-#[derive(Debug, Drop)]
+#[derive(Drop)]
 pub enum Inputs {
     Listed(Vec<Input>),
     /// `*`: each signal that the state doesn't name.
@@ -79,7 +78,7 @@ pub enum Inputs {
 }
 
 /// Signals of priority that begin one transition, with the word `priority`.
-#[derive(Debug, Drop)]
+#[derive(Drop)]
 pub struct PriorityInput {
     pub word: Spelling,
     pub inputs: Vec<Input>,
@@ -88,21 +87,21 @@ pub struct PriorityInput {
 
 /// A signal and the variables that take its values. The list is empty where no parentheses stand; else it has a
 /// place for each value, and a place without a variable drops its value.
-#[derive(Debug, Drop)]
+#[derive(Drop)]
 pub struct Input {
     pub signal: Name,
     pub variables: Vec<Option<Name>>,
 }
 
 /// Signals that wait, with the word `save`.
-#[derive(Debug, Drop)]
+#[derive(Drop)]
 pub struct SavePart {
     pub word: Spelling,
     pub saved: Saved,
 }
 
 /// The signals of a save.
-#[derive(Debug, Drop)]
+#[derive(Drop)]
 pub enum Saved {
     Listed(Vec<SignalListItem>),
     /// `*`: each signal that the state doesn't name.
@@ -111,7 +110,7 @@ pub enum Saved {
 
 /// A transition that begins where a condition holds and no signal is to be taken, with the word `provided`. A
 /// smaller priority comes first; without one a continuous signal comes last.
-#[derive(Debug, Drop)]
+#[derive(Drop)]
 pub struct ContinuousSignal {
     pub word: Spelling,
     pub condition: Expression,
@@ -120,7 +119,7 @@ pub struct ContinuousSignal {
 }
 
 /// A labelled transition that joins lead to, with the word `connection`.
-#[derive(Debug, Drop)]
+#[derive(Drop)]
 pub struct FreeAction {
     pub word: Spelling,
     pub label: Name,
@@ -129,7 +128,7 @@ pub struct FreeAction {
 
 /// Actions in the order of the text, and what ends them, where something does.
 #[cycle(transition)]
-#[derive(Debug, Drop)]
+#[derive(Drop)]
 pub struct Transition {
     pub actions: Vec<ActionStatement>,
     pub terminator: Option<TerminatorStatement>,
@@ -137,7 +136,7 @@ pub struct Transition {
 
 /// An action with its label, where one stands.
 #[cycle(transition)]
-#[derive(Debug, Drop)]
+#[derive(Drop)]
 pub struct ActionStatement {
     pub label: Option<Name>,
     pub action: Action,
@@ -145,7 +144,7 @@ pub struct ActionStatement {
 
 /// A statement that the transition goes on after.
 #[cycle(transition)]
-#[derive(Debug, Drop)]
+#[derive(Drop)]
 pub enum Action {
     Task {
         word: Spelling,
@@ -178,42 +177,42 @@ pub enum Action {
 }
 
 /// Where the signals of an output go, with the word `to`.
-#[derive(Debug, Drop)]
+#[derive(Drop)]
 pub struct Destination {
     pub word: Spelling,
     pub value: Expression,
 }
 
 /// `variable := value`.
-#[derive(Debug, Drop)]
+#[derive(Drop)]
 pub struct Assignment {
     pub variable: Name,
     pub value: Expression,
 }
 
 /// A timer that is set, with the time at which it is due. Without a time its default duration counts.
-#[derive(Debug, Drop)]
+#[derive(Drop)]
 pub struct SetClause {
     pub time: Option<Expression>,
     pub timer: Applied,
 }
 
 /// The timers of one pair of parentheses in a reset.
-#[derive(Debug, Drop)]
+#[derive(Drop)]
 pub struct ResetGroup {
     pub timers: Vec<Applied>,
 }
 
 /// The answers of a decision that lead to one transition.
 #[cycle(transition)]
-#[derive(Debug, Drop)]
+#[derive(Drop)]
 pub struct AnswerPart {
     pub answers: Vec<Answer>,
     pub transition: Transition,
 }
 
 /// An answer of a decision: the values with which the value of the question is compared.
-#[derive(Debug, Drop)]
+#[derive(Drop)]
 pub enum Answer {
     Value(Expression),
     /// The values from the first to the last, both among them.
@@ -230,14 +229,14 @@ pub enum Answer {
 }
 
 /// A terminator with its label, where one stands.
-#[derive(Debug, Drop)]
+#[derive(Drop)]
 pub struct TerminatorStatement {
     pub label: Option<Name>,
     pub terminator: Terminator,
 }
 
 /// The end of a transition: a next state, a stop or a join.
-#[derive(Debug, Drop)]
+#[derive(Drop)]
 pub enum Terminator {
     NextState { word: Spelling, state: NextState },
     Stop { word: Spelling },
@@ -245,7 +244,7 @@ pub enum Terminator {
 }
 
 /// The state that a transition leads to.
-#[derive(Debug, Drop)]
+#[derive(Drop)]
 pub enum NextState {
     /// `-`: the state from which the transition began.
     Same(Spelling),

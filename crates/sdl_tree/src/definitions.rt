@@ -6,7 +6,6 @@ use crate::name::{Name, SortName, Spelling};
 
 /// A specification: one system. Names have a place; actions, stimuli and most definitions keep their first word. Most
 /// other nodes have no place of their own.
-#[derive(Debug)]
 pub struct Tree {
     pub name: Name,
     pub definitions: Vec<SystemDefinition>,
@@ -23,14 +22,14 @@ impl Drop for Tree {
 }
 
 /// A definition in a system: a block, or one that a block can have too.
-#[derive(Debug, Drop)]
+#[derive(Drop)]
 pub enum SystemDefinition {
     Shared(Definition),
     Block(BlockDefinition),
 }
 
 /// A block and what it defines, with the word `block`.
-#[derive(Debug, Drop)]
+#[derive(Drop)]
 pub struct BlockDefinition {
     pub word: Spelling,
     pub name: Name,
@@ -38,14 +37,14 @@ pub struct BlockDefinition {
 }
 
 /// A part of a block: a connection of a channel, or a definition that a system can have too.
-#[derive(Debug, Drop)]
+#[derive(Drop)]
 pub enum BlockPart {
     Shared(Definition),
     Connect(ChannelConnection),
 }
 
 /// A definition that both a system and a block can have.
-#[derive(Debug, Drop)]
+#[derive(Drop)]
 pub enum Definition {
     Signals(Vec<SignalDefinition>),
     SignalList(SignalListDefinition),
@@ -55,14 +54,14 @@ pub enum Definition {
 }
 
 /// One signal with the sorts of its parameters. The list is empty where no parentheses stand.
-#[derive(Debug, Drop)]
+#[derive(Drop)]
 pub struct SignalDefinition {
     pub name: Name,
     pub sorts: Vec<SortName>,
 }
 
 /// A name for a list of signals, with the word `signallist`.
-#[derive(Debug, Drop)]
+#[derive(Drop)]
 pub struct SignalListDefinition {
     pub word: Spelling,
     pub name: Name,
@@ -70,21 +69,21 @@ pub struct SignalListDefinition {
 }
 
 /// A signal, or in parentheses a list of signals, by its name.
-#[derive(Debug, Drop)]
+#[derive(Drop)]
 pub enum SignalListItem {
     Signal(Name),
     List(Name),
 }
 
 /// The names that one `synonym` defines.
-#[derive(Debug, Drop)]
+#[derive(Drop)]
 pub struct SynonymDefinitions {
     pub word: Spelling,
     pub synonyms: Vec<SynonymDefinition>,
 }
 
 /// A name for a constant value.
-#[derive(Debug, Drop)]
+#[derive(Drop)]
 pub struct SynonymDefinition {
     pub name: Name,
     pub sort: SortName,
@@ -92,7 +91,7 @@ pub struct SynonymDefinition {
 }
 
 /// A channel with its one or two paths, and with the word `channel`.
-#[derive(Debug, Drop)]
+#[derive(Drop)]
 pub struct ChannelDefinition {
     pub word: Spelling,
     pub name: Name,
@@ -103,7 +102,7 @@ pub struct ChannelDefinition {
 }
 
 /// One direction of a channel, with the signals that it carries.
-#[derive(Debug, Drop)]
+#[derive(Drop)]
 pub struct ChannelPath {
     pub from: ChannelEnd,
     pub to: ChannelEnd,
@@ -111,14 +110,14 @@ pub struct ChannelPath {
 }
 
 /// An end of a channel path: the environment, or a block or process.
-#[derive(Debug, Drop)]
+#[derive(Drop)]
 pub enum ChannelEnd {
     Env(Spelling),
     Agent(Name),
 }
 
 /// Channels outside of a block that are joined with channels in it, with the word `connect`.
-#[derive(Debug, Drop)]
+#[derive(Drop)]
 pub struct ChannelConnection {
     pub word: Spelling,
     pub outer: Vec<Name>,
@@ -127,7 +126,7 @@ pub struct ChannelConnection {
 
 /// A process: its formal parameters, its own definitions, the start transition and the body behind it, with the
 /// word `process`.
-#[derive(Debug, Drop)]
+#[derive(Drop)]
 pub struct ProcessDefinition {
     pub word: Spelling,
     pub name: Name,
@@ -139,7 +138,7 @@ pub struct ProcessDefinition {
 }
 
 /// How many instances a process has at first and at most, with the parts that stand.
-#[derive(Debug, Drop)]
+#[derive(Drop)]
 pub struct Counts {
     pub parenthesis: Spelling,
     pub initial: Option<Expression>,
@@ -147,27 +146,27 @@ pub struct Counts {
 }
 
 /// The part of the counts of a process from the comma on: the maximum, if one stands there.
-#[derive(Debug, Drop)]
+#[derive(Drop)]
 pub struct Bound {
     pub maximum: Option<Expression>,
 }
 
 /// The formal parameters of a process, with the word `fpar`.
-#[derive(Debug, Drop)]
+#[derive(Drop)]
 pub struct FormalParameters {
     pub word: Spelling,
     pub groups: Vec<ParameterGroup>,
 }
 
 /// Formal parameters of one sort.
-#[derive(Debug, Drop)]
+#[derive(Drop)]
 pub struct ParameterGroup {
     pub names: Vec<Name>,
     pub sort: SortName,
 }
 
 /// A definition of a process for itself.
-#[derive(Debug, Drop)]
+#[derive(Drop)]
 pub enum LocalDefinition {
     Signals(Vec<SignalDefinition>),
     SignalList(SignalListDefinition),
@@ -178,7 +177,7 @@ pub enum LocalDefinition {
 }
 
 /// Variables of one sort, with one initial value for all of them where there is one.
-#[derive(Debug, Drop)]
+#[derive(Drop)]
 pub struct VariableGroup {
     pub names: Vec<Name>,
     pub sort: SortName,
@@ -186,21 +185,21 @@ pub struct VariableGroup {
 }
 
 /// The signals that a process can receive, with the word `signalset`.
-#[derive(Debug, Drop)]
+#[derive(Drop)]
 pub struct SignalSet {
     pub word: Spelling,
     pub items: Vec<SignalListItem>,
 }
 
 /// The timers that one `timer` defines.
-#[derive(Debug, Drop)]
+#[derive(Drop)]
 pub struct TimerDefinitions {
     pub word: Spelling,
     pub timers: Vec<TimerDefinition>,
 }
 
 /// One timer with the sorts of its parameters and its default duration, where it has one.
-#[derive(Debug, Drop)]
+#[derive(Drop)]
 pub struct TimerDefinition {
     pub name: Name,
     pub sorts: Vec<SortName>,

@@ -9,7 +9,7 @@ use crate::name::{Name, Number, Spelling};
 /// An expression. Operators of one level are kept in one chain, and not one inside the other, so that nothing but
 /// parentheses nests: a tree is never deeper than its parentheses.
 #[cycle(expression)]
-#[derive(Debug, Drop)]
+#[derive(Drop)]
 pub enum Expression {
     Number(Number),
     /// A variable, a parameter or a synonym.
@@ -39,7 +39,7 @@ pub enum Expression {
 /// Operands joined by operators of one level, which group to the left. In the tree of a text there is an operator,
 /// and each operand is of a stronger level.
 #[cycle(expression)]
-#[derive(Debug, Drop)]
+#[derive(Drop)]
 pub struct Chain {
     pub first: Expression,
     pub rest: Vec<Link>,
@@ -47,7 +47,7 @@ pub struct Chain {
 
 /// An operator and the operand behind it.
 #[cycle(expression)]
-#[derive(Debug, Drop)]
+#[derive(Drop)]
 pub struct Link {
     pub operator: Operator,
     pub word: Spelling,
@@ -55,7 +55,7 @@ pub struct Link {
 }
 
 /// The operands that are one keyword: literals, the time, and the processes that an instance knows of.
-#[derive(Clone, Copy, Debug, PartialEq, Eq)]
+#[derive(Clone, Copy, PartialEq, Eq)]
 pub enum KeywordValue {
     True,
     False,
@@ -86,7 +86,7 @@ impl KeywordValue {
 }
 
 /// The operators before an operand.
-#[derive(Clone, Copy, Debug, PartialEq, Eq)]
+#[derive(Clone, Copy, PartialEq, Eq)]
 pub enum UnaryOperator {
     Minus,
     Not,
@@ -105,7 +105,7 @@ impl UnaryOperator {
 }
 
 /// The operators between two operands, from the weakest level to the strongest.
-#[derive(Clone, Copy, Debug, PartialEq, Eq)]
+#[derive(Clone, Copy, PartialEq, Eq)]
 pub enum Operator {
     Implies,
 
@@ -177,7 +177,7 @@ impl Operator {
 
 /// A name with the values in parentheses behind it: a signal that is sent, a timer, or a process that is created.
 /// The list is empty where no parentheses stand.
-#[derive(Debug, Drop)]
+#[derive(Drop)]
 pub struct Applied {
     pub name: Name,
     pub values: Vec<Expression>,

@@ -10,7 +10,7 @@ ghost use Rattle.sdl_tree.specs.Keyword.{entry, both_cases, keyword_in, lower_ca
 use crate::mark::{Case, Mark};
 
 /// A keyword or a literal, and how it is spelled.
-#[derive(Clone, Copy, Debug, PartialEq, Eq)]
+#[derive(Clone, Copy, PartialEq, Eq)]
 pub struct Keyword {
     pub mark: Mark,
     pub case: Case,

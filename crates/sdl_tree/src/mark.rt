@@ -105,7 +105,7 @@ pub enum Mark {
 
 /// How a keyword is spelled: in lower case, in upper case, or (a literal) with a capital first letter. Every other mark
 /// has one spelling, `Lower`.
-#[derive(Clone, Copy, Debug, PartialEq, Eq)]
+#[derive(Clone, Copy, PartialEq, Eq)]
 pub enum Case {
     Lower,
     Upper,

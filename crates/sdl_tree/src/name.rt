@@ -14,7 +14,7 @@ pub struct Name {
 }
 
 /// The name of a sort. `PId` is another spelling of `Pid`.
-#[derive(Debug, Drop)]
+#[derive(Drop)]
 pub struct SortName {
     pub spelled: Name,
 }
@@ -30,14 +30,14 @@ impl SortName {
 }
 
 /// A number, with its digits as the text has them.
-#[derive(Debug, Drop)]
+#[derive(Drop)]
 pub struct Number {
     pub value: i64,
     pub digits: Name,
 }
 
 /// A keyword or a mark as the text has it: its spelling, and where it stands.
-#[derive(Clone, Copy, Debug, PartialEq, Eq)]
+#[derive(Clone, Copy, PartialEq, Eq)]
 pub struct Spelling {
     pub case: Case,
     pub place: Place,
