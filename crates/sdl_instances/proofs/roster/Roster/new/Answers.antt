@@ -1,6 +1,6 @@
 use Rattle.std.proofs.Common.{ap, ◌∙◌, arith}
 use Rattle.sdl_instances.specs.Roster.{none_living}
-use Rattle.sdl_instances.proofs.Made.{made_all, made_none}
+use Rattle.sdl_instances.proofs.Made.{made_all, made_more, made_none}
 use Rattle.sdl_instances.proofs.roster.Roster.new.Goals as goal
 
 pub loop-process-init : goal.loop-process-init
@@ -13,3 +13,8 @@ pub returns : goal.returns
 returns c =
     made_all _ c.loop-process.process-index _ _ c.loop-process.invariant (omega arith)
     ∙ ap none_living c.processes-process-items.ensures
+
+pub loop-process-preserved : goal.loop-process-preserved
+loop-process-preserved c =
+    made_more _ _ _ _ _ _ _ _ c.loop-process.invariant c.loop-process-test.true c.process-item.is c.new.ensures.none
+    c.in_ok-push.ensures.items c.in_ok-push-2.ensures.items
