@@ -1,4 +1,5 @@
 pub mod BrokenLaws
 mod CountLemmas
 pub mod LimitLemmas
+mod ListLemmas
 pub mod SynonymLemmas
