@@ -18,7 +18,7 @@ taken-more f g xs i x below is =
     ∙ ap (flat_map f) (map-append g (take i xs) (x ∷ []))
     ∙ flat_map-last f (map g (take i xs)) (g x))
 
-sooner-none : (one : Option ℕ) → sooner one None ≡ one
+pub sooner-none : (one : Option ℕ) → sooner one None ≡ one
 sooner-none None = refl
 sooner-none (Some one) = refl
 

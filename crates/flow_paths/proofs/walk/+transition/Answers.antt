@@ -1,13 +1,13 @@
-use Rattle.std.proofs.Common.{◌≡◌, ◌∙◌, ◌+◌, ◌++◌, ◌∷◌, List, ap, append_assoc, drop, map, option_map, sym}
-use Rattle.std.proofs.lemmas.List.{at_drop_more}
+use Rattle.std.proofs.Common.{◌≡◌, ◌∙◌, ◌+◌, ◌++◌, ◌∷◌, IfOk, List, OnOk, ap, append-nil, append_assoc, drop, map, option_map, subst, sym}
+use Rattle.std.proofs.lemmas.List.{at_drop_all, at_drop_more}
 use Rattle.sdl_tree.specs.declared.behaviour.ActionStatement.{ActionStatement}
 use Rattle.sdl_tree.specs.declared.behaviour.AnswerPart.{AnswerPart}
 use Rattle.sdl_tree.specs.declared.behaviour.Transition.{out-Transition}
 use Rattle.sdl_tree.specs.Tree.{actions_of, else_of, parts_of}
-use Rattle.sdl_tree.specs.Views.{answer_part_value, ending_value, statement_value, transition_value}
+use Rattle.sdl_tree.specs.Views.{action_value, answer_part_value, ending_value, statement_value, transition_value}
 use Rattle.flow_paths.specs.Listed.{found_listed, turns_of}
 use Rattle.flow_paths.specs.Turns.{action_found, action_turn, actions_found, actions_turn, ending_found, ending_turn, otherwise_found, otherwise_turn, parts_found, parts_turn, sooner, statement_found, statement_turn, transition_found, transition_turn}
-use Rattle.flow_paths.proofs.StepLemmas.{sooner-three}
+use Rattle.flow_paths.proofs.StepLemmas.{sooner-none, sooner-three}
 use Rattle.flow_paths.proofs.TreeLemmas.{decision_tree, then, transition_tree}
 use Rattle.flow_paths.proofs.walk.+transition.Goals as goal
 
@@ -129,3 +129,56 @@ answer_parts-loop-part-preserved t c =
           ∙ ap (λ list. before ++ list) (sym found_more)
           ∙ c.loop-part.invariant.found;
     }
+
+pub answer_parts-returns-clause-turn : goal.answer_parts-returns-clause-turn
+answer_parts-returns-clause-turn t c =
+    let turns = turns_of c.args.entries in
+    let soonest = c.loop-part.soonest in
+    sym (sooner-none soonest)
+    ∙ sym (at_drop_all (λ (xs : List AnswerPart). sooner soonest
+    (parts_turn turns (parts_of (map answer_part_value xs)) c.args.comes)) c.args.parts.now c.loop-part.part-index
+    c.loop-part-test.false)
+    ∙ c.loop-part.invariant.turn
+
+pub answer_parts-returns-clause-found : goal.answer_parts-returns-clause-found
+answer_parts-returns-clause-found t c =
+    let turns = turns_of c.args.entries in
+    let before = found_listed c.loop-part.found.items in
+    sym (append-nil before)
+    ∙ sym (at_drop_all (λ (xs : List AnswerPart). before
+    ++ parts_found turns (parts_of (map answer_part_value xs)) c.args.comes) c.args.parts.now c.loop-part.part-index
+    c.loop-part-test.false)
+    ∙ c.loop-part.invariant.found
+
+pub statements-returns-clause-turn : goal.statements-returns-clause-turn
+statements-returns-clause-turn t c =
+    let turns = turns_of c.args.entries in
+    sym (at_drop_all (λ (xs : List ActionStatement).
+    actions_turn turns (actions_of (map statement_value xs)) c.loop-one.here) c.args.statements.now c.loop-one.one-index
+    c.loop-one-test.false)
+    ∙ c.loop-one.invariant.turn
+
+pub statements-returns-clause-found : goal.statements-returns-clause-found
+statements-returns-clause-found t c =
+    let turns = turns_of c.args.entries in
+    let before = found_listed c.loop-one.found.items in
+    sym (append-nil before)
+    ∙ sym (at_drop_all (λ (xs : List ActionStatement). before
+    ++ actions_found turns (actions_of (map statement_value xs)) c.loop-one.here) c.args.statements.now
+    c.loop-one.one-index c.loop-one-test.false)
+    ∙ c.loop-one.invariant.found
+
+pub statement-returns-clause-turn : goal.statement-returns-clause-turn
+statement-returns-clause-turn t c =
+    let turns = turns_of c.args.entries in
+    subst (λ here. IfOk c.action.result (λ turn. turn ≡ action_turn turns (action_value c.args.statement.now.action)
+    here))
+    (c.sooner-here.ensures ∙ ap (sooner c.args.comes) c.entry.ensures) c.action.ensures.turn
+
+pub statement-returns-clause-found : goal.statement-returns-clause-found
+statement-returns-clause-found t c =
+    let turns = turns_of c.args.entries in
+    let before = found_listed c.args.found.now.items in
+    subst (λ here. OnOk c.action.result (found_listed c.action.new.found.items
+    ≡ before ++ action_found turns (action_value c.args.statement.now.action) here))
+    (c.sooner-here.ensures ∙ ap (sooner c.args.comes) c.entry.ensures) c.action.ensures.found
