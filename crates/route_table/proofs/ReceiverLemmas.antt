@@ -1,15 +1,17 @@
 -- Lists of receivers.
-use Rattle.std.proofs.Common.{◌≡◌, ◌||◌, ◌⊎◌, ◌↔◌, ◌<◌, ◌+◌, ◌%◌, ◌/◌, ◌==◌, not, ℕ, Bool, true, false, cond, List, [], ◌∷◌, ◌++◌, Contains, Some, ap, arith, filter, get_or, inl, inr, length, refl, slice_get, subst, sym, ◌∙◌}
+use Rattle.std.proofs.Common.{◌≡◌, ◌||◌, ◌⊎◌, ◌↔◌, ◌<◌, ◌+◌, ◌%◌, ◌/◌, ◌==◌, not, ℕ, Bool, true, false, cond, List, [], ◌∷◌, ◌++◌, Contains, Some, ap, append-nil, arith, filter, get_or, inl, inr, length, map, refl, slice_get, subst, sym, take, ◌∙◌}
 use Rattle.std.proofs.lemmas.Bool.{cases_eq, eq-eqb, false≢true, ne_eqb}
 use Rattle.std.proofs.lemmas.Option.{same_Some}
-use Rattle.std.proofs.lemmas.List.Elements.{Contains-append_cases, Contains-append_left, Contains-append_right, Contains-push, Contains-push_cases}
+use Rattle.std.proofs.lemmas.List.{map-append}
+use Rattle.std.proofs.lemmas.List.Elements.{Contains-append_cases, Contains-append_left, Contains-append_right, Contains-push, Contains-push_cases, filter_more}
+use Rattle.std.specs.Int.{bit_at}
 use Rattle.port_values.specs.declared.item.SignalId.{SignalId}
 use Rattle.sdl_system.specs.Route.{is_receiver}
 use Rattle.sdl_system.specs.declared.id.ProcessId.{ProcessId}
 use Rattle.sdl_system.specs.declared.route.Reach.{Reach}
 use Rattle.sdl_system.specs.declared.route.Source.TheVariants as from
 use Rattle.route_table.specs.Arrivals.{ArrivesAt, ReachesEnv, ReachesProcess}
-use Rattle.route_table.specs.Entries.{IsEntry, IsListed, WordTells, sender_at}
+use Rattle.route_table.specs.Entries.{IsEntry, IsListed, WordTells, listed_at, sender_at}
 use Rattle.route_table.specs.Paths.{Path}
 use Rattle.route_table.specs.Table.{IsAscending}
 use Rattle.route_table.specs.declared.arrivals.Arrivals.{Arrivals}
@@ -17,7 +19,9 @@ use Rattle.route_network.specs.declared.network.End as end
 use Rattle.route_network.specs.declared.network.End.TheVariants as at
 use Rattle.route_network.specs.declared.network.Network.{Network}
 use Rattle.route_network.specs.declared.network.Source.{Source}
+use Rattle.route_table.specs.declared.receiver.Receiver.{Receiver}
 use Rattle.route_table.specs.declared.word.Word.{Word}
+use Rattle.route_network.specs.Mask.{Bit}
 
 pub same_process : (p q : ProcessId) → p.0 ≡ q.0 → p ≡ q
 same_process p q same = let f : ℕ → ProcessId = λ n. record { 0 = n } in ap f same
@@ -193,3 +197,32 @@ entry_of_word network source word signal lists reach below tells at_place itself
     entry_made network source word.arrivals signal lists h.1 reach
     (λ p. tells.tells.processes p signal below refl) (tells.tells.env signal below refl) h.4
     (subst (λ number. slice_get lists number.0 ≡ Some h.1) same h.3) itself env
+
+-- ---- one more receiver
+
+abbrev at_place : ℕ → Receiver → Bool
+at_place place receiver = bit_at receiver.signals place == 1
+
+module _ (place : ℕ) (receivers : List Receiver) (i : ℕ) (none : Receiver) (before : List ProcessId)
+    (below : i < length receivers) (was : before ≡ listed_at place (take i receivers)) where
+  pub listed_more : (after : List ProcessId) → Bit (get_or receivers i none).signals place
+      → after ≡ before ++ (get_or receivers i none).process ∷ [] → after ≡ listed_at place (take (i + 1) receivers)
+  listed_more after bit added =
+      let process = λ (r : Receiver). r.process in
+      let first = filter (at_place place) (take i receivers) in
+      let one = get_or receivers i none in
+      added
+      ∙ ap (λ l. l ++ one.process ∷ []) was
+      ∙ sym (map-append process first (one ∷ []))
+      ∙ sym (ap (map process) (filter_more (at_place place) receivers i none below
+      ∙ ap (λ n. first ++ cond (n == 1) (one ∷ []) []) bit))
+
+  pub listed_on : (Bit (get_or receivers i none).signals place → ⊥) → before ≡ listed_at place (take (i + 1) receivers)
+  listed_on no_bit =
+      let process = λ (r : Receiver). r.process in
+      let first = filter (at_place place) (take i receivers) in
+      let one = get_or receivers i none in
+      was
+      ∙ sym (ap (map process) (filter_more (at_place place) receivers i none below
+      ∙ ap (λ b. first ++ cond b (one ∷ []) []) (ne_eqb (bit_at one.signals place) 1 no_bit)
+      ∙ append-nil first))

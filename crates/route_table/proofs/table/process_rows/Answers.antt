@@ -30,3 +30,25 @@ loop-number-preserved c =
           (ap (λ rows. map (λ row. row.items) rows) c.in_ok-push.ensures.items ∙ map-append (λ row. row.items) c.loop-number.rows.items (c.in_ok-row_from.field-0 ∷ []))
           (simp length-map (omega (arith, c.in_ok-push.ensures.len, simp length-map at c.loop-number.invariant.rows.size)));
     }
+
+pub returns-in_err-row_from-clause-kept : goal.returns-in_err-row_from-clause-kept
+returns-in_err-row_from-clause-kept c =
+    keeps_on c.args.lists.now c.loop-number.lists c.row_from.new.lists c.loop-number.invariant.kept
+    c.in_err-row_from.ensures.kept
+
+pub returns-in_err-row_from-clause-known : goal.returns-in_err-row_from-clause-known
+returns-in_err-row_from-clause-known c = c.in_err-row_from.ensures.known
+
+pub returns-in_err-push-clause-kept : goal.returns-in_err-push-clause-kept
+returns-in_err-push-clause-kept c =
+    keeps_on c.args.lists.now c.loop-number.lists c.row_from.new.lists c.loop-number.invariant.kept
+    c.in_ok-row_from.ensures.kept
+
+pub returns-in_err-push-clause-known : goal.returns-in_err-push-clause-known
+returns-in_err-push-clause-known c = c.in_ok-row_from.ensures.known
+
+pub returns-clause-kept : goal.returns-clause-kept
+returns-clause-kept c = c.loop-number.invariant.kept
+
+pub returns-clause-known : goal.returns-clause-known
+returns-clause-known c = c.loop-number.invariant.known

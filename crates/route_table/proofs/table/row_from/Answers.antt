@@ -33,3 +33,25 @@ loop-number-preserved c =
       before = λ within. subst (λ word. WordTells c.args.network.now c.args.source word c.word_at.new.lists c.in_ok-word.word)
           (same_word c.loop-number.number within) c.in_ok-word.ensures.word;
     }
+
+pub returns-in_err-word-clause-kept : goal.returns-in_err-word-clause-kept
+returns-in_err-word-clause-kept c =
+    keeps_on c.args.lists.now c.loop-number.lists c.word_at.new.lists c.loop-number.invariant.kept
+    c.in_err-word.ensures.kept
+
+pub returns-in_err-word-clause-known : goal.returns-in_err-word-clause-known
+returns-in_err-word-clause-known c = c.in_err-word.ensures.known
+
+pub returns-in_err-push-clause-kept : goal.returns-in_err-push-clause-kept
+returns-in_err-push-clause-kept c =
+    keeps_on c.args.lists.now c.loop-number.lists c.word_at.new.lists c.loop-number.invariant.kept
+    c.in_ok-word.ensures.kept
+
+pub returns-in_err-push-clause-known : goal.returns-in_err-push-clause-known
+returns-in_err-push-clause-known c = c.in_ok-word.ensures.known
+
+pub returns-clause-kept : goal.returns-clause-kept
+returns-clause-kept c = c.loop-number.invariant.kept
+
+pub returns-clause-known : goal.returns-clause-known
+returns-clause-known c = c.loop-number.invariant.known
