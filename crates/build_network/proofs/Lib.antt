@@ -1,3 +1,4 @@
+mod BehindLemmas
 pub mod BrokenLaws
 pub mod ListedLaws
 pub mod NumberLemmas
