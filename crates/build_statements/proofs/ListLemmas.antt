@@ -40,3 +40,8 @@ pub if_on : {T E Q : Type 0} {P R : T → Type 0} (r : Result T E) → IfOk r P 
     IfOk r R
 if_on (Ok x) p q f = f x p q
 if_on (Err e) p q f = tt
+
+-- what holds whatever a call answers
+pub on_any : {T E Q : Type 0} (r : Result T E) → Q → OnOk r Q
+on_any (Ok x) q = q
+on_any (Err e) q = tt

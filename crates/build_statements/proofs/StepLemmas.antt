@@ -55,3 +55,12 @@ module _ {A B : Type 0} (g : A → B) (xs : List A) (i : ℕ) (x : A) (below : i
       ∙ ap (λ o. least_of o (faults (g x))) noted
       ∙ both_noted old (flat_map faults (map g (take i xs))) (faults (g x))
       ∙ ap (least_of old) (sym (flat_map-last faults (map g (take i xs)) (g x)) ∙ ap (flat_map faults) taken-next)
+
+  -- its items stand behind those of the others
+  pub joined-next : {C : Type 0} (f : B → List C) (before after : List C) → before ≡ flat_map f (map g (take i xs)) →
+      after ≡ before ++ f (g x) → after ≡ flat_map f (map g (take (i + 1) xs))
+  joined-next f before after was here =
+      here
+      ∙ ap (λ list. list ++ f (g x)) was
+      ∙ sym (flat_map-last f (map g (take i xs)) (g x))
+      ∙ ap (flat_map f) taken-next

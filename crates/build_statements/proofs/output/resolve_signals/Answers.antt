@@ -1,12 +1,13 @@
-use Rattle.std.proofs.Common.{◌∙◌, ap, map, option_map}
+use Rattle.std.proofs.Common.{◌∙◌, ap, flat_map, map, option_map}
 use Rattle.std.proofs.lemmas.List.{take_all}
 use Rattle.std.proofs.lemmas.Result.{IfOk-weaker}
+use Rattle.build_faults.specs.Faults.{least_of}
 use Rattle.build_statements.specs.Contexts.{context_of}
 use Rattle.build_statements.specs.Faulty.{sending_faults}
 use Rattle.build_statements.specs.Statements.{sending_in}
 use Rattle.sdl_system.specs.Table.{sending}
 use Rattle.sdl_tree.specs.Views.{applied_value}
-use Rattle.build_statements.proofs.ListLemmas.{all_made}
+use Rattle.build_statements.proofs.ListLemmas.{all_made, on_any}
 use Rattle.build_statements.proofs.StepLemmas.{noted-next, pushed-next}
 use Rattle.build_statements.proofs.output.resolve_signals.Goals as goal
 
@@ -34,3 +35,10 @@ loop-applied-preserved c =
           (sending_faults context c.args.has_destination) c.args.faults.now c.loop-applied.faults
           c.resolve_signal.new.faults c.loop-applied.invariant.noted c.in_ok-resolve_signal.ensures.noted;
     }
+
+pub returns-clause-noted : goal.returns-clause-noted
+returns-clause-noted c =
+    on_any c.all_there.result (c.loop-applied.invariant.noted
+    ∙ ap (λ list. least_of c.args.faults.now (flat_map
+    (sending_faults (context_of c.args.context.now) c.args.has_destination) (map applied_value list)))
+    (take_all c.loop-applied.applied-index c.args.outputs.now c.loop-applied-test.false))

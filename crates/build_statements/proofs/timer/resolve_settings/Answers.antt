@@ -1,12 +1,13 @@
-use Rattle.std.proofs.Common.{◌∙◌, ap, map, option_map}
+use Rattle.std.proofs.Common.{◌∙◌, ap, flat_map, map, option_map}
 use Rattle.std.proofs.lemmas.List.{take_all}
 use Rattle.std.proofs.lemmas.Result.{IfOk-weaker}
+use Rattle.build_faults.specs.Faults.{least_of}
 use Rattle.build_statements.specs.Contexts.{context_of}
 use Rattle.build_statements.specs.Faulty.{setting_faults}
 use Rattle.build_statements.specs.Statements.{setting_in}
 use Rattle.sdl_system.specs.Table.{setting}
 use Rattle.sdl_tree.specs.Views.{clause_value}
-use Rattle.build_statements.proofs.ListLemmas.{all_made}
+use Rattle.build_statements.proofs.ListLemmas.{all_made, on_any}
 use Rattle.build_statements.proofs.StepLemmas.{noted-next, pushed-next}
 use Rattle.build_statements.proofs.timer.resolve_settings.Goals as goal
 
@@ -34,3 +35,10 @@ loop-clause-preserved c =
           (setting_faults context) c.args.faults.now c.loop-clause.faults
           c.resolve_clause.new.faults c.loop-clause.invariant.noted c.in_ok-resolve_clause.ensures.noted;
     }
+
+pub returns-clause-noted : goal.returns-clause-noted
+returns-clause-noted c =
+    on_any c.all_there.result (c.loop-clause.invariant.noted
+    ∙ ap (λ list. least_of c.args.faults.now (flat_map (setting_faults (context_of c.args.context.now))
+    (map clause_value list)))
+    (take_all c.loop-clause.clause-index c.args.clauses.now c.loop-clause-test.false))
