@@ -1,1 +1,2 @@
+mod ByteLemmas
 pub mod ExcerptLemmas
