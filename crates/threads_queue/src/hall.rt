@@ -1,7 +1,8 @@
 //! The common queue, and the workers that sleep.
 
-ghost use Rattle.std.specs.Prelude.{◌≡◌, ◌==◌, ◌++◌, ◌∷◌, ◌&&◌, [], IfOk, MatchOption, MatchResult, OnOk, false, length, true};
-ghost use Rattle.threads_queue.specs.Hall.{HallState, IsTold};
+ghost use Rattle.std.specs.Prelude.{◌≡◌, ◌==◌, ◌≤◌, ◌+◌, ◌/◌, ◌++◌, ◌∷◌, ◌&&◌, [], IfOk, MatchOption, MatchResult, OnErr, OnOk, drop, false, length, max, min, take, true};
+ghost use Rattle.std.specs.VecDeque.{deque_capacity, deque_len};
+ghost use Rattle.threads_queue.specs.Hall.{HallState, IsExchanged, IsServed, IsTold, part};
 
 use std::alloc::{AllocError, Global};
 use std::collections::VecDeque;
@@ -10,8 +11,9 @@ use std::marker::Model;
 /// How many numbers the queue has room for from the start: each number is in it once at most.
 const MOST_NUMBERS: usize = 1_000;
 
-/// How many numbers a worker takes out at once, at most.
-const MOST_TAKEN: usize = 64;
+/// How many numbers a worker takes out at once, at most. Of those that it takes out of turn, it steps each before it asks
+/// again, if it has so many jobs between.
+pub const MOST_TAKEN: usize = 61;
 
 /// The common queue of the numbers of those that have something to do, and who of the crew of workers sleeps. A lock is
 /// round it; each call is short, and takes no memory.
@@ -77,8 +79,10 @@ impl Hall {
     }
 
     /// Gives the worker `me`, whose own queue is empty, its next turn. Its part of the common queue goes into its own.
+    /// Refused for lack of memory: both queues stay as they are.
     pub fn turn(&mut self, me: usize, own: &mut VecDeque<u32>) -> Result<Turn, AllocError>
-        ensures numbers { OnOk result (own.new.items ++ self.new.queue ≡ own.old.items ++ self.old.queue) }
+        ensures numbers { IfOk result (λ turn. IsServed turn self.old own.old.items self.new own.new.items) }
+        ensures refused { OnErr result ((self.new.queue ≡ self.old.queue) × (own.new.items ≡ own.old.items)) }
         ensures told { IfOk result (λ turn. IsTold me turn self.old self.new) }
         ensures same { (self.new.crew ≡ self.old.crew) × (self.new.closed ≡ self.old.closed) }
     {
@@ -103,17 +107,35 @@ impl Hall {
         })
     }
 
-    /// Takes half of a worker's own queue, for one that sleeps, which is to be unparked.
+    /// Has a worker look into the queue out of turn, whatever its own queue has, so that no number waits for ever: numbers
+    /// from the queue's front come to its own front, as many as its part is, or more. As many of its own first ones go to
+    /// the queue's end, if it has so many. Refused for lack of memory: both queues stay as they are.
+    pub fn exchange(&mut self, own: &mut VecDeque<u32>) -> Result<(), AllocError>
+        ensures exchanged { OnOk result (IsExchanged self.old own.old.items self.new own.new.items) }
+        ensures refused { OnErr result ((self.new ≡ self.old) × (own.new.items ≡ own.old.items)) }
+    {
+        let given = own.len().min(self.queue.len()).min(MOST_TAKEN);
+        let taken = given.max(self.part());
+        self.queue.reserve(given)?;
+        own.reserve(taken)?;
+        move_first(own, &mut self.queue, given);
+        move_to_front(&mut self.queue, own, taken);
+        Ok(())
+    }
+
+    /// Takes the first half of a worker's own queue, for one that sleeps, which is to be unparked. Refused for lack of
+    /// memory: nothing has changed.
     pub fn share(&mut self, own: &mut VecDeque<u32>) -> Result<Option<usize>, AllocError>
-        ensures numbers { OnOk result (self.new.queue ++ own.new.items ≡ self.old.queue ++ own.old.items) }
+        ensures queue { OnOk result (self.new.queue ≡ self.old.queue ++ take (length own.old.items / 2) own.old.items) }
+        ensures own { OnOk result (own.new.items ≡ drop (length own.old.items / 2) own.old.items) }
+        ensures woken { IfOk result (λ wake. MatchOption wake ((self.old.asleep ≡ []) × (self.new.asleep ≡ []))
+            (λ worker. self.old.asleep ≡ self.new.asleep ++ worker ∷ [])) }
+        ensures refused { OnErr result ((self.new ≡ self.old) × (own.new.items ≡ own.old.items)) }
         ensures same { (self.new.crew ≡ self.old.crew) × (self.new.closed ≡ self.old.closed) }
     {
-        for _ in 0..own.len() / 2 {
-            let Some(number) = own.pop_front() else {
-                break;
-            };
-            self.queue.push_back(number)?;
-        }
+        let half = own.len() / 2;
+        self.queue.reserve(half)?;
+        move_first(own, &mut self.queue, half);
         Ok(self.asleep.pop())
     }
 
@@ -162,21 +184,54 @@ impl Hall {
         }
     }
 
-    /// Moves a worker's part of the queue into its own: as much as each of the crew gets, one at least.
-    fn take(&mut self, own: &mut VecDeque<u32>) -> Result<(), AllocError>
-        ensures numbers { OnOk result (own.new.items ++ self.new.queue ≡ own.old.items ++ self.old.queue) }
-        ensures same { self.new ≡ record self.old { queue = self.new.queue } }
+    /// How many of the numbers in the queue are a worker's part: as many as each of the crew gets, one at least.
+    fn part(&self) -> usize
+        ensures { result ≡ part self.now.crew (length self.now.queue) }
     {
-        let part = match self.queue.len().checked_div(self.crew) {
-            Some(part) => part.clamp(1, MOST_TAKEN),
-            None => 1,
-        };
-        for _ in 0..part {
-            let Some(number) = self.queue.pop_front() else {
-                break;
-            };
-            own.push_back(number)?;
-        }
+        let waiting = self.queue.len();
+        let part = waiting / self.crew.max(1);
+        part.min(MOST_TAKEN).max(1).min(waiting)
+    }
+
+    /// Moves a worker's part of the queue to the end of its own. Refused for lack of memory: nothing has changed.
+    fn take(&mut self, own: &mut VecDeque<u32>) -> Result<(), AllocError>
+        ensures queue { OnOk result (self.new ≡ record self.old { queue = drop (part self.old.crew (length self.old.queue)) self.old.queue }) }
+        ensures own { OnOk result (own.new.items ≡ own.old.items ++ take (part self.old.crew (length self.old.queue)) self.old.queue) }
+        ensures refused { OnErr result ((self.new ≡ self.old) × (own.new.items ≡ own.old.items)) }
+    {
+        let part = self.part();
+        own.reserve(part)?;
+        move_first(&mut self.queue, own, part);
         Ok(())
     }
+}
+
+/// Moves so many of the first numbers of one queue to the end of another, which has room for them.
+fn move_first(from: &mut VecDeque<u32>, to: &mut VecDeque<u32>, count: usize)
+    requires enough { count ≤ deque_len from.old }
+    requires room { deque_len to.old + count ≤ deque_capacity to.old }
+    ensures from { from.new.items ≡ drop count from.old.items }
+    ensures to { to.new.items ≡ to.old.items ++ take count from.old.items }
+    ensures from_len { deque_len from.new + count ≡ deque_len from.old }
+    ensures to_len { deque_len to.new ≡ deque_len to.old + count }
+    ensures from_capacity { deque_capacity from.new ≡ deque_capacity from.old }
+    ensures to_capacity { deque_capacity to.new ≡ deque_capacity to.old }
+{
+    for _moved in 0..count {
+        if let Some(number) = from.pop_front() {
+            to.push_back_reserved(number);
+        }
+    }
+}
+
+/// Moves so many of the first numbers of one queue to the front of another, which has room for them.
+#[tactic(auto, using(crate::proofs::Moving::turned))]
+fn move_to_front(from: &mut VecDeque<u32>, to: &mut VecDeque<u32>, count: usize)
+    requires enough { count ≤ deque_len from.old }
+    requires room { deque_len to.old + count ≤ deque_capacity to.old }
+    ensures from { from.new.items ≡ drop count from.old.items }
+    ensures to { to.new.items ≡ take count from.old.items ++ to.old.items }
+{
+    move_first(from, to, count);
+    to.rotate_right(count);
 }

@@ -11,5 +11,5 @@ mod hall;
 mod mark;
 mod places;
 
-pub use hall::{Hall, Turn};
+pub use hall::{Hall, MOST_TAKEN, Turn};
 pub use places::{Place, Places};
