@@ -23,6 +23,8 @@ pub struct Own<J: Run> {
     pub seat: NumberSeat<J>,
     /// The numbers of those that have something to do and that this thread is to step.
     pub queue: VecDeque<u32>,
+    /// How many jobs this thread has done since it asked the hall for numbers.
+    pub jobs: usize,
     /// The fuses of the step that is being made, which go into the wheel after it.
     pub fuses: Vec<Fuse>,
     /// For each process by its number, the least number of its living instances, as it was at a change of the roster.
@@ -52,6 +54,7 @@ impl<J: Run> Own<J> {
             reader,
             seat,
             queue,
+            jobs: 0,
             fuses: Vec::new(alloc),
             living,
             version: 0,

@@ -9,7 +9,8 @@ use threads_queue::Place;
 use threads_senders::Run;
 use threads_shared::{Own, Seated, Shared, StepRuntime};
 
-/// How many steps a job has at most, so that all that have something to do get their turn.
+/// How many steps a job has at most, so that all that have something to do get their turn: the others of a worker's queue
+/// after it, and those in the hall when the worker looks there, after so many jobs.
 const MOST_STEPS: u32 = 32;
 
 /// The result of a job.

@@ -7,9 +7,13 @@ use sdl_timers::Reader;
 use std::alloc::{AllocError, Global};
 use std::sync::Wait;
 use threads_ports::NumberSeat;
-use threads_queue::Turn;
+use threads_queue::{MOST_TAKEN, Turn};
 use threads_senders::Run;
 use threads_shared::{Own, Shared};
+
+/// After how many jobs a worker looks into the hall, whatever its own queue has: as many as it takes numbers out at once
+/// at most. So each that it took has had its job by then, and what a look costs is shared by as many jobs.
+const JOBS_PER_LOOK: usize = MOST_TAKEN;
 
 /// Works until the run is over: takes numbers, and makes steps of those instances. `me` is its place in the crew, and it
 /// parks on `parker`. Where it finds no memory for the run's own tables, it ends the run.
@@ -63,7 +67,11 @@ fn round<J: Run, R: Wait + Copy, G: Gate>(
         return Ok(false);
     }
     share(shared, crew, own)?;
+    if own.jobs >= JOBS_PER_LOOK {
+        exchange(shared, own)?;
+    }
     if let Some(number) = own.queue.pop_front() {
+        own.jobs = own.jobs.saturating_add(1);
         steps_of(shared, own, gate, number)?;
         return Ok(true);
     }
@@ -97,12 +105,26 @@ fn next_turn<J: Run, R: Wait + Copy>(
     me: usize,
     own: &mut Own<J>,
 ) -> Result<Turn, AllocError> {
+    own.jobs = 0;
     // Before: this worker has no number. After: it has some, or it is noted as asleep while the queue is empty. Who queues
     // a number later has this lock then, and sees the worker asleep.
     let mut hall = shared.tables.hall.lock(shared.rt);
     let turn = hall.turn(me, &mut own.queue)?;
     shared.tables.signs.set_sleepers(hall.sleepers());
     Ok(turn)
+}
+
+/// Looks into the hall: exchanges this worker's first numbers for those that have waited longest there.
+fn exchange<J: Run, R: Wait + Copy>(
+    shared: &Shared<'_, '_, '_, J, R>,
+    own: &mut Own<J>,
+) -> Result<(), AllocError> {
+    own.jobs = 0;
+    // Before: the numbers of this worker's queue are its own, and those in the hall's are nobody's. After: the same, of
+    // others: each number is in one of the two still. Nobody falls asleep by this, and nobody is woken. No wake-up is lost:
+    // if somebody sleeps while numbers wait, one that was unparked is on the way to the hall, and what it finds there is no
+    // matter. It sleeps again only if the hall is empty then.
+    shared.tables.hall.lock(shared.rt).exchange(&mut own.queue)
 }
 
 /// Gives half of this worker's numbers to the hall, where it has two or more and somebody sleeps.
