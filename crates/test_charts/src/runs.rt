@@ -25,7 +25,7 @@ pub fn run_of<R: Abort>(rt: &R, alloc: Global, text: &str, script: &str, limit: 
     let system = build(alloc, &tree).expect(rt, "a system");
     let script = read_script(alloc, &system, script.as_bytes()).expect(rt, "a script");
     let report = run_serial(alloc, &system, &script, limit).expect(rt, "a report");
-    let timeline = timeline(alloc, &report).expect(rt, "a timeline");
+    let timeline = timeline(alloc, &report).ok().expect(rt, "a timeline");
     Run {
         system,
         report,
