@@ -1,4 +1,5 @@
 pub mod CursorLemmas
 pub mod GatheredLemmas
+pub mod NumberLemmas
 pub mod PieceLemmas
 pub mod WriteLemmas

@@ -1,3 +1,4 @@
 pub mod Gathered
 pub mod Name
+pub mod Number
 pub mod ReportText

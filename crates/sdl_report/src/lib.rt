@@ -7,6 +7,7 @@
 
 mod event_line;
 mod names;
+mod numbers;
 mod pieces;
 mod record_text;
 mod report_text;
@@ -14,6 +15,7 @@ mod write_whole;
 
 pub use event_line::{push_event, push_signal, push_stimulus, push_values};
 pub use names::{process_name, signal_name, state_name, variable_name};
+pub use numbers::record_of;
 pub use pieces::{push_number, push_pid, push_signed, push_target, push_value};
 pub use record_text::push_record;
 pub use report_text::{PIECE, push_end, send, write_report, write_rest};
