@@ -3,12 +3,12 @@ use Rattle.std.proofs.Common.{◌≡◌, ℕ, ◌<◌, true, List, [], ◌∷◌
 use Rattle.std.specs.Prelude.{replicate}
 use Rattle.run_record.specs.Record.{RecordValue}
 use Rattle.view_timeline.specs.Cursor.{CursorValue}
-use Rattle.view_timeline.specs.Linked.{IsByLiving, IsElsePlain, IsInOrder, IsSentSo, IsTakenByArrow, taken_on}
+use Rattle.view_timeline.specs.Linked.{IsByLiving, IsElsePlain, IsInOrder, IsLookedUp, IsSentSo, IsTakenByArrow, taken_on}
 use Rattle.view_timeline.specs.Moves.{EachOnce, GoOn, moves_of}
 use Rattle.view_timeline.specs.Replay.{timeline_of}
 use Rattle.view_timeline.specs.Rows.{Waiting}
 use Rattle.view_timeline.specs.Telling.{AllDone, HasLeft, IsTold, IsUpTo, Keeps, NobodyNow, StopsAt, done_of}
-use Rattle.view_timeline.specs.Timeline.{AllTakes, AreArrows, AreInOrder, AreLiving, IsBegun, IsElseUnlinked, IsForward, IsStuck, IsWaiting}
+use Rattle.view_timeline.specs.Timeline.{AllTakes, AreArrows, AreInOrder, AreLiving, AreLookedUp, IsBegun, IsElseUnlinked, IsForward, IsStuck, IsWaiting}
 use Rattle.view_timeline.specs.Traffic.{ledger_of}
 use Rattle.view_timeline.proofs.Closings.{nobody-then, why-left}
 use Rattle.view_timeline.proofs.Gathering.{each-map}
@@ -30,6 +30,7 @@ pub record IsTimeline (records : List RecordValue) (told : Timeline) : Type 0 wh
   pub all_takes : AllTakes records told
   pub in_order : AreInOrder records told
   pub waiting : IsWaiting records told
+  pub looked_up : AreLookedUp records told
   pub else_unlinked : IsElseUnlinked records told
   pub living : AreLiving records told
 
@@ -55,6 +56,8 @@ module _ (records : List RecordValue) (telling : Telling) (time : Option ℕ) (k
         (done_of records telling) telling.traffic.links.items keeps.tells.right;
     in_order = in_order;
     waiting = each-map (IsRightNow records) (IsSentSo records (λ _. true)) (λ b d l one. one.sent) []
+        (done_of records telling) telling.traffic.links.items keeps.tells.right;
+    looked_up = each-map (IsRightNow records) (IsLookedUp records) (λ b d l one. one.begun) []
         (done_of records telling) telling.traffic.links.items keeps.tells.right;
     else_unlinked = each-map (IsRightNow records) (λ b. IsElsePlain) (λ b d l one. one.else_plain) []
         (done_of records telling) telling.traffic.links.items keeps.tells.right;
@@ -104,6 +107,7 @@ module _ (records : List RecordValue) (telling : Telling) (time : Option ℕ) (k
         all_takes = says.all_takes;
         in_order = says.in_order;
         waiting = says.waiting;
+        looked_up = says.looked_up;
         else_unlinked = says.else_unlinked;
         living = says.living;
         place = place;
@@ -119,6 +123,7 @@ module _ (records : List RecordValue) (telling : Telling) (time : Option ℕ) (k
         only_close = stops.closing.only;
         nobody = nobody-then records start telling kept nobody place stops;
         next = stops.next;
+        rest = stops.rest;
         is_next = stops.is_next;
         why = why-left records start telling kept nobody place stops;
       }

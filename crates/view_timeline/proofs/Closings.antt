@@ -91,12 +91,13 @@ unfolding closing-more
 stops-more records start old new place one stops = record {
   closing = closing-more records start old new one stops.closing;
   next = stops.next;
+  rest = stops.rest;
   is_next = stops.is_next;
   why = by stops.why;
 }
   where
-    by : Stays records new stops.closing.closings place stops.next
-        → Stays records new (one.closings ++ stops.closing.closings) place stops.next
+    by : Stays records new stops.closing.closings place stops.next stops.rest
+        → Stays records new (one.closings ++ stops.closing.closings) place stops.next stops.rest
     by (transition at timed) = transition at timed
     by (hindered why) = hindered why
     by (closed some) =
@@ -117,6 +118,7 @@ stops-transition records telling keeps place next is time told some =
     record {
       closing = closing-none records telling;
       next = did next.number (event_of next.entry next.values.now);
+      rest = next.rest.left;
       is_next = next-there records telling keeps place next is;
       why = transition timed.0 timed.1;
     }
@@ -125,19 +127,20 @@ stops-transition records telling keeps place next is time told some =
 pub stops-hindered : (records : List RecordValue) (old new : Telling) → Keeps records old → (place : ℕ)
     (next : Next) → IsNext old place next → IsUnmoved old new
     → Hindered records (done_of records old) old.traffic.links.items
-    (did next.number (event_of next.entry next.values.now))
+    (did next.number (event_of next.entry next.values.now)) next.rest.left
     → StopsAt records old new place
 stops-hindered records old new keeps place next is same why = record {
   closing = closing-kept records old new same;
   next = did next.number (event_of next.entry next.values.now);
+  rest = next.rest.left;
   is_next =
       subst (λ (moves : List Move). IsNextOf records moves place (did next.number
-      (event_of next.entry next.values.now))) (sym same.moves) (next-there records old keeps place next is);
+      (event_of next.entry next.values.now)) next.rest.left) (sym same.moves) (next-there records old keeps place next is);
   why =
       hindered (subst (λ (links : List Link). Hindered records (done_of records new) links (did next.number
-      (event_of next.entry next.values.now))) (sym same.links)
+      (event_of next.entry next.values.now)) next.rest.left) (sym same.links)
       (subst (λ (moves : List Move). Hindered records (done_by records moves) old.traffic.links.items
-      (did next.number (event_of next.entry next.values.now))) (sym same.moves) why));
+      (did next.number (event_of next.entry next.values.now)) next.rest.left) (sym same.moves) why));
 }
 
 -- it has closed
@@ -149,7 +152,8 @@ stops-closed records old new place number keeps closes has =
     record {
       closing = closing-one records old new place closes;
       next = left.0;
-      is_next = left.1;
+      rest = left.1;
+      is_next = left.2;
       why =
           closed (some-none closes.move [] (moves_of place (closes.move ∷ []))
           (ap (λ b. if b then closes.move ∷ [] else []) (eq-eqb closes.move.record.0 place closes.is_of)));
@@ -165,9 +169,9 @@ module _ (records : List RecordValue) (start telling : Telling) (keeps : Keeps r
     (nobody : NobodyNow records start) (place : ℕ) (stops : StopsAt records start telling place) where
   -- nobody could go on, by the links of the end too
   pub nobody-then : NobodyGoesOn records start.moves.items telling.traffic.links.items
-  nobody-then = λ other next at is timed.
-      subst (λ (links : List Link). Hindered records (done_of records start) links next) (sym stops.closing.links)
-      (hindered-more records start keeps stops.closing.more next (nobody other next at is timed))
+  nobody-then = λ other next rest at is timed.
+      subst (λ (links : List Link). Hindered records (done_of records start) links next rest) (sym stops.closing.links)
+      (hindered-more records start keeps stops.closing.more next rest (nobody other next rest at is timed))
 
   made-same : moves_of place stops.closing.closings ≡ []
       → moves_of place telling.moves.items ≡ moves_of place start.moves.items
@@ -175,31 +179,35 @@ module _ (records : List RecordValue) (start telling : Telling) (keeps : Keeps r
       ap (moves_of place) stops.closing.moves ∙ moves_of-append place start.moves.items stops.closing.closings
       ∙ ap (λ l. moves_of place start.moves.items ++ l) none ∙ append-nil (moves_of place start.moves.items)
 
-  next-then : moves_of place stops.closing.closings ≡ [] → IsNextOf records start.moves.items place stops.next
+  next-then : moves_of place stops.closing.closings ≡ []
+      → IsNextOf records start.moves.items place stops.next stops.rest
   next-then none = record {
     trace = stops.is_next.trace;
     is_there = stops.is_next.is_there;
     end = stops.is_next.end;
     told = subst (λ (moves : List Move). GoOn 0 moves stops.is_next.end) (made-same none) stops.is_next.told;
     event = stops.is_next.event;
-    event_is = stops.is_next.event_is;
+    left_is = stops.is_next.left_is;
     next_is = stops.is_next.next_is;
   }
 
   pub why-left : WhyLeft records start.moves.items stops.closing.closings telling.traffic.links.items place stops.next
+      stops.rest
   why-left = by stops.why
     where
       by_close : (at : ℕ) → time_of stops.next.event ≡ Some at → (list : List Move)
           → moves_of place stops.closing.closings ≡ list
           → WhyLeft records start.moves.items stops.closing.closings telling.traffic.links.items place stops.next
-      by_close at timed [] none = goes_not_on (nobody-then place stops.next at (next-then none) timed)
+          stops.rest
+      by_close at timed [] none = goes_not_on (nobody-then place stops.next stops.rest at (next-then none) timed)
       by_close at timed (move ∷ moves) some =
           has_closed (some-none move moves (moves_of place stops.closing.closings) some)
 
-      by : Stays records telling stops.closing.closings place stops.next
+      by : Stays records telling stops.closing.closings place stops.next stops.rest
           → WhyLeft records start.moves.items stops.closing.closings telling.traffic.links.items place stops.next
+          stops.rest
       by (transition at timed) = by_close at timed (moves_of place stops.closing.closings) refl
       by (hindered why) =
           closes_not (subst (λ (moves : List Move). Hindered records (done_by records moves)
-          telling.traffic.links.items stops.next) stops.closing.moves why)
+          telling.traffic.links.items stops.next stops.rest) stops.closing.moves why)
       by (closed some) = has_closed some

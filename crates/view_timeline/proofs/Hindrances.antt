@@ -1,5 +1,5 @@
 -- Why the next event of a record can't be told.
-use Rattle.std.proofs.Common.{◌≡◌, ℕ, zero, suc, ◌+◌, ◌<◌, ◌==◌, Contains, Bool, true, false, List, [], ◌∷◌, ◌++◌, length, length-append, slice_get, set, Option, None, Some, refl, sym, ◌∙◌, ap, subst, arith}
+use Rattle.std.proofs.Common.{◌≡◌, ℕ, zero, suc, ◌+◌, ◌<◌, ◌==◌, Contains, Bool, true, false, List, [], ◌∷◌, ◌++◌, length, length-append, slice_get, drop, set, Option, None, Some, refl, sym, ◌∙◌, ap, subst, arith}
 use Rattle.std.proofs.lemmas.Bool.{eqb-false, eqb-true}
 use Rattle.std.proofs.lemmas.List.Elements.{Contains-push}
 use Rattle.run_record.specs.Entry.{event_of}
@@ -7,14 +7,14 @@ use Rattle.run_record.specs.Event as event
 use Rattle.run_record.specs.Record.{RecordValue}
 use Rattle.view_timeline.specs.Cursor.{CursorValue}
 use Rattle.view_timeline.specs.Did.{Did, Message, did, taken, time_of}
-use Rattle.view_timeline.specs.Hindered.{Hindered, IsFirst, IsHeld, IsNextOf, begins_none, is_missing, is_past, lives_not}
+use Rattle.view_timeline.specs.Hindered.{Hindered, IsFirst, IsHeld, IsNextOf, begins_none, is_early, is_missing, is_past, lives_not}
 use Rattle.view_timeline.specs.Linked.{gather}
 use Rattle.view_timeline.specs.Moves.{GoOn, done_by, moves_of, times}
 use Rattle.view_timeline.specs.Rows.{waits_at}
 use Rattle.view_timeline.specs.Telling.{Acts, HasLeft, IsAt, IsDone, IsHeldNow, IsLatest, IsNext, IsTold, IsUnmoved, IsUpTo, Keeps, NobodyNow, done_of, events_left, sum_left}
 use Rattle.view_timeline.specs.Traffic.{IsMissing, Ledger, ledger_of}
 use Rattle.view_timeline.proofs.Gathering.{each-length}
-use Rattle.view_timeline.proofs.MoveLemmas.{get-both, get-within}
+use Rattle.view_timeline.proofs.MoveLemmas.{drop-left, get-both, get-within}
 use Rattle.view_timeline.proofs.Steps.{IsRightNow}
 use Rattle.view_timeline.specs.declared.cursor.Next.{Next}
 use Rattle.view_timeline.specs.declared.moves.Link.{Link}
@@ -32,60 +32,56 @@ pub get-middle : {A : Type 0} (xs : List A) (x : A) (ys : List A) → slice_get 
 get-middle [] x ys = refl
 get-middle (a ∷ xs) x ys = get-middle xs x ys
 
-get-past : {A : Type 0} (xs : List A) → slice_get (xs ++ []) (length xs) ≡ None
-get-past [] = refl
-get-past (a ∷ xs) = get-past xs
-
--- the event that a cursor stands at
-event-at : (trace : RecordValue) (cursor : CursorValue) (e : event.Event) (rest : List event.Event)
-    → IsAt trace cursor → cursor.left ≡ e ∷ rest → slice_get trace.events cursor.told ≡ Some e
-event-at trace cursor e rest at left =
-    subst (λ (k : ℕ). slice_get trace.events k ≡ Some e) at.told
-    (ap (λ l. slice_get l (length at.first)) (at.all ∙ ap (λ l. at.first ++ l) left) ∙ get-middle at.first e rest)
+-- what a cursor has left is what its record has left
+left-at : (trace : RecordValue) (cursor : CursorValue) → IsAt trace cursor
+    → drop cursor.told trace.events ≡ cursor.left
+left-at trace cursor at =
+    ap (λ (k : ℕ). drop k trace.events) (sym at.told) ∙ ap (drop (length at.first)) at.all
+    ∙ drop-left at.first cursor.left
 
 module _ (records : List RecordValue) (telling : Telling) (keeps : Keeps records telling) (place : ℕ) where
-  -- what is next has this event, and it's of this instance
+  -- what is next has this event, and it's of this instance; and the rest comes after it
   same-next : (cursor : CursorValue) → slice_get telling.cursors.items place ≡ Some cursor → (e : event.Event)
-      (rest : List event.Event) → cursor.left ≡ e ∷ rest → (one : Did)
-      → IsNextOf records telling.moves.items place one → one ≡ did cursor.number e
-  same-next cursor there e rest left one next =
+      (rest : List event.Event) → cursor.left ≡ e ∷ rest → (one : Did) (more : List event.Event)
+      → IsNextOf records telling.moves.items place one more → (one ≡ did cursor.number e) × (more ≡ rest)
+  same-next cursor there e rest left one more next =
       let t : IsTold telling.moves.items place next.trace telling.cursors.items =
       keeps.told place next.trace next.is_there in
       let same : t.cursor ≡ cursor = let s : Some t.cursor ≡ Some cursor = sym t.is_there ∙ there in cc in
       let end : next.end ≡ t.cursor.told =
       go_on-unique 0 (moves_of place telling.moves.items) next.end t.cursor.told next.told t.told in
       let left_so : t.cursor.left ≡ e ∷ rest = ap (λ (c : CursorValue). c.left) same ∙ left in
-      let found : Some next.event ≡ Some e =
-      sym next.event_is ∙ ap (slice_get next.trace.events) end ∙ event-at next.trace t.cursor e rest t.at left_so in
+      let found : next.event ∷ more ≡ e ∷ rest =
+      sym next.left_is ∙ ap (λ (k : ℕ). drop k next.trace.events) end ∙ left-at next.trace t.cursor t.at ∙ left_so in
       let event_so : next.event ≡ e = cc in
+      let rest_so : more ≡ rest = cc in
       let number_so : next.trace.pid ≡ cursor.number = sym t.at.number ∙ ap (λ (c : CursorValue). c.number) same in
-      next.next_is ∙ (λ i. did (number_so i) (event_so i))
+      (next.next_is ∙ (λ i. did (number_so i) (event_so i)), rest_so)
 
-  pub next-same : (next : Next) → IsNext telling place next → (one : Did)
-      → IsNextOf records telling.moves.items place one
-      → one ≡ did next.number (event_of next.entry next.values.now)
-  next-same next is one next_of =
-      same-next is.cursor is.is_there (event_of next.entry next.values.now) next.rest.left is.left one next_of
-      ∙ ap (λ n. did n (event_of next.entry next.values.now)) is.number
+  pub next-same : (next : Next) → IsNext telling place next → (one : Did) (more : List event.Event)
+      → IsNextOf records telling.moves.items place one more
+      → (one ≡ did next.number (event_of next.entry next.values.now)) × (more ≡ next.rest.left)
+  next-same next is one more next_of =
+      let same = same-next is.cursor is.is_there (event_of next.entry next.values.now) next.rest.left is.left one more
+      next_of in
+      (same.0 ∙ ap (λ n. did n (event_of next.entry next.values.now)) is.number, same.1)
 
   -- where all is told none is next
-  pub done-no_next : IsDone telling place → (one : Did) → IsNextOf records telling.moves.items place one → ⊥
-  done-no_next done one next =
+  pub done-no_next : IsDone telling place → (one : Did) (more : List event.Event)
+      → IsNextOf records telling.moves.items place one more → ⊥
+  done-no_next done one more next =
       let t : IsTold telling.moves.items place next.trace telling.cursors.items =
       keeps.told place next.trace next.is_there in
       let end : next.end ≡ t.cursor.told =
       go_on-unique 0 (moves_of place telling.moves.items) next.end t.cursor.told next.told t.told in
-      let all : next.trace.events ≡ t.at.first ++ [] =
-      t.at.all ∙ ap (λ l. t.at.first ++ l) (done t.cursor t.is_there) in
-      let none : slice_get (t.at.first ++ []) (length t.at.first) ≡ None = get-past t.at.first in
-      let found : Some next.event ≡ None =
-      sym next.event_is ∙ ap (slice_get next.trace.events) (end ∙ sym t.at.told)
-      ∙ ap (λ l. slice_get l (length t.at.first)) all ∙ none in
+      let found : next.event ∷ more ≡ [] =
+      sym next.left_is ∙ ap (λ (k : ℕ). drop k next.trace.events) end ∙ left-at next.trace t.cursor t.at
+      ∙ done t.cursor t.is_there in
       cc
 
   there-next : (cursor : CursorValue) → slice_get telling.cursors.items place ≡ Some cursor → (e : event.Event)
       (rest : List event.Event) → cursor.left ≡ e ∷ rest
-      → IsNextOf records telling.moves.items place (did cursor.number e)
+      → IsNextOf records telling.moves.items place (did cursor.number e) rest
   there-next cursor there e rest left =
       let trace : (trace : RecordValue) × (slice_get records place ≡ Some trace) =
       get-both telling.cursors.items records keeps.as_many place cursor there in
@@ -98,38 +94,40 @@ module _ (records : List RecordValue) (telling : Telling) (keeps : Keeps records
         end = t.cursor.told;
         told = t.told;
         event = e;
-        event_is = event-at trace.0 t.cursor e rest t.at left_so;
+        left_is = left-at trace.0 t.cursor t.at ∙ left_so;
         next_is = ap (λ n. did n e) (ap (λ (c : CursorValue). c.number) (sym same) ∙ t.at.number);
       }
 
   pub next-there : (next : Next) → IsNext telling place next
       → IsNextOf records telling.moves.items place (did next.number (event_of next.entry next.values.now))
+      next.rest.left
   next-there next is =
-      subst (λ n. IsNextOf records telling.moves.items place (did n (event_of next.entry next.values.now))) is.number
+      subst (λ n. IsNextOf records telling.moves.items place (did n (event_of next.entry next.values.now))
+      next.rest.left) is.number
       (there-next is.cursor is.is_there (event_of next.entry next.values.now) next.rest.left is.left)
 
   -- what is left has an event that is next
   pub next-left : (number : ℕ) → HasLeft telling place number
-      → (one : Did) × IsNextOf records telling.moves.items place one
+      → (one : Did) × (rest : List event.Event) × IsNextOf records telling.moves.items place one rest
   next-left number has = by has.cursor.left refl
     where
       by : (left : List event.Event) → has.cursor.left ≡ left
-          → (one : Did) × IsNextOf records telling.moves.items place one
+          → (one : Did) × (rest : List event.Event) × IsNextOf records telling.moves.items place one rest
       by [] none =
           let some = has.left in
           let no : ⊥ = let many = ap length none in omega (arith, some, many) in absurd no
-      by (e ∷ rest) left = (did has.cursor.number e, there-next has.cursor has.is_there e rest left)
+      by (e ∷ rest) left = (did has.cursor.number e, rest, there-next has.cursor has.is_there e rest left)
 
 -- ---- what hinders it
 
 -- what is taken doesn't wait first
 pub missing-hinders : (records : List RecordValue) (telling : Telling) → Keeps records telling → (one : Did)
-    → IsMissing (taken one) (ledger_of telling.traffic)
-    → Hindered records (done_of records telling) telling.traffic.links.items one
-missing-hinders records telling keeps one = by (taken one) refl
+    (rest : List event.Event) → IsMissing (taken one) (ledger_of telling.traffic)
+    → Hindered records (done_of records telling) telling.traffic.links.items one rest
+missing-hinders records telling keeps one rest = by (taken one) refl
   where
     by : (message : Option Message) → taken one ≡ message → IsMissing message (ledger_of telling.traffic)
-        → Hindered records (done_of records telling) telling.traffic.links.items one
+        → Hindered records (done_of records telling) telling.traffic.links.items one rest
     by None takes missing = absurd missing
     by (Some message) takes missing =
         is_missing message takes
@@ -137,26 +135,28 @@ missing-hinders records telling keeps one = by (taken one) refl
 
 -- what doesn't live makes no move
 pub dead-hinders : (records : List RecordValue) (telling : Telling) → Keeps records telling → (one : Did)
-    → (ledger_of telling.traffic).living one.by ≡ false
-    → Hindered records (done_of records telling) telling.traffic.links.items one
-dead-hinders records telling keeps one dead = lives_not (sym (keeps.tells.living one.by) ∙ dead)
+    (rest : List event.Event) → (ledger_of telling.traffic).living one.by ≡ false
+    → Hindered records (done_of records telling) telling.traffic.links.items one rest
+dead-hinders records telling keeps one rest dead = lives_not (sym (keeps.tells.living one.by) ∙ dead)
 
 -- the record has no other next event
 pub held-by : (records : List RecordValue) (telling : Telling) → Keeps records telling → (place : ℕ) (next : Next)
     → IsNext telling place next
     → ((at : ℕ) → time_of (event_of next.entry next.values.now) ≡ Some at
     → Hindered records (done_of records telling) telling.traffic.links.items
-    (did next.number (event_of next.entry next.values.now)))
+    (did next.number (event_of next.entry next.values.now)) next.rest.left)
     → IsHeldNow records telling place
-held-by records telling keeps place next is hindered one at next_of timed =
-    let same = next-same records telling keeps place next is one next_of in
-    subst (λ (d : Did). Hindered records (done_of records telling) telling.traffic.links.items d) (sym same)
-    (hindered at (ap (λ (d : Did). time_of d.event) (sym same) ∙ timed))
+held-by records telling keeps place next is hindered one rest at next_of timed =
+    let same = next-same records telling keeps place next is one rest next_of in
+    subst (λ (d : Did). Hindered records (done_of records telling) telling.traffic.links.items d rest) (sym same.0)
+    (subst (λ (more : List event.Event). Hindered records (done_of records telling) telling.traffic.links.items
+    (did next.number (event_of next.entry next.values.now)) more) (sym same.1)
+    (hindered at (ap (λ (d : Did). time_of d.event) (sym same.0) ∙ timed)))
 
 pub held-done : (records : List RecordValue) (telling : Telling) → Keeps records telling → (place : ℕ)
     → IsDone telling place → IsHeldNow records telling place
-held-done records telling keeps place done one at next_of timed =
-    absurd (done-no_next records telling keeps place done one next_of)
+held-done records telling keeps place done one rest at next_of timed =
+    absurd (done-no_next records telling keeps place done one rest next_of)
 
 -- the same where no move is told
 pub held-kept : (records : List RecordValue) (old new : Telling) (place : ℕ) → IsUnmoved old new
@@ -176,12 +176,16 @@ gather-more read place (d ∷ done) (link ∷ links) more same =
 
 -- links of what is told later change nothing
 pub hindered-more : (records : List RecordValue) (telling : Telling) → Keeps records telling → (more : List Link)
-    (one : Did) → Hindered records (done_of records telling) telling.traffic.links.items one
-    → Hindered records (done_of records telling) (telling.traffic.links.items ++ more) one
-hindered-more records telling keeps more one (begins_none none) = begins_none none
-hindered-more records telling keeps more one (lives_not dead) = lives_not dead
-hindered-more records telling keeps more one (is_past at later timed told less) = is_past at later timed told less
-hindered-more records telling keeps more one (is_missing message takes missing) =
+    (one : Did) (rest : List event.Event)
+    → Hindered records (done_of records telling) telling.traffic.links.items one rest
+    → Hindered records (done_of records telling) (telling.traffic.links.items ++ more) one rest
+hindered-more records telling keeps more one rest (begins_none none) = begins_none none
+hindered-more records telling keeps more one rest (lives_not dead) = lives_not dead
+hindered-more records telling keeps more one rest (is_early sooner output later number is none looks begun) =
+    is_early sooner output later number is none looks begun
+hindered-more records telling keeps more one rest (is_past at later timed told less) =
+    is_past at later timed told less
+hindered-more records telling keeps more one rest (is_missing message takes missing) =
     is_missing message takes
     (λ first. missing (subst (IsFirst message.values)
     (gather-more (waits_at message.channel) 0 (done_of records telling) telling.traffic.links.items more
@@ -242,10 +246,10 @@ held-more records old new place same before here k lt = by (k == place) refl
 
 pub all-held : (records : List RecordValue) (old new : Telling) (end : ℕ) → Keeps records old
     → end ≡ length old.cursors.items → ((k : ℕ) → k < end → IsHeldNow records new k) → NobodyNow records new
-all-held records old new end keeps is held place next at next_of timed =
+all-held records old new end keeps is held place next rest at next_of timed =
     let within = get-within records place next_of.trace next_of.is_there in
     let many = keeps.as_many in
-    held place (omega (arith, within, many, is)) next at next_of timed
+    held place (omega (arith, within, many, is)) next rest at next_of timed
 
 -- ---- the latest time
 

@@ -3,6 +3,7 @@ pub mod Channels
 pub mod Closed
 pub mod Closings
 pub mod CursorLemmas
+pub mod EarlyLemmas
 pub mod Firsts
 pub mod Gathering
 pub mod GoesLemmas

@@ -32,7 +32,7 @@ get-set_other (a ∷ xs) zero (suc j) y apart = refl
 get-set_other (a ∷ xs) (suc k) zero y apart = refl
 get-set_other (a ∷ xs) (suc k) (suc j) y apart = get-set_other xs k j y (λ e. apart (ap suc e))
 
-drop-left : {A : Type 0} (xs ys : List A) → drop (length xs) (xs ++ ys) ≡ ys
+pub drop-left : {A : Type 0} (xs ys : List A) → drop (length xs) (xs ++ ys) ≡ ys
 drop-left [] ys = refl
 drop-left (x ∷ xs) ys = drop-left xs ys
 

@@ -20,7 +20,7 @@ use Rattle.view_timeline.specs.Did.{Message, did, message_got, sent_by, taken_by
 use Rattle.view_timeline.specs.Effect.{effect_in}
 use Rattle.view_timeline.specs.Hindered.{IsFirst}
 use Rattle.view_timeline.specs.Rows.{letter}
-use Rattle.view_timeline.specs.Traffic.{IsMissing, Ledger, Links, Notes, Passes, Puts, Takes, arrow}
+use Rattle.view_timeline.specs.Traffic.{IsMissing, IsToBegun, Ledger, Links, Notes, Passes, Puts, Takes, arrow}
 use Rattle.view_timeline.specs.declared.moves.Link.TheVariants as is
 use Rattle.view_timeline.specs.declared.channel.Channel.{Channel}
 use Rattle.view_timeline.specs.declared.entries.Effect.{Effect}
@@ -30,48 +30,55 @@ use Rattle.view_timeline.specs.declared.entries.Effect.TheVariants as effect
 abbrev pub KeepsLiving : Ledger → Ledger → Type 0
 KeepsLiving old new = (n : ℕ) → new.living n ≡ old.living n
 
+-- and who has begun
+abbrev pub KeepsBegun : Ledger → Ledger → Type 0
+KeepsBegun old new = (n : ℕ) → new.begun n ≡ old.begun n
+
 -- what is noted of an entry that does this
 abbrev pub Does : ℕ → List Value → Effect → Ledger → Ledger → Type 0
 Does own values (effect.Takes got) old new =
-    Links None (message_got own (got_of got values)) old new × KeepsLiving old new
+    Links None (message_got own (got_of got values)) old new × KeepsLiving old new × KeepsBegun old new
 Does own values (effect.Sends signal target) old new =
-    ((named : Dest) → Links (sent_by own (event.Output signal named values target)) None old new) × KeepsLiving old new
+    ((named : Dest) → Links (sent_by own (event.Output signal named values target)) None old new)
+    × KeepsLiving old new × KeepsBegun old new
 Does own values (effect.Creates number) old new =
     Passes old new × ((n : ℕ) → new.living n ≡ (if number == n then true else old.living n))
+    × ((n : ℕ) → new.begun n ≡ (if number == n then true else old.begun n))
 Does own values effect.Ends old new =
-    Passes old new × ((n : ℕ) → new.living n ≡ (if own == n then false else old.living n))
-Does own values effect.Nothing old new = Passes old new × KeepsLiving old new
+    Passes old new × ((n : ℕ) → new.living n ≡ (if own == n then false else old.living n)) × KeepsBegun old new
+Does own values effect.Nothing old new = Passes old new × KeepsLiving old new × KeepsBegun old new
 
 pub notes-effect : (own : ℕ) (one : entry.Entry) (values : List Value) (old new : Ledger)
-    → Does own values (effect_in one) old new → Notes (did own (event_of one values)) old new
-notes-effect own (kept.Start at) values old new does = record { living = does.1; links = does.0 }
-notes-effect own (kept.Consumed at got) values old new does = record { living = does.1; links = does.0 }
-notes-effect own (kept.Prior at got) values old new does = record { living = does.1; links = does.0 }
-notes-effect own (kept.Discarded at got) values old new does = record { living = does.1; links = does.0 }
-notes-effect own (kept.Provided at number) values old new does = record { living = does.1; links = does.0 }
-notes-effect own (kept.FailedAt at why) values old new does = record { living = does.1; links = does.0 }
-notes-effect own (kept.Task variable value) values old new does = record { living = does.1; links = does.0 }
-notes-effect own (kept.OutputOnPath signal count target) values old new does =
-    record { living = does.1; links = does.0 to.Path }
-notes-effect own (kept.OutputToProcess signal process count target) values old new does =
-    record { living = does.1; links = does.0 (to.Process process) }
-notes-effect own (kept.OutputToPid signal pid count target) values old new does =
-    record { living = does.1; links = does.0 (to.Pid pid) }
-notes-effect own (kept.Set timer count due) values old new does = record { living = does.1; links = does.0 }
-notes-effect own (kept.Reset timer count) values old new does = record { living = does.1; links = does.0 }
-notes-effect own (kept.Create process None) values old new does = record { living = does.1; links = does.0 }
-notes-effect own (kept.Create process (Some number)) values old new does = record { living = does.1; links = does.0 }
-notes-effect own (kept.NextState state) values old new does = record { living = does.1; links = does.0 }
-notes-effect own kept.Stop values old new does = record { living = does.1; links = does.0 }
-notes-effect own (kept.Failed why) values old new does = record { living = does.1; links = does.0 }
-notes-effect own (kept.Rest state) values old new does = record { living = does.1; links = does.0 }
-notes-effect own (kept.Cut state) values old new does = record { living = does.1; links = does.0 }
+    → IsToBegun (event_of one values) old → Does own values (effect_in one) old new
+    → Notes (did own (event_of one values)) old new
+notes-effect own (kept.Start at) values old new to_begun does = record { living = does.1; begun = does.2; to_begun = to_begun; links = does.0 }
+notes-effect own (kept.Consumed at got) values old new to_begun does = record { living = does.1; begun = does.2; to_begun = to_begun; links = does.0 }
+notes-effect own (kept.Prior at got) values old new to_begun does = record { living = does.1; begun = does.2; to_begun = to_begun; links = does.0 }
+notes-effect own (kept.Discarded at got) values old new to_begun does = record { living = does.1; begun = does.2; to_begun = to_begun; links = does.0 }
+notes-effect own (kept.Provided at number) values old new to_begun does = record { living = does.1; begun = does.2; to_begun = to_begun; links = does.0 }
+notes-effect own (kept.FailedAt at why) values old new to_begun does = record { living = does.1; begun = does.2; to_begun = to_begun; links = does.0 }
+notes-effect own (kept.Task variable value) values old new to_begun does = record { living = does.1; begun = does.2; to_begun = to_begun; links = does.0 }
+notes-effect own (kept.OutputOnPath signal count target) values old new to_begun does =
+    record { living = does.1; begun = does.2; to_begun = to_begun; links = does.0 to.Path }
+notes-effect own (kept.OutputToProcess signal process count target) values old new to_begun does =
+    record { living = does.1; begun = does.2; to_begun = to_begun; links = does.0 (to.Process process) }
+notes-effect own (kept.OutputToPid signal pid count target) values old new to_begun does =
+    record { living = does.1; begun = does.2; to_begun = to_begun; links = does.0 (to.Pid pid) }
+notes-effect own (kept.Set timer count due) values old new to_begun does = record { living = does.1; begun = does.2; to_begun = to_begun; links = does.0 }
+notes-effect own (kept.Reset timer count) values old new to_begun does = record { living = does.1; begun = does.2; to_begun = to_begun; links = does.0 }
+notes-effect own (kept.Create process None) values old new to_begun does = record { living = does.1; begun = does.2; to_begun = to_begun; links = does.0 }
+notes-effect own (kept.Create process (Some number)) values old new to_begun does = record { living = does.1; begun = does.2; to_begun = to_begun; links = does.0 }
+notes-effect own (kept.NextState state) values old new to_begun does = record { living = does.1; begun = does.2; to_begun = to_begun; links = does.0 }
+notes-effect own kept.Stop values old new to_begun does = record { living = does.1; begun = does.2; to_begun = to_begun; links = does.0 }
+notes-effect own (kept.Failed why) values old new to_begun does = record { living = does.1; begun = does.2; to_begun = to_begun; links = does.0 }
+notes-effect own (kept.Rest state) values old new to_begun does = record { living = does.1; begun = does.2; to_begun = to_begun; links = does.0 }
+notes-effect own (kept.Cut state) values old new to_begun does = record { living = does.1; begun = does.2; to_begun = to_begun; links = does.0 }
 
 -- the same, where the effect is known
 pub notes-does : (own : ℕ) (one : entry.Entry) (values : List Value) (effect : Effect) (old new : Ledger)
-    → effect ≡ effect_in one → Does own values effect old new → Notes (did own (event_of one values)) old new
-notes-does own one values effect old new is does =
-    notes-effect own one values old new (subst (λ (e : Effect). Does own values e old new) is does)
+    → IsToBegun (event_of one values) old → effect ≡ effect_in one → Does own values effect old new → Notes (did own (event_of one values)) old new
+notes-does own one values effect old new to_begun is does =
+    notes-effect own one values old new to_begun (subst (λ (e : Effect). Does own values e old new) is does)
 
 -- where the answer is whether it is so
 noted-so : {E : Type 0} (result : Result Bool E) (P Q : Type 0) → (P → Q)
@@ -80,13 +87,14 @@ noted-so (Ok b) P Q so was = λ is. so (was is)
 noted-so (Err e) P Q so was = tt
 
 pub notes-takes : {E : Type 0} (own : ℕ) (one : entry.Entry) (values : List Value) (got : Stimulus) (old new : Ledger)
-    (result : Result Bool E) → effect.Takes got ≡ effect_in one → KeepsLiving old new
+    (result : Result Bool E) → IsToBegun (event_of one values) old → effect.Takes got ≡ effect_in one
+    → KeepsLiving old new → KeepsBegun old new
     → IfOk result (λ noted. IsTrue noted → Links None (message_got own (got_of got values)) old new)
     → IfOk result (λ noted. IsTrue noted → Notes (did own (event_of one values)) old new)
-notes-takes own one values got old new result is living links =
+notes-takes own one values got old new result to_begun is living begun links =
     noted-so result (Links None (message_got own (got_of got values)) old new)
     (Notes (did own (event_of one values)) old new)
-    (λ l. notes-does own one values (effect.Takes got) old new is (l, living)) links
+    (λ l. notes-does own one values (effect.Takes got) old new to_begun is (l, living, begun)) links
 
 -- what isn't noted takes a signal that doesn't wait first
 abbrev pub Misses : ℕ → List Value → Effect → Ledger → Type 0

@@ -3,13 +3,13 @@ use Rattle.std.proofs.Common.{◌≡◌, ℕ, ◌<◌, Bool, true, false, List, 
 use Rattle.std.proofs.lemmas.List.{map-append}
 use Rattle.run_record.specs.Event as event
 use Rattle.run_record.specs.Record.{RecordValue}
-use Rattle.view_timeline.specs.Did.{Did, Message, begins, same_channel, sent, sent_by, taken, taken_by}
-use Rattle.view_timeline.specs.Linked.{Each, IsArrow, IsBelow, IsDrawn, IsRight, IsSent, at_arrow, has_number, is_gone, is_on, put_on, taken_on}
-use Rattle.view_timeline.specs.Lives.{lives, lives_on}
+use Rattle.view_timeline.specs.Did.{Did, Message, begins, looked_up, same_channel, sent, sent_by, taken, taken_by}
+use Rattle.view_timeline.specs.Linked.{Each, IsArrow, IsBelow, IsDrawn, IsLookedUp, IsRight, IsSent, at_arrow, has_number, is_gone, is_on, put_on, taken_on}
+use Rattle.view_timeline.specs.Lives.{begun_on, has_begun, lives, lives_on}
 use Rattle.view_timeline.specs.Rows.{Waiting, letter, waiting_on, waits_at}
-use Rattle.view_timeline.specs.Traffic.{IsSame, Ledger, Passes, Puts, Tells}
+use Rattle.view_timeline.specs.Traffic.{IsSame, IsToBegun, Ledger, Passes, Puts, Tells}
 use Rattle.view_timeline.proofs.Gathering.{all-append, each-append, each-length, gather-last}
-use Rattle.view_timeline.proofs.Lifetimes.{lives-last}
+use Rattle.view_timeline.proofs.Lifetimes.{begun-last, if_some-along, lives-last}
 use Rattle.view_timeline.specs.declared.channel.Channel.{Channel}
 use Rattle.view_timeline.specs.declared.moves.Link.{Link}
 use Rattle.view_timeline.specs.declared.moves.Link.TheVariants as is
@@ -38,17 +38,29 @@ sends_takes-none own _ m sends = refl
 -- what is told is told of the same ledger
 pub tells-at : (records : List RecordValue) (done : List Did) (new : Ledger) (links : List Link) (arrows : ℕ)
     → new.links ≡ links → new.arrows ≡ arrows
-    → Tells records done (record { links = links; arrows = arrows; living = new.living; rows = new.rows })
+    → Tells records done (record {
+      links = links;
+      arrows = arrows;
+      living = new.living;
+      begun = new.begun;
+      rows = new.rows;
+    })
     → Tells records done new
 tells-at records done new links arrows l a told =
     subst (λ ls. Tells records done (record {
       links = ls;
       arrows = new.arrows;
       living = new.living;
+      begun = new.begun;
       rows = new.rows;
     })) (sym l)
-    (subst (λ n. Tells records done (record { links = links; arrows = n; living = new.living; rows = new.rows }))
-    (sym a) told)
+    (subst (λ n. Tells records done (record {
+      links = links;
+      arrows = n;
+      living = new.living;
+      begun = new.begun;
+      rows = new.rows;
+    })) (sym a) told)
 
 pub tells-same : (records : List RecordValue) (done : List Did) (old new : Ledger) → IsSame old new
     → Tells records done old → Tells records done new
@@ -58,6 +70,7 @@ tells-same records done old new same told = tells-at records done new old.links 
       drawn = told.drawn;
       below = told.below;
       living = λ number. same.living number ∙ told.living number;
+      begun = λ number. same.begun number ∙ told.begun number;
       waiting = λ channel. told.waiting channel ∙ sym (same.rows channel);
       in_order = λ channel. told.in_order channel
           ∙ ap (λ row. taken_on channel done old.links ++ map waits row) (sym (same.rows channel));
@@ -116,8 +129,18 @@ module _ (records : List RecordValue) (done : List Did) (old : Ledger) (told : T
       → new.living n ≡ lives records (done ++ d ∷ []) n
   living-last new lives_so n = lives_so n ∙ ap (lives_on n d) (told.living n) ∙ sym (lives-last records done d n)
 
+  begun_so : (new : Ledger) → ((n : ℕ) → new.begun n ≡ begun_on n d.event (old.begun n)) → (n : ℕ)
+      → new.begun n ≡ has_begun records (done ++ d ∷ []) n
+  begun_so new begun n = begun n ∙ ap (begun_on n d.event) (told.begun n) ∙ sym (begun-last records done d n)
+
+  -- what is looked up has begun
+  pub looked_up-now : IsToBegun d.event old → (l : Link) → IsLookedUp records done d l
+  looked_up-now to_begun l =
+      if_some-along (looked_up d.event) old.begun (has_begun records done) (λ n. sym (told.begun n)) to_begun
+
   module _ (new : Ledger) (by_living : begins d.event ≡ true → lives records done d.by ≡ true)
-      (living : (n : ℕ) → new.living n ≡ lives_on n d (old.living n)) where
+      (living : (n : ℕ) → new.living n ≡ lives_on n d (old.living n))
+      (begun : (n : ℕ) → new.begun n ≡ begun_on n d.event (old.begun n)) (to_begun : IsToBegun d.event old) where
     -- with an event whose link is no arrow
     tells-last : (l : Link) → new.links ≡ old.links ++ l ∷ [] → new.arrows ≡ old.arrows
         → ((n : ℕ) → has_number n l ≡ false) → IsBelow old.arrows l → IsRightNow records done d l
@@ -132,6 +155,7 @@ module _ (records : List RecordValue) (done : List Did) (old : Ledger) (told : T
           drawn = drawn-last l none;
           below = all-append (IsBelow old.arrows) old.links (l ∷ []) told.below (below, tt);
           living = living-last new living;
+          begun = begun_so new begun;
           waiting = λ channel. waiting-last l channel ∙ ap (λ m. old.rows channel ++ m) (waits_more channel)
               ∙ sym (grows channel);
           in_order = λ channel. order-last l channel (more channel) (new.rows channel) (takes_none channel)
@@ -146,6 +170,7 @@ module _ (records : List RecordValue) (done : List Did) (old : Ledger) (told : T
           taken = subst (λ o. IfSome o (λ _. IsArrow is.Plain)) (sym takes_none) tt;
           sent = subst (λ o. IfSome o (λ (m : Message). IsSent (lives records done m.channel.receiver) true is.Plain))
               (sym sends_none) tt;
+          begun = looked_up-now to_begun is.Plain;
           else_plain = λ _ _. refl;
         })
         (λ _. []) (λ channel. passes.rows channel ∙ sym (append-nil (old.rows channel))) (λ channel. refl)
@@ -162,6 +187,7 @@ module _ (records : List RecordValue) (done : List Did) (old : Ledger) (told : T
         taken = subst (λ o. IfSome o (λ _. IsArrow l)) (sym takes_none) tt;
         sent = subst (λ o. IfSome o (λ (m : Message). IsSent (lives records done m.channel.receiver) true l))
             (sym sends) so;
+        begun = looked_up-now to_begun l;
         else_plain = λ none _. let no : ⊥ = cc in absurd no;
       }
 

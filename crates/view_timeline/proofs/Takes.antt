@@ -4,15 +4,15 @@ use Rattle.std.proofs.lemmas.Bool.{eqb-false}
 use Rattle.std.specs.List.{AllByRecursion}
 use Rattle.run_record.specs.Record.{RecordValue}
 use Rattle.view_timeline.specs.Did.{Did, Message, begins, same_channel, sent, taken}
-use Rattle.view_timeline.specs.Linked.{Each, IsArrow, IsBelow, IsDrawn, IsSent, at_arrow, gather, has_number, is_on, put_on, taken_on}
-use Rattle.view_timeline.specs.Lives.{lives, lives_on}
+use Rattle.view_timeline.specs.Linked.{Each, IsArrow, IsBelow, IsDrawn, IsLookedUp, IsSent, at_arrow, gather, has_number, is_on, put_on, taken_on}
+use Rattle.view_timeline.specs.Lives.{begun_on, lives, lives_on}
 use Rattle.view_timeline.specs.Rows.{RowsState, Waiting, letter, waiting_on, waits_at}
-use Rattle.view_timeline.specs.Traffic.{Ledger, Links, Notes, Takes, Tells, arrow}
+use Rattle.view_timeline.specs.Traffic.{IsToBegun, Ledger, Links, Notes, Takes, Tells, arrow}
 use Rattle.view_timeline.proofs.Channels.{same-apart, same-true, same_itself}
 use Rattle.view_timeline.proofs.Firsts.{IsFirst, first_waits}
 use Rattle.view_timeline.proofs.Gathering.{all-append, all-left, all-map, all-right, each-append, each-left, each-length, each-right, gather-last, gather-middle, set-middle}
-use Rattle.view_timeline.proofs.Lifetimes.{lives-last}
-use Rattle.view_timeline.proofs.Steps.{IsRightNow, put_at, sends_takes-none, taken_at, tells-at, tells-passes, tells-puts, waits}
+use Rattle.view_timeline.proofs.Lifetimes.{begun-last, lives-last}
+use Rattle.view_timeline.proofs.Steps.{IsRightNow, looked_up-now, put_at, sends_takes-none, taken_at, tells-at, tells-passes, tells-puts, waits}
 use Rattle.view_timeline.specs.declared.channel.Channel.{Channel}
 use Rattle.view_timeline.specs.declared.moves.Link.{Link}
 use Rattle.view_timeline.specs.declared.moves.Link.TheVariants as is
@@ -133,11 +133,12 @@ below-more arrows (is.Arrow number) below = let lt : number.0 < arrows = below i
 -- ---- the take
 
 module _ (records : List RecordValue) (before : List Did) (out : Did) (after : List Did)
-    (links_before links_after : List Link) (arrows : ℕ) (living : ℕ → Bool) (rows : RowsState)
+    (links_before links_after : List Link) (arrows : ℕ) (living begun : ℕ → Bool) (rows : RowsState)
     (told : Tells records (before ++ out ∷ after) (record {
       links = links_before ++ is.Waits ∷ links_after;
       arrows = arrows;
       living = living;
+      begun = begun;
       rows = rows;
     }))
     (as_long : length before ≡ length links_before) where
@@ -174,6 +175,7 @@ module _ (records : List RecordValue) (before : List Did) (out : Did) (after : L
           sent = subst (λ o. IfSome o (λ (m : Message). IsSent (lives records b m.channel.receiver) true
               (arrow arrows)))
               (sym sends) was.0;
+          begun = one.begun;
           else_plain = λ none _. let no : ⊥ = cc in absurd no;
         }
 
@@ -211,6 +213,7 @@ module _ (records : List RecordValue) (before : List Did) (out : Did) (after : L
 
     module _ (d : Did) (message : Message) (sends_none : sent d ≡ None) (takes : taken d ≡ Some message)
         (by_living : begins d.event ≡ true → lives records (before ++ out ∷ after) d.by ≡ true)
+        (looks : IsLookedUp records (before ++ out ∷ after) d (arrow arrows))
         (same : sent_message ≡ message) where
       right-take : Each (IsRightNow records) [] ((before ++ out ∷ after) ++ d ∷ [])
           ((links_before ++ arrow arrows ∷ links_after) ++ arrow arrows ∷ [])
@@ -223,6 +226,7 @@ module _ (records : List RecordValue) (before : List Did) (out : Did) (after : L
               sent = subst (λ o. IfSome o (λ (m : Message).
                   IsSent (lives records (before ++ out ∷ after) m.channel.receiver) true (arrow arrows)))
                   (sym sends_none) tt;
+              begun = looks;
               else_plain = λ _ none. let no : ⊥ = cc in absurd no;
             },
             tt,
@@ -402,14 +406,16 @@ module _ (records : List RecordValue) (before : List Did) (out : Did) (after : L
                 ∙ ap (λ b. (taken_on channel (before ++ out ∷ after) (links_before ++ is.Waits ∷ links_after)
                 ++ (if b then arrow arrows ∷ [] else [])) ++ map waits (rows_new channel)) (sym other)
 
-        tells-tied : (living_new : ℕ → Bool) → ((n : ℕ) → living_new n ≡ lives_on n d (living n))
+        tells-tied : (living_new begun_new : ℕ → Bool) → ((n : ℕ) → living_new n ≡ lives_on n d (living n))
+            → ((n : ℕ) → begun_new n ≡ begun_on n d.event (begun n))
             → Tells records ((before ++ out ∷ after) ++ d ∷ []) (record {
               links = (links_before ++ arrow arrows ∷ links_after) ++ arrow arrows ∷ [];
               arrows = arrows + 1;
               living = living_new;
+              begun = begun_new;
               rows = rows_new;
             })
-        tells-tied living_new lives_so = record {
+        tells-tied living_new begun_new lives_so begun_so = record {
           right = right-take;
           drawn = drawn-take;
           below =
@@ -418,6 +424,8 @@ module _ (records : List RecordValue) (before : List Did) (out : Did) (after : L
               below-middle (now, tt);
           living = λ n. lives_so n ∙ ap (lives_on n d) (told.living n)
               ∙ sym (lives-last records (before ++ out ∷ after) d n);
+          begun = λ n. begun_so n ∙ ap (begun_on n d.event) (told.begun n)
+              ∙ sym (begun-last records (before ++ out ∷ after) d n);
           waiting = waiting-take;
           in_order = order-take;
         }
@@ -425,15 +433,18 @@ module _ (records : List RecordValue) (before : List Did) (out : Did) (after : L
 -- one more is told: an instance takes what waits first on a channel
 pub tells-takes : (records : List RecordValue) (done : List Did) (old new : Ledger) (d : Did) (message : Message)
     → Tells records done old → (begins d.event ≡ true → lives records done d.by ≡ true)
-    → ((n : ℕ) → new.living n ≡ lives_on n d (old.living n)) → sent d ≡ None → taken d ≡ Some message
+    → ((n : ℕ) → new.living n ≡ lives_on n d (old.living n))
+    → ((n : ℕ) → new.begun n ≡ begun_on n d.event (old.begun n)) → IsToBegun d.event old
+    → sent d ≡ None → taken d ≡ Some message
     → Takes message old new → Tells records (done ++ d ∷ []) new
-tells-takes records done old new d message told by_living living sends_none takes t =
+tells-takes records done old new d message told by_living living begun to_begun sends_none takes t =
     let f : IsFirst message.channel 0 done old.links t.first t.rest =
     first_waits message.channel t.first t.rest 0 done old.links (told.waiting message.channel ∙ t.was) in
     let told' : Tells records (f.before ++ f.out ∷ f.after) (record {
       links = f.links_before ++ is.Waits ∷ f.links_after;
       arrows = old.arrows;
       living = old.living;
+      begun = old.begun;
       rows = old.rows;
     }) =
     subst (λ ds. Tells records ds (record {
@@ -441,16 +452,21 @@ tells-takes records done old new d message told by_living living sends_none take
           ++ is.Waits ∷ f.links_after;
       arrows = old.arrows;
       living = old.living;
+      begun = old.begun;
       rows = old.rows;
     })) f.done_is
     (subst (λ ls. Tells records done (record {
       links = ls;
       arrows = old.arrows;
       living = old.living;
+      begun = old.begun;
       rows = old.rows;
     })) f.links_is told) in
     let by_living' : begins d.event ≡ true → lives records (f.before ++ f.out ∷ f.after) d.by ≡ true =
     subst (λ ds. begins d.event ≡ true → lives records ds d.by ≡ true) f.done_is by_living in
+    let looks : IsLookedUp records (f.before ++ f.out ∷ f.after) d (arrow old.arrows) =
+    subst (λ ds. IsLookedUp records ds d (arrow old.arrows)) f.done_is
+    (looked_up-now records done old told d to_begun (arrow old.arrows)) in
     let c : f.message.channel ≡ message.channel = same-true f.message.channel message.channel f.channel_is in
     let v : f.message.values ≡ message.values = f.values_is ∙ t.values in
     let same : f.message ≡ message = λ i. record { channel = c i; values = v i } in
@@ -468,12 +484,13 @@ tells-takes records done old new d message told by_living living sends_none take
       links = (f.links_before ++ arrow old.arrows ∷ f.links_after) ++ arrow old.arrows ∷ [];
       arrows = old.arrows + 1;
       living = new.living;
+      begun = new.begun;
       rows = new.rows;
     })) (sym f.done_is)
-    (tells-tied records f.before f.out f.after f.links_before f.links_after old.arrows old.living old.rows told'
+    (tells-tied records f.before f.out f.after f.links_before f.links_after old.arrows old.living old.begun old.rows told'
     f.as_long
-    f.message f.sent_is d message sends_none takes by_living' same t.first t.rest new.rows t.was t.left t.others
-    f.none_before f.rest_is new.living living))
+    f.message f.sent_is d message sends_none takes by_living' looks same t.first t.rest new.rows t.was t.left t.others
+    f.none_before f.rest_is new.living new.begun living begun))
 
 -- one event more is told, by what it sends and what it takes
 pub tells-notes : (records : List RecordValue) (done : List Did) (old new : Ledger) (d : Did)
@@ -483,9 +500,10 @@ tells-notes records done old new d told by_living notes = by_sent (sent d) refl 
   where
     by_sent : (s : Option Message) → sent d ≡ s → (t : Option Message) → taken d ≡ t → Links s t old new
         → Tells records (done ++ d ∷ []) new
-    by_sent (Some message) sends t takes puts = tells-puts records done old told d new by_living notes.living message
-        sends puts
+    by_sent (Some message) sends t takes puts =
+        tells-puts records done old told d new by_living notes.living notes.begun notes.to_begun message sends puts
     by_sent None sends (Some message) takes took =
-        tells-takes records done old new d message told by_living notes.living sends takes took
-    by_sent None sends None takes passes = tells-passes records done old told d new by_living notes.living sends
-        takes passes
+        tells-takes records done old new d message told by_living notes.living notes.begun notes.to_begun sends takes
+        took
+    by_sent None sends None takes passes =
+        tells-passes records done old told d new by_living notes.living notes.begun notes.to_begun sends takes passes

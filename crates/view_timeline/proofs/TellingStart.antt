@@ -30,16 +30,23 @@ pub record IsFresh (records : List RecordValue) (now : Ledger) : Type 0 where
   pub links : now.links ≡ []
   pub arrows : now.arrows ≡ 0
   pub living : (number : ℕ) → now.living number ≡ is_initial records number
+  pub begun : (number : ℕ) → now.begun number ≡ is_initial records number
   pub rows : (channel : Channel) → now.rows channel ≡ []
 
-tells-fresh : (records : List RecordValue) (living : ℕ → Bool) (rows : RowsState)
-    → ((number : ℕ) → living number ≡ is_initial records number) → ((channel : Channel) → rows channel ≡ [])
-    → Tells records [] (record { links = []; arrows = 0; living = living; rows = rows })
-tells-fresh records living rows lives_so empty = record {
+or-none : (b : Bool) → b ≡ (b || false)
+or-none true = refl
+or-none false = refl
+
+tells-fresh : (records : List RecordValue) (living begun : ℕ → Bool) (rows : RowsState)
+    → ((number : ℕ) → living number ≡ is_initial records number)
+    → ((number : ℕ) → begun number ≡ is_initial records number) → ((channel : Channel) → rows channel ≡ [])
+    → Tells records [] (record { links = []; arrows = 0; living = living; begun = begun; rows = rows })
+tells-fresh records living begun rows lives_so begun_so empty = record {
   right = tt;
   drawn = λ number lt. let no : ⊥ = omega (arith, lt) in absurd no;
   below = tt;
   living = lives_so;
+  begun = λ number. begun_so number ∙ or-none (is_initial records number);
   waiting = λ channel. sym (empty channel);
   in_order = λ channel. ap (map waits) (sym (empty channel));
 }
@@ -57,8 +64,8 @@ keeps-fresh records telling moves cursors ledger = record {
   };
   tells = subst (λ ms. Tells records (done_by records ms) (ledger_of telling.traffic)) (sym moves)
       (tells-at records [] (ledger_of telling.traffic) [] 0 ledger.links ledger.arrows
-      (tells-fresh records (ledger_of telling.traffic).living
-      (ledger_of telling.traffic).rows ledger.living ledger.rows));
+      (tells-fresh records (ledger_of telling.traffic).living (ledger_of telling.traffic).begun
+      (ledger_of telling.traffic).rows ledger.living ledger.begun ledger.rows));
 }
 
 pub up_to-fresh : (records : List RecordValue) (telling : Telling) → telling.moves.items ≡ []
@@ -93,12 +100,16 @@ initial-last (r ∷ records) trace n =
 pub fresh-more : (records : List RecordValue) (trace : RecordValue) (old new : Ledger) → IsFresh records old
     → new.links ≡ old.links → new.arrows ≡ old.arrows → ((channel : Channel) → new.rows channel ≡ old.rows channel)
     → ((n : ℕ) → new.living n ≡ (old.living n || ((trace.pid == n) && is_null trace.parent)))
+    → ((n : ℕ) → new.begun n ≡ (old.begun n || ((trace.pid == n) && is_null trace.parent)))
     → IsFresh (records ++ trace ∷ []) new
-fresh-more records trace old new was links arrows rows living = record {
+fresh-more records trace old new was links arrows rows living begun = record {
   links = links ∙ was.links;
   arrows = arrows ∙ was.arrows;
   living = λ n. living n
       ∙ ap (λ b. b || ((trace.pid == n) && is_null trace.parent)) (was.living n)
+      ∙ sym (initial-last records trace n);
+  begun = λ n. begun n
+      ∙ ap (λ b. b || ((trace.pid == n) && is_null trace.parent)) (was.begun n)
       ∙ sym (initial-last records trace n);
   rows = λ channel. rows channel ∙ was.rows channel;
 }

@@ -6,6 +6,7 @@ use Rattle.port_values.specs.declared.item.Item.{Item}
 use Rattle.port_values.specs.declared.pid.Pid as pid
 use Rattle.port_values.specs.declared.pid.Pid.TheVariants as who
 use Rattle.port_values.specs.declared.value.Value.{Value}
+use Rattle.sdl_system.specs.declared.route.Dest.TheVariants as to
 use Rattle.sdl_system.specs.declared.route.Target.TheVariants as reached
 use Rattle.run_record.specs.Event as event
 use Rattle.run_record.specs.Event.{is_beginning}
@@ -41,6 +42,12 @@ sent_by own _ = None
 
 abbrev pub sent : Did → Option Message
 sent d = sent_by d.by d.event
+
+-- The instance to which an output goes that names no Pid: it is looked up among those that live.
+abbrev pub looked_up : event.Event → Option ℕ
+looked_up (event.Output signal to.Path values (reached.Instance number)) = Some number
+looked_up (event.Output signal (to.Process process) values (reached.Instance number)) = Some number
+looked_up _ = None
 
 -- a signal that came from there to an instance, if an instance sent it
 abbrev pub from_instance : ℕ → pid.Pid → Item → Option Message

@@ -1,5 +1,6 @@
 pub mod Cursor
 pub mod Did
+pub mod Early
 pub mod Effect
 pub mod Hindered
 pub mod Linked

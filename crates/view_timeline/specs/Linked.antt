@@ -1,8 +1,8 @@
 -- Events with their links: what stands where.
 use Rattle.std.specs.Prelude.{◌≡◌, ℕ, ◌+◌, ◌==◌, ◌&&◌, ◌⊎◌, Bool, true, false, not, List, [], ◌∷◌, ◌++◌, replicate, Option, None, Some, if◌then◌else◌, IfSome, ◌<◌}
 use Rattle.run_record.specs.Record.{RecordValue}
-use Rattle.view_timeline.specs.Did.{Did, Message, begins, same_channel, sent, taken}
-use Rattle.view_timeline.specs.Lives.{lives}
+use Rattle.view_timeline.specs.Did.{Did, Message, begins, looked_up, same_channel, sent, taken}
+use Rattle.view_timeline.specs.Lives.{has_begun, lives}
 use Rattle.view_timeline.specs.declared.channel.Channel.{Channel}
 use Rattle.view_timeline.specs.declared.moves.Link.{Link}
 use Rattle.view_timeline.specs.declared.moves.Link.TheVariants as is
@@ -48,6 +48,11 @@ IsSentSo records on before d link =
     IfSome (sent d) (λ (message : Message).
     IsSent (lives records before message.channel.receiver) (on message.channel.receiver) link)
 
+-- An output that names no Pid goes to an instance that has begun.
+abbrev pub IsLookedUp : List RecordValue → List Did → Did → Link → Type 0
+IsLookedUp records before d link =
+    IfSome (looked_up d.event) (λ (number : ℕ). has_begun records before number ≡ true)
+
 -- No other event has a link.
 abbrev pub IsElsePlain : Did → Link → Type 0
 IsElsePlain d link = sent d ≡ None → taken d ≡ None → link ≡ is.Plain
@@ -58,6 +63,7 @@ pub record IsRight (records : List RecordValue) (on : ℕ
   pub by_living : IsByLiving records before d link
   pub taken : IsTakenByArrow d link
   pub sent : IsSentSo records on before d link
+  pub begun : IsLookedUp records before d link
   pub else_plain : IsElsePlain d link
 
 -- ---- arrows

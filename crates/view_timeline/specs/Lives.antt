@@ -1,5 +1,5 @@
 -- Who lives (Z.101: agent, create; Z.102: stop).
-use Rattle.std.specs.Prelude.{ℕ, ◌==◌, ◌&&◌, Bool, true, false, List, [], ◌∷◌, Some, if◌then◌else◌}
+use Rattle.std.specs.Prelude.{ℕ, ◌==◌, ◌&&◌, ◌||◌, Bool, true, false, List, [], ◌∷◌, Some, if◌then◌else◌}
 use Rattle.std.specs.List.{list_any}
 use Rattle.port_values.specs.declared.pid.Pid as pid
 use Rattle.port_values.specs.declared.pid.Pid.TheVariants as who
@@ -39,3 +39,14 @@ lives_after number before (d ∷ more) = lives_after number (lives_on number d b
 -- whether the instance of this number lives once all this was done
 abbrev pub lives : List RecordValue → List Did → ℕ → Bool
 lives records done number = lives_after number (is_initial records number) done
+
+-- ---- who has begun
+
+-- whether the instance of this number has begun once all this was done, ended or not: the system begins with it, or it is
+-- created
+abbrev pub has_begun : List RecordValue → List Did → ℕ → Bool
+has_begun records done number = is_initial records number || list_any (λ (d : Did). creates number d.event) done
+
+-- the same after this event, by whether it had before
+abbrev pub begun_on : ℕ → event.Event → Bool → Bool
+begun_on number event before = if creates number event then true else before

@@ -131,14 +131,17 @@ pub record Closing (records : List RecordValue) (old new : Telling) : Type 0 whe
 
 -- why an event of the record at this place is left then: it begins a transition, or it can't be told, or comes after
 -- the close
-pub data Stays (records : List RecordValue) (new : Telling) (closings : List Move) (place : ℕ) (next : Did) : Type 0 where
-  transition : (at : ℕ) → time_of next.event ≡ Some at → Stays records new closings place next
+pub data Stays (records : List RecordValue) (new : Telling) (closings : List Move) (place : ℕ) (next : Did)
+    (rest : List Event) : Type 0 where
+  transition : (at : ℕ) → time_of next.event ≡ Some at → Stays records new closings place next rest
   hindered :
-      Hindered records (done_of records new) new.traffic.links.items next → Stays records new closings place next
-  closed : (moves_of place closings ≡ [] → ⊥) → Stays records new closings place next
+      Hindered records (done_of records new) new.traffic.links.items next rest
+      → Stays records new closings place next rest
+  closed : (moves_of place closings ≡ [] → ⊥) → Stays records new closings place next rest
 
 pub record StopsAt (records : List RecordValue) (old new : Telling) (place : ℕ) : Type 0 where
   pub closing : Closing records old new
   pub next : Did
-  pub is_next : IsNextOf records new.moves.items place next
-  pub why : Stays records new closing.closings place next
+  pub rest : List Event
+  pub is_next : IsNextOf records new.moves.items place next rest
+  pub why : Stays records new closing.closings place next rest

@@ -2,11 +2,12 @@
 use Rattle.std.specs.Prelude.{◌≡◌, ℕ, ◌<◌, ◌≤◌, nat_eq, true, List, [], ◌++◌, Some, slice_get, length}
 use Rattle.std.specs.List.{AllByRecursion}
 use Rattle.indexmap.specs.IndexSet.{contains}
+use Rattle.run_record.specs.Event.{Event}
 use Rattle.run_record.specs.Record.{RecordValue}
 use Rattle.view_timeline.specs.Did.{Did}
 use Rattle.view_timeline.specs.Hindered.{IsClosing, IsNextOf, NobodyGoesOn, WhyLeft}
 use Rattle.view_timeline.specs.Lives.{lives}
-use Rattle.view_timeline.specs.Linked.{Each, IsBelow, IsByLiving, IsDrawn, IsElsePlain, IsInOrder, IsSentSo, IsTakenByArrow}
+use Rattle.view_timeline.specs.Linked.{Each, IsBelow, IsByLiving, IsDrawn, IsElsePlain, IsInOrder, IsLookedUp, IsSentSo, IsTakenByArrow}
 use Rattle.view_timeline.specs.Moves.{GoOn, IsMove, NeverFall, done_by, moves_of, times}
 use Rattle.view_timeline.specs.declared.channel.Channel.{Channel}
 use Rattle.view_timeline.specs.declared.moves.Move.{Move}
@@ -41,6 +42,10 @@ AreInOrder records told = (channel : Channel) → IsInOrder (done records told) 
 abbrev pub IsWaiting : List RecordValue → Timeline → Type 0
 IsWaiting records told = Each (IsSentSo records (λ _. true)) [] (done records told) told.links.items
 
+-- An output that names no Pid comes after the create of the instance to which it goes.
+abbrev pub AreLookedUp : List RecordValue → Timeline → Type 0
+AreLookedUp records told = Each (IsLookedUp records) [] (done records told) told.links.items
+
 -- Who lives on.
 abbrev pub AreLiving : List RecordValue → Timeline → Type 0
 AreLiving records told = (number : ℕ) → contains nat_eq told.living number ≡ lives records (done records told) number
@@ -71,6 +76,7 @@ pub record IsStuck (records : List RecordValue) (told : Timeline) (number : ℕ)
   pub all_takes : AllTakes records told
   pub in_order : AreInOrder records told
   pub waiting : IsWaiting records told
+  pub looked_up : AreLookedUp records told
   pub else_unlinked : IsElseUnlinked records told
   pub living : AreLiving records told
   pub place : ℕ
@@ -86,8 +92,9 @@ pub record IsStuck (records : List RecordValue) (told : Timeline) (number : ℕ)
   pub only_close : AllByRecursion (IsClosing records) closings
   pub nobody : NobodyGoesOn records made told.links.items
   pub next : Did
-  pub is_next : IsNextOf records told.moves.items place next
-  pub why : WhyLeft records made closings told.links.items place next
+  pub rest : List Event
+  pub is_next : IsNextOf records told.moves.items place next rest
+  pub why : WhyLeft records made closings told.links.items place next rest
 
 abbrev pub IsUntold : List RecordValue → Untold → Type 0
 IsUntold records (untold.Stuck told number) = IsStuck records told number

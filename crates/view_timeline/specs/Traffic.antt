@@ -1,23 +1,25 @@
 -- Who lives and what waits, once some of the events are told.
-use Rattle.std.specs.Prelude.{◌≡◌, ℕ, ◌+◌, ◌<◌, Bool, true, nat_eq, List, [], ◌∷◌, ◌++◌, length, map, set, Option, None, Some, if◌then◌else◌}
+use Rattle.std.specs.Prelude.{◌≡◌, ℕ, ◌+◌, ◌<◌, Bool, true, nat_eq, List, [], ◌∷◌, ◌++◌, length, map, set, Option, None, Some, if◌then◌else◌, IfSome}
 use Rattle.std.specs.List.{AllByRecursion}
 use Rattle.indexmap.specs.IndexSet.{contains}
+use Rattle.run_record.specs.Event.{Event}
 use Rattle.run_record.specs.Record.{RecordValue}
-use Rattle.view_timeline.specs.Did.{Did, Message, sent, taken}
+use Rattle.view_timeline.specs.Did.{Did, Message, looked_up, sent, taken}
 use Rattle.view_timeline.specs.Hindered.{IsFirst}
 use Rattle.view_timeline.specs.Linked.{Each, IsBelow, IsDrawn, IsRight, put_on, taken_on}
-use Rattle.view_timeline.specs.Lives.{lives, lives_on}
+use Rattle.view_timeline.specs.Lives.{begun_on, has_begun, lives, lives_on}
 use Rattle.view_timeline.specs.Rows.{RowsState, Waiting, letter, row_of, waiting_on}
 use Rattle.view_timeline.specs.declared.channel.Channel.{Channel}
 use Rattle.view_timeline.specs.declared.moves.Link.{Link}
 use Rattle.view_timeline.specs.declared.moves.Link.TheVariants as is
 use Rattle.view_timeline.specs.declared.traffic.Traffic.{Traffic}
 
--- the links so far, how many arrows there are, who lives, and what waits
+-- the links so far, how many arrows there are, who lives, who has begun, and what waits
 pub record Ledger : Type 0 where
   pub links : List Link
   pub arrows : ℕ
   pub living : ℕ → Bool
+  pub begun : ℕ → Bool
   pub rows : RowsState
 
 abbrev pub ledger_of : Traffic → Ledger
@@ -25,6 +27,7 @@ ledger_of traffic = record {
   links = traffic.links.items;
   arrows = traffic.arrows;
   living = λ number. contains nat_eq traffic.living number;
+  begun = λ number. contains nat_eq traffic.begun number;
   rows = row_of traffic.rows.rows;
 }
 
@@ -32,12 +35,14 @@ ledger_of traffic = record {
 abbrev pub arrow : ℕ → Link
 arrow number = is.Arrow (record { 0 = number })
 
--- It tells what was done: each link is right, all numbers are drawn, and it knows who lives and what waits.
+-- It tells what was done: each link is right, all numbers are drawn, and it knows who lives, who has begun and what
+-- waits.
 pub record Tells (records : List RecordValue) (done : List Did) (now : Ledger) : Type 0 where
   pub right : Each (IsRight records (λ _. true)) [] done now.links
   pub drawn : (number : ℕ) → number < now.arrows → IsDrawn done now.links number
   pub below : AllByRecursion (IsBelow now.arrows) now.links
   pub living : (number : ℕ) → now.living number ≡ lives records done number
+  pub begun : (number : ℕ) → now.begun number ≡ has_begun records done number
   pub waiting : (channel : Channel) → waiting_on channel done now.links ≡ now.rows channel
   pub in_order : (channel : Channel)
       → put_on channel done now.links ≡ taken_on channel done now.links ++ map (λ _. is.Waits) (now.rows channel)
@@ -75,9 +80,15 @@ Links (Some message) taken old new = Puts message old new
 Links None (Some message) old new = Takes message old new
 Links None None old new = Passes old new
 
+-- if the event is an output that names no Pid, its receiver has begun
+abbrev pub IsToBegun : Event → Ledger → Type 0
+IsToBegun event old = IfSome (looked_up event) (λ (number : ℕ). old.begun number ≡ true)
+
 -- an event is told
 pub record Notes (d : Did) (old new : Ledger) : Type 0 where
   pub living : (number : ℕ) → new.living number ≡ lives_on number d (old.living number)
+  pub begun : (number : ℕ) → new.begun number ≡ begun_on number d.event (old.begun number)
+  pub to_begun : IsToBegun d.event old
   pub links : Links (sent d) (taken d) old new
 
 -- what an event takes doesn't wait first
@@ -90,4 +101,5 @@ pub record IsSame (old new : Ledger) : Type 0 where
   pub links : new.links ≡ old.links
   pub arrows : new.arrows ≡ old.arrows
   pub living : (number : ℕ) → new.living number ≡ old.living number
+  pub begun : (number : ℕ) → new.begun number ≡ old.begun number
   pub rows : (channel : Channel) → new.rows channel ≡ old.rows channel

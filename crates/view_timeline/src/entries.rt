@@ -1,10 +1,12 @@
 //! What an entry has to do with the order of moves.
 
-ghost use Rattle.std.specs.Prelude.{◌≡◌};
+ghost use Rattle.std.specs.Prelude.{◌≡◌, ◌==◌, ℕ, false};
+ghost use Rattle.std.specs.Option.{option_map_or};
 ghost use Rattle.port_values.specs.Value.{ValueList};
 ghost use Rattle.run_record.specs.Entry.{event_of};
-ghost use Rattle.view_timeline.specs.Did.{begins, time_of};
+ghost use Rattle.view_timeline.specs.Did.{begins, looked_up, time_of};
 ghost use Rattle.view_timeline.specs.Effect.{effect_in};
+ghost use Rattle.view_timeline.specs.Lives.{creates};
 
 use port_values::{SignalId, Ticks};
 use run_record::{Entry, Origin, Stimulus};
@@ -42,6 +44,34 @@ pub fn effect_of(entry: &Entry) -> Effect
         } => Effect::Creates(number),
         Entry::FailedAt { .. } | Entry::Stop | Entry::Failed { .. } => Effect::Ends,
         _ => Effect::Nothing,
+    }
+}
+
+/// The instance to which an output goes that names no Pid: it is looked up among those that live.
+pub fn looked_up(entry: &Entry) -> Option<u32>
+    ensures { (values : ValueList) → result ≡ looked_up (event_of entry.now values) }
+{
+    match *entry {
+        Entry::OutputOnPath {
+            target: Target::Instance(number),
+            ..
+        }
+        | Entry::OutputToProcess {
+            target: Target::Instance(number),
+            ..
+        } => Some(number),
+        _ => None,
+    }
+}
+
+/// The instance that the entry creates.
+pub fn created(entry: &Entry) -> Option<u32>
+    ensures { (values : ValueList) (number : ℕ) → creates number (event_of entry.now values)
+        ≡ option_map_or (λ (made : ℕ). made == number) result false }
+{
+    match *entry {
+        Entry::Create { pid, .. } => pid,
+        _ => None,
     }
 }
 

@@ -8,6 +8,7 @@
 
 mod channel;
 mod cursor;
+mod early;
 mod entries;
 mod moves;
 mod replay;

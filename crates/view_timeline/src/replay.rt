@@ -5,7 +5,7 @@ ghost use Rattle.run_record.specs.Record.{RecordValue};
 ghost use Rattle.view_timeline.specs.Replay.{Goes, timeline_of, until};
 ghost use Rattle.view_timeline.specs.Telling.{AllDone, Closing, HasLeft, IsUpTo, Keeps, NobodyNow, StopsAt, done_of, events_left};
 ghost use Rattle.view_timeline.specs.Moves.{EachOnce};
-ghost use Rattle.view_timeline.specs.Timeline.{AllTakes, AreArrows, AreInOrder, AreLiving, IsElseUnlinked, IsForward, IsUntold, IsWaiting};
+ghost use Rattle.view_timeline.specs.Timeline.{AllTakes, AreArrows, AreInOrder, AreLiving, AreLookedUp, IsElseUnlinked, IsForward, IsUntold, IsWaiting};
 
 use crate::entries::{is_from_outside, time_of};
 use crate::moves::{RecordId, Timeline};
@@ -17,6 +17,7 @@ use port_values::Ticks;
 use run_record::Report;
 use std::alloc::{AllocError, Global};
 use std::collections::BTreeSet;
+use std::mem::replace;
 
 /// Tells the transitions of a run in the order of its sweeps, and then how the records close.
 ///
@@ -25,7 +26,7 @@ use std::collections::BTreeSet;
 /// clock moves to the next time at which one of them does something.
 ///
 /// Stuck where nobody can go on at any time, and events are left. What an instance takes is never sent to it then, or in
-/// another order; or nothing creates it.
+/// another order; or nothing creates it, or an instance to which it sends.
 pub fn timeline(alloc: Global, report: &Report) -> Result<Timeline, Untold>
     ensures each_once { IfOk result (λ told. EachOnce report.now.records.items told.moves.items) }
     ensures forward { IfOk result (IsForward report.now.records.items) }
@@ -33,6 +34,7 @@ pub fn timeline(alloc: Global, report: &Report) -> Result<Timeline, Untold>
     ensures all_takes { IfOk result (AllTakes report.now.records.items) }
     ensures in_order { IfOk result (AreInOrder report.now.records.items) }
     ensures waiting { IfOk result (IsWaiting report.now.records.items) }
+    ensures looked_up { IfOk result (AreLookedUp report.now.records.items) }
     ensures else_unlinked { IfOk result (IsElseUnlinked report.now.records.items) }
     ensures living { IfOk result (AreLiving report.now.records.items) }
     ensures untold { IfErr result (IsUntold report.now.records.items) }
@@ -56,6 +58,8 @@ struct Replay<'r> {
     heard: bool,
     /// Those whose next transition comes later.
     later: BTreeSet<Later>,
+    /// How many instances had begun when those were woken that send too early.
+    begun: usize,
 }
 
 /// An instance goes on at this time.
@@ -76,6 +80,7 @@ impl<'r> Replay<'r> {
             clock: Ticks::new(0),
             heard: false,
             later: BTreeSet::new(alloc),
+            begun: 0,
         })
     }
 
@@ -158,10 +163,28 @@ impl<'r> Replay<'r> {
             let made = self.step(alloc, number)?;
             if made {
                 self.telling.traffic.sweep.wake(number)?;
+                self.wake_early(alloc)?;
                 return Ok(true);
             }
         }
         Ok(false)
+    }
+
+    /// Those may be able to go on that sent too early, if an instance has begun since.
+    fn wake_early(&mut self, alloc: Global) -> Result<(), AllocError>
+        ensures goes { (records : List RecordValue) → Goes records self.old → OnOk result (Goes records self.new) }
+        ensures clock { self.new.clock ≡ self.old.clock }
+        ensures heard { self.new.heard ≡ self.old.heard }
+        ensures left { events_left self.new.telling ≡ events_left self.old.telling }
+    {
+        let begun = self.telling.traffic.begun.len();
+        if begun <= self.begun {
+            return Ok(());
+        }
+        self.begun = begun;
+        let mut early = replace(&mut self.telling.early, BTreeSet::new(alloc));
+        wake_all(&mut early, &mut self.telling.traffic.sweep)?;
+        Ok(())
     }
 
     /// The next transition of an instance, if it can be made now. Says whether it is.
@@ -277,6 +300,14 @@ fn wake_due(
             break;
         }
         sweep.wake(next.number)?;
+    }
+    Ok(())
+}
+
+/// All these may be able to go on.
+fn wake_all(numbers: &mut BTreeSet<u32>, sweep: &mut Sweep) -> Result<(), AllocError> {
+    while let Some(number) = numbers.pop_first() {
+        sweep.wake(number)?;
     }
     Ok(())
 }

@@ -1,9 +1,10 @@
 //! A timeline of which some moves are told.
 
-ghost use Rattle.std.specs.Prelude.{◌≡◌, ◌==◌, ◌<◌, ◌&&◌, ◌||◌, ◌++◌, ◌∷◌, ℕ, List, [], None, IfNone, IfOk, IfSome, IsFalse, IsTrue, OnOk, slice_get};
+ghost use Rattle.std.specs.Prelude.{◌≡◌, ◌==◌, ◌<◌, ◌&&◌, ◌||◌, ◌++◌, ◌∷◌, ℕ, List, [], None, false, IfNone, IfOk, IfSome, IsFalse, IsTrue, OnOk, slice_get};
 ghost use Rattle.run_record.specs.Entry.{event_of};
 ghost use Rattle.run_record.specs.Record.{RecordValue};
 ghost use Rattle.view_timeline.specs.Did.{did, time_of};
+ghost use Rattle.view_timeline.specs.Early.{sends_early};
 ghost use Rattle.view_timeline.specs.Hindered.{Hindered};
 ghost use Rattle.view_timeline.specs.Lives.{is_null};
 ghost use Rattle.view_timeline.specs.Moves.{times};
@@ -11,20 +12,24 @@ ghost use Rattle.view_timeline.specs.Telling.{Acts, Closes, Closing, HasLeft, Is
 ghost use Rattle.view_timeline.specs.Traffic.{ledger_of};
 
 use crate::cursor::{Cursor, Next};
+use crate::early::sends_early;
 use crate::entries::{begins, time_of};
 use crate::moves::{EntryId, Move, RecordId};
 use crate::traffic::Traffic;
 use port_values::{Pid, Ticks};
 use run_record::Record;
 use std::alloc::{AllocError, Global};
+use std::collections::BTreeSet;
 
-/// The moves that are told so far, and what of each record is left. The last transition was at the latest time.
+/// The moves that are told so far, and what of each record is left. The last transition was at the latest time. Those of
+/// `early` were hindered since their next transition sends too early.
 #[derive(Drop)]
 pub struct Telling<'r> {
     pub moves: Vec<Move>,
     pub cursors: Vec<Cursor<'r>>,
     pub traffic: Traffic<'r>,
     pub latest: Ticks,
+    pub early: BTreeSet<u32>,
 }
 
 impl<'r> Telling<'r> {
@@ -42,11 +47,13 @@ impl<'r> Telling<'r> {
         }
         let moves = Vec::new(alloc);
         let latest = Ticks::new(0);
+        let early = BTreeSet::new(alloc);
         Ok(Telling {
             moves,
             cursors,
             traffic,
             latest,
+            early,
         })
     }
 
@@ -129,8 +136,8 @@ impl<'r> Telling<'r> {
         cursor.next()
     }
 
-    /// Makes the move that begins with the next event of a record, if it can be made: the instance lives, and what it
-    /// takes is there. Says whether it's made; else nothing changes.
+    /// Makes the move that begins with the next event of a record, if it can be made: the instance lives, what it takes
+    /// is there, and it sends nothing too early. Says whether it's made; else nothing changes.
     fn make(&mut self, alloc: Global, place: RecordId, next: Next<'r>) -> Result<bool, AllocError>
         requires { IsNext self.old place.0 next }
         ensures keeps { (records : List RecordValue) → Keeps records self.old → OnOk result (Keeps records self.new) }
@@ -147,7 +154,7 @@ impl<'r> Telling<'r> {
         ensures hindered { (records : List RecordValue) → Keeps records self.old
             → IfOk result (λ made. IsFalse made
             → Hindered records (done_of records self.old) self.old.traffic.links.items
-            (did next.entry.number (event_of next.entry.entry next.entry.values.now))) }
+            (did next.entry.number (event_of next.entry.entry next.entry.values.now)) next.entry.rest.left) }
         ensures told { (records : List RecordValue) → Keeps records self.old
             → IfOk result (λ made. IsTrue made → times (done_of records self.new)
             ≡ times (done_of records self.old) ++ time_of (event_of next.entry.entry next.entry.values.now) ∷ []) }
@@ -159,6 +166,11 @@ impl<'r> Telling<'r> {
             return Ok(false);
         }
         if !self.traffic.lives(next.number) {
+            return Ok(false);
+        }
+        let early = sends_early(alloc, &self.traffic, &next.rest)?;
+        if early {
+            self.early.insert(next.number)?;
             return Ok(false);
         }
         let Next {
@@ -186,6 +198,8 @@ impl<'r> Telling<'r> {
 /// An instance lives from the start on if nobody created it.
 fn admit(traffic: &mut Traffic<'_>, of: &Record) -> Result<(), AllocError>
     ensures links { traffic.new.links ≡ traffic.old.links }
+    ensures begun { OnOk result ((n : ℕ) → (ledger_of traffic.new).begun n
+        ≡ (ledger_of traffic.old).begun n || ((of.now.pid == n) && is_null of.now.parent)) }
     ensures arrows { traffic.new.arrows ≡ traffic.old.arrows }
     ensures rows { traffic.new.rows ≡ traffic.old.rows }
     ensures living { OnOk result ((n : ℕ) → (ledger_of traffic.new).living n
@@ -197,12 +211,13 @@ fn admit(traffic: &mut Traffic<'_>, of: &Record) -> Result<(), AllocError>
     }
 }
 
-/// Notes the events with which no move begins, as far as they go. Says what is left then.
+/// Notes the events with which no move begins, as far as they go. Says what is left then. None of them sends too early.
 fn act<'r>(
     alloc: Global,
     traffic: &mut Traffic<'r>,
     start: Cursor<'r>,
 ) -> Result<Cursor<'r>, AllocError>
+    requires { sends_early (ledger_of traffic.old).begun start.left ≡ false }
     ensures { IfOk result (λ end. Acts start.entry end (ledger_of traffic.old) (ledger_of traffic.new)) }
 {
     let mut cursor = start;

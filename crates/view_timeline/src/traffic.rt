@@ -1,4 +1,4 @@
-//! Who lives, what waits, and the links of the events that are told.
+//! Who lives, who has begun, what waits, and the links of the events that are told.
 
 ghost use Rattle.std.specs.Prelude.{◌≡◌, ℕ, ◌+◌, ◌==◌, Some, None, IfOk, IsTrue, IsFalse, OnOk, true, false, if◌then◌else◌, slice_set, []};
 ghost use Rattle.run_record.specs.Entry.{event_of, got_of};
@@ -7,7 +7,7 @@ ghost use Rattle.sdl_system.specs.declared.route.Dest.{Dest};
 ghost use Rattle.view_timeline.specs.Did.{did, message_got, sent_by, taken_by};
 ghost use Rattle.view_timeline.specs.declared.channel.Channel.{Channel};
 ghost use Rattle.view_timeline.specs.Hindered.{IsFirst};
-ghost use Rattle.view_timeline.specs.Traffic.{IsMissing, IsSame, Links, Notes, Passes, Puts, Takes, ledger_of};
+ghost use Rattle.view_timeline.specs.Traffic.{IsMissing, IsSame, IsToBegun, Links, Notes, Passes, Puts, Takes, ledger_of};
 
 use crate::channel::Channel;
 use crate::entries::{Effect, effect_of};
@@ -21,12 +21,13 @@ use sdl_system::Target;
 use std::alloc::{AllocError, Global};
 
 /// Who lives, what waits in their ports, and the links of the events that are told so far. It notes one event after the
-/// other, and wakes those that may be able to go on by it.
+/// other, and wakes those that may be able to go on by it. Those that have begun live, or have ended.
 #[derive(Drop)]
 pub struct Traffic<'r> {
     pub links: Vec<Link>,
     pub arrows: u32,
     pub living: IndexSet<u32>,
+    pub begun: IndexSet<u32>,
     pub rows: Rows<'r>,
     pub sweep: Sweep,
 }
@@ -37,12 +38,14 @@ impl<'r> Traffic<'r> {
         ensures links { result.links.items ≡ [] }
         ensures arrows { result.arrows ≡ 0 }
         ensures living { (n : ℕ) → (ledger_of result).living n ≡ false }
+        ensures begun { (n : ℕ) → (ledger_of result).begun n ≡ false }
         ensures rows { (channel : Channel) → (ledger_of result).rows channel ≡ [] }
     {
         Traffic {
             links: Vec::new(alloc),
             arrows: 0,
             living: IndexSet::new(alloc),
+            begun: IndexSet::new(alloc),
             rows: Rows::new(alloc),
             sweep: Sweep::new(alloc),
         }
@@ -55,8 +58,11 @@ impl<'r> Traffic<'r> {
         ensures rows { self.new.rows ≡ self.old.rows }
         ensures living { OnOk result ((n : ℕ) → (ledger_of self.new).living n
             ≡ (if number == n then true else (ledger_of self.old).living n)) }
+        ensures begun { OnOk result ((n : ℕ) → (ledger_of self.new).begun n
+            ≡ (if number == n then true else (ledger_of self.old).begun n)) }
     {
         self.living.insert(number)?;
+        self.begun.insert(number)?;
         self.sweep.add(number)
     }
 
@@ -67,8 +73,16 @@ impl<'r> Traffic<'r> {
         self.living.contains(&number)
     }
 
+    /// Whether the instance of this number has begun: it lives, or has ended.
+    pub fn has_begun(&self, number: u32) -> bool
+        ensures { result ≡ (ledger_of self.now).begun number }
+    {
+        self.begun.contains(&number)
+    }
+
     /// Notes an event of the instance of this number: an entry with its values. Says whether it can be: what it takes
-    /// of an instance has to wait, with the same values. Else nothing is noted.
+    /// of an instance has to wait, with the same values. Else nothing is noted. If the entry is an output that names no
+    /// Pid, its receiver has begun.
     pub fn note(
         &mut self,
         alloc: Global,
@@ -76,6 +90,7 @@ impl<'r> Traffic<'r> {
         entry: &Entry,
         values: &'r [Value],
     ) -> Result<bool, AllocError>
+        requires { IsToBegun (event_of entry.now values.now) (ledger_of self.old) }
         ensures noted { IfOk result (λ noted. IsTrue noted
             → Notes (did own (event_of entry.now values.now)) (ledger_of self.old) (ledger_of self.new)) }
         ensures not_noted { IfOk result (λ noted. IsFalse noted → IsSame (ledger_of self.old) (ledger_of self.new)) }
@@ -109,6 +124,8 @@ impl<'r> Traffic<'r> {
         ensures passed { OnOk result (Passes (ledger_of self.old) (ledger_of self.new)) }
         ensures living { OnOk result ((n : ℕ) → (ledger_of self.new).living n
             ≡ (if number == n then true else (ledger_of self.old).living n)) }
+        ensures begun { OnOk result ((n : ℕ) → (ledger_of self.new).begun n
+            ≡ (if number == n then true else (ledger_of self.old).begun n)) }
     {
         self.begin(number)?;
         self.pass()
@@ -119,6 +136,7 @@ impl<'r> Traffic<'r> {
         ensures passed { OnOk result (Passes (ledger_of self.old) (ledger_of self.new)) }
         ensures living { OnOk result ((n : ℕ) → (ledger_of self.new).living n
             ≡ (if number == n then false else (ledger_of self.old).living n)) }
+        ensures begun { self.new.begun ≡ self.old.begun }
     {
         self.living.swap_remove(&number);
         self.pass()
@@ -132,6 +150,7 @@ impl<'r> Traffic<'r> {
         ensures missing { IfOk result (λ noted. IsFalse noted
             → IsMissing (message_got own (got_of got values.now)) (ledger_of self.old)) }
         ensures living { self.new.living ≡ self.old.living }
+        ensures begun { self.new.begun ≡ self.old.begun }
         ensures still { IfOk result (λ noted. IsFalse noted → self.new.sweep ≡ self.old.sweep) }
     {
         let Origin::Instance(sender) = got.origin else {
@@ -161,6 +180,7 @@ impl<'r> Traffic<'r> {
             (Links (sent_by own (event.Output signal named values.now target)) None (ledger_of self.old)
             (ledger_of self.new)) }
         ensures living { self.new.living ≡ self.old.living }
+        ensures begun { self.new.begun ≡ self.old.begun }
     {
         let Target::Instance(receiver) = target else {
             return self.pass();
@@ -180,6 +200,7 @@ impl<'r> Traffic<'r> {
     fn pass(&mut self) -> Result<(), AllocError>
         ensures passed { OnOk result (Passes (ledger_of self.old) (ledger_of self.new)) }
         ensures living { self.new.living ≡ self.old.living }
+        ensures begun { self.new.begun ≡ self.old.begun }
     {
         self.links.push(Link::Plain)?;
         Ok(())
@@ -195,6 +216,7 @@ impl<'r> Traffic<'r> {
         ensures put { OnOk result (Puts (record { channel = channel; values = values.now })
             (ledger_of self.old) (ledger_of self.new)) }
         ensures living { self.new.living ≡ self.old.living }
+        ensures begun { self.new.begun ≡ self.old.begun }
     {
         if !self.lives(channel.receiver) {
             self.links.push(Link::Gone)?;
@@ -215,6 +237,7 @@ impl<'r> Traffic<'r> {
         ensures missing { IfOk result (λ taken. IsFalse taken
             → IsFirst values.now ((ledger_of self.old).rows channel) → ⊥) }
         ensures living { self.new.living ≡ self.old.living }
+        ensures begun { self.new.begun ≡ self.old.begun }
         ensures still { IfOk result (λ taken. IsFalse taken → self.new.sweep ≡ self.old.sweep) }
     {
         let Some(event) = self.rows.take(channel, values) else {

@@ -27,6 +27,7 @@ returns-in-None c =
       all_takes = says.all_takes;
       in_order = says.in_order;
       waiting = says.waiting;
+      looked_up = says.looked_up;
       else_unlinked = says.else_unlinked;
       living = says.living;
       untold = tt;

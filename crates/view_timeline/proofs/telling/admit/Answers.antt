@@ -20,3 +20,19 @@ returns-in_default-clause-living c = λ n.
     let of = c.args.of.now in
     admits-other of.pid n of.parent ((ledger_of c.args.traffic.now).living n)
     (λ null. c.in_default.not-Null (c.parent.ensures ∙ null))
+
+pub returns-in-Null-clause-begun : goal.returns-in-Null-clause-begun
+returns-in-Null-clause-begun c =
+    let of = c.args.of.now in
+    let old = ledger_of c.args.traffic.now in
+    let new = ledger_of c.begin.new.self in
+    on_ok_weaker c.begin.result
+    (λ begun n. admits-null of.pid n of.parent (old.begun n) (new.begun n) c.in-Null.ensures
+    (begun n ∙ ap (λ (number : ℕ). if number == n then true else old.begun n) c.pid.ensures))
+    c.begin.ensures.begun
+
+pub returns-in_default-clause-begun : goal.returns-in_default-clause-begun
+returns-in_default-clause-begun c = λ n.
+    let of = c.args.of.now in
+    admits-other of.pid n of.parent ((ledger_of c.args.traffic.now).begun n)
+    (λ null. c.in_default.not-Null (c.parent.ensures ∙ null))

@@ -24,10 +24,12 @@ loop-number-smaller c =
 
 pub returns-then-made-clause-goes : goal.returns-then-made-clause-goes
 returns-then-made-clause-goes c = λ records going.
-    c.in_ok-made.ensures.goes records (c.loop-number.invariant.goes records going)
+    c.in_ok-wake_early.ensures.goes records
+    (c.in_ok-made.ensures.goes records (c.loop-number.invariant.goes records going))
 
 pub returns-then-made-clause-fewer : goal.returns-then-made-clause-fewer
 returns-then-made-clause-fewer c = λ yes.
     let fewer = c.in_ok-made.ensures.fewer c.if-made.true in
     let same = c.loop-number.invariant.left in
-    omega (arith, fewer, same)
+    let woken = c.in_ok-wake_early.ensures.left in
+    omega (arith, fewer, same, woken)

@@ -1,6 +1,7 @@
 -- A move is made, or it's hindered.
-use Rattle.std.proofs.Common.{arith, refl, set, sym, true≢false}
+use Rattle.std.proofs.Common.{◌∙◌, arith, refl, set, sym, true≢false}
 use Rattle.run_record.specs.Entry.{event_of}
+use Rattle.view_timeline.proofs.EarlyLemmas.{begun-kept, begun-to_begun, early-hinders, early-same}
 use Rattle.view_timeline.proofs.GoesLemmas.{keeps-same}
 use Rattle.view_timeline.proofs.Hindrances.{dead-hinders, left-made, missing-hinders}
 use Rattle.view_timeline.proofs.MoveLemmas.{get-set_other, get-within}
@@ -21,11 +22,35 @@ returns-then-not-begins-clause-unmoved c = λ no. record { moves = refl; cursors
 pub returns-then-not-lives-clause-hindered : goal.returns-then-not-lives-clause-hindered
 returns-then-not-lives-clause-hindered c = λ records keeps no.
     let next = c.args.next in
-    dead-hinders records c.args.self.now keeps (did next.number (event_of next.entry next.values.now))
+    dead-hinders records c.args.self.now keeps (did next.number (event_of next.entry next.values.now)) next.rest.left
     (sym c.if-not-lives.ensures)
 
 pub returns-then-not-lives-clause-unmoved : goal.returns-then-not-lives-clause-unmoved
 returns-then-not-lives-clause-unmoved c = λ no. record { moves = refl; cursors = refl; links = refl }
+
+pub returns-then-early-clause-hindered : goal.returns-then-early-clause-hindered
+returns-then-early-clause-hindered c = λ records keeps no.
+    let next = c.args.next in
+    early-hinders records c.args.self.now keeps (did next.number (event_of next.entry next.values.now)) next.rest.left
+    (sym (c.if-not-begins.ensures next.values.now)) (sym c.in_ok-early.ensures ∙ c.if-early.true)
+
+pub returns-then-early-clause-unmoved : goal.returns-then-early-clause-unmoved
+returns-then-early-clause-unmoved c = λ no. record { moves = refl; cursors = refl; links = refl }
+
+pub note-requires : goal.note-requires
+note-requires c =
+    begun-to_begun (event_of c.args.next.entry c.args.next.values.now) (ledger_of c.args.self.now.traffic)
+    (sym (c.if-not-begins.ensures c.args.next.values.now))
+
+pub act-requires : goal.act-requires
+act-requires c =
+    let next = c.args.next in
+    let old = ledger_of c.args.self.now.traffic in
+    let noted = ledger_of c.note.new.self in
+    early-same noted.begun old.begun
+    (begun-kept (did next.number (event_of next.entry next.values.now)) old noted
+    (sym (c.if-not-begins.ensures next.values.now)) (c.in_ok-noted.ensures.noted c.if-not-noted.false)) next.rest.left
+    ∙ sym c.in_ok-early.ensures ∙ c.if-early.false
 
 pub returns-then-not-noted-clause-keeps : goal.returns-then-not-noted-clause-keeps
 returns-then-not-noted-clause-keeps c = λ records keeps.
@@ -36,7 +61,7 @@ pub returns-then-not-noted-clause-hindered : goal.returns-then-not-noted-clause-
 returns-then-not-noted-clause-hindered c = λ records keeps no.
     let next = c.args.next in
     missing-hinders records c.args.self.now keeps (did next.number (event_of next.entry next.values.now))
-    (c.in_ok-noted.ensures.missing c.if-not-noted.true)
+    next.rest.left (c.in_ok-noted.ensures.missing c.if-not-noted.true)
 
 pub returns-then-not-noted-clause-unmoved : goal.returns-then-not-noted-clause-unmoved
 returns-then-not-noted-clause-unmoved c = λ no.

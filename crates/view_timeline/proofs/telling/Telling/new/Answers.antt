@@ -13,6 +13,7 @@ loop-record-init c = record {
     links = c.new-traffic.ensures.links;
     arrows = c.new-traffic.ensures.arrows;
     living = c.new-traffic.ensures.living;
+    begun = c.new-traffic.ensures.begun;
     rows = c.new-traffic.ensures.rows;
   };
 }
@@ -32,7 +33,7 @@ loop-record-preserved c =
       ledger = fresh-records records i trace new within c.record-item.is
           (fresh-more (take i records) trace (ledger_of c.loop-record.traffic) new c.loop-record.invariant.ledger
           (ap (λ links. links.items) admitted.links) admitted.arrows
-          (λ channel. ap (λ rows. row_of rows.rows channel) admitted.rows) admitted.living);
+          (λ channel. ap (λ rows. row_of rows.rows channel) admitted.rows) admitted.living admitted.begun);
     }
 
 pub returns-clause-latest : goal.returns-clause-latest
@@ -42,6 +43,7 @@ returns-clause-latest c = latest-fresh c.args.records.now
       cursors = c.loop-record.cursors;
       traffic = c.loop-record.traffic;
       latest = c.new-latest.result;
+      early = c.new-early.result;
     })
     c.new-moves.ensures.items c.new-latest.ensures
 
@@ -55,6 +57,7 @@ returns-clause-keeps c =
       cursors = c.loop-record.cursors;
       traffic = c.loop-record.traffic;
       latest = c.new-latest.result;
+      early = c.new-early.result;
     })
     c.new-moves.ensures.items
     (c.loop-record.invariant.cursors ∙ ap (map fresh) all)

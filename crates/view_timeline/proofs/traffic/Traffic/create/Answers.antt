@@ -21,3 +21,8 @@ pub returns-clause-living : goal.returns-clause-living
 returns-clause-living c =
     on-ok-always c.pass.result _
     (λ n. living-same _ _ c.pass.ensures.living n ∙ c.in_ok-begin.ensures.living n)
+
+pub returns-clause-begun : goal.returns-clause-begun
+returns-clause-begun c =
+    on-ok-always c.pass.result _
+    (λ n. living-same _ _ c.pass.ensures.begun n ∙ c.in_ok-begin.ensures.begun n)

@@ -11,6 +11,7 @@ returns-in_default-clause-not_taken c = λ _. record {
   links = refl;
   arrows = refl;
   living = λ number. refl;
+  begun = λ number. refl;
   rows = rows-same (row_of c.args.self.now.rows.rows) (row_of c.take.new.self.rows) c.args.channel
       c.in_default.ensures.none c.take.ensures.others;
 }
