@@ -152,7 +152,14 @@ end_json system report =
     object (codes "end") (decimal report.end ++ key (codes "whole") ++ truth_json report.whole
     ++ key (codes "instances") ++ instances_json system report.records.items)
 
--- a line for each transition in the order of the timeline, and one for the end
-abbrev pub json_text : SystemValue → Report → Timeline → List ℕ
-json_text system report told =
-    flat_map (step_json system told) (all_steps report.records.items told) ++ line (end_json system report)
+-- `{"stuck":3}`, if this instance can't go on in the timeline
+abbrev pub stuck_json : Option ℕ → List ℕ
+stuck_json None = []
+stuck_json (Some number) = line (object (codes "stuck") (decimal number))
+
+-- a line for each transition in the order of the timeline, one for the end of the run, and one more if the order ends
+-- before that
+abbrev pub json_text : SystemValue → Report → Timeline → Option ℕ → List ℕ
+json_text system report told stuck =
+    flat_map (step_json system told) (all_steps report.records.items told)
+    ++ (line (end_json system report) ++ stuck_json stuck)

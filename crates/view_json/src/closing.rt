@@ -4,7 +4,7 @@ ghost use Rattle.std.specs.Prelude.{◌≡◌, ◌++◌, [], codes, OnOk};
 ghost use Rattle.std.specs.String.{string_bytes};
 ghost use Rattle.run_record.specs.Entry.{event_of};
 ghost use Rattle.sdl_report.specs.ReportText.{line};
-ghost use Rattle.view_json.specs.JsonText.{closing_json, end_json, instance_json, instances_json, last_event, whose_json};
+ghost use Rattle.view_json.specs.JsonText.{closing_json, end_json, instance_json, instances_json, last_event, stuck_json, whose_json};
 ghost use Rattle.view_json.specs.JsonValue.{key, pid_json, quoted};
 
 use crate::pieces::{push_key, push_pid, push_text, push_truth};
@@ -25,6 +25,16 @@ pub fn push_end(text: &mut String, report: &Report, system: &System) -> Result<(
     push_key(text, "instances")?;
     push_instances(text, &report.records, system)?;
     text.push_str("}\n")
+}
+
+/// Appends the line of the instance that is stuck, if one is.
+pub fn push_stuck(text: &mut String, stuck: Option<u32>) -> Result<(), AllocError>
+    ensures { OnOk result (string_bytes text.new ≡ string_bytes text.old ++ stuck_json stuck) }
+{
+    match stuck {
+        None => Ok(()),
+        Some(number) => writeln!(text, "{{\"stuck\":{number}}}"),
+    }
 }
 
 /// Appends the instances in their order.

@@ -12,7 +12,7 @@ ghost use Rattle.view_steps.specs.Step.{step_value};
 ghost use Rattle.view_timeline.specs.Moves.{IsMove};
 ghost use Rattle.view_timeline.specs.Timeline.{AreBegun};
 
-use crate::closing::push_end;
+use crate::closing::{push_end, push_stuck};
 use crate::deed::push_deed;
 use crate::opening::push_opening;
 use run_record::{Entry, Report};
@@ -23,47 +23,53 @@ use std::io::Write;
 use view_steps::{Step, TimelineText, write_timeline};
 use view_timeline::Timeline;
 
-/// Writes a timeline of a report as JSON Lines: a line for each transition in its order, and one for the end.
+/// Writes a timeline of a report as JSON Lines: a line for each transition in its order, one for the end, and one more if
+/// an instance is stuck in it.
 pub fn write_json<W: Write>(
     alloc: Global,
     report: &Report,
     told: &Timeline,
+    stuck: Option<u32>,
     system: &System,
     writer: &mut W,
 ) -> Result<(), WriteFault>
     requires transitions { AllByRecursion (IsMove report.now.records.items) told.now.moves.items }
     requires begun { AreBegun report.now.records.items told.now }
     ensures ok { OnOk result (Appends (W.contents writer.old) (W.contents writer.new)
-        (json_text system.now report.now told.now)) }
+        (json_text system.now report.now told.now stuck)) }
     ensures err { OnErr result (BreaksOff (W.contents writer.old) (W.contents writer.new)
-        (json_text system.now report.now told.now)) }
+        (json_text system.now report.now told.now stuck)) }
 {
     let json = Json {
         report,
         told,
+        stuck,
         system,
     };
     write_timeline(alloc, report, told, &json, writer)
 }
 
-/// A timeline of a report as JSON.
+/// A timeline of a report as JSON, and the instance that is stuck in it.
 #[derive(Clone, Copy)]
 struct Json<'t> {
     report: &'t Report,
     told: &'t Timeline,
+    stuck: Option<u32>,
     system: &'t System,
 }
 
 impl TimelineText for Json<'_> {
+    ghost use Rattle.std.specs.Prelude.{◌++◌};
     ghost use Rattle.sdl_report.specs.ReportText.{line};
-    ghost use Rattle.view_json.specs.JsonText.{end_json, step_json};
-    ghost use Rattle.view_steps.proofs.Writing.{line-alone};
+    ghost use Rattle.view_json.specs.JsonText.{end_json, step_json, stuck_json};
+    ghost use Rattle.view_steps.proofs.Writing.{line-some};
 
     ghost heading_text = { λ json. [] };
 
     ghost step_text = { λ json. step_json json.system.now json.told.now };
 
-    ghost closing_text = { λ json. line (end_json json.system.now json.report.now) };
+    ghost closing_text = { λ json. line (end_json json.system.now json.report.now)
+        ++ stuck_json json.stuck };
 
     fn push_heading(&self, _text: &mut String) -> Result<(), AllocError> {
         Ok(())
@@ -78,12 +84,13 @@ impl TimelineText for Json<'_> {
         push_end_of_line(text, step.closes)
     }
 
-    /// Appends the line of the end.
+    /// Appends the line of the end, and where the order ends.
     fn push_closing(&self, text: &mut String) -> Result<(), AllocError> {
-        push_end(text, self.report, self.system)
+        push_end(text, self.report, self.system)?;
+        push_stuck(text, self.stuck)
     }
 
-    ghost ends = { λ json. line-alone (end_json json.system.now json.report.now) };
+    ghost ends = { λ json. line-some (end_json json.system.now json.report.now) (stuck_json json.stuck) };
 }
 
 /// Whether a record closes with the entry.

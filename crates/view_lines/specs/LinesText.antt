@@ -89,11 +89,17 @@ script_text sent taken =
 
 -- ---- the text
 
--- the end of the run, and what of the script was heard
-abbrev pub closing_text : Report → ℕ → List ℕ
-closing_text report sent = line (end_text report) ++ script_text sent (heard report.records.items)
+-- `order: not known from #3 on`, if this instance can't go on in the timeline
+abbrev pub order_text : Option ℕ → List ℕ
+order_text None = []
+order_text (Some number) = line (codes "order: not known from #" ++ decimal number ++ codes " on")
 
--- A line for each event in the order of the timeline, the end of the run, and what of the script was heard.
-abbrev pub lines_text : SystemValue → Report → Timeline → ℕ → List ℕ
-lines_text system report told sent =
-    flat_map (step_line system told) (all_steps report.records.items told) ++ closing_text report sent
+-- the end of the run, what of the script was heard, and where the order ends, if that is before the end of the run
+abbrev pub closing_text : Report → Option ℕ → ℕ → List ℕ
+closing_text report stuck sent =
+    line (end_text report) ++ (script_text sent (heard report.records.items) ++ order_text stuck)
+
+-- A line for each event in the order of the timeline, then how it closes.
+abbrev pub lines_text : SystemValue → Report → Timeline → Option ℕ → ℕ → List ℕ
+lines_text system report told stuck sent =
+    flat_map (step_line system told) (all_steps report.records.items told) ++ closing_text report stuck sent

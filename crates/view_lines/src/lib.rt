@@ -3,6 +3,7 @@
 #![tactic(auto)]
 
 mod lines;
+mod order;
 mod script;
 mod step_line;
 

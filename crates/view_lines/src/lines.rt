@@ -8,6 +8,7 @@ ghost use Rattle.view_lines.specs.LinesText.{lines_text};
 ghost use Rattle.view_timeline.specs.Moves.{IsMove};
 ghost use Rattle.view_timeline.specs.Timeline.{AreBegun};
 
+use crate::order::push_order;
 use crate::script::push_script;
 use crate::step_line::push_step_line;
 use run_record::Report;
@@ -18,12 +19,14 @@ use std::io::Write;
 use view_steps::{Step, TimelineText, write_timeline};
 use view_timeline::Timeline;
 
-/// Writes a timeline of a report: a line for each event in its order, `end 12 whole` or `end 12 cut`, and
-/// `script: 3 signals, 1 taken` if not all `sent` signals of the script were taken. Each line ends with LF.
+/// Writes a timeline of a report: a line for each event in its order, `end 12 whole` or `end 12 cut`,
+/// `script: 3 signals, 1 taken` if not all `sent` signals of the script were taken, and `order: not known from #7 on` if
+/// instance 7 is stuck in it. Each line ends with LF.
 pub fn write_lines<W: Write>(
     alloc: Global,
     report: &Report,
     told: &Timeline,
+    stuck: Option<u32>,
     sent: usize,
     system: &System,
     writer: &mut W,
@@ -31,38 +34,41 @@ pub fn write_lines<W: Write>(
     requires transitions { AllByRecursion (IsMove report.now.records.items) told.now.moves.items }
     requires begun { AreBegun report.now.records.items told.now }
     ensures ok { OnOk result (Appends (W.contents writer.old) (W.contents writer.new)
-        (lines_text system.now report.now told.now sent)) }
+        (lines_text system.now report.now told.now stuck sent)) }
     ensures err { OnErr result (BreaksOff (W.contents writer.old) (W.contents writer.new)
-        (lines_text system.now report.now told.now sent)) }
+        (lines_text system.now report.now told.now stuck sent)) }
 {
     let lines = Lines {
         report,
         told,
+        stuck,
         sent,
         system,
     };
     write_timeline(alloc, report, told, &lines, writer)
 }
 
-/// A timeline of a report as lines. So many signals of its script were sent.
+/// A timeline of a report as lines: the instance that is stuck in it, and how many signals of its script were sent.
 #[derive(Clone, Copy)]
 struct Lines<'t> {
     report: &'t Report,
     told: &'t Timeline,
+    stuck: Option<u32>,
     sent: usize,
     system: &'t System,
 }
 
 impl TimelineText for Lines<'_> {
+    ghost use Rattle.std.specs.Prelude.{◌++◌};
     ghost use Rattle.sdl_report.specs.ReportText.{end_text};
-    ghost use Rattle.view_lines.specs.LinesText.{closing_text, heard, script_text, step_line};
+    ghost use Rattle.view_lines.specs.LinesText.{closing_text, heard, order_text, script_text, step_line};
     ghost use Rattle.view_steps.proofs.Writing.{line-some};
 
     ghost heading_text = { λ lines. [] };
 
     ghost step_text = { λ lines. step_line lines.system.now lines.told.now };
 
-    ghost closing_text = { λ lines. closing_text lines.report.now lines.sent };
+    ghost closing_text = { λ lines. closing_text lines.report.now lines.stuck lines.sent };
 
     fn push_heading(&self, _text: &mut String) -> Result<(), AllocError> {
         Ok(())
@@ -73,12 +79,13 @@ impl TimelineText for Lines<'_> {
         push_step_line(text, step, self.told, self.system)
     }
 
-    /// Appends the end of the run, and what of the script was heard.
+    /// Appends the end of the run, what of the script was heard, and where the order ends.
     fn push_closing(&self, text: &mut String) -> Result<(), AllocError> {
         push_end(text, self.report)?;
-        push_script(text, self.report, self.sent)
+        push_script(text, self.report, self.sent)?;
+        push_order(text, self.stuck)
     }
 
     ghost ends = { λ lines. line-some (end_text lines.report.now)
-        (script_text lines.sent (heard lines.report.now.records.items)) };
+        (script_text lines.sent (heard lines.report.now.records.items) ++ order_text lines.stuck) };
 }

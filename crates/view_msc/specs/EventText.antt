@@ -1,5 +1,5 @@
 -- Events as text of Z.120.
-use Rattle.std.specs.Prelude.{ℕ, ◌+◌, ◌-◌, List, [], ◌++◌, Option, Some, None, codes, slice_get, if◌then◌else◌}
+use Rattle.std.specs.Prelude.{ℕ, ◌+◌, ◌==◌, ◌||◌, Bool, false, List, [], ◌∷◌, ◌++◌, Option, Some, None, codes, if◌then◌else◌}
 use Rattle.std.specs.Option.{option_map_or}
 use Rattle.std.specs.Fmt.{decimal}
 use Rattle.port_model.specs.declared.got.Got as got
@@ -18,6 +18,7 @@ use Rattle.run_record.specs.Failure.{failure_text}
 use Rattle.run_record.specs.declared.failure.Failure.{Failure}
 use Rattle.run_record.specs.Record.{RecordValue}
 use Rattle.sdl_report.specs.Name.{signal_name, process_name, state_name, variable_name}
+use Rattle.sdl_report.specs.Number.{record_of}
 use Rattle.view_msc.specs.Keyword.{is_keyword}
 use Rattle.view_steps.specs.Fate.{fate_of, fate_word}
 use Rattle.view_steps.specs.declared.fate.Fate.{Fate}
@@ -27,18 +28,28 @@ use Rattle.view_timeline.specs.declared.moves.Timeline.{Timeline}
 
 -- ---- names
 
--- a name as a word of Z.120: one that is a keyword there gets a `_` after it
+-- whether a name ends with `_`
+abbrev pub ends_with_mark : List ℕ → Bool
+ends_with_mark [] = false
+ends_with_mark (byte ∷ []) = byte == 95
+ends_with_mark (byte ∷ next ∷ rest) = ends_with_mark (next ∷ rest)
+
+-- a keyword of Z.120, and what may be one with a `_` after it
+abbrev pub gets_mark : List ℕ → Bool
+gets_mark name = is_keyword name || ends_with_mark name
+
+-- a name as a word of Z.120: such a one gets a `_` after it
 unfoldable pub word : List ℕ → List ℕ
-word name = if is_keyword name then name ++ codes "_" else name
+word name = if gets_mark name then name ++ codes "_" else name
 
 -- `Initiator_1`: an instance of a process
 abbrev pub instance_name : SystemValue → ProcessId → ℕ → List ℕ
 instance_name system process number = process_name system process ++ codes "_" ++ decimal number
 
--- the instance of this number: records are in the order of their numbers, from 1 on
+-- the instance of this number, by its record if it has one
 abbrev pub party_name : SystemValue → List RecordValue → ℕ → List ℕ
 party_name system records number =
-    option_map_or (λ (trace : RecordValue). instance_name system trace.process number) (slice_get records (number - 1))
+    option_map_or (λ (trace : RecordValue). instance_name system trace.process number) (record_of number records)
     (codes "instance_" ++ decimal number)
 
 -- who sent a signal

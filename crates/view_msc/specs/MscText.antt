@@ -1,5 +1,6 @@
 -- A timeline as text of Z.120: message sequence charts, in the event-oriented form.
-use Rattle.std.specs.Prelude.{ℕ, ◌==◌, List, [], ◌∷◌, ◌++◌, codes, if◌then◌else◌}
+use Rattle.std.specs.Prelude.{ℕ, ◌==◌, List, [], ◌∷◌, ◌++◌, Option, None, Some, codes, if◌then◌else◌}
+use Rattle.std.specs.Fmt.{decimal}
 use Rattle.std.specs.List.{flat_map}
 use Rattle.sdl_system.specs.System.{SystemValue}
 use Rattle.run_record.specs.Record.{RecordValue}
@@ -42,10 +43,17 @@ abbrev pub chart_text : List ℕ → SystemValue → Timeline → List RecordVal
 chart_text name system told records =
     heading_text name system records ++ flat_map (step_text system records told) (all_steps records told)
 
--- the end of the chart, with the end of the run as a comment
-abbrev pub last_text : Report → List ℕ
-last_text report = 10 ∷ codes "endmsc; /* " ++ end_text report ++ codes " */" ++ 10 ∷ []
+-- where the order ends, if an instance can't go on in the timeline
+abbrev pub order_text : Option ℕ → List ℕ
+order_text None = []
+order_text (Some number) = codes "; order not known from #" ++ decimal number ++ codes " on"
+
+-- the end of the chart, with a comment: the end of the run, and where the order ends, if that is before it
+abbrev pub last_text : Report → Option ℕ → List ℕ
+last_text report stuck =
+    10 ∷ codes "endmsc; /* " ++ end_text report ++ order_text stuck ++ codes " */" ++ 10 ∷ []
 
 -- The chart of this name, and its end.
-abbrev pub msc_text : List ℕ → SystemValue → Timeline → Report → List ℕ
-msc_text name system told report = chart_text name system told report.records.items ++ last_text report
+abbrev pub msc_text : List ℕ → SystemValue → Timeline → Option ℕ → Report → List ℕ
+msc_text name system told stuck report =
+    chart_text name system told report.records.items ++ last_text report stuck

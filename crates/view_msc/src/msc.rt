@@ -6,7 +6,7 @@ ghost use Rattle.std.specs.Io.KnownBytes.{Appends};
 ghost use Rattle.std.specs.String.{string_bytes};
 ghost use Rattle.sdl_report.specs.Gathered.{BreaksOff};
 ghost use Rattle.sdl_report.specs.ReportText.{end_text};
-ghost use Rattle.view_msc.specs.MscText.{declared_text, instances_text, line_begin, msc_text, next_text};
+ghost use Rattle.view_msc.specs.MscText.{declared_text, instances_text, line_begin, msc_text, next_text, order_text};
 ghost use Rattle.view_steps.specs.Step.{step_value};
 ghost use Rattle.view_timeline.specs.Moves.{IsMove};
 ghost use Rattle.view_timeline.specs.Timeline.{AreBegun};
@@ -22,24 +22,26 @@ use view_steps::{Step, TimelineText, write_timeline};
 use view_timeline::Timeline;
 
 /// Writes a timeline of a report as text of Z.120, in its event-oriented form: the chart has this name, then come the
-/// instances, a line for each move, and the end. A name that is a keyword of Z.120 has a `_` after it.
+/// instances, a line for each move, and the end, which says if an instance is stuck. A name that is a keyword of Z.120 has a `_` after it.
 pub fn write_msc<W: Write>(
     alloc: Global,
     name: &str,
     system: &System,
     told: &Timeline,
+    stuck: Option<u32>,
     report: &Report,
     writer: &mut W,
 ) -> Result<(), WriteFault>
     requires transitions { AllByRecursion (IsMove report.now.records.items) told.now.moves.items }
     requires begun { AreBegun report.now.records.items told.now }
     ensures ok { OnOk result (Appends (W.contents writer.old) (W.contents writer.new)
-        (msc_text name.now system.now told.now report.now)) }
+        (msc_text name.now system.now told.now stuck report.now)) }
     ensures err { OnErr result (BreaksOff (W.contents writer.old) (W.contents writer.new)
-        (msc_text name.now system.now told.now report.now)) }
+        (msc_text name.now system.now told.now stuck report.now)) }
 {
     let msc = Msc {
         name,
+        stuck,
         cast: Cast {
             system,
             report,
@@ -49,10 +51,11 @@ pub fn write_msc<W: Write>(
     write_timeline(alloc, report, told, &msc, writer)
 }
 
-/// A timeline as text of Z.120, with the name of its chart.
+/// A timeline as text of Z.120, with the name of its chart, and the instance that is stuck.
 #[derive(Clone, Copy)]
 struct Msc<'t> {
     name: &'t str,
+    stuck: Option<u32>,
     cast: Cast<'t>,
 }
 
@@ -64,7 +67,7 @@ impl TimelineText for Msc<'_> {
 
     ghost step_text = { λ msc. step_text msc.cast.system.now msc.cast.report.now.records.items msc.cast.told.now };
 
-    ghost closing_text = { λ msc. last_text msc.cast.report.now };
+    ghost closing_text = { λ msc. last_text msc.cast.report.now msc.stuck };
 
     /// Appends the name of the chart, and the instances.
     fn push_heading(&self, text: &mut String) -> Result<(), AllocError> {
@@ -89,10 +92,11 @@ impl TimelineText for Msc<'_> {
         text.push(';')
     }
 
-    /// Appends the end of the chart, with the end of the run as a comment.
+    /// Appends the end of the chart, with a comment: the end of the run, and where the order ends.
     fn push_closing(&self, text: &mut String) -> Result<(), AllocError> {
         text.push_str("\nendmsc; /* ")?;
         push_end_text(text, self.cast.report)?;
+        push_order(text, self.stuck)?;
         text.push_str(" */")?;
         text.push_str("\n")
     }
@@ -147,6 +151,16 @@ fn push_line_begin(text: &mut String, step: &Step<'_>, system: &System) -> Resul
     text.push('\n')?;
     push_instance_name(text, system, record.process(), record.pid())?;
     text.push(':')
+}
+
+/// Appends where the order ends, if an instance is stuck.
+fn push_order(text: &mut String, stuck: Option<u32>) -> Result<(), AllocError>
+    ensures { OnOk result (string_bytes text.new ≡ string_bytes text.old ++ order_text stuck) }
+{
+    match stuck {
+        None => Ok(()),
+        Some(number) => write!(text, "; order not known from #{number} on"),
+    }
 }
 
 /// Appends when the run ends, and how.

@@ -1,13 +1,13 @@
 //! The names of instances, messages and other things in Z.120.
 
-ghost use Rattle.std.specs.Prelude.{◌≡◌, ◌++◌, OnOk};
+ghost use Rattle.std.specs.Prelude.{◌≡◌, ◌++◌, ℕ, List, OnOk};
 ghost use Rattle.std.specs.String.{string_bytes};
-ghost use Rattle.view_msc.specs.EventText.{instance_name, message_name, message_text, party_name, sender_name, word};
+ghost use Rattle.view_msc.specs.EventText.{ends_with_mark, gets_mark, instance_name, message_name, message_text, party_name, sender_name, word};
 
 use crate::keyword::is_keyword;
 use port_values::{Pid, SignalId, Value};
 use run_record::Report;
-use sdl_report::{process_name, push_number, push_values, signal_name};
+use sdl_report::{process_name, push_number, push_values, record_of, signal_name};
 use sdl_system::{ProcessId, System};
 use std::alloc::AllocError;
 use view_timeline::{ArrowId, Link, Timeline};
@@ -21,15 +21,33 @@ pub struct Cast<'r> {
     pub told: &'r Timeline,
 }
 
-/// Appends a name: with a `_` after it, if it is a keyword of Z.120.
+/// Appends a name as a word of Z.120: with a `_` after it, if it is a keyword there or ends with one.
 pub fn push_word(text: &mut String, name: &str) -> Result<(), AllocError>
     ensures { OnOk result (string_bytes text.new ≡ string_bytes text.old ++ word name.now) }
 {
     text.push_str(name)?;
-    if is_keyword(name) {
+    if gets_mark(name) {
         text.push('_')?;
     }
     Ok(())
+}
+
+/// Whether a name gets a `_` after it: a keyword, and what may be one with such a mark. So no two names become one.
+fn gets_mark(name: &str) -> bool
+    ensures mark { result ≡ gets_mark name.now }
+    ensures apart { (other : List ℕ) → word other ≡ word name.now → other ≡ name.now }
+{
+    is_keyword(name) || ends_with_mark(name.as_bytes())
+}
+
+#[tactic(auto, using(crate::proofs::Words::last_says))]
+fn ends_with_mark(name: &[u8]) -> bool
+    ensures { result ≡ ends_with_mark name.now }
+{
+    match name.split_last() {
+        Some((last, _)) => *last == b'_',
+        None => false,
+    }
 }
 
 /// Appends `Initiator_1`, the name of an instance.
@@ -47,12 +65,12 @@ pub fn push_instance_name(
     push_number(text, number as u64)
 }
 
-/// Appends the name of the instance of this number: records are in the order of their numbers, from 1 on.
+/// Appends the name of the instance of this number.
 pub fn push_party_name(text: &mut String, number: u32, cast: &Cast<'_>) -> Result<(), AllocError>
     ensures { OnOk result (string_bytes text.new ≡ string_bytes text.old
         ++ party_name cast.now.system.now cast.now.report.now.records.items number) }
 {
-    match cast.report.records.get(number.saturating_sub(1) as usize) {
+    match record_of(&cast.report.records, number) {
         Some(record) => push_instance_name(text, cast.system, record.process(), number),
         None => {
             text.push_str("instance_")?;

@@ -1,7 +1,7 @@
 use Rattle.std.proofs.Common.{◌++◌, ◌∙◌, ap, arith, codes, sym}
 use Rattle.std.specs.String.{string_bytes}
 use Rattle.view_msc.proofs.Pushed.{grown}
-use Rattle.view_msc.proofs.Words.{word-keyword, word-other}
+use Rattle.view_msc.proofs.Words.{word-marked, word-other}
 use Rattle.view_msc.proofs.names.push_word.Goals as goal
 
 pub returns-in_ok-push : goal.returns-in_ok-push
@@ -11,10 +11,10 @@ returns-in_ok-push c =
     grown text name (codes "_") c.in_ok-push_str.ensures.bytes
     (c.in_ok-push.ensures.bytes
     ∙ ap (λ l. string_bytes c.push_str.new.self ++ l) (c.in_ok-push.ensures.ascii (omega arith)))
-    ∙ ap (λ l. text ++ l) (sym (word-keyword name (sym c.is_keyword.ensures ∙ c.if-is_keyword.true)))
+    ∙ ap (λ l. text ++ l) (sym (word-marked name (sym c.gets_mark.ensures.mark ∙ c.if-gets_mark.true)))
 
-pub returns-else-is_keyword : goal.returns-else-is_keyword
-returns-else-is_keyword c =
+pub returns-else-gets_mark : goal.returns-else-gets_mark
+returns-else-gets_mark c =
     c.in_ok-push_str.ensures.bytes
     ∙ ap (λ l. string_bytes c.args.text.now ++ l)
-    (sym (word-other c.args.name.now (sym c.is_keyword.ensures ∙ c.if-is_keyword.false)))
+    (sym (word-other c.args.name.now (sym c.gets_mark.ensures.mark ∙ c.if-gets_mark.false)))
