@@ -111,6 +111,7 @@ impl<'r> Layout<'r> {
         } else {
             self.new_row(column, 1)
         };
+        self.sign = Some(row);
         self.chart.marks.push(Mark {
             sign: Sign::State,
             spot: Spot { column, row },
@@ -142,6 +143,7 @@ impl<'r> Layout<'r> {
         label: String,
     ) -> Result<(), AllocError> {
         let row = self.new_row(column, 1);
+        self.sign = Some(row);
         let told = self.told(record, sign, label.as_str())?;
         self.chart.marks.push(Mark {
             sign,

@@ -75,6 +75,8 @@ pub struct Bar {
     pub column: ColumnId,
     pub first: Row,
     pub last: Row,
+    /// Whether it is behind the sign of its row: it exchanges nothing, and is to be seen above and below that.
+    pub is_behind_sign: bool,
     /// Its lines in the trace.
     pub told: String,
 }

@@ -4,6 +4,7 @@ use crate::chart::ColumnId;
 use crate::layout::Subject;
 use crate::passage::{MoveWalk, Passage};
 use crate::selection::Selection;
+use indexmap::IndexMap;
 use run_record::{Record, Report};
 use sdl_report::process_name;
 use std::alloc::{AllocError, Global};
@@ -16,7 +17,8 @@ pub const MOST_COLUMNS: u32 = 100;
 /// wanted.
 #[derive(Drop)]
 pub struct Plan {
-    columns: Vec<Option<ColumnId>>,
+    /// By the numbers of their instances.
+    columns: IndexMap<u32, ColumnId>,
     /// How many have one.
     pub count: u32,
     /// How many more would have one if there were no limit.
@@ -33,41 +35,33 @@ impl Plan {
         let report = subject.report;
         let acting = acting(alloc, report, subject.timeline, selection)?;
         let mut plan = Plan {
-            columns: Vec::with_capacity(alloc, report.records.len())?,
+            columns: IndexMap::new(alloc),
             count: 0,
             more: 0,
         };
         for (record, acts) in report.records.iter().zip(acting.iter()) {
             let process = process_name(subject.system, record.process());
             if *acts && selection.has_instance(record.pid(), process) {
-                plan.give()?;
-            } else {
-                plan.columns.push(None)?;
+                plan.give(record.pid())?;
             }
         }
         Ok(plan)
     }
 
-    /// The next record has a column, if there is room for one more.
-    fn give(&mut self) -> Result<(), AllocError> {
+    /// The instance of this number has a column, if there is room for one more.
+    fn give(&mut self, number: u32) -> Result<(), AllocError> {
         if self.count < MOST_COLUMNS {
             self.count += 1;
-            self.columns.push(Some(ColumnId(self.count)))?;
+            self.columns.insert(number, ColumnId(self.count))?;
         } else {
             self.more = self.more.saturating_add(1);
-            self.columns.push(None)?;
         }
         Ok(())
     }
 
-    /// The column of the record at this place, if it has one.
-    pub fn column(&self, place: usize) -> Option<ColumnId> {
-        self.columns.get(place).copied().flatten()
-    }
-
-    /// The column of the instance of this number, if it has one: records are by ascending number, from 1 on.
+    /// The column of the instance of this number, if it has one.
     pub fn column_of(&self, number: u32) -> Option<ColumnId> {
-        self.column(number.checked_sub(1)? as usize)
+        self.columns.get(&number).copied()
     }
 
     /// The column of a record.

@@ -28,7 +28,7 @@ pub struct Progress {
     pub left_out: bool,
 }
 
-/// The rows of a transition.
+/// Rows of a transition, from the first to the last.
 #[derive(Clone, Copy)]
 pub struct Span {
     pub first: Row,
@@ -55,8 +55,10 @@ pub struct Layout<'r> {
     pub sent: IndexMap<u32, usize>,
     /// The row that starts share, while nothing else comes.
     pub starts: Option<Row>,
-    /// The rows of the transition that is drawn.
+    /// The rows in which the transition that is drawn exchanges something.
     pub span: Option<Span>,
+    /// The row of the state that it enters, or of its end.
+    pub sign: Option<Row>,
     pub drawn: u32,
     pub left_out: u32,
 }
@@ -82,6 +84,7 @@ impl<'r> Layout<'r> {
             sent: IndexMap::new(alloc),
             starts: None,
             span: None,
+            sign: None,
             drawn: 0,
             left_out: 0,
         })
@@ -137,6 +140,7 @@ impl<'r> Layout<'r> {
         at: Ticks,
     ) -> Result<(), AllocError> {
         self.span = None;
+        self.sign = None;
         let mut rest = passage.values;
         for (place, entry) in passage.entries.iter().enumerate() {
             let (own, more) = rest.split_at(entry.count().min(rest.len()));
@@ -144,21 +148,33 @@ impl<'r> Layout<'r> {
             let link = passage.links.get(place).copied().unwrap_or(Link::Plain);
             self.event(column, passage, entry, own, link, at)?;
         }
-        if let Some(Span { first, last }) = self.span {
-            let told = lines_of(
-                self.alloc,
-                self.system,
-                passage.record,
-                passage.entries,
-                passage.values,
-            )?;
-            self.chart.bars.push(Bar {
-                column,
-                first,
-                last,
-                told,
-            })?;
-        }
+        self.bar(column, passage)
+    }
+
+    /// Draws the bar of the transition that is drawn: where it exchanges something, else behind its state or its end.
+    fn bar(&mut self, column: ColumnId, passage: &Passage) -> Result<(), AllocError> {
+        let told = lines_of(
+            self.alloc,
+            self.system,
+            passage.record,
+            passage.entries,
+            passage.values,
+        )?;
+        let (first, last, is_behind_sign) = match (self.span, self.sign) {
+            (Some(Span { first, last }), _) => (first, last, false),
+            (None, Some(row)) => (row, row, true),
+            (None, None) => {
+                let row = self.new_row(column, 1);
+                (row, row, false)
+            }
+        };
+        self.chart.bars.push(Bar {
+            column,
+            first,
+            last,
+            is_behind_sign,
+            told,
+        })?;
         Ok(())
     }
 
@@ -258,10 +274,17 @@ fn push_more(text: &mut String, transitions: u32, instances: u32) -> Result<(), 
     if transitions == 0 && instances == 0 {
         return Ok(());
     }
-    write!(
-        text,
-        "; not drawn: {transitions} transitions and {instances} instances more; --only, --from and --until choose"
-    )
+    text.push_str("; not drawn: ")?;
+    push_count(text, transitions, "transition")?;
+    text.push_str(" and ")?;
+    push_count(text, instances, "instance")?;
+    text.push_str(" more; --only, --from and --until choose")
+}
+
+/// Appends `1 transition` or `2 transitions`.
+fn push_count(text: &mut String, count: u32, noun: &str) -> Result<(), AllocError> {
+    let ending = if count == 1 { "" } else { "s" };
+    write!(text, "{count} {noun}{ending}")
 }
 
 /// So many columns of which nothing is drawn.

@@ -7,7 +7,7 @@ ghost use Rattle.view_chart.specs.Words.{instance_words, number_words, target_wo
 use crate::chart::Tip;
 use port_values::{SignalId, Value};
 use run_record::{Entry, Record, Report};
-use sdl_report::{process_name, push_event, push_signal};
+use sdl_report::{process_name, push_event, push_signal, record_of};
 use sdl_system::{System, Target};
 use std::alloc::{AllocError, Global};
 
@@ -94,7 +94,7 @@ pub fn push_target(
     }
 }
 
-/// Appends the instance of this number: records are by ascending number, from 1 on.
+/// Appends the instance of this number.
 pub fn push_number_of(
     text: &mut String,
     system: &System,
@@ -104,10 +104,9 @@ pub fn push_number_of(
     ensures { OnOk result (string_bytes text.new ≡ string_bytes text.old
         ++ number_words system.now report.now.records.items number) }
 {
-    let place = number.saturating_sub(1) as usize;
-    match report.records.get(place) {
-        Some(record) if record.pid() == number => push_instance(text, system, record),
-        _ => write!(text, "#{number}"),
+    match record_of(&report.records, number) {
+        Some(record) => push_instance(text, system, record),
+        None => write!(text, "#{number}"),
     }
 }
 

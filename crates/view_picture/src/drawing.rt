@@ -6,7 +6,7 @@ use std::alloc::{AllocError, Global};
 use view_chart::{Chart, Column, ColumnId, Ending, Head, Row};
 
 /// From one row to the next.
-const ROW: u32 = 26;
+pub const ROW: u32 = 26;
 
 /// Half of the width of a bar.
 pub const BAR: u32 = 5;

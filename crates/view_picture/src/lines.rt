@@ -1,6 +1,6 @@
 //! What is drawn under all else: the lines of times and columns, and the bars of transitions.
 
-use crate::drawing::{BAR, Drawing};
+use crate::drawing::{BAR, Drawing, ROW};
 use crate::pixels::Pixels;
 use std::alloc::AllocError;
 use view_chart::{Bar, Column, ColumnId, Ending, Head, TimeLine};
@@ -94,9 +94,10 @@ pub fn push_bars(text: &mut String, drawing: &Drawing) -> Result<(), AllocError>
 
 fn push_bar(text: &mut String, drawing: &Drawing, bar: &Bar) -> Result<(), AllocError> {
     let left = drawing.x(bar.column).minus(BAR).0;
-    let top = drawing.y(bar.first).minus(4);
+    let half = if bar.is_behind_sign { ROW / 2 } else { 4 };
+    let top = drawing.y(bar.first).minus(half);
     let y = top.0;
-    let height = drawing.y(bar.last).plus(4).minus(y).0;
+    let height = drawing.y(bar.last).plus(half).minus(y).0;
     let told = &bar.told;
     writeln!(
         text,
