@@ -134,23 +134,23 @@ awaited_text system (awaited.Signal urgency signal) =
 awaited_text system awaited.Rest = codes "input *"
 awaited_text system (awaited.Continuous number) = codes "provided " ++ decimal number
 
+-- the ways from a place are the states that wait there
+abbrev pub stimulus_kind : StimulusGoal → Kind
+stimulus_kind goal = kind.Stimulus (record { place = goal.place; number = goal.state.0 })
+
 abbrev pub stimulus_row : SystemValue → List (Point × ℕ) → ProcessId → List (Bor Name) → StimulusGoal → Row
 stimulus_row system counts process states goal =
-    row_at kind.Stimulus goal.place (in_text (name_text (slice_get states goal.state.0)))
+    row_at (stimulus_kind goal) goal.place (in_text (name_text (slice_get states goal.state.0)))
     (awaited_text system goal.awaited) (awaited_times system counts process goal.state goal.awaited)
 
 -- ---- answers
 
 abbrev pub answer_kind : AnswerGoal → Kind
-answer_kind goal = kind.Answer (record {
-  line = goal.decision.place.line;
-  decision = goal.decision.number;
-  part = goal.branch;
-})
+answer_kind goal = kind.Answer (record { place = goal.decision; number = goal.branch })
 
 abbrev pub answer_row : AnswerGoal → ℕ → Row
 answer_row goal times =
-    row_at (answer_kind goal) goal.place (codes "decision of " ++ place_text goal.decision.place)
+    row_at (answer_kind goal) goal.place (codes "decision of " ++ place_text goal.decision)
     (string_bytes goal.answers) times
 
 abbrev pub answer_if : ProcessId → AnswerGoal → ℕ → List Row

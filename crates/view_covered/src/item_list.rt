@@ -3,7 +3,7 @@
 ghost use Rattle.std.specs.Prelude.{◌≡◌, ◌++◌, ◌∷◌, [], map, slice_get, string_bytes, OnOk};
 ghost use Rattle.build_labels.specs.Labels.{names_listed};
 ghost use Rattle.sdl_tree.specs.Views.{name_value};
-ghost use Rattle.view_covered.specs.Sections.{answer_if, answer_kind, answer_of, answer_row, answer_rows, known_rows, row_at, rows_listed, state_row, state_rows, stimulus_row};
+ghost use Rattle.view_covered.specs.Sections.{answer_if, answer_kind, answer_of, answer_row, answer_rows, known_rows, row_at, rows_listed, state_row, state_rows, stimulus_kind, stimulus_row};
 
 use crate::answers::Answers;
 use crate::section::Material;
@@ -84,7 +84,24 @@ fn add_stimulus(
     let owner = in_text(alloc, name_text(states, goal.state))?;
     let what = awaited_text(alloc, material.system, goal.awaited)?;
     let times = awaited_times(material, process, goal.state, goal.awaited)?;
-    add_item(alloc, items, Kind::Stimulus, goal.place, owner, what, times)
+    add_item(
+        alloc,
+        items,
+        stimulus_kind(goal),
+        goal.place,
+        owner,
+        what,
+        times,
+    )
+}
+
+fn stimulus_kind(goal: StimulusGoal) -> Kind
+    ensures { result ≡ stimulus_kind goal }
+{
+    Kind::Stimulus(Branch {
+        place: goal.place,
+        number: goal.state.0,
+    })
 }
 
 /// Adds the answers of the decisions of a process, if they are known.
@@ -173,18 +190,25 @@ fn add_answer(
     ensures { OnOk result (rows_listed items.new.items
         ≡ rows_listed items.old.items ++ answer_row goal.now times ∷ []) }
 {
-    let owner = decision_text(alloc, goal.decision.place)?;
+    let owner = decision_text(alloc, goal.decision)?;
     let what = String::from_str(alloc, goal.answers.as_str())?;
-    add_item(alloc, items, kind_of(goal), goal.place, owner, what, times)
+    add_item(
+        alloc,
+        items,
+        answer_kind(goal),
+        goal.place,
+        owner,
+        what,
+        times,
+    )
 }
 
-fn kind_of(goal: &AnswerGoal) -> Kind
+fn answer_kind(goal: &AnswerGoal) -> Kind
     ensures { result ≡ answer_kind goal.now }
 {
     Kind::Answer(Branch {
-        line: goal.decision.place.line,
-        decision: goal.decision.number,
-        part: goal.branch,
+        place: goal.decision,
+        number: goal.branch,
     })
 }
 

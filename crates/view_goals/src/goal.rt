@@ -51,22 +51,14 @@ pub enum Urgency {
     Priority,
 }
 
-/// A decision.
-#[derive(Clone, Copy)]
-pub struct Decision {
-    /// Where the word `decision` is.
-    pub place: Place,
-    /// Its index among the decisions of the text.
-    pub number: u32,
-}
-
 /// A part of a decision: the answers that lead to it, or `else`.
 #[derive(Drop)]
 pub struct AnswerGoal {
     pub process: ProcessId,
     /// Where its parenthesis or its `else` is.
     pub place: Place,
-    pub decision: Decision,
+    /// Where the word `decision` is.
+    pub decision: Place,
     /// Its index among the parts of the decision.
     pub branch: u32,
     /// As the text has them, with one blank in place of blanks, comments and ends of lines.

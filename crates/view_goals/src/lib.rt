@@ -16,5 +16,5 @@ mod part_states;
 mod scan;
 mod stimulus_list;
 
-pub use goal::{AnswerGoal, Awaited, Decision, Goals, ProcessGoals, StimulusGoal, Urgency};
+pub use goal::{AnswerGoal, Awaited, Goals, ProcessGoals, StimulusGoal, Urgency};
 pub use goals::goals_of;

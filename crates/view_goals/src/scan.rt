@@ -1,6 +1,6 @@
 //! Going over the words of a specification, from decision to decision.
 
-use crate::goal::{AnswerGoal, Decision};
+use crate::goal::AnswerGoal;
 use build_definitions::next_number;
 use parse_cursor::{PlacedWord, Word};
 use sdl_lex::{Place, Token};
@@ -15,8 +15,6 @@ pub struct Scan {
     pub found: Vec<AnswerGoal>,
     /// How many processes began so far.
     processes: u32,
-    /// How many decisions began so far.
-    decisions: u32,
     /// The decisions that have not come to their end.
     open: Vec<OpenDecision>,
     /// Whether a statement or an answer may begin here.
@@ -28,7 +26,8 @@ pub struct Scan {
 /// A decision that has not come to its end.
 #[derive(Clone, Copy)]
 struct OpenDecision {
-    decision: Decision,
+    /// Where it begins.
+    place: Place,
     /// How many parts it has so far.
     parts: u32,
 }
@@ -48,7 +47,6 @@ impl Scan {
         Scan {
             found: Vec::new(alloc),
             processes: 0,
-            decisions: 0,
             open: Vec::new(alloc),
             may_begin: false,
             inside: None,
@@ -93,12 +91,7 @@ impl Scan {
     }
 
     fn begin_decision(&mut self, place: Place) -> Result<(), AllocError> {
-        let number = self.decisions;
-        self.decisions = next_number(number)?;
-        self.open.push(OpenDecision {
-            decision: Decision { place, number },
-            parts: 0,
-        })?;
+        self.open.push(OpenDecision { place, parts: 0 })?;
         Ok(())
     }
 
@@ -145,7 +138,7 @@ impl Scan {
         Ok(Some(AnswerGoal {
             process: ProcessId(self.processes.saturating_sub(1)),
             place,
-            decision: open.decision,
+            decision: open.place,
             branch,
             answers: String::new(alloc),
         }))

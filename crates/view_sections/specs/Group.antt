@@ -10,9 +10,9 @@ use Rattle.view_sections.specs.declared.item.Section.{Section}
 
 abbrev pub has_kind : group.Group → kind.Kind → Bool
 has_kind of.States is.State = true
-has_kind of.Stimuli is.Stimulus = true
+has_kind of.Stimuli (is.Stimulus branch) = true
 has_kind of.Answers (is.Answer branch) = true
-has_kind of.Choices is.Stimulus = true
+has_kind of.Choices (is.Stimulus branch) = true
 has_kind of.Choices (is.Answer branch) = true
 has_kind group other = false
 

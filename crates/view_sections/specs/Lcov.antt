@@ -1,10 +1,10 @@
 -- The tracefile of what a run covered, as LCOV reads it.
-use Rattle.std.specs.Prelude.{◌≡◌, ◌==◌, ◌-◌, ℕ, Bool, not, List, [], ◌∷◌, ◌++◌, codes, count_by, length, if◌then◌else◌}
+use Rattle.std.specs.Prelude.{◌≡◌, ◌==◌, ◌-◌, ◌<◌, ◌≤◌, ℕ, Bool, not, List, [], ◌∷◌, ◌++◌, codes, count_by, length, if◌then◌else◌}
 use Rattle.std.specs.Fmt.{decimal}
 use Rattle.std.specs.List.{flat_map, list_any, sum_by}
-use Rattle.sdl_lex.specs.declared.place.Place.{Place}
 use Rattle.view_sections.specs.Group.{all_of, missed_of}
-use Rattle.view_sections.specs.declared.group.Group.TheVariants.{Answers}
+use Rattle.view_sections.specs.Source.{source_text}
+use Rattle.view_sections.specs.declared.group.Group.TheVariants.{Choices}
 use Rattle.view_sections.specs.declared.item.Branch.{Branch}
 use Rattle.view_sections.specs.declared.item.Item.{Item}
 use Rattle.view_sections.specs.declared.item.Kind as kind
@@ -21,18 +21,19 @@ test_name known.NotOfThreads = codes "answers_not_known"
 test_name known.OtherRun = codes "answers_not_known"
 
 abbrev pub heading_text : knowledge.Knowledge → List ℕ → List ℕ
-heading_text knowledge source = codes "TN:" ++ test_name knowledge ++ 10 ∷ [] ++ codes "SF:" ++ source ++ 10 ∷ []
+heading_text knowledge source = codes "TN:" ++ test_name knowledge ++ 10 ∷ [] ++ codes "SF:" ++ source_text source ++ 10 ∷ []
 
--- ---- parts of decisions
+-- ---- ways
 
 abbrev pub branch_row : Branch → ℕ → List ℕ
 branch_row branch times =
-    codes "BRDA:" ++ decimal branch.line ++ codes "," ++ decimal branch.decision ++ codes "," ++ decimal branch.part
-    ++ codes "," ++ decimal times ++ 10 ∷ []
+    codes "BRDA:" ++ decimal branch.place.line ++ codes "," ++ decimal branch.place.column
+    ++ codes "," ++ decimal branch.number ++ codes "," ++ decimal times ++ 10 ∷ []
 
 abbrev pub branch_if : kind.Kind → ℕ → List ℕ
+branch_if is.State times = []
+branch_if (is.Stimulus branch) times = branch_row branch times
 branch_if (is.Answer branch) times = branch_row branch times
-branch_if other times = []
 
 abbrev pub item_branch : Item → List ℕ
 item_branch item = branch_if item.kind item.times
@@ -40,22 +41,22 @@ item_branch item = branch_if item.kind item.times
 abbrev pub section_branches : Section → List ℕ
 section_branches section = flat_map item_branch section.items.items
 
--- those of all sections, how many there are, and how many were passed
+-- those of all sections, how many there are, and how many were gone
 abbrev pub branches_text : List Section → List ℕ
 branches_text sections =
-    flat_map section_branches sections ++ codes "BRF:" ++ decimal (all_of Answers sections) ++ 10 ∷ []
-    ++ codes "BRH:" ++ decimal (all_of Answers sections - missed_of Answers sections) ++ 10 ∷ []
+    flat_map section_branches sections ++ codes "BRF:" ++ decimal (all_of Choices sections) ++ 10 ∷ []
+    ++ codes "BRH:" ++ decimal (all_of Choices sections - missed_of Choices sections) ++ 10 ∷ []
 
 -- ---- lines
 
-abbrev pub line_if : kind.Kind → Place → ℕ → List LineCount
-line_if is.State place times = []
-line_if is.Stimulus place times = record { line = place.line; times = times } ∷ []
-line_if (is.Answer branch) place times = record { line = branch.line; times = times } ∷ []
+abbrev pub line_if : kind.Kind → ℕ → List LineCount
+line_if is.State times = []
+line_if (is.Stimulus branch) times = record { line = branch.place.line; times = times } ∷ []
+line_if (is.Answer branch) times = record { line = branch.place.line; times = times } ∷ []
 
 -- the line in which a stimulus is, or the decision of an answer
 abbrev pub item_line : Item → List LineCount
-item_line item = line_if item.kind item.place item.times
+item_line item = line_if item.kind item.times
 
 abbrev pub section_lines : Section → List LineCount
 section_lines section = flat_map item_line section.items.items
@@ -76,6 +77,16 @@ times_at line counts = sum_by (times_if line) counts
 pub record SumsUp (counts lines : List LineCount) : Type 0 where
   pub has : (line : ℕ) → list_any (is_at line) lines ≡ list_any (is_at line) counts
   pub times : (line : ℕ) → times_at line lines ≡ times_at line counts
+
+-- each of these lines comes after the one before it, the first after this one
+abbrev pub RiseFrom : ℕ → List LineCount → Type 0
+RiseFrom line [] = Unit {0}
+RiseFrom line (count ∷ rest) = (line < count.line) × RiseFrom count.line rest
+
+-- each line comes after the one before it, so none comes twice
+abbrev pub AreInOrder : List LineCount → Type 0
+AreInOrder [] = Unit {0}
+AreInOrder (count ∷ rest) = RiseFrom count.line rest
 
 abbrev pub line_row : LineCount → List ℕ
 line_row count = codes "DA:" ++ decimal count.line ++ codes "," ++ decimal count.times ++ 10 ∷ []
@@ -98,5 +109,17 @@ tracefile_text knowledge source sections lines =
 -- the tracefile of these sections, with the counts of their lines
 abbrev pub IsTracefile : knowledge.Knowledge → List ℕ → List Section → List ℕ → Type 0
 IsTracefile knowledge source sections text =
-    (lines : List LineCount) × SumsUp (lines_in sections) lines
+    (lines : List LineCount) × SumsUp (lines_in sections) lines × AreInOrder lines
     × (text ≡ tracefile_text knowledge source sections lines)
+
+-- ---- what the code keeps
+
+-- they come one after the other, the first after this line, and none after the bound
+abbrev pub RiseUpTo : ℕ → ℕ → List LineCount → Type 0
+RiseUpTo bound line [] = line ≤ bound
+RiseUpTo bound line (count ∷ rest) = (line < count.line) × RiseUpTo bound count.line rest
+
+-- they come one after the other, and none after the bound
+abbrev pub AreUpTo : ℕ → List LineCount → Type 0
+AreUpTo bound [] = Unit {0}
+AreUpTo bound (count ∷ rest) = RiseUpTo bound count.line rest

@@ -1,3 +1,4 @@
 pub mod Group
 pub mod Lcov
 pub mod Plain
+pub mod Source

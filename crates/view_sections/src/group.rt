@@ -22,9 +22,9 @@ pub fn is_in(item: &Item, group: Group) -> bool
 {
     match (group, item.kind) {
         (Group::States, Kind::State) => true,
-        (Group::Stimuli, Kind::Stimulus) => true,
+        (Group::Stimuli, Kind::Stimulus(_)) => true,
         (Group::Answers, Kind::Answer(_)) => true,
-        (Group::Choices, Kind::Stimulus) => true,
+        (Group::Choices, Kind::Stimulus(_)) => true,
         (Group::Choices, Kind::Answer(_)) => true,
         _ => false,
     }

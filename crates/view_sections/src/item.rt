@@ -29,19 +29,19 @@ pub struct Item {
 #[derive(Clone, Copy, PartialEq, Eq)]
 pub enum Kind {
     State,
-    Stimulus,
+    /// Something for which a state waits.
+    Stimulus(Branch),
     /// A part of a decision.
     Answer(Branch),
 }
 
-/// A part of a decision, by numbers.
+/// One of the ways from a place.
 #[derive(Clone, Copy, PartialEq, Eq)]
 pub struct Branch {
-    /// The line of the decision.
-    pub line: usize,
-    pub decision: u32,
-    /// The number of the part among those of the decision.
-    pub part: u32,
+    /// Where what the state waits for is named, or where the decision is.
+    pub place: Place,
+    /// The number of the state in its process, or of the part in its decision.
+    pub number: u32,
 }
 
 /// Whether it is known how often the parts of decisions were passed.

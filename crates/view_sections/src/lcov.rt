@@ -8,9 +8,11 @@ ghost use Rattle.view_sections.specs.Lcov.{IsTracefile, branch_row, branches_tex
 use crate::group::{Group, all_of, missed_of};
 use crate::item::{Branch, Item, Kind, Knowledge, Section};
 use crate::line_count::{LineCount, is_passed, lines_of};
+use crate::source::push_source;
 use std::alloc::{AllocError, Global};
 
-/// The tracefile: `BRDA` for each part of a decision, `DA` for each line in which a stimulus or a decision is.
+/// The tracefile: `BRDA` for each way, which is a state with a stimulus or a part of a decision, and `DA` for each line
+/// in which a stimulus or a decision is.
 pub fn tracefile(
     alloc: Global,
     sections: &[Section<'_>],
@@ -50,7 +52,9 @@ fn push_heading(text: &mut String, knowledge: Knowledge, source: &str) -> Result
 {
     let name = test_name(knowledge);
     writeln!(text, "TN:{name}")?;
-    writeln!(text, "SF:{source}")
+    text.push_str("SF:")?;
+    push_source(text, source)?;
+    text.push('\n')
 }
 
 fn test_name(knowledge: Knowledge) -> &'static str
@@ -62,13 +66,13 @@ fn test_name(knowledge: Knowledge) -> &'static str
     }
 }
 
-/// Adds the parts of decisions, how many there are, and how many were passed.
+/// Adds the ways, how many there are, and how many were gone.
 fn push_branches(text: &mut String, sections: &[Section<'_>]) -> Result<(), AllocError>
     ensures { OnOk result (string_bytes text.new ≡ string_bytes text.old ++ branches_text sections.now) }
 {
     push_rows(text, sections)?;
-    let all = all_of(sections, Group::Answers)?;
-    let covered = all.saturating_sub(missed_of(sections, Group::Answers)?);
+    let all = all_of(sections, Group::Choices)?;
+    let covered = all.saturating_sub(missed_of(sections, Group::Choices)?);
     writeln!(text, "BRF:{all}")?;
     writeln!(text, "BRH:{covered}")
 }
@@ -92,23 +96,23 @@ fn push_items(text: &mut String, items: &[Item]) -> Result<(), AllocError>
     Ok(())
 }
 
-/// Adds an item that is a part of a decision.
+/// Adds an item that is a way.
 fn push_item(text: &mut String, item: &Item) -> Result<(), AllocError>
     ensures { OnOk result (string_bytes text.new ≡ string_bytes text.old ++ item_branch item.now) }
 {
     match item.kind {
-        Kind::Answer(branch) => push_branch(text, branch, item.times),
-        Kind::State | Kind::Stimulus => Ok(()),
+        Kind::Stimulus(branch) | Kind::Answer(branch) => push_branch(text, branch, item.times),
+        Kind::State => Ok(()),
     }
 }
 
 fn push_branch(text: &mut String, branch: Branch, times: u64) -> Result<(), AllocError>
     ensures { OnOk result (string_bytes text.new ≡ string_bytes text.old ++ branch_row branch times) }
 {
-    let line = branch.line;
-    let decision = branch.decision;
-    let part = branch.part;
-    writeln!(text, "BRDA:{line},{decision},{part},{times}")
+    let line = branch.place.line;
+    let column = branch.place.column;
+    let number = branch.number;
+    writeln!(text, "BRDA:{line},{column},{number},{times}")
 }
 
 /// Adds the lines, how many there are, and how many were passed.

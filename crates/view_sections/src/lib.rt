@@ -2,8 +2,7 @@
 //!
 //! A section has what there is to cover in a process, each with how often it was. `plain_text` makes the text for
 //! people; its contract says exactly which text that is, except for the widths of its columns. `tracefile` makes the
-//! text for programs that read tracefiles of LCOV; its contract says exactly which text that is, except for the order
-//! of lines in it, and that each line is there once.
+//! text for programs that read tracefiles of LCOV; its contract says exactly which text that is.
 #![tactic(auto)]
 
 mod column;
@@ -13,6 +12,7 @@ mod lcov;
 mod line_count;
 mod plain;
 mod rows;
+mod source;
 
 pub use item::{Branch, Item, Kind, Knowledge, Section};
 pub use lcov::tracefile;

@@ -2,7 +2,8 @@
 
 ghost use Rattle.std.specs.Prelude.{◌≡◌, ◌+◌, ◌++◌, [], ◌∷◌, IfOk, OnOk};
 ghost use Rattle.std.specs.List.{flat_map};
-ghost use Rattle.view_sections.specs.Lcov.{SumsUp, is_passed, item_line, lines_in};
+ghost use Rattle.std.specs.List.Sorted.{IsNonDecreasingBy};
+ghost use Rattle.view_sections.specs.Lcov.{AreInOrder, AreUpTo, SumsUp, is_passed, item_line, lines_in};
 
 use crate::item::{Item, Kind, Section};
 use std::alloc::{AllocError, Global};
@@ -23,7 +24,8 @@ pub fn is_passed(count: &LineCount) -> bool
 
 /// The lines of stimuli and decisions, each once, in their order.
 pub fn lines_of(alloc: Global, sections: &[Section<'_>]) -> Result<Vec<LineCount>, AllocError>
-    ensures { IfOk result (λ lines. SumsUp (lines_in sections.now) lines.items) }
+    ensures sums { IfOk result (λ lines. SumsUp (lines_in sections.now) lines.items) }
+    ensures order { IfOk result (λ lines. AreInOrder lines.items) }
 {
     let mut counts = Vec::new(alloc);
     for section in sections {
@@ -48,8 +50,7 @@ fn add_line(counts: &mut Vec<LineCount>, item: &Item) -> Result<(), AllocError>
 {
     let line = match item.kind {
         Kind::State => return Ok(()),
-        Kind::Stimulus => item.place.line,
-        Kind::Answer(branch) => branch.line,
+        Kind::Stimulus(branch) | Kind::Answer(branch) => branch.place.line,
     };
     counts.push(LineCount {
         line,
@@ -58,9 +59,11 @@ fn add_line(counts: &mut Vec<LineCount>, item: &Item) -> Result<(), AllocError>
     Ok(())
 }
 
-/// One for all that follow each other with the same line.
+/// One for all of the same line. They come by their lines.
 fn merged(alloc: Global, counts: &[LineCount]) -> Result<Vec<LineCount>, AllocError>
-    ensures { IfOk result (λ lines. SumsUp counts.now lines.items) }
+    requires { IsNonDecreasingBy (λ count. count.line) counts.now }
+    ensures sums { IfOk result (λ lines. SumsUp counts.now lines.items) }
+    ensures order { IfOk result (λ lines. AreInOrder lines.items) }
 {
     let mut lines = Vec::new(alloc);
     for count in counts {
@@ -71,7 +74,8 @@ fn merged(alloc: Global, counts: &[LineCount]) -> Result<Vec<LineCount>, AllocEr
 
 /// Adds a count, to the last one if that has the same line.
 fn add_count(lines: &mut Vec<LineCount>, count: LineCount) -> Result<(), AllocError>
-    ensures { OnOk result (SumsUp (lines.old.items ++ count ∷ []) lines.new.items) }
+    ensures sums { OnOk result (SumsUp (lines.old.items ++ count ∷ []) lines.new.items) }
+    ensures order { AreUpTo count.line lines.old.items → OnOk result (AreUpTo count.line lines.new.items) }
 {
     match lines.pop() {
         None => {
@@ -87,7 +91,9 @@ fn add_after(
     last: LineCount,
     count: LineCount,
 ) -> Result<(), AllocError>
-    ensures { OnOk result (SumsUp (lines.old.items ++ last ∷ count ∷ []) lines.new.items) }
+    ensures sums { OnOk result (SumsUp (lines.old.items ++ last ∷ count ∷ []) lines.new.items) }
+    ensures order { AreUpTo count.line (lines.old.items ++ last ∷ [])
+        → OnOk result (AreUpTo count.line lines.new.items) }
 {
     if last.line == count.line {
         let times = sum(last.times, count.times)?;

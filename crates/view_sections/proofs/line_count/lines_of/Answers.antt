@@ -1,11 +1,19 @@
-use Rattle.std.proofs.Common.{◌∙◌, ap, sym}
+use Rattle.std.proofs.Common.{◌∙◌, ap, rules, subst, sym}
+use Rattle.std.specs.List.Sorted.{IsNonDecreasingBy}
+use Rattle.std.proofs.lemmas.List.Sorted.{IsNonDecreasingBy-from_sort_by_key}
 use Rattle.std.proofs.lemmas.List.{take_all}
 use Rattle.view_sections.specs.Lcov.{lines_in}
 use Rattle.view_sections.proofs.LineLemmas.{sums-from, sums-moved}
 use Rattle.view_sections.proofs.line_count.lines_of.Goals as goal
 
-pub returns : goal.returns
-returns c =
+pub merged-requires : goal.merged-requires
+merged-requires c =
+    subst (IsNonDecreasingBy (λ count. count.line)) (sym c.deref-2.ensures.value)
+    (IsNonDecreasingBy-from_sort_by_key (λ count. count.line) _ c.in_ok-sort_by_key.ensures.sorted
+    (λ a r q k. search rules))
+
+pub returns-clause-sums : goal.returns-clause-sums
+returns-clause-sums c =
     let counts = c.loop-section.counts.items in
     let sorted = c.sort_by_key.new.self.items in
     let lines = c.in_ok-lines.lines.items in
@@ -14,4 +22,4 @@ returns c =
     ∙ sym c.loop-section.invariant in
     sums-from (lines_in c.args.sections.now) counts lines all
     (sums-moved counts sorted lines c.in_ok-sort_by_key.ensures.permutation
-    (sums-from sorted c.deref-2.result.now lines (sym c.deref-2.ensures.value) c.in_ok-lines.ensures))
+    (sums-from sorted c.deref-2.result.now lines (sym c.deref-2.ensures.value) c.in_ok-lines.ensures.sums))
