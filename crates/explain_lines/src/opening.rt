@@ -49,7 +49,7 @@ fn mark_before(words: &[PlacedWord<'_>], place: Place) -> Option<Mark> {
 }
 
 /// The word that opens what this one ends.
-fn opened_by(end: Mark) -> Option<Mark> {
+pub fn opened_by(end: Mark) -> Option<Mark> {
     match end {
         Mark::EndSystem => Some(Mark::System),
         Mark::EndBlock => Some(Mark::Block),
@@ -57,6 +57,8 @@ fn opened_by(end: Mark) -> Option<Mark> {
         Mark::EndChannel => Some(Mark::Channel),
         Mark::EndState => Some(Mark::State),
         Mark::EndConnection => Some(Mark::Connection),
+        Mark::EndDecision => Some(Mark::Decision),
+        Mark::Close => Some(Mark::Open),
         _ => None,
     }
 }

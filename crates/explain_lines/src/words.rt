@@ -28,3 +28,14 @@ pub fn name_of<'t>(word: Option<PlacedWord<'t>>) -> Option<&'t str> {
         _ => None,
     }
 }
+
+/// Whether a word is a number.
+pub fn is_number(word: Option<PlacedWord<'_>>) -> bool {
+    matches!(
+        word,
+        Some(PlacedWord {
+            word: Word::Number(..),
+            ..
+        })
+    )
+}

@@ -21,6 +21,7 @@ fn name_kind(given: Use<'_>) -> Kind {
     match given {
         Use::Destination => Kind::Destination,
         Use::Initial(_) | Use::OwnDuration | Use::Count => Kind::Constant,
+        Use::Answer(_) => Kind::Answer,
         _ => Kind::Value,
     }
 }
@@ -28,7 +29,7 @@ fn name_kind(given: Use<'_>) -> Kind {
 /// What a name has to stand for as a part of a value, where a name alone has to stand for this.
 fn part_kind(kind: Kind) -> Kind {
     match kind {
-        Kind::Constant => Kind::Constant,
+        Kind::Constant | Kind::Answer => kind,
         _ => Kind::Value,
     }
 }

@@ -9,9 +9,13 @@ use sdl_tree::{Chain, Expression, Name, SortName, UnaryOperator};
 pub enum Kind {
     Sort,
     Signal,
+    /// A signal in a list in which signal lists can be, too, in parentheses.
+    ListedSignal,
     Timer,
     /// A signal or a timer, in an input.
     Stimulus,
+    /// A signal or a timer in a save, in which signal lists can be, too, in parentheses.
+    Saved,
     SignalList,
     Channel,
     /// A block or a process, at an end of a channel.
@@ -22,6 +26,8 @@ pub enum Kind {
     Value,
     /// A synonym, in a constant.
     Constant,
+    /// A synonym, in an answer.
+    Answer,
     /// A variable, a synonym or a process, after `to`.
     Destination,
 }

@@ -125,7 +125,7 @@ fn add_sorts<'t>(sites: &mut Sites<'t>, sorts: &'t [SortName]) -> Result<(), All
 fn add_items<'t>(sites: &mut Sites<'t>, items: &'t [SignalListItem]) -> Result<(), AllocError> {
     for item in items {
         match item {
-            SignalListItem::Signal(name) => sites.add_name(name, Kind::Signal)?,
+            SignalListItem::Signal(name) => sites.add_name(name, Kind::ListedSignal)?,
             SignalListItem::List(name) => sites.add_name(name, Kind::SignalList)?,
         }
     }
@@ -305,7 +305,7 @@ fn add_stimulus<'t>(sites: &mut Sites<'t>, stimulus: &'t Stimulus) -> Result<(),
 fn add_saved<'t>(sites: &mut Sites<'t>, items: &'t [SignalListItem]) -> Result<(), AllocError> {
     for item in items {
         match item {
-            SignalListItem::Signal(name) => sites.add_name(name, Kind::Stimulus)?,
+            SignalListItem::Signal(name) => sites.add_name(name, Kind::Saved)?,
             SignalListItem::List(name) => sites.add_name(name, Kind::SignalList)?,
         }
     }
