@@ -2,18 +2,21 @@
 //!
 //! `wanted_advice` looks up what has to be at the place of a word, among the sites of the specification
 //! (`explain_sites`). It says what that is, what is there, and what to do; of a name that is misspelled it gives the
-//! nearest one. No contract speaks of which words are said.
+//! nearest one. `unsent_advice` and `sent_values_advice` do so for the lines of a script. No contract speaks of which
+//! words are said.
 #![tactic(auto)]
 
 mod advice;
 mod misfit;
 mod names;
 mod nearest;
+mod script;
 mod sorts;
 mod target;
 mod unknown;
 mod wanted;
 
 pub use advice::Advice;
-pub use nearest::lowered;
+pub use nearest::{Nearest, lowered};
+pub use script::{Sent, has_signal, sent_values_advice, unsent_advice};
 pub use wanted::wanted_advice;

@@ -22,7 +22,8 @@ pub fn misfit_advice(
     what: What<'_>,
 ) -> Result<Option<Advice>, AllocError> {
     match what {
-        What::Name(name, Kind::Constant) => variable_advice(alloc, names, name),
+        What::Name(name, Kind::Constant) => variable_advice(alloc, names, name, VARIABLE),
+        What::Name(name, Kind::Answer) => variable_advice(alloc, names, name, ANSWER),
         What::Name(_, _) => Ok(None),
         What::Value(value, given) => value_advice(alloc, names, word, value, given),
         What::Operator(chain, number) => operator_advice(alloc, names, word, chain, number),
@@ -43,18 +44,24 @@ fn variable_advice(
     alloc: Global,
     names: &Names<'_, '_>,
     name: &Name,
+    sentence: &str,
 ) -> Result<Option<Advice>, AllocError> {
     let word = name.text.as_str();
     match names.value(word) {
-        Some(value) if is_variable(value.entry) => Ok(Some(Advice::about(
-            alloc,
-            word,
-            "is a variable, and a constant has to stand here: it is known before any instance is made. Name a synonym, \
-             or give the value by a task after the start.",
-        )?)),
+        Some(value) if is_variable(value.entry) => {
+            Ok(Some(Advice::about(alloc, word, sentence)?))
+        }
         _ => Ok(None),
     }
 }
+
+const VARIABLE: &str =
+    "is a variable, and a constant has to stand here: it is known before any instance is made. Name a synonym, or give \
+     the value by a task after the start.";
+
+const ANSWER: &str =
+    "is a variable, and an answer is a constant. Ask for a Boolean instead: `decision n = m; (true): stop; (false): \
+     nextstate -; enddecision;`.";
 
 fn is_variable(entry: ValueEntry) -> bool {
     match entry {

@@ -59,6 +59,12 @@ impl<'d, 't> Names<'d, 't> {
         None
     }
 
+    /// Whether a signal list has a name.
+    pub fn has_list(&self, name: &str) -> bool {
+        let lists = &self.tables.lists;
+        lists.iter().any(|list| self.sees(list.scope) && list.definition.name.text.as_str() == name)
+    }
+
     /// The block or process of a name.
     pub fn agent(&self, name: &str) -> Option<AgentEntry<'t>> {
         for scope in &self.scopes {

@@ -21,6 +21,11 @@ pub fn unknown_advice(
     if kind == Kind::Sort {
         return sort_advice(alloc, word);
     }
+    if names.has_list(word) {
+        if let Some(advice) = list_advice(alloc, word, kind)? {
+            return Ok(advice);
+        }
+    }
     let wanted = kind_text(kind);
     if let Some(meaning) = names.meaning(word) {
         return Ok(Advice {
@@ -40,25 +45,43 @@ pub fn unknown_advice(
     Ok(Advice { text })
 }
 
+/// Gives the advice on a signal list where a signal is wanted.
+fn list_advice(alloc: Global, word: &str, kind: Kind) -> Result<Option<Advice>, AllocError> {
+    let text = match kind {
+        Kind::ListedSignal | Kind::Saved => format!(in alloc;
+            "`{word}` is a signal list, and has parentheses among signals: write `({word})`."
+        )?,
+        Kind::Stimulus => format!(in alloc;
+            "`{word}` is a signal list, and an input takes none. Name its signals, `input a, b;`, or take all others: \
+             `input *;`."
+        )?,
+        Kind::Signal => format!(in alloc;
+            "`{word}` is a signal list, and an output sends a signal. Name the one that is sent."
+        )?,
+        _ => return Ok(None),
+    };
+    Ok(Some(Advice { text }))
+}
+
 fn kind_text(kind: Kind) -> &'static str {
     match kind {
         Kind::Sort => "sort",
-        Kind::Signal => "signal",
+        Kind::Signal | Kind::ListedSignal => "signal",
         Kind::Timer => "timer",
-        Kind::Stimulus => "signal or timer",
+        Kind::Stimulus | Kind::Saved => "signal or timer",
         Kind::SignalList => "signal list",
         Kind::Channel => "channel",
         Kind::Agent => "block or process",
         Kind::Process => "process",
         Kind::Variable => "variable",
         Kind::Value => "variable or synonym",
-        Kind::Constant => "synonym",
+        Kind::Constant | Kind::Answer => "synonym",
         Kind::Destination => "variable, synonym or process",
     }
 }
 
 /// The nearest name of a kind that is seen.
-fn nearest_name<'t>(
+pub fn nearest_name<'t>(
     alloc: Global,
     names: &Names<'_, 't>,
     word: &str,
@@ -82,14 +105,21 @@ fn try_signals<'t>(
 ) -> Result<(), AllocError> {
     for entry in &names.tables.signals {
         let is_wanted = match entry.kind {
-            SignalKind::Signal => matches!(kind, Kind::Signal | Kind::Stimulus),
-            SignalKind::Timer { .. } => matches!(kind, Kind::Timer | Kind::Stimulus),
+            SignalKind::Signal => is_of_signal(kind),
+            SignalKind::Timer { .. } => matches!(kind, Kind::Timer | Kind::Stimulus | Kind::Saved),
         };
         if is_wanted && names.sees(entry.scope) {
             nearest.try_name(alloc, entry.name.text.as_str())?;
         }
     }
     Ok(())
+}
+
+fn is_of_signal(kind: Kind) -> bool {
+    matches!(
+        kind,
+        Kind::Signal | Kind::ListedSignal | Kind::Stimulus | Kind::Saved
+    )
 }
 
 fn try_values<'t>(
@@ -104,7 +134,10 @@ fn try_values<'t>(
                 matches!(kind, Kind::Variable | Kind::Value | Kind::Destination)
             }
             ValueEntry::Synonym { .. } => {
-                matches!(kind, Kind::Value | Kind::Constant | Kind::Destination)
+                matches!(
+                    kind,
+                    Kind::Value | Kind::Constant | Kind::Answer | Kind::Destination
+                )
             }
         };
         if is_wanted && names.sees(value.scope) {

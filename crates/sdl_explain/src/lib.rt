@@ -13,6 +13,7 @@ mod marked;
 mod origin;
 mod parse;
 mod script;
+mod script_line;
 mod sentence;
 mod shown;
 

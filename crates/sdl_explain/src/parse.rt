@@ -5,9 +5,9 @@ ghost use Rattle.explain_lines.specs.Earlier.{IsEarlier, StandsBefore};
 ghost use Rattle.sdl_explain.specs.Refused.{IsShown, PrecedesFault, lex_place, parse_place};
 
 use crate::explanation::{Explanation, Other};
-use crate::sentence::parse_advice;
+use crate::sentence::{opening_sentence, parse_advice};
 use crate::shown::shown_at;
-use explain_lines::{Around, earlier_place, earlier_word, opening_of};
+use explain_lines::{Around, earlier_place, earlier_word, opening_of, unclosed_before};
 use parse_cursor::Wanted;
 use sdl_lex::{LexError, Place};
 use sdl_parse::ParseError;
@@ -15,8 +15,8 @@ use sdl_tree::Mark;
 use std::alloc::{AllocError, Global};
 
 /// Explains why a text is no specification. If a name has to be repeated after an `end..` word, the other place is that
-/// of the name. If a semicolon is missing at the end of a line, it is that of the word that it has to follow. A text
-/// that is too long is not shown.
+/// of the name. If a semicolon is missing at the end of a line, it is that of the word that it has to follow. If an end
+/// is missing, it is that of the word that opens what is still open. A text that is too long is not shown.
 pub fn explain_parse<'t>(
     alloc: Global,
     text: &'t [u8],
@@ -62,7 +62,8 @@ fn lex_place(error: LexError) -> Option<Place>
     }
 }
 
-/// The place of the name that has to be repeated, and of the word that a semicolon has to follow.
+/// The place of the name that has to be repeated, of the word that a semicolon has to follow, and of the one that opens
+/// what is still open.
 fn other_of<'t>(
     alloc: Global,
     text: &'t [u8],
@@ -76,6 +77,9 @@ fn other_of<'t>(
         }
         ParseError::Expected(place, Wanted::Mark(Mark::Semicolon)) => {
             word_to_follow(alloc, text, *place)
+        }
+        ParseError::Expected(place, Wanted::Mark(end)) => {
+            opening_word(alloc, text, *place, *end)
         }
         _ => Ok(None),
     }
@@ -122,6 +126,28 @@ fn word_to_follow<'t>(
             sentence: "It is missing after this word:",
             excerpt,
         })),
+        None => Ok(None),
+    }
+}
+
+/// The word that opens what a word at a place has to end, if it is seen that the end is missing.
+fn opening_word<'t>(
+    alloc: Global,
+    text: &'t [u8],
+    place: Place,
+    end: Mark,
+) -> Result<Option<Other<'t>>, AllocError>
+    ensures { IfOk result (λ other. IfSome other (λ it. StandsBefore text.now place it.excerpt)) }
+{
+    let around = Around::of(alloc, text, place)?;
+    let Some(sentence) = opening_sentence(&around, end) else {
+        return Ok(None);
+    };
+    let Some(opening) = unclosed_before(alloc, text, place, end)? else {
+        return Ok(None);
+    };
+    match earlier_place(text, opening, place) {
+        Some(excerpt) => Ok(Some(Other { sentence, excerpt })),
         None => Ok(None),
     }
 }

@@ -1,26 +1,32 @@
 //! The explanation of a script that is refused.
 
-ghost use Rattle.std.specs.Prelude.{◌≡◌, ◌≤◌, None, length, IfOk};
+ghost use Rattle.std.specs.Prelude.{◌≡◌, None, IfOk};
 ghost use Rattle.sdl_explain.specs.Refused.{IsShownLine, script_line};
 
 use crate::explanation::Explanation;
+use crate::script_line::{fault_column, name_column, name_in, receiver_column, time_column};
 use crate::sentence::script_advice;
 use explain_lines::Excerpt;
+use sdl_advice::has_signal;
 use sdl_lex::Place;
+use sdl_parse::parse;
 use sdl_script::ScriptError;
+use sdl_tree::Tree;
 use std::alloc::{AllocError, Global};
 
-/// Explains why a script is refused.
+/// Explains why a script for a specification is refused.
 pub fn explain_script<'t>(
     alloc: Global,
+    specification: &[u8],
     script: &'t [u8],
     error: ScriptError,
 ) -> Result<Explanation<'t>, AllocError>
     ensures shown { IfOk result (λ told. IsShownLine script.now (script_line error) told.shown) }
     ensures other { IfOk result (λ told. told.other ≡ None) }
 {
-    let shown = shown_line(script, error);
-    let advice = script_advice(alloc, error, &shown)?;
+    let tree = parse(alloc, specification).ok();
+    let shown = shown_line(script, tree.as_ref(), error);
+    let advice = script_advice(alloc, tree.as_ref(), error, &shown)?;
     Ok(Explanation {
         shown,
         advice,
@@ -41,8 +47,8 @@ fn script_line(error: ScriptError) -> Option<usize>
     }
 }
 
-/// The line that is refused, with what the refusal is about: the time, the signal or all of it.
-fn shown_line<'t>(script: &'t [u8], error: ScriptError) -> Option<Excerpt<'t>>
+/// The line that is refused, with what the refusal is about: the time, the signal, its receiver or another word.
+fn shown_line<'t>(script: &'t [u8], tree: Option<&Tree>, error: ScriptError) -> Option<Excerpt<'t>>
     ensures { IsShownLine script.now (script_line error) result }
 {
     let number = script_line(error)?;
@@ -53,7 +59,7 @@ fn shown_line<'t>(script: &'t [u8], error: ScriptError) -> Option<Excerpt<'t>>
             column: 1,
         },
     )?;
-    let column = column_of(line.behind, error);
+    let column = column_of(line.behind, tree, error);
     let place = Place {
         line: number,
         column,
@@ -64,34 +70,20 @@ fn shown_line<'t>(script: &'t [u8], error: ScriptError) -> Option<Excerpt<'t>>
     }
 }
 
-/// In which column of its line is what a refusal is about: the time, or the word after it.
-fn column_of(line: &[u8], error: ScriptError) -> usize {
-    let (spaces, time) = line.split_at(spaces_len(line));
+/// In which column of its line is what a refusal is about.
+fn column_of(line: &[u8], tree: Option<&Tree>, error: ScriptError) -> usize {
     match error {
-        ScriptError::UnknownSignal(_) | ScriptError::Arguments(_) => {
-            let (digits, behind) = time.split_at(digits_len(time));
-            spaces.len() + digits.len() + spaces_len(behind) + 1
-        }
-        _ => spaces.len() + 1,
+        ScriptError::UnknownSignal(_) => unsent_column(line, tree),
+        ScriptError::Arguments(_) => name_column(line),
+        ScriptError::Syntax(_) => fault_column(line),
+        _ => time_column(line),
     }
 }
 
-/// How many blanks and tabs come first.
-fn spaces_len(bytes: &[u8]) -> usize
-    ensures { result ≤ length bytes.now }
-{
-    bytes
-        .iter()
-        .take_while(|byte| **byte == b' ' || **byte == b'\t')
-        .count()
-}
-
-/// How many digits come first.
-fn digits_len(bytes: &[u8]) -> usize
-    ensures { result ≤ length bytes.now }
-{
-    bytes
-        .iter()
-        .take_while(|byte| byte.is_ascii_digit())
-        .count()
+/// In which column the word is that can't be sent, or to which nothing can be sent.
+fn unsent_column(line: &[u8], tree: Option<&Tree>) -> usize {
+    match (tree, receiver_column(line)) {
+        (Some(tree), Some(column)) if has_signal(tree, name_in(line)) => column,
+        _ => name_column(line),
+    }
 }

@@ -3,12 +3,17 @@
 
 mod broken;
 mod byte;
+mod call;
 mod foreign;
+mod habit;
+mod keyword;
 mod left_out;
+mod open;
 mod parse;
 mod script;
 
 pub use broken::build_advice;
+pub use open::opening_sentence;
 pub use parse::parse_advice;
 pub use script::script_advice;
 

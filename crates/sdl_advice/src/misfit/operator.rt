@@ -3,6 +3,7 @@
 use crate::advice::Advice;
 use crate::names::Names;
 use crate::sorts::{operand_of, sides_of, sort_of};
+use build_operators::OperandSort;
 use sdl_tree::{Chain, Expression, UnaryOperator};
 use std::alloc::{AllocError, Global};
 
@@ -17,13 +18,29 @@ pub fn operator_advice(
     let Some((left, right)) = sides_of(names, chain, number) else {
         return Ok(None);
     };
+    let takes = if is_duration_wanted(left, right) {
+        DURATION
+    } else {
+        operator_takes(word)
+    };
     let left = operand_of(left);
     let right = operand_of(right);
-    let takes = operator_takes(word);
     Ok(Some(Advice {
         text: format!(in alloc; "`{word}` stands between {left} and {right}. It takes {takes}.")?,
     }))
 }
+
+/// Whether a Time or a Duration stands beside an Integer.
+fn is_duration_wanted(left: OperandSort, right: OperandSort) -> bool {
+    match (left, right) {
+        (OperandSort::Time | OperandSort::Duration, other)
+        | (other, OperandSort::Time | OperandSort::Duration) => other == OperandSort::Integer,
+        _ => false,
+    }
+}
+
+const DURATION: &str =
+    "a Duration there, and no function makes one of an Integer. Define it as a Duration: `dcl d Duration := 5;`";
 
 /// What an operator takes.
 fn operator_takes(word: &str) -> &'static str {

@@ -23,6 +23,9 @@ pub fn value_advice(
     if fits(told, wanted) {
         return Ok(None);
     }
+    if told == OperandSort::Boolean && matches!(given, Use::Answer(_)) {
+        return Ok(Some(Advice::alone(alloc, COMPARED)?));
+    }
     let verb = verb_of(value);
     let told_text = operand_of(told);
     let place = place_text(alloc, given, wanted)?;
@@ -31,6 +34,11 @@ pub fn value_advice(
         text: format!(in alloc; "`{word}` {verb} {told_text}, and {place}")?,
     }))
 }
+
+/// Of a Boolean as the answer to a question that is none.
+const COMPARED: &str =
+    "An answer has the sort of its question, which is no Boolean here. It compares without naming the question again: \
+     `(> 5):`, `(/= 0):`, or a range: `(1:5):`.";
 
 /// Whether an operand of a sort fits where another one is wanted.
 fn fits(told: OperandSort, wanted: OperandSort) -> bool {

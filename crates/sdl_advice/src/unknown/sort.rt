@@ -27,12 +27,24 @@ static LEFT_OUT: [&str; 16] = [
 ];
 
 /// Sorts of other languages, with those that stand for them.
-static FOREIGN: [(&str, &str); 5] = [
+static FOREIGN: [(&str, &str); 17] = [
     ("int", "Integer"),
     ("long", "Integer"),
+    ("short", "Integer"),
+    ("i32", "Integer"),
+    ("i64", "Integer"),
+    ("isize", "Integer"),
+    ("number", "Integer"),
     ("unsigned", "Natural"),
     ("uint", "Natural"),
+    ("u8", "Natural"),
+    ("u16", "Natural"),
+    ("u32", "Natural"),
+    ("u64", "Natural"),
+    ("usize", "Natural"),
+    ("nat", "Natural"),
     ("bool", "Boolean"),
+    ("process", "Pid"),
 ];
 
 /// Gives the advice on a word that stands for no sort.

@@ -1,9 +1,13 @@
 //! Sentences about bytes with which no word, number or mark begins, most of which come from other languages.
 
-/// Gives the sentence about these bytes, the first of which begins nothing.
-pub fn byte_sentence(bytes: &[u8]) -> &'static str {
+/// Gives the sentence about bytes, the first of which begins nothing, after these in its line.
+pub fn byte_sentence(before: &[u8], bytes: &[u8]) -> &'static str {
     match bytes {
         [b'!', b'=', ..] => "`/=` asks whether two values differ, and not `!=`.",
+        [b'!', ..] if ends_with_word(before) => {
+            "`!` neither takes a field nor sends: there are no structures, so write a variable for each field, and a \
+             signal is sent by `output a to p;`."
+        }
         [b'!', ..] => "`not` turns a Boolean round, and not `!`.",
         [b'&', ..] => "`and` joins two Booleans, and not `&` or `&&`.",
         [b'|', ..] => "`or` joins two Booleans, and not `|` or `||`.",
@@ -22,12 +26,31 @@ pub fn byte_sentence(bytes: &[u8]) -> &'static str {
              `endstate`."
         }
         [b'[' | b']', ..] => "There are no arrays. Write a variable for each place.",
+        [b'#', b'0'..=b'9', ..] => {
+            "The number of an instance is for scripts alone. Name a process after `to`, or a Pid: `sender`, \
+             `offspring`, `parent`, or a variable of the sort Pid."
+        }
         [b'#', ..] => "A comment is written `/* .. */` here. `#` begins one in a script alone.",
         [b'%', ..] => percent_sentence(bytes),
+        [b'_', ..] if ends_with_word(before) => {
+            "A number has decimal digits alone: no unit, no `_`, and no other base."
+        }
         [b'_', ..] => "A name begins with a letter, and not with `_`.",
         [b'^', ..] => "There are no powers and no operators on bits.",
         [b'?', ..] => "There is no `?`. A `decision` chooses between transitions.",
         [b'\\', ..] => "There is no backslash. A line goes on in the next one without a mark.",
+        [0xEF, 0xBB, 0xBF, ..] => {
+            "The file has a byte order mark here, three bytes that no editor shows. Save it without one."
+        }
+        [0xC2, 0xA0, ..] =>
+            "This is a no-break space, which only looks like a blank. Write a blank.",
+        [0xE2, 0x80, 0x98..=0x9F, ..] => {
+            "This is a curly quote. A character string has straight ones, `'..'`, and can follow `comment` alone."
+        }
+        [0xE2, 0x80, 0x90..=0x95, ..] =>
+            "This is a dash, which only looks like a minus. Write `-`.",
+        [0xE2, 0x89, 0xA0, ..] => "`/=` asks whether two values differ.",
+        [0xE2, 0x89, 0xA4 | 0xA5, ..] => "`<=` and `>=` compare two values.",
         [128..=255, ..] => {
             "A name has ASCII letters, digits and `_`. Other letters can be in a comment, `/* .. */`, or in a \
              character string."
@@ -35,6 +58,14 @@ pub fn byte_sentence(bytes: &[u8]) -> &'static str {
         _ => {
             "No word, number or mark begins with this byte. Take it away, or put it into a comment, `/* .. */`."
         }
+    }
+}
+
+/// Whether the last of these bytes belongs to a word or a number.
+fn ends_with_word(before: &[u8]) -> bool {
+    match before.last() {
+        Some(byte) => byte.is_ascii_alphanumeric() || *byte == b')',
+        None => false,
     }
 }
 

@@ -1,9 +1,12 @@
 //! Sentences about habits from other languages, and about words at a place that is not theirs.
 
-use explain_lines::{Around, mark_of, name_of};
+use crate::sentence::call::call_sentence;
+use crate::sentence::keyword::keyword_advice;
+use crate::sentence::open::{ends_nothing, missing_sentence, outside_sentence};
+use explain_lines::{Around, is_number, mark_of, name_of};
 use parse_cursor::Wanted;
-use sdl_advice::{Advice, lowered};
-use sdl_tree::{Mark, keyword_of};
+use sdl_advice::Advice;
+use sdl_tree::Mark;
 use std::alloc::{AllocError, Global};
 
 /// Gives the advice about the words around a place, where something else has to stand. None if no habit is known.
@@ -12,11 +15,11 @@ pub fn foreign_advice(
     around: &Around<'_>,
     wanted: &Wanted,
 ) -> Result<Option<Advice>, AllocError> {
-    if let Some(sentence) = pair_sentence(around) {
+    if let Some(sentence) = pair_sentence(around, wanted).or(word_sentence(around)) {
         return Ok(Some(Advice::alone(alloc, sentence)?));
     }
-    if let Some(name) = mixed_keyword(alloc, around, wanted)? {
-        return Ok(Some(mixed_advice(alloc, name)?));
+    if let Some(advice) = keyword_advice(alloc, around, wanted)? {
+        return Ok(Some(advice));
     }
     match foreign_sentence(around, wanted) {
         Some(sentence) => Ok(Some(Advice::alone(alloc, sentence)?)),
@@ -24,63 +27,24 @@ pub fn foreign_advice(
     }
 }
 
-/// Gives the name that would be a keyword if all its letters were of one case: at the place, or before one where a
-/// colon would make it a label.
-fn mixed_keyword<'t>(
-    alloc: Global,
-    around: &Around<'t>,
-    wanted: &Wanted,
-) -> Result<Option<&'t str>, AllocError> {
-    if let Some(name) = name_of(around.at) {
-        if is_mixed_keyword(alloc, name)? {
-            return Ok(Some(name));
-        }
-    }
-    let Some(name) = label_before(around, wanted) else {
-        return Ok(None);
-    };
-    if is_mixed_keyword(alloc, name)? {
-        Ok(Some(name))
-    } else {
-        Ok(None)
-    }
-}
-
-/// Gives the name before a place where a colon would make it a label.
-fn label_before<'t>(around: &Around<'t>, wanted: &Wanted) -> Option<&'t str> {
-    match wanted {
-        Wanted::Mark(Mark::Colon) => name_of(around.before),
-        _ => None,
-    }
-}
-
-/// Whether a name is a keyword in lower case.
-fn is_mixed_keyword(alloc: Global, name: &str) -> Result<bool, AllocError> {
-    let lower = lowered(alloc, name)?;
-    Ok(keyword_of(lower.as_str().as_bytes()).is_some())
-}
-
-fn mixed_advice(alloc: Global, name: &str) -> Result<Advice, AllocError> {
-    let lower = lowered(alloc, name)?;
-    let lower = lower.as_str();
-    Ok(Advice {
-        text: format!(in alloc;
-            "`{name}` is a name, since a keyword is in lower case or in upper case throughout. Write `{lower}` if the \
-             keyword is meant."
-        )?,
-    })
-}
-
 /// Gives the sentence about the words around a place.
 fn foreign_sentence(around: &Around<'_>, wanted: &Wanted) -> Option<&'static str> {
-    if is_end(name_of(around.at)) || is_end(name_of(around.before)) {
-        return Some(BARE_END);
-    }
     match wanted {
-        Wanted::Mark(mark) => mark_sentence(around, *mark),
+        Wanted::Mark(mark) => missing_sentence(around, *mark).or(mark_sentence(around, *mark)),
         Wanted::Name => name_sentence(around),
         Wanted::Expression => expression_sentence(around),
         _ => None,
+    }
+}
+
+/// Gives the sentence about a bare `end`, or about letters that follow a number at once.
+fn word_sentence(around: &Around<'_>) -> Option<&'static str> {
+    if is_end(name_of(around.at)) || is_end(name_of(around.before)) {
+        Some(BARE_END)
+    } else if around.has_unit() {
+        Some(NUMBER)
+    } else {
+        None
     }
 }
 
@@ -88,9 +52,20 @@ const BARE_END: &str =
     "`end` is a name. What ends has a keyword of its own: `endsystem`, `endblock`, `endprocess`, \
     `endstate`, `endchannel`, `endconnection` or `enddecision`.";
 
-/// Gives the sentence about two marks that are one in another language.
-fn pair_sentence(around: &Around<'_>) -> Option<&'static str> {
-    for (first, second, sentence) in &PAIRS {
+/// The sentence about letters that follow a number at once.
+const NUMBER: &str = "A number has decimal digits alone: no unit, no `_`, and no other base.";
+
+/// Gives the sentence about two marks that are one in another language: first what is said of them in an expression.
+fn pair_sentence(around: &Around<'_>, wanted: &Wanted) -> Option<&'static str> {
+    if matches!(wanted, Wanted::Expression) {
+        pair_among(around, &PAIRS_OF_EXPRESSIONS).or(pair_among(around, &PAIRS))
+    } else {
+        pair_among(around, &PAIRS)
+    }
+}
+
+fn pair_among(around: &Around<'_>, pairs: &[(Mark, Mark, &'static str)]) -> Option<&'static str> {
+    for (first, second, sentence) in pairs {
         if around.has_pair(*first, *second) {
             return Some(*sentence);
         }
@@ -103,7 +78,31 @@ pub const COMMENT: &str = "A comment is written `/* .. */`. Neither `//` nor `--
 
 const NO_SHORT_TASK: &str = "There is no `++`, `+=` or `-=`. Write `task n := n + 1;`.";
 
-static PAIRS: [(Mark, Mark, &str); 9] = [
+static PAIRS_OF_EXPRESSIONS: [(Mark, Mark, &str); 4] = [
+    (
+        Mark::Slash,
+        Mark::Slash,
+        "`/` divides Integers, and rounds towards zero. `//` is no operator, and begins no comment: that is written \
+         `/* .. */`.",
+    ),
+    (
+        Mark::Minus,
+        Mark::Minus,
+        "One sign alone can stand before an operand: write `-(-n)`. A comment is written `/* .. */`, and not `--`.",
+    ),
+    (
+        Mark::Minus,
+        Mark::Greater,
+        "`=>` says that one Boolean implies another, and not `->`.",
+    ),
+    (
+        Mark::Equal,
+        Mark::Less,
+        "`<=` asks whether a value is no greater than another, and not `=<`.",
+    ),
+];
+
+static PAIRS: [(Mark, Mark, &str); 10] = [
     (Mark::Slash, Mark::Slash, COMMENT),
     (Mark::Minus, Mark::Minus, COMMENT),
     (
@@ -129,6 +128,11 @@ static PAIRS: [(Mark, Mark, &str); 9] = [
         Mark::Asterisk,
         "There are no powers. Multiply by `*`.",
     ),
+    (
+        Mark::Asterisk,
+        Mark::Slash,
+        "`*/` ends a comment, and none is open here: comments don't nest, so the first `*/` ends one.",
+    ),
 ];
 
 fn is_end(name: Option<&str>) -> bool {
@@ -140,16 +144,40 @@ fn is_end(name: Option<&str>) -> bool {
 
 /// Gives the sentence for a place where a name has to stand.
 fn name_sentence(around: &Around<'_>) -> Option<&'static str> {
-    match (mark_of(around.before), mark_of(around.at)) {
-        (None, Some(Mark::Colon)) => Some(
+    match (around.leading, mark_of(around.before), mark_of(around.at)) {
+        (Some(Mark::Set), Some(Mark::Open), None) => Some(SET),
+        (Some(Mark::Set), Some(Mark::Comma), None | Some(Mark::Now | Mark::Open | Mark::Minus)) =>
+            Some("`set` has the time first, and the timer after it: `set(now + 3, t);`."),
+        (Some(Mark::Input), _, Some(Mark::Open)) => Some(
+            "An input takes no signal list. Name the signals, `input a, b;`, or all others: `input *;`.",
+        ),
+        (Some(Mark::Output), Some(Mark::Comma), Some(Mark::To)) => {
+            Some("No comma is before `to`: `output a to P;`.")
+        }
+        (Some(Mark::Output | Mark::Create), _, Some(Mark::Open)) => Some(
+            "A name comes first, and its values follow in parentheses: `output a(1);`, `create P(1);`.",
+        ),
+        (Some(Mark::NextState), _, Some(Mark::Asterisk)) => Some(
+            "`nextstate -;` leads to the state from which the transition began, and there is no `nextstate *;`.",
+        ),
+        (Some(Mark::Fpar), None, Some(Mark::Slash)) => Some(MODE),
+        _ if is_number(around.at) => Some("A name begins with a letter, and not with a digit."),
+        (_, None, Some(Mark::Minus)) => Some(
+            "A name has letters, digits and `_`, and no `-`. A sort follows the names: `dcl n Integer;`.",
+        ),
+        (_, None, Some(Mark::Colon)) => Some(
             "The sort follows the names without a colon: `dcl n Integer;`.",
         ),
-        (None, Some(Mark::Semicolon | Mark::Assign)) => Some(
+        (_, None, Some(Mark::Semicolon | Mark::Assign)) => Some(
             "A sort has to stand here, after the names: `dcl n Integer := 0;`.",
         ),
         _ => None,
     }
 }
+
+/// The sentence about a `set` with one part.
+const SET: &str =
+    "`set` has a time, a comma and the timer: `set(now + 5, t);`. One with a duration of its own is set by `set(t);`.";
 
 /// Gives the sentence for a place where an expression has to stand.
 fn expression_sentence(around: &Around<'_>) -> Option<&'static str> {
@@ -160,6 +188,13 @@ fn expression_sentence(around: &Around<'_>) -> Option<&'static str> {
         ),
         (Some(Mark::Open), Some(Mark::Close)) => Some(
             "A value has to stand here. Leave the parentheses away if there is none: `output a;`, `create P;`.",
+        ),
+        (Some(Mark::Open), Some(Mark::Else)) => Some("`else` has no parentheses: `else: stop;`."),
+        (_, Some(Mark::Create)) => Some(
+            "`create` is an action of its own: `create P;`. After it `offspring` is the Pid of the new instance.",
+        ),
+        (Some(Mark::Minus | Mark::Not), Some(Mark::Minus | Mark::Not)) => Some(
+            "One sign alone can stand before an operand. Write parentheses: `-(-n)`, `not (not b)`.",
         ),
         _ => None,
     }
@@ -172,11 +207,61 @@ fn mark_sentence(around: &Around<'_>, wanted: Mark) -> Option<&'static str> {
         Mark::Semicolon => semicolon_sentence(around),
         Mark::Open => open_sentence(around),
         Mark::Close => close_sentence(around),
+        Mark::Assign => assign_sentence(around),
+        Mark::Comma => comma_sentence(around),
         Mark::Equal if mark_of(around.at) == Some(Mark::Assign) => Some(
             "`=` has to stand here: `synonym n Integer = 5;`. A variable alone has `:=`.",
         ),
         Mark::Start => start_sentence(around),
-        Mark::EndProcess | Mark::EndDecision | Mark::EndState => misplaced_sentence(around),
+        Mark::EndProcess | Mark::EndDecision | Mark::EndState | Mark::EndBlock | Mark::EndSystem =>
+            { end_sentence(around, wanted) }
+        _ => None,
+    }
+}
+
+/// Gives the sentence for a place where what a word ends has to go on, or that word has to stand.
+fn end_sentence(around: &Around<'_>, end: Mark) -> Option<&'static str> {
+    match (end, mark_of(around.at)) {
+        (_, Some(mark)) if ends_nothing(mark, end) => Some(
+            "This ends nothing: what it would end isn't open here. Take it away.",
+        ),
+        (Mark::EndSystem | Mark::EndBlock, Some(mark)) => outside_sentence(mark),
+        (Mark::EndDecision, _) if is_bare_answer(around) => Some(
+            "An answer is in parentheses: `(1): stop;`.",
+        ),
+        _ => misplaced_sentence(around),
+    }
+}
+
+/// Whether a value is at a place that a colon follows.
+fn is_bare_answer(around: &Around<'_>) -> bool {
+    let is_value = is_number(around.at)
+        || name_of(around.at).is_some()
+        || matches!(
+            mark_of(around.at),
+            Some(Mark::True | Mark::False | Mark::Null)
+        );
+    is_value && mark_of(around.after) == Some(Mark::Colon)
+}
+
+/// Gives the sentence for a place where a value has to be given to a variable.
+fn assign_sentence(around: &Around<'_>) -> Option<&'static str> {
+    match mark_of(around.at)? {
+        Mark::Equal => Some(
+            "`:=` gives a variable its value, and `=` asks whether two values are equal: `task n := 5;`.",
+        ),
+        Mark::Colon => Some("`:=` is one mark, without a blank in it: `task n := 5;`."),
+        Mark::Open => Some(
+            "There are no arrays. Write a variable for each place, and ask by a decision which of them is meant.",
+        ),
+        _ => Some("A task gives a variable a value: `task n := 5;`."),
+    }
+}
+
+/// Gives the sentence for a place where a comma has to stand.
+fn comma_sentence(around: &Around<'_>) -> Option<&'static str> {
+    match around.leading? {
+        Mark::Set => Some(SET),
         _ => None,
     }
 }
@@ -187,6 +272,10 @@ fn colon_sentence(around: &Around<'_>) -> Option<&'static str> {
         (None, Some(Mark::Assign)) => {
             Some("An assignment begins with the keyword `task`: `task n := 1;`.")
         }
+        (None, Some(Mark::Open)) => Some(
+            "There are no functions and no procedures to call. An action begins with a keyword: `task n := 1;`, \
+             `output a(1);`, `set(now + 5, t);`, `create P(1);`, `decision n;`.",
+        ),
         (None, _) => Some(
             "The name before would be a label, with `:` after it. An action begins with a keyword: `task n := 1;`, \
              `output a;`, `set(now + 5, t);`, `reset(t);`, `create P;`, `decision n;`.",
@@ -210,8 +299,42 @@ fn semicolon_sentence(around: &Around<'_>) -> Option<&'static str> {
             "An assignment is an action of its own: write `task` before it.",
         ),
         Some(Mark::To) => Some("One destination alone, `to P`, can stand at the end of an output."),
-        _ => Some("A `;` is missing: what comes before this isn't ended."),
+        Some(Mark::Open) if around.goes_on() => Some(call_sentence(around)),
+        Some(Mark::NoDelay) => Some(
+            "`nodelay` follows the name of its channel: `channel c nodelay from env to P with a; endchannel;`.",
+        ),
+        Some(Mark::Comma) if around.leading == Some(Mark::Output) => Some(
+            "`to` names one receiver, at the end of an output. Write an output for each.",
+        ),
+        _ => Some(unended_sentence(around)),
     }
+}
+
+/// Gives the sentence for a place before which something isn't ended.
+fn unended_sentence(around: &Around<'_>) -> &'static str {
+    let is_name = name_of(around.at).is_some() && around.goes_on();
+    match around.leading {
+        Some(Mark::Input) if is_name => {
+            "The variables of an input are in parentheses: `input a(n);`."
+        }
+        Some(Mark::Output) if is_number(around.at) => {
+            "The values of a signal are in parentheses: `output a(5);`."
+        }
+        Some(Mark::Output) if name_of(around.before) == Some("all") => {
+            "An output goes to one receiver. Write one for each."
+        }
+        Some(Mark::Fpar) if is_mode(name_of(around.earlier)) => MODE,
+        _ => "A `;` is missing: what comes before this isn't ended.",
+    }
+}
+
+/// The sentence about a parameter with a mode.
+const MODE: &str =
+    "A parameter is its name and its sort, without `in` or `out`: `fpar n Integer;`.";
+
+/// Whether a name is one of a kind of parameters in the standard.
+fn is_mode(name: Option<&str>) -> bool {
+    matches!(name, Some("in" | "out" | "inout"))
 }
 
 /// Gives the sentence for a place where a parenthesis has to open.
@@ -232,10 +355,14 @@ fn open_sentence(around: &Around<'_>) -> Option<&'static str> {
 
 /// Gives the sentence for a place where a parenthesis has to close.
 fn close_sentence(around: &Around<'_>) -> Option<&'static str> {
-    match name_of(around.at) {
-        Some("Integer" | "Natural" | "Boolean" | "Pid" | "PId" | "Time" | "Duration") => Some(
+    match around.leading? {
+        Mark::Signal | Mark::Timer => Some(
             "A signal has sorts in its parentheses, without names: `signal a(Integer);`. A process has its parameters \
              after `fpar`: `process P; fpar n Integer;`.",
+        ),
+        Mark::Input => Some(
+            "An input has variables in its parentheses, which take the values: `input a(n);`. Ask for a value by a \
+             decision after it.",
         ),
         _ => None,
     }
@@ -275,7 +402,9 @@ fn misplaced_sentence(around: &Around<'_>) -> Option<&'static str> {
         | Mark::NextState
         | Mark::Stop
         | Mark::Join => Some(action_sentence(around)),
-        Mark::Start => Some("A process has one `start`."),
+        Mark::Start => Some(
+            "A process has one `start`, before its states. A timer is started by `set(now + 5, t);`.",
+        ),
         Mark::Input | Mark::Save | Mark::Provided | Mark::Priority => Some(
             "An input, a save and a `provided` belong to a state: write `state NAME;` before them.",
         ),

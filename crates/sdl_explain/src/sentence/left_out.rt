@@ -18,7 +18,11 @@ pub fn left_out_sentence(word: &str) -> &'static str {
             "isn't part of this language, which has no procedures. A connection, to which joins lead, shares a part of \
              transitions."
         }
-        "newtype" | "syntype" | "type" => {
+        "type" => {
+            "isn't part of this language. A system, a block and a process have no types: write each where it is, as in \
+             `process P(3);` for three instances."
+        }
+        "newtype" | "syntype" => {
             "isn't part of this language. The sorts are Integer, Natural, Boolean, Pid, Time and Duration, and a \
              synonym names a constant."
         }

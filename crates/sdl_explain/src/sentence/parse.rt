@@ -41,7 +41,7 @@ fn lex_advice(
         (LexError::BadByte(_) | LexError::OpenString(_), Some(excerpt))
             if follows_comment(excerpt.before) => { Advice::alone(alloc, COMMENT) }
         (LexError::BadByte(_), Some(excerpt)) => {
-            Advice::alone(alloc, byte_sentence(excerpt.behind))
+            Advice::alone(alloc, byte_sentence(excerpt.before, excerpt.behind))
         }
         _ => Advice::alone(alloc, lex_sentence(error)),
     }
@@ -58,6 +58,9 @@ fn expected_advice(
     wanted: &Wanted,
     shown: &Option<Excerpt<'_>>,
 ) -> Result<Advice, AllocError> {
+    if is_in_comment(shown) {
+        return Advice::alone(alloc, NESTED);
+    }
     if let Some(advice) = foreign_advice(alloc, around, wanted)? {
         return Ok(advice);
     }
@@ -70,6 +73,26 @@ fn expected_advice(
     }
 }
 
+/// Whether a place follows the end of a comment in which another one seems to begin.
+fn is_in_comment(shown: &Option<Excerpt<'_>>) -> bool {
+    let Some(excerpt) = shown else {
+        return false;
+    };
+    let before = excerpt.before.trim_ascii_end();
+    let opened = before
+        .windows(2)
+        .filter(|pair| matches!(*pair, b"/*"))
+        .count();
+    let closed = before
+        .windows(2)
+        .filter(|pair| matches!(*pair, b"*/"))
+        .count();
+    before.ends_with(b"*/") && opened > closed
+}
+
+const NESTED: &str =
+    "The comment before this has ended: comments don't nest, so the first `*/` ends one.";
+
 /// Of a character string the refusal tells a word that doesn't stand in the text.
 fn left_out_advice(
     alloc: Global,
@@ -77,18 +100,73 @@ fn left_out_advice(
     place: Place,
     word: &str,
 ) -> Result<Advice, AllocError> {
-    if word == "text" {
-        return Advice::alone(alloc, left_out_sentence(word));
-    }
     let around = Around::of(alloc, text, place)?;
-    if word != "provided" && wants_name(mark_of(around.before)) {
-        return Advice::about(alloc, word, LEFT_OUT_AS_NAME);
+    let before = mark_of(around.before);
+    if word == "text" {
+        return Advice::alone(alloc, text_sentence(before));
     }
-    Advice::about(alloc, word, left_out_sentence(word))
+    if word == "provided" || is_construct(before, word) || !wants_name(&around) {
+        return Advice::about(alloc, word, left_out_sentence(word));
+    }
+    Advice::about(alloc, word, LEFT_OUT_AS_NAME)
+}
+
+/// Gives the sentence about a character string after this word.
+fn text_sentence(before: Option<Mark>) -> &'static str {
+    match before {
+        Some(Mark::Task) => {
+            "A task in words isn't run. Write what it does, as in `task n := n + 1;`, or make a comment of it: \
+             `/* .. */`."
+        }
+        Some(Mark::Decision) => {
+            "A question in words isn't run. Ask for a value: `decision n > 0; (true): stop; else: enddecision;`."
+        }
+        _ => left_out_sentence("text"),
+    }
+}
+
+/// Whether a word that is left out begins a construct after this keyword, at the place of a name.
+fn is_construct(before: Option<Mark>, word: &str) -> bool {
+    match before {
+        Some(Mark::Input) => word == "none",
+        Some(Mark::Dcl) => matches!(word, "exported" | "revealed"),
+        Some(Mark::System | Mark::Block | Mark::Process) => word == "type",
+        Some(Mark::Create | Mark::Output) => word == "this",
+        Some(Mark::Task) => matches!(word, "call" | "export" | "import" | "view" | "if"),
+        _ => false,
+    }
+}
+
+/// Whether a name has to be at a place: after a keyword that wants one, or after a comma of its list.
+fn wants_name(around: &Around<'_>) -> bool {
+    match mark_of(around.before) {
+        Some(Mark::Comma) => has_names(around.leading),
+        before => has_name(before),
+    }
+}
+
+/// Whether a list of names follows this word.
+fn has_names(leading: Option<Mark>) -> bool {
+    matches!(
+        leading,
+        Some(
+            Mark::Signal
+                | Mark::SignalList
+                | Mark::SignalSet
+                | Mark::Synonym
+                | Mark::Dcl
+                | Mark::Fpar
+                | Mark::Timer
+                | Mark::State
+                | Mark::Input
+                | Mark::Save
+                | Mark::With
+        )
+    )
 }
 
 /// Whether a name has to follow this word.
-fn wants_name(before: Option<Mark>) -> bool {
+fn has_name(before: Option<Mark>) -> bool {
     matches!(
         before,
         Some(
@@ -151,7 +229,10 @@ fn lex_sentence(error: LexError) -> &'static str {
         LexError::BadByte(_) => {
             "No word, number or mark begins with this byte. Take it away, or put it into a comment, `/* .. */`."
         }
-        LexError::OpenComment(_) => "This comment isn't closed. Write `*/` where it ends.",
+        LexError::OpenComment(_) => {
+            "This comment isn't closed. Write `*/` where it ends. A line `%script` ends the specification, also in a \
+             comment."
+        }
         LexError::OpenString(_) => {
             "This character string isn't closed. Write `'` where it ends; a quote inside of it is written twice."
         }
