@@ -5,6 +5,7 @@
 #![tactic(auto)]
 
 mod naming;
+mod stack;
 mod threaded;
 
 pub use run_record::RunError;

@@ -7,6 +7,7 @@ ghost use Rattle.sdl_system.specs.Behaviour.{Behaviour};
 ghost use Rattle.settle_meaning.specs.Report.{IsSettled};
 
 use crate::naming::{Plan, run_named};
+use crate::stack::touch_stack;
 use run_record::{Report, RunError};
 use sdl_instances::birth;
 use sdl_script::Script;
@@ -42,6 +43,7 @@ pub fn run<R: Threads + Wait + Copy + Send + Sync, G: Gate + Sync>(
     ensures { IfOk result (λ report. (ps : List Behaviour) → AreBehaviours system.now ps
         → IsSettled ps system.now script.now.lines.items limit report) }
 {
+    touch_stack(alloc, workers)?;
     let made = ports::ports(alloc)?;
     let (table, seat) = birth::table(alloc)?;
     let plan = Plan {
