@@ -28,28 +28,30 @@ use Rattle.sdl_engine.specs.declared.refusal.Refusal.TheVariants as refusal
 
 -- what tells a run is what is said of its input
 pub run_says : (input : Input) (options : Options) (workers : Option ℕ) (system : SystemValue) (report : Report)
-    (sent : ℕ) (whole : Bool) (text : List ℕ) → options.command ≡ command.Run → options.workers ≡ workers →
+    (sent : ℕ) (whole : Bool) (stuck : Option ℕ) (text : List ℕ) → options.command ≡ command.Run → options.workers ≡ workers →
     report.whole ≡ whole → IsRunOfInput input workers options.limit system report sent →
-    IsTold options.view system report sent text → Says input options (outcome_by whole) text
-run_says (Held texts) options workers system report sent true text asked by is run told =
+    IsTold options.view system report sent stuck text → Says input options (outcome_by whole) text
+run_says (Held texts) options workers system report sent true stuck text asked by is run told =
     subst (λ c. SaysWhole c options.workers texts options.limit options.view text) (sym asked) (record {
       system = system;
       report = report;
       sent = sent;
       run = subst (λ w. IsRunOfInput (Held texts) w options.limit system report sent) (sym by) run;
       is_whole = is;
+      stuck = stuck;
       says = told;
     })
-run_says (Held texts) options workers system report sent false text asked by is run told =
+run_says (Held texts) options workers system report sent false stuck text asked by is run told =
     subst (λ c. SaysCut c options.workers texts options.limit options.view text) (sym asked) (record {
       system = system;
       report = report;
       sent = sent;
       run = subst (λ w. IsRunOfInput (Held texts) w options.limit system report sent) (sym by) run;
       is_whole = is;
+      stuck = stuck;
       says = told;
     })
-run_says TooLong options workers system report sent whole text asked by is run told = absurd run
+run_says TooLong options workers system report sent whole stuck text asked by is run told = absurd run
 
 -- so is the canonical text of its specification
 pub canonical_says : (input : Input) (options : Options) (text : List ℕ) → options.command ≡ command.Check →
@@ -199,17 +201,17 @@ faulted_by text script old new input options (Err why) read off =
 -- ---- a run
 
 pub run_tells : (input : Input) (options : Options) (workers : Option ℕ) (system : SystemValue) (report : Report)
-    (sent : ℕ) (old new : Option (List ℕ)) (r : Result Outcome TextFault) → options.command ≡ command.Run →
+    (sent : ℕ) (stuck : Option ℕ) (old new : Option (List ℕ)) (r : Result Outcome TextFault) → options.command ≡ command.Run →
     options.workers ≡ workers → IsRunOfInput input workers options.limit system report sent →
-    IfOk r (λ how. how ≡ outcome_by report.whole) → OnOk r (TellsRun options.view system report sent old new) →
+    IfOk r (λ how. how ≡ outcome_by report.whole) → OnOk r (TellsRun options.view system report sent stuck old new) →
     IfOk r (λ how. Tells input options how old new)
-run_tells input options workers system report sent old new (Ok how) asked by run is tells = record {
+run_tells input options workers system report sent stuck old new (Ok how) asked by run is tells = record {
   text = tells.text;
   says = subst (λ o. Says input options o tells.text) (sym is)
-      (run_says input options workers system report sent report.whole tells.text asked by refl run tells.says);
+      (run_says input options workers system report sent report.whole stuck tells.text asked by refl run tells.says);
   out = tells.out;
 }
-run_tells input options workers system report sent old new (Err why) asked by run is tells = tt
+run_tells input options workers system report sent stuck old new (Err why) asked by run is tells = tt
 
 breaks_off_run : (input : Input) (options : Options) (workers : Option ℕ) (system : SystemValue) (report : Report)
     (sent : ℕ) (old new : Option (List ℕ)) → options.command ≡ command.Run → options.workers ≡ workers →
@@ -218,7 +220,7 @@ breaks_off_run : (input : Input) (options : Options) (workers : Option ℕ) (sys
 breaks_off_run input options workers system report sent old new asked by run off = record {
   how = outcome_by report.whole;
   text = off.text;
-  says = run_says input options workers system report sent report.whole off.text asked by refl run off.says;
+  says = run_says input options workers system report sent report.whole off.stuck off.text asked by refl run off.says;
   breaks = off.breaks;
 }
 
@@ -247,15 +249,17 @@ run_fails input options workers system report sent old new (Err why) asked by ru
 
 -- what went out of a text that tells a run, before a fault of writing it
 pub view_fails : (why : WriteFault) (view : View) (system : SystemValue) (report : Report) (sent : ℕ)
-    (text : List ℕ) (old new : Option (List ℕ)) → IsTold view system report sent text →
+    (stuck : Option ℕ) (text : List ℕ) (old new : Option (List ℕ)) → IsTold view system report sent stuck text →
     gathered.BreaksOff old new text → FailsToTellRun (fault_of why) view system report sent old new
-view_fails written.Write view system report sent text old new told off = record {
+view_fails written.Write view system report sent stuck text old new told off = record {
   text = text;
+  stuck = stuck;
   says = told;
   breaks = off;
 }
-view_fails written.Memory view system report sent text old new told off = inr (record {
+view_fails written.Memory view system report sent stuck text old new told off = inr (record {
   text = text;
+  stuck = stuck;
   says = told;
   breaks = off;
 })

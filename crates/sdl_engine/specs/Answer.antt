@@ -85,7 +85,8 @@ pub record Reports (texts : Texts) (workers : Option ℕ) (limit : ℕ) (view : 
   pub sent : ℕ
   pub run : IsRunOf texts workers limit system report sent
   pub is_whole : report.whole ≡ whole
-  pub says : IsTold view system report sent text
+  pub stuck : Option ℕ
+  pub says : IsTold view system report sent stuck text
 
 -- the canonical text of the tree of an accepted input
 pub record Prints (texts : Texts) (text : List ℕ) : Type 0 where
@@ -271,18 +272,19 @@ BreaksOff fault.Read text old new = ⊥
 BreaksOff fault.Write text old new = gathered.BreaksOff old new text
 BreaksOff fault.Memory text old new = gathered.BreaksOff old new text
 
--- the text that tells a run went out
-pub record TellsRun (view : View) (system : SystemValue) (report : Report) (sent : ℕ)
+-- the text that tells a run went out, in its order up to the instance that can't go on, if one can't
+pub record TellsRun (view : View) (system : SystemValue) (report : Report) (sent : ℕ) (stuck : Option ℕ)
     (old new : Option (List ℕ)) : Type 0 where
   pub text : List ℕ
-  pub says : IsTold view system report sent text
+  pub says : IsTold view system report sent stuck text
   pub out : Appends old new text
 
 -- a beginning of the text that tells a run went out, and not all of it
 pub record BreaksOffRun (view : View) (system : SystemValue) (report : Report) (sent : ℕ)
     (old new : Option (List ℕ)) : Type 0 where
   pub text : List ℕ
-  pub says : IsTold view system report sent text
+  pub stuck : Option ℕ
+  pub says : IsTold view system report sent stuck text
   pub breaks : gathered.BreaksOff old new text
 
 -- what went out of a run before this fault: nothing, where there was no memory for its order

@@ -11,13 +11,14 @@ use Rattle.sdl_engine.specs.declared.options.Outcome.{Outcome}
 use Rattle.sdl_engine.specs.declared.options.Outcome.TheVariants as outcome
 use Rattle.sdl_engine.specs.declared.run.Run.{Run}
 
--- This is a run of the input as it was asked for, it came to this, and what went out tells it.
-pub record IsToldRun (input : Input) (options : Options) (how : Outcome) (run : Run)
+-- This is a run of the input as it was asked for, it came to this, and what went out tells it, up to the instance that
+-- can't go on, if one can't.
+pub record IsToldRun (input : Input) (options : Options) (how : Outcome) (run : Run) (stuck : Option ℕ)
     (old new : Option (List ℕ)) : Type 0 where
   pub asked : options.command ≡ command.Run
   pub ran : IsRunOfInput input options.workers options.limit run.system run.report run.sent
   pub came : how ≡ outcome_by run.report.whole
-  pub tells : TellsRun options.view run.system run.report run.sent old new
+  pub tells : TellsRun options.view run.system run.report run.sent stuck old new
 
 -- There is no run to keep: none is to be kept, or none was told.
 abbrev pub HasNone : Bool → Options → Outcome → Type 0
@@ -25,9 +26,11 @@ HasNone keeps options how = (keeps ≡ false) ⊎ (options.command ≡ command.C
     ⊎ (how ≡ outcome.RunRefused)
 
 -- The run that is kept is the one that was told.
-abbrev pub KeepsRun : Bool → Input → Options → Outcome → Option Run → Option (List ℕ) → Option (List ℕ) → Type 0
-KeepsRun keeps input options how None old new = HasNone keeps options how
-KeepsRun keeps input options how (Some run) old new = (keeps ≡ true) × IsToldRun input options how run old new
+abbrev pub KeepsRun : Bool → Input → Options → Outcome → Option Run → Option ℕ → Option (List ℕ) → Option (List ℕ)
+    → Type 0
+KeepsRun keeps input options how None stuck old new = HasNone keeps options how
+KeepsRun keeps input options how (Some run) stuck old new =
+    (keeps ≡ true) × IsToldRun input options how run stuck old new
 
 -- the texts that are kept with a run of this input
 abbrev pub texts_with : Option Run → Input → Option Texts
@@ -38,8 +41,9 @@ texts_with (Some run) (Held texts) = Some texts
 -- The whole input was read. If that is asked for, the run of it that was told is kept, and with it the texts of the
 -- input.
 pub record IsKept (keeps : Bool) (text : Option (List ℕ)) (script : Option (Option (List ℕ))) (options : Options)
-    (how : Outcome) (run : Option Run) (texts : Option Texts) (old new : Option (List ℕ)) : Type 0 where
+    (how : Outcome) (run : Option Run) (texts : Option Texts) (stuck : Option ℕ)
+    (old new : Option (List ℕ)) : Type 0 where
   pub input : Input
   pub read : IsRead text script input
-  pub keeps_run : KeepsRun keeps input options how run old new
+  pub keeps_run : KeepsRun keeps input options how run stuck old new
   pub keeps_texts : texts ≡ texts_with run input

@@ -8,7 +8,7 @@ use Rattle.sdl_system.specs.System.{SystemValue}
 use Rattle.view_json.specs.JsonText.{json_text}
 use Rattle.view_lines.specs.LinesText.{lines_text}
 use Rattle.view_timeline.specs.Moves.{EachOnce}
-use Rattle.view_timeline.specs.Timeline.{AllTakes, AreArrows, AreInOrder, AreLiving, IsElseUnlinked, IsForward, IsStuck, IsWaiting}
+use Rattle.view_timeline.specs.Timeline.{AllTakes, AreArrows, AreInOrder, AreLiving, AreLookedUp, IsElseUnlinked, IsForward, IsStuck, IsWaiting}
 use Rattle.view_timeline.specs.declared.moves.Timeline.{Timeline}
 use Rattle.sdl_engine.specs.declared.options.View.{View}
 use Rattle.sdl_engine.specs.declared.options.View.TheVariants as views
@@ -27,7 +27,8 @@ signals_of lines = count_by has_signal lines
 
 -- A timeline of these records tells each event once. Times never fall, and a move is made by an instance that lives. Each
 -- take of a signal of an instance has an arrow from where it was sent, and arrows of one kind come in the same order at
--- both ends. What was sent to an instance and has no arrow waits, or is gone.
+-- both ends. What was sent to an instance and has no arrow waits, or is gone. An output that names no Pid comes after
+-- the create of the instance to which it goes.
 pub record IsTimeline (records : List RecordValue) (told : Timeline) : Type 0 where
   pub each_once : EachOnce records told.moves.items
   pub forward : IsForward records told
@@ -35,6 +36,7 @@ pub record IsTimeline (records : List RecordValue) (told : Timeline) : Type 0 wh
   pub all_takes : AllTakes records told
   pub in_order : AreInOrder records told
   pub waiting : IsWaiting records told
+  pub looked_up : AreLookedUp records told
   pub else_unlinked : IsElseUnlinked records told
   pub living : AreLiving records told
 
@@ -45,17 +47,18 @@ IsTimelineTo (Some number) records told = IsStuck records told number
 
 -- ---- the text
 
--- this is the text of a timeline of these records, as far as it goes
-pub record IsInOrder (records : List RecordValue) (text_of : Timeline → List ℕ) (text : List ℕ) : Type 0 where
+-- this is the text of a timeline of these records, as far as it goes: up to the instance that can't go on, if one can't
+pub record IsInOrder (records : List RecordValue) (text_of : Timeline → List ℕ) (stuck : Option ℕ)
+    (text : List ℕ) : Type 0 where
   pub told : Timeline
-  pub stuck : Option ℕ
   pub is_timeline : IsTimelineTo stuck records told
   pub says : text ≡ text_of told
 
--- The text tells the report of a run, to whose instances the environment sends so many signals.
-abbrev pub IsTold : View → SystemValue → Report → ℕ → List ℕ → Type 0
-IsTold views.Trace system report sent text = text ≡ report_text system report
-IsTold views.Lines system report sent text =
-    IsInOrder report.records.items (λ told. lines_text system report told sent) text
-IsTold views.Json system report sent text =
-    IsInOrder report.records.items (λ told. json_text system report told) text
+-- The text tells the report of a run, to whose instances the environment sends so many signals. In its order it says
+-- which instance can't go on, if one can't; the report has no order.
+abbrev pub IsTold : View → SystemValue → Report → ℕ → Option ℕ → List ℕ → Type 0
+IsTold views.Trace system report sent stuck text = text ≡ report_text system report
+IsTold views.Lines system report sent stuck text =
+    IsInOrder report.records.items (λ told. lines_text system report told stuck sent) stuck text
+IsTold views.Json system report sent stuck text =
+    IsInOrder report.records.items (λ told. json_text system report told stuck) stuck text

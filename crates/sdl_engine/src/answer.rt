@@ -26,7 +26,7 @@ pub fn report<W: Write, N: Write>(
 ) -> Result<Outcome, TextFault>
     ensures how { IfOk result (λ how. how ≡ outcome_by run.now.report.whole) }
     ensures ok { OnOk result (TellsRun options.now.view run.now.system run.now.report run.now.sent
-        (W.contents writer.old) (W.contents writer.new)) }
+        notes.new.stuck (W.contents writer.old) (W.contents writer.new)) }
     ensures err { IfErr result (λ fault. FailsToTellRun fault options.now.view run.now.system run.now.report
         run.now.sent (W.contents writer.old) (W.contents writer.new)) }
     ensures quiet { result ≢ Ok Outcome.Cut → notes.old.strict ≡ false → options.now.view ≡ View.Trace →
@@ -34,7 +34,7 @@ pub fn report<W: Write, N: Write>(
 {
     let stuck = write_view(alloc, run, options.view, writer)?;
     let outcome = outcome(run.report.whole);
-    note_run(alloc, run, options, outcome, stuck, notes);
+    note_run(alloc, run, outcome, stuck, notes);
     Ok(outcome)
 }
 
@@ -51,7 +51,7 @@ pub fn report_by_workers<T: Threads + Sync, W: Write, N: Write>(
 ) -> Result<Outcome, TextFault>
     ensures how { IfOk result (λ how. how ≡ outcome_by run.now.report.whole) }
     ensures ok { OnOk result (TellsRun options.now.view run.now.system run.now.report run.now.sent
-        (W.contents writer.old) (W.contents writer.new)) }
+        notes.new.stuck (W.contents writer.old) (W.contents writer.new)) }
     ensures err { IfErr result (λ fault. FailsToTellRun fault options.now.view run.now.system run.now.report
         run.now.sent (W.contents writer.old) (W.contents writer.new)) }
     ensures quiet { result ≢ Ok Outcome.Cut → notes.old.strict ≡ false → options.now.view ≡ View.Trace →
@@ -59,7 +59,7 @@ pub fn report_by_workers<T: Threads + Sync, W: Write, N: Write>(
 {
     let stuck = write_view_by_workers(rt, alloc, workers, run, options.view, writer)?;
     let outcome = outcome(run.report.whole);
-    note_run(alloc, run, options, outcome, stuck, notes);
+    note_run(alloc, run, outcome, stuck, notes);
     Ok(outcome)
 }
 

@@ -41,7 +41,7 @@ fn explained(
             explanation.text(alloc, &origin)
         }
         Refusal::Script(error) => {
-            let explanation = explain_script(alloc, script, *error)?;
+            let explanation = explain_script(alloc, specification, script, *error)?;
             explanation.text(alloc, &origin_of_script(input, names))
         }
         Refusal::Run(_) => Ok(Vec::new(alloc)),

@@ -6,7 +6,7 @@ ghost use Rattle.std.specs.Io.KnownBytes.{Keeps};
 ghost use Rattle.sdl_engine.specs.Kept.{texts_with};
 
 use crate::explained::explanation_of;
-use crate::options::{Options, Outcome, TextFault};
+use crate::options::{Outcome, TextFault};
 use crate::run::Run;
 use run_record::{Entry, Failure, Record, Report};
 use sdl_input::{Input, Texts};
@@ -40,6 +40,8 @@ pub struct Notes<'n, N> {
     pub strict: bool,
     /// Whether an instance failed, as far as failures are told.
     pub failed: bool,
+    /// The instance that can't go on in the order of the run, if that is told and isn't known to its end.
+    pub stuck: Option<u32>,
     /// Whether the run is kept for those who draw it, or tell what it covered.
     pub keeps: bool,
     /// The run of an input that is accepted, if it is kept.
@@ -59,6 +61,7 @@ pub fn silent_notes() -> Notes<'static, Empty> {
         explains: false,
         strict: false,
         failed: false,
+        stuck: None,
         keeps: false,
         run: None,
         texts: None,
@@ -94,16 +97,16 @@ pub fn note_refusal<N: Write>(
 pub fn note_run<N: Write>(
     alloc: Global,
     run: &Run,
-    options: &Options,
     outcome: Outcome,
     stuck: Option<u32>,
     notes: &mut Notes<'_, N>,
 )
-    ensures { outcome ≢ Outcome.Cut → notes.old.strict ≡ false → stuck ≡ None →
+    ensures quiet { outcome ≢ Outcome.Cut → notes.old.strict ≡ false → stuck ≡ None →
         Keeps (N.contents notes.old.writer) (N.contents notes.new.writer) }
+    ensures order { notes.new.stuck ≡ stuck }
 {
     note_failures(alloc, run, notes);
-    note_cut(alloc, run, options, outcome, notes);
+    note_cut(alloc, run, outcome, notes);
     note_stuck(alloc, stuck, notes);
 }
 
@@ -129,8 +132,10 @@ pub fn keep_texts<N: Write>(input: Input, notes: &mut Notes<'_, N>)
 
 /// Tells from which instance on the order of a run isn't known, if there is one.
 fn note_stuck<N: Write>(alloc: Global, stuck: Option<u32>, notes: &mut Notes<'_, N>)
-    ensures { stuck ≡ None → Keeps (N.contents notes.old.writer) (N.contents notes.new.writer) }
+    ensures quiet { stuck ≡ None → Keeps (N.contents notes.old.writer) (N.contents notes.new.writer) }
+    ensures order { notes.new.stuck ≡ stuck }
 {
+    notes.stuck = stuck;
     let Some(number) = stuck else {
         return;
     };
@@ -140,19 +145,13 @@ fn note_stuck<N: Write>(alloc: Global, stuck: Option<u32>, notes: &mut Notes<'_,
 }
 
 /// Tells what cut a run that came to this.
-fn note_cut<N: Write>(
-    alloc: Global,
-    run: &Run,
-    options: &Options,
-    outcome: Outcome,
-    notes: &mut Notes<'_, N>,
-)
+fn note_cut<N: Write>(alloc: Global, run: &Run, outcome: Outcome, notes: &mut Notes<'_, N>)
     ensures { outcome ≢ Outcome.Cut → Keeps (N.contents notes.old.writer) (N.contents notes.new.writer) }
 {
     if outcome != Outcome::Cut {
         return;
     }
-    if let Ok(text) = cut_text(alloc, &run.report, options.limit) {
+    if let Ok(text) = cut_text(alloc, &run.report) {
         let _ = write_text(&mut notes.writer, text.as_str().as_bytes());
     }
 }
@@ -168,15 +167,44 @@ fn note_failures<N: Write>(alloc: Global, run: &Run, notes: &mut Notes<'_, N>)
 }
 
 /// What is said of a run that was cut at its limit.
-fn cut_text(alloc: Global, report: &Report, limit: u64) -> Result<String, AllocError> {
+fn cut_text(alloc: Global, report: &Report) -> Result<String, AllocError> {
     let end = report.end.get();
+    let count = transitions_in(report);
+    let noun = if count == 1 {
+        "transition"
+    } else {
+        "transitions"
+    };
     if end == 0 {
         return format!(in alloc;
-            "sdlrun: cut after {limit} transitions; the clock never moved; --limit shows less\n"
+            "sdlrun: cut after {count} {noun}; the clock never moved; --limit shows less\n"
         );
     }
     format!(in alloc;
-        "sdlrun: cut after {limit} transitions at time {end}; --limit shows less, or more\n"
+        "sdlrun: cut after {count} {noun} at time {end}; --limit shows less, or more\n"
+    )
+}
+
+/// How many transitions the records have, as they count for the limit. With workers these may be some more than that.
+fn transitions_in(report: &Report) -> u64 {
+    let mut count = 0u64;
+    for record in &report.records {
+        let (entries, _) = record.kept();
+        let own = entries.iter().filter(|entry| is_transition(entry)).count();
+        count = count.saturating_add(own as u64);
+    }
+    count
+}
+
+/// Whether a transition begins with an event.
+fn is_transition(entry: &Entry) -> bool {
+    matches!(
+        entry,
+        Entry::Start { .. }
+            | Entry::Consumed { .. }
+            | Entry::Prior { .. }
+            | Entry::Discarded { .. }
+            | Entry::Provided { .. }
     )
 }
 

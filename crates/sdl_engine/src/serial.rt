@@ -53,7 +53,7 @@ pub fn run_and_note_serially<R: Read, S: Read, W: Write, N: Write>(
         TellsNoOrder options.now → Keeps (N.contents notes.old.writer) (N.contents notes.new.writer) }
     ensures kept { IfOk result (λ how. IsKept notes.old.keeps (R.remaining source.old.text)
         (option_map S.remaining source.old.script) options.now how notes.new.run notes.new.texts
-        (W.contents writer.old) (W.contents writer.new)) }
+        notes.new.stuck (W.contents writer.old) (W.contents writer.new)) }
 {
     let input = read_source(alloc, source)?;
     let explains = notes.explains;
@@ -79,7 +79,7 @@ pub fn tell_serially<W: Write, N: Write>(
     ensures quiet { result ≢ Ok Outcome.Cut → notes.old.strict ≡ false → TellsNoOrder options.now →
         Keeps (N.contents notes.old.writer) (N.contents notes.new.writer) }
     ensures kept { notes.old.run ≡ None → IfOk result (λ how. KeepsRun notes.old.keeps input.now options.now how
-        notes.new.run (W.contents writer.old) (W.contents writer.new)) }
+        notes.new.run notes.new.stuck (W.contents writer.old) (W.contents writer.new)) }
 {
     match options.command {
         Command::Check => tell_check(alloc, input, writer, options),
@@ -121,7 +121,7 @@ fn tell_run<W: Write, N: Write>(
     ensures quiet { result ≢ Ok Outcome.Cut → notes.old.strict ≡ false → TellsNoOrder options.now →
         Keeps (N.contents notes.old.writer) (N.contents notes.new.writer) }
     ensures kept { notes.old.run ≡ None → IfOk result (λ how. KeepsRun notes.old.keeps input.now options.now how
-        notes.new.run (W.contents writer.old) (W.contents writer.new)) }
+        notes.new.run notes.new.stuck (W.contents writer.old) (W.contents writer.new)) }
 {
     let keeps = notes.keeps;
     match run_input(alloc, input, options.limit) {

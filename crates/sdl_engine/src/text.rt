@@ -60,7 +60,7 @@ pub fn run_and_note<T: Threads + Wait + Copy + Send + Sync, R: Read, S: Read, W:
         TellsNoOrder options.now → Keeps (N.contents notes.old.writer) (N.contents notes.new.writer) }
     ensures kept { IfOk result (λ how. IsKept notes.old.keeps (R.remaining source.old.text)
         (option_map S.remaining source.old.script) options.now how notes.new.run notes.new.texts
-        (W.contents writer.old) (W.contents writer.new)) }
+        notes.new.stuck (W.contents writer.old) (W.contents writer.new)) }
 {
     let input = read_source(alloc, source)?;
     let explains = notes.explains;
@@ -86,7 +86,7 @@ fn tell<T: Threads + Wait + Copy + Send + Sync, W: Write, N: Write>(
     ensures quiet { result ≢ Ok Outcome.Cut → notes.old.strict ≡ false → TellsNoOrder options.now →
         Keeps (N.contents notes.old.writer) (N.contents notes.new.writer) }
     ensures kept { notes.old.run ≡ None → IfOk result (λ how. KeepsRun notes.old.keeps input.now options.now how
-        notes.new.run (W.contents writer.old) (W.contents writer.new)) }
+        notes.new.run notes.new.stuck (W.contents writer.old) (W.contents writer.new)) }
 {
     match (options.command, options.workers) {
         (Command::Run, Some(workers)) => {
@@ -114,7 +114,7 @@ fn tell_run_by_workers<T: Threads + Wait + Copy + Send + Sync, W: Write, N: Writ
     ensures quiet { result ≢ Ok Outcome.Cut → notes.old.strict ≡ false → TellsNoOrder options.now →
         Keeps (N.contents notes.old.writer) (N.contents notes.new.writer) }
     ensures kept { notes.old.run ≡ None → IfOk result (λ how. KeepsRun notes.old.keeps input.now options.now how
-        notes.new.run (W.contents writer.old) (W.contents writer.new)) }
+        notes.new.run notes.new.stuck (W.contents writer.old) (W.contents writer.new)) }
 {
     let keeps = notes.keeps;
     match run_input_by_workers(rt, alloc, input, workers, options.limit) {

@@ -1,6 +1,6 @@
 //! What is written of a run, by the view that is asked for.
 
-ghost use Rattle.std.specs.Prelude.{◌≡◌, IfErr, IfOk, None, OnOk};
+ghost use Rattle.std.specs.Prelude.{◌≡◌, IfErr, IfOk, None};
 ghost use Rattle.sdl_engine.specs.Answer.{FailsToTellRun, TellsRun};
 
 use crate::options::{TextFault, View};
@@ -22,7 +22,7 @@ pub fn write_view<W: Write>(
     view: View,
     writer: &mut W,
 ) -> Result<Option<u32>, TextFault>
-    ensures ok { OnOk result (TellsRun view run.now.system run.now.report run.now.sent
+    ensures ok { IfOk result (λ stuck. TellsRun view run.now.system run.now.report run.now.sent stuck
         (W.contents writer.old) (W.contents writer.new)) }
     ensures err { IfErr result (λ fault. FailsToTellRun fault view run.now.system run.now.report run.now.sent
         (W.contents writer.old) (W.contents writer.new)) }
@@ -44,7 +44,7 @@ pub fn write_view_by_workers<T: Threads + Sync, W: Write>(
     view: View,
     writer: &mut W,
 ) -> Result<Option<u32>, TextFault>
-    ensures ok { OnOk result (TellsRun view run.now.system run.now.report run.now.sent
+    ensures ok { IfOk result (λ stuck. TellsRun view run.now.system run.now.report run.now.sent stuck
         (W.contents writer.old) (W.contents writer.new)) }
     ensures err { IfErr result (λ fault. FailsToTellRun fault view run.now.system run.now.report run.now.sent
         (W.contents writer.old) (W.contents writer.new)) }
@@ -58,7 +58,7 @@ pub fn write_view_by_workers<T: Threads + Sync, W: Write>(
 
 /// Writes the report of a run.
 fn write_trace<W: Write>(alloc: Global, run: &Run, writer: &mut W) -> Result<Option<u32>, TextFault>
-    ensures ok { OnOk result (TellsRun View.Trace run.now.system run.now.report run.now.sent
+    ensures ok { IfOk result (λ stuck. TellsRun View.Trace run.now.system run.now.report run.now.sent stuck
         (W.contents writer.old) (W.contents writer.new)) }
     ensures err { IfErr result (λ fault. FailsToTellRun fault View.Trace run.now.system run.now.report run.now.sent
         (W.contents writer.old) (W.contents writer.new)) }
@@ -76,7 +76,7 @@ fn write_trace_by_workers<T: Threads + Sync, W: Write>(
     run: &Run,
     writer: &mut W,
 ) -> Result<Option<u32>, TextFault>
-    ensures ok { OnOk result (TellsRun View.Trace run.now.system run.now.report run.now.sent
+    ensures ok { IfOk result (λ stuck. TellsRun View.Trace run.now.system run.now.report run.now.sent stuck
         (W.contents writer.old) (W.contents writer.new)) }
     ensures err { IfErr result (λ fault. FailsToTellRun fault View.Trace run.now.system run.now.report run.now.sent
         (W.contents writer.old) (W.contents writer.new)) }
@@ -93,14 +93,22 @@ fn write_in_lines<W: Write>(
     run: &Run,
     writer: &mut W,
 ) -> Result<Option<u32>, TextFault>
-    ensures ok { OnOk result (TellsRun View.Lines run.now.system run.now.report run.now.sent
+    ensures ok { IfOk result (λ stuck. TellsRun View.Lines run.now.system run.now.report run.now.sent stuck
         (W.contents writer.old) (W.contents writer.new)) }
     ensures err { IfErr result (λ fault. FailsToTellRun fault View.Lines run.now.system run.now.report run.now.sent
         (W.contents writer.old) (W.contents writer.new)) }
 {
     let order = order_of(alloc, &run.report)?;
     let (report, system) = (&run.report, &run.system);
-    write_lines(alloc, report, &order.told, run.sent, system, writer)?;
+    write_lines(
+        alloc,
+        report,
+        &order.told,
+        order.stuck,
+        run.sent,
+        system,
+        writer,
+    )?;
     Ok(order.stuck)
 }
 
@@ -110,12 +118,13 @@ fn write_in_json<W: Write>(
     run: &Run,
     writer: &mut W,
 ) -> Result<Option<u32>, TextFault>
-    ensures ok { OnOk result (TellsRun View.Json run.now.system run.now.report run.now.sent
+    ensures ok { IfOk result (λ stuck. TellsRun View.Json run.now.system run.now.report run.now.sent stuck
         (W.contents writer.old) (W.contents writer.new)) }
     ensures err { IfErr result (λ fault. FailsToTellRun fault View.Json run.now.system run.now.report run.now.sent
         (W.contents writer.old) (W.contents writer.new)) }
 {
     let order = order_of(alloc, &run.report)?;
-    write_json(alloc, &run.report, &order.told, &run.system, writer)?;
+    let (report, system) = (&run.report, &run.system);
+    write_json(alloc, report, &order.told, order.stuck, system, writer)?;
     Ok(order.stuck)
 }

@@ -1,5 +1,5 @@
 -- What the calls of a drawing give, put together into what is said of it.
-use Rattle.std.proofs.Common.{◌≢◌, ℕ, List, Option, inr, refl}
+use Rattle.std.proofs.Common.{◌≢◌, ℕ, List, Option, None, inr, refl}
 use Rattle.sdl_engine.specs.Answer.{fault_of}
 use Rattle.sdl_engine.specs.Views.{IsTimelineTo}
 use Rattle.sdl_engine.specs.declared.run.Run.{Run}
@@ -17,16 +17,17 @@ use Rattle.sdl_views.specs.declared.form.Form.TheVariants as forms
 
 -- ---- pictures
 
-is_picture : (form : Form) (run : Run) (text : List ℕ) → form ≢ forms.Msc → IsChart form run text
-is_picture forms.Svg run text no_text = tt
-is_picture forms.Html run text no_text = tt
-is_picture forms.Msc run text no_text = absurd (no_text refl)
+is_picture : (form : Form) (run : Run) (stuck : Option ℕ) (text : List ℕ) → form ≢ forms.Msc
+    → IsChart form run stuck text
+is_picture forms.Svg run stuck text no_text = tt
+is_picture forms.Html run stuck text no_text = tt
+is_picture forms.Msc run stuck text no_text = absurd (no_text refl)
 
-pub picture_drawn : (form : Form) (run : Run) (old new : Option (List ℕ)) → form ≢ forms.Msc → IsWritten old new →
-    IsDrawn form run old new
-picture_drawn form run old new no_text out = record {
+pub picture_drawn : (form : Form) (run : Run) (stuck : Option ℕ) (old new : Option (List ℕ)) → form ≢ forms.Msc →
+    IsWritten old new → IsDrawn form run stuck old new
+picture_drawn form run stuck old new no_text out = record {
   text = out.0;
-  chart = is_picture form run out.0 no_text;
+  chart = is_picture form run stuck out.0 no_text;
   out = out.1;
 }
 
@@ -35,7 +36,12 @@ pub picture_fails : (why : WriteFault) (form : Form) (run : Run) (old new : Opti
 picture_fails why form run old new no_text off = fails why
   where
     begun : IsBegun form run old new
-    begun = record { text = off.0; chart = is_picture form run off.0 no_text; breaks = off.1 }
+    begun = record {
+      stuck = None;
+      text = off.0;
+      chart = is_picture form run None off.0 no_text;
+      breaks = off.1;
+    }
 
     fails : (why : WriteFault) → FailsToDraw (fault_of why) form run old new
     fails written.Write = begun
@@ -43,29 +49,30 @@ picture_fails why form run old new no_text off = fails why
 
 -- ---- texts of Z.120
 
-abbrev text_of : Run → Timeline → List ℕ
-text_of run told = msc_text (string_bytes run.tree.name.text) run.system told run.report
+abbrev text_of : Run → Option ℕ → Timeline → List ℕ
+text_of run stuck told = msc_text (string_bytes run.tree.name.text) run.system told stuck run.report
 
 pub text_drawn : (run : Run) (stuck : Option ℕ) (told : Timeline) (old new : Option (List ℕ)) →
     IsTimelineTo stuck run.report.records.items told →
-    Appends old new (msc_text (string_bytes run.tree.name.text) run.system told run.report) →
-    IsDrawn forms.Msc run old new
+    Appends old new (msc_text (string_bytes run.tree.name.text) run.system told stuck run.report) →
+    IsDrawn forms.Msc run stuck old new
 text_drawn run stuck told old new is out = record {
-  text = text_of run told;
-  chart = record { told = told; stuck = stuck; is_timeline = is; says = refl };
+  text = text_of run stuck told;
+  chart = record { told = told; is_timeline = is; says = refl };
   out = out;
 }
 
 pub text_fails : (why : WriteFault) (run : Run) (stuck : Option ℕ) (told : Timeline) (old new : Option (List ℕ)) →
     IsTimelineTo stuck run.report.records.items told →
-    BreaksOff old new (msc_text (string_bytes run.tree.name.text) run.system told run.report) →
+    BreaksOff old new (msc_text (string_bytes run.tree.name.text) run.system told stuck run.report) →
     FailsToDraw (fault_of why) forms.Msc run old new
 text_fails why run stuck told old new is off = fails why
   where
     begun : IsBegun forms.Msc run old new
     begun = record {
-      text = text_of run told;
-      chart = record { told = told; stuck = stuck; is_timeline = is; says = refl };
+      stuck = stuck;
+      text = text_of run stuck told;
+      chart = record { told = told; is_timeline = is; says = refl };
       breaks = off;
     }
 

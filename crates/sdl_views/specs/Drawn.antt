@@ -11,22 +11,24 @@ use Rattle.view_msc.specs.MscText.{msc_text}
 use Rattle.sdl_views.specs.declared.form.Form.{Form}
 use Rattle.sdl_views.specs.declared.form.Form.TheVariants as forms
 
--- A text of Z.120 is that of a timeline of the run, by the name of its system. Of a picture nothing is said.
-abbrev pub IsChart : Form → Run → List ℕ → Type 0
-IsChart forms.Msc run text = IsInOrder run.report.records.items
-    (λ told. msc_text (string_bytes run.tree.name.text) run.system told run.report) text
-IsChart other run text = Unit {0}
+-- A text of Z.120 is that of a timeline of the run, by the name of its system, up to the instance that can't go on, if one
+-- can't. Of a picture nothing is said.
+abbrev pub IsChart : Form → Run → Option ℕ → List ℕ → Type 0
+IsChart forms.Msc run stuck text = IsInOrder run.report.records.items
+    (λ told. msc_text (string_bytes run.tree.name.text) run.system told stuck run.report) stuck text
+IsChart other run stuck text = Unit {0}
 
 -- a chart of the run has gone out
-pub record IsDrawn (form : Form) (run : Run) (old new : Option (List ℕ)) : Type 0 where
+pub record IsDrawn (form : Form) (run : Run) (stuck : Option ℕ) (old new : Option (List ℕ)) : Type 0 where
   pub text : List ℕ
-  pub chart : IsChart form run text
+  pub chart : IsChart form run stuck text
   pub out : Appends old new text
 
 -- a beginning of a chart has gone out, and not all of it
 pub record IsBegun (form : Form) (run : Run) (old new : Option (List ℕ)) : Type 0 where
+  pub stuck : Option ℕ
   pub text : List ℕ
-  pub chart : IsChart form run text
+  pub chart : IsChart form run stuck text
   pub breaks : BreaksOff old new text
 
 -- what has gone out before this fault: nothing, where there was no memory for the order

@@ -1,2 +1,3 @@
+pub mod Chosen
 pub mod Covered
 pub mod Drawn

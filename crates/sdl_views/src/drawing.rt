@@ -1,6 +1,6 @@
 //! A run in a chart.
 
-ghost use Rattle.std.specs.Prelude.{IfErr, OnOk};
+ghost use Rattle.std.specs.Prelude.{IfErr, IfOk};
 ghost use Rattle.sdl_views.specs.Drawn.{FailsToDraw, IsDrawn};
 
 use crate::form::Form;
@@ -20,7 +20,7 @@ pub fn draw<W: Write>(
     selection: &Selection,
     writer: &mut W,
 ) -> Result<Option<u32>, TextFault>
-    ensures ok { OnOk result (IsDrawn form run.now (W.contents writer.old) (W.contents writer.new)) }
+    ensures ok { IfOk result (λ stuck. IsDrawn form run.now stuck (W.contents writer.old) (W.contents writer.new)) }
     ensures err { IfErr result (λ fault. FailsToDraw fault form run.now
         (W.contents writer.old) (W.contents writer.new)) }
 {
@@ -32,12 +32,20 @@ pub fn draw<W: Write>(
 
 /// Writes a run as text of Z.120.
 fn draw_text<W: Write>(alloc: Global, run: &Run, writer: &mut W) -> Result<Option<u32>, TextFault>
-    ensures ok { OnOk result (IsDrawn Form.Msc run.now (W.contents writer.old) (W.contents writer.new)) }
+    ensures ok { IfOk result (λ stuck. IsDrawn Form.Msc run.now stuck (W.contents writer.old) (W.contents writer.new)) }
     ensures err { IfErr result (λ fault. FailsToDraw fault Form.Msc run.now
         (W.contents writer.old) (W.contents writer.new)) }
 {
     let order = order_of(alloc, &run.report)?;
     let (name, system, report) = (run.name(), &run.system, &run.report);
-    write_msc(alloc, name, system, &order.told, report, writer)?;
+    write_msc(
+        alloc,
+        name,
+        system,
+        &order.told,
+        order.stuck,
+        report,
+        writer,
+    )?;
     Ok(order.stuck)
 }

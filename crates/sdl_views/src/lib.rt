@@ -2,15 +2,21 @@
 //! run covered of its specification.
 //!
 //! `draw` writes the chart; the ending of the file's name chooses its form (`Form`). Of what is drawn nothing is promised
-//! beyond what `view_picture` and `view_msc` promise of a timeline of the run. `cover` writes the coverage, in a form that
-//! `coverage_form` chooses: it is what `view_covered` promises of a run, its texts and its report.
+//! beyond what `view_picture` and `view_msc` promise of a timeline of the run. `cover` writes the coverage, in a form
+//! that `coverage_form` chooses: it is what `view_covered` promises of a run, its texts and its report. `OutputFile` is
+//! the file: it takes the place of another one only once it is whole. `nobody` tells of a choice of instances that the
+//! run has none.
 #![tactic(auto)]
 
+mod chosen;
 mod covering;
 mod drawing;
 mod form;
+mod output_file;
 mod picture;
 
+pub use chosen::nobody;
 pub use covering::{ToldRun, cover, coverage_form};
 pub use drawing::draw;
 pub use form::Form;
+pub use output_file::OutputFile;

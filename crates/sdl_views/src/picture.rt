@@ -1,6 +1,6 @@
 //! A run in a picture.
 
-ghost use Rattle.std.specs.Prelude.{◌≢◌, IfErr, OnErr, OnOk};
+ghost use Rattle.std.specs.Prelude.{◌≢◌, IfErr, IfOk, OnErr, OnOk};
 ghost use Rattle.sdl_views.specs.Drawn.{FailsToDraw, IsDrawn};
 ghost use Rattle.view_picture.specs.Written.{IsBrokenOff, IsWritten};
 
@@ -22,7 +22,7 @@ pub fn draw_picture<W: Write>(
     writer: &mut W,
 ) -> Result<Option<u32>, TextFault>
     requires { form ≢ Form.Msc }
-    ensures ok { OnOk result (IsDrawn form run.now (W.contents writer.old) (W.contents writer.new)) }
+    ensures ok { IfOk result (λ stuck. IsDrawn form run.now stuck (W.contents writer.old) (W.contents writer.new)) }
     ensures err { IfErr result (λ fault. FailsToDraw fault form run.now
         (W.contents writer.old) (W.contents writer.new)) }
 {

@@ -1,7 +1,7 @@
 use Rattle.std.proofs.KnownBytes.{Keeps-trans}
 use Rattle.sdl_engine.proofs.notes.note_run.Goals as goal
 
-pub returns : goal.returns
-returns g c = λ cut strict known.
+pub returns-clause-quiet : goal.returns-clause-quiet
+returns-clause-quiet g c = λ cut strict known.
     Keeps-trans _ _ _ (c.note_failures.ensures strict)
-    (Keeps-trans _ _ _ (c.note_cut.ensures cut) (c.note_stuck.ensures known))
+    (Keeps-trans _ _ _ (c.note_cut.ensures cut) (c.note_stuck.ensures.quiet known))

@@ -7,7 +7,7 @@ use Rattle.sdl_engine.proofs.serial.tell_run.Goals as goal
 pub returns-in-Ok-clause-ok : goal.returns-in-Ok-clause-ok
 returns-in-Ok-clause-ok g c =
     let run = c.in-Ok.run' in
-    run_tells c.args.input.now c.args.options.now None run.system run.report run.sent _ _ c.report-told.result
+    run_tells c.args.input.now c.args.options.now None run.system run.report run.sent _ _ _ c.report-told.result
     c.requires.command c.requires.workers c.in-Ok.ensures.ok c.report-told.ensures.how c.report-told.ensures.ok
 
 pub returns-in-Ok-clause-err : goal.returns-in-Ok-clause-err

@@ -10,8 +10,9 @@ returns-in_err-write_json-clause-err g c =
     let p = err_from_is_err_and c.from_residual-in_err-write_json.result c.from_residual-in_err-write_json.ensures.1 in
     let run = c.args.run.now in
     let order = c.in_ok-order.order in
-    rw (p.1, p.2) (view_fails _ views.Json run.system run.report run.sent (json_text run.system run.report order.told) _ _
-    (record { told = order.told; stuck = order.stuck; is_timeline = c.in_ok-order.ensures.told; says = refl })
+    rw (p.1, p.2) (view_fails _ views.Json run.system run.report run.sent order.stuck
+    (json_text run.system run.report order.told order.stuck) _ _
+    (record { told = order.told; is_timeline = c.in_ok-order.ensures.told; says = refl })
     c.in_err-write_json.ensures.err)
 
 pub returns-clause-ok : goal.returns-clause-ok
@@ -19,10 +20,9 @@ returns-clause-ok g c =
     let run = c.args.run.now in
     let order = c.in_ok-order.order in
     record {
-      text = json_text run.system run.report order.told;
+      text = json_text run.system run.report order.told order.stuck;
       says = record {
         told = order.told;
-        stuck = order.stuck;
         is_timeline = c.in_ok-order.ensures.told;
         says = refl;
       };

@@ -10,8 +10,9 @@ returns-in_err-write_lines-clause-err g c =
     let p = err_from_is_err_and c.from_residual-in_err-write_lines.result c.from_residual-in_err-write_lines.ensures.1 in
     let run = c.args.run.now in
     let order = c.in_ok-order.order in
-    rw (p.1, p.2) (view_fails _ views.Lines run.system run.report run.sent (lines_text run.system run.report order.told run.sent) _ _
-    (record { told = order.told; stuck = order.stuck; is_timeline = c.in_ok-order.ensures.told; says = refl })
+    rw (p.1, p.2) (view_fails _ views.Lines run.system run.report run.sent order.stuck
+    (lines_text run.system run.report order.told order.stuck run.sent) _ _
+    (record { told = order.told; is_timeline = c.in_ok-order.ensures.told; says = refl })
     c.in_err-write_lines.ensures.err)
 
 pub returns-clause-ok : goal.returns-clause-ok
@@ -19,10 +20,9 @@ returns-clause-ok g c =
     let run = c.args.run.now in
     let order = c.in_ok-order.order in
     record {
-      text = lines_text run.system run.report order.told run.sent;
+      text = lines_text run.system run.report order.told order.stuck run.sent;
       says = record {
         told = order.told;
-        stuck = order.stuck;
         is_timeline = c.in_ok-order.ensures.told;
         says = refl;
       };

@@ -13,7 +13,7 @@ returns-in_err-write_msc-clause-err g c =
     let order = c.in_ok-order.order in
     rw (p.1, p.2) (text_fails _ run order.stuck order.told _ _ c.in_ok-order.ensures.told
     (subst (λ name. BreaksOff (g.W.Write.contents c.args.writer.now) (g.W.Write.contents c.write_msc.new.writer)
-    (msc_text name run.system order.told run.report)) c.name-name.ensures c.in_err-write_msc.ensures.err))
+    (msc_text name run.system order.told order.stuck run.report)) c.name-name.ensures c.in_err-write_msc.ensures.err))
 
 pub returns-clause-ok : goal.returns-clause-ok
 returns-clause-ok g c =
@@ -21,4 +21,4 @@ returns-clause-ok g c =
     let order = c.in_ok-order.order in
     text_drawn run order.stuck order.told _ _ c.in_ok-order.ensures.told
     (subst (λ name. Appends (g.W.Write.contents c.args.writer.now) (g.W.Write.contents c.write_msc.new.writer)
-    (msc_text name run.system order.told run.report)) c.name-name.ensures c.in_ok-write_msc.ensures.ok)
+    (msc_text name run.system order.told order.stuck run.report)) c.name-name.ensures c.in_ok-write_msc.ensures.ok)

@@ -10,4 +10,4 @@ returns-in_err-write_picture-clause-err g c =
 
 pub returns-clause-ok : goal.returns-clause-ok
 returns-clause-ok g c =
-    picture_drawn c.args.form c.args.run.now _ _ c.requires c.in_ok-write_picture.ensures.ok
+    picture_drawn c.args.form c.args.run.now _ _ _ c.requires c.in_ok-write_picture.ensures.ok
