@@ -39,11 +39,19 @@ fn selection(alloc: Global, run: &ArgMatches<'_>) -> Result<Selection, Mistake> 
     for word in run.get_strs("only").unwrap_or(&[]) {
         add(&mut only, wanted(alloc, word)?)?;
     }
-    Ok(Selection {
-        only,
-        from: time(run, "from"),
-        until: time(run, "until"),
-    })
+    let (from, until) = (time(run, "from"), time(run, "until"));
+    if is_empty(from, until) {
+        return Err(Mistake::Times);
+    }
+    Ok(Selection { only, from, until })
+}
+
+/// Whether no time is between these two.
+fn is_empty(from: Option<Ticks>, until: Option<Ticks>) -> bool {
+    match (from, until) {
+        (Some(from), Some(until)) => until < from,
+        _ => false,
+    }
 }
 
 /// Whether something is chosen, and not all of it.

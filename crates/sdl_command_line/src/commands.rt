@@ -24,6 +24,7 @@ Exit status:
   3  the run is refused, or a file can't be opened or written, or reading, writing or memory failed
   4  the command line has a mistake
   6  an instance failed, in a run with --strict
+  141  standard output is a pipe that nobody reads any more
 
 docs/LANGUAGE.md has the language, the script, the trace and all refusals.";
 

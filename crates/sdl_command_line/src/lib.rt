@@ -1,17 +1,20 @@
 //! The command line of `sdlrun`: its options, its help, and what it asks for.
 //!
 //! `read_command_line` reads it by the crate `clap`, and answers help and mistakes at once; `chosen` tells which words
-//! choose what. Options are read within their ranges, so what is chosen can be done as it is.
+//! choose what. Options are read within their ranges, so what is chosen can be done as it is. `overwritten_by` tells
+//! whether a file that is to be written is one of those that are read.
 #![tactic(auto)]
 
 mod chart;
 mod commands;
 mod coverage;
 mod mistake;
+mod overwriting;
 mod request;
 mod task;
 
 pub use chart::ChartFile;
 pub use coverage::CoverageFile;
+pub use overwriting::{Overwriting, overwritten_by};
 pub use request::{Request, read_command_line};
 pub use task::{InputFile, Task, chosen};

@@ -14,6 +14,8 @@ pub enum Mistake {
     Only,
     #[error("--only, --from and --until choose what a picture shows; a chart in `.mpr` has the whole run")]
     Whole,
+    #[error("--until is before --from, and no time is between them")]
+    Times,
     #[error("out of memory")]
     Memory,
 }

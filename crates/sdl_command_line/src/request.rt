@@ -1,11 +1,12 @@
 //! What the command line asks for.
 
+use crate::overwriting::{Overwriting, overwritten_by};
 use crate::task::{Task, chosen};
 use clap::Error;
 use clap::error::ErrorKind;
 use sdl_engine::TextFault;
-use std::env;
-use std::rt::Env;
+use std::rt::{Env, Files};
+use std::{env, io};
 
 /// The request of a command line.
 #[derive(Drop)]
@@ -15,12 +16,14 @@ pub enum Request {
     Answered,
     /// It has a mistake, which was told.
     Misused,
+    /// Nobody reads the answer.
+    PipeClosed,
     /// It could not be read.
     Fault(TextFault),
 }
 
 /// Reads the command line, and answers help and mistakes at once.
-pub fn read_command_line<R: Env + AllocGlobal + Print + Eprint>(rt: &R) -> Request {
+pub fn read_command_line<R: Env + AllocGlobal + Print + Eprint + Files>(rt: &R) -> Request {
     let Ok(arguments) = env::args(rt) else {
         return Request::Fault(TextFault::Memory);
     };
@@ -34,12 +37,17 @@ pub fn read_command_line<R: Env + AllocGlobal + Print + Eprint>(rt: &R) -> Reque
     }
 }
 
-/// The request of a task. To read both texts from standard input is a mistake, which is told.
-fn request_of<R: Eprint>(rt: &R, task: Task) -> Request {
+/// The request of a task. To read both texts from standard input is a mistake, which is told, and so is to write into a
+/// file that is read.
+fn request_of<R: Eprint + Files>(rt: &R, task: Task) -> Request {
     if task.reads_standard_input_twice() {
         let _ = eprintln!(rt;
             "error: a specification and its script can't both be read from standard input"
         );
+        return Request::Misused;
+    }
+    if let Some(Overwriting { option, text }) = overwritten_by(rt, &task) {
+        let _ = eprintln!(rt; "error: {option} would overwrite the file of {text}");
         return Request::Misused;
     }
     Request::Read(task)
@@ -50,12 +58,10 @@ fn told<R: Print + Eprint>(rt: &R, error: &Error) -> Request {
     if error.kind() == ErrorKind::OutOfMemory {
         return Request::Fault(TextFault::Memory);
     }
-    if error.print(rt).is_err() {
-        return Request::Fault(TextFault::Write);
-    }
-    if error.use_stderr() {
-        Request::Misused
-    } else {
-        Request::Answered
+    match error.print(rt) {
+        Ok(()) if error.use_stderr() => Request::Misused,
+        Ok(()) => Request::Answered,
+        Err(fault) if fault.kind() == io::ErrorKind::BrokenPipe => Request::PipeClosed,
+        Err(_) => Request::Fault(TextFault::Write),
     }
 }

@@ -30,13 +30,21 @@ pub struct Task {
 }
 
 impl Task {
+    /// Whether the specification or its script is read from standard input.
+    pub fn reads_standard_input(&self) -> bool {
+        self.text.is_standard_input() || self.reads_script_there()
+    }
+
     /// Whether the specification and its script are both read from standard input, which gives only one of them.
     pub fn reads_standard_input_twice(&self) -> bool {
-        self.text.is_standard_input()
-            && match &self.script {
-                Some(script) => script.is_standard_input(),
-                None => false,
-            }
+        self.text.is_standard_input() && self.reads_script_there()
+    }
+
+    fn reads_script_there(&self) -> bool {
+        match &self.script {
+            Some(script) => script.is_standard_input(),
+            None => false,
+        }
     }
 }
 

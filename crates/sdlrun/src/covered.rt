@@ -1,6 +1,6 @@
 //! The file that tells what a run covered.
 
-use crate::opened::Failure;
+use crate::failure::Failure;
 use crate::paper::Paper;
 use sdl_command_line::CoverageFile;
 use sdl_views::{ToldRun, cover};
@@ -13,7 +13,7 @@ pub fn cover_file(
 ) -> Result<(), Failure> {
     let mut paper = Paper::create(rt, coverage.name.as_str())?;
     match cover(rt.alloc(), told, coverage.form, &mut paper) {
-        Ok(()) => Ok(()),
+        Ok(()) => paper.finish(),
         Err(fault) => Err(paper.failure(fault)),
     }
 }

@@ -1,26 +1,11 @@
 //! Files and standard input, from which texts are read.
 
-use sdl_command_line::InputFile;
-use sdl_engine::TextFault;
-use std::alloc::AllocError;
+use crate::failure::Failure;
+use sdl_command_line::{InputFile, Task};
+use sdl_engine::{Source, TextFault};
 use std::fs::{self, File};
 use std::io::{self, ErrorKind, Read, Stdin};
-
-/// Why nothing can be told of a text.
-#[derive(Drop)]
-pub enum Failure {
-    /// The file of this name can't be opened, and why.
-    Unopened(String, io::Error),
-    /// The file of this name can't be written, and why.
-    Unwritten(String, io::Error),
-    Text(TextFault),
-}
-
-impl From<AllocError> for Failure {
-    fn from(_error: AllocError) -> Failure {
-        Failure::Text(TextFault::Memory)
-    }
-}
+use std::os::fd::AsFd;
 
 /// Where a text is read.
 #[derive(Drop)]
@@ -38,8 +23,27 @@ impl Read for Opened {
     }
 }
 
+/// The text and the script that a task names, opened. If standard input is closed, the first file that is opened gets
+/// its number, and would be read in its place. So that is looked at before.
+pub fn open_source(rt: &HostRuntime, task: &Task) -> Result<Source<Opened, Opened>, Failure> {
+    if task.reads_standard_input() && !is_open(rt.stdin()) {
+        return Err(Failure::Text(TextFault::Read));
+    }
+    let text = open_input(rt, &task.text)?;
+    let script = match &task.script {
+        Some(script) => Some(open_input(rt, script)?),
+        None => None,
+    };
+    Ok(Source { text, script })
+}
+
+/// Whether there is standard input: only then it can be opened a second time.
+fn is_open(input: Stdin) -> bool {
+    input.as_fd().try_clone_to_owned().is_ok()
+}
+
 /// Opens what is named. A folder can't be opened.
-pub fn open_input(rt: &HostRuntime, file: &InputFile) -> Result<Opened, Failure> {
+fn open_input(rt: &HostRuntime, file: &InputFile) -> Result<Opened, Failure> {
     match file {
         InputFile::StandardInput => Ok(Opened::StandardInput(rt.stdin())),
         InputFile::Named(name) => match open_file(rt, name.as_str()) {

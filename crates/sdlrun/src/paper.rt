@@ -1,54 +1,48 @@
 //! A file that is written of a run.
 
-use crate::opened::Failure;
+use crate::failure::Failure;
 use sdl_engine::TextFault;
-use std::fs::File;
-use std::io::{self, ErrorKind, Write};
+use sdl_views::OutputFile;
+use std::io::{self, Write};
 
-/// A file that keeps why it could not be written.
+/// A file with the name that it is to have.
 #[derive(Drop)]
-pub struct Paper {
+pub struct Paper<'r> {
     name: String,
-    file: File,
-    fault: Option<io::Error>,
+    file: OutputFile<'r, HostRuntime>,
 }
 
-impl Paper {
+impl<'r> Paper<'r> {
     /// The file of this name, made anew.
-    pub fn create(rt: &HostRuntime, name: &str) -> Result<Paper, Failure> {
+    pub fn create(rt: &'r HostRuntime, name: &str) -> Result<Paper<'r>, Failure> {
         let name = String::from_str(rt.alloc(), name)?;
-        match File::create(rt, name.as_str()) {
-            Ok(file) => Ok(Paper {
-                name,
-                file,
-                fault: None,
-            }),
+        match OutputFile::create(rt, name.as_str()) {
+            Ok(file) => Ok(Paper { name, file }),
             Err(error) => Err(Failure::Unwritten(name, error)),
         }
     }
 
+    /// Ends the file, once the whole text is written.
+    pub fn finish(self) -> Result<(), Failure> {
+        match self.file.finish() {
+            Ok(()) => Ok(()),
+            Err(error) => Err(Failure::Unwritten(self.name, error)),
+        }
+    }
+
     /// What comes of this fault of a text that was to be written into it.
-    pub fn failure(self, fault: TextFault) -> Failure {
+    pub fn failure(mut self, fault: TextFault) -> Failure {
         if fault != TextFault::Write {
             return Failure::Text(fault);
         }
-        match self.fault {
-            Some(error) => Failure::Unwritten(self.name, error),
-            None => Failure::Unwritten(self.name, io::Error::from(ErrorKind::WriteZero)),
-        }
+        let error = self.file.fault();
+        Failure::Unwritten(self.name, error)
     }
 }
 
-impl Write for Paper {
+impl Write for Paper<'_> {
     fn write(&mut self, bytes: &[u8]) -> io::Result<usize> {
-        match self.file.write(bytes) {
-            Ok(count) => Ok(count),
-            Err(error) => {
-                let told = io::Error::from(error.kind());
-                self.fault = Some(error);
-                Err(told)
-            }
-        }
+        self.file.write(bytes)
     }
 
     fn flush(&mut self) -> io::Result<()> {

@@ -1,8 +1,10 @@
 //! The text that is read: a file or standard input, and a script of its own, if one is named.
 
+use crate::answer::Answer;
 use crate::covered::cover_file;
 use crate::drawn::draw_file;
-use crate::opened::{Failure, Opened, open_input};
+use crate::failure::Failure;
+use crate::opened::{Opened, open_source};
 use sdl_command_line::{InputFile, Task};
 use sdl_engine::{
     Names, Notes, Options, Outcome, Source, TextFault, View, run_and_note, run_and_note_serially,
@@ -18,6 +20,8 @@ pub struct Told {
     pub outcome: Outcome,
     /// Whether an instance failed, if that counts.
     pub failed: bool,
+    /// Whether the order of the run is told, and isn't known to its end.
+    pub stuck: bool,
 }
 
 /// Does what the command line asks for with the text that it names. Then it draws the run, and tells what it covered, if
@@ -29,15 +33,17 @@ pub fn tell<T: Threads + Wait + Copy + Send + Sync>(
 ) -> Result<Told, Failure> {
     let mut source = open_source(rt, task)?;
     let mut notes = notes_of(rt, task);
-    let outcome = match tell_text(rt, threads, task, &mut source, &mut notes) {
+    let mut answer = Answer::new(rt.stdout());
+    let outcome = match tell_text(rt, threads, task, &mut source, &mut answer, &mut notes) {
         Ok(outcome) => outcome,
-        Err(fault) => return Err(Failure::Text(fault)),
+        Err(fault) => return Err(answer.failure(fault)),
     };
-    draw_run(rt, task, &notes)?;
+    let drawn = draw_run(rt, task, &notes)?;
     cover_run(rt, task, &notes)?;
     Ok(Told {
         outcome,
         failed: notes.failed,
+        stuck: notes.stuck.or(drawn).is_some(),
     })
 }
 
@@ -49,6 +55,7 @@ fn notes_of<'t>(rt: &HostRuntime, task: &'t Task) -> Notes<'t, Stderr> {
         explains: task.explain,
         strict: task.strict,
         failed: false,
+        stuck: None,
         keeps: task.chart.is_some() || task.coverage.is_some(),
         run: None,
         texts: None,
@@ -61,28 +68,32 @@ fn tell_text<T: Threads + Wait + Copy + Send + Sync>(
     threads: &T,
     task: &Task,
     source: &mut Source<Opened, Opened>,
+    answer: &mut Answer,
     notes: &mut Notes<'_, Stderr>,
 ) -> Result<Outcome, TextFault> {
     if task.quiet {
-        return tell_refusal(rt, threads, source, notes, &task.options);
+        return tell_refusal(rt, threads, source, answer, notes, &task.options);
     }
-    let mut writer = rt.stdout();
-    tell_to(rt, threads, source, &mut writer, notes, &task.options)
+    tell_to(rt, threads, source, answer, notes, &task.options)
 }
 
-/// Draws the run that is kept, if there is one. What isn't known of its order is said once.
-fn draw_run(rt: &HostRuntime, task: &Task, notes: &Notes<'_, Stderr>) -> Result<(), Failure> {
+/// Draws the run that is kept, if there is one. It answers the instance that can't go on in the order of the run, if one
+/// can't. That is said once.
+fn draw_run(
+    rt: &HostRuntime,
+    task: &Task,
+    notes: &Notes<'_, Stderr>,
+) -> Result<Option<u32>, Failure> {
     let (Some(chart), Some(run)) = (&task.chart, &notes.run) else {
-        return Ok(());
+        return Ok(None);
     };
     let stuck = draw_file(rt, run, chart)?;
-    if task.options.view != View::Trace {
-        return Ok(());
-    }
-    if let Some(number) = stuck {
+    if task.options.view == View::Trace
+        && let Some(number) = stuck
+    {
         let _ = eprintln!(rt; "sdlrun: the order isn't known from instance #{number} on");
     }
-    Ok(())
+    Ok(stuck)
 }
 
 /// Tells what the run covered that is kept, if there is one.
@@ -99,21 +110,12 @@ fn cover_run(rt: &HostRuntime, task: &Task, notes: &Notes<'_, Stderr>) -> Result
     cover_file(rt, &told, coverage)
 }
 
-/// The text and the script that a task names, opened.
-fn open_source(rt: &HostRuntime, task: &Task) -> Result<Source<Opened, Opened>, Failure> {
-    let text = open_input(rt, &task.text)?;
-    let script = match &task.script {
-        Some(script) => Some(open_input(rt, script)?),
-        None => None,
-    };
-    Ok(Source { text, script })
-}
-
 /// Does it, and writes nothing of a text that is accepted.
 fn tell_refusal<T: Threads + Wait + Copy + Send + Sync>(
     rt: &HostRuntime,
     threads: &T,
     source: &mut Source<Opened, Opened>,
+    answer: &mut Answer,
     notes: &mut Notes<'_, Stderr>,
     options: &Options,
 ) -> Result<Outcome, TextFault> {
@@ -122,7 +124,7 @@ fn tell_refusal<T: Threads + Wait + Copy + Send + Sync>(
     if outcome == Outcome::Whole {
         return Ok(outcome);
     }
-    match rt.stdout().write_all(&held) {
+    match answer.write_all(&held) {
         Ok(()) => Ok(outcome),
         Err(_) => Err(TextFault::Write),
     }
