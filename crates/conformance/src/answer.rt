@@ -50,6 +50,7 @@ pub fn silent_notes(alloc: Global) -> Notes<'static, Vec<u8>> {
         explains: false,
         strict: false,
         failed: false,
+        stuck: None,
         keeps: false,
         run: None,
         texts: None,
