@@ -1,9 +1,14 @@
 """Runs on threads, soaked: random specifications, the examples and some cases, each report judged (`tools/judge`).
 
-Each run is drawn by lot from its own seed: the text, how many workers, on how many processors, and the limit."""
+Each run is drawn by lot from its own seed: the text, how many workers, on how many processors, the limit, and whether
+its order is told. An order may be stuck if a transition sends to what is created because of what it sent before: only
+single events have an order then. Such orders are counted as circles. In some runs all instances are always able to
+step; there each must have had its turn."""
 
 import os
+import re
 import subprocess
+import tempfile
 import time
 from collections import Counter
 from collections.abc import Callable
@@ -12,14 +17,19 @@ from pathlib import Path
 from random import Random
 
 from judging.reports import CASES, DATA, of_examples, of_file
+from judging.turns import always_able, judge_turns
 from judging.verdict import judge
-from soaking import trace
+from soaking import told, trace
 from soaking.trace import Wrong, demand
 
 WORKERS = (1, 2, 3, 4, 7, 16)
 LIMITS = (1, 5, 20, 100, 400, 400, 3_000)
+# Of so many instances that are always able to step, with limits that leave the system time for all threads.
+ABLE = ((2, 200_000), (3, 200_000), (600, 100_000))
+ABLE_SHARE, KNOWN_SHARE = 0.02, 0.35
 FILES = ("features", "runs", "protocols", "edges", "routes")
-REFUSES_OPTIONS, SOON = 4, 0.2
+REFUSES_OPTIONS, SOON, FAULT = 4, 0.2, 3
+STUCK_NOTE = re.compile(rb"sdlrun: the order isn't known from instance #\d+ on\n")
 
 
 class NoThreads(Exception):
@@ -35,9 +45,25 @@ class Job:
     workers: int
     processors: int
     limit: int
+    is_ordered: bool = False
+    is_able: bool = False
 
     def __str__(self) -> str:
-        return f"{self.name}, {self.workers} workers on {self.processors} processors, limit {self.limit}"
+        ordered = ", in its order" if self.is_ordered else ""
+        return f"{self.name}, {self.workers} workers on {self.processors} processors, limit {self.limit}{ordered}"
+
+    def knows_numbers(self) -> bool:
+        """Whether the script may tell an instance the number of another one."""
+        return "#" in self.text.partition("%script")[2]
+
+
+@dataclass
+class Answer:
+    """The status of a run without the fault of its order, its report, and its order as text of Z.120."""
+
+    status: int
+    report: str
+    order: str | None
 
 
 @dataclass
@@ -68,7 +94,11 @@ class ThreadSoak:
 
     def job(self, seed: int) -> Job:
         lot = Random(f"threads {seed}")
-        if lot.random() < 0.35:
+        kind, able = lot.random(), None
+        if kind < ABLE_SHARE:
+            able = lot.choice(ABLE)
+            name, text = f"{able[0]} that are always able", always_able(able[0])
+        elif kind < KNOWN_SHARE:
             name = lot.choice(list(self.known))
             text = self.known[name]
         else:
@@ -76,15 +106,19 @@ class ThreadSoak:
             # The judge reads bytes, as the program does.
             name, text = "a random text", specimen.input(specimen.text).encode().decode("latin-1")
         processors = lot.choice([1, min(2, len(self.processors)), len(self.processors)])
-        return Job(f"seed {seed}, {name}", text, lot.choice(WORKERS), processors, lot.choice(LIMITS))
+        workers, limit = lot.choice(WORKERS), lot.choice(LIMITS)
+        if able:
+            return Job(f"seed {seed}, {name}", text, workers, processors, able[1], is_able=True)
+        return Job(f"seed {seed}, {name}", text, workers, processors, limit, is_ordered=lot.random() < 0.5)
 
     def soak_one(self, job: Job) -> None:
         self.tally["runs"] += 1
         self.by_workers[job.workers] += 1
         report = ""
         try:
-            status, report = self.run(job)
-            self.judge(job, status, report)
+            answer = self.run(job)
+            report = answer.report
+            self.judge(job, answer)
         except subprocess.TimeoutExpired:
             if self.is_long(job):
                 self.tally["long"] += 1
@@ -102,23 +136,36 @@ class ThreadSoak:
             return True
         return not self.has_workers
 
-    def ask(self, job: Job, workers: list[str], seconds: float) -> subprocess.CompletedProcess:
-        words, chosen = [self.program, "run", *workers, "--limit", str(job.limit)], self.processors[: job.processors]
+    def ask(self, job: Job, options: list[str], seconds: float) -> subprocess.CompletedProcess:
+        words, chosen = [self.program, "run", *options, "--limit", str(job.limit)], self.processors[: job.processors]
         return subprocess.run(
             words, input=job.text.encode("latin-1"), capture_output=True, timeout=seconds,
             preexec_fn=lambda: os.sched_setaffinity(0, chosen),
         )  # fmt: skip
 
-    def run(self, job: Job) -> tuple[int, str]:
-        """The status and the output of a run, which must write nothing else, except what cut it."""
-        ran = self.ask(job, ["--workers", str(job.workers)] if self.has_workers else [], self.seconds)
+    def run(self, job: Job) -> Answer:
+        """What comes of a run. It must write nothing else, except what cut it, and that its order isn't known."""
+        workers = ["--workers", str(job.workers)] if self.has_workers else []
+        if not job.is_ordered:
+            return self.answer(self.ask(job, workers, self.seconds), None)
+        with tempfile.TemporaryDirectory(prefix="soak-") as folder:
+            file = Path(folder, "order.mpr")
+            ran = self.ask(job, [*workers, "--chart", str(file)], self.seconds)
+            return self.answer(ran, file.read_text() if file.exists() else None)
+
+    def answer(self, ran: subprocess.CompletedProcess, order: str | None) -> Answer:
         if ran.returncode == REFUSES_OPTIONS:
             raise NoThreads(f"{' '.join(ran.args)}: {ran.stderr.decode(errors='replace')}")
         demand(ran.returncode in (0, 1, 3), f"status {ran.returncode}: {ran.stdout[:200]!r} {ran.stderr[:500]!r}")
-        demand(trace.is_note(ran.returncode, ran.stderr), f"on standard error: {ran.stderr[:500]!r}")
-        return ran.returncode, ran.stdout.decode()
+        report, said, status = ran.stdout.decode(), ran.stderr, ran.returncode
+        if order is not None and STUCK_NOTE.search(said):
+            demand(status == FAULT, f"status {status} of an order that isn't known to its end")
+            said, status = STUCK_NOTE.sub(b"", said), int(report.endswith(" cut\n"))
+        demand(trace.is_note(status, said), f"on standard error: {said[:500]!r}")
+        return Answer(status, report, order)
 
-    def judge(self, job: Job, status: int, report: str) -> None:
+    def judge(self, job: Job, answer: Answer) -> None:
+        status, report = answer.status, answer.report
         for word in ("Lost", "Memory"):
             if report.startswith(f"run {word}"):
                 self.tally[word] += 1
@@ -127,7 +174,17 @@ class ThreadSoak:
         self.tally["cut" if ran.is_cut else "whole"] += 1
         self.tally["transitions"] += trace.transitions(ran)
         demand(status == ran.is_cut, f"status {status} of a run that is {'cut' if ran.is_cut else 'whole'}")
-        judge(job.text, report, job.limit)
+        if job.is_able:
+            # The judge would take long, and the same text with a lower limit says as much.
+            self.tally["always able"] += 1
+            demand(ran.is_cut, "whole, though all were always able to step")
+            judge_turns(ran, job.limit)
+        else:
+            judge(job.text, report, job.limit)
+        if job.is_ordered:
+            demand(answer.order is not None, "no file has the order")
+            self.tally["orders"] += 1
+            self.tally["circles"] += told.judge(told.read(answer.order), ran, job.knows_numbers())
 
     def wrong(self, job: Job, report: str, what: str) -> None:
         """Tells what is wrong, and keeps the text and the report: the same run need not come again."""
@@ -140,6 +197,6 @@ class ThreadSoak:
             (self.keep / f"{stem}.report").write_text(report)
 
     def told(self) -> str:
-        kinds = ("runs", "whole", "cut", "long", "Lost", "Memory", "hang", "wrong", "transitions")
+        kinds = ("runs", "whole", "cut", "always able", "long", "Lost", "Memory", "hang", "wrong", "transitions", "orders", "circles")
         workers = ", ".join(f"{self.by_workers[number]} with {number}" for number in WORKERS)
         return ", ".join(f"{self.tally[kind]} {kind}" for kind in kinds) + f"; workers: {workers}"
