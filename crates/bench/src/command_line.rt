@@ -1,7 +1,6 @@
 //! The command line: what is measured, and with how much.
 
-use crate::measure::{Manner, Measure};
-use bench_texts::{Shape, Way};
+use crate::measure::{Manner, Measure, all, named};
 use clap::builder::ValueParser;
 use clap::error::ErrorKind;
 use clap::{Arg, ArgAction, ArgMatches, Command, Error};
@@ -13,11 +12,16 @@ use std::rt::Env;
 const HELP: &str = "Calls of a port:
   puts N       one sender puts N signals into a shared port, and its owner takes them
   four N       four senders put N signals together, each in a thread of its own, and a fifth thread takes them
-  saved N      10 N takes behind N saved signals
+  saved N      10 N takes after N saved signals
   urgent N     N takes of a priority input among N ordinary signals
   sets N       10 N sets and resets of a timer beside N waiting signals
   timers N     N timers are set, set again, asked for, expire and are taken
   finish N     N timers expire, and the port ends
+
+Rows of calls, each of which must answer as it should:
+  two-senders N        two senders put N signals each in two threads; the owner gathers both and takes
+  stop-and-workers N   N times: signals are put before a stop and after it, and all are left
+  save-in-port N       N times: saved signals stay for a state that takes them
 
 Whole runs of texts that are made for it:
   ring N H     N instances hand a token on H times, up their numbers or --down; N is 999 at most
@@ -39,128 +43,113 @@ Checks of texts of one shape, in N bytes:
 A run is serial without --workers. With --bare its time is that of the run alone: the text is read before, and no report
 is written.";
 
-/// The request of a command line.
+/// What the command line asks for.
 #[derive(Drop)]
-pub enum Request {
-    /// To measure this.
-    Measure { measure: Measure, manner: Manner },
-    /// To measure everything, with this number.
-    All { number: u64, manner: Manner },
-    /// To print this text.
-    Print(Shape),
-    /// It asked for help, which was printed.
-    Answered,
-    /// It has a mistake, which was told, or could not be read.
-    Misused,
+pub struct Request {
+    pub measures: Vec<Measure>,
+    pub manner: Manner,
 }
 
-/// Reads the command line, and answers help and mistakes at once.
-pub fn read_command_line<R: Env + AllocGlobal + Print + Eprint>(rt: &R) -> Request {
+/// Reads the command line. If there is nothing to do, gives the exit status: help was printed, or a mistake was told.
+pub fn read_command_line<R: Env + AllocGlobal + Print + Eprint>(rt: &R) -> Result<Request, u8> {
     let Ok(arguments) = env::args(rt) else {
-        return Request::Misused;
+        return Err(3);
     };
     let words: Vec<String> = match arguments.collect(rt.alloc()) {
         Ok(words) => words,
-        Err(_) => return Request::Misused,
+        Err(_) => return Err(3),
     };
     match asked(rt.alloc(), words.as_slice()) {
-        Ok(Some(request)) => request,
+        Ok(Some(request)) => Ok(request),
         Ok(None) => {
             let _ = eprintln!(rt;
-                "bench: there is nothing of that name with such numbers, or no text of it; --help has what there is"
+                "bench: there is nothing of that name with such numbers; --help has what there is"
             );
-            Request::Misused
+            Err(2)
         }
-        Err(error) => told(rt, &error),
+        Err(error) => Err(told(rt, &error)),
+    }
+}
+
+/// Prints what clap has to say, and gives the exit status.
+fn told<R: Print + Eprint>(rt: &R, error: &Error) -> u8 {
+    if error.kind() == ErrorKind::OutOfMemory {
+        return 3;
+    }
+    if error.print(rt).is_ok() && !error.use_stderr() {
+        0
+    } else {
+        2
     }
 }
 
 /// Reads the request from the words of the command line, the program's name first; none if there is no such thing.
 fn asked(alloc: Global, words: &[String]) -> Result<Option<Request>, Error> {
     let matches = command(alloc)?.try_get_matches_from(words)?;
-    Ok(requested(&matches))
-}
-
-/// The request of the arguments; none if there is no such thing.
-fn requested(matches: &ArgMatches<'_>) -> Option<Request> {
-    let name = matches.get_str("WHAT")?;
-    let number = matches.get_one::<u64>("N")?;
-    let times = matches.get_one::<u64>("H")?;
-    let manner = manner(matches);
-    let is_printed = matches.get_flag("print");
-    if name == "all" {
-        return (!is_printed).then_some(Request::All { number, manner });
-    }
-    match Measure::named(name, number, times, way(matches))? {
-        Measure::Text(shape) if is_printed => Some(Request::Print(shape)),
-        Measure::Calls(..) if is_printed => None,
-        measure => Some(Request::Measure { measure, manner }),
-    }
-}
-
-/// How it is measured. A number of workers that fits no `u8` is not in the range of the option.
-fn manner(matches: &ArgMatches<'_>) -> Manner {
-    Manner {
+    let measures = measures(alloc, &matches)?;
+    let manner = Manner {
+        is_printed: matches.get_flag("print"),
         is_timed: matches.get_flag("time"),
         is_bare: matches.get_flag("bare"),
-        workers: workers_of(matches),
+        workers: workers_of(&matches),
+    };
+    Ok((!measures.is_empty()).then_some(Request { measures, manner }))
+}
+
+/// What the arguments name; empty if there is no such thing.
+fn measures(alloc: Global, matches: &ArgMatches<'_>) -> Result<Vec<Measure>, AllocError> {
+    let (Some(name), Some(first), Some(second)) = (
+        matches.get_str("WHAT"),
+        matches.get_one::<u64>("N"),
+        matches.get_one::<u64>("H"),
+    ) else {
+        return Ok(Vec::new(alloc));
+    };
+    if name == "all" {
+        all(alloc, first)
+    } else {
+        named(alloc, name, matches.get_flag("down"), first, second)
     }
 }
 
+/// How many workers are asked for. A number that fits no `u8` is not in the range of the option.
 fn workers_of(matches: &ArgMatches<'_>) -> Option<u8> {
     let workers = matches.get_one::<u64>("workers")?;
     u8::try_from(workers).ok()
 }
 
-/// Which way round a ring.
-fn way(matches: &ArgMatches<'_>) -> Way {
-    if matches.get_flag("down") {
-        Way::Down
-    } else {
-        Way::Up
-    }
-}
-
 /// The program with its arguments and options.
 fn command<'a>(alloc: Global) -> Result<Command<'a>, AllocError> {
+    let what = Arg::new(alloc, "WHAT")
+        .required(true)
+        .help("What is done")
+        .value_parser(ValueParser::string());
     let command = Command::new(alloc, "bench")
         .about("Does one thing with much of something, and prints how much was done")
-        .after_help(HELP);
-    with_options(alloc, with_numbers(alloc, command)?)
-}
-
-/// Adds the arguments: the thing to measure, and with how much.
-fn with_numbers<'a>(alloc: Global, command: Command<'a>) -> Result<Command<'a>, AllocError> {
-    command
-        .arg(what(alloc))?
+        .after_help(HELP)
+        .arg(what)?
         .arg(number(alloc, "N", "With how much").required(true))?
-        .arg(number(alloc, "H", "How often").default_value("1000"))
+        .arg(number(alloc, "H", "How often").default_value("1000"))?;
+    with_options(alloc, command)
 }
 
-/// In which way.
+/// Adds the options: in which way.
 fn with_options<'a>(alloc: Global, command: Command<'a>) -> Result<Command<'a>, AllocError> {
+    let workers = Arg::new(alloc, "workers")
+        .long("workers")
+        .value_name("N")
+        .help("How many worker threads a run has")
+        .value_parser(ValueParser::unsigned(1, 16));
     command
         .arg(flag(alloc, "down", "Hands the token of a ring down the numbers"))?
-        .arg(flag(
-            alloc,
-            "print",
-            "Prints the text, in place of what was done with it",
-        ))?
+        .arg(flag(alloc, "print", "Prints the text, and does nothing with it"))?
         .arg(flag(alloc, "time", "Prints how long it took, too"))?
         .arg(flag(
             alloc,
             "bare",
-            "Runs a text without the time that its reading and its report take",
+            "Runs a text without reading it and without its report",
         ))?
-        .arg(workers(alloc))
-}
-
-/// The argument that names the thing to measure.
-fn what<'a>(alloc: Global) -> Arg<'a> {
-    Arg::new(alloc, "WHAT")
-        .required(true)
-        .help("What is done")
-        .value_parser(ValueParser::string())
+        .arg(workers)
 }
 
 /// A number.
@@ -170,29 +159,10 @@ fn number<'a>(alloc: Global, name: &'a str, help: &'a str) -> Arg<'a> {
         .value_parser(ValueParser::unsigned(1, 1_000_000_000))
 }
 
-/// The option for the worker threads of a run.
-fn workers<'a>(alloc: Global) -> Arg<'a> {
-    Arg::new(alloc, "workers")
-        .long("workers")
-        .value_name("N")
-        .help("How many worker threads a run has")
-        .value_parser(ValueParser::unsigned(1, 16))
-}
-
 /// An option without a value.
 fn flag<'a>(alloc: Global, name: &'a str, help: &'a str) -> Arg<'a> {
     Arg::new(alloc, name)
         .long(name)
         .help(help)
         .action(ArgAction::SetTrue)
-}
-
-/// Prints what clap has to say.
-fn told<R: Print + Eprint>(rt: &R, error: &Error) -> Request {
-    let is_printed = error.kind() != ErrorKind::OutOfMemory && error.print(rt).is_ok();
-    if is_printed && !error.use_stderr() {
-        Request::Answered
-    } else {
-        Request::Misused
-    }
 }

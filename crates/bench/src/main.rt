@@ -2,73 +2,73 @@
 //! cost. `bench WHAT N` does one thing with N of something, and prints how much was done; with `--time` it prints how
 //! long that took, too. `bench --help` lists what there is.
 //!
-//! `docs/PERFORMANCE.md` has the method and the figures. The gate runs all of it with a small number.
+//! `docs/PERFORMANCE.md` has the method and the figures. The gate runs all of it with a small number. Calls of the shared
+//! port that are refused for lack of memory are made again, once (`retry`); `tools/refuse-growth --rows` refuses each
+//! allocation of such calls in turn, as no proved test can.
 #![tactic(auto)]
 
-mod bare;
+mod alone;
+mod call;
 mod command_line;
+mod dense;
+mod fault;
 mod measure;
-mod whole;
+mod retry;
+mod rows;
+mod run;
+mod shared;
+mod signals;
+mod things;
 
-use bench_texts::Shape;
-use command_line::Request;
+use command_line::{Request, read_command_line};
+use fault::Fault;
 use measure::{Manner, Measure};
-use std::io;
 use std::process::ExitCode;
 use std::sync::Wait;
 use std::thread::Threads;
 use std::time::Clock;
 
 fn main(rt: HostRuntime) -> ExitCode {
-    let is_done = match command_line::read_command_line(&rt) {
-        Request::Answered => return ExitCode::SUCCESS,
-        Request::Misused => return ExitCode::from(2),
-        Request::Measure { measure, manner } => measured(&rt, measure, manner),
-        Request::All { number, manner } => all_measured(&rt, number, manner),
-        Request::Print(shape) => printed(&rt, shape),
-    };
-    match is_done {
-        Ok(true) => ExitCode::SUCCESS,
-        _ => ExitCode::from(1),
+    match read_command_line(&rt) {
+        Ok(request) => ExitCode::from(status_of(&rt, &request)),
+        Err(status) => ExitCode::from(status),
     }
 }
 
-/// Measures everything, up to what fails. False where something did.
-fn all_measured<R: AllocGlobal + Print + Eprint + Clock + Threads + Wait + Copy + Send + Sync>(
+/// Does what is asked for, up to what fails, and gives the exit status.
+fn status_of<R: AllocGlobal + Print + Eprint + Clock + Threads + Wait + Copy + Send + Sync>(
     rt: &R,
-    number: u64,
-    manner: Manner,
-) -> io::Result<bool> {
-    for measure in &Measure::all(rt.alloc(), number)? {
-        if !measured(rt, *measure, manner)? {
-            return Ok(false);
+    request: &Request,
+) -> u8 {
+    for measure in &request.measures {
+        if let Err(fault) = answered(rt, *measure, request.manner) {
+            let _ = eprintln!(rt; "bench: {measure}: {fault}");
+            return fault.status();
         }
     }
-    Ok(true)
+    0
 }
 
-/// Measures, and tells how much was done. False where it failed, which is told on standard error.
-fn measured<R: AllocGlobal + Print + Eprint + Clock + Threads + Wait + Copy + Send + Sync>(
+/// Prints a text, or does what is to be measured and tells how much was done.
+fn answered<R: AllocGlobal + Print + Clock + Threads + Wait + Copy + Send + Sync>(
     rt: &R,
     measure: Measure,
     manner: Manner,
-) -> io::Result<bool> {
-    let Some(done) = measure.done(rt, rt.alloc(), manner)? else {
-        eprintln!(rt; "bench: {measure}: out of memory, or the text is refused")?;
-        return Ok(false);
-    };
-    let count = done.count;
-    if manner.is_timed {
-        println!(rt; "{measure}: {count}, {} us", done.took.as_micros())?;
-    } else {
-        println!(rt; "{measure}: {count}")?;
+) -> Result<(), Fault> {
+    if manner.is_printed {
+        let text = measure.text(rt.alloc())?;
+        print!(rt; "{text}")?;
+        return Ok(());
     }
-    Ok(true)
-}
-
-/// Prints the text of a shape.
-fn printed<R: AllocGlobal + Print>(rt: &R, shape: Shape) -> io::Result<bool> {
-    let text = shape.text(rt.alloc())?;
-    print!(rt; "{text}")?;
-    Ok(true)
+    let done = measure.done(rt, rt.alloc(), manner)?;
+    let count = done.count;
+    print!(rt; "{measure}: {count}")?;
+    if let Some(call) = done.again {
+        print!(rt; ", {call} made again")?;
+    }
+    if manner.is_timed {
+        print!(rt; ", {} us", done.took.as_micros())?;
+    }
+    println!(rt; "")?;
+    Ok(())
 }

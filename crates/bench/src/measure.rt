@@ -1,26 +1,33 @@
-//! What is measured.
+//! A measurement.
 
-use crate::{bare, whole};
-use bench_port::Calls;
-use bench_texts::{Shape, Way};
+use crate::call::Call;
+use crate::fault::Fault;
+use crate::run::{bare_run, written};
+use crate::things::{ANY, Numbers, STATION, THINGS, Thing, What};
+use crate::{alone, rows, shared};
+use sdl_engine::Command;
 use std::alloc::{AllocError, Global};
+use std::fmt;
 use std::sync::Wait;
 use std::thread::Threads;
 use std::time::{Clock, Duration, Instant};
-use std::{fmt, io};
 
-/// A thing to measure.
+/// How many signals are sent in a row at most.
+const ROW: u64 = 1_000;
+
+/// A thing with its numbers. If it has one number alone, that is the first.
 #[derive(Clone, Copy)]
-pub enum Measure {
-    /// Calls of a port, with so many of something.
-    Calls(Calls, u64),
-    /// The run of a text, or its check.
-    Text(Shape),
+pub struct Measure {
+    pub thing: Thing,
+    pub first: u64,
+    pub second: u64,
 }
 
 /// How it is measured.
 #[derive(Clone, Copy)]
 pub struct Manner {
+    /// Whether the text is printed, and nothing is measured.
+    pub is_printed: bool,
     /// Whether the time is printed.
     pub is_timed: bool,
     /// Whether the time of a run is that of the run alone.
@@ -29,70 +36,143 @@ pub struct Manner {
     pub workers: Option<u8>,
 }
 
-/// How much was done, and how long that took.
+/// How much was done, how long that took, and which call was refused and made again.
 #[derive(Clone, Copy)]
 pub struct Done {
     pub count: u64,
     pub took: Duration,
+    pub again: Option<Call>,
 }
 
 impl Measure {
-    /// The thing of this name, with its numbers. None if there is nothing of this name, or not with these numbers.
-    pub fn named(name: &str, first: u64, second: u64, way: Way) -> Option<Measure> {
-        match Calls::named(name) {
-            Some(calls) => Some(Measure::Calls(calls, first)),
-            None => Some(Measure::Text(Shape::named(name, first, second, way)?)),
-        }
+    /// The text that is run or checked.
+    pub fn text(self, alloc: Global) -> Result<String, Fault> {
+        let text = match self.thing.what {
+            What::Run(specification) => self.run_text(alloc, specification, "")?,
+            What::Ring(specification) => self.run_text(alloc, specification, STATION)?,
+            What::Check(dense) => dense.text(alloc, self.first)?,
+            _ => return Err(Fault::Text),
+        };
+        Ok(text)
     }
 
-    /// Everything that there is, with one number.
-    pub fn all(alloc: Global, number: u64) -> Result<Vec<Measure>, AllocError> {
-        let mut all = Vec::new(alloc);
-        for calls in Calls::ALL {
-            all.push(Measure::Calls(calls, number))?;
-        }
-        for shape in Shape::all(number) {
-            all.push(Measure::Text(shape))?;
-        }
-        Ok(all)
+    /// A specification with the constants that it names, and behind it a script that ends once all instances rest.
+    fn run_text(
+        self,
+        alloc: Global,
+        specification: &str,
+        stations: &str,
+    ) -> Result<String, AllocError> {
+        let (first, second) = (self.first, self.second);
+        let most = first.min(ROW);
+        format!(in alloc;
+            "system S;
+synonym n Integer = {first}, h Integer = {second}, twice Integer = 2 * n, most Integer = {most};
+{specification}{stations}endsystem;
+%script
+0
+"
+        )
     }
 
-    /// Does it, and tells how much was done: signals taken, timers, bytes written, or, of a bare run, events. None if it
-    /// failed.
+    /// Does it, and tells how much was done: signals taken, timers, bytes written, or, of a bare run, events.
     pub fn done<R: Clock + Threads + Wait + Copy + Send + Sync>(
         self,
         rt: &R,
         alloc: Global,
         manner: Manner,
-    ) -> io::Result<Option<Done>> {
-        if let (Measure::Text(shape), true) = (self, manner.is_bare) {
-            return bare::ran(rt, alloc, shape, manner.workers);
+    ) -> Result<Done, Fault> {
+        if manner.is_bare {
+            let text = self.text(alloc)?;
+            return bare_run(rt, alloc, text.as_str(), manner.workers);
         }
+        let mut again = None;
         let start = Instant::now(rt)?;
-        let count = self.count(rt, alloc, manner.workers);
+        let count = self.count(rt, alloc, manner.workers, &mut again)?;
         let took = start.elapsed(rt)?;
-        Ok(count.map(|count| Done { count, took }))
+        Ok(Done { count, took, again })
     }
 
-    /// Does it, and tells how much was done. None if it failed.
+    /// Does it, and tells how much was done.
     fn count<R: Threads + Wait + Copy + Send + Sync>(
         self,
         rt: &R,
         alloc: Global,
         workers: Option<u8>,
-    ) -> Option<u64> {
-        match self {
-            Measure::Calls(calls, times) => calls.done(rt, alloc, times),
-            Measure::Text(shape) => whole::written(rt, alloc, shape, workers),
-        }
+        again: &mut Option<Call>,
+    ) -> Result<u64, Fault> {
+        let times = self.first;
+        let command = match self.thing.what {
+            What::Puts => return shared::puts(rt, alloc, times, again),
+            What::Four => return shared::puts_by_four(rt, alloc, times, again),
+            What::Finish => return shared::finishes(rt, alloc, times, again),
+            What::TwoSenders => return rows::two_senders(rt, alloc, times, again),
+            What::StopAndWorkers => return rows::stop_and_workers(rt, alloc, times, again),
+            What::SaveInPort => return rows::save_in_port(rt, alloc, times, again),
+            What::Saved => return alone::takes_past_saved(alloc, times).ok_or(Fault::Memory),
+            What::Urgent => return alone::takes_of_urgent(alloc, times).ok_or(Fault::Memory),
+            What::Sets => return alone::sets_beside_waiting(alloc, times).ok_or(Fault::Memory),
+            What::Timers => return alone::timers(alloc, times).ok_or(Fault::Memory),
+            What::Run(_) | What::Ring(_) => Command::Run,
+            What::Check(_) => Command::Check,
+        };
+        let text = self.text(alloc)?;
+        written(rt, alloc, text.as_bytes(), command, workers)
     }
 }
 
 impl fmt::Display for Measure {
     fn fmt<W: fmt::Write>(&self, f: &mut fmt::Formatter<W>) -> fmt::Result {
-        match self {
-            Measure::Calls(calls, times) => write!(f, "{} {times}", calls.name()),
-            Measure::Text(shape) => write!(f, "{shape}"),
+        write!(f, "{} {}", self.thing.name, self.first)?;
+        if let Numbers::Two { .. } = self.thing.numbers {
+            write!(f, " {}", self.second)?;
         }
+        f.write_str(if self.thing.is_down { " --down" } else { "" })
+    }
+}
+
+/// The thing of this name, with these numbers, if there is one.
+pub fn named(
+    alloc: Global,
+    name: &str,
+    is_down: bool,
+    first: u64,
+    second: u64,
+) -> Result<Vec<Measure>, AllocError> {
+    let mut found = Vec::new(alloc);
+    for thing in &THINGS {
+        if thing.name == name && thing.is_down == is_down && first <= most_of(thing) {
+            found.push(Measure {
+                thing: *thing,
+                first,
+                second,
+            })?;
+        }
+    }
+    Ok(found)
+}
+
+/// Each thing, with one number for all of its numbers.
+pub fn all(alloc: Global, number: u64) -> Result<Vec<Measure>, AllocError> {
+    let mut found = Vec::new(alloc);
+    for thing in &THINGS {
+        let first = match thing.numbers {
+            Numbers::Bytes => number.saturating_mul(10_000),
+            _ => number.min(most_of(thing)),
+        };
+        found.push(Measure {
+            thing: *thing,
+            first,
+            second: number,
+        })?;
+    }
+    Ok(found)
+}
+
+/// The greatest first number of a thing.
+fn most_of(thing: &Thing) -> u64 {
+    match thing.numbers {
+        Numbers::Two { most } => most,
+        Numbers::One | Numbers::Bytes => ANY,
     }
 }

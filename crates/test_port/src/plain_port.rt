@@ -1,6 +1,7 @@
 //! The port of one thread: puts, takes, timers, and what waits at the end.
 
-use port_model::{Class, Got, PlainPort, PortParts, Selection, Taken};
+use crate::calls::{item, selection};
+use port_model::{Class, Got, PlainPort, PortParts, Taken};
 use port_values::{Arm, Item, Pid, SignalId, Ticks, TimerKey, Value, Values};
 use std::alloc::Global;
 use std::process::Abort;
@@ -45,12 +46,7 @@ fn discarded(name: u32, number: i64) -> Told {
 }
 
 fn put(rt: &impl Abort, alloc: Global, port: &mut PlainPort, name: u32, number: i64) {
-    let item = Item {
-        name: SignalId(name),
-        values: Values::from_slice(alloc, &[Value::Int(number)]).expect(rt, "memory"),
-        sender: Pid::Env,
-    };
-    assert!(rt; port.put(item).is_ok());
+    assert!(rt; port.put(item(rt, alloc, name, number)).is_ok());
 }
 
 /// A port that holds signals 0, 1, 0, 1 with the values 1, 2, 3, 4.
@@ -71,7 +67,7 @@ fn expect_takes(
     classes: [Class; 2],
     expected: &[Told],
 ) {
-    let selection = Selection::new(classes.to_vec(alloc).expect(rt, "memory"));
+    let selection = selection(rt, alloc, &classes);
     for told_there in expected {
         let taken = port.take(&selection);
         assert!(rt; summary(&taken) == *told_there);

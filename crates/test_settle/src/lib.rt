@@ -1,10 +1,15 @@
-//! Tests of the settling of a run on threads. A run that is settled from its start on, so that the calling thread alone
-//! makes it, has the text of the serial run. If senders or an instance are lost, the number is told at which something
-//! is missing.
+//! Tests of runs on threads and of their settling.
+//!
+//! Rows of whole runs have one text whatever the schedule is; what no text tells is tested by a gate. Each row is run
+//! many times, so that what few schedules have, as a wrong text or a hang, is to show. A run that is settled from its
+//! start on, so that the calling thread alone makes it, has the text of the serial run. If senders or an instance are
+//! lost, the number is told at which something is missing.
 #![tactic(auto)]
 
 #[cfg(test)]
 mod cases;
+#[cfg(test)]
+mod gates;
 #[cfg(test)]
 mod given;
 #[cfg(test)]
@@ -12,4 +17,10 @@ mod lost;
 #[cfg(test)]
 mod rest;
 #[cfg(test)]
+mod rows;
+#[cfg(test)]
 mod runs;
+#[cfg(test)]
+mod texts;
+#[cfg(test)]
+mod turns;

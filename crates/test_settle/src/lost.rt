@@ -5,17 +5,13 @@ ghost use Rattle.threads_environment.specs.Environment.{IsOfEnv};
 
 use crate::given::{Given, make_given, text_of};
 use crate::runs::{Plan, Way, settle_named};
+use crate::texts::PING_PONG;
 use run_record::{Report, RunError};
 use std::alloc::Global;
 use std::process::Abort;
 use std::sync::Wait;
 
-/// A sends x to B, which sends y to A, and so on for ever.
-static PING_PONG: &str = "system S; signal x, y;
-    process A; start; output x; nextstate s; state s; input y; output x; nextstate -; endprocess;
-    process B; start; nextstate s; state s; input x; output y; nextstate -; endprocess; endsystem;";
-
-/// Both have made their first transition.
+/// The report of `PING_PONG` after the first transition of both.
 static CUT: &str = "\
 instance #1 A parent null
 0 start
@@ -29,7 +25,7 @@ cut s
 end 0 cut
 ";
 
-/// A run that is cut at its limit, the instance whose senders are lost then, and the number that is told.
+/// A run of `PING_PONG` that is cut at its limit, the instance whose senders are lost then, and the number that is told.
 struct Loss {
     limit: u64,
     senders_of: u32,

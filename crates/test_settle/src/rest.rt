@@ -4,9 +4,8 @@ ghost use Rattle.std.specs.Prelude.{All};
 ghost use Rattle.threads_environment.specs.Environment.{IsOfEnv};
 
 use crate::cases::{CASES, Case};
-use crate::given::{Given, make_given, text_of};
+use crate::given::{Given, make_given, serial_text, text_of};
 use crate::runs::{Plan, Way, settle_named};
-use serial_run::run_serial;
 use std::alloc::Global;
 use std::process::Abort;
 use std::sync::Wait;
@@ -62,11 +61,9 @@ fn expect_text<R: Wait + Abort + Copy>(rt: &R, name: &str, given: &Given, plan: 
     requires { All IsOfEnv given.now.script.lines.items }
 {
     let Plan { alloc, limit, .. } = plan;
-    let system = &given.system;
-    let serial = run_serial(alloc, system, &given.script, limit).expect(rt, "a serial report");
+    let wanted = serial_text(rt, alloc, given, limit);
     let settled = settle_named(rt, given, plan).expect(rt, "a settled report");
-    let wanted = text_of(rt, alloc, &serial, system);
-    let text = text_of(rt, alloc, &settled, system);
+    let text = text_of(rt, alloc, &settled, &given.system);
     assert!(rt;
         text.as_str() == wanted.as_str(),
         "{name}, limit {limit}: not {wanted}, but {text}"

@@ -42,6 +42,7 @@ fn notes(alloc: Global, text: &str, keeps: bool) -> Notes<'static, Vec<u8>> {
         explains: false,
         strict: false,
         failed: false,
+        stuck: None,
         keeps,
         run: None,
         texts: None,

@@ -2,6 +2,7 @@
 
 ghost use Rattle.sdl_engine.specs.Answer.{IsSerial};
 
+use crate::covered::COVERED;
 use crate::devices::Narrow;
 use sdl_engine::{
     Command, Names, Notes, Options, Outcome, Source, TextFault, View, run_and_note,
@@ -49,13 +50,17 @@ P: states 2 of 3, stimuli 2 of 4, answers 2 of 2
   10:7  in u             input b  0
 ";
 
-/// The same as a tracefile. A line is of a stimulus or of a decision.
+/// The same as a tracefile. A line is of a stimulus or of a decision. The file's name has an end of line in it.
 static TRACEFILE: &str = "TN:
-SF:some.sdl
-BRDA:6,0,0,2
-BRDA:6,0,1,1
-BRF:2
-BRH:2
+SF:so?me.sdl
+BRDA:4,7,0,3
+BRDA:6,1,0,2
+BRDA:6,1,1,1
+BRDA:8,7,0,1
+BRDA:10,7,1,0
+BRDA:10,7,2,0
+BRF:6
+BRH:4
 DA:4,3
 DA:6,3
 DA:8,1
@@ -151,6 +156,7 @@ fn notes(alloc: Global, keeps: bool) -> Notes<'static, Vec<u8>> {
         explains: false,
         strict: false,
         failed: false,
+        stuck: None,
         keeps,
         run: None,
         texts: None,
@@ -189,7 +195,7 @@ fn kept<'n>(rt: &impl Abort, notes: &'n Notes<'_, Vec<u8>>, options: &'n Options
         run: notes.run.as_ref().expect(rt, "a run"),
         texts: notes.texts.as_ref().expect(rt, "its texts"),
         options,
-        source: "some.sdl",
+        source: "so\nme.sdl",
     }
 }
 
@@ -290,4 +296,22 @@ fn expect_fault(rt: &impl Abort, alloc: Global, form: Form) {
     let told = cover(alloc, &kept(rt, &notes, &SERIAL), form, &mut writer);
     assert!(rt; told == Err(TextFault::Write));
     assert!(rt; writer.taken.len() == 20);
+}
+
+/// What the runs of whole texts covered. A run that counts as one with workers is told so by its options alone.
+#[test]
+fn tells_what_texts_cover(rt: HostRuntime) {
+    for case in &COVERED {
+        let notes = told(rt.alloc(), case.text, true, &SERIAL);
+        let options = if case.on_threads {
+            &BY_WORKERS
+        } else {
+            &SERIAL
+        };
+        let name = case.name;
+        let plain = covered(&rt, rt.alloc(), &notes, options, Form::Plain);
+        assert!(rt; plain.as_slice() == case.plain.as_bytes(), "{name}");
+        let tracefile = covered(&rt, rt.alloc(), &notes, options, Form::Lcov);
+        assert!(rt; tracefile.as_slice() == case.tracefile.as_bytes(), "{name}");
+    }
 }

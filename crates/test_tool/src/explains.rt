@@ -29,9 +29,8 @@ static BAD_LINE: &str = "system S; signal a; endsystem;\n%script\n0\n 7 a\n";
 
 /// The line is the fourth of the file, and the second of the script.
 static BAD_LINE_EXPLAINED: &str =
-    "twice.sdl:4:4: `a` can't be sent: no signal of the system itself has this name; or no \
-channel leads it from `env` to a process, or no process has the name after `to`. Define it in the system, name it in a \
-channel from `env`, or mend the spelling.
+    "twice.sdl:4:4: `a` reaches no process: no channel carries it from `env`, and where there \
+are no channels, no process names it. Name it after `with` in a channel from `env`, or name a process: `0 a to P`.
 4 |  7 a
        ^
 ";
@@ -47,6 +46,7 @@ fn explaining<N>(writer: N) -> Notes<'static, N> {
         explains: true,
         strict: false,
         failed: false,
+        stuck: None,
         keeps: false,
         run: None,
         texts: None,
@@ -134,12 +134,18 @@ static LOOP: &str =
 
 static CUT: &str = "sdlrun: cut after 5 transitions; the clock never moved; --limit shows less\n";
 
+static CUT_AT_ONE: &str =
+    "sdlrun: cut after 1 transition; the clock never moved; --limit shows less\n";
+
 #[test]
 fn tells_what_cut_a_run(rt: HostRuntime) {
     let mut notes = explaining(Vec::new(rt.alloc()));
     let told = run(rt.alloc(), LOOP, 5, &mut notes);
     assert!(rt; told == Ok(Outcome::Cut));
     assert!(rt; notes.writer.as_slice() == CUT.as_bytes());
+    let mut notes = explaining(Vec::new(rt.alloc()));
+    let _ = run(rt.alloc(), LOOP, 1, &mut notes);
+    assert!(rt; notes.writer.as_slice() == CUT_AT_ONE.as_bytes());
 }
 
 /// The line of the refusal is told all the same.

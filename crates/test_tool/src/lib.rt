@@ -16,6 +16,8 @@ mod command_line;
 #[cfg(test)]
 mod coverage;
 #[cfg(test)]
+mod covered;
+#[cfg(test)]
 mod devices;
 #[cfg(test)]
 mod ends;
@@ -23,6 +25,8 @@ mod ends;
 mod engine;
 #[cfg(test)]
 mod explains;
+#[cfg(test)]
+mod files;
 #[cfg(test)]
 mod own_script;
 #[cfg(test)]

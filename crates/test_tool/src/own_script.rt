@@ -66,6 +66,7 @@ fn run<S: Read + Drop>(alloc: Global, script: Option<S>) -> Told {
         explains: true,
         strict: false,
         failed: false,
+        stuck: None,
         keeps: false,
         run: None,
         texts: None,

@@ -1,14 +1,21 @@
-//! Tests of the views of a report: specifications with scripts, with their lines and their JSON. They stand above the
-//! views, so that these aren't proved a second time for their tests.
+//! Tests of the views of a report that no text shows: what is laid out in a chart, and what its pictures say in words.
+//! They stand above the views, so that these aren't proved a second time for their tests. Lines, JSON, texts of Z.120 and
+//! whole pictures are cases of `conformance`.
 #![tactic(auto)]
 
 #[cfg(test)]
-mod examples;
+mod charts;
 #[cfg(test)]
-mod inres;
+mod crowd;
 #[cfg(test)]
-mod kinds;
+mod orders;
 #[cfg(test)]
-mod lost;
+mod pictures;
 #[cfg(test)]
-mod workers;
+mod relay;
+#[cfg(test)]
+mod runs;
+#[cfg(test)]
+mod spent;
+#[cfg(test)]
+mod texts;

@@ -1,0 +1,143 @@
+//! Reports whose records come from two runs: no order of whole transitions tells them to their end.
+
+use crate::texts::{in_json, in_lines, report_of, system_of};
+use run_record::Report;
+use sdl_system::System;
+use std::alloc::Global;
+use std::mem::swap;
+use std::process::Abort;
+
+/// A sends to B and then to Q in one transition. B creates Q when it takes what A sent, or when it's told to before.
+static CIRCLE: &str = "system Circle;
+
+signal make, go, note;
+
+process A;
+  timer T;
+
+  start;
+    set(now + 5, T);
+    nextstate waiting;
+
+  state waiting;
+    input T;
+      output go to B;
+      output note to Q;
+      nextstate -;
+  endstate waiting;
+endprocess A;
+
+process B;
+  start;
+    nextstate making;
+
+  state making;
+    input make, go;
+      create Q;
+      nextstate -;
+  endstate making;
+endprocess B;
+
+process Q (0, 1);
+  start;
+    nextstate taking;
+
+  state taking;
+    input note;
+      nextstate -;
+  endstate taking;
+endprocess Q;
+
+endsystem Circle;
+";
+
+static CIRCLE_LINES: &str = "0 #1 A start
+  set T 5
+  nextstate waiting
+0 #2 B start
+  nextstate making
+end 6 whole
+order: not known from #1 on
+";
+
+/// A reader takes what a writer sends once the environment asks for it.
+static UNSENT: &str = "system Unsent;
+
+signal ask, word;
+
+process Reader;
+  start;
+    nextstate reading;
+
+  state reading;
+    input word;
+      nextstate -;
+  endstate reading;
+endprocess Reader;
+
+process Writer;
+  start;
+    nextstate writing;
+
+  state writing;
+    input ask;
+      output word to Reader;
+      nextstate -;
+  endstate writing;
+endprocess Writer;
+
+endsystem Unsent;
+";
+
+static UNSENT_LINES: &str = "0 #1 Reader start
+  nextstate reading
+0 #2 Writer start
+  nextstate writing
+end 0 whole
+order: not known from #1 on
+";
+
+static UNSENT_JSON: &str = "\
+    {\"at\":0,\"instance\":1,\"process\":\"Reader\",\"by\":\"start\",\"does\":[{\"nextstate\":\"reading\"}]}\n\
+    {\"at\":0,\"instance\":2,\"process\":\"Writer\",\"by\":\"start\",\"does\":[{\"nextstate\":\"writing\"}]}\n\
+    {\"end\":0,\"whole\":true,\"instances\":[{\"instance\":1,\"process\":\"Reader\",\"parent\":null,\
+    \"rest\":\"reading\"},{\"instance\":2,\"process\":\"Writer\",\"parent\":null,\"rest\":\"writing\"}]}\n\
+    {\"stuck\":1}\n";
+
+/// Nobody makes the whole of its transition first.
+#[test]
+fn orders_whole_transitions(rt: HostRuntime) {
+    let system = system_of(&rt, rt.alloc(), CIRCLE);
+    let report = mixed(&rt, rt.alloc(), &system, "0 make\n6\n", "6\n", 1);
+    let lines = in_lines(rt.alloc(), &system, &report, 0).expect(&rt, "lines");
+    assert!(rt; lines.as_slice() == CIRCLE_LINES.as_bytes());
+}
+
+#[test]
+fn says_where_the_order_ends(rt: HostRuntime) {
+    let system = system_of(&rt, rt.alloc(), UNSENT);
+    let report = mixed(&rt, rt.alloc(), &system, "0 ask\n", "0\n", 1);
+    let lines = in_lines(rt.alloc(), &system, &report, 0).expect(&rt, "lines");
+    assert!(rt; lines.as_slice() == UNSENT_LINES.as_bytes());
+    let json = in_json(rt.alloc(), &system, &report).expect(&rt, "JSON");
+    assert!(rt; json.as_slice() == UNSENT_JSON.as_bytes());
+}
+
+/// The report of the run on one script, with the record at this place from the run on another one.
+fn mixed<R: Abort>(
+    rt: &R,
+    alloc: Global,
+    system: &System,
+    script: &str,
+    other: &str,
+    place: usize,
+) -> Report {
+    let mut report = report_of(rt, alloc, system, script);
+    let mut strange = report_of(rt, alloc, system, other);
+    let record = report.records.get_mut(place).expect(rt, "a record");
+    swap(
+        record,
+        strange.records.get_mut(place).expect(rt, "a record"),
+    );
+    report
+}
