@@ -1,4 +1,5 @@
 pub mod Environment
+pub mod Knowledge
 pub mod Laws
 pub mod Memory
 pub mod Value

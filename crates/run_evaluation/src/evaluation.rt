@@ -1,24 +1,18 @@
 //! The evaluation of expressions (Z.104: expressions).
 
 ghost use Rattle.std.specs.Prelude.{◌≡◌, Ok, IfErr, IfOk, IfSome, map, true};
-ghost use Rattle.port_model.specs.Port.{PortState};
-ghost use Rattle.sdl_system.specs.System.{SystemValue};
 ghost use Rattle.sdl_system.specs.Term.{operand_of, term_of, term_of_chain};
-ghost use Rattle.run_evaluation.specs.Environment.{environment};
+ghost use Rattle.run_evaluation.specs.Knowledge.{environment_of};
 ghost use Rattle.run_evaluation.specs.Memory.{FailsAs, list_wants_memory, wants_memory};
 ghost use Rattle.run_evaluation.specs.Variables.{value_in};
-ghost use Rattle.run_evaluation.specs.declared.identity.Identity as identity;
-ghost use Rattle.run_evaluation.specs.Value.{accessed, at_place, key_at, operated, pid_in, placed, time_value, truth_at, value_of, values_at};
+ghost use Rattle.run_evaluation.specs.Value.{accessed, at_place, key_at, operated, placed, time_value, truth_at, value_of, values_at};
 
-use crate::identity::Identity;
-use crate::sorts::sorts_of;
+use crate::knowledge::Knowledge;
 use crate::store::Store;
 use port_inbox::Inbox;
-use port_values::{Pid, SignalId, Ticks, TimerKey, Value, Values};
+use port_values::{SignalId, Ticks, TimerKey, Value, Values};
 use run_record::Failure;
-use sdl_system::{
-    Chain, Expression, Link, PidExpression, Sort, System, VariableId, in_sort, truth_of,
-};
+use sdl_system::{Chain, Expression, Link, Sort, VariableId, in_sort, truth_of};
 use std::alloc::Global;
 
 /// Evaluates an expression for an instance of the system. Errors: `Overflow` for a number or a time past 64 bits,
@@ -30,24 +24,19 @@ use std::alloc::Global;
 pub fn evaluate<P: Inbox>(
     alloc: Global,
     expression: &Expression,
-    system: &System,
-    who: &Identity,
-    store: &Store,
-    inbox: &P,
+    knowledge: &Knowledge<'_, P>,
 ) -> Result<Value, Failure>
-    requires { (P.owning inbox.now).state.alive ≡ true }
-    ensures ok { let here = environment system.now who.now store.now (P.owning inbox.now).state in
-        IfOk result (λ value. value_of here (term_of expression.now) ≡ Ok value) }
-    ensures err { let here = environment system.now who.now store.now (P.owning inbox.now).state in
+    ensures ok { IfOk result (λ value. value_of (environment_of knowledge.now) (term_of expression.now) ≡ Ok value) }
+    ensures err { let here = environment_of knowledge.now in
         let term = term_of expression.now in
         IfErr result (λ why. FailsAs (wants_memory term) (value_of here term) why) }
 {
-    if let Some(value) = store.known(expression) {
+    if let Some(value) = knowledge.known(expression) {
         return Ok(value);
     }
     match expression {
-        Expression::Chain(chain) => evaluate_chain(alloc, chain, system, who, store, inbox),
-        _ => evaluate_any(alloc, expression, system, who, store, inbox),
+        Expression::Chain(chain) => evaluate_chain(alloc, chain, knowledge),
+        _ => evaluate_any(alloc, expression, knowledge),
     }
 }
 
@@ -58,32 +47,27 @@ pub fn evaluate<P: Inbox>(
 fn evaluate_any<P: Inbox>(
     alloc: Global,
     expression: &Expression,
-    system: &System,
-    who: &Identity,
-    store: &Store,
-    inbox: &P,
+    knowledge: &Knowledge<'_, P>,
 ) -> Result<Value, Failure>
-    requires { (P.owning inbox.now).state.alive ≡ true }
-    ensures ok { let here = environment system.now who.now store.now (P.owning inbox.now).state in
-        IfOk result (λ value. value_of here (term_of expression.now) ≡ Ok value) }
-    ensures err { let here = environment system.now who.now store.now (P.owning inbox.now).state in
+    ensures ok { IfOk result (λ value. value_of (environment_of knowledge.now) (term_of expression.now) ≡ Ok value) }
+    ensures err { let here = environment_of knowledge.now in
         let term = term_of expression.now in
         IfErr result (λ why. FailsAs (wants_memory term) (value_of here term) why) }
 {
     match expression {
         Expression::Value(value) => Ok(*value),
-        Expression::Variable(variable) => read(store, *variable),
-        Expression::Now => time_value(store.time),
-        Expression::Pid(word) => Ok(Value::Pid(pid_of(*word, who, store))),
+        Expression::Variable(variable) => read(knowledge.store(), *variable),
+        Expression::Now => time_value(knowledge.store().time),
+        Expression::Pid(word) => Ok(Value::Pid(knowledge.pid_of(*word))),
         Expression::Active { timer, values } => {
-            let key = evaluate_key(alloc, *timer, values, system, who, store, inbox)?;
-            Ok(Value::Bool(inbox.active(&key)))
+            let key = evaluate_key(alloc, *timer, values, knowledge)?;
+            Ok(Value::Bool(knowledge.active(&key)))
         }
         Expression::Unary { operation, operand } => {
-            let operand = evaluate(alloc, operand, system, who, store, inbox)?;
+            let operand = evaluate(alloc, operand, knowledge)?;
             Ok(operation.apply(operand)?)
         }
-        Expression::Chain(chain) => evaluate_chain(alloc, chain, system, who, store, inbox),
+        Expression::Chain(chain) => evaluate_chain(alloc, chain, knowledge),
     }
 }
 
@@ -93,37 +77,33 @@ fn evaluate_any<P: Inbox>(
 fn evaluate_chain<P: Inbox>(
     alloc: Global,
     chain: &Chain,
-    system: &System,
-    who: &Identity,
-    store: &Store,
-    inbox: &P,
+    knowledge: &Knowledge<'_, P>,
 ) -> Result<Value, Failure>
-    requires { (P.owning inbox.now).state.alive ≡ true }
-    ensures ok { let here = environment system.now who.now store.now (P.owning inbox.now).state in
-        IfOk result (λ value. value_of here (term_of_chain chain.now) ≡ Ok value) }
-    ensures err { let here = environment system.now who.now store.now (P.owning inbox.now).state in
+    ensures ok { IfOk result (λ value. value_of (environment_of knowledge.now) (term_of_chain chain.now) ≡ Ok value) }
+    ensures err { let here = environment_of knowledge.now in
         let term = term_of_chain chain.now in
         IfErr result (λ why. FailsAs (wants_memory term) (value_of here term) why) }
 {
-    match evaluate_pair(chain, store) {
+    match evaluate_pair(chain, knowledge) {
         Some(answer) => answer,
-        None => evaluate_links(alloc, chain, system, who, store, inbox),
+        None => evaluate_links(alloc, chain, knowledge),
     }
 }
 
 /// Evaluates a chain of two operands that are known. None: it is another chain.
 #[inline(always)]
-fn evaluate_pair(chain: &Chain, store: &Store) -> Option<Result<Value, Failure>>
-    ensures { (system : SystemValue) (who : identity.Identity) (port : PortState)
-        → IfSome result
-        (λ answer. value_of (environment system who store.now port) (term_of_chain chain.now) ≡ answer) }
+fn evaluate_pair<P: Inbox>(
+    chain: &Chain,
+    knowledge: &Knowledge<'_, P>,
+) -> Option<Result<Value, Failure>>
+    ensures { IfSome result (λ answer. value_of (environment_of knowledge.now) (term_of_chain chain.now) ≡ answer) }
 {
     if chain.rest.len() != 1 {
         return None;
     }
     let link = &chain.rest[0];
-    let left = store.known(&chain.first)?;
-    let right = store.known(&link.operand)?;
+    let left = knowledge.known(&chain.first)?;
+    let right = knowledge.known(&link.operand)?;
     match link.operation.apply(left, right) {
         Ok(value) => Some(Ok(value)),
         Err(why) => Some(Err(Failure::from(why))),
@@ -136,21 +116,16 @@ fn evaluate_pair(chain: &Chain, store: &Store) -> Option<Result<Value, Failure>>
 fn evaluate_links<P: Inbox>(
     alloc: Global,
     chain: &Chain,
-    system: &System,
-    who: &Identity,
-    store: &Store,
-    inbox: &P,
+    knowledge: &Knowledge<'_, P>,
 ) -> Result<Value, Failure>
-    requires { (P.owning inbox.now).state.alive ≡ true }
-    ensures ok { let here = environment system.now who.now store.now (P.owning inbox.now).state in
-        IfOk result (λ value. value_of here (term_of_chain chain.now) ≡ Ok value) }
-    ensures err { let here = environment system.now who.now store.now (P.owning inbox.now).state in
+    ensures ok { IfOk result (λ value. value_of (environment_of knowledge.now) (term_of_chain chain.now) ≡ Ok value) }
+    ensures err { let here = environment_of knowledge.now in
         let term = term_of_chain chain.now in
         IfErr result (λ why. FailsAs (wants_memory term) (value_of here term) why) }
 {
-    let mut value = evaluate(alloc, &chain.first, system, who, store, inbox)?;
+    let mut value = evaluate(alloc, &chain.first, knowledge)?;
     for link in &chain.rest {
-        value = evaluate_link(alloc, value, link, system, who, store, inbox)?;
+        value = evaluate_link(alloc, value, link, knowledge)?;
     }
     Ok(value)
 }
@@ -162,21 +137,17 @@ fn evaluate_link<P: Inbox>(
     alloc: Global,
     left: Value,
     link: &Link,
-    system: &System,
-    who: &Identity,
-    store: &Store,
-    inbox: &P,
+    knowledge: &Knowledge<'_, P>,
 ) -> Result<Value, Failure>
-    requires { (P.owning inbox.now).state.alive ≡ true }
-    ensures ok { let here = environment system.now who.now store.now (P.owning inbox.now).state in
+    ensures ok { let here = environment_of knowledge.now in
         let right = operand_of link.now in
         IfOk result (λ value. operated right.operation (Ok left) (value_of here right.term) ≡ Ok value) }
-    ensures err { let here = environment system.now who.now store.now (P.owning inbox.now).state in
+    ensures err { let here = environment_of knowledge.now in
         let right = operand_of link.now in
         let meant = operated right.operation (Ok left) (value_of here right.term) in
         IfErr result (λ why. FailsAs (wants_memory right.term) meant why) }
 {
-    let right = evaluate(alloc, &link.operand, system, who, store, inbox)?;
+    let right = evaluate(alloc, &link.operand, knowledge)?;
     Ok(link.operation.apply(left, right)?)
 }
 
@@ -187,19 +158,15 @@ pub fn evaluate_at<P: Inbox>(
     alloc: Global,
     expression: &Expression,
     sort: Option<Sort>,
-    system: &System,
-    who: &Identity,
-    store: &Store,
-    inbox: &P,
+    knowledge: &Knowledge<'_, P>,
 ) -> Result<Value, Failure>
-    requires { (P.owning inbox.now).state.alive ≡ true }
-    ensures ok { let here = environment system.now who.now store.now (P.owning inbox.now).state in
+    ensures ok { let here = environment_of knowledge.now in
         IfOk result (λ value. at_place sort (value_of here (term_of expression.now)) ≡ Ok value) }
-    ensures err { let here = environment system.now who.now store.now (P.owning inbox.now).state in
+    ensures err { let here = environment_of knowledge.now in
         let term = term_of expression.now in
         IfErr result (λ why. FailsAs (wants_memory term) (at_place sort (value_of here term)) why) }
 {
-    let value = evaluate(alloc, expression, system, who, store, inbox)?;
+    let value = evaluate(alloc, expression, knowledge)?;
     place(value, sort)
 }
 
@@ -211,21 +178,17 @@ pub fn evaluate_all<P: Inbox>(
     alloc: Global,
     expressions: &[Expression],
     sorts: &[Sort],
-    system: &System,
-    who: &Identity,
-    store: &Store,
-    inbox: &P,
+    knowledge: &Knowledge<'_, P>,
 ) -> Result<Values, Failure>
-    requires { (P.owning inbox.now).state.alive ≡ true }
-    ensures ok { let here = environment system.now who.now store.now (P.owning inbox.now).state in
+    ensures ok { let here = environment_of knowledge.now in
         IfOk result (λ values. values_at here sorts.now (map term_of expressions.now) ≡ Ok values) }
-    ensures err { let here = environment system.now who.now store.now (P.owning inbox.now).state in
+    ensures err { let here = environment_of knowledge.now in
         let terms = map term_of expressions.now in
         IfErr result (λ why. FailsAs (list_wants_memory terms) (values_at here sorts.now terms) why) }
 {
     let mut values = Values::none(alloc);
     for (index, expression) in expressions.iter().enumerate() {
-        let value = evaluate(alloc, expression, system, who, store, inbox)?;
+        let value = evaluate(alloc, expression, knowledge)?;
         let value = place(value, sorts.get(index).copied())?;
         if let Err(_) = values.push(value) {
             return Err(Failure::Memory);
@@ -241,20 +204,16 @@ pub fn evaluate_key<P: Inbox>(
     alloc: Global,
     timer: SignalId,
     values: &[Expression],
-    system: &System,
-    who: &Identity,
-    store: &Store,
-    inbox: &P,
+    knowledge: &Knowledge<'_, P>,
 ) -> Result<TimerKey, Failure>
-    requires { (P.owning inbox.now).state.alive ≡ true }
-    ensures ok { let here = environment system.now who.now store.now (P.owning inbox.now).state in
+    ensures ok { let here = environment_of knowledge.now in
         IfOk result (λ key. key_at here timer (map term_of values.now) ≡ Ok key) }
-    ensures err { let here = environment system.now who.now store.now (P.owning inbox.now).state in
+    ensures err { let here = environment_of knowledge.now in
         let terms = map term_of values.now in
         IfErr result (λ why. FailsAs (list_wants_memory terms) (key_at here timer terms) why) }
 {
-    let sorts = sorts_of(system, timer);
-    let values = evaluate_all(alloc, values, sorts, system, who, store, inbox)?;
+    let sorts = knowledge.sorts_of(timer);
+    let values = evaluate_all(alloc, values, sorts, knowledge)?;
     Ok(TimerKey {
         name: timer,
         values,
@@ -265,19 +224,14 @@ pub fn evaluate_key<P: Inbox>(
 pub fn is_true<P: Inbox>(
     alloc: Global,
     condition: &Expression,
-    system: &System,
-    who: &Identity,
-    store: &Store,
-    inbox: &P,
+    knowledge: &Knowledge<'_, P>,
 ) -> Result<bool, Failure>
-    requires { (P.owning inbox.now).state.alive ≡ true }
-    ensures ok { let here = environment system.now who.now store.now (P.owning inbox.now).state in
-        IfOk result (λ truth. truth_at here (term_of condition.now) ≡ Ok truth) }
-    ensures err { let here = environment system.now who.now store.now (P.owning inbox.now).state in
+    ensures ok { IfOk result (λ truth. truth_at (environment_of knowledge.now) (term_of condition.now) ≡ Ok truth) }
+    ensures err { let here = environment_of knowledge.now in
         let term = term_of condition.now in
         IfErr result (λ why. FailsAs (wants_memory term) (truth_at here term) why) }
 {
-    let value = evaluate(alloc, condition, system, who, store, inbox)?;
+    let value = evaluate(alloc, condition, knowledge)?;
     Ok(truth_of(value))
 }
 
@@ -299,19 +253,6 @@ fn time_value(time: Ticks) -> Result<Value, Failure>
     match i64::try_from(time.get()) {
         Ok(number) => Ok(Value::Time(number)),
         Err(_) => Err(Failure::Overflow),
-    }
-}
-
-/// The Pid for which a word stands.
-fn pid_of(word: PidExpression, who: &Identity, store: &Store) -> Pid
-    ensures { (system : SystemValue) (port : PortState)
-        → result ≡ pid_in (environment system who.now store.now port) word }
-{
-    match word {
-        PidExpression::SelfPid => Pid::Of(who.pid),
-        PidExpression::Parent => who.parent,
-        PidExpression::Offspring => store.offspring,
-        PidExpression::Sender => store.sender,
     }
 }
 

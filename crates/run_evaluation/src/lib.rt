@@ -8,6 +8,7 @@
 
 mod evaluation;
 mod identity;
+mod knowledge;
 pub mod laws;
 mod sorts;
 mod store;
@@ -15,6 +16,7 @@ mod variables;
 
 pub use evaluation::{evaluate, evaluate_all, evaluate_at, evaluate_key, is_true, place};
 pub use identity::Identity;
+pub use knowledge::Knowledge;
 pub use sorts::sorts_of;
 pub use store::Store;
 pub use variables::Variables;

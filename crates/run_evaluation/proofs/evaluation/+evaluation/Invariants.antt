@@ -1,5 +1,5 @@
 use Rattle.std.proofs.Common.{◌≡◌, Ok, map}
-use Rattle.run_evaluation.specs.Environment.{environment}
+use Rattle.run_evaluation.specs.Knowledge.{environment_of}
 use Rattle.run_evaluation.specs.Value.{value_of, values_at}
 use Rattle.run_evaluation.proofs.ChainLemmas.{up_to}
 use Rattle.run_evaluation.proofs.ListLemmas.{left_of, preceded}
@@ -9,11 +9,11 @@ use Rattle.run_evaluation.proofs.evaluation.+evaluation.Given as goal
 
 abbrev pub invariant-evaluate_links-loop-link : goal.invariant-evaluate_links-loop-link
 invariant-evaluate_links-loop-link g l =
-    value_of (environment l.system l.who l.store (g.P.Inbox.owning l.inbox).state)
+    value_of (environment_of l.knowledge)
     (up_to (term_of (out-Chain l.chain).first) l.link-index l.link-items) ≡ Ok l.value
 
 abbrev pub invariant-evaluate_all-loop-index : goal.invariant-evaluate_all-loop-index
 invariant-evaluate_all-loop-index g l =
-    let here = environment l.system l.who l.store (g.P.Inbox.owning l.inbox).state in
+    let here = environment_of l.knowledge in
     values_at here l.sorts (map term_of l.expressions)
     ≡ preceded l.values (left_of here l.sorts l.expressions l.index)
