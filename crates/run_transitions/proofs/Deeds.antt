@@ -69,12 +69,14 @@ module _ (d : Definition) (origin : Option StateId) (rest : Body) where
       let from : ControlPoint = Amid origin (body.output (one ∷ more) to) rest in
       let then : ControlPoint = Amid origin (body.output more to) rest in
       let effect : Effect = Send target (record { name = one.signal; values = values; sender = Of m.who.pid }) in
-      let deed : Deed = record { event = event.Output one.signal named values target; calls = []; effects = effect ∷ [] } in
+      let deed : Deed =
+      record { event = event.Output one.signal named values target; calls = []; effects = effect ∷ [] } in
       let reached : MayReach d.system one.signal m.who.process named target =
       may_reach d.system w.living one.signal m.who.process named target route in
       goes_until d AreInner from then m (with_event m deed.event) n w (after_effect w effect) v is sent
       (goes_deed d AreInner from then m m w deed (inner deed tt) refl refl refl refl refl refl refl refl route
-      (refl, refl, refl, record { is = refl; evaluated = found; reached = reached; effects_are = refl }) refl (λ seen. absurd seen)
+      (refl, refl, refl, record { is = refl; evaluated = found; reached = reached; effects_are = refl }) refl
+      (λ seen. absurd seen)
       (λ all. all))
 
   pub goes_set : (one : body.Setting) (more : List body.Setting) (key : TimerKey) (due : ℕ) (m n : MachineValue)

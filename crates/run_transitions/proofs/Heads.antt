@@ -9,7 +9,7 @@ use Rattle.run_evaluation.specs.declared.store.Store.{Store}
 use Rattle.run_record.specs.declared.failure.Failure.{Failure}
 use Rattle.run_semantics.specs.Fails.{Fails}
 use Rattle.run_semantics.specs.ControlPoint.{Definition, Doing, IsState}
-use Rattle.run_transitions.specs.Walk.{CantChoose, EntersNone, IsPlain}
+use Rattle.run_transitions.specs.Walk.{CantChoose, EntersNone, IsPassed, IsPlain}
 use Rattle.run_transitions.specs.Work.{IsOf}
 use Rattle.sdl_system.proofs.WalkLemmas.{decides}
 use Rattle.sdl_system.specs.Behaviour.{MeansState}
@@ -73,40 +73,34 @@ module _ (nodes : List Node) (marks : List (Option NodeId)) (node : Node) where
 
 -- ---- what is counted
 
--- the statement is counted before it is done
-abbrev pub IsCounted : Statement → Type 0
-IsCounted (kind.NextState state) = ⊥
-IsCounted kind.SameState = ⊥
-IsCounted kind.Stop = ⊥
-IsCounted other = Unit {0}
+-- the statement is no end of a transition, where it is none of these
+pub passed_else : (s : Statement) → ((state : StateId) → s ≡ kind.NextState state → ⊥) → (s ≡ kind.SameState → ⊥)
+    → (s ≡ kind.Stop → ⊥) → IsPassed s
+passed_else (kind.Task list) to same stop = tt
+passed_else (kind.Output sends) to same stop = tt
+passed_else (kind.Set list) to same stop = tt
+passed_else (kind.Reset list) to same stop = tt
+passed_else (kind.Create creation) to same stop = tt
+passed_else (kind.Decision asked) to same stop = tt
+passed_else (kind.Join label) to same stop = tt
+passed_else (kind.NextState state) to same stop = absurd (to state refl)
+passed_else kind.SameState to same stop = absurd (same refl)
+passed_else kind.Stop to same stop = absurd (stop refl)
 
--- the statement is no decision and no end of a transition, where it is none of these
-pub plain_else : (s : Statement) → ((state : StateId) → s ≡ kind.NextState state → ⊥) → (s ≡ kind.SameState → ⊥)
-    → (s ≡ kind.Stop → ⊥) → ((asked : Decision) → s ≡ kind.Decision asked → ⊥) → IsPlain s
-plain_else (kind.Task list) to same stop asks = tt
-plain_else (kind.Output sends) to same stop asks = tt
-plain_else (kind.Set list) to same stop asks = tt
-plain_else (kind.Reset list) to same stop asks = tt
-plain_else (kind.Create creation) to same stop asks = tt
-plain_else (kind.Decision asked) to same stop asks = absurd (asks asked refl)
-plain_else (kind.Join label) to same stop asks = tt
-plain_else (kind.NextState state) to same stop asks = absurd (to state refl)
-plain_else kind.SameState to same stop asks = absurd (same refl)
-plain_else kind.Stop to same stop asks = absurd (stop refl)
+-- nor a decision, where it is none
+pub plain_else : (s : Statement) → IsPassed s → ((asked : Decision) → s ≡ kind.Decision asked → ⊥) → IsPlain s
+plain_else (kind.Task list) passed asks = tt
+plain_else (kind.Output sends) passed asks = tt
+plain_else (kind.Set list) passed asks = tt
+plain_else (kind.Reset list) passed asks = tt
+plain_else (kind.Create creation) passed asks = tt
+plain_else (kind.Decision asked) passed asks = absurd (asks asked refl)
+plain_else (kind.Join label) passed asks = tt
+plain_else (kind.NextState state) passed asks = absurd passed
+plain_else kind.SameState passed asks = absurd passed
+plain_else kind.Stop passed asks = absurd passed
 
-pub plain_counts : (s : Statement) → IsPlain s → IsCounted s
-plain_counts (kind.Task list) plain = tt
-plain_counts (kind.Output sends) plain = tt
-plain_counts (kind.Set list) plain = tt
-plain_counts (kind.Reset list) plain = tt
-plain_counts (kind.Create creation) plain = tt
-plain_counts (kind.Decision asked) plain = absurd plain
-plain_counts (kind.Join label) plain = tt
-plain_counts (kind.NextState state) plain = absurd plain
-plain_counts kind.SameState plain = absurd plain
-plain_counts kind.Stop plain = absurd plain
-
-pub counted_joins : (s : Statement) (last : Terminator) → IsCounted s → terminator_of s ≡ Some last
+pub counted_joins : (s : Statement) (last : Terminator) → IsPassed s → terminator_of s ≡ Some last
     → (label : LabelId) × (last ≡ body.join label)
 counted_joins (kind.Task list) last counted ends = absurd (cc)
 counted_joins (kind.Output sends) last counted ends = absurd (cc)

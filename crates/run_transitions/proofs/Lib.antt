@@ -1,9 +1,10 @@
 pub mod Deeds
 pub mod Heads
-pub mod Machines
 pub mod Meanings
+pub mod Outputs
 pub mod Pieces
 pub mod Results
+pub mod Staying
 pub mod Sums
 pub mod Visits
 pub mod Walks

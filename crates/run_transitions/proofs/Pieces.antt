@@ -3,10 +3,12 @@ use Rattle.std.proofs.Common.{◌≡◌, ◌∙◌, ◌<◌, ◌≤◌, ◌+◌,
 use Rattle.std.proofs.lemmas.List.{at_drop_all, at_drop_more}
 use Rattle.run_record.specs.declared.failure.Failure.{Failure}
 use Rattle.run_semantics.proofs.Goes.{goes_on, goes_still, wrong_here, wrong_on}
-use Rattle.run_semantics.specs.Goes.{AreInner, Goes, GoesWrong, MachineValue}
+use Rattle.run_semantics.specs.Goes.{AreInner, Goes, GoesWrong}
 use Rattle.run_semantics.specs.ControlPoint.{Definition}
 use Rattle.run_semantics.specs.World.{WorldValue}
-use Rattle.run_transitions.specs.Work.{Does, DoesWrong, FailsAt, Site, amid}
+use Rattle.run_transitions.proofs.Staying.{kept_by}
+use Rattle.run_transitions.specs.Running.{CoreValue, IsSameInstance}
+use Rattle.run_transitions.specs.Work.{Does, DoesWrong, FailsAt, IsOf, Site, amid}
 use Rattle.sdl_system.specs.Body as body
 use Rattle.sdl_system.specs.Body.{Assigning, Whither}
 
@@ -23,11 +25,14 @@ timers_set list = amid (body.set list)
 abbrev pub timers_reset : List body.Timing → Site
 timers_reset list = amid (body.reset list)
 
--- `mark` is what an entry stands for, and `At` the place before such entries.
-module _ {X Y : Type 0} (mark : X → Y) (At : List Y → Site) (Is : Definition → Type 0) where
+-- `mark` is what an entry stands for, `At` the place before such entries, and `k` the instance before the first.
+module _ {X Y : Type 0} (mark : X → Y) (At : List Y → Site) (k : CoreValue) where
+  abbrev Is : Definition → Type 0
+  Is d = IsOf k.system k.process d
+
   -- the list is done up to the entry `i`
-  abbrev pub DoneTo : List X → ℕ → MachineValue → WorldValue → MachineValue → WorldValue → Type 0
-  DoneTo xs i l w m v = Does Is (At (map mark xs)) l w (At (map mark (drop i xs))) m v
+  abbrev pub DoneTo : List X → ℕ → WorldValue → CoreValue → WorldValue → Type 0
+  DoneTo xs i w m v = Does Is (At (map mark xs)) k.work w (At (map mark (drop i xs))) m.work v
 
   abbrev pub before_entry : List X → ℕ → X → Site
   before_entry xs i x = At (mark x ∷ map mark (drop (i + 1) xs))
@@ -41,29 +46,33 @@ module _ {X Y : Type 0} (mark : X → Y) (At : List Y → Site) (Is : Definition
       sym (at_drop_more (λ (ys : List X). map mark ys) xs i x below
       ∙ ap (λ (y : X). mark y ∷ map mark (drop (i + 1) xs)) (sym is))
 
-  pub pieces_begin : (xs : List X) (l : MachineValue) (w : WorldValue) → DoneTo xs 0 l w l w
-  pieces_begin xs l w = λ d of origin rest. goes_still d (At (map mark xs) origin rest) l w
+  pub pieces_begin : (xs : List X) (w : WorldValue) → DoneTo xs 0 w k w
+  pieces_begin xs w = λ d of origin rest. goes_still d (At (map mark xs) origin rest) k.work w
 
-  pub pieces_on : (xs : List X) (i : ℕ) (x : X) (l m n : MachineValue) (w v u : WorldValue) → i < length xs
-      → x ≡ get_or xs i x → DoneTo xs i l w m v → Does Is (before_entry xs i x) m v (behind_entry xs i) n u
-      → DoneTo xs (i + 1) l w n u
-  pieces_on xs i x l m n w v u below is first then = λ d of origin rest.
-      goes_on d (At (map mark xs) origin rest) (At (map mark (drop i xs)) origin rest) (behind_entry xs i origin rest)
-      l m n w v u (first d of origin rest)
-      (subst (λ (ys : List Y). Goes AreInner d (At ys origin rest) m v (behind_entry xs i origin rest) n u)
-      (opens xs i x below is) (then d of origin rest))
+  module _ (xs : List X) (i : ℕ) (x : X) (below : i < length xs) (is : x ≡ get_or xs i x) (m n : CoreValue)
+      (same : IsSameInstance k m) (w v u : WorldValue) (first : DoneTo xs i w m v) where
+    pub pieces_on : Does (IsOf m.system m.process) (before_entry xs i x) m.work v (behind_entry xs i) n.work u
+        → DoneTo xs (i + 1) w n u
+    pieces_on then = λ d of origin rest.
+        goes_on d (At (map mark xs) origin rest) (At (map mark (drop i xs)) origin rest) (behind_entry xs i origin rest)
+        k.work m.work n.work w v u (first d of origin rest)
+        (subst (λ (ys : List Y). Goes AreInner d (At ys origin rest) m.work v (behind_entry xs i origin rest) n.work u)
+        (opens xs i x below is)
+        (kept_by (λ s p. Does (IsOf s p) (before_entry xs i x) m.work v (behind_entry xs i) n.work u) k m same then
+        d of origin rest))
 
-  pub pieces_wrong : (xs : List X) (i : ℕ) (x : X) (l m n : MachineValue) (w v u : WorldValue) (why : Failure)
-      → i < length xs → x ≡ get_or xs i x → DoneTo xs i l w m v → FailsAt Is (before_entry xs i x) m why → n ≡ m
-      → u ≡ v → DoesWrong Is (At (map mark xs)) l w n u why
-  pieces_wrong xs i x l m n w v u why below is first fails same quiet = λ d of origin rest.
-      wrong_on d (At (map mark xs) origin rest) (At (map mark (drop i xs)) origin rest) l m n w v u why
-      (first d of origin rest)
-      (subst (λ (ys : List Y). GoesWrong d (At ys origin rest) m v n u why) (opens xs i x below is)
-      (wrong_here d (before_entry xs i x origin rest) m n v u why (fails d of origin rest) same quiet))
+    pub pieces_wrong : (why : Failure) → FailsAt (IsOf m.system m.process) (before_entry xs i x) m.work why
+        → n.work ≡ m.work → u ≡ v → DoesWrong Is (At (map mark xs)) k.work w n.work u why
+    pieces_wrong why fails still quiet = λ d of origin rest.
+        wrong_on d (At (map mark xs) origin rest) (At (map mark (drop i xs)) origin rest) k.work m.work n.work w v u why
+        (first d of origin rest)
+        (subst (λ (ys : List Y). GoesWrong d (At ys origin rest) m.work v n.work u why) (opens xs i x below is)
+        (wrong_here d (before_entry xs i x origin rest) m.work n.work v u why
+        (kept_by (λ s p. FailsAt (IsOf s p) (before_entry xs i x) m.work why) k m same fails d of origin rest)
+        still quiet))
 
-  pub pieces_done : (xs : List X) (i : ℕ) (l m : MachineValue) (w v : WorldValue) → length xs ≤ i
-      → DoneTo xs i l w m v → Does Is (At (map mark xs)) l w (At []) m v
-  pieces_done xs i l m w v past first = λ d of origin rest.
-      subst (λ (ys : List Y). Goes AreInner d (At (map mark xs) origin rest) l w (At ys origin rest) m v)
+  pub pieces_done : (xs : List X) (i : ℕ) (m : CoreValue) (w v : WorldValue) → length xs ≤ i → DoneTo xs i w m v
+      → Does Is (At (map mark xs)) k.work w (At []) m.work v
+  pieces_done xs i m w v past first = λ d of origin rest.
+      subst (λ (ys : List Y). Goes AreInner d (At (map mark xs) origin rest) k.work w (At ys origin rest) m.work v)
       (at_drop_all (λ (ys : List X). map mark ys) xs i past) (first d of origin rest)

@@ -1,28 +1,23 @@
 -- What a node does, whatever stands where it begins.
-use Rattle.port_inbox.specs.Calls.{after_stop}
-use Rattle.port_inbox.specs.Ends.{OwnerState}
 use Rattle.port_values.specs.declared.value.Value.{Value}
 use Rattle.run_evaluation.specs.Environment.{environment}
 use Rattle.run_evaluation.specs.Value as evaluated
 use Rattle.run_evaluation.specs.declared.store.Store.{Store}
-use Rattle.run_record.specs.Event as event
 use Rattle.run_record.specs.declared.failure.Failure.TheVariants.{Memory}
 use Rattle.run_record.specs.declared.failure.Failure.{Failure}
 use Rattle.run_semantics.proofs.Goes.{goes_on, goes_turn, wrong_here, wrong_on}
 use Rattle.run_semantics.specs.Fails.{Fails, IsTooLong}
-use Rattle.run_semantics.specs.Goes.{AreInner, Goes, GoesWrong, MachineValue, with_event}
+use Rattle.run_semantics.specs.Goes.{AreInner, Goes, GoesWrong, MachineValue}
 use Rattle.run_semantics.specs.Leads.{Counts}
 use Rattle.run_semantics.specs.ControlPoint.{Amid, Definition, Doing, Ended, In}
 use Rattle.run_semantics.specs.World.{WorldValue}
 use Rattle.run_transitions.proofs.Deeds.{goes_ended, goes_to_same, goes_to_state}
-use Rattle.run_transitions.proofs.Heads.{Decided, IsCounted, LeadsOn, acts_here, counted_joins, decided_here, ends_here, is_state, is_there, leads_on, same_fails, undecided}
-use Rattle.run_transitions.specs.Machine.{value_of}
-use Rattle.run_transitions.specs.Walk.{ActsAs, CantChoose, ChoosesWay, Enters, EntersNone, FailsToAct, IsPlain, Visits, VisitsWrong, marks_of}
-use Rattle.run_transitions.specs.Work.{Does, DoesWrong, IsIn, IsOf, Site, amid, behind}
-use Rattle.run_transitions.specs.declared.machine.Machine.{Machine}
-use Rattle.run_transitions.specs.declared.machine.Position.TheVariants as at
-use Rattle.run_transitions.specs.declared.walk.Onward.TheVariants as onward
-use Rattle.run_transitions.specs.declared.walk.Onward.{Onward}
+use Rattle.run_transitions.proofs.Heads.{Decided, LeadsOn, acts_here, counted_joins, decided_here, ends_here, is_state, is_there, leads_on, same_fails, undecided}
+use Rattle.run_transitions.proofs.Walks.{Ends}
+use Rattle.run_transitions.specs.Running.{CoreValue}
+use Rattle.run_transitions.specs.Walk.{ActsAs, CantChoose, ChoosesWay, EntersNone, FailsToAct, IsEntered, IsPassed, IsPlain, IsStopped, Visits, VisitsWrong, marks_of}
+use Rattle.run_transitions.specs.Work.{Does, DoesWrong, IsOf, amid, behind}
+use Rattle.run_transitions.specs.declared.machine.Position.{Position}
 use Rattle.sdl_system.specs.Body as body
 use Rattle.sdl_system.specs.Body.{Action, Body, Terminator, Whither, chosen, followed}
 use Rattle.sdl_system.specs.System.{SystemValue}
@@ -106,19 +101,10 @@ effects_none system process (kind.NextState state) m w task output sets resets c
 effects_none system process kind.SameState m w task output sets resets creates = (refl, refl)
 effects_none system process kind.Stop m w task output sets resets creates = (refl, refl)
 
--- what is done in each process of the system is done in this one
-pub does_of : (system : SystemValue) (process : Process) (from to : Site) (m n : MachineValue) (w v : WorldValue)
-    → Does (IsIn system) from m w to n v → Does (IsOf system process) from m w to n v
-does_of system process from to m n w v does = λ d is. does d is.system_is
-
-pub wrong_of : (system : SystemValue) (process : Process) (from : Site) (m n : MachineValue) (w v : WorldValue)
-    (why : Failure) → DoesWrong (IsIn system) from m w n v why → DoesWrong (IsOf system process) from m w n v why
-wrong_of system process from m n w v why does = λ d is. does d is.system_is
-
 module _ (system : SystemValue) (process : Process) (node : Node) (origin : Option StateId) (l : MachineValue)
     (w : WorldValue) where
   -- a statement that can't be counted fails, whatever it is
-  pub visits_uncounted : (n : MachineValue) (why : Failure) → IsCounted node.statement → IsTooLong l.store why → n ≡ l
+  pub visits_uncounted : (n : MachineValue) (why : Failure) → IsPassed node.statement → IsTooLong l.store why → n ≡ l
       → VisitsWrong system process node origin l w n w why
   visits_uncounted n why counted long same d is body.nothing heads = absurd heads
   visits_uncounted n why counted long same d is (body.action first rest) heads =
@@ -153,7 +139,7 @@ module _ (system : SystemValue) (process : Process) (node : Node) (origin : Opti
     -- an action is counted, and done
     pub visits_action : (first : Action) (n : MachineValue) (v : WorldValue) → action_of node.statement ≡ Some first
         → Does (IsOf system process) (amid first) m w behind n v
-        → Visits system process node origin l w (onward.At node.next) n v
+        → Visits system process node origin l w node.next n v
     visits_action first n v effects does = λ d is todo number got heads.
         let here = acts_here process.nodes.items (marks_of is) node first todo effects heads in
         record {
@@ -176,7 +162,7 @@ module _ (system : SystemValue) (process : Process) (node : Node) (origin : Opti
 
     -- a join is counted, and leads to what stands from its label on
     pub visits_join : (label : LabelId) → node.statement ≡ kind.Join label
-        → Visits system process node origin l w (onward.At node.next) m w
+        → Visits system process node origin l w node.next m w
     visits_join label stands_there = λ d is todo number got heads.
         let nodes : List Node = process.nodes.items in
         let ends = ends_here nodes (marks_of is) node (body.join label) todo (ap terminator_of stands_there) heads in
@@ -196,7 +182,7 @@ module _ (system : SystemValue) (process : Process) (node : Node) (origin : Opti
         }
 
     acted : (s : Statement) (n : MachineValue) (v : WorldValue) → node.statement ≡ s → IsPlain s
-        → ActsAs system process (action_of s) m w n v → Visits system process node origin l w (onward.At node.next) n v
+        → ActsAs system process (action_of s) m w n v → Visits system process node origin l w node.next n v
     acted (kind.Task list) n v is plain effects = visits_action _ n v (ap action_of is) effects
     acted (kind.Output sends) n v is plain effects = visits_action _ n v (ap action_of is) effects
     acted (kind.Set list) n v is plain effects = visits_action _ n v (ap action_of is) effects
@@ -211,7 +197,7 @@ module _ (system : SystemValue) (process : Process) (node : Node) (origin : Opti
     -- a statement that is no decision and no end is counted, and its action is done
     pub visits_acted : (n : MachineValue) (v : WorldValue) → IsPlain node.statement
         → ActsAs system process (action_of node.statement) m w n v
-        → Visits system process node origin l w (onward.At node.next) n v
+        → Visits system process node origin l w node.next n v
     visits_acted n v plain effects = acted node.statement n v refl plain effects
 
     acted_wrong : (s : Statement) (n : MachineValue) (v : WorldValue) (why : Failure) → node.statement ≡ s → IsPlain s
@@ -236,7 +222,7 @@ module _ (system : SystemValue) (process : Process) (node : Node) (origin : Opti
     -- a decision is counted, and the way that it takes leads on
     pub visits_decision : (asked : Decision) (way : Way) → node.statement ≡ kind.Decision asked
         → ChoosesWay (environment system l.who l.store l.owner.state) asked way
-        → Visits system process node origin l w (onward.At way.0) m w
+        → Visits system process node origin l w way.0 m w
     visits_decision asked way stands_there chooses = λ d is todo number got heads.
         let nodes : List Node = process.nodes.items in
         let decided : Decided nodes (marks_of is) node asked todo =
@@ -283,74 +269,73 @@ module _ (system : SystemValue) (process : Process) (node : Node) (origin : Opti
       (subst (λ (x : SystemValue). CantChoose (environment x l.who l.store l.owner.state) l.store asked why)
       (sym is.system_is) cant)) same refl)
 
-  -- ---- the end of a transition
+-- ---- the end of a transition
 
+module _ (k : CoreValue) (node : Node) (origin : Option StateId) (w : WorldValue) where
   -- a state of the process is entered
-  pub visits_to_state : (state : StateId) (on : Onward) (old new : Machine) (o : OwnerState)
-      → node.statement ≡ kind.NextState state → l ≡ value_of old o → Enters (Some state) process old new on
-      → Visits system process node origin l w on (value_of new o) w
-  visits_to_state state on old new o stands_there begins enters =
+  pub ends_in_state : (state : StateId) (position : Position) (n : CoreValue) → node.statement ≡ kind.NextState state
+      → IsEntered (Some state) k position n → Ends k.system k.process node origin k.work w position n.work w
+  ends_in_state state position n stands_there enters =
       let to : StateId = enters.number in
-      let n : MachineValue = value_of new o in
       let same : state ≡ to = let is = enters.is in cc in
-      rw enters.onward_is (λ d is todo number got heads.
-      let ends = ends_here process.nodes.items (marks_of is) node (body.to_state to) todo
+      rw enters.position_is (λ d is todo heads.
+      let ends = ends_here k.process.nodes.items (marks_of is) node (body.to_state to) todo
       (ap terminator_of (stands_there ∙ ap (λ (x : StateId). kind.NextState x) same)) heads in
-      subst (λ (b : Body). Goes AreInner d (Doing origin b) l w (In to) n w) (sym ends)
-      (goes_to_state d origin to l n w (is_state system process d is to enters.there)
-      (enters.notes o ∙ ap (λ (x : MachineValue). with_event x (event.NextState to)) (sym begins))))
+      subst (λ (b : Body). Goes AreInner d (Doing origin b) k.work w (In to) n.work w) (sym ends)
+      (goes_to_state d origin to k.work n.work w (is_state k.system k.process d is to enters.there) enters.work))
 
   -- and the one from which the transition began
-  pub visits_to_same : (on : Onward) (old new : Machine) (o : OwnerState) → node.statement ≡ kind.SameState
-      → l ≡ value_of old o → Enters origin process old new on
-      → Visits system process node origin l w on (value_of new o) w
-  visits_to_same on old new o stands_there begins enters =
+  pub ends_in_same : (position : Position) (n : CoreValue) → node.statement ≡ kind.SameState
+      → IsEntered origin k position n → Ends k.system k.process node origin k.work w position n.work w
+  ends_in_same position n stands_there enters =
       let to : StateId = enters.number in
-      let n : MachineValue = value_of new o in
-      rw enters.onward_is (λ d is todo number got heads.
-      let ends = ends_here process.nodes.items (marks_of is) node body.to_same todo (ap terminator_of stands_there)
+      rw enters.position_is (λ d is todo heads.
+      let ends = ends_here k.process.nodes.items (marks_of is) node body.to_same todo (ap terminator_of stands_there)
       heads in
-      subst (λ (b : Body). Goes AreInner d (Doing origin b) l w (In to) n w) (sym ends)
-      (subst (λ (from : Option StateId). Goes AreInner d (Doing from (body.ending body.to_same)) l w (In to) n w)
-      (sym enters.is) (goes_to_same d to l n w (is_state system process d is to enters.there)
-      (enters.notes o ∙ ap (λ (x : MachineValue). with_event x (event.NextState to)) (sym begins)))))
+      subst (λ (b : Body). Goes AreInner d (Doing origin b) k.work w (In to) n.work w) (sym ends)
+      (subst (λ (from : Option StateId). Goes AreInner d (Doing from (body.ending body.to_same)) k.work w (In to) n.work
+      w)
+      (sym enters.is) (goes_to_same d to k.work n.work w (is_state k.system k.process d is to enters.there)
+      enters.work)))
+
+  -- the instance ends
+  pub ends_stopped : (position : Position) (n : CoreValue) → node.statement ≡ kind.Stop
+      → k.work.owner.state.alive ≡ true → IsStopped k position n
+      → Ends k.system k.process node origin k.work w position n.work w
+  ends_stopped position n stands_there alive stops = rw stops.0 (λ d is todo heads.
+      let ends = ends_here k.process.nodes.items (marks_of is) node body.stop todo (ap terminator_of stands_there) heads
+      in
+      subst (λ (b : Body). Goes AreInner d (Doing origin b) k.work w Ended n.work w) (sym ends)
+      (goes_ended d origin k.work n.work w alive stops.1))
 
   -- what fails where it ends
-  ends_wrong : (last : Terminator) (n : MachineValue) (why : Failure) → terminator_of node.statement ≡ Some last
-      → ((d : Definition) → IsOf system process d
-      → Fails d l.who l.owner.state (Doing origin (body.ending last)) l.store why)
-      → n ≡ l → VisitsWrong system process node origin l w n w why
+  ends_wrong : (last : Terminator) (n : CoreValue) (why : Failure) → terminator_of node.statement ≡ Some last
+      → ((d : Definition) → IsOf k.system k.process d
+      → Fails d k.work.who k.work.owner.state (Doing origin (body.ending last)) k.work.store why)
+      → n.work ≡ k.work → VisitsWrong k.system k.process node origin k.work w n.work w why
   ends_wrong last n why stands_there fails same = λ d is todo heads.
-      let ends = ends_here process.nodes.items (marks_of is) node last todo stands_there heads in
-      subst (λ (b : Body). GoesWrong d (Doing origin b) l w n w why) (sym ends)
-      (wrong_here d (Doing origin (body.ending last)) l n w w why (fails d is) same refl)
+      let ends = ends_here k.process.nodes.items (marks_of is) node last todo stands_there heads in
+      subst (λ (b : Body). GoesWrong d (Doing origin b) k.work w n.work w why) (sym ends)
+      (wrong_here d (Doing origin (body.ending last)) k.work n.work w w why (fails d is) same refl)
 
-  pub visits_no_state : (state : StateId) (n : MachineValue) (why : Failure) → node.statement ≡ kind.NextState state
-      → EntersNone (Some state) process why → n ≡ l → VisitsWrong system process node origin l w n w why
-  visits_no_state state n why stands_there none same =
+  pub ends_in_no_state : (state : StateId) (n : CoreValue) (why : Failure) → node.statement ≡ kind.NextState state
+      → EntersNone (Some state) k.process why → n.work ≡ k.work
+      → VisitsWrong k.system k.process node origin k.work w n.work w why
+  ends_in_no_state state n why stands_there none same =
       ends_wrong (body.to_state state) n why (ap terminator_of stands_there)
       (λ d is. elim none [
         | inl memory ↦ inl (memory, tt)
-        | inr missing ↦ inr (missing.0, λ there. missing.1 (is_there system process d is state there))
+        | inr missing ↦ inr (missing.0, λ there. missing.1 (is_there k.system k.process d is state there))
       ]) same
 
-  pub visits_no_same : (n : MachineValue) (why : Failure) → node.statement ≡ kind.SameState
-      → EntersNone origin process why → n ≡ l → VisitsWrong system process node origin l w n w why
-  visits_no_same n why stands_there none same =
+  pub ends_in_none_again : (n : CoreValue) (why : Failure) → node.statement ≡ kind.SameState
+      → EntersNone origin k.process why → n.work ≡ k.work
+      → VisitsWrong k.system k.process node origin k.work w n.work w why
+  ends_in_none_again n why stands_there none same =
       ends_wrong body.to_same n why (ap terminator_of stands_there)
-      (λ d is. same_fails system process d is l.who l.owner.state origin l.store why none) same
+      (λ d is. same_fails k.system k.process d is k.work.who k.work.owner.state origin k.work.store why none) same
 
-  -- the instance ends
-  pub visits_stop : (on : Onward) (n : MachineValue) → node.statement ≡ kind.Stop → l.owner.state.alive ≡ true
-      → on ≡ onward.Over at.Ended → n ≡ with_event (record l { owner = after_stop l.owner }) event.Stop
-      → Visits system process node origin l w on n w
-  visits_stop on n stands_there alive leads is_ended = rw leads (λ d is todo number got heads.
-      let ends = ends_here process.nodes.items (marks_of is) node body.stop todo (ap terminator_of stands_there) heads
-      in
-      subst (λ (b : Body). Goes AreInner d (Doing origin b) l w Ended n w) (sym ends)
-      (goes_ended d origin l n w alive is_ended))
-
-  pub visits_no_stop : (n : MachineValue) (why : Failure) → node.statement ≡ kind.Stop → why ≡ Memory → n ≡ l
-      → VisitsWrong system process node origin l w n w why
-  visits_no_stop n why stands_there memory same =
+  pub ends_unstopped : (n : CoreValue) (why : Failure) → node.statement ≡ kind.Stop → why ≡ Memory
+      → n.work ≡ k.work → VisitsWrong k.system k.process node origin k.work w n.work w why
+  ends_unstopped n why stands_there memory same =
       ends_wrong body.stop n why (ap terminator_of stands_there) (λ d is. inl (memory, tt)) same

@@ -1,5 +1,5 @@
 -- What the transitions of an instance work on, as the definitions see it.
-use Rattle.std.specs.Prelude.{◌≡◌, ◌<◌, ◌≤◌, length, true}
+use Rattle.std.specs.Prelude.{◌<◌, length}
 use Rattle.port_inbox.specs.Ends.{OwnerState}
 use Rattle.run_evaluation.specs.declared.identity.Identity.{Identity}
 use Rattle.run_record.specs.Record.{RecordValue}
@@ -23,29 +23,11 @@ value_of m owner = record {
   events = m.trace.events;
 }
 
--- who an instance is, and which port it has, never change
-pub record IsSameInstance (m n : MachineValue) : Type 0 where
-  pub who : n.who ≡ m.who
-  pub port : n.owner.port ≡ m.owner.port
-  pub pid : n.owner.pid ≡ m.owner.pid
-
--- An instance that has not ended: its record has room for one event more, its port lives and has its number.
-pub record IsGoing (m : Machine) (owner : OwnerState) : Type 0 where
-  pub room : 0 < m.trace.room
-  pub alive : owner.state.alive ≡ true
-  pub own : owner.pid ≡ m.trace.pid
-
 -- the place of an instance between two steps
 abbrev pub place_of : Position → ControlPoint
 place_of position.BeforeStart = AtStart
 place_of (position.In state) = In state
 place_of position.Ended = Ended
-
--- an instance that has not ended is going on, and before the start there is room for that and for a failure
-abbrev pub IsReady : Position → Machine → OwnerState → Type 0
-IsReady position.BeforeStart m owner = IsGoing m owner × (2 ≤ m.trace.room)
-IsReady (position.In state) m owner = IsGoing m owner
-IsReady position.Ended m owner = Unit {0}
 
 -- the state of a position is one of the process
 abbrev pub IsPositionIn : Process → Position → Type 0

@@ -1,8 +1,9 @@
 -- How a transition is walked over the nodes of its process.
-use Rattle.std.specs.Prelude.{◌≡◌, ◌≢◌, ◌⊎◌, ◌+◌, ◌<◌, ℕ, List, Option, None, Some, Ok, length, slice_get}
+use Rattle.std.specs.Prelude.{◌≡◌, ◌⊎◌, ◌+◌, ◌<◌, List, Option, None, Some, Ok, length, slice_get}
 use Rattle.port_inbox.specs.Ends.{OwnerState}
+use Rattle.port_inbox.specs.declared.entry.Entry.{Entry}
 use Rattle.port_values.specs.declared.value.Value.{Value}
-use Rattle.run_evaluation.specs.Environment.{Environment}
+use Rattle.run_evaluation.specs.Environment.{Environment, environment}
 use Rattle.run_evaluation.specs.Memory.{FailsAs, wants_memory}
 use Rattle.run_evaluation.specs.Value as evaluated
 use Rattle.run_evaluation.specs.declared.store.Store.{Store}
@@ -13,16 +14,15 @@ use Rattle.run_semantics.specs.Fails.{IsTooLong, most_statements}
 use Rattle.run_semantics.specs.Goes.{AreInner, Goes, GoesWrong, MachineValue, with_event}
 use Rattle.run_semantics.specs.ControlPoint.{Definition, Doing}
 use Rattle.run_semantics.specs.World.{WorldValue}
-use Rattle.run_transitions.specs.Machine.{IsGoing, IsPositionIn, IsReady, place_of, value_of}
+use Rattle.run_transitions.specs.Machine.{identity_of, place_of, value_of}
+use Rattle.run_transitions.specs.Running.{CoreValue, seen, stopped}
 use Rattle.run_transitions.specs.Work.{Does, DoesWrong, IsOf, amid, behind}
-use Rattle.run_transitions.specs.declared.machine.Machine.{Machine}
 use Rattle.run_transitions.specs.declared.machine.Position.{Position}
 use Rattle.run_transitions.specs.declared.machine.Position.TheVariants as at
-use Rattle.run_transitions.specs.declared.walk.Onward.{Onward}
-use Rattle.run_transitions.specs.declared.walk.Onward.TheVariants as onward
+use Rattle.run_transitions.specs.declared.running.Core.{Core}
 use Rattle.sdl_system.specs.Body.{Action, Body}
 use Rattle.sdl_system.specs.System.{SystemValue}
-use Rattle.sdl_system.specs.Table.{Stands, way_of}
+use Rattle.sdl_system.specs.Table.{Stands, action_of, way_of}
 use Rattle.sdl_system.specs.Term.{term_of}
 use Rattle.sdl_system.specs.Walk.{Heads}
 use Rattle.sdl_system.specs.declared.id.NodeId.{NodeId}
@@ -47,20 +47,14 @@ pub record GoesTo (d : Definition) (nodes : List Node) (marks : List (Option Nod
   pub stands : Stands nodes marks place rest
   pub goes : Goes AreInner d (Doing origin todo) m w (Doing origin rest) n v
 
-abbrev pub GoesOnward : Definition → List Node → List (Option NodeId) → Option StateId → Body → MachineValue
-    → WorldValue → Onward → MachineValue → WorldValue → Type 0
-GoesOnward d nodes marks origin todo m w (onward.At place) n v = GoesTo d nodes marks origin todo m w place n v
-GoesOnward d nodes marks origin todo m w (onward.Over position) n v =
-    Goes AreInner d (Doing origin todo) m w (place_of position) n v
-
--- whatever stands where the node begins, which is one of the process, is done, or fails
-abbrev pub Visits : SystemValue → Process → Node → Option StateId → MachineValue → WorldValue → Onward → MachineValue
-    → WorldValue → Type 0
-Visits system process node origin m w on n v =
+-- whatever stands where the node begins, which is one of the process, is done and leads on, or fails
+abbrev pub Visits : SystemValue → Process → Node → Option StateId → MachineValue → WorldValue → Option NodeId
+    → MachineValue → WorldValue → Type 0
+Visits system process node origin m w place n v =
     (d : Definition) → (is : IsOf system process d) → (todo : Body)
     → (number : NodeId) → slice_get process.nodes.items number.0 ≡ Some node
     → Heads process.nodes.items (marks_of is) node todo
-    → GoesOnward d process.nodes.items (marks_of is) origin todo m w on n v
+    → GoesTo d process.nodes.items (marks_of is) origin todo m w place n v
 
 abbrev pub VisitsWrong : SystemValue → Process → Node → Option StateId → MachineValue → WorldValue → MachineValue
     → WorldValue → Failure → Type 0
@@ -82,28 +76,20 @@ WalksWrong system process place origin m w n v why =
     (d : Definition) → (is : IsOf system process d) → (todo : Body)
     → Stands process.nodes.items (marks_of is) place todo → GoesWrong d (Doing origin todo) m w n v why
 
--- what goes on is going, and what has ended a transition is ready for the next
-abbrev pub IsReadyOnward : Onward → Machine → OwnerState → Type 0
-IsReadyOnward (onward.At place) m owner = IsGoing m owner
-IsReadyOnward (onward.Over position) m owner = IsReady position m owner
-
--- the transition has begun
-abbrev pub HasStarted : Onward → Type 0
-HasStarted (onward.At place) = Unit {0}
-HasStarted (onward.Over position) = position ≢ at.BeforeStart
-
-abbrev pub IsOnwardIn : Process → Onward → Type 0
-IsOnwardIn process (onward.At place) = Unit {0}
-IsOnwardIn process (onward.Over position) = IsPositionIn process position
-
--- what has not ended counts one statement more
-abbrev pub CountsOnward : Onward → ℕ → ℕ → Type 0
-CountsOnward (onward.At place) old new = (old < most_statements) × (new ≡ old + 1)
-CountsOnward (onward.Over position) old new = Unit {0}
+-- what goes on counts one statement more
+abbrev pub CountsOne : Store → Store → Type 0
+CountsOne old new = (old.done < most_statements) × (new.done ≡ old.done + 1)
 
 -- ---- actions
 
--- the statement is no decision and no end of a transition
+-- the statement is no end of a transition
+abbrev pub IsPassed : Statement → Type 0
+IsPassed (kind.NextState state) = ⊥
+IsPassed kind.SameState = ⊥
+IsPassed kind.Stop = ⊥
+IsPassed other = Unit {0}
+
+-- nor a decision
 abbrev pub IsPlain : Statement → Type 0
 IsPlain (kind.Decision asked) = ⊥
 IsPlain (kind.NextState state) = ⊥
@@ -148,16 +134,73 @@ CantChoose here s asked why =
 -- ---- states
 
 -- the state is entered, which is one of the process
-pub record Enters (state : Option StateId) (process : Process) (old new : Machine) (on : Onward) : Type 0 where
+pub record IsEntered (state : Option StateId) (k : CoreValue) (position : Position) (l : CoreValue) : Type 0 where
   pub number : StateId
   pub is : state ≡ Some number
-  pub there : number.0 < length process.states.items
-  pub onward_is : on ≡ onward.Over (at.In number)
-  pub store : new.store ≡ old.store
-  pub notes : (owner : OwnerState) → value_of new owner ≡ with_event (value_of old owner) (event.NextState number)
+  pub there : number.0 < length k.process.states.items
+  pub position_is : position ≡ at.In number
+  pub work : l.work ≡ with_event k.work (event.NextState number)
 
 -- there is no state to enter, or no memory to record it
 abbrev pub EntersNone : Option StateId → Process → Failure → Type 0
 EntersNone None process why = why ≡ Undefined
 EntersNone (Some number) process why =
     (why ≡ Memory) ⊎ ((why ≡ Undefined) × (number.0 < length process.states.items → ⊥))
+
+-- the instance ends
+abbrev pub IsStopped : CoreValue → Position → CoreValue → Type 0
+IsStopped k position l = (position ≡ at.Ended) × (l.work ≡ with_event (stopped k).work event.Stop)
+
+-- ---- the same of a core, by what its port says of its owner and of what was drawn since the stop
+
+abbrev pub Enters : {I : Type 0} → (I → OwnerState) → (I → List Entry) → Option StateId → Core I → Position → Core I
+    → Type 0
+Enters owning since state old position new = IsEntered state (seen owning since old) position (seen owning since new)
+
+abbrev pub Stops : {I : Type 0} → (I → OwnerState) → (I → List Entry) → Core I → Position → Core I → Type 0
+Stops owning since old position new = IsStopped (seen owning since old) position (seen owning since new)
+
+abbrev pub Chooses : {I : Type 0} → (I → OwnerState) → Decision → Core I → Way → Type 0
+Chooses owning asked c way =
+    ChoosesWay (environment c.system.now (identity_of c.machine.trace) c.machine.store (owning c.inbox).state) asked way
+
+abbrev pub CantChooseIn : {I : Type 0} → (I → OwnerState) → Decision → Core I → Failure → Type 0
+CantChooseIn owning asked c why =
+    CantChoose (environment c.system.now (identity_of c.machine.trace) c.machine.store (owning c.inbox).state)
+    c.machine.store asked why
+
+abbrev pub PerformsTo : {I : Type 0} → (I → OwnerState) → Statement → Core I → WorldValue → Core I → WorldValue
+    → Type 0
+PerformsTo owning statement old w new v =
+    ActsAs old.system.now old.process.now (action_of statement) (value_of old.machine (owning old.inbox)) w
+    (value_of new.machine (owning new.inbox)) v
+
+abbrev pub PerformsAmiss : {I : Type 0} → (I → OwnerState) → Statement → Core I → WorldValue → Core I → WorldValue
+    → Failure → Type 0
+PerformsAmiss owning statement old w new v why =
+    FailsToAct old.system.now old.process.now (action_of statement) (value_of old.machine (owning old.inbox)) w
+    (value_of new.machine (owning new.inbox)) v why
+
+abbrev pub VisitsTo : {I : Type 0} → (I → OwnerState) → Node → Option StateId → Core I → WorldValue → Option NodeId
+    → Core I → WorldValue → Type 0
+VisitsTo owning node origin old w place new v =
+    Visits old.system.now old.process.now node origin (value_of old.machine (owning old.inbox)) w place
+    (value_of new.machine (owning new.inbox)) v
+
+abbrev pub VisitsAmiss : {I : Type 0} → (I → OwnerState) → Node → Option StateId → Core I → WorldValue → Core I
+    → WorldValue → Failure → Type 0
+VisitsAmiss owning node origin old w new v why =
+    VisitsWrong old.system.now old.process.now node origin (value_of old.machine (owning old.inbox)) w
+    (value_of new.machine (owning new.inbox)) v why
+
+abbrev pub WalksTo : {I : Type 0} → (I → OwnerState) → NodeId → Option StateId → Core I → WorldValue → Position → Core I
+    → WorldValue → Type 0
+WalksTo owning begin origin old w position new v =
+    Walks old.system.now old.process.now (Some begin) origin (value_of old.machine (owning old.inbox)) w position
+    (value_of new.machine (owning new.inbox)) v
+
+abbrev pub WalksAmiss : {I : Type 0} → (I → OwnerState) → NodeId → Option StateId → Core I → WorldValue → Core I
+    → WorldValue → Failure → Type 0
+WalksAmiss owning begin origin old w new v why =
+    WalksWrong old.system.now old.process.now (Some begin) origin (value_of old.machine (owning old.inbox)) w
+    (value_of new.machine (owning new.inbox)) v why

@@ -1,68 +1,54 @@
 //! Creates (Z.101: create).
 
 ghost use Rattle.std.specs.Prelude.{◌≡◌, IfErr, OnErr, OnOk, map};
-ghost use Rattle.port_inbox.specs.Ends.{OwnerState};
 ghost use Rattle.run_semantics.specs.Leads.{offspring_of};
-ghost use Rattle.run_transitions.specs.Machine.{IsGoing, IsSameInstance, value_of};
-ghost use Rattle.run_transitions.specs.Work.{Does, FailsAt, IsIn, amid, behind};
+ghost use Rattle.run_transitions.specs.Running.{GoesOn, StaysAmid, WorksSame};
+ghost use Rattle.run_transitions.specs.Work.{FailsHere, WorksTo, amid, behind};
 ghost use Rattle.sdl_system.specs.Body as body;
 ghost use Rattle.sdl_system.specs.Term.{term_of};
 
-use crate::machine::{Machine, make_room};
+use crate::machine::make_room;
+use crate::running::Core;
 use crate::variable::parameters_of;
 use port_inbox::Inbox;
 use port_values::Pid;
 use run_evaluation::evaluate_all;
 use run_record::Failure;
 use run_semantics::World;
-use sdl_system::{Creation, System};
+use sdl_system::Creation;
 use std::alloc::Global;
 
-/// Makes an instance with the values of its parameters, or none where no more may live; the values are evaluated all
-/// the same.
-#[inline(never)]
-pub fn create<P: Inbox, W: World>(
-    alloc: Global,
-    creation: &Creation,
-    system: &System,
-    machine: &mut Machine,
-    inbox: &P,
-    world: &mut W,
-) -> Result<(), Failure>
-    requires { IsGoing machine.old (P.owning inbox.now) }
-    ensures instance { let old = value_of machine.old (P.owning inbox.now) in
-        IsSameInstance old (value_of machine.new (P.owning inbox.now)) }
-    ensures going { IsGoing machine.new (P.owning inbox.now) }
-    ensures done { machine.new.store.done ≡ machine.old.store.done }
-    ensures ok { let action = body.create creation.now.process (map term_of creation.now.values.items) in
-        let old = value_of machine.old (P.owning inbox.now) in
-        let new = value_of machine.new (P.owning inbox.now) in
-        OnOk result (Does (IsIn system.now) (amid action) old (W.value world.old) behind new (W.value world.new)) }
-    ensures err { let action = body.create creation.now.process (map term_of creation.now.values.items) in
-        let old = value_of machine.old (P.owning inbox.now) in
-        IfErr result (FailsAt (IsIn system.now) (amid action) old) }
-    ensures same { OnErr result ((owner : OwnerState) → value_of machine.new owner ≡ value_of machine.old owner) }
-    ensures quiet { OnErr result (W.value world.new ≡ W.value world.old) }
-{
-    let who = machine.who();
-    let process = creation.process;
-    let sorts = parameters_of(alloc, system, process)?;
-    let values = evaluate_all(
-        alloc,
-        &creation.values,
-        &sorts,
-        system,
-        &who,
-        &machine.store,
-        inbox,
-    )?;
-    make_room(machine, 0)?;
-    let Ok(number) = world.create(process, who.pid, values) else {
-        return Err(Failure::Memory);
-    };
-    machine.store.offspring = offspring_of(number);
-    machine.trace.create(process, number);
-    Ok(())
+impl<'s, P: Inbox + Drop> Core<'s, P> {
+    /// Makes an instance with the values of its parameters, or none where no more may live; the values are evaluated
+    /// all the same.
+    #[inline(never)]
+    pub(crate) fn create<W: World>(
+        &mut self,
+        alloc: Global,
+        creation: &Creation,
+        world: &mut W,
+    ) -> Result<(), Failure>
+        requires { GoesOn P.owning P.since self.old }
+        ensures amid { StaysAmid P.owning P.since self.old self.new }
+        ensures ok { let action = body.create creation.now.process (map term_of creation.now.values.items) in
+            OnOk result
+            (WorksTo P.owning (amid action) self.old (W.value world.old) behind self.new (W.value world.new)) }
+        ensures err { let action = body.create creation.now.process (map term_of creation.now.values.items) in
+            IfErr result (FailsHere P.owning (amid action) self.old) }
+        ensures same { OnErr result (WorksSame P.owning self.old self.new) }
+        ensures quiet { OnErr result (W.value world.new ≡ W.value world.old) }
+    {
+        let process = creation.process;
+        let sorts = parameters_of(alloc, self.system, process)?;
+        let values = evaluate_all(alloc, &creation.values, &sorts, &self.knowledge())?;
+        make_room(&mut self.machine, 0)?;
+        let Ok(number) = world.create(process, self.machine.trace.pid(), values) else {
+            return Err(Failure::Memory);
+        };
+        self.machine.store.offspring = offspring_of(number);
+        self.machine.trace.create(process, number);
+        Ok(())
+    }
 }
 
 fn offspring_of(number: Option<u32>) -> Pid

@@ -1,12 +1,9 @@
 //! What the transitions of an instance work on.
 
-ghost use Rattle.std.specs.Prelude.{◌≡◌, ◌<◌, ◌≤◌, IfErr, OnOk};
-ghost use Rattle.port_inbox.specs.Calls.{after_stop};
-ghost use Rattle.run_record.specs.Event as event;
-ghost use Rattle.run_record.specs.Record.{noted, with_room};
-ghost use Rattle.run_transitions.specs.Machine.{IsGoing, identity_of};
+ghost use Rattle.std.specs.Prelude.{◌≡◌, ◌≤◌, IfErr, OnOk};
+ghost use Rattle.run_record.specs.Record.{with_room};
+ghost use Rattle.run_transitions.specs.Machine.{identity_of};
 
-use port_inbox::Inbox;
 use run_evaluation::{Identity, Store};
 use run_record::{Failure, Record};
 use sdl_system::StateId;
@@ -53,15 +50,4 @@ pub fn make_room(machine: &mut Machine, values: usize) -> Result<(), Failure>
         Ok(()) => Ok(()),
         Err(_) => Err(Failure::Memory),
     }
-}
-
-/// Records that the transition fails, and ends the instance: what stands in its port or comes into it is discarded.
-pub fn fail<P: Inbox>(machine: &mut Machine, inbox: &mut P, why: Failure)
-    requires { IsGoing machine.old (P.owning inbox.old) }
-    ensures machine { machine.new ≡ record machine.old { trace = noted machine.old.trace (event.Failed why) } }
-    ensures stopped { P.owning inbox.new ≡ after_stop (P.owning inbox.old) }
-    ensures since { P.since inbox.new ≡ P.since inbox.old }
-{
-    machine.trace.failed(why);
-    inbox.stop();
 }

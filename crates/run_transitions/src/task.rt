@@ -1,112 +1,85 @@
 //! Tasks (Z.102: task, assignment).
 
-ghost use Rattle.std.specs.Prelude.{◌≡◌, ◌∷◌, [], IfErr, List, OnErr, OnOk, map};
-ghost use Rattle.port_inbox.specs.Ends.{OwnerState};
+ghost use Rattle.std.specs.Prelude.{◌≡◌, ◌<◌, ◌≤◌, ◌∷◌, [], IfErr, List, OnErr, OnOk, map};
 ghost use Rattle.run_record.specs.Event as event;
-ghost use Rattle.run_semantics.specs.Goes.{with_event};
+ghost use Rattle.run_record.specs.Record.{noted, with_room};
 ghost use Rattle.run_semantics.specs.Reception.{assigned};
 ghost use Rattle.run_semantics.specs.World.{WorldValue};
-ghost use Rattle.run_transitions.specs.Machine.{IsGoing, IsSameInstance, value_of};
-ghost use Rattle.run_transitions.specs.Work.{Does, DoesWrong, FailsAt, IsOf, amid};
+ghost use Rattle.run_transitions.specs.Running.{GoesOn, StaysAmid, WorksSame};
+ghost use Rattle.run_transitions.specs.Work.{FailsHere, WorksAmiss, WorksTo, amid};
 ghost use Rattle.sdl_system.specs.Body as body;
 ghost use Rattle.sdl_system.specs.Body.{Assigning};
 ghost use Rattle.sdl_system.specs.Table.{assigning};
 
 use crate::machine::{Machine, make_room};
+use crate::running::Core;
 use crate::sum::sum_at;
 use crate::variable::sort_of;
 use port_inbox::Inbox;
 use port_values::Value;
 use run_evaluation::evaluate_at;
 use run_record::Failure;
-use sdl_system::{Assignment, Process, System, VariableId};
+use sdl_system::{Assignment, VariableId};
 use std::alloc::Global;
 
-/// Assigns each variable its value, one after the other.
-pub fn assign_all<P: Inbox>(
-    alloc: Global,
-    assignments: &[Assignment],
-    system: &System,
-    process: &Process,
-    machine: &mut Machine,
-    inbox: &P,
-) -> Result<(), Failure>
-    requires { IsGoing machine.old (P.owning inbox.now) }
-    ensures instance { let old = value_of machine.old (P.owning inbox.now) in
-        IsSameInstance old (value_of machine.new (P.owning inbox.now)) }
-    ensures going { IsGoing machine.new (P.owning inbox.now) }
-    ensures done { machine.new.store.done ≡ machine.old.store.done }
-    ensures ok { let all = map assigning assignments.now in
-        let old = value_of machine.old (P.owning inbox.now) in
-        let new = value_of machine.new (P.owning inbox.now) in
-        OnOk result ((w : WorldValue)
-        → Does (IsOf system.now process.now) (amid (body.task all)) old w (amid (body.task [])) new w) }
-    ensures err { let all = map assigning assignments.now in
-        let old = value_of machine.old (P.owning inbox.now) in
-        let new = value_of machine.new (P.owning inbox.now) in
-        IfErr result (λ why. (w : WorldValue)
-        → DoesWrong (IsOf system.now process.now) (amid (body.task all)) old w new w why) }
-{
-    for assignment in assignments {
-        assign(alloc, assignment, system, process, machine, inbox)?;
+impl<'s, P: Inbox + Drop> Core<'s, P> {
+    /// Assigns each variable its value, one after the other.
+    pub(crate) fn assign_all(
+        &mut self,
+        alloc: Global,
+        assignments: &[Assignment],
+    ) -> Result<(), Failure>
+        requires { GoesOn P.owning P.since self.old }
+        ensures amid { StaysAmid P.owning P.since self.old self.new }
+        ensures ok { let all = map assigning assignments.now in
+            OnOk result ((w : WorldValue)
+            → WorksTo P.owning (amid (body.task all)) self.old w (amid (body.task [])) self.new w) }
+        ensures err { let all = map assigning assignments.now in
+            IfErr result (λ why. (w : WorldValue)
+            → WorksAmiss P.owning (amid (body.task all)) self.old w self.new w why) }
+    {
+        for assignment in assignments {
+            self.assign(alloc, assignment)?;
+        }
+        Ok(())
     }
-    Ok(())
-}
 
-fn assign<P: Inbox>(
-    alloc: Global,
-    assignment: &Assignment,
-    system: &System,
-    process: &Process,
-    machine: &mut Machine,
-    inbox: &P,
-) -> Result<(), Failure>
-    requires { IsGoing machine.old (P.owning inbox.now) }
-    ensures instance { let old = value_of machine.old (P.owning inbox.now) in
-        IsSameInstance old (value_of machine.new (P.owning inbox.now)) }
-    ensures going { IsGoing machine.new (P.owning inbox.now) }
-    ensures done { machine.new.store.done ≡ machine.old.store.done }
-    ensures ok { let old = value_of machine.old (P.owning inbox.now) in
-        let new = value_of machine.new (P.owning inbox.now) in
-        OnOk result ((more : List Assigning) (w : WorldValue)
-        → Does (IsOf system.now process.now)
-        (amid (body.task (assigning assignment.now ∷ more))) old w (amid (body.task more)) new w) }
-    ensures err { let old = value_of machine.old (P.owning inbox.now) in
-        IfErr result (λ why. (more : List Assigning)
-        → FailsAt (IsOf system.now process.now) (amid (body.task (assigning assignment.now ∷ more))) old why) }
-    ensures same { OnErr result ((owner : OwnerState) → value_of machine.new owner ≡ value_of machine.old owner) }
-{
-    let variable = assignment.variable;
-    let sort = sort_of(process, variable);
-    if let Some(value) = sum_at(sort, &assignment.value, &machine.store) {
-        assign_value(variable, value, machine)?;
-        return Ok(());
+    fn assign(&mut self, alloc: Global, assignment: &Assignment) -> Result<(), Failure>
+        requires { GoesOn P.owning P.since self.old }
+        ensures amid { StaysAmid P.owning P.since self.old self.new }
+        ensures ok { OnOk result ((more : List Assigning) (w : WorldValue)
+            → WorksTo P.owning (amid (body.task (assigning assignment.now ∷ more))) self.old w
+            (amid (body.task more)) self.new w) }
+        ensures err { IfErr result (λ why. (more : List Assigning)
+            → FailsHere P.owning (amid (body.task (assigning assignment.now ∷ more))) self.old why) }
+        ensures same { OnErr result (WorksSame P.owning self.old self.new) }
+    {
+        let variable = assignment.variable;
+        let sort = sort_of(self.process, variable);
+        if let Some(value) = sum_at(sort, &assignment.value, &self.machine.store) {
+            assign_value(variable, value, &mut self.machine)?;
+            return Ok(());
+        }
+        let value = evaluate_at(alloc, &assignment.value, sort, &self.knowledge())?;
+        assign_value(variable, value, &mut self.machine)?;
+        Ok(())
     }
-    let who = machine.who();
-    let value = evaluate_at(
-        alloc,
-        &assignment.value,
-        sort,
-        system,
-        &who,
-        &machine.store,
-        inbox,
-    )?;
-    assign_value(variable, value, machine)?;
-    Ok(())
 }
 
 /// The variable gets its value, which is recorded.
 #[inline(always)]
 fn assign_value(variable: VariableId, value: Value, machine: &mut Machine) -> Result<(), Failure>
-    ensures instance { (owner : OwnerState) → IsSameInstance (value_of machine.old owner) (value_of machine.new owner) }
-    ensures going { (owner : OwnerState) → IsGoing machine.old owner → IsGoing machine.new owner }
-    ensures done { machine.new.store.done ≡ machine.old.store.done }
-    ensures ok { OnOk result ((owner : OwnerState) → value_of machine.new owner
-        ≡ with_event (record (value_of machine.old owner) { store = assigned variable value machine.old.store })
-        (event.Task variable value)) }
+    ensures ok { let now = machine.new.trace in
+        OnOk result (machine.new ≡ record machine.old {
+          store = assigned variable value machine.old.store;
+          trace = with_room (noted machine.old.trace (event.Task variable value)) now.room now.values_room;
+        }) }
+    ensures room { OnOk result (0 < machine.new.trace.room) }
     ensures err { IfErr result (λ why. why ≡ Failure.Memory) }
-    ensures same { OnErr result ((owner : OwnerState) → value_of machine.new owner ≡ value_of machine.old owner) }
+    ensures same { let now = machine.new.trace in
+        OnErr result
+        (machine.new ≡ record machine.old { trace = with_room machine.old.trace now.room now.values_room }) }
+    ensures kept { OnErr result (machine.old.trace.room ≤ machine.new.trace.room) }
 {
     make_room(machine, 0)?;
     machine.store.variables.set(variable, value);

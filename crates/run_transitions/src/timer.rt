@@ -1,133 +1,130 @@
 //! Timers (Z.102: set, reset).
 
-ghost use Rattle.std.specs.Prelude.{◌≡◌, ◌⊎◌, ◌∷◌, [], IfErr, IfOk, List, OnErr, OnOk, Ok, Err, map, true};
-ghost use Rattle.port_inbox.specs.Ends.{OwnerState};
-ghost use Rattle.run_evaluation.specs.Environment.{environment};
+ghost use Rattle.std.specs.Prelude.{◌≡◌, ◌⊎◌, ◌∷◌, [], IfErr, IfOk, List, OnErr, OnOk, Ok, Err, map};
+ghost use Rattle.run_evaluation.specs.Knowledge.{environment_of};
 ghost use Rattle.run_semantics.specs.Fails.{due_by, later, ticks};
 ghost use Rattle.run_semantics.specs.World.{WorldValue};
-ghost use Rattle.run_transitions.specs.Machine.{IsGoing, IsSameInstance, value_of};
-ghost use Rattle.run_transitions.specs.Work.{Does, DoesWrong, FailsAt, IsIn, amid};
+ghost use Rattle.run_transitions.specs.Running.{GoesOn, StaysAmid, WorksSame};
+ghost use Rattle.run_transitions.specs.Work.{FailsHere, WorksAmiss, WorksTo, amid};
 ghost use Rattle.sdl_system.specs.Body as body;
 ghost use Rattle.sdl_system.specs.Table.{setting, timing, when_due};
 
-use crate::machine::{Machine, make_room};
+use crate::machine::make_room;
+use crate::running::Core;
 use port_inbox::Inbox;
 use port_model::PortError;
 use port_values::Ticks;
-use run_evaluation::{Identity, Store, evaluate_at, evaluate_key};
+use run_evaluation::{Knowledge, evaluate_at, evaluate_key};
 use run_record::Failure;
 use run_semantics::World;
-use sdl_system::{Due, Setting, Sort, System, TimerUse, number_of};
+use sdl_system::{Due, Setting, Sort, TimerUse, number_of};
 use std::alloc::Global;
 
-/// Sets each timer, one after the other.
-#[inline(never)]
-pub fn set_all<P: Inbox, W: World>(
-    alloc: Global,
-    settings: &[Setting],
-    system: &System,
-    machine: &mut Machine,
-    inbox: &mut P,
-    world: &mut W,
-) -> Result<(), Failure>
-    requires { IsGoing machine.old (P.owning inbox.old) }
-    ensures instance { let old = value_of machine.old (P.owning inbox.old) in
-        IsSameInstance old (value_of machine.new (P.owning inbox.new)) }
-    ensures going { IsGoing machine.new (P.owning inbox.new) }
-    ensures done { machine.new.store.done ≡ machine.old.store.done }
-    ensures since { P.since inbox.new ≡ P.since inbox.old }
-    ensures ok { let all = map setting settings.now in
-        let old = value_of machine.old (P.owning inbox.old) in
-        let new = value_of machine.new (P.owning inbox.new) in
-        OnOk result (Does (IsIn system.now)
-        (amid (body.set all)) old (W.value world.old) (amid (body.set [])) new (W.value world.new)) }
-    ensures err { let all = map setting settings.now in
-        let old = value_of machine.old (P.owning inbox.old) in
-        let new = value_of machine.new (P.owning inbox.new) in
-        IfErr result (DoesWrong (IsIn system.now)
-        (amid (body.set all)) old (W.value world.old) new (W.value world.new)) }
-{
-    for setting in settings {
-        set(alloc, setting, system, machine, inbox, world)?;
+impl<'s, P: Inbox + Drop> Core<'s, P> {
+    /// Sets each timer, one after the other.
+    #[inline(never)]
+    pub(crate) fn set_all<W: World>(
+        &mut self,
+        alloc: Global,
+        settings: &[Setting],
+        world: &mut W,
+    ) -> Result<(), Failure>
+        requires { GoesOn P.owning P.since self.old }
+        ensures amid { StaysAmid P.owning P.since self.old self.new }
+        ensures ok { let all = map setting settings.now in
+            OnOk result (WorksTo P.owning (amid (body.set all)) self.old (W.value world.old)
+            (amid (body.set [])) self.new (W.value world.new)) }
+        ensures err { let all = map setting settings.now in
+            IfErr result
+            (WorksAmiss P.owning (amid (body.set all)) self.old (W.value world.old) self.new (W.value world.new)) }
+    {
+        for setting in settings {
+            self.set(alloc, setting, world)?;
+        }
+        Ok(())
     }
-    Ok(())
-}
 
-/// When the timer is due is evaluated first, then its values. A time that has come expires at once, by its fuse.
-fn set<P: Inbox, W: World>(
-    alloc: Global,
-    one: &Setting,
-    system: &System,
-    machine: &mut Machine,
-    inbox: &mut P,
-    world: &mut W,
-) -> Result<(), Failure>
-    requires { IsGoing machine.old (P.owning inbox.old) }
-    ensures instance { let old = value_of machine.old (P.owning inbox.old) in
-        IsSameInstance old (value_of machine.new (P.owning inbox.new)) }
-    ensures going { IsGoing machine.new (P.owning inbox.new) }
-    ensures done { machine.new.store.done ≡ machine.old.store.done }
-    ensures since { P.since inbox.new ≡ P.since inbox.old }
-    ensures ok { let old = value_of machine.old (P.owning inbox.old) in
-        let new = value_of machine.new (P.owning inbox.new) in
-        OnOk result ((more : List body.Setting)
-        → Does (IsIn system.now) (amid (body.set (setting one.now ∷ more))) old (W.value world.old)
-        (amid (body.set more)) new (W.value world.new)) }
-    ensures err { let old = value_of machine.old (P.owning inbox.old) in
-        IfErr result (λ why. (more : List body.Setting)
-        → FailsAt (IsIn system.now) (amid (body.set (setting one.now ∷ more))) old why) }
-    ensures same { OnErr result ((owner : OwnerState) → value_of machine.new owner ≡ value_of machine.old owner) }
-    ensures kept { OnErr result (P.owning inbox.new ≡ P.owning inbox.old) }
-    ensures quiet { OnErr result (W.value world.new ≡ W.value world.old) }
-{
-    let who = machine.who();
-    let due = due_by(alloc, &one.due, system, &who, &machine.store, inbox)?;
-    let timer = &one.timer;
-    let key = evaluate_key(
-        alloc,
-        timer.timer,
-        &timer.values,
-        system,
-        &who,
-        &machine.store,
-        inbox,
-    )?;
-    make_room(machine, key.values.len())?;
-    if let Err(_) = world.prepare() {
-        return Err(Failure::Memory);
+    /// When the timer is due is evaluated first, then its values. A time that has come expires at once, by its fuse.
+    fn set<W: World>(&mut self, alloc: Global, one: &Setting, world: &mut W) -> Result<(), Failure>
+        requires { GoesOn P.owning P.since self.old }
+        ensures amid { StaysAmid P.owning P.since self.old self.new }
+        ensures ok { OnOk result ((more : List body.Setting)
+            → WorksTo P.owning (amid (body.set (setting one.now ∷ more))) self.old (W.value world.old)
+            (amid (body.set more)) self.new (W.value world.new)) }
+        ensures err { IfErr result (λ why. (more : List body.Setting)
+            → FailsHere P.owning (amid (body.set (setting one.now ∷ more))) self.old why) }
+        ensures same { OnErr result (WorksSame P.owning self.old self.new) }
+        ensures quiet { OnErr result (W.value world.new ≡ W.value world.old) }
+    {
+        let due = due_by(alloc, &one.due, &self.knowledge())?;
+        let timer = &one.timer;
+        let key = evaluate_key(alloc, timer.timer, &timer.values, &self.knowledge())?;
+        make_room(&mut self.machine, key.values.len())?;
+        if let Err(_) = world.prepare() {
+            return Err(Failure::Memory);
+        }
+        let fuse = match self.inbox.set(key, due) {
+            Ok(fuse) => fuse,
+            Err(PortError::SetsSpent) => return Err(Failure::SetsSpent),
+            Err(_) => return Err(Failure::Memory),
+        };
+        self.machine.trace.set(fuse.key(), due);
+        world.arm(fuse);
+        Ok(())
     }
-    let fuse = match inbox.set(key, due) {
-        Ok(fuse) => fuse,
-        Err(PortError::SetsSpent) => return Err(Failure::SetsSpent),
-        Err(_) => return Err(Failure::Memory),
-    };
-    machine.trace.set(fuse.key(), due);
-    world.arm(fuse);
-    Ok(())
+
+    /// Resets each timer, one after the other.
+    #[inline(never)]
+    pub(crate) fn reset_all(&mut self, alloc: Global, timers: &[TimerUse]) -> Result<(), Failure>
+        requires { GoesOn P.owning P.since self.old }
+        ensures amid { StaysAmid P.owning P.since self.old self.new }
+        ensures ok { let all = map timing timers.now in
+            OnOk result ((w : WorldValue)
+            → WorksTo P.owning (amid (body.reset all)) self.old w (amid (body.reset [])) self.new w) }
+        ensures err { let all = map timing timers.now in
+            IfErr result (λ why. (w : WorldValue)
+            → WorksAmiss P.owning (amid (body.reset all)) self.old w self.new w why) }
+    {
+        for timer in timers {
+            self.reset(alloc, timer)?;
+        }
+        Ok(())
+    }
+
+    fn reset(&mut self, alloc: Global, one: &TimerUse) -> Result<(), Failure>
+        requires { GoesOn P.owning P.since self.old }
+        ensures amid { StaysAmid P.owning P.since self.old self.new }
+        ensures ok { OnOk result ((more : List body.Timing) (w : WorldValue)
+            → WorksTo P.owning (amid (body.reset (timing one.now ∷ more))) self.old w
+            (amid (body.reset more)) self.new w) }
+        ensures err { IfErr result (λ why. (more : List body.Timing)
+            → FailsHere P.owning (amid (body.reset (timing one.now ∷ more))) self.old why) }
+        ensures same { OnErr result (WorksSame P.owning self.old self.new) }
+    {
+        let key = evaluate_key(alloc, one.timer, &one.values, &self.knowledge())?;
+        make_room(&mut self.machine, key.values.len())?;
+        self.inbox.reset(&key);
+        self.machine.trace.reset(&key);
+        Ok(())
+    }
 }
 
 /// When a timer is due.
 fn due_by<P: Inbox>(
     alloc: Global,
     due: &Due,
-    system: &System,
-    who: &Identity,
-    store: &Store,
-    inbox: &P,
+    knowledge: &Knowledge<'_, P>,
 ) -> Result<Ticks, Failure>
-    requires { (P.owning inbox.now).state.alive ≡ true }
-    ensures ok { let here = environment system.now who.now store.now (P.owning inbox.now).state in
-        IfOk result (λ ticks. due_by here (when_due due.now) ≡ Ok ticks) }
-    ensures err { let here = environment system.now who.now store.now (P.owning inbox.now).state in
+    ensures ok { IfOk result (λ ticks. due_by (environment_of knowledge.now) (when_due due.now) ≡ Ok ticks) }
+    ensures err { let here = environment_of knowledge.now in
         IfErr result (λ why. (why ≡ Failure.Memory) ⊎ (due_by here (when_due due.now) ≡ Err why)) }
 {
     match due {
         Due::At(time) => {
-            let sort = Some(Sort::Time);
-            let value = evaluate_at(alloc, time, sort, system, who, store, inbox)?;
+            let value = evaluate_at(alloc, time, Some(Sort::Time), knowledge)?;
             Ok(ticks(number_of(value)))
         }
-        Due::After(duration) => Ok(ticks(later(store.time, *duration)?)),
+        Due::After(duration) => Ok(ticks(later(knowledge.store().time, *duration)?)),
     }
 }
 
@@ -146,74 +143,4 @@ fn later(now: Ticks, duration: i64) -> Result<i64, Failure>
         return Err(Failure::Overflow);
     };
     now.checked_add(duration).ok_or(Failure::Overflow)
-}
-
-/// Resets each timer, one after the other.
-#[inline(never)]
-pub fn reset_all<P: Inbox>(
-    alloc: Global,
-    timers: &[TimerUse],
-    system: &System,
-    machine: &mut Machine,
-    inbox: &mut P,
-) -> Result<(), Failure>
-    requires { IsGoing machine.old (P.owning inbox.old) }
-    ensures instance { let old = value_of machine.old (P.owning inbox.old) in
-        IsSameInstance old (value_of machine.new (P.owning inbox.new)) }
-    ensures going { IsGoing machine.new (P.owning inbox.new) }
-    ensures done { machine.new.store.done ≡ machine.old.store.done }
-    ensures since { P.since inbox.new ≡ P.since inbox.old }
-    ensures ok { let all = map timing timers.now in
-        let old = value_of machine.old (P.owning inbox.old) in
-        let new = value_of machine.new (P.owning inbox.new) in
-        OnOk result ((w : WorldValue)
-        → Does (IsIn system.now) (amid (body.reset all)) old w (amid (body.reset [])) new w) }
-    ensures err { let all = map timing timers.now in
-        let old = value_of machine.old (P.owning inbox.old) in
-        let new = value_of machine.new (P.owning inbox.new) in
-        IfErr result (λ why. (w : WorldValue) → DoesWrong (IsIn system.now) (amid (body.reset all)) old w new w why) }
-{
-    for timer in timers {
-        reset(alloc, timer, system, machine, inbox)?;
-    }
-    Ok(())
-}
-
-fn reset<P: Inbox>(
-    alloc: Global,
-    one: &TimerUse,
-    system: &System,
-    machine: &mut Machine,
-    inbox: &mut P,
-) -> Result<(), Failure>
-    requires { IsGoing machine.old (P.owning inbox.old) }
-    ensures instance { let old = value_of machine.old (P.owning inbox.old) in
-        IsSameInstance old (value_of machine.new (P.owning inbox.new)) }
-    ensures going { IsGoing machine.new (P.owning inbox.new) }
-    ensures done { machine.new.store.done ≡ machine.old.store.done }
-    ensures since { P.since inbox.new ≡ P.since inbox.old }
-    ensures ok { let old = value_of machine.old (P.owning inbox.old) in
-        let new = value_of machine.new (P.owning inbox.new) in
-        OnOk result ((more : List body.Timing) (w : WorldValue)
-        → Does (IsIn system.now) (amid (body.reset (timing one.now ∷ more))) old w (amid (body.reset more)) new w) }
-    ensures err { let old = value_of machine.old (P.owning inbox.old) in
-        IfErr result (λ why. (more : List body.Timing)
-        → FailsAt (IsIn system.now) (amid (body.reset (timing one.now ∷ more))) old why) }
-    ensures same { OnErr result ((owner : OwnerState) → value_of machine.new owner ≡ value_of machine.old owner) }
-    ensures kept { OnErr result (P.owning inbox.new ≡ P.owning inbox.old) }
-{
-    let who = machine.who();
-    let key = evaluate_key(
-        alloc,
-        one.timer,
-        &one.values,
-        system,
-        &who,
-        &machine.store,
-        inbox,
-    )?;
-    make_room(machine, key.values.len())?;
-    inbox.reset(&key);
-    machine.trace.reset(&key);
-    Ok(())
 }
