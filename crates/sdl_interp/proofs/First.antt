@@ -12,8 +12,7 @@ use Rattle.run_evaluation.specs.Environment.{Environment, environment}
 use Rattle.run_evaluation.specs.declared.identity.Identity.{Identity}
 use Rattle.run_evaluation.specs.declared.store.Store.{Store}
 use Rattle.sdl_interp.specs.Selected.{CannotSelect}
-use Rattle.sdl_interp.specs.Stimulus.{Answers, FailsThen, Took}
-use Rattle.sdl_interp.specs.declared.stimulus.Led.{Led}
+use Rattle.sdl_interp.specs.Stimulus.{AnswersWrong, Took}
 use Rattle.run_record.specs.Event as event
 use Rattle.run_record.specs.Event.{Event, is_beginning, values_got}
 use Rattle.run_record.specs.declared.failure.Failure.{Failure}
@@ -68,7 +67,8 @@ module _ (d : Definition) where
     selecting_there =
         selecting_drawn d m.who m.owner.state state m.store classes m.owner.pid took.takes.news took.selecting
 
-    begins_taken : (to : ControlPoint) (n : MachineValue) (v : WorldValue) (happened : Event) (s : Store) → IsFirst happened
+    begins_taken : (to : ControlPoint) (n : MachineValue) (v : WorldValue) (happened : Event) (s : Store)
+        → IsFirst happened
         → is_beginning happened ≡ true → s.time ≡ time_after_one m.store.time happened
         → IsTrueOfOne d.system m.who w m.store.time happened
         → Happens d m.who drawn (In state) m.store happened (Take classes reply ∷ []) [] to s
@@ -82,11 +82,11 @@ module _ (d : Definition) where
         took.events time is_true leads)
 
     -- a failure after it
-    pub fails_taken : (n : MachineValue) (v : WorldValue) (why : Failure) (led : Led)
+    pub fails_taken : (why : Failure)
         → FailsIn d.behaviour took.selecting.state (environment d.system m.who m.store m.owner.state)
         (Take classes reply ∷ Stop ∷ []) why
-        → FailsThen w k why led n → v ≡ w → Answers d state m w (Some led) n v
-    fails_taken n v why led fails then quiet =
+        → AnswersWrong d state m w k w why
+    fails_taken why fails n then =
         let at : ℕ = then.at in
         let calls : List PortEvent = Take classes reply ∷ Stop ∷ [] in
         let deed : Deed = record { event = event.FailedAt at why; calls = calls; effects = [] } in
@@ -100,23 +100,22 @@ module _ (d : Definition) where
           place = refl;
           store = ap (λ (s : Store). record s { time = at }) took.store;
         } in
-        subst (λ (l : Led). Answers d state m w (Some l) n v) (sym then.ends)
-        (goes_until d (IsOneStep false) (In state) Ended m
-        (with_event (record x { owner = after_stop x.owner }) deed.event) n w w v then.is quiet
+        goes_until d (IsOneStep false) (In state) Ended m
+        (with_event (record x { owner = after_stop x.owner }) deed.event) n w w w then.is refl
         (goes_taken_stopped d false state Ended m x w deed classes reply took.takes took.alive refl tt refl took.who
-        took.events refl (reading_of at then.reading) (refl, here)))
+        took.events refl (reading_of at then.reading) (refl, here))
 
   -- memory is refused to record what was taken
   pub fails_recorded : (state : StateId) (m k : MachineValue) (w : WorldValue) (classes : List Class) (reply : Taken)
-      → Took d state m k classes reply → (l n : MachineValue) (v : WorldValue) (why : Failure) (led : Led)
-      → HasGiven reply → l ≡ k → why ≡ Memory → FailsThen w l why led n → v ≡ w → Answers d state m w (Some led) n v
-  fails_recorded state m k w classes reply took l n v why led given same memory then quiet =
+      → Took d state m k classes reply → (l : MachineValue) (why : Failure) → HasGiven reply → l ≡ k → why ≡ Memory
+      → AnswersWrong d state m w l w why
+  fails_recorded state m k w classes reply took l why given same memory =
       let s : StateMeaning = took.selecting.state in
       let here : Environment = environment d.system m.who m.store m.owner.state in
-      fails_taken state m k w classes reply took n v why led
+      subst (λ (x : MachineValue). AnswersWrong d state m w x w why) (sym same)
+      (fails_taken state m k w classes reply took why
       (subst (λ (x : Failure). FailsIn d.behaviour s here (Take classes reply ∷ Stop ∷ []) x) (sym memory)
-      (of_event classes reply took.selecting.selects given))
-      (subst (λ (x : MachineValue). FailsThen w x why led n) same then) quiet
+      (of_event classes reply took.selecting.selects given)))
 
   module _ (state : StateId) (m k : MachineValue) (w : WorldValue) (classes : List Class) (got : Got) where
     -- it is discarded
@@ -223,10 +222,10 @@ module _ (d : Definition) where
   -- ---- failures before a take
 
   -- nothing is asked of the port
-  pub fails_unselected : (state : StateId) (m n : MachineValue) (w v : WorldValue) (why : Failure) (led : Led)
-      → CannotSelect d m.who m.owner.state state m.store why → m.owner.state.alive ≡ true → FailsThen w m why led n
-      → v ≡ w → Answers d state m w (Some led) n v
-  fails_unselected state m n w v why led cannot alive then quiet =
+  pub fails_unselected : (state : StateId) (m : MachineValue) (w : WorldValue) (why : Failure)
+      → CannotSelect d m.who m.owner.state state m.store why → m.owner.state.alive ≡ true
+      → AnswersWrong d state m w m w why
+  fails_unselected state m w why cannot alive n then =
       let at : ℕ = then.at in
       let deed : Deed = record { event = event.FailedAt at why; calls = Stop ∷ []; effects = [] } in
       let x : MachineValue = record m { store = record m.store { time = at } } in
@@ -238,11 +237,10 @@ module _ (d : Definition) where
         place = refl;
         store = refl;
       } in
-      subst (λ (l : Led). Answers d state m w (Some l) n v) (sym then.ends)
-      (goes_until d (IsOneStep false) (In state) Ended m
-      (with_event (record x { owner = after_stop m.owner }) deed.event) n w w v then.is quiet
+      goes_until d (IsOneStep false) (In state) Ended m
+      (with_event (record x { owner = after_stop m.owner }) deed.event) n w w w then.is refl
       (goes_stopped d (IsOneStep false) (In state) Ended m x w deed (IsOneStep-first false deed tt refl) alive refl refl
-      refl refl then.reading (refl, here)))
+      refl refl then.reading (refl, here))
 
   -- memory is refused where a state selects
   pub cannot_take : (who : Identity) (q : PortState) (state : StateId) (s : Store) (classes : List Class)
@@ -251,11 +249,10 @@ module _ (d : Definition) where
       record { state = selecting.state; is = selecting.is; fails = of_take }
 
   -- a take is refused, before which something may be drawn
-  pub fails_refused : (state : StateId) (m k n : MachineValue) (w v : WorldValue) (classes : List Class) (led : Led)
+  pub fails_refused : (state : StateId) (m k : MachineValue) (w : WorldValue) (classes : List Class)
       → Selecting d m.who m.owner.state state m.store classes → HasDrawn m.owner k.owner → m.owner.state.alive ≡ true
-      → k.who ≡ m.who → k.store ≡ m.store → k.events ≡ m.events → FailsThen w k Memory led n → v ≡ w
-      → Answers d state m w (Some led) n v
-  fails_refused state m k n w v classes led selecting draws alive who store events then quiet =
+      → k.who ≡ m.who → k.store ≡ m.store → k.events ≡ m.events → AnswersWrong d state m w k w Memory
+  fails_refused state m k w classes selecting draws alive who store events n then =
       let at : ℕ = then.at in
       let deed : Deed = record { event = event.FailedAt at Memory; calls = Stop ∷ []; effects = [] } in
       let q : PortState = after_draws m.owner.pid m.owner.state draws.0 in
@@ -268,8 +265,7 @@ module _ (d : Definition) where
         place = refl;
         store = ap (λ (s : Store). record s { time = at }) store;
       } in
-      subst (λ (l : Led). Answers d state m w (Some l) n v) (sym then.ends)
-      (goes_until d (IsOneStep false) (In state) Ended m
-      (with_event (record x { owner = after_stop x.owner }) deed.event) n w w v then.is quiet
+      goes_until d (IsOneStep false) (In state) Ended m
+      (with_event (record x { owner = after_stop x.owner }) deed.event) n w w w then.is refl
       (goes_drawn_stopped d false state Ended m x w deed draws.0 draws.1 alive refl tt refl who events refl
-      (subst (λ (s : Store). IsReading w s.time at) store then.reading) (refl, here)))
+      (subst (λ (s : Store). IsReading w s.time at) store then.reading) (refl, here))

@@ -2,6 +2,7 @@
 use Rattle.std.proofs.Common.{◌≡◌, ◌∙◌, ◌==◌, if◌then◌else◌, zero, suc, sym, ap, subst, refl, ℕ, Bool, true, false, IsTrue, List, [], ◌∷◌, ◌++◌, append-nil, drop, map, None, Some, Result, Ok, Err, MatchResult}
 use Rattle.port_inbox.specs.Calls.{ComesBack, after_entry}
 use Rattle.port_inbox.specs.Ends.{AloneState, OwnerState, single}
+use Rattle.port_inbox.specs.declared.entry.Entry.{Entry}
 use Rattle.port_inbox.specs.declared.entry.Entry.TheVariants.{Timer}
 use Rattle.port_inbox.specs.declared.entry.Fuse.{Fuse}
 use Rattle.port_model.specs.declared.refused.Refused.{Refused}
@@ -10,21 +11,23 @@ use Rattle.port_values.specs.declared.item.Item.{Item}
 use Rattle.port_values.specs.declared.value.Value.{Value}
 use Rattle.sdl_interp.specs.Instance.{IsAtRest, IsClosed, IsInstance, closing, instance_of, variables_from}
 use Rattle.sdl_interp.specs.Stimulus.{IsAnswered, IsStepped, Responds, StepsFrom}
-use Rattle.sdl_interp.specs.declared.stimulus.Led.{Led}
 use Rattle.run_evaluation.specs.declared.identity.Identity.{Identity}
 use Rattle.run_record.specs.Event as event
 use Rattle.run_record.specs.Event.{Event}
 use Rattle.run_record.specs.Record.{RecordValue, noted}
 use Rattle.run_semantics.proofs.Histories.{run_cut, run_goes, run_hears_expiry, run_hears_put, run_rests, run_unstarted, run_waits}
-use Rattle.run_semantics.specs.Goes.{IsOneStep, MachineValue}
+use Rattle.run_semantics.specs.Goes.{Goes, IsOneStep, MachineValue}
 use Rattle.run_semantics.specs.Instance.{HasRun, first_variables, parameters_from}
 use Rattle.run_semantics.specs.ControlPoint.{Definition}
 use Rattle.run_semantics.specs.World.{WorldValue}
-use Rattle.run_transitions.specs.Machine.{IsReady, IsSameInstance, identity_of, place_of, value_of}
+use Rattle.run_transitions.proofs.Staying.{kept_on}
+use Rattle.run_transitions.specs.Machine.{IsPositionIn, identity_of, place_of}
+use Rattle.run_transitions.specs.Running.{CoreValue, IsReached, IsReady, IsSameInstance, seen}
 use Rattle.run_transitions.specs.Work.{IsOf}
 use Rattle.run_transitions.specs.declared.machine.Machine.{Machine}
 use Rattle.run_transitions.specs.declared.machine.Position.{Position}
 use Rattle.run_transitions.specs.declared.machine.Position.TheVariants as at
+use Rattle.run_transitions.specs.declared.running.Core.{Core}
 use Rattle.sdl_system.specs.Behaviour.{Behaviour, Means, VariableMeaning, variable_meaning}
 use Rattle.sdl_system.specs.System.{SystemValue}
 use Rattle.sdl_system.specs.declared.id.StateId.{StateId}
@@ -75,65 +78,73 @@ holds_ok (Err x) well holds = absurd (false≢true (sym well))
 
 -- ---- steps
 
-module _ (system : SystemValue) (process : Process) (from : Position) (m n : MachineValue) (w v : WorldValue) where
-  -- what was done before, and a step, are a run
-  run_stepped : (shared : Bool) (led : Led)
-      → ((d : Definition) → IsOf system process d → HasRun shared d m.who m.events (place_of from) m.store m.owner)
-      → StepsFrom system process from m w (Some led) n v → (d : Definition) → IsOf system process d
-      → HasRun shared d n.who n.events (place_of led.to) n.store n.owner
-  run_stepped shared led run steps d is =
-      run_goes d shared (IsOneStep led.counts) (place_of from) (place_of led.to) m n w v (run d is) (steps d is)
-
--- and so are what was done before, and waiting
-run_idle : (system : SystemValue) (process : Process) (from : Position) (m n : MachineValue) (w v : WorldValue)
-    (shared : Bool)
-    → ((d : Definition) → IsOf system process d → HasRun shared d m.who m.events (place_of from) m.store m.owner)
-    → StepsFrom system process from m w None n v → (d : Definition) → IsOf system process d
-    → HasRun shared d n.who n.events (place_of from) n.store n.owner
-run_idle system process at.BeforeStart m n w v shared run steps d is = absurd (steps d is)
-run_idle system process (at.In state) m n w v shared run steps d is =
-    run_waits d shared state m n w v (run d is) (steps d is)
-run_idle system process at.Ended m n w v shared run steps d is = absurd (steps d is)
-
 -- an instance that waits, and one that made a step, is one
-module _ (shared : Bool) (system : SystemValue) (process : Process) (from : Position) (m n : Machine)
-    (o q : OwnerState) (w v : WorldValue) (is_instance : IsInstance shared system process from m o)
-    (same : IsSameInstance (value_of m o) (value_of n q)) where
-  listed_still : slice_get system.processes n.trace.process.0 ≡ Some process
+module _ (shared : Bool) (from : Position) (k l : CoreValue) (w v : WorldValue)
+    (is_instance : IsInstance shared from k) (same : IsSameInstance k l) where
+  listed_still : slice_get l.system.processes l.work.who.process.0 ≡ Some l.process
   listed_still =
-      subst (λ (who : Identity). slice_get system.processes who.process.0 ≡ Some process) (sym same.who)
-      is_instance.listed
+      kept_on (λ s p. slice_get s.processes l.work.who.process.0 ≡ Some p) k l same
+      (subst (λ (who : Identity). slice_get k.system.processes who.process.0 ≡ Some k.process) (sym same.who)
+      is_instance.listed)
 
-  pub idle_is : IsStepped process from None n q
-      → StepsFrom system process from (value_of m o) w None (value_of n q) v
-      → IsInstance shared system process from n q
-  idle_is is_stepped steps = record {
-    ready = is_stepped;
+  -- what was done before, and waiting, are a run
+  run_idle : (place : Position)
+      → ((d : Definition) → IsOf k.system k.process d
+      → HasRun shared d k.work.who k.work.events (place_of place) k.work.store k.work.owner)
+      → StepsFrom k.system k.process place k.work w None l.work v → (d : Definition) → IsOf k.system k.process d
+      → HasRun shared d l.work.who l.work.events (place_of place) l.work.store l.work.owner
+  run_idle at.BeforeStart run steps d is = absurd (steps d is)
+  run_idle (at.In state) run steps d is = run_waits d shared state k.work l.work w v (run d is) (steps d is)
+  run_idle at.Ended run steps d is = absurd (steps d is)
+
+  pub idle_is : IsReady from l → StepsFrom k.system k.process from k.work w None l.work v → IsInstance shared from l
+  idle_is ready steps = record {
+    ready = ready;
     listed = listed_still;
-    state = is_instance.state;
-    run = run_idle system process from (value_of m o) (value_of n q) w v shared is_instance.run steps;
+    state = kept_on (λ s p. IsPositionIn p from) k l same is_instance.state;
+    run = kept_on (λ s p. (d : Definition) → IsOf s p d
+        → HasRun shared d l.work.who l.work.events (place_of from) l.work.store l.work.owner) k l same
+        (run_idle from is_instance.run steps);
   }
 
-  pub stepped_is : (led : Led) → IsStepped process from (Some led) n q
-      → StepsFrom system process from (value_of m o) w (Some led) (value_of n q) v
-      → IsInstance shared system process led.to n q
-  stepped_is led is_stepped steps = record {
-    ready = is_stepped.ready;
+  -- and so are what was done before, and a step
+  pub stepped_is : (to : Position) (counts : Bool) → IsReached to l
+      → ((d : Definition) → IsOf k.system k.process d
+      → Goes (IsOneStep counts) d (place_of from) k.work w (place_of to) l.work v) → IsInstance shared to l
+  stepped_is to counts reached steps = record {
+    ready = reached.ready;
     listed = listed_still;
-    state = is_stepped.inside;
-    run = run_stepped system process from (value_of m o) (value_of n q) w v shared led is_instance.run steps;
+    state = reached.inside;
+    run = kept_on (λ s p. (d : Definition) → IsOf s p d
+        → HasRun shared d l.work.who l.work.events (place_of to) l.work.store l.work.owner) k l same
+        (λ d is. run_goes d shared (IsOneStep counts) (place_of from) (place_of to) k.work l.work w v
+        (is_instance.run d is) (steps d is));
   }
 
 -- ---- the end
 
-module _ (shared : Bool) (system : SystemValue) (process : Process) (m : Machine) (o : OwnerState) (whole : Bool)
+module _ {I : Type 0} (owning : I → OwnerState) (since : I → List Entry) (c : Core I) (shared whole : Bool)
     (trace : RecordValue) where
+  abbrev k : CoreValue
+  k = seen owning since c
+
+  abbrev m : Machine
+  m = c.machine
+
+  abbrev o : OwnerState
+  o = owning c.inbox
+
+  abbrev system : SystemValue
+  system = c.system.now
+
+  abbrev process : Process
+  process = c.process.now
+
   -- the record closes an instance at this position
   abbrev pub Closes : Position → Type 0
   Closes position =
-      IsInstance shared system process position m o
-      → (IsTrue whole → IsAtRest (instance_of system process position m o))
-      → IsClosed shared whole (instance_of system process position m o) trace
+      IsInstance shared position k → (IsTrue whole → IsAtRest (instance_of position k))
+      → IsClosed shared whole (instance_of position k) trace
 
   pub closes_unstarted : trace ≡ noted m.trace (event.Cut None) → Closes at.BeforeStart
   closes_unstarted is = λ is_instance rests. record {
@@ -189,27 +200,29 @@ module _ (shared : Bool) (system : SystemValue) (process : Process) (m : Machine
 
 -- ---- a port for one thread
 
-ready_as : (position : Position) (m : Machine) (o p : OwnerState) → p.state.alive ≡ o.state.alive → p.pid ≡ o.pid
-    → IsReady position m o → IsReady position m p
-ready_as at.BeforeStart m o p alive pid ready =
-    (record { room = ready.0.room; alive = alive ∙ ready.0.alive; own = pid ∙ ready.0.own }, ready.1)
-ready_as (at.In state) m o p alive pid ready =
-    record { room = ready.room; alive = alive ∙ ready.alive; own = pid ∙ ready.own }
-ready_as at.Ended m o p alive pid ready = tt
+-- the instance with this port
+abbrev pub at_port : CoreValue → AloneState → CoreValue
+at_port k a = record k { work = record k.work { owner = single a.pid a.state a.armed } }
 
-module _ (system : SystemValue) (process : Process) (position : Position) (m : Machine) where
+ready_as : (position : Position) (k : CoreValue) (old new : AloneState) → new.state.alive ≡ old.state.alive
+    → new.pid ≡ old.pid → IsReady position (at_port k old) → IsReady position (at_port k new)
+ready_as at.BeforeStart k old new alive pid ready =
+    (record { room = ready.0.room; alive = alive ∙ ready.0.alive; own = pid ∙ ready.0.own }, ready.1)
+ready_as (at.In state) k old new alive pid ready =
+    record { room = ready.room; alive = alive ∙ ready.alive; own = pid ∙ ready.own }
+ready_as at.Ended k old new alive pid ready = tt
+
+module _ (position : Position) (k : CoreValue) where
   abbrev Stands : AloneState → Type 0
-  Stands a = IsInstance false system process position m (single a.pid a.state a.armed)
+  Stands a = IsInstance false position (at_port k a)
 
   -- the port has become this one
   becomes : (old : AloneState) (port : PortState) → port.alive ≡ old.state.alive
-      → ((d : Definition) → IsOf system process d
-      → HasRun false d (identity_of m.trace) m.trace.events (place_of position) m.store
-      (single old.pid port old.armed))
+      → ((d : Definition) → IsOf k.system k.process d
+      → HasRun false d k.work.who k.work.events (place_of position) k.work.store (single old.pid port old.armed))
       → Stands old → Stands (record old { state = port })
   becomes old port alive run is_instance = record {
-    ready = ready_as position m (single old.pid old.state old.armed) (single old.pid port old.armed) alive refl
-        is_instance.ready;
+    ready = ready_as position k old (record old { state = port }) alive refl is_instance.ready;
     listed = is_instance.listed;
     state = is_instance.state;
     run = run;
@@ -222,19 +235,19 @@ module _ (system : SystemValue) (process : Process) (position : Position) (m : M
       subst Stands (sym is)
       (becomes old (put_into old.state item)
       (sym (ap (λ (a : AloneState). a.state.alive) is) ∙ alive)
-      (λ d of. run_hears_put d false (identity_of m.trace) m.trace.events (place_of position) m.store
+      (λ d of. run_hears_put d false k.work.who k.work.events (place_of position) k.work.store
       (single old.pid old.state old.armed) item refl (is_instance.run d of))
       is_instance)
   stands_put (Err back) old new item is alive is_instance = subst Stands (sym is.1) is_instance
 
   -- an entry of a fuse that is this port's, or of another
   entered : (d : Definition) (old : AloneState) (fuse : Fuse) (time : ℕ) (own : Bool)
-      → HasRun false d (identity_of m.trace) m.trace.events (place_of position) m.store
+      → HasRun false d k.work.who k.work.events (place_of position) k.work.store
       (single old.pid old.state old.armed)
-      → HasRun false d (identity_of m.trace) m.trace.events (place_of position) m.store
+      → HasRun false d k.work.who k.work.events (place_of position) k.work.store
       (single old.pid (if own then expire_in old.state fuse.key fuse.arm fuse.due time else old.state) old.armed)
   entered d old fuse time true run =
-      run_hears_expiry d false (identity_of m.trace) m.trace.events (place_of position) m.store
+      run_hears_expiry d false k.work.who k.work.events (place_of position) k.work.store
       (single old.pid old.state old.armed) fuse.key fuse.arm fuse.due time refl run
   entered d old fuse time false run = run
 
@@ -252,13 +265,13 @@ module _ (system : SystemValue) (process : Process) (position : Position) (m : M
 -- ---- positions
 
 -- what is answered in a state is a step from there
-pub answered_stepped : (process : Process) (n : StateId) (answer : Option Led) (m : Machine) (o : OwnerState)
-    → IsAnswered process answer m o → IsStepped process (at.In n) answer m o
-answered_stepped process n None m o answered = answered
-answered_stepped process n (Some led) m o answered = answered
+pub answered_stepped : (n : StateId) (answer : Option Position) (k : CoreValue) → IsAnswered answer k
+    → IsStepped (at.In n) answer k
+answered_stepped n None k answered = answered
+answered_stepped n (Some to) k answered = answered
 
 pub responds_steps : (system : SystemValue) (process : Process) (state : StateId) (m n : MachineValue)
-    (w v : WorldValue) (answer : Option Led) → Responds system process state m w answer n v
+    (w v : WorldValue) (answer : Option Position) → Responds system process state m w answer n v
     → StepsFrom system process (at.In state) m w answer n v
 responds_steps system process state m n w v None responds = responds
-responds_steps system process state m n w v (Some led) responds = responds
+responds_steps system process state m n w v (Some to) responds = responds

@@ -1,5 +1,5 @@
 -- What is done with what a take gave.
-use Rattle.std.proofs.Common.{◌≡◌, ◌⊎◌, inl, inr, ◌∙◌, sym, ap, subst, ℕ, ◌≤◌, Bool, true, List, ◌∷◌, [], None, Some}
+use Rattle.std.proofs.Common.{◌≡◌, ◌⊎◌, inl, inr, ◌∙◌, sym, ap, subst, ℕ, ◌≤◌, true, List, ◌∷◌, [], None, Some}
 use Rattle.std.specs.List.{AllZip, list_any}
 use Rattle.port_model.specs.History.{Stop, Take}
 use Rattle.port_model.specs.Port.{PortState}
@@ -14,8 +14,7 @@ use Rattle.run_evaluation.specs.declared.store.Store.{Store}
 use Rattle.sdl_interp.proofs.Bodies.{input_begins, priority_begins, table_means, tried_none}
 use Rattle.sdl_interp.proofs.First.{consumes, consumes_first, fails_taken}
 use Rattle.sdl_interp.specs.Selected.{IsTried}
-use Rattle.sdl_interp.specs.Stimulus.{Answers, BeginsWith, FailsThen, Took}
-use Rattle.sdl_interp.specs.declared.stimulus.Led.{Led}
+use Rattle.sdl_interp.specs.Stimulus.{Answers, AnswersWrong, BeginsWith, Took}
 use Rattle.run_record.specs.Event as event
 use Rattle.run_record.specs.Event.{values_got}
 use Rattle.run_record.specs.declared.failure.Failure.{Failure}
@@ -23,13 +22,14 @@ use Rattle.run_record.specs.declared.failure.Failure.TheVariants.{Memory}
 use Rattle.run_semantics.proofs.Goes.{step_on, waits_taken}
 use Rattle.run_semantics.proofs.Same.{environment_drawn}
 use Rattle.run_semantics.specs.Fails.{FailsIn, conditions_of, of_continuous, of_trying}
-use Rattle.run_semantics.specs.Goes.{Goes, IsOneStep, MachineValue, Waits, with_event}
+use Rattle.run_semantics.specs.Goes.{MachineValue, Waits, with_event}
 use Rattle.run_semantics.specs.ControlPoint.{Definition, In, ControlPoint, Receiving}
 use Rattle.run_semantics.specs.Reception.{receiving}
 use Rattle.run_semantics.specs.Selection.{fails, tried}
 use Rattle.run_semantics.specs.World.{IsReading, WorldValue}
 use Rattle.run_transitions.specs.Machine.{place_of}
 use Rattle.run_transitions.specs.Work.{IsOf}
+use Rattle.run_transitions.specs.declared.machine.Position.{Position}
 use Rattle.sdl_system.specs.Behaviour.{ContinuousSignal, MeansContinuous}
 use Rattle.sdl_system.specs.Process.{reaction_in, table_of}
 use Rattle.sdl_system.specs.System.{SystemValue}
@@ -48,34 +48,31 @@ module _ (system : SystemValue) (process : Process) (d : Definition) (is : IsOf 
 
   module _ (got : Got) (took : Took d state m l classes (Consumed got)) (reception : Reception) (at : ℕ)
       (later : l.store.time ≤ at) (reading : IsReading w l.store.time at) (k n : MachineValue) (v u : WorldValue)
-      (quiet : v ≡ w) (led : Led) (counts : led.counts ≡ true)
-      (begins : BeginsWith system process state reception got k v led n u) where
+      (quiet : v ≡ w) (to : Position) (begins : BeginsWith system process state reception got k v to n u) where
     pub answers_input : (condition : Option ConditionId)
         → Some (react.Input reception condition) ≡ reaction_in process state (name_of got)
         → k ≡ with_event (record l { store = receiving l.who at got l.store }) (event.Consumed at got)
-        → Answers d state m w (Some led) n u
+        → Answers d state m w (Some to) n u
     answers_input condition does recorded =
         let b = input_begins process d.behaviour is.behaves.means state took.selecting.state
         (name_of got) reception condition took.selecting.is (sym does) in
         let on : ControlPoint = Receiving (Some state) reception.variables.items (values_got got) b.next in
-        subst (λ (counted : Bool). Goes (IsOneStep counted) d (In state) m w (place_of led.to) n u) (sym counts)
-        (step_on d true (In state) on (place_of led.to) m k n w v u
+        step_on d true (In state) on (place_of to) m k n w v u
         (consumes d state m l w classes got took at reception.variables.items b.next k v b.inputs later reading recorded
         quiet)
-        (begins d is b.next b.stands))
+        (begins d is b.next b.stands)
 
     pub answers_priority : Some (react.Priority reception) ≡ reaction_in process state (name_of got)
         → k ≡ with_event (record l { store = receiving l.who at got l.store }) (event.Prior at got)
-        → Answers d state m w (Some led) n u
+        → Answers d state m w (Some to) n u
     answers_priority does recorded =
         let b = priority_begins process d.behaviour is.behaves.means state took.selecting.state
         (name_of got) reception took.selecting.is (sym does) in
         let on : ControlPoint = Receiving (Some state) reception.variables.items (values_got got) b.next in
-        subst (λ (counted : Bool). Goes (IsOneStep counted) d (In state) m w (place_of led.to) n u) (sym counts)
-        (step_on d true (In state) on (place_of led.to) m k n w v u
+        step_on d true (In state) on (place_of to) m k n w v u
         (consumes_first d state m l w classes got took at reception.variables.items b.next k v b.inputs later reading
         recorded quiet)
-        (begins d is b.next b.stands))
+        (begins d is b.next b.stands)
 
   -- ---- where nothing is taken
 
@@ -133,12 +130,12 @@ module _ (system : SystemValue) (process : Process) (d : Definition) (is : IsOf 
         FailsIn d.behaviour took.selecting.state here (Take classes Nothing ∷ Stop ∷ []) x) (sym wants.0)
         (of_trying classes took.selecting.selects wants.1)
 
-    pub answers_failure : (n : MachineValue) (v : WorldValue) (why : Failure) (led : Led)
+    pub answers_failure : (why : Failure)
         → (tried (environment system l.who l.store l.owner.state) meant ≡ fails why)
         ⊎ ((why ≡ Memory) × (list_any wants_memory (conditions_of meant) ≡ true))
-        → FailsThen w l why led n → v ≡ w → Answers d state m w (Some led) n v
-    answers_failure n v why led cause then quiet =
-        fails_taken d state m l w classes Nothing took n v why led (fails_trying why cause) then quiet
+        → AnswersWrong d state m w l w why
+    answers_failure why cause =
+        fails_taken d state m l w classes Nothing took why (fails_trying why cause)
 
     -- the continuous signals of the table are those of the state
     pub table_continues : (table : StateTable) → table_of process state ≡ Some table

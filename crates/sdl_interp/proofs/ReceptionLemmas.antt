@@ -43,7 +43,8 @@ sort_is process d variable has =
 -- behind the last value, or the last variable, the body is next
 last_turn : (d : Definition) (m : Machine) (q : PortState) (origin : Option StateId) (next : Body)
     (variables : List (Option VariableId)) (values : List Value) → (variables ≡ []) ⊎ (values ≡ [])
-    → LeadsSilently d (identity_of m.trace) q (Receiving origin variables values next) m.store (Doing origin next) m.store
+    → LeadsSilently d (identity_of m.trace) q (Receiving origin variables values next) m.store
+    (Doing origin next) m.store
 last_turn d m q origin next [] values done = (refl, refl)
 last_turn d m q origin next (None ∷ variables) [] done = (refl, refl)
 last_turn d m q origin next (Some variable ∷ variables) [] done = (refl, refl)

@@ -1,21 +1,16 @@
--- What the work of an instance is once the first event of a step is recorded, and who it stays.
-use Rattle.std.proofs.Common.{◌≡◌, ◌∙◌, ap, refl, ℕ}
-use Rattle.port_inbox.specs.Calls.{after_stop}
+-- What the work of an instance is once the first event of a step is recorded.
+use Rattle.std.proofs.Common.{◌≡◌, ◌∙◌, ap, ℕ}
 use Rattle.port_inbox.specs.Ends.{OwnerState}
 use Rattle.port_model.specs.declared.got.Got.{Got}
 use Rattle.port_values.specs.declared.pid.Pid.{Pid}
 use Rattle.port_values.specs.declared.pid.Pid.TheVariants.{Of}
 use Rattle.run_evaluation.specs.declared.store.Store.{Store}
-use Rattle.sdl_interp.specs.Stimulus.{FailsThen}
-use Rattle.sdl_interp.specs.declared.stimulus.Led.{Led}
 use Rattle.run_record.specs.Event as event
 use Rattle.run_record.specs.Event.{Event}
 use Rattle.run_record.specs.Record.{RecordValue, noted, with_room}
-use Rattle.run_record.specs.declared.failure.Failure.{Failure}
-use Rattle.run_semantics.specs.Goes.{MachineValue, with_event}
+use Rattle.run_semantics.specs.Goes.{with_event}
 use Rattle.run_semantics.specs.Reception.{provided, sender_of, taking}
-use Rattle.run_semantics.specs.World.{WorldValue}
-use Rattle.run_transitions.specs.Machine.{IsSameInstance, identity_of, value_of}
+use Rattle.run_transitions.specs.Machine.{identity_of, value_of}
 use Rattle.run_transitions.specs.declared.machine.Machine.{Machine}
 
 -- ---- the work
@@ -77,51 +72,3 @@ received_is owner old x trace s happened known same told =
 pub roomy_is : (owner : OwnerState) (old x : Machine) (events values : ℕ)
     → x ≡ record old { trace = with_room old.trace events values } → value_of x owner ≡ value_of old owner
 roomy_is owner old x events values is = ap (λ (y : Machine). value_of y owner) is
-
--- ---- who it stays
-
-pub same_equal : (m n : MachineValue) → n ≡ m → IsSameInstance m n
-same_equal m n is = record {
-  who = ap (λ (x : MachineValue). x.who) is;
-  port = ap (λ (x : MachineValue). x.owner.port) is;
-  pid = ap (λ (x : MachineValue). x.owner.pid) is;
-}
-
-pub same_on : (l m n : MachineValue) → IsSameInstance l m → IsSameInstance m n → IsSameInstance l n
-same_on l m n first then = record {
-  who = then.who ∙ first.who;
-  port = then.port ∙ first.port;
-  pid = then.pid ∙ first.pid;
-}
-
-pub same_recorded : (m n : MachineValue) (s : Store) (happened : Event)
-    → n ≡ with_event (record m { store = s }) happened → IsSameInstance m n
-same_recorded m n s happened is = record {
-  who = ap (λ (x : MachineValue). x.who) is;
-  port = ap (λ (x : MachineValue). x.owner.port) is;
-  pid = ap (λ (x : MachineValue). x.owner.pid) is;
-}
-
-pub same_failed : (w : WorldValue) (m n : MachineValue) (why : Failure) (led : Led) → FailsThen w m why led n
-    → IsSameInstance m n
-same_failed w m n why led then = record {
-  who = ap (λ (x : MachineValue). x.who) then.is;
-  port = ap (λ (x : MachineValue). x.owner.port) then.is;
-  pid = ap (λ (x : MachineValue). x.owner.pid) then.is;
-}
-
-pub same_stopped : (m n : MachineValue) (happened : Event)
-    → n ≡ with_event (record m { owner = after_stop m.owner }) happened → IsSameInstance m n
-same_stopped m n happened is = record {
-  who = ap (λ (x : MachineValue). x.who) is;
-  port = ap (λ (x : MachineValue). x.owner.port) is;
-  pid = ap (λ (x : MachineValue). x.owner.pid) is;
-}
-
-pub same_trace : (owner : OwnerState) (old x : Machine) → x.trace ≡ old.trace
-    → IsSameInstance (value_of old owner) (value_of x owner)
-same_trace owner old x is = record {
-  who = ap (λ (t : RecordValue). identity_of t) is;
-  port = refl;
-  pid = refl;
-}

@@ -7,15 +7,13 @@ use Rattle.std.proofs.lemmas.List.Elements.{Contains-append_left, Contains-push,
 use Rattle.std.proofs.lemmas.Option.{get_or_from_slice_get, same_Some, slice_get-get_or, slice_get_within}
 use Rattle.std.proofs.lemmas.Slice.Zip.{AllZip-left}
 use Rattle.port_model.specs.History.{Stop}
-use Rattle.port_model.specs.Port.{PortState}
 use Rattle.port_model.specs.Selection as selection
 use Rattle.port_values.specs.declared.item.SignalId.{SignalId}
 use Rattle.port_model.specs.declared.selection.Class.{Class}
 use Rattle.port_model.specs.declared.selection.Class.TheVariants as class
 use Rattle.run_evaluation.specs.Environment.{Environment, environment}
 use Rattle.run_evaluation.specs.Value.{truth_at}
-use Rattle.run_evaluation.specs.declared.identity.Identity.{Identity}
-use Rattle.run_evaluation.specs.declared.store.Store.{Store}
+use Rattle.run_evaluation.specs.Knowledge.{KnowledgeValue, environment_of}
 use Rattle.sdl_interp.proofs.ConditionLemmas.{condition_at, none_fails, none_to_fail, truth_of_place}
 use Rattle.sdl_interp.specs.Condition.{are_conditions}
 use Rattle.sdl_interp.specs.Selected.{AreShut, IsShut, SelectsBy, SelectsNone}
@@ -551,52 +549,58 @@ module _ (d : Definition) (system : SystemValue) (process : Process) (table : St
 
 -- ---- what a selection says, whatever the process means
 
-module _ (system : SystemValue) (process : Process) (table : StateTable) (who : Identity) (s : Store)
-    (q : PortState) where
-  pub plain_selects : table.conditions.items ≡ [] → SelectsBy system process table who s q table.selection
+module _ (process : Process) (table : StateTable) (known : KnowledgeValue) where
+  pub plain_selects : table.conditions.items ≡ [] → SelectsBy process table known table.selection
   plain_selects empty = λ d is n at.
-      let has : HasTable d system process table n is.behaves.means.entries = has_table system process d is table n at in
+      let has : HasTable d known.system process table n is.behaves.means.entries =
+      has_table known.system process d is table n at in
       record {
         state = has.state;
         is = has.is;
-        selects = selects_plain d system process table n is.behaves.means.entries (environment d.system who s q) has
-            empty;
+        selects = selects_plain d known.system process table n is.behaves.means.entries
+            (environment d.system known.who known.store known.port) has empty;
       }
 
-  pub made_selects : (truths : List Bool) (made : List Class) (count : ℕ) → count ≡ length system.signals
+  pub made_selects : (truths : List Bool) (made : List Class) (count : ℕ) → count ≡ length known.system.signals
       → AreShut process table truths count made
       → ((terms : List Term) → are_conditions process table.conditions.items ≡ map Some terms
-      → map (truth_at (environment system who s q)) terms ≡ map Ok truths)
-      → SelectsBy system process table who s q made
-  made_selects truths made count size are known = λ d is n at.
-      let has : HasTable d system process table n is.behaves.means.entries = has_table system process d is table n at in
+      → map (truth_at (environment_of known)) terms ≡ map Ok truths)
+      → SelectsBy process table known made
+  made_selects truths made count size are truths_are = λ d is n at.
+      let has : HasTable d known.system process table n is.behaves.means.entries =
+      has_table known.system process d is table n at in
       record {
         state = has.state;
         is = has.is;
-        selects = selects_made d system process table n is.behaves.means.entries (environment d.system who s q) has
+        selects = selects_made d known.system process table n is.behaves.means.entries
+            (environment d.system known.who known.store known.port) has
             truths made (subst (λ (k : ℕ). AreShut process table truths k made) size are)
             (subst (λ (x : SystemValue).
-            map (truth_at (environment x who s q)) has.state.enabling ≡ map Ok truths) (sym is.system_is)
-            (known has.state.enabling has.does.enabling_is));
+            map (truth_at (environment x known.who known.store known.port)) has.state.enabling ≡ map Ok truths)
+            (sym is.system_is)
+            (truths_are has.state.enabling has.does.enabling_is));
       }
 
   pub cannot_by_condition : (why : Failure)
       → ((terms : List Term) → are_conditions process table.conditions.items ≡ map Some terms
-      → (why ≡ Memory) ⊎ (first_failure (environment system who s q) terms ≡ Some why))
-      → SelectsNone system process table who s q why
+      → (why ≡ Memory) ⊎ (first_failure (environment_of known) terms ≡ Some why))
+      → SelectsNone process table known why
   cannot_by_condition why failed = λ d is n at.
-      let has : HasTable d system process table n is.behaves.means.entries = has_table system process d is table n at in
+      let has : HasTable d known.system process table n is.behaves.means.entries =
+      has_table known.system process d is table n at in
       record {
         state = has.state;
         is = has.is;
         fails = ⊎_elim
             (λ refused. subst (λ (x : Failure).
-            FailsIn d.behaviour has.state (environment d.system who s q) (Stop ∷ []) x) (sym refused) of_take)
+            FailsIn d.behaviour has.state (environment d.system known.who known.store known.port) (Stop ∷ []) x)
+            (sym refused) of_take)
             (λ told. of_condition why
-            (subst (λ (x : SystemValue). first_failure (environment x who s q) has.state.enabling ≡ Some why)
+            (subst (λ (x : SystemValue). first_failure (environment x known.who known.store known.port)
+            has.state.enabling ≡ Some why)
             (sym is.system_is) told))
             (failed has.state.enabling has.does.enabling_is);
       }
 
-  pub cannot_for_memory : (why : Failure) → why ≡ Memory → SelectsNone system process table who s q why
+  pub cannot_for_memory : (why : Failure) → why ≡ Memory → SelectsNone process table known why
   cannot_for_memory why refused = cannot_by_condition why (λ terms are. inl refused)

@@ -19,9 +19,9 @@ use Rattle.run_semantics.specs.World.{WorldValue}
 use Rattle.sdl_interp.specs.Stimulus.{WaitsAt}
 use Rattle.sdl_interp.specs.declared.instance.Stepped.{Stepped}
 use Rattle.sdl_interp.specs.declared.instance.Stepped.TheVariants as stepped
-use Rattle.run_transitions.specs.Machine.{IsPositionIn, IsReady, identity_of, place_of}
+use Rattle.run_transitions.specs.Machine.{IsPositionIn, place_of}
+use Rattle.run_transitions.specs.Running.{CoreValue, IsReady}
 use Rattle.run_transitions.specs.Work.{IsOf}
-use Rattle.run_transitions.specs.declared.machine.Machine.{Machine}
 use Rattle.run_transitions.specs.declared.machine.Position.{Position}
 use Rattle.run_transitions.specs.declared.machine.Position.TheVariants as at
 use Rattle.sdl_system.specs.System.{SystemValue}
@@ -53,25 +53,24 @@ HasRunOf shared i =
     (d : Definition) → IsRunAs i d → HasRun shared d i.who i.events (place_of i.position) i.store i.owner
 
 -- what the fields of an instance mean
-abbrev pub instance_of : SystemValue → Process → Position → Machine → OwnerState → InstanceValue
-instance_of system process position m owner = record {
-  system = system;
-  process = process;
-  who = identity_of m.trace;
+abbrev pub instance_of : Position → CoreValue → InstanceValue
+instance_of position k = record {
+  system = k.system;
+  process = k.process;
+  who = k.work.who;
   position = position;
-  store = m.store;
-  owner = owner;
-  events = m.trace.events;
+  store = k.work.store;
+  owner = k.work.owner;
+  events = k.work.events;
 }
 
 -- There is room for what may come, the process is the one that the system has at the instance's number of it, the state
 -- is one of the process, and all that was done is a run of it.
-pub record IsInstance (shared : Bool) (system : SystemValue) (process : Process) (position : Position) (m : Machine)
-    (owner : OwnerState) : Type 0 where
-  pub ready : IsReady position m owner
-  pub listed : slice_get system.processes m.trace.process.0 ≡ Some process
-  pub state : IsPositionIn process position
-  pub run : HasRunOf shared (instance_of system process position m owner)
+pub record IsInstance (shared : Bool) (position : Position) (k : CoreValue) : Type 0 where
+  pub ready : IsReady position k
+  pub listed : slice_get k.system.processes k.work.who.process.0 ≡ Some k.process
+  pub state : IsPositionIn k.process position
+  pub run : HasRunOf shared (instance_of position k)
 
 -- the variables before the start, by the process: parameters have the values that there are
 abbrev pub variables_from : Process → List Value → VariableList
@@ -123,6 +122,12 @@ abbrev pub Steps : Stepped → InstanceValue → WorldValue → InstanceValue �
 Steps stepped.Moved old w new v = Moves true old w new v × (new.position ≢ at.Ended)
 Steps stepped.Idle old w new v = IsIdle old w new v
 Steps (stepped.Ended counts) old w new v = EndsBy counts old w new v
+
+-- what a transition that has led there comes to
+abbrev pub came_to : Position → Stepped
+came_to at.Ended = stepped.Ended true
+came_to at.BeforeStart = stepped.Moved
+came_to (at.In state) = stepped.Moved
 
 -- ---- the end
 

@@ -7,6 +7,7 @@ use Rattle.port_values.specs.declared.item.SignalId.{SignalId}
 use Rattle.port_model.specs.declared.selection.Class.{Class}
 use Rattle.port_model.specs.declared.selection.Class.TheVariants as class
 use Rattle.run_evaluation.specs.Environment.{environment}
+use Rattle.run_evaluation.specs.Knowledge.{KnowledgeValue}
 use Rattle.run_evaluation.specs.declared.identity.Identity.{Identity}
 use Rattle.run_evaluation.specs.declared.store.Store.{Store}
 use Rattle.run_record.specs.declared.failure.Failure.{Failure}
@@ -18,7 +19,6 @@ use Rattle.run_transitions.specs.Work.{IsOf}
 use Rattle.sdl_system.specs.Behaviour.{StateMeaning}
 use Rattle.sdl_system.specs.Process.{table_of}
 use Rattle.sdl_system.specs.Soundness.{IsEnabled}
-use Rattle.sdl_system.specs.System.{SystemValue}
 use Rattle.sdl_system.specs.declared.id.NodeId.{NodeId}
 use Rattle.sdl_system.specs.declared.id.StateId.{StateId}
 use Rattle.sdl_system.specs.declared.process.Process.{Process}
@@ -34,10 +34,10 @@ IsTried entries (Some signal) (begins number body) =
 IsTried entries found answer = ⊥
 
 -- these are the classes of each state that has the table
-abbrev pub SelectsBy : SystemValue → Process → StateTable → Identity → Store → PortState → List Class → Type 0
-SelectsBy system process table who s q classes =
-    (d : Definition) → IsOf system process d → (n : StateId) → table_of process n ≡ Some table
-    → Selecting d who q n s classes
+abbrev pub SelectsBy : Process → StateTable → KnowledgeValue → List Class → Type 0
+SelectsBy process table known classes =
+    (d : Definition) → IsOf known.system process d → (n : StateId) → table_of process n ≡ Some table
+    → Selecting d known.who known.port n known.store classes
 
 -- a state that has the table can't select
 pub record CannotSelect (d : Definition) (who : Identity) (q : PortState) (n : StateId) (s : Store)
@@ -46,10 +46,10 @@ pub record CannotSelect (d : Definition) (who : Identity) (q : PortState) (n : S
   pub is : slice_get d.behaviour.states n.0 ≡ Some state
   pub fails : FailsIn d.behaviour state (environment d.system who s q) (Stop ∷ []) why
 
-abbrev pub SelectsNone : SystemValue → Process → StateTable → Identity → Store → PortState → Failure → Type 0
-SelectsNone system process table who s q why =
-    (d : Definition) → IsOf system process d → (n : StateId) → table_of process n ≡ Some table
-    → CannotSelect d who q n s why
+abbrev pub SelectsNone : Process → StateTable → KnowledgeValue → Failure → Type 0
+SelectsNone process table known why =
+    (d : Definition) → IsOf known.system process d → (n : StateId) → table_of process n ≡ Some table
+    → CannotSelect d known.who known.port n known.store why
 
 -- one of the conditions that are false so far stands with the signal
 pub record IsShut (process : Process) (table : StateTable) (conditions : List Enabling) (truths : List Bool) (count : ℕ)

@@ -1,46 +1,36 @@
 //! Conditions of a process: those of its inputs and of its continuous signals (Z.102: enabling condition).
 
-ghost use Rattle.std.specs.Prelude.{◌≡◌, ◌⊎◌, IfErr, IfOk, List, Ok, Some, map, true};
-ghost use Rattle.run_evaluation.specs.Environment.{environment};
+ghost use Rattle.std.specs.Prelude.{◌≡◌, ◌⊎◌, IfErr, IfOk, List, Ok, Some, map};
+ghost use Rattle.run_evaluation.specs.Knowledge.{environment_of};
 ghost use Rattle.run_evaluation.specs.Memory.{FailsAs, wants_memory};
 ghost use Rattle.run_evaluation.specs.Value.{truth_at};
 ghost use Rattle.sdl_interp.specs.Condition.{are_conditions};
 ghost use Rattle.run_semantics.specs.Selection.{first_failure};
-ghost use Rattle.run_transitions.specs.Machine.{identity_of};
 ghost use Rattle.sdl_system.specs.Behaviour.{condition_in};
 ghost use Rattle.sdl_system.specs.Term.{Term};
 
 use port_inbox::Inbox;
-use run_evaluation::is_true;
+use run_evaluation::{Knowledge, is_true};
 use run_record::Failure;
-use run_transitions::Machine;
-use sdl_system::{ConditionId, Enabling, Process, System};
+use sdl_system::{ConditionId, Enabling, Process};
 use std::alloc::Global;
 
 /// Whether the condition of this number is true. Errors: those of its expression.
 pub fn is_condition_true<P: Inbox>(
     alloc: Global,
     number: ConditionId,
-    system: &System,
     process: &Process,
-    machine: &Machine,
-    inbox: &P,
+    knowledge: &Knowledge<'_, P>,
 ) -> Result<bool, Failure>
-    requires { (P.owning inbox.now).state.alive ≡ true }
-    ensures ok { let here = environment system.now (identity_of machine.now.trace) machine.now.store
-        (P.owning inbox.now).state in
-        IfOk result (λ truth. (term : Term) → condition_in process.now number ≡ Some term
-        → truth_at here term ≡ Ok truth) }
-    ensures err { let here = environment system.now (identity_of machine.now.trace) machine.now.store
-        (P.owning inbox.now).state in
-        IfErr result (λ why. (term : Term) → condition_in process.now number ≡ Some term
-        → FailsAs (wants_memory term) (truth_at here term) why) }
+    ensures ok { IfOk result (λ truth. (term : Term) → condition_in process.now number ≡ Some term
+        → truth_at (environment_of knowledge.now) term ≡ Ok truth) }
+    ensures err { IfErr result (λ why. (term : Term) → condition_in process.now number ≡ Some term
+        → FailsAs (wants_memory term) (truth_at (environment_of knowledge.now) term) why) }
 {
     let Some(condition) = process.conditions.get(number.0 as usize) else {
         return Ok(false);
     };
-    let who = machine.who();
-    is_true(alloc, condition, system, &who, &machine.store, inbox)
+    is_true(alloc, condition, knowledge)
 }
 
 /// The truths of the enabling conditions of a state, in their order. Errors: those of the first condition that fails,
@@ -49,24 +39,17 @@ pub fn is_condition_true<P: Inbox>(
 pub fn truths<P: Inbox>(
     alloc: Global,
     conditions: &[Enabling],
-    system: &System,
     process: &Process,
-    machine: &Machine,
-    inbox: &P,
+    knowledge: &Knowledge<'_, P>,
 ) -> Result<Vec<bool>, Failure>
-    requires { (P.owning inbox.now).state.alive ≡ true }
-    ensures ok { let here = environment system.now (identity_of machine.now.trace) machine.now.store
-        (P.owning inbox.now).state in
-        IfOk result (λ truths. (terms : List Term) → are_conditions process.now conditions.now ≡ map Some terms
-        → map (truth_at here) terms ≡ map Ok truths.items) }
-    ensures err { let here = environment system.now (identity_of machine.now.trace) machine.now.store
-        (P.owning inbox.now).state in
-        IfErr result (λ why. (terms : List Term) → are_conditions process.now conditions.now ≡ map Some terms
-        → (why ≡ Failure.Memory) ⊎ (first_failure here terms ≡ Some why)) }
+    ensures ok { IfOk result (λ truths. (terms : List Term) → are_conditions process.now conditions.now ≡ map Some terms
+        → map (truth_at (environment_of knowledge.now)) terms ≡ map Ok truths.items) }
+    ensures err { IfErr result (λ why. (terms : List Term) → are_conditions process.now conditions.now ≡ map Some terms
+        → (why ≡ Failure.Memory) ⊎ (first_failure (environment_of knowledge.now) terms ≡ Some why)) }
 {
     let mut truths = Vec::new(alloc);
     for enabling in conditions {
-        let truth = is_condition_true(alloc, enabling.condition, system, process, machine, inbox)?;
+        let truth = is_condition_true(alloc, enabling.condition, process, knowledge)?;
         if let Err(_) = truths.push(truth) {
             return Err(Failure::Memory);
         }

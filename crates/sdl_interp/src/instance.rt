@@ -6,15 +6,15 @@ ghost use Rattle.port_inbox.specs.Ends.{single};
 ghost use Rattle.port_inbox.specs.declared.entry.Entry.TheVariants.{Timer};
 ghost use Rattle.port_model.specs.Port.{empty_port, put_into, expires};
 ghost use Rattle.run_semantics.specs.Instance.{parameters_from};
-ghost use Rattle.sdl_interp.specs.Instance.{HasRunOf, IsAtRest, IsClosed, Keeps, Steps, created, variables_from};
+ghost use Rattle.sdl_interp.specs.Instance.{HasRunOf, IsAtRest, IsClosed, Keeps, Steps, came_to, created, variables_from};
 
-use crate::stimulus::step_from;
+use crate::stimulus::{fail_at, step_from};
 use port_inbox::{Alone, Fuse, Inbox, Refused};
 use port_values::{Item, Ticks, Value, Values};
 use run_evaluation::{Identity, Store, Variables};
 use run_record::Record;
 use run_semantics::World;
-use run_transitions::{Machine, Position};
+use run_transitions::{Core, Machine, Position};
 use sdl_system::{Process, System};
 use std::alloc::{AllocError, Global};
 use std::marker::Model;
@@ -22,14 +22,12 @@ use std::marker::Model;
 /// An instance of a process, with its input port.
 #[derive(Drop)]
 pub struct Instance<'s, P: Inbox + Drop> {
-    system: &'s System,
-    process: &'s Process,
+    core: Core<'s, P>,
     position: Position,
-    machine: Machine,
-    inbox: P,
 }
 
 impl<'s, P: Inbox + Drop> Model for Instance<'s, P> {
+    ghost use Rattle.run_transitions.specs.Running.{seen};
     ghost use Rattle.sdl_interp.specs.Instance.{InstanceValue, IsInstance, instance_of};
     ghost use Rattle.sdl_system.specs.contracts.expression.Expression as expression;
     ghost use Rattle.std.specs.Coded.{codes};
@@ -38,9 +36,9 @@ impl<'s, P: Inbox + Drop> Model for Instance<'s, P> {
 
     ghost coded = { Prim.hlevel (codes, expression.the_row.coded) };
 
-    ghost view = { λ i. instance_of i.system.now i.process.now i.position i.machine (P.owning i.inbox) };
+    ghost view = { λ i. instance_of i.position (seen P.owning P.since i.core) };
 
-    ghost invariant = { λ i. IsInstance P.shared i.system.now i.process.now i.position i.machine (P.owning i.inbox) };
+    ghost invariant = { λ i. IsInstance P.shared i.position (seen P.owning P.since i.core) };
 }
 
 /// The result of a step.
@@ -88,15 +86,18 @@ impl<'s, P: Inbox + Drop> Instance<'s, P> {
         let Ok(variables) = variables_from(alloc, process, values) else {
             return Err(inbox);
         };
-        Ok(Instance {
+        let core = Core {
             system,
             process,
-            position: Position::BeforeStart,
             machine: Machine {
                 store: Store::new(variables),
                 trace,
             },
             inbox,
+        };
+        Ok(Instance {
+            core,
+            position: Position::BeforeStart,
         })
     }
 
@@ -110,21 +111,17 @@ impl<'s, P: Inbox + Drop> Instance<'s, P> {
             Position::Ended => return Stepped::Ended { counts: false },
             position => position,
         };
-        let Some(led) = step_from(
-            alloc,
-            self.system,
-            self.process,
-            position,
-            &mut self.machine,
-            &mut self.inbox,
-            world,
-        ) else {
-            return Stepped::Idle;
-        };
-        self.position = led.to;
-        match led.to {
-            Position::Ended => Stepped::Ended { counts: led.counts },
-            _ => Stepped::Moved,
+        match step_from(alloc, position, &mut self.core, world) {
+            Ok(None) => Stepped::Idle,
+            Ok(Some(to)) => {
+                self.position = to;
+                came_to(to)
+            }
+            Err(why) => {
+                fail_at(&mut self.core, world, why);
+                self.position = Position::Ended;
+                Stepped::Ended { counts: false }
+            }
         }
     }
 
@@ -134,14 +131,14 @@ impl<'s, P: Inbox + Drop> Instance<'s, P> {
         ensures run { HasRunOf P.shared self.now }
         ensures listed { slice_get self.now.system.processes result.now.process.0 ≡ Some self.now.process }
     {
-        &self.machine.trace
+        &self.core.machine.trace
     }
 
     /// Who the instance is.
     pub fn who(&self) -> Identity
         ensures { result ≡ self.now.who }
     {
-        self.machine.who()
+        self.core.machine.who()
     }
 
     /// Where the instance is between two steps.
@@ -158,12 +155,8 @@ impl<'s, P: Inbox + Drop> Instance<'s, P> {
         ensures closed { IsClosed P.shared whole self.entry result.trace }
         ensures inbox { P.owning result.inbox ≡ self.entry.owner }
     {
-        let Instance {
-            position,
-            machine,
-            inbox,
-            ..
-        } = self;
+        let Instance { core, position } = self;
+        let Core { machine, inbox, .. } = core;
         let Machine { mut trace, .. } = machine;
         match position {
             Position::BeforeStart => trace.cut(None),
@@ -180,7 +173,7 @@ impl<'s> Instance<'s, Alone> {
     pub fn draws_nothing(&self)
         ensures { let o = self.now.owner in o ≡ single o.pid o.state o.armed }
     {
-        let _inbox = &self.inbox;
+        let _inbox = &self.core.inbox;
     }
 
     /// Puts a signal into the port. A stopped port drops it. For lack of memory the signal comes back.
@@ -192,7 +185,7 @@ impl<'s> Instance<'s, Alone> {
             })
             (λ back. ComesBack back item × (self.new ≡ self.old)) }
     {
-        self.inbox.put(item)
+        self.core.inbox.put(item)
     }
 
     /// Expires a timer at a time, and says whether its signal was put: before its due time, after another set or a
@@ -210,7 +203,17 @@ impl<'s> Instance<'s, Alone> {
             })
             (λ _. self.new ≡ self.old) }
     {
-        self.inbox.expire(fuse, at)
+        self.core.inbox.expire(fuse, at)
+    }
+}
+
+/// What a transition that has led there comes to.
+fn came_to(to: Position) -> Stepped
+    ensures { result ≡ came_to to }
+{
+    match to {
+        Position::Ended => Stepped::Ended { counts: true },
+        _ => Stepped::Moved,
     }
 }
 

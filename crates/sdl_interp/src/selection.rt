@@ -1,19 +1,18 @@
 //! What a state selects (Z.101: input, save; Z.102: priority input, enabling condition).
 
-ghost use Rattle.std.specs.Prelude.{◌≡◌, ◌<◌, IfErr, IfOk, length, slice_set, true};
+ghost use Rattle.std.specs.Prelude.{◌≡◌, ◌<◌, IfErr, IfOk, length, slice_set};
 ghost use Rattle.port_model.specs.Selection as selection;
 ghost use Rattle.port_values.specs.declared.item.SignalId.{SignalId};
 ghost use Rattle.sdl_interp.specs.Selected.{AreShut, SelectsBy, SelectsNone};
-ghost use Rattle.run_transitions.specs.Machine.{identity_of};
 ghost use Rattle.sdl_system.specs.Soundness.{IsEnabled};
 
 use crate::condition::truths;
 use port_inbox::Inbox;
 use port_model::{Class, Selection};
 use port_values::SignalId;
+use run_evaluation::Knowledge;
 use run_record::Failure;
-use run_transitions::Machine;
-use sdl_system::{Enabled, Process, StateTable, System};
+use sdl_system::{Enabled, Process, StateTable};
 use std::alloc::Global;
 
 /// Makes the selection of a state with this table, by its enabling conditions. Errors: those of the first one that
@@ -21,20 +20,14 @@ use std::alloc::Global;
 pub fn select<P: Inbox>(
     alloc: Global,
     table: &StateTable,
-    system: &System,
     process: &Process,
-    machine: &Machine,
-    inbox: &P,
+    knowledge: &Knowledge<'_, P>,
 ) -> Result<Selection, Failure>
-    requires { (P.owning inbox.now).state.alive ≡ true }
-    ensures ok { let q = (P.owning inbox.now).state in
-        IfOk result (SelectsBy system.now process.now table.now (identity_of machine.now.trace) machine.now.store q) }
-    ensures err { let q = (P.owning inbox.now).state in
-        IfErr result (SelectsNone system.now process.now table.now (identity_of machine.now.trace) machine.now.store
-        q) }
+    ensures ok { IfOk result (SelectsBy process.now table.now knowledge.now) }
+    ensures err { IfErr result (SelectsNone process.now table.now knowledge.now) }
 {
-    let truths = truths(alloc, &table.conditions, system, process, machine, inbox)?;
-    let Ok(count) = u32::try_from(system.signals().len()) else {
+    let truths = truths(alloc, &table.conditions, process, knowledge)?;
+    let Ok(count) = u32::try_from(knowledge.system().signals().len()) else {
         return Err(Failure::Memory);
     };
     let classes = classes(alloc, table, process, &truths, count)?;

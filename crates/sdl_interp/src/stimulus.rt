@@ -1,15 +1,14 @@
 //! What begins a step: the start, or in a state what the port gives, else a continuous signal (Z.101: state, input,
 //! save; Z.102: start, priority input, continuous signal).
 
-ghost use Rattle.std.specs.Prelude.{◌≡◌, ◌≢◌, ◌≤◌, ◌<◌, Some, length, true};
+ghost use Rattle.std.specs.Prelude.{◌≡◌, ◌≢◌, ◌≤◌, ◌<◌, IfErr, IfOk, Some, length};
 ghost use Rattle.port_model.specs.declared.taken.Taken.TheVariants as taken;
 ghost use Rattle.sdl_interp.specs.Selected.{SelectsBy};
-ghost use Rattle.sdl_interp.specs.Stimulus.{BeginsWith, ContinuesWith, FailsThen, IsAnswered, IsLed, IsStepped, LeadsFrom, ProvidesBy, Reacts, Responds, StepsFrom};
+ghost use Rattle.sdl_interp.specs.Stimulus.{Answered, BeginsBy, ContinuesAmiss, ContinuesBy, FailsNow, LeadsTo, Provides, ReactsAmiss, ReactsTo, RespondsAmiss, RespondsTo, Stepped, StepsAmiss, StepsTo};
 ghost use Rattle.run_semantics.specs.ControlPoint as place;
-ghost use Rattle.run_transitions.specs.Machine.{IsGoing, IsPositionIn, IsReady, IsSameInstance, identity_of, value_of};
+ghost use Rattle.run_transitions.specs.Machine.{IsPositionIn};
+ghost use Rattle.run_transitions.specs.Running.{GoesOn, Reaches, ReadyAt, StaysItself, known_by, seen};
 ghost use Rattle.sdl_system.specs.Process.{table_of};
-ghost use Rattle.sdl_system.specs.System.{SystemValue};
-ghost use Rattle.sdl_system.specs.declared.process.Process.{Process};
 
 use crate::clock::read_clock;
 use crate::continuous::first_true;
@@ -21,438 +20,306 @@ use port_model::{Got, Selection, Taken};
 use port_values::Pid;
 use run_record::Failure;
 use run_semantics::World;
-use run_transitions::{Machine, Position, fail, make, make_room};
-use sdl_system::{Continuous, Process, Reaction, Reception, StateId, StateTable, System};
+use run_transitions::{Core, Position, make_room};
+use sdl_system::{Continuous, Reaction, Reception, StateId, StateTable};
 use std::alloc::Global;
 
-/// Where a step has led, and whether it was a transition: the failure of a condition or a take is none.
-#[derive(Clone, Copy)]
-pub struct Led {
-    pub to: Position,
-    pub counts: bool,
-}
-
-/// One step from a position at which an instance has not ended. None: there is nothing to do.
-pub fn step_from<P: Inbox, W: World>(
+/// One step from a position at which an instance has not ended, and where it has led. None: there is nothing to do.
+/// Errors: the failure of a condition or of a take, in a state.
+pub fn step_from<P: Inbox + Drop, W: World>(
     alloc: Global,
-    system: &System,
-    process: &Process,
     position: Position,
-    machine: &mut Machine,
-    inbox: &mut P,
+    core: &mut Core<'_, P>,
     world: &mut W,
-) -> Option<Led>
-    requires ready { IsReady position machine.old (P.owning inbox.old) }
-    requires inside { IsPositionIn process.now position }
+) -> Result<Option<Position>, Failure>
+    requires ready { ReadyAt P.owning P.since position core.old }
+    requires inside { IsPositionIn core.old.process.now position }
     requires lives { position ≢ Position.Ended }
-    ensures stepped { IsStepped process.now position result machine.new (P.owning inbox.new) }
-    ensures kept { IsSameInstance (value_of machine.old (P.owning inbox.old))
-        (value_of machine.new (P.owning inbox.new)) }
-    ensures since { P.since inbox.new ≡ P.since inbox.old }
-    ensures steps { let old = value_of machine.old (P.owning inbox.old) in
-        let new = value_of machine.new (P.owning inbox.new) in
-        StepsFrom system.now process.now position old (W.value world.old) result new (W.value world.new) }
+    ensures same { StaysItself P.owning P.since core.old core.new }
+    ensures stepped { IfOk result (λ to. Stepped P.owning P.since position to core.new) }
+    ensures going { IfErr result (λ _. GoesOn P.owning P.since core.new) }
+    ensures ok { IfOk result (λ to.
+        StepsTo P.owning position core.old (W.value world.old) to core.new (W.value world.new)) }
+    ensures err { IfErr result
+        (StepsAmiss P.owning position core.old (W.value world.old) core.new (W.value world.new)) }
 {
     match position {
-        Position::BeforeStart => Some(start(alloc, system, process, machine, inbox, world)),
-        Position::In(state) => respond(alloc, system, process, state, machine, inbox, world),
+        Position::BeforeStart => Ok(Some(start(alloc, core, world))),
+        Position::In(state) => respond(alloc, state, core, world),
         Position::Ended => unreachable!(),
     }
 }
 
+/// A condition or a take has failed: that is recorded at the time of the clock, and the instance ends.
+#[inline(never)]
+pub fn fail_at<P: Inbox + Drop, W: World>(core: &mut Core<'_, P>, world: &mut W, why: Failure)
+    requires { GoesOn P.owning P.since core.old }
+    ensures same { StaysItself P.owning P.since core.old core.new }
+    ensures fails { FailsNow P.owning core.old (W.value world.old) why core.new }
+    ensures quiet { W.value world.new ≡ W.value world.old }
+{
+    let at = read_clock(&mut core.machine, world);
+    core.machine.trace.failed_at(at, why);
+    core.inbox.stop();
+}
+
 /// Makes the start transition.
 #[inline(never)]
-fn start<P: Inbox, W: World>(
+fn start<P: Inbox + Drop, W: World>(
     alloc: Global,
-    system: &System,
-    process: &Process,
-    machine: &mut Machine,
-    inbox: &mut P,
+    core: &mut Core<'_, P>,
     world: &mut W,
-) -> Led
-    requires { IsReady Position.BeforeStart machine.old (P.owning inbox.old) }
-    ensures led { IsLed process.now result machine.new (P.owning inbox.new) }
-    ensures kept { IsSameInstance (value_of machine.old (P.owning inbox.old))
-        (value_of machine.new (P.owning inbox.new)) }
-    ensures since { P.since inbox.new ≡ P.since inbox.old }
-    ensures goes { let old = value_of machine.old (P.owning inbox.old) in
-        let new = value_of machine.new (P.owning inbox.new) in
-        LeadsFrom place.AtStart system.now process.now old (W.value world.old) result new (W.value world.new) }
+) -> Position
+    requires { ReadyAt P.owning P.since Position.BeforeStart core.old }
+    ensures same { StaysItself P.owning P.since core.old core.new }
+    ensures reached { Reaches P.owning P.since result core.new }
+    ensures leads { LeadsTo P.owning place.AtStart core.old (W.value world.old) result core.new (W.value world.new) }
 {
-    let at = read_clock(machine, world);
-    machine.store.done = 0;
-    machine.trace.start(at);
-    let to = make(
-        alloc,
-        system,
-        process,
-        None,
-        process.start,
-        machine,
-        inbox,
-        world,
-    );
-    Led { to, counts: true }
+    let at = read_clock(&mut core.machine, world);
+    core.machine.store.done = 0;
+    core.machine.trace.start(at);
+    core.make(alloc, None, core.process.start, world)
 }
 
 /// Responds in a state: takes something from the port and reacts to it. If nothing can be taken, it tries the
 /// continuous signals. None: there is nothing to do.
-fn respond<P: Inbox, W: World>(
+fn respond<P: Inbox + Drop, W: World>(
     alloc: Global,
-    system: &System,
-    process: &Process,
     state: StateId,
-    machine: &mut Machine,
-    inbox: &mut P,
+    core: &mut Core<'_, P>,
     world: &mut W,
-) -> Option<Led>
-    requires going { IsGoing machine.old (P.owning inbox.old) }
-    requires inside { state.0 < length process.now.states.items }
-    ensures answered { IsAnswered process.now result machine.new (P.owning inbox.new) }
-    ensures kept { IsSameInstance (value_of machine.old (P.owning inbox.old))
-        (value_of machine.new (P.owning inbox.new)) }
-    ensures since { P.since inbox.new ≡ P.since inbox.old }
-    ensures responds { let old = value_of machine.old (P.owning inbox.old) in
-        let new = value_of machine.new (P.owning inbox.new) in
-        Responds system.now process.now state old (W.value world.old) result new (W.value world.new) }
+) -> Result<Option<Position>, Failure>
+    requires going { GoesOn P.owning P.since core.old }
+    requires inside { state.0 < length core.old.process.now.states.items }
+    ensures same { StaysItself P.owning P.since core.old core.new }
+    ensures answered { IfOk result (λ to. Answered P.owning P.since to core.new) }
+    ensures going { IfErr result (λ _. GoesOn P.owning P.since core.new) }
+    ensures ok { IfOk result (λ to.
+        RespondsTo P.owning state core.old (W.value world.old) to core.new (W.value world.new)) }
+    ensures err { IfErr result
+        (RespondsAmiss P.owning state core.old (W.value world.old) core.new (W.value world.new)) }
 {
     // Each state has a table.
-    let Some(table) = process.table(state) else {
-        return None;
+    let Some(table) = core.process.table(state) else {
+        return Ok(None);
     };
     if !table.conditions.is_empty() {
-        return select_and_take(alloc, system, process, state, table, machine, inbox, world);
+        return select_and_take(alloc, state, table, core, world);
     }
-    take_by(
-        alloc,
-        system,
-        process,
-        state,
-        table,
-        &table.selection,
-        machine,
-        inbox,
-        world,
-    )
+    take_by(alloc, state, table, &table.selection, core, world)
 }
 
 /// The enabling conditions of the state tell what is taken.
 #[inline(never)]
-fn select_and_take<P: Inbox, W: World>(
+fn select_and_take<P: Inbox + Drop, W: World>(
     alloc: Global,
-    system: &System,
-    process: &Process,
     state: StateId,
     table: &StateTable,
-    machine: &mut Machine,
-    inbox: &mut P,
+    core: &mut Core<'_, P>,
     world: &mut W,
-) -> Option<Led>
-    requires going { IsGoing machine.old (P.owning inbox.old) }
-    requires table { table_of process.now state ≡ Some table.now }
-    ensures answered { IsAnswered process.now result machine.new (P.owning inbox.new) }
-    ensures kept { IsSameInstance (value_of machine.old (P.owning inbox.old))
-        (value_of machine.new (P.owning inbox.new)) }
-    ensures since { P.since inbox.new ≡ P.since inbox.old }
-    ensures responds { let old = value_of machine.old (P.owning inbox.old) in
-        let new = value_of machine.new (P.owning inbox.new) in
-        Responds system.now process.now state old (W.value world.old) result new (W.value world.new) }
+) -> Result<Option<Position>, Failure>
+    requires going { GoesOn P.owning P.since core.old }
+    requires table { table_of core.old.process.now state ≡ Some table.now }
+    ensures same { StaysItself P.owning P.since core.old core.new }
+    ensures answered { IfOk result (λ to. Answered P.owning P.since to core.new) }
+    ensures going { IfErr result (λ _. GoesOn P.owning P.since core.new) }
+    ensures ok { IfOk result (λ to.
+        RespondsTo P.owning state core.old (W.value world.old) to core.new (W.value world.new)) }
+    ensures err { IfErr result
+        (RespondsAmiss P.owning state core.old (W.value world.old) core.new (W.value world.new)) }
 {
-    match select(alloc, table, system, process, machine, inbox) {
-        Ok(own) => take_by(
-            alloc, system, process, state, table, &own, machine, inbox, world,
-        ),
-        Err(why) => Some(fail_at(machine, inbox, world, why)),
-    }
+    let own = select(alloc, table, core.process, &core.knowledge())?;
+    take_by(alloc, state, table, &own, core, world)
 }
 
 /// Takes from the port what the state selects.
 #[inline(always)]
-fn take_by<P: Inbox, W: World>(
+fn take_by<P: Inbox + Drop, W: World>(
     alloc: Global,
-    system: &System,
-    process: &Process,
     state: StateId,
     table: &StateTable,
     selection: &Selection,
-    machine: &mut Machine,
-    inbox: &mut P,
+    core: &mut Core<'_, P>,
     world: &mut W,
-) -> Option<Led>
-    requires going { IsGoing machine.old (P.owning inbox.old) }
-    requires table { table_of process.now state ≡ Some table.now }
-    requires selects { SelectsBy system.now process.now table.now (identity_of machine.old.trace) machine.old.store
-        (P.owning inbox.old).state selection.now }
-    ensures answered { IsAnswered process.now result machine.new (P.owning inbox.new) }
-    ensures kept { IsSameInstance (value_of machine.old (P.owning inbox.old))
-        (value_of machine.new (P.owning inbox.new)) }
-    ensures since { P.since inbox.new ≡ P.since inbox.old }
-    ensures responds { let old = value_of machine.old (P.owning inbox.old) in
-        let new = value_of machine.new (P.owning inbox.new) in
-        Responds system.now process.now state old (W.value world.old) result new (W.value world.new) }
+) -> Result<Option<Position>, Failure>
+    requires going { GoesOn P.owning P.since core.old }
+    requires table { table_of core.old.process.now state ≡ Some table.now }
+    requires selects { SelectsBy core.old.process.now table.now (known_by (seen P.owning P.since core.old))
+        selection.now }
+    ensures same { StaysItself P.owning P.since core.old core.new }
+    ensures answered { IfOk result (λ to. Answered P.owning P.since to core.new) }
+    ensures going { IfErr result (λ _. GoesOn P.owning P.since core.new) }
+    ensures ok { IfOk result (λ to.
+        RespondsTo P.owning state core.old (W.value world.old) to core.new (W.value world.new)) }
+    ensures err { IfErr result
+        (RespondsAmiss P.owning state core.old (W.value world.old) core.new (W.value world.new)) }
 {
-    if let Err(why) = make_room(machine, 0) {
-        return Some(fail_at(machine, inbox, world, why));
-    }
-    match inbox.take(selection) {
-        Ok(taken) => react(
-            alloc, system, process, state, table, &taken, machine, inbox, world,
-        ),
-        Err(_) => Some(fail_at(machine, inbox, world, Failure::Memory)),
-    }
-}
-
-/// A condition or a take fails.
-#[inline(never)]
-fn fail_at<P: Inbox, W: World>(
-    machine: &mut Machine,
-    inbox: &mut P,
-    world: &mut W,
-    why: Failure,
-) -> Led
-    requires { IsGoing machine.old (P.owning inbox.old) }
-    ensures fails { FailsThen (W.value world.old) (value_of machine.old (P.owning inbox.old)) why result
-        (value_of machine.new (P.owning inbox.new)) }
-    ensures since { P.since inbox.new ≡ P.since inbox.old }
-    ensures quiet { W.value world.new ≡ W.value world.old }
-{
-    let at = read_clock(machine, world);
-    machine.trace.failed_at(at, why);
-    inbox.stop();
-    Led {
-        to: Position::Ended,
-        counts: false,
+    make_room(&mut core.machine, 0)?;
+    match core.inbox.take(selection) {
+        Ok(taken) => react(alloc, state, table, &taken, core, world),
+        Err(_) => Err(Failure::Memory),
     }
 }
 
 /// Reacts to what the port gave. None: there is nothing to do.
-fn react<P: Inbox, W: World>(
+fn react<P: Inbox + Drop, W: World>(
     alloc: Global,
-    system: &System,
-    process: &Process,
     state: StateId,
     table: &StateTable,
     taken: &Taken,
-    machine: &mut Machine,
-    inbox: &mut P,
+    core: &mut Core<'_, P>,
     world: &mut W,
-) -> Option<Led>
-    requires going { IsGoing machine.old (P.owning inbox.old) }
-    requires room { 2 ≤ machine.old.trace.room }
-    requires table { table_of process.now state ≡ Some table.now }
-    ensures answered { IsAnswered process.now result machine.new (P.owning inbox.new) }
-    ensures kept { IsSameInstance (value_of machine.old (P.owning inbox.old))
-        (value_of machine.new (P.owning inbox.new)) }
-    ensures since { P.since inbox.new ≡ P.since inbox.old }
-    ensures reacts { let old = value_of machine.old (P.owning inbox.old) in
-        let new = value_of machine.new (P.owning inbox.new) in
-        Reacts system.now process.now state taken.now old (W.value world.old) result new (W.value world.new) }
+) -> Result<Option<Position>, Failure>
+    requires going { GoesOn P.owning P.since core.old }
+    requires room { 2 ≤ core.old.machine.trace.room }
+    requires table { table_of core.old.process.now state ≡ Some table.now }
+    ensures same { StaysItself P.owning P.since core.old core.new }
+    ensures answered { IfOk result (λ to. Answered P.owning P.since to core.new) }
+    ensures going { IfErr result (λ _. GoesOn P.owning P.since core.new) }
+    ensures ok { IfOk result (λ to.
+        ReactsTo P.owning state taken.now core.old (W.value world.old) to core.new (W.value world.new)) }
+    ensures err { IfErr result
+        (ReactsAmiss P.owning state taken.now core.old (W.value world.old) core.new (W.value world.new)) }
 {
     match taken {
-        Taken::Consumed(got) => Some(consume(
-            alloc, system, process, state, got, machine, inbox, world,
-        )),
-        Taken::Discarded(got) => Some(discard(state, got, machine, inbox, world)),
-        Taken::Nothing => try_continuous(
-            alloc,
-            system,
-            process,
-            state,
-            &table.continuous,
-            machine,
-            inbox,
-            world,
-        ),
+        Taken::Consumed(got) => consume(alloc, state, got, core, world),
+        Taken::Discarded(got) => discard(state, got, core, world),
+        Taken::Nothing => try_continuous(alloc, state, &table.continuous, core, world),
     }
 }
 
 /// The state has no input of the signal, and doesn't save it.
 #[inline(never)]
-fn discard<P: Inbox, W: World>(
+fn discard<P: Inbox + Drop, W: World>(
     state: StateId,
     got: &Got,
-    machine: &mut Machine,
-    inbox: &mut P,
+    core: &mut Core<'_, P>,
     world: &mut W,
-) -> Led
-    requires going { IsGoing machine.old (P.owning inbox.old) }
-    ensures led { (process : Process) → state.0 < length process.states.items
-        → IsLed process result machine.new (P.owning inbox.new) }
-    ensures kept { IsSameInstance (value_of machine.old (P.owning inbox.old))
-        (value_of machine.new (P.owning inbox.new)) }
-    ensures since { P.since inbox.new ≡ P.since inbox.old }
-    ensures reacts { let old = value_of machine.old (P.owning inbox.old) in
-        let new = value_of machine.new (P.owning inbox.new) in
-        (system : SystemValue) (process : Process)
-        → Reacts system process state (taken.Discarded got.now) old (W.value world.old) (Some result) new
-        (W.value world.new) }
+) -> Result<Option<Position>, Failure>
+    requires going { GoesOn P.owning P.since core.old }
+    requires inside { state.0 < length core.old.process.now.states.items }
+    ensures same { StaysItself P.owning P.since core.old core.new }
+    ensures answered { IfOk result (λ to. Answered P.owning P.since to core.new) }
+    ensures going { IfErr result (λ _. GoesOn P.owning P.since core.new) }
+    ensures ok { IfOk result (λ to. ReactsTo P.owning state (taken.Discarded got.now)
+        core.old (W.value world.old) to core.new (W.value world.new)) }
+    ensures err { IfErr result (ReactsAmiss P.owning state (taken.Discarded got.now)
+        core.old (W.value world.old) core.new (W.value world.new)) }
 {
-    if let Err(why) = make_room(machine, values_of(got).len()) {
-        return fail_at(machine, inbox, world, why);
-    }
-    let at = read_clock(machine, world);
-    machine.store.sender = sender_of(got, machine.trace.pid());
-    machine.trace.discarded(at, got);
-    Led {
-        to: Position::In(state),
-        counts: true,
-    }
+    make_room(&mut core.machine, values_of(got).len())?;
+    let at = read_clock(&mut core.machine, world);
+    core.machine.store.sender = sender_of(got, core.machine.trace.pid());
+    core.machine.trace.discarded(at, got);
+    Ok(Some(Position::In(state)))
 }
 
 /// An input or a priority input takes the signal.
-fn consume<P: Inbox, W: World>(
+fn consume<P: Inbox + Drop, W: World>(
     alloc: Global,
-    system: &System,
-    process: &Process,
     state: StateId,
     got: &Got,
-    machine: &mut Machine,
-    inbox: &mut P,
+    core: &mut Core<'_, P>,
     world: &mut W,
-) -> Led
-    requires { IsGoing machine.old (P.owning inbox.old) }
-    ensures led { IsLed process.now result machine.new (P.owning inbox.new) }
-    ensures kept { IsSameInstance (value_of machine.old (P.owning inbox.old))
-        (value_of machine.new (P.owning inbox.new)) }
-    ensures since { P.since inbox.new ≡ P.since inbox.old }
-    ensures reacts { let old = value_of machine.old (P.owning inbox.old) in
-        let new = value_of machine.new (P.owning inbox.new) in
-        Reacts system.now process.now state (taken.Consumed got.now) old (W.value world.old) (Some result) new
-        (W.value world.new) }
+) -> Result<Option<Position>, Failure>
+    requires { GoesOn P.owning P.since core.old }
+    ensures same { StaysItself P.owning P.since core.old core.new }
+    ensures answered { IfOk result (λ to. Answered P.owning P.since to core.new) }
+    ensures going { IfErr result (λ _. GoesOn P.owning P.since core.new) }
+    ensures ok { IfOk result (λ to. ReactsTo P.owning state (taken.Consumed got.now)
+        core.old (W.value world.old) to core.new (W.value world.new)) }
+    ensures err { IfErr result (ReactsAmiss P.owning state (taken.Consumed got.now)
+        core.old (W.value world.old) core.new (W.value world.new)) }
 {
-    if let Err(why) = make_room(machine, values_of(got).len()) {
-        return fail_at(machine, inbox, world, why);
-    }
-    match process.reaction(state, name_of(got)) {
+    make_room(&mut core.machine, values_of(got).len())?;
+    match core.process.reaction(state, name_of(got)) {
         Some(Reaction::Input { reception, .. }) => {
-            let at = receive(got, machine, world);
-            machine.trace.consumed(at, got);
-            begin(
-                alloc, system, process, state, reception, got, machine, inbox, world,
-            )
+            let at = receive(got, &mut core.machine, world);
+            core.machine.trace.consumed(at, got);
+            Ok(Some(begin(alloc, state, reception, got, core, world)))
         }
         Some(Reaction::Priority(reception)) => {
-            let at = receive(got, machine, world);
-            machine.trace.prior(at, got);
-            begin(
-                alloc, system, process, state, reception, got, machine, inbox, world,
-            )
+            let at = receive(got, &mut core.machine, world);
+            core.machine.trace.prior(at, got);
+            Ok(Some(begin(alloc, state, reception, got, core, world)))
         }
         // What is consumed has an input.
-        _ => fail_at(machine, inbox, world, Failure::Memory),
+        _ => Err(Failure::Memory),
     }
 }
 
 /// The values go to the variables of the input, and its transition is made.
 #[inline(always)]
-fn begin<P: Inbox, W: World>(
+fn begin<P: Inbox + Drop, W: World>(
     alloc: Global,
-    system: &System,
-    process: &Process,
     state: StateId,
     reception: &Reception,
     got: &Got,
-    machine: &mut Machine,
-    inbox: &mut P,
+    core: &mut Core<'_, P>,
     world: &mut W,
-) -> Led
-    requires { IsGoing machine.old (P.owning inbox.old) }
-    ensures counts { result.counts ≡ true }
-    ensures led { IsLed process.now result machine.new (P.owning inbox.new) }
-    ensures kept { IsSameInstance (value_of machine.old (P.owning inbox.old))
-        (value_of machine.new (P.owning inbox.new)) }
-    ensures since { P.since inbox.new ≡ P.since inbox.old }
-    ensures goes { let old = value_of machine.old (P.owning inbox.old) in
-        let new = value_of machine.new (P.owning inbox.new) in
-        BeginsWith system.now process.now state reception.now got.now old (W.value world.old) result new
+) -> Position
+    requires { GoesOn P.owning P.since core.old }
+    ensures same { StaysItself P.owning P.since core.old core.new }
+    ensures reached { Reaches P.owning P.since result core.new }
+    ensures begins { BeginsBy P.owning state reception.now got.now core.old (W.value world.old) result core.new
         (W.value world.new) }
 {
-    if let Err(why) = hand_out(&reception.variables, values_of(got), process, machine) {
-        fail(machine, inbox, why);
-        return Led {
-            to: Position::Ended,
-            counts: true,
-        };
+    let values = values_of(got);
+    if let Err(why) = hand_out(
+        &reception.variables,
+        values,
+        core.process,
+        &mut core.machine,
+    ) {
+        core.fail(why);
+        return Position::Ended;
     }
-    let to = make(
-        alloc,
-        system,
-        process,
-        Some(state),
-        reception.begin,
-        machine,
-        inbox,
-        world,
-    );
-    Led { to, counts: true }
+    core.make(alloc, Some(state), reception.begin, world)
 }
 
 /// The port gave nothing.
 #[inline(never)]
-fn try_continuous<P: Inbox, W: World>(
+fn try_continuous<P: Inbox + Drop, W: World>(
     alloc: Global,
-    system: &System,
-    process: &Process,
     state: StateId,
     signals: &[Continuous],
-    machine: &mut Machine,
-    inbox: &mut P,
+    core: &mut Core<'_, P>,
     world: &mut W,
-) -> Option<Led>
-    requires going { IsGoing machine.old (P.owning inbox.old) }
-    requires room { 2 ≤ machine.old.trace.room }
-    ensures answered { IsAnswered process.now result machine.new (P.owning inbox.new) }
-    ensures kept { IsSameInstance (value_of machine.old (P.owning inbox.old))
-        (value_of machine.new (P.owning inbox.new)) }
-    ensures since { P.since inbox.new ≡ P.since inbox.old }
-    ensures continues { let old = value_of machine.old (P.owning inbox.old) in
-        let new = value_of machine.new (P.owning inbox.new) in
-        ContinuesWith system.now process.now state signals.now old (W.value world.old) result new (W.value world.new) }
+) -> Result<Option<Position>, Failure>
+    requires going { GoesOn P.owning P.since core.old }
+    requires room { 2 ≤ core.old.machine.trace.room }
+    ensures same { StaysItself P.owning P.since core.old core.new }
+    ensures answered { IfOk result (λ to. Answered P.owning P.since to core.new) }
+    ensures going { IfErr result (λ _. GoesOn P.owning P.since core.new) }
+    ensures ok { IfOk result (λ to.
+        ContinuesBy P.owning state signals.now core.old (W.value world.old) to core.new (W.value world.new)) }
+    ensures err { IfErr result
+        (ContinuesAmiss P.owning state signals.now core.old (W.value world.old) core.new (W.value world.new)) }
 {
-    match first_true(alloc, signals, system, process, machine, inbox) {
-        Ok(None) => None,
-        Ok(Some(signal)) => Some(provide(
-            alloc, system, process, state, signal, machine, inbox, world,
-        )),
-        Err(why) => Some(fail_at(machine, inbox, world, why)),
+    let found = first_true(alloc, signals, core.process, &core.knowledge())?;
+    match found {
+        None => Ok(None),
+        Some(signal) => Ok(Some(provide(alloc, state, signal, core, world))),
     }
 }
 
 /// The transition of a continuous signal is made, whose condition is true.
-fn provide<P: Inbox, W: World>(
+fn provide<P: Inbox + Drop, W: World>(
     alloc: Global,
-    system: &System,
-    process: &Process,
     state: StateId,
     signal: Continuous,
-    machine: &mut Machine,
-    inbox: &mut P,
+    core: &mut Core<'_, P>,
     world: &mut W,
-) -> Led
-    requires going { IsGoing machine.old (P.owning inbox.old) }
-    requires room { 2 ≤ machine.old.trace.room }
-    ensures counts { result.counts ≡ true }
-    ensures led { IsLed process.now result machine.new (P.owning inbox.new) }
-    ensures kept { IsSameInstance (value_of machine.old (P.owning inbox.old))
-        (value_of machine.new (P.owning inbox.new)) }
-    ensures since { P.since inbox.new ≡ P.since inbox.old }
-    ensures provides { let old = value_of machine.old (P.owning inbox.old) in
-        let new = value_of machine.new (P.owning inbox.new) in
-        ProvidesBy system.now process.now state signal old (W.value world.old) result new (W.value world.new) }
+) -> Position
+    requires going { GoesOn P.owning P.since core.old }
+    requires room { 2 ≤ core.old.machine.trace.room }
+    ensures same { StaysItself P.owning P.since core.old core.new }
+    ensures reached { Reaches P.owning P.since result core.new }
+    ensures provides { Provides P.owning state signal core.old (W.value world.old) result core.new
+        (W.value world.new) }
 {
-    let at = read_clock(machine, world);
-    machine.store.sender = Pid::Of(machine.trace.pid());
-    machine.store.done = 0;
-    machine.trace.provided(at, signal.number);
-    let to = make(
-        alloc,
-        system,
-        process,
-        Some(state),
-        signal.begin,
-        machine,
-        inbox,
-        world,
-    );
-    Led { to, counts: true }
+    let at = read_clock(&mut core.machine, world);
+    core.machine.store.sender = Pid::Of(core.machine.trace.pid());
+    core.machine.store.done = 0;
+    core.machine.trace.provided(at, signal.number);
+    core.make(alloc, Some(state), signal.begin, world)
 }

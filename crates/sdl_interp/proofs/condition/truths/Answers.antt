@@ -1,21 +1,18 @@
 use Rattle.std.proofs.Common.{add-one, length, refl}
 use Rattle.std.proofs.lemmas.Option.{slice_get_read}
 use Rattle.std.proofs.lemmas.Result.{err_from_is_err_and}
-use Rattle.run_evaluation.specs.Environment.{environment}
+use Rattle.run_evaluation.specs.Knowledge.{environment_of}
 use Rattle.sdl_interp.proofs.ConditionLemmas.{condition_at, failed_at, truths_more}
-use Rattle.run_transitions.specs.Machine.{identity_of}
 use Rattle.sdl_interp.proofs.condition.truths.Goals as goal
 
 pub returns-in_err-truth-clause-err : goal.returns-in_err-truth-clause-err
 returns-in_err-truth-clause-err g c =
     let q = err_from_is_err_and c.from_residual.result c.from_residual.ensures.1 in
-    let machine = c.args.machine.now in
     let i = c.loop-enabling.enabling-index in
     let conditions = c.args.conditions.now in
     rw (q.1, q.2) (λ terms are.
     failed_at
-    (environment c.args.system.now (identity_of machine.trace) machine.store
-    (g.P.Inbox.owning c.args.inbox.now).state)
+    (environment_of c.args.knowledge.now)
     c.args.process.now conditions terms i c.enabling-item.result c.loop-enabling.truths.items _ are
     (slice_get_read conditions (length conditions) i c.enabling-item.result refl c.loop-enabling-test.true
     c.enabling-item.is)
@@ -23,7 +20,6 @@ returns-in_err-truth-clause-err g c =
 
 pub loop-enabling-preserved : goal.loop-enabling-preserved
 loop-enabling-preserved g c = λ terms are.
-    let machine = c.args.machine.now in
     let i = c.loop-enabling.enabling-index in
     let conditions = c.args.conditions.now in
     let meant = condition_at c.args.process.now conditions terms i c.enabling-item.result are
@@ -31,7 +27,6 @@ loop-enabling-preserved g c = λ terms are.
     c.enabling-item.is) in
     rw (add-one, c.in_default.ensures.items)
     (truths_more
-    (environment c.args.system.now (identity_of machine.trace) machine.store
-    (g.P.Inbox.owning c.args.inbox.now).state)
+    (environment_of c.args.knowledge.now)
     terms i meant.0 c.loop-enabling.truths.items c.in_ok-truth.truth meant.1 (c.in_ok-truth.ensures.ok meant.0 meant.2)
     (c.loop-enabling.invariant terms are))

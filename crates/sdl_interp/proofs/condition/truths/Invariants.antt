@@ -1,8 +1,7 @@
 use Rattle.std.proofs.Common.{◌≡◌, List, Ok, Some, map, take}
-use Rattle.run_evaluation.specs.Environment.{environment}
+use Rattle.run_evaluation.specs.Knowledge.{environment_of}
 use Rattle.run_evaluation.specs.Value.{truth_at}
 use Rattle.sdl_interp.specs.Condition.{are_conditions}
-use Rattle.run_transitions.specs.Machine.{identity_of}
 use Rattle.sdl_system.specs.Term.{Term}
 use Rattle.sdl_interp.proofs.condition.truths.Given as goal
 
@@ -10,6 +9,6 @@ abbrev pub invariant-loop-enabling : goal.invariant-loop-enabling
 invariant-loop-enabling g l =
     (terms : List Term) → are_conditions l.process l.conditions ≡ map Some terms
     → map (truth_at
-    (environment l.system (identity_of l.machine.trace) l.machine.store (g.P.Inbox.owning l.inbox).state))
+    (environment_of l.knowledge))
     (take l.enabling-index terms)
     ≡ map Ok l.truths.items

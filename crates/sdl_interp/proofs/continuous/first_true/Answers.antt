@@ -1,21 +1,18 @@
 use Rattle.std.proofs.Common.{◌≡◌, ◌∙◌, Bool, true, false, Ok, None, Some, ap, add-one, get_or, subst, sym}
 use Rattle.std.proofs.lemmas.Option.{slice_get-get_or}
 use Rattle.std.proofs.lemmas.Result.{err_from_is_err_and}
-use Rattle.run_evaluation.specs.Environment.{environment}
+use Rattle.run_evaluation.specs.Knowledge.{environment_of}
 use Rattle.run_evaluation.specs.Value.{truth_at}
 use Rattle.sdl_interp.proofs.ConditionLemmas.{begins_there, ends_failing, meets_at, none_left, passes}
 use Rattle.sdl_interp.specs.Selected.{IsTried}
 use Rattle.run_semantics.specs.Selection.{Tried}
-use Rattle.run_transitions.specs.Machine.{identity_of}
 use Rattle.sdl_system.specs.declared.state.Continuous.{Continuous}
 use Rattle.sdl_interp.proofs.continuous.first_true.Goals as goal
 
 pub returns-in_err-is_condition_true-clause-err : goal.returns-in_err-is_condition_true-clause-err
 returns-in_err-is_condition_true-clause-err g c =
     let q = err_from_is_err_and c.from_residual.result c.from_residual.ensures.1 in
-    let machine = c.args.machine.now in
-    let here = environment c.args.system.now (identity_of machine.trace) machine.store
-    (g.P.Inbox.owning c.args.inbox.now).state in
+    let here = environment_of c.args.knowledge.now in
     let process = c.args.process.now in
     let signals = c.args.signals.now in
     let i = c.loop-signal.signal-index in
@@ -29,9 +26,7 @@ returns-in_err-is_condition_true-clause-err g c =
 
 pub returns-then-branch-clause-ok : goal.returns-then-branch-clause-ok
 returns-then-branch-clause-ok g c = λ entries meant all.
-    let machine = c.args.machine.now in
-    let here = environment c.args.system.now (identity_of machine.trace) machine.store
-    (g.P.Inbox.owning c.args.inbox.now).state in
+    let here = environment_of c.args.knowledge.now in
     let process = c.args.process.now in
     let signals = c.args.signals.now in
     let i = c.loop-signal.signal-index in
@@ -49,9 +44,7 @@ returns-then-branch-clause-ok g c = λ entries meant all.
 
 pub loop-signal-preserved : goal.loop-signal-preserved
 loop-signal-preserved g c = λ entries meant all.
-    let machine = c.args.machine.now in
-    let here = environment c.args.system.now (identity_of machine.trace) machine.store
-    (g.P.Inbox.owning c.args.inbox.now).state in
+    let here = environment_of c.args.knowledge.now in
     let process = c.args.process.now in
     let signals = c.args.signals.now in
     let i = c.loop-signal.signal-index in
@@ -67,9 +60,7 @@ loop-signal-preserved g c = λ entries meant all.
 
 pub returns-clause-ok : goal.returns-clause-ok
 returns-clause-ok g c = λ entries meant all.
-    let machine = c.args.machine.now in
-    let here = environment c.args.system.now (identity_of machine.trace) machine.store
-    (g.P.Inbox.owning c.args.inbox.now).state in
+    let here = environment_of c.args.knowledge.now in
     subst (λ (t : Tried). IsTried entries None t)
     (sym (c.loop-signal.invariant entries meant all
     ∙ none_left here c.args.process.now entries c.args.signals.now meant c.loop-signal.signal-index all

@@ -1,32 +1,45 @@
 use Rattle.std.proofs.Common.{sym, subst, Some}
+use Rattle.std.proofs.lemmas.Result.{IfErr-weaker, IfOk-weaker}
 use Rattle.sdl_interp.proofs.Instances.{answered_stepped, responds_steps}
-use Rattle.sdl_interp.specs.Stimulus.{IsStepped, StepsFrom}
-use Rattle.run_semantics.specs.Goes.{MachineValue}
-use Rattle.run_transitions.specs.Machine.{value_of}
+use Rattle.sdl_interp.specs.Stimulus.{IsAnswered, IsStepped, Responds, RespondsWrong, StepsFrom, StepsWrong}
+use Rattle.run_transitions.specs.Running.{seen}
 use Rattle.run_transitions.specs.declared.machine.Position.{Position}
+use Rattle.run_transitions.specs.declared.machine.Position.TheVariants.{In}
 use Rattle.sdl_interp.proofs.stimulus.step_from.Goals as goal
 
-pub returns-in-BeforeStart-clause-steps : goal.returns-in-BeforeStart-clause-steps
-returns-in-BeforeStart-clause-steps g c =
-    let m : MachineValue = value_of c.args.machine.now (g.P.Inbox.owning c.args.inbox.now) in
-    let n : MachineValue = value_of c.start.new.machine (g.P.Inbox.owning c.start.new.inbox) in
-    subst (λ (position : Position). StepsFrom c.args.system.now c.args.process.now position m
-    (g.W.World.value c.args.world.now) (Some c.start.result) n (g.W.World.value c.start.new.world))
-    (sym c.in-BeforeStart.is) c.start.ensures.goes
+pub returns-in-BeforeStart-clause-ok : goal.returns-in-BeforeStart-clause-ok
+returns-in-BeforeStart-clause-ok g c =
+    let k = seen g.P.Inbox.owning g.P.Inbox.since c.args.core.now in
+    let n = seen g.P.Inbox.owning g.P.Inbox.since c.start.new.core in
+    subst (λ (position : Position). StepsFrom k.system k.process position k.work (g.W.World.value c.args.world.now)
+    (Some c.start.result) n.work (g.W.World.value c.start.new.world)) (sym c.in-BeforeStart.is) c.start.ensures.leads
 
 pub returns-in-In-clause-stepped : goal.returns-in-In-clause-stepped
 returns-in-In-clause-stepped g c =
-    subst (λ (position : Position). IsStepped c.args.process.now position c.respond.result c.respond.new.machine
-    (g.P.Inbox.owning c.respond.new.inbox)) (sym c.in-In.is)
-    (answered_stepped c.args.process.now c.in-In.state c.respond.result c.respond.new.machine
-    (g.P.Inbox.owning c.respond.new.inbox) c.respond.ensures.answered)
+    let n = seen g.P.Inbox.owning g.P.Inbox.since c.respond.new.core in
+    let state = c.in-In.state in
+    rw c.in-In.is (IfOk-weaker c.respond.result (λ to. IsAnswered to n) (λ to. IsStepped (In state) to n)
+    (λ to. answered_stepped state to n) c.respond.ensures.answered)
 
-pub returns-in-In-clause-steps : goal.returns-in-In-clause-steps
-returns-in-In-clause-steps g c =
-    let m : MachineValue = value_of c.args.machine.now (g.P.Inbox.owning c.args.inbox.now) in
-    let n : MachineValue = value_of c.respond.new.machine (g.P.Inbox.owning c.respond.new.inbox) in
-    subst (λ (position : Position). StepsFrom c.args.system.now c.args.process.now position m
-    (g.W.World.value c.args.world.now) c.respond.result n (g.W.World.value c.respond.new.world))
-    (sym c.in-In.is)
-    (responds_steps c.args.system.now c.args.process.now c.in-In.state m n (g.W.World.value c.args.world.now)
-    (g.W.World.value c.respond.new.world) c.respond.result c.respond.ensures.responds)
+pub returns-in-In-clause-ok : goal.returns-in-In-clause-ok
+returns-in-In-clause-ok g c =
+    let k = seen g.P.Inbox.owning g.P.Inbox.since c.args.core.now in
+    let n = seen g.P.Inbox.owning g.P.Inbox.since c.respond.new.core in
+    let w = g.W.World.value c.args.world.now in
+    let v = g.W.World.value c.respond.new.world in
+    let state = c.in-In.state in
+    rw c.in-In.is (IfOk-weaker c.respond.result (λ to. Responds k.system k.process state k.work w to n.work v)
+    (λ to. StepsFrom k.system k.process (In state) k.work w to n.work v)
+    (λ to. responds_steps k.system k.process state k.work n.work w v to) c.respond.ensures.ok)
+
+pub returns-in-In-clause-err : goal.returns-in-In-clause-err
+returns-in-In-clause-err g c =
+    let k = seen g.P.Inbox.owning g.P.Inbox.since c.args.core.now in
+    let n = seen g.P.Inbox.owning g.P.Inbox.since c.respond.new.core in
+    let w = g.W.World.value c.args.world.now in
+    let v = g.W.World.value c.respond.new.world in
+    let state = c.in-In.state in
+    rw c.in-In.is (IfErr-weaker c.respond.result
+    (λ why. RespondsWrong k.system k.process state k.work w n.work v why)
+    (λ why. StepsWrong k.system k.process (In state) k.work w n.work v why)
+    (λ why responds. responds) c.respond.ensures.err)

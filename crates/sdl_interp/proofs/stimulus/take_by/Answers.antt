@@ -1,72 +1,98 @@
-use Rattle.std.proofs.Common.{sym, ap, subst, List}
-use Rattle.port_inbox.specs.Ends.{OwnerState}
-use Rattle.port_model.specs.declared.selection.Class.{Class}
+use Rattle.std.proofs.Common.{ap, subst, sym}
+use Rattle.std.proofs.lemmas.Result.{IfErr-weaker, IfOk-weaker, err_from_is_err_and}
 use Rattle.sdl_interp.proofs.First.{cannot_take, fails_refused, fails_unselected}
 use Rattle.sdl_interp.proofs.Recorded.{roomy_is}
 use Rattle.sdl_interp.specs.Selected.{CannotSelect}
-use Rattle.sdl_interp.specs.Stimulus.{FailsThen, Took}
+use Rattle.sdl_interp.specs.Stimulus.{AnswersWrong, Reacts, ReactsWrong, Responds, RespondsWrong, Took}
 use Rattle.run_record.specs.declared.failure.Failure.{Failure}
+use Rattle.run_semantics.specs.ControlPoint.{Definition}
 use Rattle.run_semantics.specs.Goes.{MachineValue}
-use Rattle.run_semantics.specs.Leads.{Selecting}
+use Rattle.run_transitions.proofs.Staying.{amid_roomier}
 use Rattle.run_transitions.specs.Machine.{identity_of, value_of}
+use Rattle.run_transitions.specs.Running.{seen}
+use Rattle.run_transitions.specs.Work.{IsOf}
 use Rattle.run_transitions.specs.declared.machine.Machine.{Machine}
 use Rattle.sdl_interp.proofs.stimulus.take_by.Goals as goal
 
-pub returns-in-Err-clause-responds : goal.returns-in-Err-clause-responds
-returns-in-Err-clause-responds g c = λ d is.
-    let owner : OwnerState = g.P.Inbox.owning c.args.inbox.now in
-    let old : Machine = c.args.machine.now in
-    let x : Machine = c.make_room.new.machine in
-    let m : MachineValue = value_of old owner in
-    let why : Failure = c.in-Err.why in
-    let led = c.fail_at.result in
-    let w = g.W.World.value c.args.world.now in
-    let classes : List Class = c.args.selection.now in
-    let n : MachineValue =
-    value_of c.fail_at.new.machine (g.P.Inbox.owning c.fail_at.new.inbox) in
-    let selecting : Selecting d m.who m.owner.state c.args.state m.store classes =
-    c.requires.selects d is c.args.state c.requires.table in
-    let cannot : CannotSelect d m.who m.owner.state c.args.state m.store why =
-    subst (λ (y : Failure). CannotSelect d m.who m.owner.state c.args.state m.store y)
-    (sym c.in-Err.ensures.err)
-    (cannot_take d m.who m.owner.state c.args.state m.store classes selecting) in
-    let then : FailsThen w m why led n =
-    subst (λ (y : MachineValue). FailsThen w y why led n)
-    (roomy_is owner old x x.trace.room x.trace.values_room c.make_room.ensures.same)
-    c.fail_at.ensures.fails in
-    fails_unselected d c.args.state m n w (g.W.World.value c.fail_at.new.world) why led cannot
-    c.requires.going.alive then c.fail_at.ensures.quiet
+pub returns-in_err-make_room-clause-same : goal.returns-in_err-make_room-clause-same
+returns-in_err-make_room-clause-same g c =
+    (amid_roomier g.P.Inbox.owning g.P.Inbox.since c.args.core.now c.make_room.new.machine _ _ c.make_room.ensures.same
+    c.make_room.ensures.kept c.requires.going).same
 
-pub returns-in-Ok-clause-responds : goal.returns-in-Ok-clause-responds
-returns-in-Ok-clause-responds g c = λ d is.
-    let owner : OwnerState = g.P.Inbox.owning c.args.inbox.now in
+pub returns-in_err-make_room-clause-going : goal.returns-in_err-make_room-clause-going
+returns-in_err-make_room-clause-going g c =
+    let q = err_from_is_err_and c.from_residual.result c.from_residual.ensures.1 in
+    rw q.1 (amid_roomier g.P.Inbox.owning g.P.Inbox.since c.args.core.now c.make_room.new.machine _ _
+    c.make_room.ensures.same c.make_room.ensures.kept c.requires.going).going
+
+pub returns-in_err-make_room-clause-err : goal.returns-in_err-make_room-clause-err
+returns-in_err-make_room-clause-err g c =
+    let q = err_from_is_err_and c.from_residual.result c.from_residual.ensures.1 in
+    let k = seen g.P.Inbox.owning g.P.Inbox.since c.args.core.now in
+    let m = k.work in
     let x : Machine = c.make_room.new.machine in
-    let m : MachineValue = value_of c.args.machine.now owner in
-    let classes : List Class = c.args.selection.now in
-    let k : MachineValue = value_of x (g.P.Inbox.owning c.take.new.self) in
-    let took : Took d c.args.state m k classes c.in-Ok.taken = record {
-      selecting = c.requires.selects d is c.args.state c.requires.table;
+    let why = c.in_err-make_room.field-0.0 in
+    let w = g.W.World.value c.args.world.now in
+    let state = c.args.state in
+    rw (q.1, q.2) (λ d is.
+    let cannot : CannotSelect d m.who m.owner.state state m.store why =
+    subst (λ (y : Failure). CannotSelect d m.who m.owner.state state m.store y) (sym c.in_err-make_room.ensures.err)
+    (cannot_take d m.who m.owner.state state m.store c.args.selection.now
+    (c.requires.selects d is state c.requires.table)) in
+    subst (λ (y : MachineValue). AnswersWrong d state m w y w why)
+    (sym (roomy_is m.owner c.args.core.now.machine x x.trace.room x.trace.values_room c.make_room.ensures.same))
+    (fails_unselected d state m w why cannot c.requires.going.alive))
+
+pub returns-in-Ok-clause-ok : goal.returns-in-Ok-clause-ok
+returns-in-Ok-clause-ok g c =
+    let k = seen g.P.Inbox.owning g.P.Inbox.since c.args.core.now in
+    let mid : MachineValue = value_of c.make_room.new.machine (g.P.Inbox.owning c.take.new.self) in
+    let n = seen g.P.Inbox.owning g.P.Inbox.since c.react.new.core in
+    let w = g.W.World.value c.args.world.now in
+    let v = g.W.World.value c.react.new.world in
+    let state = c.args.state in
+    let took : (d : Definition) → IsOf k.system k.process d → Took d state k.work mid c.args.selection.now
+    c.in-Ok.taken =
+    λ d is. record {
+      selecting = c.requires.selects d is state c.requires.table;
       takes = c.in-Ok.ensures.take;
       who = ap (λ (y : Machine). identity_of y.trace) c.make_room.ensures.same;
       store = ap (λ (y : Machine). y.store) c.make_room.ensures.same;
       events = ap (λ (y : Machine). y.trace.events) c.make_room.ensures.same;
       alive = c.requires.going.alive;
     } in
-    c.react.ensures.reacts d is m classes took
+    IfOk-weaker c.react.result (λ to. Reacts k.system k.process state c.in-Ok.taken mid w to n.work v)
+    (λ to. Responds k.system k.process state k.work w to n.work v)
+    (λ to reacts d is. reacts d is k.work c.args.selection.now (took d is)) c.react.ensures.ok
 
-pub returns-in-Err-take-clause-responds : goal.returns-in-Err-take-clause-responds
-returns-in-Err-take-clause-responds g c = λ d is.
-    let owner : OwnerState = g.P.Inbox.owning c.args.inbox.now in
-    let x : Machine = c.make_room.new.machine in
-    let m : MachineValue = value_of c.args.machine.now owner in
-    let classes : List Class = c.args.selection.now in
-    let k : MachineValue = value_of x (g.P.Inbox.owning c.take.new.self) in
-    let n : MachineValue =
-    value_of c.fail_at-in-Err-take.new.machine (g.P.Inbox.owning c.fail_at-in-Err-take.new.inbox) in
-    fails_refused d c.args.state m k n (g.W.World.value c.args.world.now)
-    (g.W.World.value c.fail_at-in-Err-take.new.world) classes c.fail_at-in-Err-take.result
-    (c.requires.selects d is c.args.state c.requires.table) c.in-Err-take.ensures.take.1 c.requires.going.alive
+pub returns-in-Ok-clause-err : goal.returns-in-Ok-clause-err
+returns-in-Ok-clause-err g c =
+    let k = seen g.P.Inbox.owning g.P.Inbox.since c.args.core.now in
+    let mid : MachineValue = value_of c.make_room.new.machine (g.P.Inbox.owning c.take.new.self) in
+    let n = seen g.P.Inbox.owning g.P.Inbox.since c.react.new.core in
+    let w = g.W.World.value c.args.world.now in
+    let v = g.W.World.value c.react.new.world in
+    let state = c.args.state in
+    let took : (d : Definition) → IsOf k.system k.process d → Took d state k.work mid c.args.selection.now
+    c.in-Ok.taken =
+    λ d is. record {
+      selecting = c.requires.selects d is state c.requires.table;
+      takes = c.in-Ok.ensures.take;
+      who = ap (λ (y : Machine). identity_of y.trace) c.make_room.ensures.same;
+      store = ap (λ (y : Machine). y.store) c.make_room.ensures.same;
+      events = ap (λ (y : Machine). y.trace.events) c.make_room.ensures.same;
+      alive = c.requires.going.alive;
+    } in
+    IfErr-weaker c.react.result (λ why. ReactsWrong k.system k.process state c.in-Ok.taken mid w n.work v why)
+    (λ why. RespondsWrong k.system k.process state k.work w n.work v why)
+    (λ why reacts d is. reacts d is k.work c.args.selection.now (took d is)) c.react.ensures.err
+
+pub returns-in-Err-clause-err : goal.returns-in-Err-clause-err
+returns-in-Err-clause-err g c = λ d is.
+    let k = seen g.P.Inbox.owning g.P.Inbox.since c.args.core.now in
+    fails_refused d c.args.state k.work (value_of c.make_room.new.machine (g.P.Inbox.owning c.take.new.self))
+    (g.W.World.value c.args.world.now) c.args.selection.now
+    (c.requires.selects d is c.args.state c.requires.table) c.in-Err.ensures.take.1 c.requires.going.alive
     (ap (λ (y : Machine). identity_of y.trace) c.make_room.ensures.same)
     (ap (λ (y : Machine). y.store) c.make_room.ensures.same)
     (ap (λ (y : Machine). y.trace.events) c.make_room.ensures.same)
-    c.fail_at-in-Err-take.ensures.fails c.fail_at-in-Err-take.ensures.quiet

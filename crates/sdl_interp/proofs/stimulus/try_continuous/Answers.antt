@@ -1,45 +1,39 @@
-use Rattle.std.proofs.Common.{sym, subst, Bool}
-use Rattle.port_inbox.specs.Ends.{OwnerState}
+use Rattle.std.proofs.Common.{subst, None, Some}
+use Rattle.std.proofs.lemmas.Result.{err_from_is_err_and}
+use Rattle.run_evaluation.specs.Knowledge.{KnowledgeValue, environment_of}
+use Rattle.run_semantics.specs.Selection.{tried}
+use Rattle.run_transitions.specs.Running.{seen}
 use Rattle.sdl_interp.proofs.Reacting.{answers_failure, found_here, waits_untried}
-use Rattle.sdl_interp.proofs.Recorded.{same_failed}
-use Rattle.run_semantics.specs.Goes.{Goes, IsOneStep}
-use Rattle.run_semantics.specs.ControlPoint.{In}
-use Rattle.run_transitions.specs.Machine.{place_of, value_of}
+use Rattle.sdl_interp.specs.Selected.{IsTried}
 use Rattle.sdl_interp.proofs.stimulus.try_continuous.Goals as goal
 
-pub returns-in-Err-clause-kept : goal.returns-in-Err-clause-kept
-returns-in-Err-clause-kept g c =
-    same_failed (g.W.World.value c.args.world.now)
-    (value_of c.args.machine.now (g.P.Inbox.owning c.args.inbox.now))
-    (value_of c.fail_at.new.machine (g.P.Inbox.owning c.fail_at.new.inbox)) c.in-Err.why c.fail_at.result
-    c.fail_at.ensures.fails
+pub returns-in-None-clause-ok : goal.returns-in-None-clause-ok
+returns-in-None-clause-ok g c = λ d is m classes took zipped.
+    let k = seen g.P.Inbox.owning g.P.Inbox.since c.args.core.now in
+    let entries = is.behaves.means.entries in
+    let meant = took.selecting.state.continuous in
+    let found = rw c.in-None.is at c.in_ok-found.ensures.ok in
+    waits_untried k.system k.process d is c.args.state m k.work (g.W.World.value c.args.world.now) classes took
+    (subst (λ (known : KnowledgeValue). IsTried entries None (tried (environment_of known) meant)) c.knowledge.ensures
+    (found entries meant zipped))
 
-pub returns-in-Ok-None-clause-continues : goal.returns-in-Ok-None-clause-continues
-returns-in-Ok-None-clause-continues g c = λ d is m classes took zipped.
-    let owner : OwnerState = g.P.Inbox.owning c.args.inbox.now in
-    let found = rw c.in-Ok-None.field-0-is at c.in-Ok-None.ensures.ok in
-    waits_untried c.args.system.now c.args.process.now d is c.args.state m (value_of c.args.machine.now owner)
-    (g.W.World.value c.args.world.now) classes took
-    (found is.behaves.means.entries took.selecting.state.continuous zipped)
+pub returns-in-Some-clause-ok : goal.returns-in-Some-clause-ok
+returns-in-Some-clause-ok g c = λ d is m classes took zipped.
+    let k = seen g.P.Inbox.owning g.P.Inbox.since c.args.core.now in
+    let entries = is.behaves.means.entries in
+    let meant = took.selecting.state.continuous in
+    let found = rw c.in-Some.is at c.in_ok-found.ensures.ok in
+    c.provide.ensures.provides d is m classes took
+    (found_here k.system k.process d is c.args.state m k.work (g.W.World.value c.args.world.now) classes took
+    c.in-Some.signal
+    (subst (λ (known : KnowledgeValue). IsTried entries (Some c.in-Some.signal) (tried (environment_of known) meant))
+    c.knowledge.ensures (found entries meant zipped)))
 
-pub returns-in-Ok-Some-clause-continues : goal.returns-in-Ok-Some-clause-continues
-returns-in-Ok-Some-clause-continues g c = λ d is m classes took zipped.
-    let owner : OwnerState = g.P.Inbox.owning c.args.inbox.now in
-    let w = g.W.World.value c.args.world.now in
-    let found = rw c.in-Ok-Some.field-0-is at c.in-Ok-Some.ensures.ok in
-    subst (λ (counts : Bool). Goes (IsOneStep counts) d (In c.args.state) m w (place_of c.provide.result.to)
-    (value_of c.provide.new.machine (g.P.Inbox.owning c.provide.new.inbox)) (g.W.World.value c.provide.new.world))
-    (sym c.provide.ensures.counts)
-    (c.provide.ensures.provides d is m classes took
-    (found_here c.args.system.now c.args.process.now d is c.args.state m (value_of c.args.machine.now owner) w classes
-    took c.in-Ok-Some.signal (found is.behaves.means.entries took.selecting.state.continuous zipped)))
-
-pub returns-in-Err-clause-continues : goal.returns-in-Err-clause-continues
-returns-in-Err-clause-continues g c = λ d is m classes took zipped.
-    let owner : OwnerState = g.P.Inbox.owning c.args.inbox.now in
-    answers_failure c.args.system.now c.args.process.now d is c.args.state m (value_of c.args.machine.now owner)
-    (g.W.World.value c.args.world.now) classes took
-    (value_of c.fail_at.new.machine (g.P.Inbox.owning c.fail_at.new.inbox)) (g.W.World.value c.fail_at.new.world)
-    c.in-Err.why c.fail_at.result
-    (c.in-Err.ensures.err is.behaves.means.entries took.selecting.state.continuous zipped)
-    c.fail_at.ensures.fails c.fail_at.ensures.quiet
+pub returns-in_err-found-clause-err : goal.returns-in_err-found-clause-err
+returns-in_err-found-clause-err g c =
+    let q = err_from_is_err_and c.from_residual.result c.from_residual.ensures.1 in
+    let k = seen g.P.Inbox.owning g.P.Inbox.since c.args.core.now in
+    let cause = rw c.knowledge.ensures at c.in_err-found.ensures.err in
+    rw (q.1, q.2) (λ d is m classes took zipped.
+    answers_failure k.system k.process d is c.args.state m k.work (g.W.World.value c.args.world.now) classes took _
+    (cause is.behaves.means.entries took.selecting.state.continuous zipped))
