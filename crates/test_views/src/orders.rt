@@ -1,4 +1,4 @@
-//! Reports whose records come from two runs: no order of whole transitions tells them to their end.
+//! Reports whose records come from two runs: one as a run on threads may have it, and two that no order tells.
 
 use crate::texts::{in_json, in_lines, report_of, system_of};
 use run_record::Report;
@@ -6,6 +6,109 @@ use sdl_system::System;
 use std::alloc::Global;
 use std::mem::swap;
 use std::process::Abort;
+
+/// A sends to Q by its name. B creates Q, and with `slow` it does so one step later.
+static LATE: &str = "system Late;
+
+signal slow, note;
+
+process B;
+  dcl steps Integer := 2;
+  timer T;
+
+  start;
+    set(now + 5, T);
+    nextstate early;
+
+  state early;
+    input slow;
+      task steps := 1;
+      nextstate -;
+
+    input T;
+      nextstate late;
+  endstate early;
+
+  state late;
+    provided steps = 1;
+      task steps := 2;
+      nextstate -;
+
+    provided steps = 2;
+      create Q;
+      nextstate over;
+  endstate late;
+
+  state over;
+  endstate over;
+endprocess B;
+
+process A;
+  timer T;
+
+  start;
+    set(now + 5, T);
+    nextstate early;
+
+  state early;
+    input T;
+      nextstate late;
+  endstate early;
+
+  state late;
+    provided true;
+      output note to Q;
+      nextstate over;
+  endstate late;
+
+  state over;
+  endstate over;
+endprocess A;
+
+process Q (0, 1);
+  start;
+    nextstate taking;
+
+  state taking;
+    input note;
+      nextstate -;
+  endstate taking;
+endprocess Q;
+
+endsystem Late;
+";
+
+static LATE_LINES: &str = "0 #1 B start
+  set T 5
+  nextstate early
+0 #2 A start
+  set T 5
+  nextstate early
+0 #1 B input slow from env
+  task steps := 1
+  nextstate early
+5 #1 B input T from #1
+  nextstate late
+5 #2 A input T from #2
+  nextstate late
+5 #1 B provided 1
+  task steps := 2
+  nextstate late
+5 #1 B provided 2
+  create Q #3
+  nextstate over
+5 #2 A provided 1
+  output note to #3
+  nextstate over
+5 #3 Q start
+  nextstate taking
+5 #3 Q input note from #2
+  nextstate taking
+#1 B rest over
+#2 A rest over
+#3 Q rest taking
+end 6 whole
+";
 
 /// A sends to B and then to Q in one transition. B creates Q when it takes what A sent, or when it's told to before.
 static CIRCLE: &str = "system Circle;
@@ -103,6 +206,15 @@ static UNSENT_JSON: &str = "\
     {\"end\":0,\"whole\":true,\"instances\":[{\"instance\":1,\"process\":\"Reader\",\"parent\":null,\
     \"rest\":\"reading\"},{\"instance\":2,\"process\":\"Writer\",\"parent\":null,\"rest\":\"writing\"}]}\n\
     {\"stuck\":1}\n";
+
+/// What is sent by name waits for the create of who takes it.
+#[test]
+fn sends_after_the_create(rt: HostRuntime) {
+    let system = system_of(&rt, rt.alloc(), LATE);
+    let report = mixed(&rt, rt.alloc(), &system, "6\n", "0 slow\n6\n", 0);
+    let lines = in_lines(rt.alloc(), &system, &report, 1).expect(&rt, "lines");
+    assert!(rt; lines.as_slice() == LATE_LINES.as_bytes());
+}
 
 /// Nobody makes the whole of its transition first.
 #[test]
