@@ -10,6 +10,7 @@ use Rattle.input_port.proofs.held.Held.TheSendSync as held
 use Rattle.port_inbox.specs.declared.inbox.Inbox as inbox
 use Rattle.run_transitions.proofs.machine.Machine.TheSendSync as a-machine
 use Rattle.run_transitions.proofs.machine.Position.TheSendSync as a-position
+use Rattle.run_transitions.specs.contracts.running.Core as Core
 use Rattle.sdl_interp.specs.contracts.instance.Instance as Instance
 use Rattle.sdl_interp.specs.contracts.instance.Instance.TheInside as InsideInstance
 use Rattle.threads_instance.proofs.outbox.Outbox.TheSendSync as an-outbox
@@ -23,11 +24,12 @@ use Rattle.threads_shared.specs.contracts.shared.Shared as Shared
 use Rattle.threads_system.proofs.Crossing.{process, system}
 
 module _ (κ : NamedLft) (P : RattleType) (g : inbox.Ghosts P.Denot) where
+  core : IsSend P → IsSend (Core.the_row κ P)
+  core s = declared_send (Core.the_type κ P)
+      (search (system, sendable), (search (process, sendable), (a-machine.the_send, (search sendable, tt))))
+
   within_instance : IsSend P → IsSend (InsideInstance.the_row κ P g)
-  within_instance s = declared_send (InsideInstance.the_type κ P g) (
-    search (system, sendable),
-    (search (process, sendable), (a-position.the_send, (a-machine.the_send, (search sendable, tt)))),
-  )
+  within_instance s = declared_send (InsideInstance.the_type κ P g) (core s, (a-position.the_send, tt))
 
   instance : IsSend P → IsSend (Instance.the_row κ P g)
   instance s = let i = within_instance s in search sendable depth 20
