@@ -32,9 +32,10 @@ pub record IsAnswer (input : List ℕ) (options : Options) (output : List ℕ) (
   pub ends : status ≡ status_of came
   pub writes : MatchResult came (λ how. Written (Some input) None options how (Some []) (Some output)) (λ fault. Faulted fault (Some input) None options (Some []) (Some output))
 
--- a chart in this form of the run that was kept; of a text that is refused none was, and nothing is drawn
+-- a chart in this form of the run that was kept, as far as its order is known; of a text that is refused none was, and
+-- nothing is drawn
 abbrev pub IsChartOf : Form → Option Run → List ℕ → Type 0
-IsChartOf form (Some run) chart = IsDrawn form run (Some []) (Some chart)
+IsChartOf form (Some run) chart = (stuck : Option ℕ) × IsDrawn form run stuck (Some []) (Some chart)
 IsChartOf form None chart = chart ≡ []
 
 -- A chart in this form may be drawn of the input: the status goes with what the engine answered, and the chart is that
