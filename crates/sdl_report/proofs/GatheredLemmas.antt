@@ -46,6 +46,37 @@ Breaks-after a b c g h xs ys p q = (
   q.4,
 )
 
+-- the same after all that was to come before it
+pub Breaks-none : (held : Option (List ℕ)) (bytes text : List ℕ) → Breaks held [] held (bytes ++ line text)
+Breaks-none held bytes text =
+    Breaks-after held held held [] bytes bytes (line text) (Grows-gathered held [] bytes bytes refl)
+    (Breaks-now held bytes text)
+
+-- all that was gathered goes out, too
+pub Grows-sent : (a b c : Option (List ℕ)) (g h xs : List ℕ) → Grows a g b h xs → Appends b c h → Appends a c (g ++ xs)
+Grows-sent a b c g h xs p sent = subst (Appends a c) p.2 (Appends-trans a b c p.0 h p.1 sent)
+
+-- the same with more behind it, where nothing was gathered at first
+pub Appends-after : (a b c : Option (List ℕ)) (h xs ys : List ℕ) → Grows a [] b h xs → Appends b c (h ++ ys)
+    → Appends a c (xs ++ ys)
+Appends-after a b c h xs ys p sent =
+    subst (Appends a c) (sym (append_assoc p.0 h ys) ∙ ap (λ l. l ++ ys) p.2) (Appends-trans a b c p.0 (h ++ ys) p.1 sent)
+
+-- what was gathered has gone out, and the bytes after it
+pub Grows-past : (a b c : Option (List ℕ)) (g h xs : List ℕ) → Appends a b g → h ≡ [] → Appends b c xs → Grows a g c h xs
+Grows-past a b c g h xs sent none past =
+    (g ++ xs, Appends-trans a b c g xs sent past, ap (λ l. g ++ xs ++ l) none ∙ append-nil (g ++ xs))
+
+-- what was gathered has gone out, and of the bytes after it a beginning
+pub Breaks-past : (a b c : Option (List ℕ)) (g xs : List ℕ) → Appends a b g → BreaksOff b c xs → Breaks a g c xs
+Breaks-past a b c g xs sent p = (
+  g ++ take p.0 xs,
+  drop p.0 xs,
+  Appends-trans a b c g (take p.0 xs) sent p.2,
+  append_assoc g (take p.0 xs) (drop p.0 xs) ∙ ap (λ l. g ++ l) (take-append-drop p.0 xs),
+  let part = p.1 in omega (arith, length-drop p.0 xs),
+)
+
 -- a break before some bytes
 pub Breaks-before : (a c : Option (List ℕ)) (g xs ys : List ℕ) → Breaks a g c xs → Breaks a g c (xs ++ ys)
 Breaks-before a c g xs ys p = (

@@ -1,4 +1,5 @@
 pub mod CursorLemmas
+pub mod DigitLemmas
 pub mod GatheredLemmas
 pub mod NumberLemmas
 pub mod PieceLemmas

@@ -1,6 +1,6 @@
 //! The text of a report.
 
-ghost use Rattle.std.specs.Prelude.{◌≡◌, ◌≤◌, [], ◌++◌, length, OnErr, OnOk};
+ghost use Rattle.std.specs.Prelude.{◌≡◌, ◌≤◌, [], ◌++◌, length, IfErr, OnErr, OnOk};
 ghost use Rattle.std.specs.String.{string_bytes};
 ghost use Rattle.std.specs.Io.KnownBytes.{Appends};
 ghost use Rattle.run_record.specs.Entry.{event_of};
@@ -8,7 +8,9 @@ ghost use Rattle.sdl_report.specs.Gathered.{Breaks, BreaksOff, Grows};
 ghost use Rattle.sdl_report.specs.ReportText.{end_text, event_line, heading_text, line, record_text, report_text, rest_text};
 
 use crate::event_line::push_event;
+use crate::page::Page;
 use crate::record_text::push_heading;
+use crate::short_names::ShortNames;
 use crate::write_whole::{WriteFault, write_text};
 use port_values::Value;
 use run_record::{Entry, Record, Report};
@@ -50,57 +52,104 @@ pub fn write_rest<W: Write>(
     ensures err { OnErr result (BreaksOff (W.contents writer.old) (W.contents writer.new)
         (rest_text system.now report.now written)) }
 {
-    let mut text = String::new(alloc);
+    let names = ShortNames::of(alloc, system)?;
+    let mut page = Page::new(alloc)?;
+    let mut spare = String::new(alloc);
     let (_, rest) = report.records.split_at(written);
     for record in rest {
-        write_record(&mut text, record, system, writer)?;
+        write_record(&mut page, &mut spare, record, &names, writer)?;
     }
-    push_end(&mut text, report)?;
-    send(&mut text, writer)
+    write_end(&mut page, &mut spare, report, writer)
 }
 
-/// Writes the lines of a record. The last of them may stay in the gathered text.
+/// Writes the lines of a record. The last of them may stay on the page. `spare` is for lines that are no common ones.
 fn write_record<W: Write>(
-    text: &mut String,
+    page: &mut Page,
+    spare: &mut String,
     record: &Record,
-    system: &System,
+    names: &ShortNames<'_>,
     writer: &mut W,
 ) -> Result<(), WriteFault>
-    ensures ok { OnOk result (Grows (W.contents writer.old) (string_bytes text.old)
-        (W.contents writer.new) (string_bytes text.new) (record_text system.now «record».now)) }
-    ensures err { OnErr result (Breaks (W.contents writer.old) (string_bytes text.old)
-        (W.contents writer.new) (record_text system.now «record».now)) }
+    ensures ok { OnOk result (Grows (W.contents writer.old) page.old
+        (W.contents writer.new) page.new (record_text names.now «record».now)) }
+    ensures err { OnErr result (Breaks (W.contents writer.old) page.old
+        (W.contents writer.new) (record_text names.now «record».now)) }
 {
-    push_heading(text, record, system)?;
+    spare.clear();
+    push_heading(spare, record, names.system())?;
+    page.push(spare.as_str(), writer)?;
     let (entries, values) = record.kept();
     let mut rest = values;
     for entry in entries {
         let (own, more) = rest.split_at(entry.count());
         rest = more;
-        write_event(text, entry, own, record, system, writer)?;
+        write_event(page, spare, entry, own, record, names, writer)?;
     }
     Ok(())
 }
 
-/// Appends the line of an event, an entry with its values, to the gathered text, which goes out where it is a piece.
+/// Writes the line of an event, an entry with its values. It may stay on the page.
+#[inline(always)]
 fn write_event<W: Write>(
-    text: &mut String,
+    page: &mut Page,
+    spare: &mut String,
+    entry: &Entry,
+    values: &[Value],
+    record: &Record,
+    names: &ShortNames<'_>,
+    writer: &mut W,
+) -> Result<(), WriteFault>
+    ensures ok { OnOk result (Grows (W.contents writer.old) page.old (W.contents writer.new) page.new
+        (event_line names.now «record».now (event_of entry.now values.now))) }
+    ensures err { OnErr result (Breaks (W.contents writer.old) page.old (W.contents writer.new)
+        (event_line names.now «record».now (event_of entry.now values.now))) }
+{
+    page.make_room(writer)?;
+    if page.put_event(entry, values, record, names) {
+        return Ok(());
+    }
+    write_any_event(page, spare, entry, values, record, names.system(), writer)?;
+    Ok(())
+}
+
+/// The same of a line that is no common one.
+#[inline(never)]
+fn write_any_event<W: Write>(
+    page: &mut Page,
+    spare: &mut String,
     entry: &Entry,
     values: &[Value],
     record: &Record,
     system: &System,
     writer: &mut W,
 ) -> Result<(), WriteFault>
-    ensures ok { OnOk result (Grows (W.contents writer.old) (string_bytes text.old)
-        (W.contents writer.new) (string_bytes text.new)
+    ensures ok { OnOk result (Grows (W.contents writer.old) page.old (W.contents writer.new) page.new
         (event_line system.now «record».now (event_of entry.now values.now))) }
-    ensures err { OnErr result (Breaks (W.contents writer.old) (string_bytes text.old)
-        (W.contents writer.new) (event_line system.now «record».now (event_of entry.now values.now))) }
+    ensures err { OnErr result (Breaks (W.contents writer.old) page.old (W.contents writer.new)
+        (event_line system.now «record».now (event_of entry.now values.now))) }
 {
-    push_event(text, entry, values, record, system)?;
-    if text.len() >= PIECE {
-        send(text, writer)?;
-    }
+    spare.clear();
+    push_event(spare, entry, values, record, system)?;
+    page.push(spare.as_str(), writer)?;
+    Ok(())
+}
+
+/// Writes the line of the end, and with it all that is on the page.
+fn write_end<W: Write>(
+    page: &mut Page,
+    spare: &mut String,
+    report: &Report,
+    writer: &mut W,
+) -> Result<(), WriteFault>
+    ensures ok { OnOk result (Appends (W.contents writer.old) (W.contents writer.new)
+        (page.old ++ line (end_text report.now))) }
+    ensures err { OnErr result (Breaks (W.contents writer.old) page.old
+        (W.contents writer.new) (line (end_text report.now))) }
+{
+    spare.clear();
+    push_end(spare, report)?;
+    page.push(spare.as_str(), writer)?;
+    page.send(writer)?;
     Ok(())
 }
 
@@ -124,6 +173,7 @@ pub fn send<W: Write>(text: &mut String, writer: &mut W) -> Result<(), WriteFaul
         (string_bytes text.old)) }
     ensures err { OnErr result (Breaks (W.contents writer.old) (string_bytes text.old)
         (W.contents writer.new) []) }
+    ensures fault { IfErr result (λ fault. fault ≡ WriteFault.Write) }
 {
     write_text(writer, text.as_bytes())?;
     text.clear();
