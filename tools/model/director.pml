@@ -1,0 +1,235 @@
+/* The calling thread: it starts the workers, and directs. */
+
+inline begin(y) {
+    entered[y] = true;
+    seated[y] = true;
+    mark[y] = READY;
+    be_ticket(y);
+    put_number(hall, y)
+}
+
+/* director.rt: next_time, next_due of the wheel. */
+inline least_due(y) {
+    if
+    :: fuse[y] > 0 && (next == 0 || fuse[y] < next) -> next = fuse[y]
+    :: else
+    fi
+}
+
+/* What is due at one time is put before anybody is woken. */
+inline check_none_steps() {
+    assert(!ticket[1]);
+    assert(!ticket[2]);
+#if INSTANCES > 2
+    assert(!ticket[3]);
+#endif
+    skip
+}
+
+#define is_due(y) (fuse[y] > 0 && fuse[y] <= clock)
+
+/* Environment::expire */
+inline expire() {
+    atomic {
+        check_none_steps();
+        hear(number);
+        number = 0
+    }
+}
+
+inline hear(y) {
+    if
+    :: !stopped[y] -> queue[y]++
+    :: else
+    fi;
+    woken ! y
+}
+
+/* A run that is whole: all rest, the script is heard, and no timer is due by its end. */
+inline check_whole() {
+    check_rest();
+    assert(heard == LINES && last_heard);
+    assert(fuse[1] == 0 || fuse[1] > LAST);
+    assert(fuse[2] == 0 || fuse[2] > LAST);
+#if INSTANCES > 2
+    assert(fuse[3] == 0 || fuse[3] > LAST);
+#endif
+    skip
+}
+
+inline woke_one() {
+    number = 0;
+    goto wakes
+}
+
+inline into_hall() {
+    goto queues
+}
+
+/* Whom to wake, in the order in which it was put. */
+chan woken = [INSTANCES + LINES] of { byte };
+
+init {
+    byte started_workers, other = NOBODY, next, number;
+
+    /* start.rt: begin. crew.rt: join_all */
+    atomic {
+        begin(1);
+        begin(2);
+#if FIRST > 2
+        begin(3);
+#endif
+        run worker(0);
+        started_workers = 1
+    };
+#if WORKERS > 1
+    if
+    :: atomic { run worker(1); started_workers++ }
+#ifdef FEWER
+    :: skip
+#endif
+    fi;
+#endif
+#if WORKERS > 2
+    if
+    :: atomic { run worker(2); started_workers++ }
+#ifdef FEWER
+    :: skip
+#endif
+    fi;
+#endif
+    /* Hall::set_crew, under the hall's lock. */
+    crew = started_workers;
+
+look:
+    /* director.rt: look, under the hall's lock. */
+    if
+    :: hall_closed || signs_closed -> goto over
+#ifdef BUG_REST_OF_ALL_BUT_ONE
+    /* It takes the run for one at rest while a worker is awake. */
+    :: !hall_closed && !signs_closed && COUNT_OF(asleep) + 1 >= crew && empty(hall)
+    :: !hall_closed && !signs_closed && (COUNT_OF(asleep) + 1 < crew || nempty(hall)) -> goto waits
+#elif defined(BUG_SEEKERS_REST)
+    /* It counts those that look for numbers as asleep. */
+    :: !hall_closed && !signs_closed && COUNT_OF(asleep) + seekers == crew && empty(hall)
+    :: !hall_closed && !signs_closed && (COUNT_OF(asleep) + seekers != crew || nempty(hall)) -> goto waits
+#else
+    :: !hall_closed && !signs_closed && COUNT_OF(asleep) == crew && empty(hall)
+    :: !hall_closed && !signs_closed && (COUNT_OF(asleep) != crew || nempty(hall)) -> goto waits
+#endif
+    fi;
+#if FAILS
+    /* It finds no memory. So the run has no report, as if a worker had found none. */
+    if
+    :: atomic { fails > 0 -> fails--; signs_failed = true } -> goto over
+    :: skip
+    fi;
+#endif
+    /* director.rt: tick, next_time, under the wheel's lock. */
+    atomic {
+        check_rest();
+        least_due(1);
+        least_due(2);
+#if INSTANCES > 2
+        least_due(3);
+#endif
+        if
+        :: heard < LINES && (next == 0 || 1 < next) -> next = 1
+        :: heard == LINES && !last_heard && (next == 0 || LAST < next) -> next = LAST
+        :: else
+        fi;
+#ifdef BUG_LAST_LEFT_OUT
+        /* What is due at the time of the last line isn't done. */
+        if
+        :: next == 0 || next >= LAST -> next = 0; goto ends
+#else
+        if
+        :: next == 0 || next > LAST -> next = 0; goto ends
+#endif
+        :: else
+        fi
+    };
+    /* director.rt: move_to. Ticker::advance */
+    atomic { assert(clock <= next); clock = next; next = 0 };
+    /* director.rt: expire_due. Each time fire, under the wheel's lock, and then Environment::expire. */
+    do
+    :: atomic { is_due(1) -> fuse[1] = 0; number = 1 }; expire()
+    :: atomic { is_due(2) && !is_due(1) -> fuse[2] = 0; number = 2 }; expire()
+#if INSTANCES > 2
+    :: atomic { is_due(3) && !is_due(1) && !is_due(2) -> fuse[3] = 0; number = 3 }; expire()
+    :: !is_due(1) && !is_due(2) && !is_due(3) -> break
+#else
+    :: !is_due(1) && !is_due(2) -> break
+#endif
+    od;
+    /* director.rt: hear_due. Environment::hear routes a signal to some instance that lives, and puts it. */
+    do
+    :: atomic { heard < LINES && clock >= 1 ->
+        heard++;
+        check_none_steps();
+        if
+        :: !stopped[1] -> hear(1)
+        :: !stopped[2] -> hear(2)
+#if INSTANCES > 2
+        :: entered[3] && !stopped[3] -> hear(3)
+#endif
+        :: stopped[1] && stopped[2]
+        fi }
+    :: atomic { heard == LINES && !last_heard && clock >= LAST -> last_heard = true }
+    :: (heard < LINES && clock < 1) || (heard == LINES && (last_heard || clock < LAST)) -> break
+    od;
+    /* director.rt: wake */
+wakes:
+    if
+    :: atomic { nempty(woken) -> woken ? number };
+        MARK_WAKE(number, into_hall, woke_one)
+    :: empty(woken) -> goto look
+    fi;
+queues:
+    /* Tables::queue, under the hall's lock. */
+    atomic {
+        put_number(hall, number);
+        number = 0;
+        take_sleeper(other);
+        set_signs();
+        if
+        :: other == NOBODY -> goto wakes
+        :: else
+        fi
+    };
+    unpark(other);
+    goto wakes;
+
+waits:
+    park(DIRECTOR);
+    goto look;
+
+ends:
+    close(other);
+over:
+    /* crew.rt: join_all */
+    close(other);
+    done == started_workers;
+
+    /* The threads are joined. */
+    atomic {
+        if
+        :: signs_failed
+        :: !signs_failed ->
+#ifdef LIMIT
+            assert(sum <= made);
+            if
+            :: made >= LIMIT ->
+                /* The run is cut. The sum reached the limit once, and the run went past it by little. */
+                assert(cuts == 1);
+                assert(made < LIMIT + WORKERS * PART)
+            :: made < LIMIT ->
+                assert(cuts == 0);
+                check_whole()
+            fi
+#else
+            check_whole()
+#endif
+        fi
+    }
+}

@@ -1,0 +1,94 @@
+/* The common queue and the workers that sleep: what is done under the hall's lock. */
+
+/* Takes a worker out of those that sleep. Which one, is left open: the code takes the last of its list. */
+inline take_sleeper(one) {
+    if
+    :: asleep & 1 -> asleep = asleep & ~1; one = 0
+#if WORKERS > 1
+    :: asleep & 2 -> asleep = asleep & ~2; one = 1
+#endif
+#if WORKERS > 2
+    :: asleep & 4 -> asleep = asleep & ~4; one = 2
+#endif
+    :: asleep == 0 -> one = NOBODY
+    fi
+}
+
+/* signs.rt: Signs::set_sleepers, and the word that seekers look at. */
+inline set_signs() {
+    sleepers = COUNT_OF(asleep);
+#ifdef SEEKERS
+    queued = len(hall)
+#endif
+}
+
+/* Hall::part: of what waits, as much as each of the crew gets, and one at least. */
+inline part(count) {
+    count = len(hall) / crew;
+    if
+    :: count == 0 && len(hall) > 0 -> count = 1
+    :: else
+    fi
+}
+
+/* Hall::take: a worker's part goes to the end of its own queue. */
+inline hall_take(me) {
+    part(count);
+    do
+    :: count > 0 -> move_number(hall, own[me]); count--
+    :: else -> break
+    od
+}
+
+/* Hall::share: the first half of a worker's own queue goes to the end of the hall's. */
+inline hall_share(me, one) {
+    count = len(own[me]) / 2;
+    do
+    :: count > 0 -> move_number(own[me], hall); count--
+    :: else -> break
+    od;
+    take_sleeper(one);
+#ifdef BUG_SHARE_UNTOLD
+    /* The sleeper that was taken out is told nothing. */
+    one = NOBODY;
+#endif
+}
+
+/* Hall::exchange: the first numbers of a worker go to the end of the hall's queue, those from its front to the front of
+   the worker's own. */
+inline hall_exchange(me) {
+    part(taken);
+    count = (len(own[me]) < len(hall) -> len(own[me]) : len(hall));
+    taken = (count > taken -> count : taken);
+    kept = len(own[me]) - count;
+#ifdef BUG_EXCHANGE_DROPS
+    /* One of the numbers that it gives goes nowhere. */
+    if
+    :: count > 0 -> own[me] ? moved; moved = 0; count--
+    :: else
+    fi;
+#endif
+    do
+    :: count > 0 -> move_number(own[me], hall); count--
+    :: else -> break
+    od;
+    do
+    :: taken > 0 -> move_number(hall, own[me]); taken--
+    :: else -> break
+    od;
+    /* VecDeque::rotate_right: what is new is in front. */
+    do
+    :: kept > 0 -> own[me] ? moved; own[me] ! moved; moved = 0; kept--
+    :: else -> break
+    od
+}
+
+/* tables.rt: Tables::close. The word, and then a section under the hall's lock. */
+inline close(one) {
+    signs_closed = true;
+    atomic { hall_closed = true; take_sleeper(one) };
+    if
+    :: one != NOBODY -> unpark(one)
+    :: one == NOBODY
+    fi
+}
