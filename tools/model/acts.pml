@@ -14,8 +14,8 @@ inline put(y) {
     fi
 }
 
-/* What comes next in a step. It creates, puts what it sends, and sets its timer, as its transition has it; then its fuse
-   goes into the wheel (job.rt: step), and whom it has sent something is woken. */
+/* What comes next in a step. It creates, puts what it sends, and sets its timer, as its transition has it. Then its
+   fuse goes into the wheel (job.rt: step), and whom it has sent something is woken. */
 inline next_act() {
     if
 #ifdef CREATE
@@ -75,6 +75,8 @@ inline add_moves() {
     /* It tells of all that it has made, and not only of what is new. */
 #endif
     count = (sum >= LIMIT)
+#else
+    skip
 #endif
 }
 

@@ -7,8 +7,8 @@
 #define mark_again(y) mark[y] = AGAIN
 #endif
 
-/* Mark::wake: a look, the exchange of READY for AGAIN, and that of IDLE for READY. `queues()` is what comes if the caller
-   is to queue the number, `leaves()` what comes if not. A label is its own in each thread that wakes. */
+/* Mark::wake: a look, the exchange of READY for AGAIN, and that of IDLE for READY. If the caller is to queue the
+   number, `queues()` comes next, and else `leaves()`. */
 #define MARK_WAKE(y, queues, leaves)                                                                          \
     atomic {                                                                                                  \
         if                                                                                                    \

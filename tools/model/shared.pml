@@ -14,8 +14,8 @@ byte mark[INSTANCES + 1];
 bool locked[INSTANCES + 1];
 bool seated[INSTANCES + 1];
 
-/* An instance, as a run sees it: whether it is entered, so that signals to it reach its port; whether its start is made,
-   and whether it has stopped; how many of its continuous signals are true. */
+/* An instance: whether it is entered, so that signals to it reach its port; whether its start is made;
+   whether it has stopped; how many of its continuous signals are true. */
 bool entered[INSTANCES + 1];
 bool started[INSTANCES + 1];
 bool stopped[INSTANCES + 1];

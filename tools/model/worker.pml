@@ -148,10 +148,6 @@ asks:
         if
         :: hall_closed ->
             take_sleeper(other);
-#ifdef BUG_END_UNTOLD
-            /* Who ends takes the next one out and tells it nothing. */
-            other = NOBODY;
-#endif
             set_signs();
             if
             :: other == NOBODY -> goto gone
@@ -196,7 +192,9 @@ failed:
     signs_failed = true;
 ends:
     /* worker.rt: end */
+#ifndef BUG_END_UNTOLD
     close(other);
+#endif
     give_token(DIRECTOR);
     goto gone;
 
