@@ -109,8 +109,8 @@ look:
     /* It takes the run for one at rest while a worker is awake. */
     :: !hall_closed && !signs_closed && COUNT_OF(asleep) + 1 >= crew && empty(hall)
     :: !hall_closed && !signs_closed && (COUNT_OF(asleep) + 1 < crew || nempty(hall)) -> goto waits
-#elif defined(BUG_SEEKERS_REST)
-    /* It counts those that look for numbers as asleep. */
+#elif defined(SEEKERS_REST)
+    /* It may count those that look for numbers as asleep: they have none. */
     :: !hall_closed && !signs_closed && COUNT_OF(asleep) + seekers == crew && empty(hall)
     :: !hall_closed && !signs_closed && (COUNT_OF(asleep) + seekers != crew || nempty(hall)) -> goto waits
 #else

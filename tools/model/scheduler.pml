@@ -64,7 +64,7 @@
 #define PART 1
 #endif
 /* FEWER: each worker but the first may not start. LOOK: a job ends with a look at the port. SEEKERS: a worker looks for
-   numbers before it sleeps. */
+   numbers before it sleeps. SEEKERS_REST: the director takes it for asleep meanwhile. */
 
 #include "shared.pml"
 #include "waking.pml"
