@@ -18,6 +18,7 @@ CUT_NOTE = re.compile(
     rb"sdlrun: cut after \d+ transitions"
     rb"(; the clock never moved; --limit shows less| at time [1-9]\d*; --limit shows less, or more)\n"
 )
+EXPLANATION = re.compile(rb"[^\n:]+(:\d+:\d+)?: [^\n]+\n(?:[^\n]*\n)*")
 
 
 class Wrong(Exception):
@@ -52,8 +53,15 @@ class Trace:
 
 
 def is_note(status, said):
-    """Whether standard error says what it has to: what cut a run, and nothing else."""
-    return CUT_NOTE.fullmatch(said) is not None if status == 1 else not said
+    """Whether standard error says what it has to, and nothing else: what cut a run, or why a text is refused."""
+    wanted = {1: CUT_NOTE, 2: EXPLANATION}.get(status)
+    return wanted.fullmatch(said) is not None if wanted else not said
+
+
+def is_explained(told, said):
+    """Whether standard error explains the refusal of this line, at its place in standard input."""
+    place = re.match(r"(?:lex|parse|build) (\d+:\d+) ", told)
+    return said.startswith(f"<stdin>:{place[1]}: " if place else "<stdin>:")
 
 
 def read(text):

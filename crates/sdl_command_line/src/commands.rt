@@ -20,7 +20,7 @@ Examples:
 Exit status:
   0  whole: the text was checked, or the run came to its end
   1  the run was cut at its limit
-  2  the text is refused, by one line on standard output; --explain says more on standard error
+  2  the text is refused, by one line on standard output; standard error says more
   3  the run is refused, or a file can't be opened or written, or reading, writing or memory failed
   4  the command line has a mistake
   6  an instance failed, in a run with --strict
@@ -34,7 +34,7 @@ const CHECK_HELP: &str =
 
 Examples:
   echo 'SYSTEM s; SIGNAL a; endsystem;' | sdlrun check
-  sdlrun check --quiet --explain examples/counter.sdl";
+  sdlrun check --quiet examples/counter.sdl";
 
 /// The text after the help of `run`.
 const RUN_HELP: &str =
@@ -72,8 +72,11 @@ fn check<'a>(alloc: Global) -> Result<Command<'a>, AllocError> {
     check
         .arg(file(alloc))?
         .arg(script(alloc))?
-        .arg(explain(alloc))?
-        .arg(quiet(alloc))
+        .arg(quiet(
+            alloc,
+            "Writes nothing of an accepted text, and of another one its line alone; the exit status tells",
+        ))?
+        .arg(explain(alloc))
 }
 
 /// The command that runs a text, as it tells of its mistakes itself.
@@ -100,6 +103,10 @@ fn run<'a>(alloc: Global) -> Result<Command<'a>, AllocError> {
         .arg(time(alloc, "until", "Draws nothing after time T")?)?
         .arg(coverage(alloc))?
         .arg(strict(alloc))?
+        .arg(quiet(
+            alloc,
+            "Explains no refusal of the text: its line on standard output says it alone",
+        ))?
         .arg(explain(alloc))
 }
 
@@ -202,11 +209,12 @@ fn coverage<'a>(alloc: Global) -> Arg<'a> {
         .action(ArgAction::Set)
 }
 
-/// Whether nothing is written of a text that is accepted.
-fn quiet<'a>(alloc: Global) -> Arg<'a> {
+/// Whether no refusal is explained, and nothing is written of a text that a check accepts.
+fn quiet<'a>(alloc: Global, help: &'a str) -> Arg<'a> {
     Arg::new(alloc, "quiet")
+        .short('q')
         .long("quiet")
-        .help("Writes nothing if the text is accepted; the exit status tells")
+        .help(help)
         .action(ArgAction::SetTrue)
 }
 
@@ -218,12 +226,10 @@ fn strict<'a>(alloc: Global) -> Arg<'a> {
         .action(ArgAction::SetTrue)
 }
 
-/// Whether a refusal is explained.
+/// Whether a refusal is explained after all: one that is not quiet is.
 fn explain<'a>(alloc: Global) -> Arg<'a> {
     Arg::new(alloc, "explain")
         .long("explain")
-        .help(
-            "Explains a refusal of the text on standard error: its line, its place and what to do",
-        )
+        .help("Explains a refusal of the text on standard error, with --quiet, too")
         .action(ArgAction::SetTrue)
 }

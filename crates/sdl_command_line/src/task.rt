@@ -153,7 +153,7 @@ fn workers_of(run: &ArgMatches<'_>) -> Option<u8> {
     u8::try_from(workers).ok()
 }
 
-/// What a command is to do with the files that are named with it, and whether it explains a refusal.
+/// What a command is to do with the files that are named with it. It explains a refusal, unless it is to be quiet.
 fn task_of(alloc: Global, options: Options, named: &ArgMatches<'_>) -> Result<Task, AllocError> {
     let text = match named.get_str("file") {
         Some(name) => input_file(alloc, name)?,
@@ -165,7 +165,7 @@ fn task_of(alloc: Global, options: Options, named: &ArgMatches<'_>) -> Result<Ta
     };
     Ok(Task {
         options,
-        explain: named.get_flag("explain"),
+        explain: named.get_flag("explain") || !named.get_flag("quiet"),
         quiet: false,
         strict: false,
         text,

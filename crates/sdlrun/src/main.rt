@@ -10,6 +10,7 @@ mod answer;
 mod covered;
 mod drawn;
 mod failure;
+mod message;
 mod opened;
 mod paper;
 mod reading;

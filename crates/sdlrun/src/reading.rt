@@ -4,13 +4,14 @@ use crate::answer::Answer;
 use crate::covered::cover_file;
 use crate::drawn::draw_file;
 use crate::failure::Failure;
+use crate::message::Message;
 use crate::opened::{Opened, open_source};
 use sdl_command_line::{InputFile, Task};
 use sdl_engine::{
     Names, Notes, Options, Outcome, Source, TextFault, View, run_and_note, run_and_note_serially,
 };
 use sdl_views::ToldRun;
-use std::io::{Stderr, Write};
+use std::io::Write;
 use std::sync::Wait;
 use std::thread::Threads;
 
@@ -48,9 +49,9 @@ pub fn tell<T: Threads + Wait + Copy + Send + Sync>(
 }
 
 /// What standard error is to have of it.
-fn notes_of<'t>(rt: &HostRuntime, task: &'t Task) -> Notes<'t, Stderr> {
+fn notes_of<'t>(rt: &HostRuntime, task: &'t Task) -> Notes<'t, Message> {
     Notes {
-        writer: rt.stderr(),
+        writer: Message::new(rt),
         names: names_of(task),
         explains: task.explain,
         strict: task.strict,
@@ -69,7 +70,7 @@ fn tell_text<T: Threads + Wait + Copy + Send + Sync>(
     task: &Task,
     source: &mut Source<Opened, Opened>,
     answer: &mut Answer,
-    notes: &mut Notes<'_, Stderr>,
+    notes: &mut Notes<'_, Message>,
 ) -> Result<Outcome, TextFault> {
     if task.quiet {
         return tell_refusal(rt, threads, source, answer, notes, &task.options);
@@ -82,7 +83,7 @@ fn tell_text<T: Threads + Wait + Copy + Send + Sync>(
 fn draw_run(
     rt: &HostRuntime,
     task: &Task,
-    notes: &Notes<'_, Stderr>,
+    notes: &Notes<'_, Message>,
 ) -> Result<Option<u32>, Failure> {
     let (Some(chart), Some(run)) = (&task.chart, &notes.run) else {
         return Ok(None);
@@ -97,7 +98,7 @@ fn draw_run(
 }
 
 /// Tells what the run covered that is kept, if there is one.
-fn cover_run(rt: &HostRuntime, task: &Task, notes: &Notes<'_, Stderr>) -> Result<(), Failure> {
+fn cover_run(rt: &HostRuntime, task: &Task, notes: &Notes<'_, Message>) -> Result<(), Failure> {
     let (Some(coverage), Some(run), Some(texts)) = (&task.coverage, &notes.run, &notes.texts) else {
         return Ok(());
     };
@@ -116,7 +117,7 @@ fn tell_refusal<T: Threads + Wait + Copy + Send + Sync>(
     threads: &T,
     source: &mut Source<Opened, Opened>,
     answer: &mut Answer,
-    notes: &mut Notes<'_, Stderr>,
+    notes: &mut Notes<'_, Message>,
     options: &Options,
 ) -> Result<Outcome, TextFault> {
     let mut held = Vec::new(rt.alloc());
@@ -136,7 +137,7 @@ fn tell_to<T: Threads + Wait + Copy + Send + Sync, W: Write>(
     threads: &T,
     source: &mut Source<Opened, Opened>,
     writer: &mut W,
-    notes: &mut Notes<'_, Stderr>,
+    notes: &mut Notes<'_, Message>,
     options: &Options,
 ) -> Result<Outcome, TextFault> {
     if options.is_serial() {

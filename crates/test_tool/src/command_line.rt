@@ -278,14 +278,17 @@ fn refuses_coverage_that_cannot_be(rt: HostRuntime) {
 }
 
 /// Command lines, and whether a refusal is explained.
-static EXPLAINED: [(&str, bool); 3] = [
-    ("sdlrun check", false),
-    ("sdlrun check --explain", true),
-    ("sdlrun run --explain a", true),
+static EXPLAINED: [(&str, bool); 6] = [
+    ("sdlrun check", true),
+    ("sdlrun check -q", false),
+    ("sdlrun check --quiet --explain", true),
+    ("sdlrun run a", true),
+    ("sdlrun run -q a", false),
+    ("sdlrun run --quiet a", false),
 ];
 
 #[test]
-fn explains_where_asked(rt: HostRuntime) {
+fn explains_unless_quiet(rt: HostRuntime) {
     for (line, explain) in &EXPLAINED {
         let told = told(&rt, rt.alloc(), line);
         assert!(rt; is_explained(&told) == *explain, "{line}");
