@@ -64,7 +64,10 @@ static LINES: [(&str, Option<Asked<'static>>); 31] = [
         "sdlrun check --quiet --script - a",
         Some((Command::Check, None, 1_000_000, Some("a"), Some("-"))),
     ),
-    ("sdlrun run --quiet a", None),
+    (
+        "sdlrun run --quiet a",
+        Some((Command::Run, None, 1_000_000, Some("a"), None)),
+    ),
     ("sdlrun check --strict a", None),
     ("sdlrun run --workers 0", None),
     ("sdlrun run --workers 17", None),
