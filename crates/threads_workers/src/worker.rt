@@ -120,6 +120,11 @@ fn exchange<J: Run, R: Wait + Copy>(
     own: &mut Own<J>,
 ) -> Result<(), AllocError> {
     own.jobs = 0;
+    // This worker isn't noted as asleep: `jobs` is 0 after it has asked the hall, and it has made jobs since, with numbers
+    // that the hall gave it awake. So a worker whose parker let it go by itself asks the hall before it looks here. If it
+    // looked here first, it would have numbers while all of the crew are noted as asleep and the queue is empty: the run
+    // would be at rest, and the director would move the clock during a job.
+    //
     // Before: the numbers of this worker's queue are its own, and those in the hall's are nobody's. After: the same, of
     // others: each number is in one of the two still. Nobody falls asleep by this, and nobody is woken. No wake-up is lost:
     // if somebody sleeps while numbers wait, one that was unparked is on the way to the hall, and what it finds there is no
