@@ -4,11 +4,12 @@ use Rattle.port_values.specs.declared.item.SignalId.{SignalId}
 use Rattle.port_values.specs.declared.timer_key.TimerKey.{TimerKey}
 use Rattle.port_values.specs.declared.value.Value.{Value}
 use Rattle.port_values.specs.declared.value.Value.TheVariants as value
-use Rattle.sdl_system.specs.Term.{Operand, Term, active, chain_step, expression_step, link_step, term_of, terms_of}
+use Rattle.sdl_system.specs.Term.{Operand, Term, active, chain_step, expression_step, link_step, term_of, terms_of, variable}
 use Rattle.sdl_system.specs.declared.expression.Expression.{Expression}
 use Rattle.sdl_system.specs.declared.expression.Expression.TheFolds.{fold-roll-Expression}
 use Rattle.sdl_system.specs.declared.expression.Expression.TheOpen.{Expression-F}
-use Rattle.sdl_system.specs.declared.expression.Expression.TheVariants.{Active, rolls-Active}
+use Rattle.sdl_system.specs.declared.expression.Expression.TheVariants.{Active, Variable, rolls-Active, rolls-Variable}
+use Rattle.sdl_system.specs.declared.id.VariableId.{VariableId}
 use Rattle.sdl_system.specs.declared.sort.Sort.{Sort}
 use Rattle.run_record.specs.declared.failure.Failure.{Failure}
 use Rattle.run_evaluation.specs.Environment.{Environment}
@@ -23,6 +24,13 @@ preceded values (Ok rest) = Ok (values ++ rest)
 -- what the expressions from a place on come to
 abbrev pub left_of : Environment → List Sort → List Expression → ℕ → Result (List Value) Failure
 left_of here sorts expressions i = values_of here (drop i sorts) (terms_of (map term_of (drop i expressions)))
+
+-- the term of a variable
+pub variable_is : (expression : Expression) (number : VariableId) → expression ≡ Variable number →
+    term_of expression ≡ variable number
+variable_is expression number is =
+    ap term_of (is ∙ sym (rolls-Variable number))
+    ∙ fold-roll-Expression Term Term Operand expression_step chain_step link_step (Expression-F.Variable number)
 
 -- the term of an expression that asks for a timer
 active_is : (expression : Expression) (timer : SignalId) (values : Vec Expression Global) (list : List Expression) →

@@ -1,18 +1,23 @@
 //! The evaluation of expressions (Z.104: expressions).
 
 ghost use Rattle.std.specs.Prelude.{◌≡◌, Ok, IfErr, IfOk, IfSome, map, true};
+ghost use Rattle.port_values.specs.declared.value.Value.TheVariants.{Int};
+ghost use Rattle.sdl_system.specs.Operation.{applied, compared};
 ghost use Rattle.sdl_system.specs.Term.{operand_of, term_of, term_of_chain};
 ghost use Rattle.run_evaluation.specs.Knowledge.{environment_of};
 ghost use Rattle.run_evaluation.specs.Memory.{FailsAs, list_wants_memory, wants_memory};
 ghost use Rattle.run_evaluation.specs.Variables.{value_in};
-ghost use Rattle.run_evaluation.specs.Value.{accessed, at_place, key_at, operated, placed, time_value, truth_at, value_of, values_at};
+ghost use Rattle.run_evaluation.specs.Value.{accessed, at_place, given, key_at, operated, placed, time_value, truth_at, value_of, values_at};
 
 use crate::knowledge::Knowledge;
 use crate::store::Store;
 use port_inbox::Inbox;
 use port_values::{SignalId, Ticks, TimerKey, Value, Values};
 use run_record::Failure;
-use sdl_system::{Chain, Expression, Link, Sort, VariableId, in_sort, truth_of};
+use sdl_system::{
+    Arithmetic, Chain, Comparison, Expression, Link, NumberSort, Operation, Sort, VariableId,
+    in_sort, truth_of,
+};
 use std::alloc::Global;
 
 /// Evaluates an expression for an instance of the system. Errors: `Overflow` for a number or a time past 64 bits,
@@ -84,9 +89,61 @@ fn evaluate_chain<P: Inbox>(
         let term = term_of_chain chain.now in
         IfErr result (λ why. FailsAs (wants_memory term) (value_of here term) why) }
 {
+    if let Some(value) = evaluate_integers(chain, knowledge) {
+        return Ok(value);
+    }
     match evaluate_pair(chain, knowledge) {
         Some(answer) => answer,
         None => evaluate_links(alloc, chain, knowledge),
+    }
+}
+
+/// Evaluates a sum, a difference or a comparison of two integers that are known, as most chains are. None: it is another
+/// chain, or the number is past 64 bits.
+#[inline(always)]
+fn evaluate_integers<P: Inbox>(chain: &Chain, knowledge: &Knowledge<'_, P>) -> Option<Value>
+    ensures { IfSome result (λ value. value_of (environment_of knowledge.now) (term_of_chain chain.now) ≡ Ok value) }
+{
+    if chain.rest.len() != 1 {
+        return None;
+    }
+    let link = &chain.rest[0];
+    let left = knowledge.integer(&chain.first)?;
+    let right = knowledge.integer(&link.operand)?;
+    of_integers(link.operation, left, right)
+}
+
+/// What an operation gives of two integers. None: it is no sum, difference or comparison, or the number is past 64 bits.
+#[inline(always)]
+fn of_integers(operation: Operation, left: i64, right: i64) -> Option<Value>
+    ensures { IfSome result (λ value. given (applied operation (Int left) (Int right)) ≡ Ok value) }
+{
+    match operation {
+        Operation::Arithmetic(Arithmetic::Plus, NumberSort::Integer) => {
+            Some(Value::Int(left.checked_add(right)?))
+        }
+        Operation::Arithmetic(Arithmetic::Minus, NumberSort::Integer) => {
+            Some(Value::Int(left.checked_sub(right)?))
+        }
+        Operation::Comparison(comparison) => {
+            Some(Value::Bool(compare_integers(comparison, left, right)))
+        }
+        _ => None,
+    }
+}
+
+/// Whether two integers stand so to one another.
+#[inline(always)]
+fn compare_integers(comparison: Comparison, left: i64, right: i64) -> bool
+    ensures { result ≡ compared comparison (Int left) (Int right) }
+{
+    match comparison {
+        Comparison::Equal => left == right,
+        Comparison::NotEqual => left != right,
+        Comparison::Less => left < right,
+        Comparison::LessOrEqual => left <= right,
+        Comparison::Greater => left > right,
+        Comparison::GreaterOrEqual => left >= right,
     }
 }
 

@@ -2,10 +2,11 @@
 
 ghost use Rattle.std.specs.Prelude.{◌≡◌, IfSome, Ok, true};
 ghost use Rattle.port_model.specs.Timers.{is_active};
+ghost use Rattle.port_values.specs.declared.value.Value.TheVariants.{Int};
 ghost use Rattle.run_evaluation.specs.Environment.{sorts_of};
 ghost use Rattle.run_evaluation.specs.Knowledge.{environment_of};
 ghost use Rattle.run_evaluation.specs.Value.{pid_in, value_of};
-ghost use Rattle.run_evaluation.specs.Variables.{known_in};
+ghost use Rattle.run_evaluation.specs.Variables.{integer_in, known_in};
 ghost use Rattle.sdl_system.specs.Term.{term_of};
 
 use crate::identity::Identity;
@@ -77,6 +78,17 @@ impl<'a, P: Inbox> Knowledge<'a, P> {
         self.store.known(expression)
     }
 
+    /// The number of an expression that is an integer literal, or a variable with an integer. None: it is another
+    /// expression or has another value, or it is a variable that was never assigned or isn't there.
+    #[inline(always)]
+    pub fn integer(&self, expression: &Expression) -> Option<i64>
+        ensures integer { result ≡ integer_in self.now.store.variables expression.now }
+        ensures value { IfSome result
+            (λ number. value_of (environment_of self.now) (term_of expression.now) ≡ Ok (Int number)) }
+    {
+        self.store.integer(expression)
+    }
+
     /// The system that is run.
     pub fn system(&self) -> &System
         ensures { result.now ≡ self.now.system }
@@ -92,7 +104,8 @@ impl<'a, P: Inbox> Knowledge<'a, P> {
         self.store
     }
 
-    /// The sorts of the values that a signal or a timer takes, in their order. None where the system has no such signal.
+    /// The sorts of the values that a signal or a timer takes, in their order. None where the system has no such
+    /// signal.
     pub fn sorts_of(&self, signal: SignalId) -> &[Sort]
         ensures { result.now ≡ sorts_of self.now.system signal }
     {

@@ -2,14 +2,15 @@
 
 ghost use Rattle.std.specs.Prelude.{◌≡◌, IfSome, Ok};
 ghost use Rattle.port_model.specs.Port.{PortState};
+ghost use Rattle.port_values.specs.declared.value.Value.TheVariants.{Int};
 ghost use Rattle.run_evaluation.specs.Environment.{environment, initial_store};
 ghost use Rattle.run_evaluation.specs.Value.{value_of};
-ghost use Rattle.run_evaluation.specs.Variables.{known_in};
+ghost use Rattle.run_evaluation.specs.Variables.{integer_in, known_in};
 ghost use Rattle.run_evaluation.specs.declared.identity.Identity as identity;
 ghost use Rattle.sdl_system.specs.System.{SystemValue};
 ghost use Rattle.sdl_system.specs.Term.{term_of};
 
-use crate::variables::Variables;
+use crate::variables::{Variables, integer_of};
 use port_values::{Pid, Ticks, Value};
 use sdl_system::Expression;
 
@@ -40,6 +41,23 @@ impl Store {
             done: 0,
         }
     }
+
+    /// The number of an expression that is an integer literal, or a variable with an integer. None: it is another
+    /// expression or has another value, or it is a variable that was never assigned or isn't there.
+    #[inline(always)]
+    pub fn integer(&self, expression: &Expression) -> Option<i64>
+        ensures integer { result ≡ integer_in self.now.variables expression.now }
+        ensures value { (system : SystemValue) (who : identity.Identity) (port : PortState)
+            → IfSome result
+            (λ number. value_of (environment system who self.now port) (term_of expression.now) ≡ Ok (Int number)) }
+    {
+        match expression {
+            Expression::Variable(variable) => self.variables.integer(*variable),
+            Expression::Value(value) => integer_of(*value),
+            _ => None,
+        }
+    }
+
     /// The value of an expression that is a literal, or a variable with a value; most operands are. None: it is another
     /// expression, or a variable that was never assigned or isn't there.
     #[inline(always)]

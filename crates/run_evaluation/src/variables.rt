@@ -1,7 +1,7 @@
 //! The variables of an instance.
 
-ghost use Rattle.std.specs.Prelude.{◌≡◌, ◌↔◌, [], IsTrue, Some, length, slice_set};
-ghost use Rattle.run_evaluation.specs.Variables.{value_in};
+ghost use Rattle.std.specs.Prelude.{◌≡◌, ◌↔◌, [], IsTrue, Some, length, option_and_then, slice_set};
+ghost use Rattle.run_evaluation.specs.Variables.{integer_of, value_in};
 
 use port_values::Value;
 use sdl_system::VariableId;
@@ -30,10 +30,22 @@ impl Variables {
     }
 
     /// The value of a variable. None where it was never assigned, or isn't there.
+    #[inline(always)]
     pub fn get(&self, variable: VariableId) -> Option<Value>
         ensures { result ≡ value_in self.now variable }
     {
         self.list.get(variable.0 as usize).copied().unwrap_or(None)
+    }
+
+    /// The number of a variable that is an Integer. None where it is another value, was never assigned, or isn't there.
+    #[inline(always)]
+    pub fn integer(&self, variable: VariableId) -> Option<i64>
+        ensures { result ≡ option_and_then integer_of (value_in self.now variable) }
+    {
+        match self.get(variable) {
+            Some(value) => integer_of(value),
+            None => None,
+        }
     }
 
     /// Assigns a variable. Where it isn't there nothing changes.
@@ -57,5 +69,16 @@ impl Variables {
         ensures { IsTrue result ↔ (self.now ≡ []) }
     {
         self.list.is_empty()
+    }
+}
+
+/// The number of a value that is an Integer.
+#[inline(always)]
+pub fn integer_of(value: Value) -> Option<i64>
+    ensures { result ≡ integer_of value }
+{
+    match value {
+        Value::Int(number) => Some(number),
+        _ => None,
     }
 }

@@ -22,17 +22,17 @@ evaluate_any-returns-in_ok-key-in-Active-clause-ok g t c =
     c.in_ok-key-in-Active.key c.active.result c.in-Active.is c.deref.ensures.value
     c.in_ok-key-in-Active.ensures.ok c.active.ensures
 
-pub evaluate_chain-returns-in-Some-clause-ok : goal.evaluate_chain-returns-in-Some-clause-ok
-evaluate_chain-returns-in-Some-clause-ok g t c =
+pub evaluate_chain-returns-in-Some-evaluate_pair-clause-ok : goal.evaluate_chain-returns-in-Some-evaluate_pair-clause-ok
+evaluate_chain-returns-in-Some-evaluate_pair-clause-ok g t c =
     let here = environment_of c.args.knowledge.now in
-    answers_value (value_of here (term_of_chain c.args.chain.now)) c.in-Some.answer
-    c.in-Some.ensures
+    answers_value (value_of here (term_of_chain c.args.chain.now)) c.in-Some-evaluate_pair.answer
+    c.in-Some-evaluate_pair.ensures
 
-pub evaluate_chain-returns-in-Some-clause-err : goal.evaluate_chain-returns-in-Some-clause-err
-evaluate_chain-returns-in-Some-clause-err g t c =
+pub evaluate_chain-returns-in-Some-evaluate_pair-clause-err : goal.evaluate_chain-returns-in-Some-evaluate_pair-clause-err
+evaluate_chain-returns-in-Some-evaluate_pair-clause-err g t c =
     let here = environment_of c.args.knowledge.now in
     answers_failure (wants_memory (term_of_chain c.args.chain.now)) (value_of here (term_of_chain c.args.chain.now))
-    c.in-Some.answer c.in-Some.ensures
+    c.in-Some-evaluate_pair.answer c.in-Some-evaluate_pair.ensures
 
 pub evaluate_links-returns-in_err-value-clause-err : goal.evaluate_links-returns-in_err-value-clause-err
 evaluate_links-returns-in_err-value-clause-err g t c =
