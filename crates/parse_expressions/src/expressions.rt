@@ -4,7 +4,7 @@ ghost use Rattle.std.specs.Prelude.{◌≡◌, ◌-◌, ◌≤◌, map, option_m
 ghost use Rattle.sdl_tree.specs.Spells.Expressions as grammar;
 ghost use Rattle.sdl_tree.specs.Views.{expr_value, link_value, name_value};
 ghost use Rattle.parse_expressions.specs.Expressions as spec;
-ghost use Rattle.parse_cursor.specs.Reading.{in_parentheses};
+ghost use Rattle.parse_cursor.specs.Reading.{in_parentheses, mark_at};
 ghost use Rattle.parse_cursor.specs.Reads.{Reads};
 
 use crate::place::{At, LOOSEST};
@@ -52,9 +52,10 @@ pub fn expression(
     level(alloc, cursor, At { depth, loose })
 }
 
-/// An expression whose operators have at most the looseness of the place.
+/// An expression whose operators have at most the looseness of the place. Operators of less looseness are read first:
+/// what they make is the first operand of the looser ones.
 #[cycle(nesting)]
-#[tactic(auto, using(crate::proofs::LevelLemmas::level_zero, crate::proofs::LevelLemmas::level_one, crate::proofs::LevelLemmas::level_up))]
+#[tactic(auto, using(crate::proofs::LevelLemmas::climbing))]
 pub fn level(alloc: Global, cursor: &mut Cursor<'_, '_>, at: At) -> Result<Expression, Fault>
     requires shallow { at.depth ≤ 64 }
     requires loosest { at.loose ≤ 7 }
@@ -64,13 +65,18 @@ pub fn level(alloc: Global, cursor: &mut Cursor<'_, '_>, at: At) -> Result<Expre
     if at.loose == 0 {
         return primary(alloc, cursor, depth);
     }
-    if at.loose == 1 {
-        return signed(alloc, cursor, depth);
+    let mut read = signed(alloc, cursor, depth)?;
+    for loose in 2..at.loose + 1 {
+        let Some(operator) = next_operator(cursor) else {
+            return Ok(read);
+        };
+        if looseness(operator) != loose {
+            continue;
+        }
+        let rest = repeated(alloc, cursor, At { depth, loose }, link)?;
+        read = chain(alloc, read, rest)?;
     }
-    let loose = at.loose - 1;
-    let first = level(alloc, cursor, At { depth, loose })?;
-    let rest = repeated(alloc, cursor, at, link)?;
-    Ok(chain(alloc, first, rest)?)
+    Ok(read)
 }
 
 /// An operator of the place's looseness and the operand behind it, if such an operator stands next.
@@ -289,13 +295,20 @@ pub fn arguments(
 pub fn operator_at(cursor: &Cursor<'_, '_>, loose: usize) -> Option<Operator>
     ensures { result ≡ spec.operator_at loose cursor.now }
 {
-    let mark = cursor.mark()?;
-    let operator = operator_of(mark)?;
+    let operator = next_operator(cursor)?;
     if looseness(operator) == loose {
         Some(operator)
     } else {
         None
     }
+}
+
+/// The operator between two operands that stands next, if one does.
+fn next_operator(cursor: &Cursor<'_, '_>) -> Option<Operator>
+    ensures { result ≡ spec.by_mark spec.operator_of (mark_at cursor.now) }
+{
+    let mark = cursor.mark()?;
+    operator_of(mark)
 }
 
 /// The operator before an operand that stands next, if one does.

@@ -1,5 +1,12 @@
-use Rattle.std.proofs.Common.{◌+◌, ◌*◌}
+use Rattle.std.proofs.Common.{◌≡◌, ◌+◌, ◌-◌, ◌*◌}
+use Rattle.parse_expressions.proofs.Grammar.{expr_value, level, readers}
+use Rattle.parse_expressions.proofs.LevelLemmas.{climb}
 use Rattle.parse_expressions.proofs.expressions.+nesting.Given as goal
+
+abbrev pub invariant-level-loop-loose : goal.invariant-level-loop-loose
+invariant-level-loop-loose l =
+    level (readers l.fn.at.depth) l.fn.at.loose l.fn.cursor
+    ≡ climb (readers l.fn.at.depth) (l.loose - 1) (l.loose-end - l.loose) (expr_value l.read) l.cursor
 
 abbrev pub decreases-level : goal.decreases-level
 decreases-level l = 32 * l.at.depth + (2 * l.at.loose + 8)
