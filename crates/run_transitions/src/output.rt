@@ -101,9 +101,11 @@ impl<'s, P: Inbox + Drop> Core<'s, P> {
         ensures same { OnErr result (self.new ≡ self.old) }
         ensures quiet { OnErr result (W.value world.new ≡ W.value world.old) }
     {
-        let told = [value];
-        let values = Values::from_slice(alloc, &told).map_err(|_| Failure::Memory)?;
-        self.deliver(signal, named, values, &told, world)
+        let mut values = Values::none(alloc);
+        if let Err(_) = values.push(value) {
+            return Err(Failure::Memory);
+        }
+        self.deliver(signal, named, values, &[value], world)
     }
 
     /// Sends a signal with its values, and answers whom it reaches. What was sent is recorded.
@@ -192,6 +194,9 @@ fn named_by<P: Inbox>(
         None => Ok(Dest::Path),
         Some(Destination::Process(process)) => Ok(Dest::Process(*process)),
         Some(Destination::Pid(expression)) => {
+            if let Some(Value::Pid(pid)) = knowledge.known(expression) {
+                return Ok(Dest::Pid(pid));
+            }
             let value = evaluate_at(alloc, expression, Some(Sort::Pid), knowledge)?;
             Ok(Dest::Pid(pid_of(value)))
         }

@@ -2,6 +2,7 @@
 
 ghost use Rattle.std.specs.Prelude.{◌≡◌, IfSome, Ok, Some};
 ghost use Rattle.port_model.specs.Port.{PortState};
+ghost use Rattle.port_values.specs.declared.value.Value.TheVariants.{Int};
 ghost use Rattle.run_evaluation.specs.Environment.{environment};
 ghost use Rattle.run_evaluation.specs.Value.{at_place, given, value_of};
 ghost use Rattle.run_evaluation.specs.declared.identity.Identity as identity;
@@ -50,23 +51,17 @@ fn sum_in(chain: &Chain, store: &Store) -> Option<Value>
         return None;
     }
     let link = &chain.rest[0];
-    let left = store.known(&chain.first)?;
-    let right = store.known(&link.operand)?;
+    let left = store.integer(&chain.first)?;
+    let right = store.integer(&link.operand)?;
     sum(link.operation, left, right)
 }
 
-/// The sum or the difference of two integers. None: it is another operation, they are other values, or the number is
-/// past 64 bits.
+/// The sum or the difference of two integers. None: it is another operation, or the number is past 64 bits.
 #[inline(always)]
-fn sum(operation: Operation, left: Value, right: Value) -> Option<Value>
-    ensures { IfSome result (λ value. at_place (Some Integer) (given (applied operation left right)) ≡ Ok value) }
+fn sum(operation: Operation, left: i64, right: i64) -> Option<Value>
+    ensures { let meant = given (applied operation (Int left) (Int right)) in
+        IfSome result (λ value. at_place (Some Integer) meant ≡ Ok value) }
 {
-    let Value::Int(left) = left else {
-        return None;
-    };
-    let Value::Int(right) = right else {
-        return None;
-    };
     let number = match operation {
         Operation::Arithmetic(Arithmetic::Plus, NumberSort::Integer) => left.checked_add(right)?,
         Operation::Arithmetic(Arithmetic::Minus, NumberSort::Integer) => left.checked_sub(right)?,
