@@ -17,9 +17,8 @@ use sdl_interp::Instance;
 use sdl_script::ScriptLine;
 use sdl_system::{Process, ProcessId, Source, Target};
 use serial_sweeps::Agenda;
-use serial_world::{Effect, EffectParts, Effects};
+use serial_world::{Effect, Effects};
 use std::alloc::{AllocError, Global};
-use std::collections::VecDeque;
 
 impl<'s> Instances<'s> {
     /// Does what a step does outside, in its order.
@@ -28,36 +27,7 @@ impl<'s> Instances<'s> {
         &mut self,
         alloc: Global,
         agenda: &mut Agenda,
-        effects: Effects<'_>,
-    ) -> Result<(), AllocError>
-        requires { IsSerial agenda.old.ready self.old }
-        ensures kept { OnOk result (IsSerial agenda.new.ready self.new) }
-        ensures system { self.new.system ≡ self.old.system }
-        ensures clock { agenda.new.clock ≡ agenda.old.clock }
-        ensures state { (m : Moment) → OnOk result (AreNumbered self.old.living.given (map effect_of effects.entry.items)
-            → state_of (at_agenda m agenda.new) self.new
-            ≡ after_effects (state_of (at_agenda m agenda.old) self.old) (map effect_of effects.entry.items)) }
-        ensures fuses { (until : ℕ) → until ≤ agenda.old.clock + 1 → IsNoFuseBefore until agenda.old.fuses
-            → OnOk result (IsNoFuseBefore until agenda.new.fuses) }
-    {
-        let EffectParts { first, rest } = effects.into_parts();
-        let Some(first) = first else {
-            return Ok(());
-        };
-        self.perform(alloc, agenda, first)?;
-        if rest.is_empty() {
-            return Ok(());
-        }
-        self.perform_rest(alloc, agenda, rest)
-    }
-
-    /// Does what comes behind the first act.
-    #[inline(never)]
-    fn perform_rest(
-        &mut self,
-        alloc: Global,
-        agenda: &mut Agenda,
-        effects: &mut VecDeque<Effect>,
+        effects: &mut Effects,
     ) -> Result<(), AllocError>
         requires { IsSerial agenda.old.ready self.old }
         ensures kept { OnOk result (IsSerial agenda.new.ready self.new) }

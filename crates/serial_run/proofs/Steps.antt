@@ -317,7 +317,7 @@ ended_rests i ended = λ d is_run. subst (λ (position : Position). IsQuietAt d 
 -- what the instance sees is the whole, as it is now
 pub world_is : {ready : List ℕ} (m : Moment) (s : Instances) (w : SerialWorld) → IsSerial ready s
     → w.system.now ≡ s.system.now → w.clock ≡ m.clock → w.begun.now ≡ s.living → w.changed ≡ None
-    → w.effects.items ≡ [] → world_of w ≡ world_at (state_of m s)
+    → w.effects.now.items ≡ [] → world_of w ≡ world_at (state_of m s)
 world_is m s w serial system clock begun changed performed =
     let living = begun ∙ serial.living in
     λ i. record {

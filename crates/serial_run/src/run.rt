@@ -12,8 +12,8 @@ use sdl_script::Script;
 use sdl_system::System;
 use serial_instances::Instances;
 use serial_sweeps::{Agenda, InstanceSet, Scheduler};
+use serial_world::Effects;
 use std::alloc::Global;
-use std::collections::VecDeque;
 
 /// Runs a system serially on a script, until all instances rest, the script is at its end and no timer is due by then,
 /// or until `limit` transitions are made. Refused for lack of memory alone.
@@ -31,7 +31,7 @@ pub fn run_serial(
     let instances = Instances::begin(alloc, &mut agenda, system)?;
     let mut stepping = Stepping {
         instances,
-        spare: VecDeque::new(alloc),
+        effects: Effects::new(alloc),
     };
     let mut sweeps = Scheduler::new(agenda, script.lines.as_slice(), stepping.given(), limit);
     let last = script.end();

@@ -10,18 +10,16 @@ use run_transitions::Position;
 use sdl_interp::Stepped;
 use serial_instances::Instances;
 use serial_sweeps::{Agenda, Made};
-use serial_world::{Effect, Effects, SerialWorld};
+use serial_world::{Effects, SerialWorld};
 use std::alloc::{AllocError, Global};
-use std::collections::VecDeque;
 
-/// One step of the instance with this number, and all that it does outside. Its acts behind the first lie in `spare`
-/// meanwhile.
+/// One step of the instance with this number, and all that it does outside. Its acts lie in `effects` meanwhile.
 pub fn step(
     instances: &mut Instances<'_>,
     alloc: Global,
     agenda: &mut Agenda,
     number: u32,
-    spare: &mut VecDeque<Effect>,
+    effects: &mut Effects,
 ) -> Result<Made, AllocError>
     requires fits { IsSerial agenda.old.ready instances.old }
     requires ready { Contains agenda.old.ready number }
@@ -43,7 +41,7 @@ pub fn step(
         return Ok(Made::Nothing);
     }
     instances.instances[place].draws_nothing();
-    let effects = Effects::over(spare);
+    effects.clear();
     let mut world = SerialWorld::new(instances.system, agenda.clock, &instances.living, effects);
     let stepped = instances.instances[place].step(alloc, &mut world);
     instances.instances[place].draws_nothing();

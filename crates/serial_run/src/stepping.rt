@@ -5,15 +5,14 @@ use port_inbox::Fuse;
 use sdl_script::ScriptLine;
 use serial_instances::Instances;
 use serial_sweeps::{Agenda, InstanceSet, Made};
-use serial_world::Effect;
+use serial_world::Effects;
 use std::alloc::{AllocError, Global};
-use std::collections::VecDeque;
 
-/// The instances of a run, with memory for the acts of a step.
+/// The instances of a run, and the acts of a step.
 #[derive(Drop)]
 pub struct Stepping<'s> {
     pub instances: Instances<'s>,
-    pub spare: VecDeque<Effect>,
+    pub effects: Effects,
 }
 
 impl<'s> InstanceSet for Stepping<'s> {
@@ -45,7 +44,7 @@ impl<'s> InstanceSet for Stepping<'s> {
         agenda: &mut Agenda,
         number: u32,
     ) -> Result<Made, AllocError> {
-        step(&mut self.instances, alloc, agenda, number, &mut self.spare)
+        step(&mut self.instances, alloc, agenda, number, &mut self.effects)
     }
 
     fn expire(&mut self, agenda: &mut Agenda, fuse: Fuse) -> Result<(), AllocError> {

@@ -22,7 +22,7 @@ world_of w = record {
   system = w.system.now;
   clock = Some w.clock;
   living = Some (living_now w.changed w.begun.now);
-  effects = Some (map effect_of w.effects.items);
+  effects = Some (map effect_of w.effects.now.items);
   sent = None;
 }
 

@@ -1,28 +1,21 @@
 //! The acts of a step, in their order.
 
-ghost use Rattle.std.specs.Prelude.{◌≡◌, ◌∷◌, ◌++◌, [], IfNone, IfSome, IsOk, OnErr, OnOk, true};
+ghost use Rattle.std.specs.Prelude.{◌≡◌, ◌∷◌, ◌++◌, [], IfNone, IsOk, OnErr, OnOk, option_to_list, true};
 
 use crate::effect::Effect;
-use std::alloc::AllocError;
+use std::alloc::{AllocError, Global};
 use std::collections::VecDeque;
 use std::marker::Model;
 
 /// The acts of a step so far, in their order. The first of them takes no memory, and most steps have no other; those
-/// behind it go into a list of the run, which so keeps its memory from one step to the next.
+/// behind it go into a list. They are cleared before the next step, so the list keeps its memory.
 #[derive(Drop)]
-pub struct Effects<'a> {
+pub struct Effects {
     first: Option<Effect>,
-    rest: &'a mut VecDeque<Effect>,
+    rest: VecDeque<Effect>,
 }
 
-/// Effects: the first, if there is one, and those behind it.
-#[derive(Drop)]
-pub struct EffectParts<'a> {
-    pub first: Option<Effect>,
-    pub rest: &'a mut VecDeque<Effect>,
-}
-
-impl<'a> Model for Effects<'a> {
+impl Model for Effects {
     ghost use Rattle.std.specs.Prelude.{length};
     ghost use Rattle.std.specs.VecDeque.{deque_capacity};
     ghost use Rattle.serial_world.specs.Effects.{ActList, IsFirst, is_room, listed};
@@ -30,29 +23,53 @@ impl<'a> Model for Effects<'a> {
     ghost Value = { ActList };
 
     ghost view = { λ a. record {
-      items = listed a.first a.rest.now.items;
-      has_room = is_room a.first (length a.rest.now.items) (deque_capacity a.rest.now);
+      items = listed a.first a.rest.items;
+      has_room = is_room a.first (length a.rest.items) (deque_capacity a.rest);
     } };
 
-    ghost invariant = { λ a. IsFirst a.first a.rest.now.items };
+    ghost invariant = { λ a. IsFirst a.first a.rest.items };
 }
 
-impl<'a> Effects<'a> {
-    /// No acts so far. There is room for the first. What is in the list is dropped.
-    #[inline(always)]
-    pub fn over(rest: &'a mut VecDeque<Effect>) -> Self
-        ensures items { result.items ≡ [] }
-        ensures room { result.has_room ≡ true }
+impl Effects {
+    /// No acts so far. Takes no memory.
+    pub fn new(alloc: Global) -> Self
+        ensures { result.items ≡ [] }
     {
-        if !rest.is_empty() {
-            rest.clear();
+        Effects {
+            first: None,
+            rest: VecDeque::new(alloc),
         }
-        Effects { first: None, rest }
+    }
+
+    /// Drops all acts. There is room for the first then.
+    #[inline(always)]
+    pub fn clear(&mut self)
+        ensures items { self.new.items ≡ [] }
+        ensures room { self.new.has_room ≡ true }
+    {
+        self.first = None;
+        if !self.rest.is_empty() {
+            self.rest.clear();
+        }
     }
 
     /// An act more. Refused for lack of memory, but never where there is room; nothing has changed then.
     #[inline(always)]
     pub fn push(&mut self, effect: Effect) -> Result<(), AllocError>
+        ensures ok { OnOk result (self.new.items ≡ self.old.items ++ effect ∷ []) }
+        ensures err { OnErr result (self.new.items ≡ self.old.items) }
+        ensures succeeds { self.old.has_room ≡ true → IsOk result }
+    {
+        if self.first.is_none() {
+            self.first = Some(effect);
+            return Ok(());
+        }
+        self.push_later(effect)
+    }
+
+    /// An act more, which few steps have.
+    #[inline(never)]
+    fn push_later(&mut self, effect: Effect) -> Result<(), AllocError>
         ensures ok { OnOk result (self.new.items ≡ self.old.items ++ effect ∷ []) }
         ensures err { OnErr result (self.new.items ≡ self.old.items) }
         ensures succeeds { self.old.has_room ≡ true → IsOk result }
@@ -88,13 +105,16 @@ impl<'a> Effects<'a> {
         self.rest.push_back_reserved(effect);
     }
 
-    /// The first act, and those behind it.
+    /// Takes the first act out. None: there is none.
     #[inline(always)]
-    pub fn into_parts(self) -> EffectParts<'a>
-        ensures some { IfSome result.first (λ first. self.entry.items ≡ first ∷ result.rest.now.items) }
-        ensures none { IfNone result.first (self.entry.items ≡ []) }
+    pub fn pop_front(&mut self) -> Option<Effect>
+        ensures items { self.old.items ≡ option_to_list result ++ self.new.items }
+        ensures none { IfNone result (self.new.items ≡ []) }
     {
-        let Effects { first, rest } = self;
-        EffectParts { first, rest }
+        let first = self.first.take()?;
+        if let Some(next) = self.rest.pop_front() {
+            self.first = Some(next);
+        }
+        Some(first)
     }
 }

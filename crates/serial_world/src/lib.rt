@@ -11,6 +11,6 @@ mod living;
 mod step_world;
 
 pub use effect::Effect;
-pub use effects::{EffectParts, Effects};
+pub use effects::Effects;
 pub use living::Living;
 pub use step_world::SerialWorld;

@@ -15,23 +15,28 @@ use std::alloc::AllocError;
 /// The clock, who lives, and what the instance has done so far. Who lived as the step began is copied at the first
 /// create.
 #[derive(Drop)]
-pub struct SerialWorld<'a, 'r> {
+pub struct SerialWorld<'a, 'e> {
     pub system: &'a System,
     pub clock: Ticks,
     pub begun: &'a Living,
     pub changed: Option<Living>,
-    pub effects: Effects<'r>,
+    pub effects: &'e mut Effects,
 }
 
-impl<'a, 'r> SerialWorld<'a, 'r> {
+impl<'a, 'e> SerialWorld<'a, 'e> {
     /// Nothing is done so far, but for these acts.
     #[inline(always)]
-    pub fn new(system: &'a System, clock: Ticks, living: &'a Living, effects: Effects<'r>) -> Self
+    pub fn new(
+        system: &'a System,
+        clock: Ticks,
+        living: &'a Living,
+        effects: &'e mut Effects,
+    ) -> Self
         ensures system { result.system.now ≡ system.now }
         ensures clock { result.clock ≡ clock }
         ensures begun { result.begun.now ≡ living.now }
         ensures changed { result.changed ≡ None }
-        ensures effects { result.effects.items ≡ effects.entry.items }
+        ensures effects { result.effects.now.items ≡ effects.old.items }
     {
         SerialWorld {
             system,
@@ -50,12 +55,12 @@ impl<'a, 'r> SerialWorld<'a, 'r> {
     }
 }
 
-impl<'a, 'r> World for SerialWorld<'a, 'r> {
+impl<'a, 'e> World for SerialWorld<'a, 'e> {
     ghost use Rattle.serial_world.specs.StepWorld.{world_of};
 
     ghost value = { world_of };
 
-    ghost prepared = { λ w. w.effects.has_room };
+    ghost prepared = { λ w. w.effects.now.has_room };
 
     fn now(&mut self) -> Ticks {
         self.clock

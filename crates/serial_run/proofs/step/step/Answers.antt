@@ -115,8 +115,8 @@ returns-in_ok-perform_all-in-Moved-clause-runs c = λ last bound m time.
     subst (λ (i : InstanceValue). IsAlone i.owner) same_three c.draws_nothing-2.ensures in
     let a = c.new-world.ensures in
     let sees : world_of c.new-world.result ≡ world_at (state_of from s) =
-    world_is from s c.new-world.result c.requires.fits a.system a.clock a.begun a.changed (a.effects ∙ c.over-effects.ensures.items) in
-    let effects = map effect_of c.step-stepped.new.world.effects.items in
+    world_is from s c.new-world.result c.requires.fits a.system a.clock a.begun a.changed (a.effects ∙ c.clear.ensures.items) in
+    let effects = map effect_of c.step-stepped.new.world.effects.now.items in
     let made : Made agenda.ready from s place c.args.number bound old new v effects = record {
       serial = c.requires.fits;
       time = time;
@@ -235,8 +235,8 @@ returns-then-not-counts-clause-runs c = λ last bound m time.
     subst (λ (i : InstanceValue). IsAlone i.owner) same_three c.draws_nothing-2.ensures in
     let a = c.new-world.ensures in
     let sees : world_of c.new-world.result ≡ world_at (state_of from s) =
-    world_is from s c.new-world.result c.requires.fits a.system a.clock a.begun a.changed (a.effects ∙ c.over-effects.ensures.items) in
-    let effects = map effect_of c.step-stepped.new.world.effects.items in
+    world_is from s c.new-world.result c.requires.fits a.system a.clock a.begun a.changed (a.effects ∙ c.clear.ensures.items) in
+    let effects = map effect_of c.step-stepped.new.world.effects.now.items in
     let made : Made agenda.ready from s place c.args.number bound old new v effects = record {
       serial = c.requires.fits;
       time = time;
@@ -322,8 +322,8 @@ returns-in_ok-perform_all-in-Ended-stepped-clause-runs c = λ last bound m time.
     subst (λ (i : InstanceValue). IsAlone i.owner) same_three c.draws_nothing-2.ensures in
     let a = c.new-world.ensures in
     let sees : world_of c.new-world.result ≡ world_at (state_of from s) =
-    world_is from s c.new-world.result c.requires.fits a.system a.clock a.begun a.changed (a.effects ∙ c.over-effects.ensures.items) in
-    let effects = map effect_of c.step-stepped.new.world.effects.items in
+    world_is from s c.new-world.result c.requires.fits a.system a.clock a.begun a.changed (a.effects ∙ c.clear.ensures.items) in
+    let effects = map effect_of c.step-stepped.new.world.effects.now.items in
     let made : Made agenda.ready from s place c.args.number bound old new v effects = record {
       serial = c.requires.fits;
       time = time;
@@ -414,7 +414,7 @@ returns-in-Idle-clause-runs c = λ last bound m time.
     subst (λ (i : InstanceValue). IsAlone i.owner) same_three c.draws_nothing-2.ensures in
     let a = c.new-world.ensures in
     let sees : world_of c.new-world.result ≡ world_at (state_of from s) =
-    world_is from s c.new-world.result c.requires.fits a.system a.clock a.begun a.changed (a.effects ∙ c.over-effects.ensures.items) in
+    world_is from s c.new-world.result c.requires.fits a.system a.clock a.begun a.changed (a.effects ∙ c.clear.ensures.items) in
     let idle : IsIdle old (world_at (state_of from s)) new v =
     subst (λ (w : WorldValue). IsIdle old w new v) sees c.in-Idle.ensures.steps in
     step_idles from from s _ place old new v c.requires.fits there keeps alone_then alone_now idle refl refl refl last

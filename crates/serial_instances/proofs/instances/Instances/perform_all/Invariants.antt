@@ -4,7 +4,7 @@ use Rattle.serial_order.specs.Execution.{IsNoFuseBefore}
 use Rattle.serial_order.specs.RunState.{after_effects}
 use Rattle.serial_instances.specs.Serial.{IsSerial, state_of}
 use Rattle.serial_sweeps.specs.Sweeps.{Moment, at_agenda}
-use Rattle.serial_instances.proofs.instances.Instances.perform_rest.Given as goal
+use Rattle.serial_instances.proofs.instances.Instances.perform_all.Given as goal
 
 -- what all acts make of the first state, those that are left make of the one so far
 abbrev pub invariant-loop-effect : goal.invariant-loop-effect
