@@ -11,6 +11,7 @@ use Rattle.sdl_report.specs.declared.write_whole.WriteFault.TheVariants as writt
 use Rattle.run_record.specs.declared.record.Report.{Report}
 use Rattle.run_record.specs.declared.run_error.RunError.{RunError}
 use Rattle.run_record.specs.declared.run_error.RunError.TheVariants as run
+use Rattle.sdl_script.specs.declared.script.ScriptLine.{ScriptLine}
 use Rattle.sdl_system.specs.System.{SystemValue}
 use Rattle.sdl_engine.specs.Answer.{Allows, AllowsOfRun, BreaksOff, BreaksOffRun, BreaksOffTelling, FailsToTell, FailsToTellRun, Faulted, Fails, IsRunOfInput, IsRunRefused, PrintsInput, Refuses, Says, SaysCut, SaysWhole, Tells, TellsRun, Written, fault_of, outcome_by, outcome_of}
 use Rattle.sdl_engine.specs.RefusalText.{refusal_line}
@@ -28,30 +29,30 @@ use Rattle.sdl_engine.specs.declared.refusal.Refusal.TheVariants as refusal
 
 -- what tells a run is what is said of its input
 pub run_says : (input : Input) (options : Options) (workers : Option ℕ) (system : SystemValue) (report : Report)
-    (sent : ℕ) (whole : Bool) (stuck : Option ℕ) (text : List ℕ) → options.command ≡ command.Run → options.workers ≡ workers →
-    report.whole ≡ whole → IsRunOfInput input workers options.limit system report sent →
-    IsTold options.view system report sent stuck text → Says input options (outcome_by whole) text
-run_says (Held texts) options workers system report sent true stuck text asked by is run told =
+    (lines : List ScriptLine) (whole : Bool) (stuck : Option ℕ) (text : List ℕ) → options.command ≡ command.Run →
+    options.workers ≡ workers → report.whole ≡ whole → IsRunOfInput input workers options.limit system report lines →
+    IsTold options.view system report lines stuck text → Says input options (outcome_by whole) text
+run_says (Held texts) options workers system report lines true stuck text asked by is run told =
     subst (λ c. SaysWhole c options.workers texts options.limit options.view text) (sym asked) (record {
       system = system;
       report = report;
-      sent = sent;
-      run = subst (λ w. IsRunOfInput (Held texts) w options.limit system report sent) (sym by) run;
+      lines = lines;
+      run = subst (λ w. IsRunOfInput (Held texts) w options.limit system report lines) (sym by) run;
       is_whole = is;
       stuck = stuck;
       says = told;
     })
-run_says (Held texts) options workers system report sent false stuck text asked by is run told =
+run_says (Held texts) options workers system report lines false stuck text asked by is run told =
     subst (λ c. SaysCut c options.workers texts options.limit options.view text) (sym asked) (record {
       system = system;
       report = report;
-      sent = sent;
-      run = subst (λ w. IsRunOfInput (Held texts) w options.limit system report sent) (sym by) run;
+      lines = lines;
+      run = subst (λ w. IsRunOfInput (Held texts) w options.limit system report lines) (sym by) run;
       is_whole = is;
       stuck = stuck;
       says = told;
     })
-run_says TooLong options workers system report sent whole stuck text asked by is run told = absurd run
+run_says TooLong options workers system report lines whole stuck text asked by is run told = absurd run
 
 -- so is the canonical text of its specification
 pub canonical_says : (input : Input) (options : Options) (text : List ℕ) → options.command ≡ command.Check →
@@ -201,63 +202,65 @@ faulted_by text script old new input options (Err why) read off =
 -- ---- a run
 
 pub run_tells : (input : Input) (options : Options) (workers : Option ℕ) (system : SystemValue) (report : Report)
-    (sent : ℕ) (stuck : Option ℕ) (old new : Option (List ℕ)) (r : Result Outcome TextFault) → options.command ≡ command.Run →
-    options.workers ≡ workers → IsRunOfInput input workers options.limit system report sent →
-    IfOk r (λ how. how ≡ outcome_by report.whole) → OnOk r (TellsRun options.view system report sent stuck old new) →
+    (lines : List ScriptLine) (stuck : Option ℕ) (old new : Option (List ℕ)) (r : Result Outcome TextFault) →
+    options.command ≡ command.Run → options.workers ≡ workers →
+    IsRunOfInput input workers options.limit system report lines → IfOk r (λ how. how ≡ outcome_by report.whole) →
+    OnOk r (TellsRun options.view system report lines stuck old new) →
     IfOk r (λ how. Tells input options how old new)
-run_tells input options workers system report sent stuck old new (Ok how) asked by run is tells = record {
+run_tells input options workers system report lines stuck old new (Ok how) asked by run is tells = record {
   text = tells.text;
   says = subst (λ o. Says input options o tells.text) (sym is)
-      (run_says input options workers system report sent report.whole stuck tells.text asked by refl run tells.says);
+      (run_says input options workers system report lines report.whole stuck tells.text asked by refl run tells.says);
   out = tells.out;
 }
-run_tells input options workers system report sent stuck old new (Err why) asked by run is tells = tt
+run_tells input options workers system report lines stuck old new (Err why) asked by run is tells = tt
 
 breaks_off_run : (input : Input) (options : Options) (workers : Option ℕ) (system : SystemValue) (report : Report)
-    (sent : ℕ) (old new : Option (List ℕ)) → options.command ≡ command.Run → options.workers ≡ workers →
-    IsRunOfInput input workers options.limit system report sent →
-    BreaksOffRun options.view system report sent old new → BreaksOffTelling input options old new
-breaks_off_run input options workers system report sent old new asked by run off = record {
+    (lines : List ScriptLine) (old new : Option (List ℕ)) → options.command ≡ command.Run → options.workers ≡ workers →
+    IsRunOfInput input workers options.limit system report lines →
+    BreaksOffRun options.view system report lines old new → BreaksOffTelling input options old new
+breaks_off_run input options workers system report lines old new asked by run off = record {
   how = outcome_by report.whole;
   text = off.text;
-  says = run_says input options workers system report sent report.whole off.stuck off.text asked by refl run off.says;
+  says = run_says input options workers system report lines report.whole off.stuck off.text asked by refl run off.says;
   breaks = off.breaks;
 }
 
 run_fails' : (input : Input) (options : Options) (workers : Option ℕ) (system : SystemValue) (report : Report)
-    (sent : ℕ) (old new : Option (List ℕ)) (why : TextFault) → options.command ≡ command.Run →
-    options.workers ≡ workers → IsRunOfInput input workers options.limit system report sent →
-    FailsToTellRun why options.view system report sent old new → Fails why input options old new
-run_fails' input options workers system report sent old new fault.Read asked by run off = absurd off
-run_fails' input options workers system report sent old new fault.Write asked by run off =
-    breaks_off_run input options workers system report sent old new asked by run off
-run_fails' input options workers system report sent old new fault.Memory asked by run off = elim off [
+    (lines : List ScriptLine) (old new : Option (List ℕ)) (why : TextFault) → options.command ≡ command.Run →
+    options.workers ≡ workers → IsRunOfInput input workers options.limit system report lines →
+    FailsToTellRun why options.view system report lines old new → Fails why input options old new
+run_fails' input options workers system report lines old new fault.Read asked by run off = absurd off
+run_fails' input options workers system report lines old new fault.Write asked by run off =
+    breaks_off_run input options workers system report lines old new asked by run off
+run_fails' input options workers system report lines old new fault.Memory asked by run off = elim off [
   | inl kept ↦ inl kept
-  | inr broken ↦ inr (breaks_off_run input options workers system report sent old new asked by run broken)
+  | inr broken ↦ inr (breaks_off_run input options workers system report lines old new asked by run broken)
 ]
 
 pub run_fails : (input : Input) (options : Options) (workers : Option ℕ) (system : SystemValue) (report : Report)
-    (sent : ℕ) (old new : Option (List ℕ)) (r : Result Outcome TextFault) → options.command ≡ command.Run →
-    options.workers ≡ workers → IsRunOfInput input workers options.limit system report sent →
-    IfErr r (λ why. FailsToTellRun why options.view system report sent old new) →
+    (lines : List ScriptLine) (old new : Option (List ℕ)) (r : Result Outcome TextFault) →
+    options.command ≡ command.Run → options.workers ≡ workers →
+    IsRunOfInput input workers options.limit system report lines →
+    IfErr r (λ why. FailsToTellRun why options.view system report lines old new) →
     IfErr r (λ why. Fails why input options old new)
-run_fails input options workers system report sent old new (Ok how) asked by run off = tt
-run_fails input options workers system report sent old new (Err why) asked by run off =
-    run_fails' input options workers system report sent old new why asked by run off
+run_fails input options workers system report lines old new (Ok how) asked by run off = tt
+run_fails input options workers system report lines old new (Err why) asked by run off =
+    run_fails' input options workers system report lines old new why asked by run off
 
 -- ---- a view
 
 -- what went out of a text that tells a run, before a fault of writing it
-pub view_fails : (why : WriteFault) (view : View) (system : SystemValue) (report : Report) (sent : ℕ)
-    (stuck : Option ℕ) (text : List ℕ) (old new : Option (List ℕ)) → IsTold view system report sent stuck text →
-    gathered.BreaksOff old new text → FailsToTellRun (fault_of why) view system report sent old new
-view_fails written.Write view system report sent stuck text old new told off = record {
+pub view_fails : (why : WriteFault) (view : View) (system : SystemValue) (report : Report) (lines : List ScriptLine)
+    (stuck : Option ℕ) (text : List ℕ) (old new : Option (List ℕ)) → IsTold view system report lines stuck text →
+    gathered.BreaksOff old new text → FailsToTellRun (fault_of why) view system report lines old new
+view_fails written.Write view system report lines stuck text old new told off = record {
   text = text;
   stuck = stuck;
   says = told;
   breaks = off;
 }
-view_fails written.Memory view system report sent stuck text old new told off = inr (record {
+view_fails written.Memory view system report lines stuck text old new told off = inr (record {
   text = text;
   stuck = stuck;
   says = told;

@@ -33,7 +33,7 @@ use Rattle.sdl_tree.specs.Tree.{Tree}
 use Rattle.settle_meaning.specs.Report.{IsSettled}
 use Rattle.sdl_engine.specs.Behaviours.{AreOfText}
 use Rattle.sdl_engine.specs.RefusalText.{refusal_line}
-use Rattle.sdl_engine.specs.Views.{IsTold, signals_of}
+use Rattle.sdl_engine.specs.Views.{IsTold}
 use Rattle.sdl_engine.specs.declared.options.Command.{Command}
 use Rattle.sdl_engine.specs.declared.options.Command.TheVariants as command
 use Rattle.sdl_engine.specs.declared.options.Options.{Options}
@@ -66,27 +66,25 @@ IsReportBy None ps system lines limit report = IsSerialReport ps system lines li
 IsReportBy (Some workers) ps system lines limit report = IsSettled ps system lines limit report
 
 -- The report is that of a run of the system of an accepted input on its script, cut at the limit if it comes to that: so
--- for all behaviours that the texts of the processes have, and they have some. The script has so many signals.
+-- for all behaviours that the texts of the processes have, and they have some. The script has these lines.
 pub record IsRunOf (texts : Texts) (workers : Option ℕ) (limit : ℕ) (system : SystemValue) (report : Report)
-    (sent : ℕ) : Type 0 where
+    (lines : List ScriptLine) : Type 0 where
   pub tree : Tree
-  pub lines : List ScriptLine
   pub accepted : IsAccepted texts tree system lines
   pub behaves : (ps : List Behaviour) × AreOfText accepted.built.context system ps
   pub ran : (ps : List Behaviour) → AreOfText accepted.built.context system ps
       → IsReportBy workers ps system lines limit report
-  pub signals : sent ≡ signals_of lines
 
 -- the text that tells the report of such a run, of one that is whole or of one that was cut
 pub record Reports (texts : Texts) (workers : Option ℕ) (limit : ℕ) (view : View) (whole : Bool)
     (text : List ℕ) : Type 0 where
   pub system : SystemValue
   pub report : Report
-  pub sent : ℕ
-  pub run : IsRunOf texts workers limit system report sent
+  pub lines : List ScriptLine
+  pub run : IsRunOf texts workers limit system report lines
   pub is_whole : report.whole ≡ whole
   pub stuck : Option ℕ
-  pub says : IsTold view system report sent stuck text
+  pub says : IsTold view system report lines stuck text
 
 -- the canonical text of the tree of an accepted input
 pub record Prints (texts : Texts) (text : List ℕ) : Type 0 where
@@ -252,9 +250,9 @@ PrintsInput (Held texts) text = Prints texts text
 PrintsInput TooLong text = ⊥
 
 -- the run of an input
-abbrev pub IsRunOfInput : Input → Option ℕ → ℕ → SystemValue → Report → ℕ → Type 0
-IsRunOfInput (Held texts) workers limit system report sent = IsRunOf texts workers limit system report sent
-IsRunOfInput TooLong workers limit system report sent = ⊥
+abbrev pub IsRunOfInput : Input → Option ℕ → ℕ → SystemValue → Report → List ScriptLine → Type 0
+IsRunOfInput (Held texts) workers limit system report lines = IsRunOf texts workers limit system report lines
+IsRunOfInput TooLong workers limit system report lines = ⊥
 
 -- whether a report is whole, as an outcome
 abbrev pub outcome_by : Bool → Outcome
@@ -273,26 +271,27 @@ BreaksOff fault.Write text old new = gathered.BreaksOff old new text
 BreaksOff fault.Memory text old new = gathered.BreaksOff old new text
 
 -- the text that tells a run went out, in its order up to the instance that can't go on, if one can't
-pub record TellsRun (view : View) (system : SystemValue) (report : Report) (sent : ℕ) (stuck : Option ℕ)
+pub record TellsRun (view : View) (system : SystemValue) (report : Report) (lines : List ScriptLine) (stuck : Option ℕ)
     (old new : Option (List ℕ)) : Type 0 where
   pub text : List ℕ
-  pub says : IsTold view system report sent stuck text
+  pub says : IsTold view system report lines stuck text
   pub out : Appends old new text
 
 -- a beginning of the text that tells a run went out, and not all of it
-pub record BreaksOffRun (view : View) (system : SystemValue) (report : Report) (sent : ℕ)
+pub record BreaksOffRun (view : View) (system : SystemValue) (report : Report) (lines : List ScriptLine)
     (old new : Option (List ℕ)) : Type 0 where
   pub text : List ℕ
   pub stuck : Option ℕ
-  pub says : IsTold view system report sent stuck text
+  pub says : IsTold view system report lines stuck text
   pub breaks : gathered.BreaksOff old new text
 
 -- what went out of a run before this fault: nothing, where there was no memory for its order
-abbrev pub FailsToTellRun : TextFault → View → SystemValue → Report → ℕ → Option (List ℕ) → Option (List ℕ) → Type 0
-FailsToTellRun fault.Read view system report sent old new = ⊥
-FailsToTellRun fault.Write view system report sent old new = BreaksOffRun view system report sent old new
-FailsToTellRun fault.Memory view system report sent old new =
-    Keeps old new ⊎ BreaksOffRun view system report sent old new
+abbrev pub FailsToTellRun : TextFault → View → SystemValue → Report → List ScriptLine → Option (List ℕ)
+    → Option (List ℕ) → Type 0
+FailsToTellRun fault.Read view system report lines old new = ⊥
+FailsToTellRun fault.Write view system report lines old new = BreaksOffRun view system report lines old new
+FailsToTellRun fault.Memory view system report lines old new =
+    Keeps old new ⊎ BreaksOffRun view system report lines old new
 
 -- what went out of the line of a refusal, which is made first: nothing, where there was no memory to make it
 abbrev pub FailsToTell : TextFault → List ℕ → Option (List ℕ) → Option (List ℕ) → Type 0

@@ -16,9 +16,9 @@ use Rattle.sdl_engine.specs.declared.run.Run.{Run}
 pub record IsToldRun (input : Input) (options : Options) (how : Outcome) (run : Run) (stuck : Option ℕ)
     (old new : Option (List ℕ)) : Type 0 where
   pub asked : options.command ≡ command.Run
-  pub ran : IsRunOfInput input options.workers options.limit run.system run.report run.sent
+  pub ran : IsRunOfInput input options.workers options.limit run.system run.report run.script.lines.items
   pub came : how ≡ outcome_by run.report.whole
-  pub tells : TellsRun options.view run.system run.report run.sent stuck old new
+  pub tells : TellsRun options.view run.system run.report run.script.lines.items stuck old new
 
 -- There is no run to keep: none is to be kept, or none was told.
 abbrev pub HasNone : Bool → Options → Outcome → Type 0

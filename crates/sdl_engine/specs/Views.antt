@@ -1,5 +1,5 @@
 -- How a run is told: by its report, or in the order of a timeline of the report.
-use Rattle.std.specs.Prelude.{◌≡◌, ℕ, Bool, List, Option, None, Some, count_by, is_some}
+use Rattle.std.specs.Prelude.{◌≡◌, ℕ, Bool, List, [], Option, None, Some, count_by, is_some}
 use Rattle.run_record.specs.Record.{RecordValue}
 use Rattle.run_record.specs.declared.record.Report.{Report}
 use Rattle.sdl_report.specs.ReportText.{report_text}
@@ -7,6 +7,8 @@ use Rattle.sdl_script.specs.declared.script.ScriptLine.{ScriptLine}
 use Rattle.sdl_system.specs.System.{SystemValue}
 use Rattle.view_json.specs.JsonText.{json_text}
 use Rattle.view_lines.specs.LinesText.{lines_text}
+use Rattle.view_steps.specs.Lost.{lost_of}
+use Rattle.view_steps.specs.Sending.{SendingValue}
 use Rattle.view_timeline.specs.Moves.{EachOnce}
 use Rattle.view_timeline.specs.Timeline.{AllTakes, AreArrows, AreInOrder, AreLiving, AreLookedUp, IsElseUnlinked, IsForward, IsStuck, IsWaiting}
 use Rattle.view_timeline.specs.declared.moves.Timeline.{Timeline}
@@ -45,6 +47,11 @@ abbrev pub IsTimelineTo : Option ℕ → List RecordValue → Timeline → Type 
 IsTimelineTo None records told = IsTimeline records told
 IsTimelineTo (Some number) records told = IsStuck records told number
 
+-- The signals of the script that nobody took. None is known if an instance can't go on.
+abbrev pub lost_to : Option ℕ → SystemValue → Report → Timeline → List ScriptLine → List SendingValue
+lost_to None system report told lines = lost_of system report told lines
+lost_to (Some number) system report told lines = []
+
 -- ---- the text
 
 -- this is the text of a timeline of these records, as far as it goes: up to the instance that can't go on, if one can't
@@ -54,11 +61,13 @@ pub record IsInOrder (records : List RecordValue) (text_of : Timeline → List �
   pub is_timeline : IsTimelineTo stuck records told
   pub says : text ≡ text_of told
 
--- The text tells the report of a run, to whose instances the environment sends so many signals. In its order it says
--- which instance can't go on, if one can't; the report has no order.
-abbrev pub IsTold : View → SystemValue → Report → ℕ → Option ℕ → List ℕ → Type 0
-IsTold views.Trace system report sent stuck text = text ≡ report_text system report
-IsTold views.Lines system report sent stuck text =
-    IsInOrder report.records.items (λ told. lines_text system report told stuck sent) stuck text
-IsTold views.Json system report sent stuck text =
-    IsInOrder report.records.items (λ told. json_text system report told stuck) stuck text
+-- The text tells the report of a run on a script of these lines. In its order it says which signals of the script
+-- nobody took, and which instance can't go on, if one can't; the report has no order.
+abbrev pub IsTold : View → SystemValue → Report → List ScriptLine → Option ℕ → List ℕ → Type 0
+IsTold views.Trace system report lines stuck text = text ≡ report_text system report
+IsTold views.Lines system report lines stuck text =
+    IsInOrder report.records.items
+    (λ told. lines_text system report told stuck (signals_of lines) (lost_to stuck system report told lines)) stuck text
+IsTold views.Json system report lines stuck text =
+    IsInOrder report.records.items
+    (λ told. json_text system report told stuck (lost_to stuck system report told lines)) stuck text

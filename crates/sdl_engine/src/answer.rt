@@ -25,10 +25,10 @@ pub fn report<W: Write, N: Write>(
     options: &Options,
 ) -> Result<Outcome, TextFault>
     ensures how { IfOk result (λ how. how ≡ outcome_by run.now.report.whole) }
-    ensures ok { OnOk result (TellsRun options.now.view run.now.system run.now.report run.now.sent
+    ensures ok { OnOk result (TellsRun options.now.view run.now.system run.now.report run.now.script.lines.items
         notes.new.stuck (W.contents writer.old) (W.contents writer.new)) }
     ensures err { IfErr result (λ fault. FailsToTellRun fault options.now.view run.now.system run.now.report
-        run.now.sent (W.contents writer.old) (W.contents writer.new)) }
+        run.now.script.lines.items (W.contents writer.old) (W.contents writer.new)) }
     ensures quiet { result ≢ Ok Outcome.Cut → notes.old.strict ≡ false → options.now.view ≡ View.Trace →
         Keeps (N.contents notes.old.writer) (N.contents notes.new.writer) }
 {
@@ -50,10 +50,10 @@ pub fn report_by_workers<T: Threads + Sync, W: Write, N: Write>(
     options: &Options,
 ) -> Result<Outcome, TextFault>
     ensures how { IfOk result (λ how. how ≡ outcome_by run.now.report.whole) }
-    ensures ok { OnOk result (TellsRun options.now.view run.now.system run.now.report run.now.sent
+    ensures ok { OnOk result (TellsRun options.now.view run.now.system run.now.report run.now.script.lines.items
         notes.new.stuck (W.contents writer.old) (W.contents writer.new)) }
     ensures err { IfErr result (λ fault. FailsToTellRun fault options.now.view run.now.system run.now.report
-        run.now.sent (W.contents writer.old) (W.contents writer.new)) }
+        run.now.script.lines.items (W.contents writer.old) (W.contents writer.new)) }
     ensures quiet { result ≢ Ok Outcome.Cut → notes.old.strict ≡ false → options.now.view ≡ View.Trace →
         Keeps (N.contents notes.old.writer) (N.contents notes.new.writer) }
 {

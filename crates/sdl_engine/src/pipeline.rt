@@ -4,11 +4,10 @@ ghost use Rattle.std.specs.Prelude.{◌≡◌, IfOk, IfErr, None, Some};
 ghost use Rattle.std.specs.String.{string_bytes};
 ghost use Rattle.sdl_tree.specs.Views.{tree_value};
 ghost use Rattle.sdl_engine.specs.Answer.{Allows, AllowsOf, IsAccepted, IsRunOf, IsRunOfInput, IsTextRefused, Prints, PrintsInput};
-ghost use Rattle.sdl_engine.specs.Views.{signals_of};
 
 use crate::options::Command;
 use crate::refusal::Refusal;
-use crate::run::{Run, signals_of};
+use crate::run::Run;
 use run_record::Report;
 use sdl_build::build;
 use sdl_input::{Input, Texts};
@@ -36,14 +35,13 @@ impl Accepted {
     fn into_run(self, report: Report) -> Run
         ensures system { result.system ≡ self.system }
         ensures report { result.report ≡ report }
-        ensures sent { result.sent ≡ signals_of self.script.lines.items }
+        ensures script { result.script ≡ self.script }
     {
-        let sent = signals_of(&self.script);
         Run {
             tree: self.tree,
             system: self.system,
+            script: self.script,
             report,
-            sent,
         }
     }
 }
@@ -98,7 +96,7 @@ fn check_texts(alloc: Global, texts: &Texts) -> Result<String, Refusal>
 
 /// The serial run of an input, cut after so many transitions, or why there is none.
 pub fn run_input(alloc: Global, input: &Input, limit: u64) -> Result<Run, Refusal>
-    ensures ok { IfOk result (λ run. IsRunOfInput input.now None limit run.system run.report run.sent) }
+    ensures ok { IfOk result (λ run. IsRunOfInput input.now None limit run.system run.report run.script.lines.items) }
     ensures err { IfErr result (Allows Command.Run None input.now) }
 {
     match input {
@@ -108,7 +106,7 @@ pub fn run_input(alloc: Global, input: &Input, limit: u64) -> Result<Run, Refusa
 }
 
 fn run_texts(alloc: Global, texts: &Texts, limit: u64) -> Result<Run, Refusal>
-    ensures ok { IfOk result (λ run. IsRunOf texts.now None limit run.system run.report run.sent) }
+    ensures ok { IfOk result (λ run. IsRunOf texts.now None limit run.system run.report run.script.lines.items) }
     ensures err { IfErr result (AllowsOf Command.Run None texts.now) }
 {
     let accepted = accept(alloc, texts)?;
@@ -126,7 +124,8 @@ pub fn run_input_by_workers<T: Threads + Wait + Copy + Send + Sync>(
     workers: u8,
     limit: u64,
 ) -> Result<Run, Refusal>
-    ensures ok { IfOk result (λ run. IsRunOfInput input.now (Some workers) limit run.system run.report run.sent) }
+    ensures ok { IfOk result (λ run. IsRunOfInput input.now (Some workers) limit run.system run.report
+        run.script.lines.items) }
     ensures err { IfErr result (Allows Command.Run (Some workers) input.now) }
 {
     match input {
@@ -142,7 +141,8 @@ fn run_texts_by_workers<T: Threads + Wait + Copy + Send + Sync>(
     workers: u8,
     limit: u64,
 ) -> Result<Run, Refusal>
-    ensures ok { IfOk result (λ run. IsRunOf texts.now (Some workers) limit run.system run.report run.sent) }
+    ensures ok { IfOk result (λ run. IsRunOf texts.now (Some workers) limit run.system run.report
+        run.script.lines.items) }
     ensures err { IfErr result (AllowsOf Command.Run (Some workers) texts.now) }
 {
     let accepted = accept(alloc, texts)?;

@@ -9,14 +9,13 @@ use sdl_script::{Script, ScriptLine};
 use sdl_system::System;
 use sdl_tree::Tree;
 
-/// A specification, its system, and what the run of this did.
+/// A specification, its system, the script, and what the run of them did.
 #[derive(Drop)]
 pub struct Run {
     pub tree: Tree,
     pub system: System,
+    pub script: Script,
     pub report: Report,
-    /// How many signals the environment sends.
-    pub sent: usize,
 }
 
 impl Run {

@@ -5,7 +5,7 @@ ghost use Rattle.sdl_engine.specs.Answer.{FailsToTellRun, TellsRun};
 
 use crate::options::{TextFault, View};
 use crate::order::order_of;
-use crate::run::Run;
+use crate::run::{Run, signals_of};
 use sdl_report::write_report;
 use std::alloc::Global;
 use std::io::Write;
@@ -22,10 +22,10 @@ pub fn write_view<W: Write>(
     view: View,
     writer: &mut W,
 ) -> Result<Option<u32>, TextFault>
-    ensures ok { IfOk result (λ stuck. TellsRun view run.now.system run.now.report run.now.sent stuck
+    ensures ok { IfOk result (λ stuck. TellsRun view run.now.system run.now.report run.now.script.lines.items stuck
         (W.contents writer.old) (W.contents writer.new)) }
-    ensures err { IfErr result (λ fault. FailsToTellRun fault view run.now.system run.now.report run.now.sent
-        (W.contents writer.old) (W.contents writer.new)) }
+    ensures err { IfErr result (λ fault. FailsToTellRun fault view run.now.system run.now.report
+        run.now.script.lines.items (W.contents writer.old) (W.contents writer.new)) }
     ensures trace { view ≡ View.Trace → IfOk result (λ stuck. stuck ≡ None) }
 {
     match view {
@@ -44,10 +44,10 @@ pub fn write_view_by_workers<T: Threads + Sync, W: Write>(
     view: View,
     writer: &mut W,
 ) -> Result<Option<u32>, TextFault>
-    ensures ok { IfOk result (λ stuck. TellsRun view run.now.system run.now.report run.now.sent stuck
+    ensures ok { IfOk result (λ stuck. TellsRun view run.now.system run.now.report run.now.script.lines.items stuck
         (W.contents writer.old) (W.contents writer.new)) }
-    ensures err { IfErr result (λ fault. FailsToTellRun fault view run.now.system run.now.report run.now.sent
-        (W.contents writer.old) (W.contents writer.new)) }
+    ensures err { IfErr result (λ fault. FailsToTellRun fault view run.now.system run.now.report
+        run.now.script.lines.items (W.contents writer.old) (W.contents writer.new)) }
     ensures trace { view ≡ View.Trace → IfOk result (λ stuck. stuck ≡ None) }
 {
     match view {
@@ -58,10 +58,10 @@ pub fn write_view_by_workers<T: Threads + Sync, W: Write>(
 
 /// Writes the report of a run.
 fn write_trace<W: Write>(alloc: Global, run: &Run, writer: &mut W) -> Result<Option<u32>, TextFault>
-    ensures ok { IfOk result (λ stuck. TellsRun View.Trace run.now.system run.now.report run.now.sent stuck
-        (W.contents writer.old) (W.contents writer.new)) }
-    ensures err { IfErr result (λ fault. FailsToTellRun fault View.Trace run.now.system run.now.report run.now.sent
-        (W.contents writer.old) (W.contents writer.new)) }
+    ensures ok { IfOk result (λ stuck. TellsRun View.Trace run.now.system run.now.report
+        run.now.script.lines.items stuck (W.contents writer.old) (W.contents writer.new)) }
+    ensures err { IfErr result (λ fault. FailsToTellRun fault View.Trace run.now.system run.now.report
+        run.now.script.lines.items (W.contents writer.old) (W.contents writer.new)) }
     ensures trace { IfOk result (λ stuck. stuck ≡ None) }
 {
     write_report(alloc, &run.report, &run.system, writer)?;
@@ -76,10 +76,10 @@ fn write_trace_by_workers<T: Threads + Sync, W: Write>(
     run: &Run,
     writer: &mut W,
 ) -> Result<Option<u32>, TextFault>
-    ensures ok { IfOk result (λ stuck. TellsRun View.Trace run.now.system run.now.report run.now.sent stuck
-        (W.contents writer.old) (W.contents writer.new)) }
-    ensures err { IfErr result (λ fault. FailsToTellRun fault View.Trace run.now.system run.now.report run.now.sent
-        (W.contents writer.old) (W.contents writer.new)) }
+    ensures ok { IfOk result (λ stuck. TellsRun View.Trace run.now.system run.now.report
+        run.now.script.lines.items stuck (W.contents writer.old) (W.contents writer.new)) }
+    ensures err { IfErr result (λ fault. FailsToTellRun fault View.Trace run.now.system run.now.report
+        run.now.script.lines.items (W.contents writer.old) (W.contents writer.new)) }
     ensures trace { IfOk result (λ stuck. stuck ≡ None) }
 {
     let workers = usize::from(workers);
@@ -93,19 +93,20 @@ fn write_in_lines<W: Write>(
     run: &Run,
     writer: &mut W,
 ) -> Result<Option<u32>, TextFault>
-    ensures ok { IfOk result (λ stuck. TellsRun View.Lines run.now.system run.now.report run.now.sent stuck
-        (W.contents writer.old) (W.contents writer.new)) }
-    ensures err { IfErr result (λ fault. FailsToTellRun fault View.Lines run.now.system run.now.report run.now.sent
-        (W.contents writer.old) (W.contents writer.new)) }
+    ensures ok { IfOk result (λ stuck. TellsRun View.Lines run.now.system run.now.report
+        run.now.script.lines.items stuck (W.contents writer.old) (W.contents writer.new)) }
+    ensures err { IfErr result (λ fault. FailsToTellRun fault View.Lines run.now.system run.now.report
+        run.now.script.lines.items (W.contents writer.old) (W.contents writer.new)) }
 {
-    let order = order_of(alloc, &run.report)?;
+    let order = order_of(alloc, run)?;
     let (report, system) = (&run.report, &run.system);
     write_lines(
         alloc,
         report,
         &order.told,
         order.stuck,
-        run.sent,
+        signals_of(&run.script),
+        &order.lost,
         system,
         writer,
     )?;
@@ -118,13 +119,21 @@ fn write_in_json<W: Write>(
     run: &Run,
     writer: &mut W,
 ) -> Result<Option<u32>, TextFault>
-    ensures ok { IfOk result (λ stuck. TellsRun View.Json run.now.system run.now.report run.now.sent stuck
+    ensures ok { IfOk result (λ stuck. TellsRun View.Json run.now.system run.now.report run.now.script.lines.items stuck
         (W.contents writer.old) (W.contents writer.new)) }
-    ensures err { IfErr result (λ fault. FailsToTellRun fault View.Json run.now.system run.now.report run.now.sent
-        (W.contents writer.old) (W.contents writer.new)) }
+    ensures err { IfErr result (λ fault. FailsToTellRun fault View.Json run.now.system run.now.report
+        run.now.script.lines.items (W.contents writer.old) (W.contents writer.new)) }
 {
-    let order = order_of(alloc, &run.report)?;
-    let (report, system) = (&run.report, &run.system);
-    write_json(alloc, report, &order.told, order.stuck, system, writer)?;
-    Ok(order.stuck)
+    let order = order_of(alloc, run)?;
+    let (told, stuck) = (&order.told, order.stuck);
+    write_json(
+        alloc,
+        &run.report,
+        told,
+        stuck,
+        &order.lost,
+        &run.system,
+        writer,
+    )?;
+    Ok(stuck)
 }

@@ -44,7 +44,13 @@ impl<'s> InstanceSet for Stepping<'s> {
         agenda: &mut Agenda,
         number: u32,
     ) -> Result<Made, AllocError> {
-        step(&mut self.instances, alloc, agenda, number, &mut self.effects)
+        step(
+            &mut self.instances,
+            alloc,
+            agenda,
+            number,
+            &mut self.effects,
+        )
     }
 
     fn expire(&mut self, agenda: &mut Agenda, fuse: Fuse) -> Result<(), AllocError> {

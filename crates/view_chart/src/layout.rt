@@ -8,23 +8,25 @@ use crate::selection::Selection;
 use run_record::Report;
 use sdl_system::System;
 use std::alloc::{AllocError, Global};
+use view_steps::Sending;
 use view_timeline::Timeline;
 
 /// What a chart is made of: a report of a run, its system, and its timeline. `stuck` is the instance at which the
-/// timeline ends before the run does.
+/// timeline ends before the run does. `lost` are the signals of the script that nobody took.
 #[derive(Clone, Copy)]
 pub struct Subject<'r> {
     pub system: &'r System,
     pub report: &'r Report,
     pub timeline: &'r Timeline,
     pub stuck: Option<u32>,
+    pub lost: &'r [Sending<'r>],
 }
 
 /// Lays out a chart.
 ///
-/// An output, a timer, a create, a stop and a new state have a row each, in the order of the timeline. The take of a
-/// signal gets the row of its output if the receiver has nothing there or below, and no time has passed: then the arrow
-/// is level. Else it gets a new row, and the arrow slopes.
+/// An output, a lost signal of the script, a timer, a create, a stop and a new state have a row each, in the order of
+/// the timeline. The take of a signal gets the row of its output if the receiver has nothing there or below, and no
+/// time has passed: then the arrow is level. Else it gets a new row, and the arrow slopes.
 pub fn lay_out(
     alloc: Global,
     subject: Subject<'_>,
@@ -37,7 +39,9 @@ pub fn lay_out(
         let Some(passage) = walk.passage(one) else {
             break;
         };
+        layout.lost_before(&passage, selection)?;
         layout.passage(&passage, selection)?;
     }
+    layout.lost_at_end(selection)?;
     layout.into_chart(subject.stuck)
 }

@@ -28,7 +28,9 @@ impl<'r> Layout<'r> {
             self.sent.insert(arrow.0, self.chart.arrows.len())?;
         }
         let signal = signal_label(self.alloc, self.system, signal, values)?;
-        let told = self.sent_words(record, signal.as_str(), target, tip, at)?;
+        let mut sender = String::new(self.alloc);
+        push_instance(&mut sender, self.system, record)?;
+        let told = self.sent_words(sender.as_str(), signal.as_str(), target, tip, at)?;
         let label = label_with(self.alloc, signal.as_str(), remark, target, tip)?;
         self.chart.arrows.push(Arrow {
             tail: Tail::At(Spot { column, row }),
@@ -43,18 +45,17 @@ impl<'r> Layout<'r> {
         Ok(())
     }
 
-    /// What is told of an output.
-    fn sent_words(
+    /// What is told of a signal that is sent.
+    pub fn sent_words(
         &self,
-        record: &Record,
+        sender: &str,
         signal: &str,
         target: Target,
         tip: Tip,
         at: Ticks,
     ) -> Result<String, AllocError> {
         let mut told = String::new(self.alloc);
-        push_instance(&mut told, self.system, record)?;
-        write!(told, " sends {signal} to ")?;
+        write!(told, "{sender} sends {signal} to ")?;
         push_target(&mut told, self.system, self.report, target)?;
         let ticks = at.get();
         write!(told, " at {ticks}")?;
@@ -67,7 +68,7 @@ impl<'r> Layout<'r> {
     }
 
     /// Where an output goes, as far as is known when it is made, and a remark on it.
-    fn tip(&mut self, row: Row, target: Target, link: Link) -> (Tip, &'static str) {
+    pub fn tip(&mut self, row: Row, target: Target, link: Link) -> (Tip, &'static str) {
         match target {
             Target::Env => {
                 let column = self.env();

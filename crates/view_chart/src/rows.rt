@@ -13,6 +13,7 @@ use port_values::{Ticks, Value};
 use run_record::{Entry, Report};
 use sdl_system::{StateId, System};
 use std::alloc::{AllocError, Global};
+use view_steps::Sending;
 use view_timeline::Link;
 
 /// At most so many transitions are drawn.
@@ -43,6 +44,10 @@ pub struct Layout<'r> {
     pub report: &'r Report,
     /// Who lives on when all is told.
     pub living: &'r IndexSet<u32>,
+    /// The lost signals of the script, how many of them are passed, and how many events are told.
+    pub lost: &'r [Sending<'r>],
+    pub passed: usize,
+    pub told: usize,
     pub plan: Plan,
     pub chart: Chart,
     /// The first row below all others.
@@ -75,6 +80,9 @@ impl<'r> Layout<'r> {
             system,
             report,
             living: &subject.timeline.living,
+            lost: subject.lost,
+            passed: 0,
+            told: 0,
             plan,
             chart: Chart::new(alloc, columns),
             row: Row(0),
@@ -121,7 +129,7 @@ impl<'r> Layout<'r> {
     }
 
     /// A new time has a line.
-    fn begin_time(&mut self, at: Ticks) -> Result<(), AllocError> {
+    pub fn begin_time(&mut self, at: Ticks) -> Result<(), AllocError> {
         if self.clock != Some(at) {
             self.clock = Some(at);
             self.chart.times.push(TimeLine { row: self.row, at })?;

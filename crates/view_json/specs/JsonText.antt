@@ -19,7 +19,10 @@ use Rattle.sdl_report.specs.Name.{process_name, signal_name, state_name, variabl
 use Rattle.sdl_report.specs.ReportText.{line}
 use Rattle.view_json.specs.JsonValue.{arrow_json, fate_json, key, object, pid_json, quoted, target_json, truth_json, value_json, values_json}
 use Rattle.view_steps.specs.Fate.{fate_of}
-use Rattle.view_steps.specs.Walk.{StepValue, all_steps}
+use Rattle.view_steps.specs.Lost.{lost_fate}
+use Rattle.view_steps.specs.Occurrences.{occurrence_text, occurrences}
+use Rattle.view_steps.specs.Sending.{SendingValue}
+use Rattle.view_steps.specs.Walk.{StepValue}
 use Rattle.view_timeline.specs.declared.moves.Link.{Link}
 use Rattle.view_timeline.specs.declared.moves.Timeline.{Timeline}
 
@@ -116,6 +119,13 @@ abbrev pub step_json : SystemValue → Timeline → StepValue → List ℕ
 step_json system told step =
     if is_closing step.event then [] else part_json system told step ++ end_of_line step.closes
 
+-- A signal of the script that nobody took: when it's sent, to whom, and what became of it.
+abbrev pub lost_json : SystemValue → Timeline → SendingValue → List ℕ
+lost_json system told lost =
+    line (codes "{" ++ quoted (codes "at") ++ codes ":" ++ decimal lost.at ++ key (codes "lost")
+    ++ quoted (signal_name system lost.item.name) ++ key (codes "values") ++ values_json lost.item.values
+    ++ key (codes "to") ++ target_json lost.target ++ fate_json (lost_fate told lost) ++ codes "}")
+
 -- how a record closes, by its last event: in a state, or by its end
 abbrev pub closing_json : SystemValue → RecordValue → Option event.Event → List ℕ
 closing_json system trace (Some (event.Rest state)) =
@@ -157,9 +167,10 @@ abbrev pub stuck_json : Option ℕ → List ℕ
 stuck_json None = []
 stuck_json (Some number) = line (object (codes "stuck") (decimal number))
 
--- a line for each transition in the order of the timeline, one for the end of the run, and one more if the order ends
--- before that
-abbrev pub json_text : SystemValue → Report → Timeline → Option ℕ → List ℕ
-json_text system report told stuck =
-    flat_map (step_json system told) (all_steps report.records.items told)
+-- a line for each transition in the order of the timeline, and for each signal of the script that is lost, one for the
+-- end of the run, and one more if the order ends before that
+abbrev pub json_text : SystemValue → Report → Timeline → Option ℕ → List SendingValue → List ℕ
+json_text system report told stuck lost =
+    flat_map (occurrence_text (step_json system told) (lost_json system told))
+    (occurrences report.records.items told lost)
     ++ (line (end_json system report) ++ stuck_json stuck)

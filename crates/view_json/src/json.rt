@@ -1,6 +1,6 @@
 //! The lines of a timeline as JSON.
 
-ghost use Rattle.std.specs.Prelude.{◌≡◌, [], ◌++◌, OnErr, OnOk};
+ghost use Rattle.std.specs.Prelude.{◌≡◌, [], ◌++◌, map, OnErr, OnOk};
 ghost use Rattle.std.specs.List.{AllByRecursion};
 ghost use Rattle.std.specs.String.{string_bytes};
 ghost use Rattle.std.specs.Io.KnownBytes.{Appends};
@@ -8,37 +8,40 @@ ghost use Rattle.port_values.specs.Value.{ValueList};
 ghost use Rattle.run_record.specs.Entry.{event_of};
 ghost use Rattle.sdl_report.specs.Gathered.{BreaksOff};
 ghost use Rattle.view_json.specs.JsonText.{comma, end_of_line, is_closing, json_text, part_json};
+ghost use Rattle.view_steps.specs.Sending.{sending_value};
 ghost use Rattle.view_steps.specs.Step.{step_value};
 ghost use Rattle.view_timeline.specs.Moves.{IsMove};
 ghost use Rattle.view_timeline.specs.Timeline.{AreBegun};
 
 use crate::closing::{push_end, push_stuck};
 use crate::deed::push_deed;
+use crate::lost::push_lost;
 use crate::opening::push_opening;
 use run_record::{Entry, Report};
 use sdl_report::WriteFault;
 use sdl_system::System;
 use std::alloc::{AllocError, Global};
 use std::io::Write;
-use view_steps::{Step, TimelineText, write_timeline};
+use view_steps::{Sending, Step, TimelineText, write_timeline};
 use view_timeline::Timeline;
 
-/// Writes a timeline of a report as JSON Lines: a line for each transition in its order, one for the end, and one more if
-/// an instance is stuck in it.
+/// Writes a timeline of a report as JSON Lines: a line for each transition in its order, and in its place one for each
+/// signal of the script that is lost, one for the end, and one more if an instance is stuck in it.
 pub fn write_json<W: Write>(
     alloc: Global,
     report: &Report,
     told: &Timeline,
     stuck: Option<u32>,
+    lost: &[Sending<'_>],
     system: &System,
     writer: &mut W,
 ) -> Result<(), WriteFault>
     requires transitions { AllByRecursion (IsMove report.now.records.items) told.now.moves.items }
     requires begun { AreBegun report.now.records.items told.now }
     ensures ok { OnOk result (Appends (W.contents writer.old) (W.contents writer.new)
-        (json_text system.now report.now told.now stuck)) }
+        (json_text system.now report.now told.now stuck (map sending_value lost.now))) }
     ensures err { OnErr result (BreaksOff (W.contents writer.old) (W.contents writer.new)
-        (json_text system.now report.now told.now stuck)) }
+        (json_text system.now report.now told.now stuck (map sending_value lost.now))) }
 {
     let json = Json {
         report,
@@ -46,7 +49,7 @@ pub fn write_json<W: Write>(
         stuck,
         system,
     };
-    write_timeline(alloc, report, told, &json, writer)
+    write_timeline(alloc, report, told, lost, &json, writer)
 }
 
 /// A timeline of a report as JSON, and the instance that is stuck in it.
@@ -61,12 +64,14 @@ struct Json<'t> {
 impl TimelineText for Json<'_> {
     ghost use Rattle.std.specs.Prelude.{◌++◌};
     ghost use Rattle.sdl_report.specs.ReportText.{line};
-    ghost use Rattle.view_json.specs.JsonText.{end_json, step_json, stuck_json};
+    ghost use Rattle.view_json.specs.JsonText.{end_json, lost_json, step_json, stuck_json};
     ghost use Rattle.view_steps.proofs.Writing.{line-some};
 
     ghost heading_text = { λ json. [] };
 
     ghost step_text = { λ json. step_json json.system.now json.told.now };
+
+    ghost lost_text = { λ json. lost_json json.system.now json.told.now };
 
     ghost closing_text = { λ json. line (end_json json.system.now json.report.now)
         ++ stuck_json json.stuck };
@@ -82,6 +87,11 @@ impl TimelineText for Json<'_> {
         }
         push_part(text, step, self.told, self.system)?;
         push_end_of_line(text, step.closes)
+    }
+
+    /// Appends the line of a lost signal.
+    fn push_lost(&self, text: &mut String, lost: &Sending<'_>) -> Result<(), AllocError> {
+        push_lost(text, lost, self.told, self.system)
     }
 
     /// Appends the line of the end, and where the order ends.

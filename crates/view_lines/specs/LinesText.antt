@@ -12,9 +12,12 @@ use Rattle.run_record.specs.Failure.{failure_text}
 use Rattle.run_record.specs.Record.{RecordValue}
 use Rattle.run_record.specs.declared.record.Report.{Report}
 use Rattle.sdl_report.specs.Name.{process_name}
-use Rattle.sdl_report.specs.ReportText.{end_text, event_text, line, stimulus_text}
+use Rattle.sdl_report.specs.ReportText.{end_text, event_text, line, signal_text, stimulus_text, target_text}
 use Rattle.view_steps.specs.Fate.{fate_of, fate_word}
-use Rattle.view_steps.specs.Walk.{StepValue, all_steps}
+use Rattle.view_steps.specs.Lost.{lost_fate}
+use Rattle.view_steps.specs.Occurrences.{occurrence_text, occurrences}
+use Rattle.view_steps.specs.Sending.{SendingValue}
+use Rattle.view_steps.specs.Walk.{StepValue}
 use Rattle.view_steps.specs.declared.fate.Fate.{Fate}
 use Rattle.view_timeline.specs.declared.moves.Link.{Link}
 use Rattle.view_timeline.specs.declared.moves.Timeline.{Timeline}
@@ -55,6 +58,12 @@ linked_text system told trace other link = event_text system trace other
 
 abbrev pub step_line : SystemValue → Timeline → StepValue → List ℕ
 step_line system told step = line (linked_text system told step.trace step.event step.link)
+
+-- The line of a signal of the script that nobody took: when it's sent, to whom, and what became of it.
+abbrev pub lost_line : SystemValue → Timeline → SendingValue → List ℕ
+lost_line system told lost =
+    line (decimal lost.at ++ codes " env output " ++ signal_text system lost.item.name lost.item.values
+    ++ codes " to " ++ target_text lost.target ++ fate_text (lost_fate told lost))
 
 -- ---- what of the script was heard
 
@@ -99,7 +108,9 @@ abbrev pub closing_text : Report → Option ℕ → ℕ → List ℕ
 closing_text report stuck sent =
     line (end_text report) ++ (script_text sent (heard report.records.items) ++ order_text stuck)
 
--- A line for each event in the order of the timeline, then how it closes.
-abbrev pub lines_text : SystemValue → Report → Timeline → Option ℕ → ℕ → List ℕ
-lines_text system report told stuck sent =
-    flat_map (step_line system told) (all_steps report.records.items told) ++ closing_text report stuck sent
+-- A line for each event in the order of the timeline, and for each signal of the script that is lost, then how it
+-- closes.
+abbrev pub lines_text : SystemValue → Report → Timeline → Option ℕ → ℕ → List SendingValue → List ℕ
+lines_text system report told stuck sent lost =
+    flat_map (occurrence_text (step_line system told) (lost_line system told))
+    (occurrences report.records.items told lost) ++ closing_text report stuck sent

@@ -1,10 +1,11 @@
-//! The line of an event.
+//! The line of an event, and of a signal of the script that is lost.
 
 ghost use Rattle.std.specs.Prelude.{◌≡◌, ◌++◌, codes, OnOk};
 ghost use Rattle.std.specs.String.{string_bytes};
 ghost use Rattle.run_record.specs.Entry.{event_of, got_of};
 ghost use Rattle.sdl_report.specs.ReportText.{event_text, line, signal_text, stimulus_text, target_text};
-ghost use Rattle.view_lines.specs.LinesText.{fate_text, instance_text, step_line, when_text};
+ghost use Rattle.view_lines.specs.LinesText.{fate_text, instance_text, lost_line, step_line, when_text};
+ghost use Rattle.view_steps.specs.Sending.{sending_value};
 ghost use Rattle.view_steps.specs.Step.{step_value};
 
 use port_values::{SignalId, Value};
@@ -12,7 +13,7 @@ use run_record::{Entry, Record, Stimulus};
 use sdl_report::{process_name, push_event, push_number, push_signal, push_stimulus, push_target};
 use sdl_system::{System, Target};
 use std::alloc::AllocError;
-use view_steps::{Fate, Step, fate_of};
+use view_steps::{Fate, Sending, Step, fate_of, lost_fate};
 use view_timeline::Timeline;
 
 /// Appends the line of an event of a timeline.
@@ -47,7 +48,7 @@ pub fn push_step_line(
         Entry::OutputOnPath { signal, target, .. }
         | Entry::OutputToProcess { signal, target, .. }
         | Entry::OutputToPid { signal, target, .. } => {
-            push_sent(text, *signal, step.values, *target, system)?;
+            push_sent(text, "  output ", *signal, step.values, *target, system)?;
             push_fate(text, fate_of(told, *target, step.link))?;
             text.push('\n')
         }
@@ -59,6 +60,30 @@ pub fn push_step_line(
         | Entry::Stop
         | Entry::Failed { .. } => push_event(text, &step.entry, step.values, record, system),
     }
+}
+
+/// Appends the line of a signal of the script that nobody took.
+pub fn push_lost_line(
+    text: &mut String,
+    lost: &Sending<'_>,
+    told: &Timeline,
+    system: &System,
+) -> Result<(), AllocError>
+    ensures { OnOk result (string_bytes text.new ≡ string_bytes text.old
+        ++ lost_line system.now told.now (sending_value lost.now)) }
+{
+    let values = lost.item.values.as_slice();
+    push_number(text, lost.at)?;
+    push_sent(
+        text,
+        " env output ",
+        lost.item.name,
+        values,
+        lost.target,
+        system,
+    )?;
+    push_fate(text, lost_fate(told, lost))?;
+    text.push('\n')
 }
 
 /// Appends the line of the report, with whose it is before it.
@@ -111,18 +136,19 @@ fn push_taken(
     push_stimulus(text, got, step.values, step.record, system)
 }
 
-/// Appends an output.
+/// Appends what is sent, and to whom.
 fn push_sent(
     text: &mut String,
+    word: &str,
     signal: SignalId,
     values: &[Value],
     target: Target,
     system: &System,
 ) -> Result<(), AllocError>
     ensures { OnOk result (string_bytes text.new ≡ string_bytes text.old
-        ++ codes "  output " ++ signal_text system.now signal values.now ++ codes " to " ++ target_text target) }
+        ++ word.now ++ signal_text system.now signal values.now ++ codes " to " ++ target_text target) }
 {
-    text.push_str("  output ")?;
+    text.push_str(word)?;
     push_signal(text, signal, values, system)?;
     text.push_str(" to ")?;
     push_target(text, target)

@@ -1,3 +1,4 @@
 pub mod EventText
 pub mod Keyword
+pub mod LostText
 pub mod MscText

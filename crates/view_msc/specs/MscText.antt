@@ -8,7 +8,10 @@ use Rattle.run_record.specs.declared.record.Report.{Report}
 use Rattle.sdl_report.specs.Name.{process_name}
 use Rattle.sdl_report.specs.ReportText.{end_text}
 use Rattle.view_msc.specs.EventText.{event_text, instance_name, word}
-use Rattle.view_steps.specs.Walk.{StepValue, all_steps}
+use Rattle.view_msc.specs.LostText.{lost_text}
+use Rattle.view_steps.specs.Occurrences.{occurrence_text, occurrences}
+use Rattle.view_steps.specs.Sending.{SendingValue}
+use Rattle.view_steps.specs.Walk.{StepValue}
 use Rattle.view_timeline.specs.declared.moves.Timeline.{Timeline}
 
 -- the first event of a move begins a line, with whose it is
@@ -38,10 +41,12 @@ instances_text system (trace ∷ more) =
 abbrev pub heading_text : List ℕ → SystemValue → List RecordValue → List ℕ
 heading_text name system records = codes "msc " ++ word name ++ codes ";" ++ instances_text system records
 
--- the heading, and a line for each move in the order of the timeline
-abbrev pub chart_text : List ℕ → SystemValue → Timeline → List RecordValue → List ℕ
-chart_text name system told records =
-    heading_text name system records ++ flat_map (step_text system records told) (all_steps records told)
+-- the heading, and a line for each move and each lost signal of the script in the order of the timeline
+abbrev pub chart_text : List ℕ → SystemValue → Timeline → List RecordValue → List SendingValue → List ℕ
+chart_text name system told records lost =
+    heading_text name system records
+    ++ flat_map (occurrence_text (step_text system records told) (lost_text system records told))
+    (occurrences records told lost)
 
 -- where the order ends, if an instance can't go on in the timeline
 abbrev pub order_text : Option ℕ → List ℕ
@@ -54,6 +59,6 @@ last_text report stuck =
     10 ∷ codes "endmsc; /* " ++ end_text report ++ order_text stuck ++ codes " */" ++ 10 ∷ []
 
 -- The chart of this name, and its end.
-abbrev pub msc_text : List ℕ → SystemValue → Timeline → Option ℕ → Report → List ℕ
-msc_text name system told stuck report =
-    chart_text name system told report.records.items ++ last_text report stuck
+abbrev pub msc_text : List ℕ → SystemValue → Timeline → Option ℕ → List SendingValue → Report → List ℕ
+msc_text name system told stuck lost report =
+    chart_text name system told report.records.items lost ++ last_text report stuck

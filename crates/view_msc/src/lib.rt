@@ -5,6 +5,7 @@
 
 mod event_text;
 mod keyword;
+mod lost_text;
 mod msc;
 mod names;
 

@@ -1,43 +1,47 @@
 //! The text of a timeline in Z.120.
 
-ghost use Rattle.std.specs.Prelude.{◌≡◌, ◌++◌, OnErr, OnOk};
+ghost use Rattle.std.specs.Prelude.{◌≡◌, ◌++◌, map, OnErr, OnOk};
 ghost use Rattle.std.specs.List.{AllByRecursion};
 ghost use Rattle.std.specs.Io.KnownBytes.{Appends};
 ghost use Rattle.std.specs.String.{string_bytes};
 ghost use Rattle.sdl_report.specs.Gathered.{BreaksOff};
 ghost use Rattle.sdl_report.specs.ReportText.{end_text};
 ghost use Rattle.view_msc.specs.MscText.{declared_text, instances_text, line_begin, msc_text, next_text, order_text};
+ghost use Rattle.view_steps.specs.Sending.{sending_value};
 ghost use Rattle.view_steps.specs.Step.{step_value};
 ghost use Rattle.view_timeline.specs.Moves.{IsMove};
 ghost use Rattle.view_timeline.specs.Timeline.{AreBegun};
 
 use crate::event_text::push_event_text;
+use crate::lost_text::push_lost_text;
 use crate::names::{Cast, push_instance_name, push_word};
 use run_record::{Record, Report};
 use sdl_report::{WriteFault, process_name};
 use sdl_system::System;
 use std::alloc::{AllocError, Global};
 use std::io::Write;
-use view_steps::{Step, TimelineText, write_timeline};
+use view_steps::{Sending, Step, TimelineText, write_timeline};
 use view_timeline::Timeline;
 
 /// Writes a timeline of a report as text of Z.120, in its event-oriented form: the chart has this name, then come the
-/// instances, a line for each move, and the end, which says if an instance is stuck. A name that is a keyword of Z.120 has a `_` after it.
+/// instances, a line for each move and each lost signal of the script, and the end, which says if an instance is stuck.
+/// A name that is a keyword of Z.120 has a `_` after it.
 pub fn write_msc<W: Write>(
     alloc: Global,
     name: &str,
     system: &System,
     told: &Timeline,
     stuck: Option<u32>,
+    lost: &[Sending<'_>],
     report: &Report,
     writer: &mut W,
 ) -> Result<(), WriteFault>
     requires transitions { AllByRecursion (IsMove report.now.records.items) told.now.moves.items }
     requires begun { AreBegun report.now.records.items told.now }
     ensures ok { OnOk result (Appends (W.contents writer.old) (W.contents writer.new)
-        (msc_text name.now system.now told.now stuck report.now)) }
+        (msc_text name.now system.now told.now stuck (map sending_value lost.now) report.now)) }
     ensures err { OnErr result (BreaksOff (W.contents writer.old) (W.contents writer.new)
-        (msc_text name.now system.now told.now stuck report.now)) }
+        (msc_text name.now system.now told.now stuck (map sending_value lost.now) report.now)) }
 {
     let msc = Msc {
         name,
@@ -48,7 +52,7 @@ pub fn write_msc<W: Write>(
             told,
         },
     };
-    write_timeline(alloc, report, told, &msc, writer)
+    write_timeline(alloc, report, told, lost, &msc, writer)
 }
 
 /// A timeline as text of Z.120, with the name of its chart, and the instance that is stuck.
@@ -62,10 +66,13 @@ struct Msc<'t> {
 impl TimelineText for Msc<'_> {
     ghost use Rattle.std.proofs.Common.{zero-lt-suc};
     ghost use Rattle.view_msc.specs.MscText.{heading_text, last_text, step_text};
+    ghost use Rattle.view_msc.specs.LostText.{lost_text};
 
     ghost heading_text = { λ msc. heading_text msc.name.now msc.cast.system.now msc.cast.report.now.records.items };
 
     ghost step_text = { λ msc. step_text msc.cast.system.now msc.cast.report.now.records.items msc.cast.told.now };
+
+    ghost lost_text = { λ msc. lost_text msc.cast.system.now msc.cast.report.now.records.items msc.cast.told.now };
 
     ghost closing_text = { λ msc. last_text msc.cast.report.now msc.stuck };
 
@@ -90,6 +97,11 @@ impl TimelineText for Msc<'_> {
             &self.cast,
         )?;
         text.push(';')
+    }
+
+    /// Appends a lost signal, on a line of its own.
+    fn push_lost(&self, text: &mut String, lost: &Sending<'_>) -> Result<(), AllocError> {
+        push_lost_text(text, lost, &self.cast)
     }
 
     /// Appends the end of the chart, with a comment: the end of the run, and where the order ends.

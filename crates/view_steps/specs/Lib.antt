@@ -1,4 +1,11 @@
+pub mod Course
 pub mod Fate
+pub mod Living
+pub mod Lost
+pub mod Occurrence
+pub mod Occurrences
+pub mod Sending
 pub mod Step
+pub mod Takes
 pub mod Walk
 pub mod Written

@@ -67,7 +67,8 @@ impl<'t> Walk<'t> {
 
     /// The next event.
     pub fn next(&mut self) -> Option<Step<'t>>
-        ensures { MatchOption result (self.old ≡ []) (λ step. self.old ≡ step_value step ∷ self.new) }
+        ensures left { MatchOption result (self.old ≡ []) (λ step. self.old ≡ step_value step ∷ self.new) }
+        ensures still { IfNone result (self.new ≡ self.old) }
     {
         match pass(self.records, &self.cursors, self.moves, self.links) {
             None => None,

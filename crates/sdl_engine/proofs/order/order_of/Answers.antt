@@ -1,5 +1,14 @@
-use Rattle.sdl_engine.proofs.OrderLaws.{once_begun}
 use Rattle.sdl_engine.proofs.order.order_of.Goals as goal
 
-pub returns-in-Ok-clause-begun : goal.returns-in-Ok-clause-begun
-returns-in-Ok-clause-begun c = once_begun c.args.report.now.records.items c.in-Ok.told c.in-Ok.ensures.each_once
+pub whole_order-requires : goal.whole_order-requires
+whole_order-requires c = record {
+  each_once = c.in-Ok.ensures.each_once;
+  forward = c.in-Ok.ensures.forward;
+  arrows = c.in-Ok.ensures.arrows;
+  all_takes = c.in-Ok.ensures.all_takes;
+  in_order = c.in-Ok.ensures.in_order;
+  waiting = c.in-Ok.ensures.waiting;
+  looked_up = c.in-Ok.ensures.looked_up;
+  else_unlinked = c.in-Ok.ensures.else_unlinked;
+  living = c.in-Ok.ensures.living;
+}

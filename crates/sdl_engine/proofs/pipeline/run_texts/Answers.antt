@@ -10,14 +10,12 @@ pub returns-in-Ok-clause-ok : goal.returns-in-Ok-clause-ok
 returns-in-Ok-clause-ok c =
     let taken = c.in_ok-accepted.accepted in
     let accepted = c.in_ok-accepted.ensures.ok in
-    rw (c.into_run.ensures.system, c.into_run.ensures.report) (record {
+    rw (c.into_run.ensures.system, c.into_run.ensures.report, c.into_run.ensures.script) (record {
       tree = tree_value taken.tree;
-      lines = taken.script.lines.items;
       accepted = accepted;
       behaves = some_behaviours (tree_value taken.tree) taken.system accepted.built;
       ran = λ ps of.
           c.in-Ok.ensures.serial ps (behaviours_of_text (tree_value taken.tree) taken.system accepted.built ps of);
-      signals = c.into_run.ensures.sent;
     })
 
 pub returns-in-Err-clause-err : goal.returns-in-Err-clause-err

@@ -7,14 +7,15 @@ use Rattle.sdl_engine.proofs.serial.tell_run.Goals as goal
 pub returns-in-Ok-clause-ok : goal.returns-in-Ok-clause-ok
 returns-in-Ok-clause-ok g c =
     let run = c.in-Ok.run' in
-    run_tells c.args.input.now c.args.options.now None run.system run.report run.sent _ _ _ c.report-told.result
-    c.requires.command c.requires.workers c.in-Ok.ensures.ok c.report-told.ensures.how c.report-told.ensures.ok
+    run_tells c.args.input.now c.args.options.now None run.system run.report run.script.lines.items _ _ _
+    c.report-told.result c.requires.command c.requires.workers c.in-Ok.ensures.ok c.report-told.ensures.how
+    c.report-told.ensures.ok
 
 pub returns-in-Ok-clause-err : goal.returns-in-Ok-clause-err
 returns-in-Ok-clause-err g c =
     let run = c.in-Ok.run' in
-    run_fails c.args.input.now c.args.options.now None run.system run.report run.sent _ _ c.report-told.result
-    c.requires.command c.requires.workers c.in-Ok.ensures.ok c.report-told.ensures.err
+    run_fails c.args.input.now c.args.options.now None run.system run.report run.script.lines.items _ _
+    c.report-told.result c.requires.command c.requires.workers c.in-Ok.ensures.ok c.report-told.ensures.err
 
 pub returns-in-Ok-clause-quiet : goal.returns-in-Ok-clause-quiet
 returns-in-Ok-clause-quiet g c = λ cut strict order.

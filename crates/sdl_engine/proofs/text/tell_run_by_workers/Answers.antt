@@ -7,14 +7,14 @@ use Rattle.sdl_engine.proofs.text.tell_run_by_workers.Goals as goal
 pub returns-in-Ok-clause-ok : goal.returns-in-Ok-clause-ok
 returns-in-Ok-clause-ok g c =
     let run = c.in-Ok.run' in
-    run_tells c.args.input.now c.args.options.now (Some c.args.workers) run.system run.report run.sent _ _ _
-    c.report_by_workers-told.result c.requires.command c.requires.workers c.in-Ok.ensures.ok
+    run_tells c.args.input.now c.args.options.now (Some c.args.workers) run.system run.report run.script.lines.items
+    _ _ _ c.report_by_workers-told.result c.requires.command c.requires.workers c.in-Ok.ensures.ok
     c.report_by_workers-told.ensures.how c.report_by_workers-told.ensures.ok
 
 pub returns-in-Ok-clause-err : goal.returns-in-Ok-clause-err
 returns-in-Ok-clause-err g c =
     let run = c.in-Ok.run' in
-    run_fails c.args.input.now c.args.options.now (Some c.args.workers) run.system run.report run.sent _ _
+    run_fails c.args.input.now c.args.options.now (Some c.args.workers) run.system run.report run.script.lines.items _ _
     c.report_by_workers-told.result c.requires.command c.requires.workers c.in-Ok.ensures.ok
     c.report_by_workers-told.ensures.err
 

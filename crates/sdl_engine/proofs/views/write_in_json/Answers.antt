@@ -1,6 +1,7 @@
-use Rattle.std.proofs.Common.{refl}
+use Rattle.std.proofs.Common.{◌∙◌, ap, map}
 use Rattle.std.proofs.lemmas.Result.{err_from_is_err_and}
 use Rattle.view_json.specs.JsonText.{json_text}
+use Rattle.view_steps.specs.Sending.{sending_value}
 use Rattle.sdl_engine.specs.declared.options.View.TheVariants as views
 use Rattle.sdl_engine.proofs.AnswerLaws.{view_fails}
 use Rattle.sdl_engine.proofs.views.write_in_json.Goals as goal
@@ -10,21 +11,29 @@ returns-in_err-write_json-clause-err g c =
     let p = err_from_is_err_and c.from_residual-in_err-write_json.result c.from_residual-in_err-write_json.ensures.1 in
     let run = c.args.run.now in
     let order = c.in_ok-order.order in
-    rw (p.1, p.2) (view_fails _ views.Json run.system run.report run.sent order.stuck
-    (json_text run.system run.report order.told order.stuck) _ _
-    (record { told = order.told; is_timeline = c.in_ok-order.ensures.told; says = refl })
+    let text_of = json_text run.system run.report order.told order.stuck in
+    rw (p.1, p.2) (view_fails _ views.Json run.system run.report run.script.lines.items order.stuck
+    (text_of (map sending_value c.deref.result.now)) _ _
+    (record {
+      told = order.told;
+      is_timeline = c.in_ok-order.ensures.told;
+      says = ap (λ lost. text_of (map sending_value lost)) c.deref.ensures.value
+          ∙ ap text_of c.in_ok-order.ensures.lost;
+    })
     c.in_err-write_json.ensures.err)
 
 pub returns-clause-ok : goal.returns-clause-ok
 returns-clause-ok g c =
     let run = c.args.run.now in
     let order = c.in_ok-order.order in
+    let text_of = json_text run.system run.report order.told order.stuck in
     record {
-      text = json_text run.system run.report order.told order.stuck;
+      text = text_of (map sending_value c.deref.result.now);
       says = record {
         told = order.told;
         is_timeline = c.in_ok-order.ensures.told;
-        says = refl;
+        says = ap (λ lost. text_of (map sending_value lost)) c.deref.ensures.value
+            ∙ ap text_of c.in_ok-order.ensures.lost;
       };
       out = c.in_ok-write_json.ensures.ok;
     }
