@@ -40,6 +40,7 @@ pub fn chart_of<R: Abort>(rt: &R, alloc: Global, run: &Run, selection: &Selectio
         report: &run.report,
         timeline: &run.timeline,
         stuck: None,
+        lost: &[],
     };
     lay_out(alloc, subject, selection).expect(rt, "a chart")
 }

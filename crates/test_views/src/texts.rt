@@ -60,7 +60,7 @@ pub fn in_lines(alloc: Global, system: &System, report: &Report, sent: usize) ->
     let order = order_of(alloc, report)?;
     let (told, stuck) = (&order.told, order.stuck);
     let mut written = Vec::new(alloc);
-    let done = write_lines(alloc, report, told, stuck, sent, system, &mut written);
+    let done = write_lines(alloc, report, told, stuck, sent, &[], system, &mut written);
     if done.is_ok() { Some(written) } else { None }
 }
 
@@ -69,7 +69,7 @@ pub fn in_json(alloc: Global, system: &System, report: &Report) -> Option<Vec<u8
     let order = order_of(alloc, report)?;
     let (told, stuck) = (&order.told, order.stuck);
     let mut written = Vec::new(alloc);
-    let done = write_json(alloc, report, told, stuck, system, &mut written);
+    let done = write_json(alloc, report, told, stuck, &[], system, &mut written);
     if done.is_ok() { Some(written) } else { None }
 }
 
@@ -78,6 +78,6 @@ pub fn in_msc(alloc: Global, name: &str, system: &System, report: &Report) -> Op
     let order = order_of(alloc, report)?;
     let (told, stuck) = (&order.told, order.stuck);
     let mut written = Vec::new(alloc);
-    let done = write_msc(alloc, name, system, told, stuck, report, &mut written);
+    let done = write_msc(alloc, name, system, told, stuck, &[], report, &mut written);
     if done.is_ok() { Some(written) } else { None }
 }
