@@ -24,6 +24,7 @@ Exit status:
   3  the run is refused, or a file can't be opened or written, or reading, writing or memory failed
   4  the command line has a mistake
   6  an instance failed, in a run with --strict
+  8  a run differs from what --expect names
   141  standard output is a pipe that nobody reads any more
 
 docs/LANGUAGE.md has the language, the script, the trace and all refusals.";
@@ -52,7 +53,8 @@ Without --workers the run is serial, and its trace is always the same. With work
 Examples:
   sdlrun run --limit 100 < examples/counter.sdl
   sdlrun run --lines --chart inres.svg examples/inres.sdl
-  sdlrun run --coverage inres.txt examples/inres.sdl";
+  sdlrun run --coverage inres.txt examples/inres.sdl
+  sdlrun run --expect examples/counter.trace examples/counter.sdl";
 
 /// The program with its commands.
 pub fn command<'a>(alloc: Global) -> Result<Command<'a>, AllocError> {
@@ -102,6 +104,9 @@ fn run<'a>(alloc: Global) -> Result<Command<'a>, AllocError> {
         .arg(time(alloc, "from", "Draws nothing before time T")?)?
         .arg(time(alloc, "until", "Draws nothing after time T")?)?
         .arg(coverage(alloc))?
+        .arg(expect(alloc))?
+        .arg(outputs(alloc)?)?
+        .arg(bless(alloc)?)?
         .arg(strict(alloc))?
         .arg(quiet(
             alloc,
@@ -207,6 +212,39 @@ fn coverage<'a>(alloc: Global) -> Arg<'a> {
             "Writes what the run covered into the file NAME: .txt for people, or .info as LCOV reads it",
         )
         .action(ArgAction::Set)
+}
+
+/// The file with what is expected of a run.
+fn expect<'a>(alloc: Global) -> Arg<'a> {
+    Arg::new(alloc, "expect")
+        .long("expect")
+        .value_name("NAME")
+        .help(
+            "Compares what is written with the file NAME, tells the first difference, and ends with status 8",
+        )
+        .action(ArgAction::Set)
+}
+
+/// Whether the signals to the environment alone are expected.
+fn outputs<'a>(alloc: Global) -> Result<Arg<'a>, AllocError> {
+    Arg::new(alloc, "outputs")
+        .long("outputs")
+        .help(
+            "Compares the signals to the environment alone, a line each, such as `3 val(1) from #1`",
+        )
+        .action(ArgAction::SetTrue)
+        .requires_arg("expect")?
+        .conflicts_with("lines")?
+        .conflicts_with("json")
+}
+
+/// Whether the file with what is expected is written.
+fn bless<'a>(alloc: Global) -> Result<Arg<'a>, AllocError> {
+    Arg::new(alloc, "bless")
+        .long("bless")
+        .help("Writes the file of --expect anew, and compares nothing")
+        .action(ArgAction::SetTrue)
+        .requires_arg("expect")
 }
 
 /// Whether no refusal is explained, and nothing is written of a text that a check accepts.

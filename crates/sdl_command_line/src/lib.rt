@@ -2,12 +2,13 @@
 //!
 //! `read_command_line` reads it by the crate `clap`, and answers help and mistakes at once; `chosen` tells which words
 //! choose what. Options are read within their ranges, so what is chosen can be done as it is. `overwritten_by` tells
-//! whether a file that is to be written is one of those that are read.
+//! whether a file that is to be written, or compared with, is one of those that are read.
 #![tactic(auto)]
 
 mod chart;
 mod commands;
 mod coverage;
+mod expectation;
 mod mistake;
 mod overwriting;
 mod request;
@@ -15,6 +16,7 @@ mod task;
 
 pub use chart::ChartFile;
 pub use coverage::CoverageFile;
+pub use expectation::{Expectation, Part};
 pub use overwriting::{Overwriting, overwritten_by};
 pub use request::{Request, read_command_line};
 pub use task::{InputFile, Task, chosen};

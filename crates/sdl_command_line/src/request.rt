@@ -46,8 +46,8 @@ fn request_of<R: Eprint + Files>(rt: &R, task: Task) -> Request {
         );
         return Request::Misused;
     }
-    if let Some(Overwriting { option, text }) = overwritten_by(rt, &task) {
-        let _ = eprintln!(rt; "error: {option} would overwrite the file of {text}");
+    if let Some(Overwriting { option, deed, text }) = overwritten_by(rt, &task) {
+        let _ = eprintln!(rt; "error: {option} would {deed} the file of {text}");
         return Request::Misused;
     }
     Request::Read(task)

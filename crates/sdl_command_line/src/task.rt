@@ -3,6 +3,7 @@
 use crate::chart::{ChartFile, chart_file};
 use crate::commands::{command, named_run};
 use crate::coverage::{CoverageFile, coverage_file};
+use crate::expectation::{Expectation, expectation_of};
 use crate::mistake::Mistake;
 use clap::error::ErrorKind;
 use clap::{ArgMatches, Error};
@@ -27,6 +28,8 @@ pub struct Task {
     pub chart: Option<ChartFile>,
     /// The file that tells what a run covered.
     pub coverage: Option<CoverageFile>,
+    /// The file with what is expected of a run.
+    pub expectation: Option<Expectation>,
 }
 
 impl Task {
@@ -93,6 +96,7 @@ fn met_task(alloc: Global, matches: &ArgMatches<'_>) -> Result<Task, Mistake> {
         task.strict = run.get_flag("strict");
         task.chart = chart_file(alloc, run)?;
         task.coverage = coverage_file(alloc, run)?;
+        task.expectation = expectation_of(alloc, run)?;
         return Ok(task);
     }
     match matches.subcommand_matches("check") {
@@ -111,6 +115,7 @@ fn met_task(alloc: Global, matches: &ArgMatches<'_>) -> Result<Task, Mistake> {
             script: None,
             chart: None,
             coverage: None,
+            expectation: None,
         }),
     }
 }
@@ -172,6 +177,7 @@ fn task_of(alloc: Global, options: Options, named: &ArgMatches<'_>) -> Result<Ta
         script,
         chart: None,
         coverage: None,
+        expectation: None,
     })
 }
 

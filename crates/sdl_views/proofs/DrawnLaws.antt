@@ -1,7 +1,7 @@
 -- What the calls of a drawing give, put together into what is said of it.
-use Rattle.std.proofs.Common.{◌≢◌, ℕ, List, Option, None, inr, refl}
+use Rattle.std.proofs.Common.{◌≡◌, ◌≢◌, ℕ, List, Option, None, ap, inr, refl}
 use Rattle.sdl_engine.specs.Answer.{fault_of}
-use Rattle.sdl_engine.specs.Views.{IsTimelineTo}
+use Rattle.sdl_engine.specs.Views.{IsTimelineTo, lost_to}
 use Rattle.sdl_engine.specs.declared.run.Run.{Run}
 use Rattle.sdl_report.specs.Gathered.{BreaksOff}
 use Rattle.sdl_report.specs.declared.write_whole.WriteFault.{WriteFault}
@@ -10,6 +10,7 @@ use Rattle.std.specs.Io.KnownBytes.{Appends}
 use Rattle.std.specs.String.{string_bytes}
 use Rattle.view_msc.specs.MscText.{msc_text}
 use Rattle.view_picture.specs.Written.{IsBrokenOff, IsWritten}
+use Rattle.view_steps.specs.Sending.{SendingValue}
 use Rattle.view_timeline.specs.declared.moves.Timeline.{Timeline}
 use Rattle.sdl_views.specs.Drawn.{FailsToDraw, IsBegun, IsChart, IsDrawn}
 use Rattle.sdl_views.specs.declared.form.Form.{Form}
@@ -49,30 +50,34 @@ picture_fails why form run old new no_text off = fails why
 
 -- ---- texts of Z.120
 
-abbrev text_of : Run → Option ℕ → Timeline → List ℕ
-text_of run stuck told = msc_text (string_bytes run.tree.name.text) run.system told stuck run.report
+abbrev text_of : Run → Option ℕ → Timeline → List SendingValue → List ℕ
+text_of run stuck told lost = msc_text (string_bytes run.tree.name.text) run.system told stuck lost run.report
 
-pub text_drawn : (run : Run) (stuck : Option ℕ) (told : Timeline) (old new : Option (List ℕ)) →
-    IsTimelineTo stuck run.report.records.items told →
-    Appends old new (msc_text (string_bytes run.tree.name.text) run.system told stuck run.report) →
+-- the signals of the script that nobody took
+abbrev pub AreLost : Run → Option ℕ → Timeline → List SendingValue → Type 0
+AreLost run stuck told lost = lost ≡ lost_to stuck run.system run.report told run.script.lines.items
+
+pub text_drawn : (run : Run) (stuck : Option ℕ) (told : Timeline) (lost : List SendingValue)
+    (old new : Option (List ℕ)) → IsTimelineTo stuck run.report.records.items told → AreLost run stuck told lost →
+    Appends old new (msc_text (string_bytes run.tree.name.text) run.system told stuck lost run.report) →
     IsDrawn forms.Msc run stuck old new
-text_drawn run stuck told old new is out = record {
-  text = text_of run stuck told;
-  chart = record { told = told; is_timeline = is; says = refl };
+text_drawn run stuck told lost old new is are out = record {
+  text = text_of run stuck told lost;
+  chart = record { told = told; is_timeline = is; says = ap (text_of run stuck told) are };
   out = out;
 }
 
-pub text_fails : (why : WriteFault) (run : Run) (stuck : Option ℕ) (told : Timeline) (old new : Option (List ℕ)) →
-    IsTimelineTo stuck run.report.records.items told →
-    BreaksOff old new (msc_text (string_bytes run.tree.name.text) run.system told stuck run.report) →
+pub text_fails : (why : WriteFault) (run : Run) (stuck : Option ℕ) (told : Timeline) (lost : List SendingValue)
+    (old new : Option (List ℕ)) → IsTimelineTo stuck run.report.records.items told → AreLost run stuck told lost →
+    BreaksOff old new (msc_text (string_bytes run.tree.name.text) run.system told stuck lost run.report) →
     FailsToDraw (fault_of why) forms.Msc run old new
-text_fails why run stuck told old new is off = fails why
+text_fails why run stuck told lost old new is are off = fails why
   where
     begun : IsBegun forms.Msc run old new
     begun = record {
       stuck = stuck;
-      text = text_of run stuck told;
-      chart = record { told = told; is_timeline = is; says = refl };
+      text = text_of run stuck told lost;
+      chart = record { told = told; is_timeline = is; says = ap (text_of run stuck told) are };
       breaks = off;
     }
 

@@ -2,7 +2,7 @@
 use Rattle.std.specs.Prelude.{ℕ, ◌⊎◌, List, Option}
 use Rattle.std.specs.Io.KnownBytes.{Appends, Keeps}
 use Rattle.std.specs.String.{string_bytes}
-use Rattle.sdl_engine.specs.Views.{IsInOrder}
+use Rattle.sdl_engine.specs.Views.{IsInOrder, lost_to}
 use Rattle.sdl_engine.specs.declared.options.TextFault.{TextFault}
 use Rattle.sdl_engine.specs.declared.options.TextFault.TheVariants as faults
 use Rattle.sdl_engine.specs.declared.run.Run.{Run}
@@ -15,7 +15,8 @@ use Rattle.sdl_views.specs.declared.form.Form.TheVariants as forms
 -- can't. Of a picture nothing is said.
 abbrev pub IsChart : Form → Run → Option ℕ → List ℕ → Type 0
 IsChart forms.Msc run stuck text = IsInOrder run.report.records.items
-    (λ told. msc_text (string_bytes run.tree.name.text) run.system told stuck run.report) stuck text
+    (λ told. msc_text (string_bytes run.tree.name.text) run.system told stuck
+    (lost_to stuck run.system run.report told run.script.lines.items) run.report) stuck text
 IsChart other run stuck text = Unit {0}
 
 -- a chart of the run has gone out

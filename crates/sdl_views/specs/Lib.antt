@@ -1,3 +1,4 @@
 pub mod Chosen
 pub mod Covered
 pub mod Drawn
+pub mod Sent

@@ -36,7 +36,7 @@ fn draw_text<W: Write>(alloc: Global, run: &Run, writer: &mut W) -> Result<Optio
     ensures err { IfErr result (λ fault. FailsToDraw fault Form.Msc run.now
         (W.contents writer.old) (W.contents writer.new)) }
 {
-    let order = order_of(alloc, &run.report)?;
+    let order = order_of(alloc, run)?;
     let (name, system, report) = (run.name(), &run.system, &run.report);
     write_msc(
         alloc,
@@ -44,6 +44,7 @@ fn draw_text<W: Write>(alloc: Global, run: &Run, writer: &mut W) -> Result<Optio
         system,
         &order.told,
         order.stuck,
+        &order.lost,
         report,
         writer,
     )?;

@@ -26,7 +26,7 @@ pub fn draw_picture<W: Write>(
     ensures err { IfErr result (λ fault. FailsToDraw fault form run.now
         (W.contents writer.old) (W.contents writer.new)) }
 {
-    let order = order_of(alloc, &run.report)?;
+    let order = order_of(alloc, run)?;
     write_picture(alloc, run, &order, form, selection, writer)?;
     Ok(order.stuck)
 }
@@ -34,7 +34,7 @@ pub fn draw_picture<W: Write>(
 fn write_picture<W: Write>(
     alloc: Global,
     run: &Run,
-    order: &Order,
+    order: &Order<'_>,
     form: Form,
     selection: &Selection,
     writer: &mut W,
@@ -54,7 +54,7 @@ fn write_picture<W: Write>(
 fn chart_of(
     alloc: Global,
     run: &Run,
-    order: &Order,
+    order: &Order<'_>,
     selection: &Selection,
 ) -> Result<Chart, AllocError> {
     let subject = Subject {
@@ -62,6 +62,7 @@ fn chart_of(
         report: &run.report,
         timeline: &order.told,
         stuck: order.stuck,
+        lost: &order.lost,
     };
     lay_out(alloc, subject, selection)
 }

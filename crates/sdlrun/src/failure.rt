@@ -23,3 +23,9 @@ impl From<AllocError> for Failure {
         Failure::Text(TextFault::Memory)
     }
 }
+
+impl From<TextFault> for Failure {
+    fn from(fault: TextFault) -> Failure {
+        Failure::Text(fault)
+    }
+}

@@ -1,6 +1,7 @@
 //! `sdlrun` reads a specification in SDL/PR with a script of timed signals, from files or standard input. `run` runs
-//! its process instances and writes the exact trace of each, or all in one order, draws a chart of it, and tells what it
-//! covered; `check` writes its canonical text. Either writes one line instead that names a refusal and its place.
+//! its process instances and writes the exact trace of each, or all in one order, draws a chart of it, tells what it
+//! covered, and compares it with what is expected; `check` writes its canonical text. Either writes one line instead
+//! that names a refusal and its place.
 //!
 //! `sdl_engine`'s `run_and_note` is the whole tool over any readers and writers; `main` has the command line read by
 //! `sdl_command_line`, has `run_and_note` called on the text that is named there, and maps its answer to an exit status.
@@ -9,6 +10,7 @@
 mod answer;
 mod covered;
 mod drawn;
+mod expected;
 mod failure;
 mod message;
 mod opened;
@@ -51,6 +53,9 @@ fn main(rt: HostRuntime) -> ExitCode {
 fn status_of(told: Told) -> ExitCode {
     if told.stuck {
         return ExitCode::from(3);
+    }
+    if told.differs {
+        return ExitCode::from(8);
     }
     if told.failed {
         return ExitCode::from(6);

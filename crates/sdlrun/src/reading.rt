@@ -3,6 +3,7 @@
 use crate::answer::Answer;
 use crate::covered::cover_file;
 use crate::drawn::draw_file;
+use crate::expected::{Compared, Expected};
 use crate::failure::Failure;
 use crate::message::Message;
 use crate::opened::{Opened, open_source};
@@ -23,29 +24,37 @@ pub struct Told {
     pub failed: bool,
     /// Whether the order of the run is told, and isn't known to its end.
     pub stuck: bool,
+    /// Whether the run differs from what is expected.
+    pub differs: bool,
 }
 
-/// Does what the command line asks for with the text that it names. Then it draws the run, and tells what it covered, if
-/// that is asked for. `threads` starts the workers, if any are asked for.
+/// Does what the command line asks for with the text that it names. Then it draws the run, tells what it covered, and
+/// compares it with what is expected, if that is asked for. `threads` starts the workers, if any are asked for.
 pub fn tell<T: Threads + Wait + Copy + Send + Sync>(
     rt: &HostRuntime,
     threads: &T,
     task: &Task,
 ) -> Result<Told, Failure> {
     let mut source = open_source(rt, task)?;
+    let expected = Expected::read(rt, task)?;
     let mut notes = notes_of(rt, task);
-    let mut answer = Answer::new(rt.stdout());
-    let outcome = match tell_text(rt, threads, task, &mut source, &mut answer, &mut notes) {
-        Ok(outcome) => outcome,
-        Err(fault) => return Err(answer.failure(fault)),
-    };
+    let written = tell_text(rt, threads, task, &mut source, &mut notes)?;
     let drawn = draw_run(rt, task, &notes)?;
     cover_run(rt, task, &notes)?;
+    let compared = compare_run(rt, task, &expected, &notes, &written)?;
     Ok(Told {
-        outcome,
+        outcome: written.outcome,
         failed: notes.failed,
-        stuck: notes.stuck.or(drawn).is_some(),
+        stuck: notes.stuck.or(drawn).or(compared.stuck).is_some(),
+        differs: compared.differs,
     })
+}
+
+/// What came of a text, and what was written of it, if that is held for those who compare it.
+#[derive(Drop)]
+struct Written {
+    outcome: Outcome,
+    text: Vec<u8>,
 }
 
 /// What standard error is to have of it.
@@ -57,29 +66,47 @@ fn notes_of<'t>(rt: &HostRuntime, task: &'t Task) -> Notes<'t, Message> {
         strict: task.strict,
         failed: false,
         stuck: None,
-        keeps: task.chart.is_some() || task.coverage.is_some(),
+        keeps: keeps_run(task),
         run: None,
         texts: None,
     }
 }
 
-/// Writes what is asked for of the text.
+/// Whether the run is kept for those who draw it, tell what it covered, or compare it.
+fn keeps_run(task: &Task) -> bool {
+    task.chart.is_some() || task.coverage.is_some() || task.expectation.is_some()
+}
+
+/// Writes what is asked for of the text. If nothing is to be written of a text that is accepted, or what is written is
+/// compared, it is held first.
 fn tell_text<T: Threads + Wait + Copy + Send + Sync>(
     rt: &HostRuntime,
     threads: &T,
     task: &Task,
     source: &mut Source<Opened, Opened>,
-    answer: &mut Answer,
     notes: &mut Notes<'_, Message>,
-) -> Result<Outcome, TextFault> {
-    if task.quiet {
-        return tell_refusal(rt, threads, source, answer, notes, &task.options);
+) -> Result<Written, Failure> {
+    let mut answer = Answer::new(rt.stdout());
+    let mut text = Vec::new(rt.alloc());
+    if !task.quiet && task.expectation.is_none() {
+        return match tell_to(rt, threads, source, &mut answer, notes, &task.options) {
+            Ok(outcome) => Ok(Written { outcome, text }),
+            Err(fault) => Err(answer.failure(fault)),
+        };
     }
-    tell_to(rt, threads, source, answer, notes, &task.options)
+    let outcome = match tell_to(rt, threads, source, &mut text, notes, &task.options) {
+        Ok(outcome) => outcome,
+        Err(fault) => return Err(Failure::Text(fault)),
+    };
+    let is_silent = task.quiet && outcome == Outcome::Whole;
+    if !is_silent && answer.write_all(&text).is_err() {
+        return Err(answer.failure(TextFault::Write));
+    }
+    Ok(Written { outcome, text })
 }
 
-/// Draws the run that is kept, if there is one. It answers the instance that can't go on in the order of the run, if one
-/// can't. That is said once.
+/// Draws the run that is kept, if there is one. It answers the instance that can't go on in the order of the run, if
+/// one can't. That is said once.
 fn draw_run(
     rt: &HostRuntime,
     task: &Task,
@@ -92,7 +119,7 @@ fn draw_run(
     if task.options.view == View::Trace
         && let Some(number) = stuck
     {
-        let _ = eprintln!(rt; "sdlrun: the order isn't known from instance #{number} on");
+        note_stuck(rt, number);
     }
     Ok(stuck)
 }
@@ -111,27 +138,36 @@ fn cover_run(rt: &HostRuntime, task: &Task, notes: &Notes<'_, Message>) -> Resul
     cover_file(rt, &told, coverage)
 }
 
-/// Does it, and writes nothing of a text that is accepted.
-fn tell_refusal<T: Threads + Wait + Copy + Send + Sync>(
+/// Compares the run that is kept with what is expected. From where on its order isn't known is said once.
+fn compare_run(
     rt: &HostRuntime,
-    threads: &T,
-    source: &mut Source<Opened, Opened>,
-    answer: &mut Answer,
-    notes: &mut Notes<'_, Message>,
-    options: &Options,
-) -> Result<Outcome, TextFault> {
-    let mut held = Vec::new(rt.alloc());
-    let outcome = tell_to(rt, threads, source, &mut held, notes, options)?;
-    if outcome == Outcome::Whole {
-        return Ok(outcome);
+    task: &Task,
+    expected: &Option<Expected<'_>>,
+    notes: &Notes<'_, Message>,
+    written: &Written,
+) -> Result<Compared, Failure> {
+    let (Some(expected), Some(run)) = (expected, &notes.run) else {
+        return Ok(Compared {
+            differs: false,
+            stuck: None,
+        });
+    };
+    let compared = expected.compare(rt, task, run, &written.text)?;
+    if task.chart.is_none()
+        && let Some(number) = compared.stuck
+    {
+        note_stuck(rt, number);
     }
-    match answer.write_all(&held) {
-        Ok(()) => Ok(outcome),
-        Err(_) => Err(TextFault::Write),
-    }
+    Ok(compared)
 }
 
-/// Does it with this writer; without threads, where none are asked for, so that it always returns.
+/// Says from which instance on the order of a run isn't known.
+fn note_stuck(rt: &HostRuntime, number: u32) {
+    let _ = eprintln!(rt; "sdlrun: the order isn't known from instance #{number} on");
+}
+
+/// Writes what is asked for of the text with this writer; without threads, if none are asked for, so that it always
+/// returns.
 fn tell_to<T: Threads + Wait + Copy + Send + Sync, W: Write>(
     rt: &HostRuntime,
     threads: &T,

@@ -3,7 +3,7 @@
 use clap::Error;
 use clap::error::ErrorKind;
 use port_values::Ticks;
-use sdl_command_line::{InputFile, Task, chosen};
+use sdl_command_line::{InputFile, Part, Task, chosen};
 use sdl_engine::{Command, Options, View};
 use sdl_views::Form;
 use std::alloc::Global;
@@ -275,6 +275,69 @@ static MISCOVERED: [&str; 9] = [
 #[test]
 fn refuses_coverage_that_cannot_be(rt: HostRuntime) {
     for line in &MISCOVERED {
+        let told = told(&rt, rt.alloc(), line);
+        assert!(rt; told.is_err(), "{line}");
+    }
+}
+
+/// Command lines, and what is expected: the file, whether of the outputs alone, and whether it is written.
+static EXPECTED: [(&str, Option<(&str, Part, bool)>); 6] = [
+    ("sdlrun run a", None),
+    ("sdlrun check a", None),
+    ("sdlrun run --expect b a", Some(("b", Part::Whole, false))),
+    (
+        "sdlrun run --json --workers 2 --expect=b",
+        Some(("b", Part::Whole, false)),
+    ),
+    (
+        "sdlrun run --bless --expect b --lines",
+        Some(("b", Part::Whole, true)),
+    ),
+    (
+        "sdlrun run --outputs a --expect b",
+        Some(("b", Part::Outputs, false)),
+    ),
+];
+
+#[test]
+fn expects_what_is_asked(rt: HostRuntime) {
+    for (line, expected) in &EXPECTED {
+        let told = told(&rt, rt.alloc(), line);
+        assert!(rt; told.is_ok(), "{line}");
+        assert!(rt; expected_by(&told) == *expected, "{line}");
+    }
+}
+
+fn expected_by(told: &Result<Task, Error>) -> Option<(&str, Part, bool)> {
+    match told {
+        Ok(
+            Task {
+                expectation: Some(expectation),
+                ..
+            },
+        ) => Some((
+            expectation.name.as_str(),
+            expectation.part,
+            expectation.blesses,
+        )),
+        _ => None,
+    }
+}
+
+/// Mistakes in the options of what is expected.
+static MISEXPECTED: [&str; 7] = [
+    "sdlrun run --expect",
+    "sdlrun run --outputs a",
+    "sdlrun run --bless a",
+    "sdlrun run --expect b --outputs --lines a",
+    "sdlrun run --expect b --json --outputs a",
+    "sdlrun run --expect b --expect c a",
+    "sdlrun check --expect b a",
+];
+
+#[test]
+fn refuses_expectations_that_cannot_be(rt: HostRuntime) {
+    for line in &MISEXPECTED {
         let told = told(&rt, rt.alloc(), line);
         assert!(rt; told.is_err(), "{line}");
     }

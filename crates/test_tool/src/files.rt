@@ -34,23 +34,47 @@ fn asked(rt: &impl Abort, alloc: Global, line: &str) -> Option<Task> {
 }
 
 /// Options, and what they would overwrite, with the option that would.
-static OPTIONS: [(&str, Option<Overwriting>); 7] = [
+static OPTIONS: [(&str, Option<Overwriting>); 11] = [
     ("--chart @/a.svg", SPECIFICATION),
     ("--chart @/hard.svg", SPECIFICATION),
     ("--chart @/link.svg", SPECIFICATION),
     ("--chart @/./a.svg --coverage @/s.txt", SPECIFICATION),
     ("--chart @/new.svg --coverage @/s.txt", SCRIPT),
+    ("--chart @/link.svg --expect @/link.svg", SPECIFICATION),
+    ("--expect @/other.svg --chart @/./other.svg", EXPECTED),
+    ("--expect @/s.txt", COMPARED),
+    ("--expect @/s.txt --bless", BLESSED),
     ("--coverage @/other.txt", None),
     ("--coverage @/new.txt", None),
 ];
 
 const SPECIFICATION: Option<Overwriting> = Some(Overwriting {
     option: "--chart",
+    deed: "overwrite",
     text: "the specification",
 });
 
 const SCRIPT: Option<Overwriting> = Some(Overwriting {
     option: "--coverage",
+    deed: "overwrite",
+    text: "the script",
+});
+
+const EXPECTED: Option<Overwriting> = Some(Overwriting {
+    option: "--chart",
+    deed: "overwrite",
+    text: "what is expected",
+});
+
+const COMPARED: Option<Overwriting> = Some(Overwriting {
+    option: "--expect",
+    deed: "compare with",
+    text: "the script",
+});
+
+const BLESSED: Option<Overwriting> = Some(Overwriting {
+    option: "--bless",
+    deed: "overwrite",
     text: "the script",
 });
 
@@ -59,7 +83,7 @@ fn overwrites_no_input(rt: HostRuntime) {
     let folder = folder(&rt, "overwriting", process::id(rt.process()));
     let folder = folder.as_str();
     let text = within(&rt, folder, "@/a.svg");
-    for name in ["@/a.svg", "@/s.txt", "@/other.txt"] {
+    for name in ["@/a.svg", "@/s.txt", "@/other.txt", "@/other.svg"] {
         fs::write(&rt, within(&rt, folder, name), "text").expect(&rt, "a file");
     }
     fs::hard_link(

@@ -1,7 +1,7 @@
 //! Tests of what no single text can show. Of the whole tool: readers and writers that fail, lines that need no memory,
-//! what a human is told of a refusal, which words of a command line choose what, charts of runs, what runs covered, and
-//! runs on worker threads. Of its crates for texts: that a canonical text is read as the same tree again, that each
-//! beginning of a text is refused by one line, and their calls.
+//! what a human is told of a refusal, which words of a command line choose what, charts of runs, what runs covered, what
+//! is expected of them, and runs on worker threads. Of its crates for texts: that a canonical text is read as the same
+//! tree again, that each beginning of a text is refused by one line, and their calls.
 //!
 //! They stand above all other crates, so that none of these is proved a second time for its tests. Texts with what is
 //! written of them are cases of `conformance`.
@@ -23,6 +23,8 @@ mod devices;
 mod ends;
 #[cfg(test)]
 mod engine;
+#[cfg(test)]
+mod expected;
 #[cfg(test)]
 mod explains;
 #[cfg(test)]

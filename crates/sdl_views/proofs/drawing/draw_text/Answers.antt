@@ -1,8 +1,9 @@
-use Rattle.std.proofs.Common.{subst}
+use Rattle.std.proofs.Common.{◌∙◌, ap, map, subst}
 use Rattle.std.proofs.lemmas.Result.{err_from_is_err_and}
 use Rattle.std.specs.Io.KnownBytes.{Appends}
 use Rattle.sdl_report.specs.Gathered.{BreaksOff}
 use Rattle.view_msc.specs.MscText.{msc_text}
+use Rattle.view_steps.specs.Sending.{sending_value}
 use Rattle.sdl_views.proofs.DrawnLaws.{text_drawn, text_fails}
 use Rattle.sdl_views.proofs.drawing.draw_text.Goals as goal
 
@@ -11,14 +12,20 @@ returns-in_err-write_msc-clause-err g c =
     let p = err_from_is_err_and c.from_residual-in_err-write_msc.result c.from_residual-in_err-write_msc.ensures.1 in
     let run = c.args.run.now in
     let order = c.in_ok-order.order in
-    rw (p.1, p.2) (text_fails _ run order.stuck order.told _ _ c.in_ok-order.ensures.told
+    let lost = map sending_value c.deref.result.now in
+    rw (p.1, p.2) (text_fails _ run order.stuck order.told lost _ _ c.in_ok-order.ensures.told
+    (ap (map sending_value) c.deref.ensures.value ∙ c.in_ok-order.ensures.lost)
     (subst (λ name. BreaksOff (g.W.Write.contents c.args.writer.now) (g.W.Write.contents c.write_msc.new.writer)
-    (msc_text name run.system order.told order.stuck run.report)) c.name-name.ensures c.in_err-write_msc.ensures.err))
+    (msc_text name run.system order.told order.stuck lost run.report)) c.name-name.ensures
+    c.in_err-write_msc.ensures.err))
 
 pub returns-clause-ok : goal.returns-clause-ok
 returns-clause-ok g c =
     let run = c.args.run.now in
     let order = c.in_ok-order.order in
-    text_drawn run order.stuck order.told _ _ c.in_ok-order.ensures.told
+    let lost = map sending_value c.deref.result.now in
+    text_drawn run order.stuck order.told lost _ _ c.in_ok-order.ensures.told
+    (ap (map sending_value) c.deref.ensures.value ∙ c.in_ok-order.ensures.lost)
     (subst (λ name. Appends (g.W.Write.contents c.args.writer.now) (g.W.Write.contents c.write_msc.new.writer)
-    (msc_text name run.system order.told order.stuck run.report)) c.name-name.ensures c.in_ok-write_msc.ensures.ok)
+    (msc_text name run.system order.told order.stuck lost run.report)) c.name-name.ensures
+    c.in_ok-write_msc.ensures.ok)

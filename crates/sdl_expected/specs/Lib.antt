@@ -1,0 +1,5 @@
+pub mod Difference
+pub mod Lines
+pub mod Outputs
+pub mod Sender
+pub mod Shown
