@@ -29,9 +29,26 @@ class Move:
         return "".join(line + fate(deed) + "\n" for line, deed in self.lines)
 
 
+@dataclass(eq=False)
+class Sending:
+    """A signal of the script, among the transitions: it is told if nobody takes it."""
+
+    time: int
+    head: str
+    deed: dict
+    taken: bool = False
+
+    def json(self):
+        return "" if self.taken else written({"at": self.time, **self.deed})
+
+    def text(self):
+        return "" if self.taken else f"{self.time} env output {self.head} to {self.deed['to']}{fate(self.deed)}\n"
+
+
 @dataclass
 class Order:
-    """The transitions so far, how many arrows there are, and how many signals of the environment were taken."""
+    """The transitions so far, how many arrows there are, and how many signals of the environment were taken. Signals of
+    the script are among the transitions."""
 
     moves: list = field(default_factory=list)
     arrows: int = 0
@@ -50,9 +67,17 @@ class Order:
         self.moves[-1].lines.append((text, deed))
         return deed
 
+    def send(self, time, head, signal, values, target):
+        """The environment sends a signal; what becomes of it is told by `take` and `lose`."""
+        sending = Sending(time, head, {"lost": signal, "values": of_values(values), "to": of_value(target)})
+        self.moves.append(sending)
+        return sending
+
     def take(self, entry):
         """The arrow of what is taken, if an instance sent it."""
         self.heard += entry.sender == "env"
+        if entry.sending is not None:
+            entry.sending.taken = True
         if entry.deed is None:
             return {}
         self.arrows += 1
@@ -65,6 +90,8 @@ class Order:
             for entry in it.port:
                 if entry.deed is not None:
                     entry.deed["waits"] = True
+                if entry.sending is not None:
+                    entry.sending.deed["waits"] = True
         return self.lines(run), self.json(run)
 
     def lines(self, run):
@@ -85,6 +112,8 @@ def lose(entry):
     """What is sent to nobody who lives, or waits for one who ends, is gone."""
     if entry.deed is not None:
         entry.deed["gone"] = True
+    if entry.sending is not None:
+        entry.sending.deed["gone"] = True
 
 
 def written(what):

@@ -25,13 +25,15 @@ class Ended(Exception):
 
 @dataclass(eq=False)
 class Entry:
-    """What waits in a port; the signal of a timer has the number of its set, and that of an instance what sent it."""
+    """What waits in a port; the signal of a timer has the number of its set, that of an instance what sent it, and that
+    of the environment where it was sent."""
 
     signal: object
     values: tuple
     sender: str
     number: int = 0
     deed: dict | None = None
+    sending: object = None
 
 
 @dataclass(eq=False)
@@ -379,8 +381,10 @@ class Run:
         while self.script and self.script[0].time <= self.time:
             line = self.script.pop(0)
             if line.signal is not None:
-                target = self.target(ENVIRONMENT, line.signal, line.to)
-                self.put(target, Entry(line.signal, tuple(line.values), "env"))
+                target, values = self.target(ENVIRONMENT, line.signal, line.to), tuple(line.values)
+                head = signal_text(line.signal, values)
+                sending = self.order.send(self.time, head, line.signal.name, values, target)
+                self.put(target, Entry(line.signal, values, "env", sending=sending))
 
     def trace(self):
         lines = []

@@ -15,7 +15,7 @@ CLOSES = re.compile(r"(rest|cut) \w+")
 LAST = re.compile(r"end (\d+) (whole|cut)")
 REFUSAL = re.compile(r"((lex|parse|build) (\d+:\d+ \w+( \S+)?|Memory)|script (\d+ \w+|Memory)|run Memory)\n")
 CUT_NOTE = re.compile(
-    rb"sdlrun: cut after \d+ transitions"
+    rb"sdlrun: cut after (?:1 transition|\d+ transitions)"
     rb"(; the clock never moved; --limit shows less| at time [1-9]\d*; --limit shows less, or more)\n"
 )
 EXPLANATION = re.compile(rb"[^\n:]+(:\d+:\d+)?: [^\n]+\n(?:[^\n]*\n)*")
