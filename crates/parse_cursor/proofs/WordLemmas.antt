@@ -2,7 +2,7 @@
 use Rattle.std.proofs.Common.{◌≡◌, ℕ, List, [], ◌∷◌, ◌++◌, map, slice_range, take, All, sym, ap, ◌∙◌, subst, append_assoc, ◌≤◌, ◌<◌, arith}
 use Rattle.std.proofs.lemmas.Grind.{common_steps}
 use Rattle.std.proofs.lemmas.List.{length-take-le}
-use Rattle.std.proofs.lemmas.List.Elements.{All-tail}
+use Rattle.std.proofs.lemmas.List.Elements.{All-head, All-tail}
 use Rattle.std.proofs.lemmas.List.Sums.{count_by-le-length, suffix_len-le-length}
 use Rattle.std.proofs.lemmas.Str.{IsUtf8-from_ascii}
 use Rattle.sdl_lex.specs.declared.place.Place.{Place}
@@ -31,10 +31,13 @@ read_on source found new one at rest after t all is pushed meant placed e =
 pub slices_after : (source : List ℕ) (rest after : List Token) (t : Token) → rest ≡ t ∷ after → All (IsSlice source) rest → All (IsSlice source) after
 slices_after source rest after t is all = let P : List Token → Type 0 = λ r. All (IsSlice source) r in All-tail (IsSlice source) t after (subst P is all)
 
+pub slice_first : (source : List ℕ) (rest after : List Token) (t : Token) → rest ≡ t ∷ after → All (IsSlice source) rest → IsSlice source t
+slice_first source rest after t is all = let P : List Token → Type 0 = λ r. All (IsSlice source) r in All-head (IsSlice source) t after (subst P is all)
+
 -- ---- the order of tokens
 
 -- tokens that stand from an offset on stand from an earlier one on
-InOrder-earlier : (early late : ℕ) (ts : List Token) (to : ℕ) → early ≤ late → InOrder late ts to → InOrder early ts to
+pub InOrder-earlier : (early late : ℕ) (ts : List Token) (to : ℕ) → early ≤ late → InOrder late ts to → InOrder early ts to
 InOrder-earlier early late [] to le h = omega arith
 InOrder-earlier early late (t ∷ ts) to le h = (omega arith, h.1, h.2)
 
@@ -42,14 +45,13 @@ InOrder-up : (from : ℕ) (ts : List Token) (to : ℕ) → InOrder from ts to �
 InOrder-up from [] to h = h
 InOrder-up from (t ∷ ts) to h = let later = InOrder-up t.end ts to h.2 in omega arith
 
--- the first token has a byte, ends in the text, and the others stand behind where it starts
+-- the first token has a byte, ends in the text, and the others stand after it
 pub opened : (from : ℕ) (all : List Token) (t : Token) (ts : List Token) (to : ℕ) → all ≡ t ∷ ts → InOrder from all to
-    → (t.start < t.end) × (t.end ≤ to) × InOrder t.start ts to
+    → (from ≤ t.start) × (t.start < t.end) × (t.end ≤ to) × InOrder t.end ts to
 opened from all t ts to is h =
     let P : List Token → Type 0 = λ xs. InOrder from xs to in
     let o : InOrder from (t ∷ ts) to = subst P is h in
-    let ordered : t.start < t.end = o.1 in
-    (ordered, InOrder-up t.end ts to o.2, InOrder-earlier t.start t.end ts to (omega arith) o.2)
+    (o.0, o.1, InOrder-up t.end ts to o.2, o.2)
 
 pub ruleset counting = (common_steps, length-take-le, count_by-le-length, suffix_len-le-length)
 

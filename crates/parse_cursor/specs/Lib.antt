@@ -2,4 +2,5 @@ pub mod PlacedWord
 pub mod Reader
 pub mod Reading
 pub mod Reads
+pub mod Searched
 pub mod Wanted

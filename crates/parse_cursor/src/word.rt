@@ -1,10 +1,11 @@
 //! What the tokens of a text mean to the grammar.
 
-ghost use Rattle.std.specs.Prelude.{◌≡◌, ◌≤◌, All, IfOk, length, map, slice_range, take};
+ghost use Rattle.std.specs.Prelude.{◌≡◌, ◌≤◌, ◌<◌, ◌+◌, ◌-◌, ◌^◌, All, IfOk, length, map, slice_range, take};
 ghost use Rattle.std.specs.Str.{IsAscii};
 ghost use Rattle.sdl_lex.specs.Place.{place_after};
 ghost use Rattle.sdl_lex.specs.Token.{InOrder, IsSlice};
 ghost use Rattle.parse_cursor.specs.PlacedWord.{word_of_placed};
+ghost use Rattle.parse_cursor.specs.Searched as spec;
 ghost use Rattle.sdl_tree.specs.Words as words;
 
 use sdl_lex::{Kind, Place, Token};
@@ -33,6 +34,13 @@ pub struct PlacedWord<'t> {
     pub place: Place,
 }
 
+/// How far a text was searched for line ends, and the place there.
+#[derive(Clone, Copy)]
+pub struct Searched {
+    pub offset: usize,
+    pub place: Place,
+}
+
 /// The words of a text with these tokens, each classified once, with their places.
 pub fn placed_words<'t>(
     alloc: Global,
@@ -43,17 +51,47 @@ pub fn placed_words<'t>(
     requires slices { All (IsSlice text.now) tokens.now }
     ensures { IfOk result (λ found. map word_of_placed found.items ≡ words.words_of text.now tokens.now) }
 {
-    let mut found = Vec::new(alloc);
-    let mut from = 0;
-    let mut place = Place::START;
+    let mut found = Vec::with_capacity(alloc, tokens.len())?;
+    let mut searched = Searched {
+        offset: 0,
+        place: Place::START,
+    };
     let mut rest = tokens;
     'rest: while let Some((token, after)) = rest.split_first() {
-        place = moved(text, from, place, token.start);
-        from = token.start;
+        let place = moved(text, searched.offset, searched.place, token.start);
         found.push(placed(text, *token, place))?;
+        searched = behind(*token, place);
         rest = after;
     }
     Ok(found)
+}
+
+/// Where the search for line ends goes on after a token at this place: after its last byte, if no line ends in it.
+fn behind(token: Token, place: Place) -> Searched
+    requires ordered { token.start ≤ token.end }
+    requires room { place.column + (token.end - token.start) < 2 ^ 64 }
+    ensures { result ≡ spec.behind token place }
+{
+    if may_break(token.kind) {
+        return Searched {
+            offset: token.start,
+            place,
+        };
+    }
+    Searched {
+        offset: token.end,
+        place: Place {
+            line: place.line,
+            column: place.column + (token.end - token.start),
+        },
+    }
+}
+
+/// Whether a line may end in a token of this kind.
+fn may_break(kind: Kind) -> bool
+    ensures { result ≡ spec.may_break kind }
+{
+    matches!(kind, Kind::Text)
 }
 
 /// Makes the word that a token of this text means, at this place.

@@ -2,6 +2,7 @@ pub mod ErasedLemmas
 pub mod ExampleLemmas
 pub mod KeywordLemmas
 pub mod LawLemmas
+pub mod ShortWords
 pub mod SpelledLemmas
 pub mod ViewLemmas
 pub mod WordLemmas

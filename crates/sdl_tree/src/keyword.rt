@@ -2,7 +2,7 @@
 //! literal also with a capital first letter. Every other word is a name. A word is compared only with the spellings
 //! that begin as it does, since each word of a text is looked up here.
 
-ghost use Rattle.std.specs.Prelude.{◌≡◌, ◌||◌, map, option_map};
+ghost use Rattle.std.specs.Prelude.{◌≡◌, ◌||◌, [], ◌∷◌, map, option_map};
 ghost use Rattle.std.specs.List.{find};
 ghost use Rattle.std.specs.Str.{bytes_eq};
 ghost use Rattle.sdl_tree.specs.Keyword.{entry, both_cases, keyword_in, lower_case_in, keyword_found, sign_found, left_out_found, is_reserved, AreKeywordsFrom, AreLeftOutFrom};
@@ -19,9 +19,23 @@ pub struct Keyword {
 /// A keyword in one of its spellings.
 type Entry = (Mark, Case, &'static str);
 
+/// How many letters a keyword has at least, and a word that is left out. Many names have fewer.
+const FEWEST_LETTERS: usize = 2;
+
 /// The keyword or literal that a word spells, if any, with its spelling.
-#[tactic(auto, unfolding(crate::specs::Keyword::keyword_found))]
+#[tactic(auto, using(crate::proofs::ShortWords::no_short_keyword))]
 pub fn keyword_of(word: &[u8]) -> Option<Keyword>
+    ensures { result ≡ keyword_found word.now }
+{
+    if word.len() < FEWEST_LETTERS {
+        return None;
+    }
+    keyword_by_first(word)
+}
+
+/// The keyword or literal that a word spells, looked up by the first letter.
+#[tactic(auto, unfolding(crate::specs::Keyword::keyword_found))]
+fn keyword_by_first(word: &[u8]) -> Option<Keyword>
     ensures { result ≡ keyword_found word.now }
 {
     let (first, _) = word.split_first()?;
@@ -48,19 +62,68 @@ fn entry_of(table: &[Entry], word: &[u8]) -> Option<Entry>
 }
 
 /// The mark of other characters that these bytes are, if they are one.
-#[tactic(auto, unfolding(crate::specs::Keyword::sign_found))]
+#[tactic(auto, using(crate::proofs::ShortWords::no_long_sign))]
 pub fn sign_of(bytes: &[u8]) -> Option<Mark>
     ensures { result ≡ sign_found bytes.now }
 {
-    SIGNS
-        .iter()
-        .copied()
-        .find(|mark| mark.text().as_bytes() == bytes)
+    match bytes {
+        [only] => single_sign(*only),
+        [first, second] => double_sign(*first, *second),
+        _ => None,
+    }
+}
+
+/// The mark of one byte that this is, if it is one.
+#[tactic(auto, unfolding(crate::specs::Keyword::sign_found))]
+fn single_sign(byte: u8) -> Option<Mark>
+    ensures { result ≡ sign_found (byte ∷ []) }
+{
+    match byte {
+        b'(' => Some(Mark::Open),
+        b')' => Some(Mark::Close),
+        b',' => Some(Mark::Comma),
+        b';' => Some(Mark::Semicolon),
+        b':' => Some(Mark::Colon),
+        b'=' => Some(Mark::Equal),
+        b'<' => Some(Mark::Less),
+        b'>' => Some(Mark::Greater),
+        b'+' => Some(Mark::Plus),
+        b'-' => Some(Mark::Minus),
+        b'*' => Some(Mark::Asterisk),
+        b'/' => Some(Mark::Slash),
+        _ => None,
+    }
+}
+
+/// The mark of two bytes that these are, if they are one.
+#[tactic(auto, unfolding(crate::specs::Keyword::sign_found))]
+fn double_sign(first: u8, second: u8) -> Option<Mark>
+    ensures { result ≡ sign_found (first ∷ second ∷ []) }
+{
+    match (first, second) {
+        (b':', b'=') => Some(Mark::Assign),
+        (b'/', b'=') => Some(Mark::NotEqual),
+        (b'<', b'=') => Some(Mark::LessOrEqual),
+        (b'>', b'=') => Some(Mark::GreaterOrEqual),
+        (b'=', b'>') => Some(Mark::Implies),
+        _ => None,
+    }
 }
 
 /// The word in lower case, if it is one that the standard reserves for what is left out here.
-#[tactic(auto, unfolding(crate::specs::Keyword::left_out_found))]
+#[tactic(auto, using(crate::proofs::ShortWords::no_short_left_out))]
 pub fn left_out(word: &[u8]) -> Option<&'static str>
+    ensures { option_map (λ t. t.now) result ≡ left_out_found word.now }
+{
+    if word.len() < FEWEST_LETTERS {
+        return None;
+    }
+    left_out_by_first(word)
+}
+
+/// The same, looked up by the first letter.
+#[tactic(auto, unfolding(crate::specs::Keyword::left_out_found))]
+fn left_out_by_first(word: &[u8]) -> Option<&'static str>
     ensures { option_map (λ t. t.now) result ≡ left_out_found word.now }
 {
     let (first, _) = word.split_first()?;
@@ -314,23 +377,3 @@ fn left_out_from(first: u8) -> &'static [(&'static str, &'static str)]
         _ => &[],
     }
 }
-
-static SIGNS: [Mark; 17] = [
-    Mark::Assign,
-    Mark::NotEqual,
-    Mark::LessOrEqual,
-    Mark::GreaterOrEqual,
-    Mark::Implies,
-    Mark::Open,
-    Mark::Close,
-    Mark::Comma,
-    Mark::Semicolon,
-    Mark::Colon,
-    Mark::Equal,
-    Mark::Less,
-    Mark::Greater,
-    Mark::Plus,
-    Mark::Minus,
-    Mark::Asterisk,
-    Mark::Slash,
-];

@@ -8,9 +8,9 @@ use Rattle.parse_cursor.proofs.word.placed_words.Given as goal
 abbrev pub invariant-rest : goal.invariant-rest
 invariant-rest l = record {
   read : map word_of_placed l.found.items ++ words_of l.text l.rest ≡ words_of l.text l.fn.tokens;
-  in_order : InOrder l.from l.rest (length l.text);
+  in_order : InOrder l.searched.offset l.rest (length l.text);
   slices : All (IsSlice l.text) l.rest;
-  placed : l.place ≡ place_after (take l.from l.text);
+  placed : l.searched.place ≡ place_after (take l.searched.offset l.text);
 }
 
 abbrev pub decreases-rest : goal.decreases-rest
