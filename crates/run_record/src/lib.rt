@@ -7,6 +7,7 @@
 
 mod entry;
 mod failure;
+mod growing;
 mod record;
 mod run_error;
 

@@ -8,6 +8,7 @@ ghost use Rattle.run_record.specs.Record.{noted, with_room};
 
 use crate::Failure;
 use crate::entry::{Entry, Stimulus, values_got};
+use crate::growing::grow;
 use port_model::Got;
 use port_values::{Pid, SignalId, Ticks, TimerKey, Value};
 use sdl_system::{Dest, ProcessId, StateId, Target, VariableId};
@@ -154,7 +155,7 @@ impl Record {
         ensures enough { events ≤ self.old.room → values ≤ self.old.values_room → IsOk result }
     {
         if self.entries.capacity() - self.entries.len() < events {
-            self.entries.reserve(events.max(LEAST_ENTRIES))?;
+            grow(&mut self.entries, events.max(LEAST_ENTRIES))?;
         }
         if (self.values_room as usize) < values {
             self.reserve_values(values)?;
@@ -173,7 +174,7 @@ impl Record {
         if values > u16::MAX as usize {
             return Err(AllocError);
         }
-        self.values.reserve(values.max(LEAST_VALUES))?;
+        grow(&mut self.values, values.max(LEAST_VALUES))?;
         let spare = self.values.capacity() - self.values.len();
         self.values_room = u16::try_from(spare).unwrap_or(u16::MAX);
         Ok(())
