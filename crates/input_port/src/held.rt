@@ -72,6 +72,13 @@ impl<'a, R: Wait + Copy> Held<'a, R> {
         self.receiver.signals()
     }
 
+    /// How many entries wait that are drawn, before a stop and after it: then none does.
+    pub fn waiting(&self) -> usize
+        ensures { result ≡ length self.now.owner.state.waiting }
+    {
+        self.receiver.waiting()
+    }
+
     /// Whether it was stopped.
     pub fn is_stopped(&self) -> bool
         ensures { result ≡ not self.now.owner.state.alive }
@@ -163,8 +170,14 @@ impl<'a, R: Wait + Copy> Inbox for Held<'a, R> {
 
     ghost shared = { true };
 
+    #[inline(always)]
     fn take(&mut self, selection: &Selection) -> Result<Taken, PortError> {
         self.receiver.take(&self.rt, self.port, selection)
+    }
+
+    #[inline(always)]
+    fn is_quiet(&mut self) -> bool {
+        self.receiver.is_quiet(self.port)
     }
 
     fn set(&mut self, key: TimerKey, due: Ticks) -> Result<Fuse, PortError> {

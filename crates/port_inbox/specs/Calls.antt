@@ -110,3 +110,7 @@ pub record TakesHere (classes : List Class) (old new : OwnerState) (taken : Take
 abbrev pub TakeIs : List Class → OwnerState → OwnerState → Result Taken PortError → Type 0
 TakeIs classes old new result =
     MatchResult result (λ taken. TakesHere classes old new taken) (λ error. (error ≡ Memory) × HasDrawn old new)
+
+-- Nothing waits, and all that the owner knows of is drawn.
+abbrev pub NothingWaits : OwnerState → Type 0
+NothingWaits o = (o.state.waiting ≡ []) × (o.known ≡ o.drawn)

@@ -1,6 +1,6 @@
 //! The port of one thread as an inbox.
 ghost use Rattle.std.specs.Prelude.{◌≡◌, ◌==◌, ◌&&◌, [], true, MatchResult, OnErr};
-ghost use Rattle.port_model.specs.Port.{empty_port, expires, put_into};
+ghost use Rattle.port_model.specs.Port.{empty_port, expires, is_spent, put_into};
 ghost use Rattle.port_inbox.specs.Calls.{after_entry, ComesBack};
 ghost use Rattle.port_inbox.specs.declared.entry.Entry.TheVariants.{Timer};
 
@@ -76,6 +76,14 @@ impl Alone {
             }),
         }
     }
+
+    /// Whether the set of a fuse of this port is spent: the timer runs by it no more. An expiry by the fuse changes
+    /// nothing then, nor will one later.
+    pub fn is_spent(&self, fuse: &Fuse) -> bool
+        ensures { result ≡ is_spent self.now.state fuse.now.key fuse.now.arm fuse.now.due }
+    {
+        self.plain.is_spent(fuse.key(), fuse.arm(), fuse.due())
+    }
 }
 
 impl Inbox for Alone {
@@ -91,6 +99,11 @@ impl Inbox for Alone {
     #[inline(always)]
     fn take(&mut self, selection: &Selection) -> Result<Taken, PortError> {
         Ok(self.plain.take(selection))
+    }
+
+    #[inline(always)]
+    fn is_quiet(&mut self) -> bool {
+        self.plain.is_empty()
     }
 
     fn set(&mut self, key: TimerKey, due: Ticks) -> Result<Fuse, PortError> {

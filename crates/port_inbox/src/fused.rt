@@ -2,15 +2,18 @@
 //! that waits gets its own back.
 ghost use Rattle.std.specs.Prelude.{◌≡◌, ◌↔◌, ◌⊎◌, ◌+◌, ◌<◌, ◌≤◌, [], length, vec_capacity, IsErrOf, MatchResult};
 ghost use Rattle.port_model.specs.Coherence.{IsCoherent};
+ghost use Rattle.port_model.specs.PlainPort.{armed_left};
 ghost use Rattle.port_model.specs.Port.{set_in};
+ghost use Rattle.port_model.specs.Take.{Takes};
 ghost use Rattle.port_model.specs.Timers.{with_armed};
 ghost use Rattle.port_model.specs.declared.plain_port.TheConstants.{MOST_SETS};
-ghost use Rattle.port_inbox.specs.Calls.{after_draw};
+ghost use Rattle.port_inbox.specs.Calls.{after_draw, after_entry};
 ghost use Rattle.port_inbox.specs.Left.{got_of, AreWaiting, HasItsFuse, IsFused};
+ghost use Rattle.port_inbox.specs.declared.entry.Entry.TheVariants.{Timer};
 
 use crate::entry::FuseParts;
 use crate::{Entry, Fuse, Placed};
-use port_model::{Got, PlainPort, PortError, PortParts, Timers};
+use port_model::{Got, PlainPort, PortError, PortParts, Selection, Taken, Timers};
 use port_values::{Ticks, TimerKey};
 use std::alloc::Global;
 use std::collections::VecDeque;
@@ -48,12 +51,38 @@ pub fn draw(plain: &mut PlainPort, pid: u32, placed: Placed)
     let at = placed.at;
     match placed.into_entry() {
         Entry::Signal(item) => plain.put_reserved(item),
+        Entry::Timer(fuse) => expire(plain, pid, fuse, at),
+    }
+}
+
+/// `draw` where nothing waits, and then a take: a signal that is taken at once never lies in the port. That nothing waits
+/// is the caller's condition.
+#[inline(always)]
+pub fn take_drawn(plain: &mut PlainPort, pid: u32, placed: Placed, selection: &Selection) -> Taken
+    requires room { 0 < plain.old.room }
+    requires empty { plain.old.state.waiting ≡ [] }
+    ensures take { Takes selection.now (after_draw pid plain.old.state placed) result plain.new.state }
+    ensures armed { plain.new.armed ≡ armed_left result plain.old.armed }
+{
+    let at = placed.at;
+    match placed.into_entry() {
+        Entry::Signal(item) => plain.take_put(item, selection),
         Entry::Timer(fuse) => {
-            if fuse.pid() == pid {
-                let FuseParts { key, arm, due } = fuse.into_parts();
-                plain.expire_reserved(key, arm, due, at);
-            }
+            expire(plain, pid, fuse, at);
+            plain.take(selection)
         }
+    }
+}
+
+/// Expires a timer by a fuse that was drawn, into the room that was made. The fuse of another port has no effect.
+fn expire(plain: &mut PlainPort, pid: u32, fuse: Fuse, at: Ticks)
+    requires { 0 < plain.old.room }
+    ensures state { plain.new.state ≡ after_entry pid plain.old.state at (Timer fuse) }
+    ensures armed { plain.new.armed ≡ plain.old.armed }
+{
+    if fuse.pid() == pid {
+        let FuseParts { key, arm, due } = fuse.into_parts();
+        plain.expire_reserved(key, arm, due, at);
     }
 }
 

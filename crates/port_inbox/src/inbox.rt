@@ -1,8 +1,8 @@
 //! The owner's calls, whatever stands behind the port.
-ghost use Rattle.std.specs.Prelude.{◌≡◌, ◌↔◌, Bool, false, true, List, IsErrOf, IsOk};
+ghost use Rattle.std.specs.Prelude.{◌≡◌, ◌↔◌, ◌<◌, Bool, false, true, List, IsErrOf, IsOk, length};
 ghost use Rattle.port_model.specs.Timers.{due_times, is_active, IsLeast};
 ghost use Rattle.port_model.specs.declared.plain_port.TheConstants.{MOST_SETS};
-ghost use Rattle.port_inbox.specs.Calls.{after_reset, after_stop, SetIs, TakeIs};
+ghost use Rattle.port_inbox.specs.Calls.{after_reset, after_stop, NothingWaits, SetIs, TakeIs};
 ghost use Rattle.port_inbox.specs.Ends.{OwnerState};
 ghost use Rattle.port_inbox.specs.declared.entry.Entry.{Entry};
 
@@ -30,6 +30,14 @@ pub trait Inbox {
         ensures alive { (Self.owning self.new).state.alive ≡ true }
         ensures take { TakeIs selection.now (Self.owning self.old) (Self.owning self.new) result }
         ensures unshared { Self.shared ≡ false → IsOk result };
+
+    /// Whether nothing waits, by a look: nothing changes. If so, all that the owner knows of is drawn, too. If something
+    /// comes from a queue that threads share, the look may be late.
+    fn is_quiet(&mut self) -> bool
+        ensures since { Self.since self.new ≡ Self.since self.old }
+        ensures same { Self.owning self.new ≡ Self.owning self.old }
+        ensures quiet { result ≡ true → NothingWaits (Self.owning self.old) }
+        ensures waits { Self.shared ≡ false → result ≡ false → 0 < length (Self.owning self.old).state.waiting };
 
     /// Sets a timer for the time `due`, after a reset.
     fn set(&mut self, key: TimerKey, due: Ticks) -> Result<Fuse, PortError>

@@ -10,4 +10,6 @@ pub mod Placed
 pub mod Ports
 pub mod Resets
 pub mod Searches
+pub mod Spent
 pub mod Table
+pub mod TakenAtOnce

@@ -1,5 +1,5 @@
 -- What holds of every legal history.
-use Rattle.std.specs.Prelude.{◌≡◌, ◌≢◌, ◌⊎◌, Bool, true, false, List, [], ◌∷◌, ◌++◌, Option, Some, None, All, filter, if◌then◌else◌}
+use Rattle.std.specs.Prelude.{◌≡◌, ◌≢◌, ◌⊎◌, ℕ, Bool, true, false, List, [], ◌∷◌, ◌++◌, Option, Some, None, All, filter, if◌then◌else◌}
 use Rattle.std.specs.List.{filter_map}
 use Rattle.port_values.specs.declared.pid.Pid.{Pid}
 use Rattle.port_values.specs.declared.item.Item.{Item}
@@ -11,7 +11,7 @@ use Rattle.port_model.specs.declared.got.Got.TheVariants.{Signal, Timer}
 use Rattle.port_model.specs.declared.taken.Taken.{Taken}
 use Rattle.port_model.specs.declared.taken.Taken.TheVariants.{Consumed, Discarded}
 use Rattle.port_model.specs.History.{PortEvent, Put, Expire, Take, Set, Reset, Stop, IsLegal}
-use Rattle.port_model.specs.Port.{PortState}
+use Rattle.port_model.specs.Port.{PortState, is_spent}
 use Rattle.port_values.specs.Same.{same_pid}
 use Rattle.port_model.specs.Selection.{class_of}
 use Rattle.port_model.specs.Take.{name_of, Takes}
@@ -82,3 +82,9 @@ abbrev pub StopsForGood : Type 0
 StopsForGood =
     (old new : PortState) (events : List PortEvent) → IsLegal old (Stop ∷ events) new
     → All IsFromOutside events × (new.waiting ≡ [])
+
+-- A spent set stays spent: no timer ever runs by it again.
+abbrev pub SpentForGood : Type 0
+SpentForGood =
+    (key : TimerKey) (arm due : ℕ) (old new : PortState) (events : List PortEvent) → IsLegal old events new
+    → is_spent old key arm due ≡ true → is_spent new key arm due ≡ true

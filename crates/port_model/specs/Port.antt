@@ -1,5 +1,5 @@
 -- The input port of the standard, and its steps.
-use Rattle.std.specs.Prelude.{ℕ, ◌+◌, nat_le, ◌&&◌, Bool, true, false, List, [], ◌∷◌, ◌++◌, if◌then◌else◌}
+use Rattle.std.specs.Prelude.{ℕ, ◌+◌, nat_le, ◌&&◌, Bool, true, false, not, List, [], ◌∷◌, ◌++◌, if◌then◌else◌}
 use Rattle.port_values.specs.declared.item.Item.{Item}
 use Rattle.port_model.specs.declared.got.Got.{Got}
 use Rattle.port_model.specs.declared.got.Got.TheVariants.{Signal, Timer}
@@ -48,3 +48,7 @@ set_in port key due = record (remove_from port key) {
 -- Stop: nothing waits and no timer is active from then on.
 abbrev pub stopped : PortState → PortState
 stopped port = record port { waiting = []; timers = []; alive = false }
+
+-- Whether a set is spent: it was made, and no timer is Running by it.
+abbrev pub is_spent : PortState → TimerKey → ℕ → ℕ → Bool
+is_spent port key arm due = nat_le arm port.sets && not (is_running key arm due port.timers)

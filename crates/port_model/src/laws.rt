@@ -1,7 +1,7 @@
 //! What holds of every port, whatever happens to it: laws on the definitions, as functions that do nothing.
 ghost use Rattle.std.specs.Prelude.{◌≡◌};
 ghost use Rattle.port_model.specs.declared.plain_port.TheConstants.{MOST_SETS};
-ghost use Rattle.port_model.specs.Laws.{KeepsOrder, KeepsSaved, ResetsForGood, StopsForGood};
+ghost use Rattle.port_model.specs.Laws.{KeepsOrder, KeepsSaved, ResetsForGood, SpentForGood, StopsForGood};
 
 /// The signals of one sender are never reordered by what happens to a port.
 pub fn keeps_order()
@@ -21,6 +21,11 @@ pub fn resets_for_good()
 /// After a stop nothing is consumed.
 pub fn stops_for_good()
     ensures { StopsForGood }
+{}
+
+/// No timer runs again by a set by which it runs no more.
+pub fn spent_for_good()
+    ensures { SpentForGood }
 {}
 
 /// A port counts 2^62 sets: the number itself, which `sets_spent` and `set` name by the constant.

@@ -1,9 +1,9 @@
 //! The input port of one thread.
-ghost use Rattle.std.specs.Prelude.{◌≡◌, ◌↔◌, ◌⊎◌, ◌+◌, ◌<◌, ◌≤◌, [], true, filter, length, All, IsTrue, IfOk, IfErr, IfSome, IsErrOf, OnOk, OnErr, MatchOption, MatchResult};
+ghost use Rattle.std.specs.Prelude.{◌≡◌, ◌↔◌, ◌⊎◌, ◌+◌, ◌<◌, ◌≤◌, [], false, true, filter, length, All, IsTrue, IfOk, IfErr, IfSome, IsErrOf, OnOk, OnErr, MatchOption, MatchResult};
 ghost use Rattle.port_model.specs.Backlog.{waiting_in};
 ghost use Rattle.port_model.specs.Coherence.{IsCoherent};
 ghost use Rattle.port_model.specs.PlainPort.{armed_left};
-ghost use Rattle.port_model.specs.Port.{empty_port, expires, expire_in, put_into, remove_from, set_in, stopped};
+ghost use Rattle.port_model.specs.Port.{empty_port, expires, expire_in, is_spent, put_into, remove_from, set_in, stopped};
 ghost use Rattle.port_model.specs.Take.{taken_as, HasClass, IsOrdinary, Takes, TakesFirst};
 ghost use Rattle.port_model.specs.Timers.{after_taking, armed_after, due_times, is_active, is_signal_of, with_armed, without_armed, without_signal, IsLeast};
 ghost use Rattle.port_model.specs.declared.selection.Class.TheVariants as class;
@@ -175,6 +175,14 @@ impl PlainPort {
         due <= at && self.timers.runs(key, arm, due)
     }
 
+    /// Whether a set of a timer is spent: it was made, and the timer runs by it no more. It was reset, set again or
+    /// stopped since, or has expired. The set stays spent.
+    pub fn is_spent(&self, key: &TimerKey, arm: Arm, due: Ticks) -> bool
+        ensures { result ≡ is_spent self.now.state key.now arm due }
+    {
+        arm.get() <= self.sets && !self.timers.runs(key, arm, due)
+    }
+
     /// Whether all sets that the port counts are made, so that the next one is refused.
     pub fn sets_spent(&self) -> bool
         ensures { IsTrue result ↔ (self.now.state.sets ≡ MOST_SETS) }
@@ -248,6 +256,28 @@ impl PlainPort {
         }
     }
 
+    /// `put_reserved` where nothing waits, and then `take`: what is taken at once never lies in the port. That nothing
+    /// waits is the caller's condition.
+    #[inline(always)]
+    #[tactic(auto, using(crate::proofs::TakenAtOnce::taken_at_once, crate::proofs::TakenAtOnce::saved_at_once, crate::proofs::TakenAtOnce::dropped_at_once))]
+    pub fn take_put(&mut self, item: Item, selection: &Selection) -> Taken
+        requires room { 0 < self.old.room }
+        requires empty { self.old.state.waiting ≡ [] }
+        ensures take { Takes selection.now (put_into self.old.state item) result self.new.state }
+        ensures armed { self.new.armed ≡ armed_left result self.old.armed }
+    {
+        if !self.alive {
+            return Taken::Nothing;
+        }
+        match selection.class_of(item.name) {
+            Class::Saved => {
+                self.waiting.push_reserved(Got::Signal(item));
+                Taken::Nothing
+            }
+            class => taken_as(class, Got::Signal(item)),
+        }
+    }
+
     /// Takes the first entry of a priority input, else the first that isn't saved.
     #[inline(never)]
     fn look(&mut self, selection: &Selection) -> Taken
@@ -293,6 +323,16 @@ impl PlainPort {
         self.waiting.clear();
         self.timers.clear();
         self.alive = false;
+    }
+
+    /// Whether nothing waits.
+    #[inline(always)]
+    #[tactic(auto, using(crate::proofs::TakenAtOnce::none_waits, crate::proofs::TakenAtOnce::some_waits))]
+    pub fn is_empty(&self) -> bool
+        ensures empty { result ≡ true → self.now.state.waiting ≡ [] }
+        ensures waits { result ≡ false → 0 < length self.now.state.waiting }
+    {
+        self.waiting.is_empty()
     }
 
     /// How many entries wait.

@@ -1,9 +1,12 @@
-use Rattle.std.proofs.Common.{◌≡◌, ℕ, Bool, true, false, List, [], ◌∷◌, ◌++◌, Result, Ok, Err, refl, sym, ap, ◌∙◌, subst, append_assoc, append-nil, inl}
+use Rattle.std.proofs.Common.{◌≡◌, ◌≢◌, ℕ, Bool, true, false, List, [], ◌∷◌, ◌++◌, Result, Ok, Err, refl, sym, ap, ◌∙◌, subst, append_assoc, append-nil, inl}
+use Rattle.std.proofs.lemmas.List.Elements.{All-nil}
+use Rattle.std.specs.Prelude.{Contains}
 use Rattle.port_model.specs.declared.error.PortError.{PortError}
+use Rattle.port_model.specs.declared.taken.Taken.{Taken}
 use Rattle.port_model.specs.declared.taken.Taken.TheVariants.{Consumed, Nothing}
 use Rattle.port_model.specs.declared.selection.Class.TheVariants as class
 use Rattle.port_model.specs.declared.selection.Class.{Class}
-use Rattle.port_queue.specs.Words.{after_draw, after_draws, armed_after, armed_left, known_after, longer, AreNext, Armed, HasDrawn, IsDrawn, OwnerState, Placed, PortState, PullIs, TakesHere}
+use Rattle.port_queue.specs.Words.{after_draw, after_draws, armed_after, armed_left, known_after, longer, AreNext, Armed, HasDrawn, IsDrawn, OwnerState, Placed, PortState, PullIs, TakeIs, TakesHere, TakesNext}
 use Rattle.port_model.specs.Take as take
 use Rattle.port_model.specs.declared.got.Got.{Got}
 use Rattle.port_queue.proofs.PutLists.{starts_all, starts_through}
@@ -75,3 +78,68 @@ taken_urgent classes old state armed g first urgent left = record {
   fresh = λ e. absurd cc;
   passed = λ _ ordinary. absurd (ordinary urgent);
 }
+
+-- ---- a take where nothing waits
+
+-- a take after some entries were drawn
+pub takes_more : (classes : List Class) (old mid new : OwnerState) (xs : List Placed) (taken : Taken) → IsDrawn old mid xs
+    → TakesHere classes mid new taken → TakesHere classes old new taken
+takes_more classes old mid new xs taken first after =
+    let port = ap (λ pid. after_draws pid mid.state after.news) first.pid ∙ ap (λ s. after_draws old.pid s after.news) first.state
+    ∙ sym (after_draws-append old.pid old.state xs after.news) in
+    record {
+      news = xs ++ after.news;
+      draws = subst (λ (s : PortState). IsDrawn old (record new { state = s; armed = old.armed }) (xs ++ after.news)) port
+          (subst (λ (a : List Armed).
+          IsDrawn old (record new { state = after_draws mid.pid mid.state after.news; armed = a }) (xs ++ after.news))
+          first.armed (drawn_more old mid _ xs after.news first after.draws));
+      take = subst (λ (s : PortState). take.Takes classes s taken new.state) port after.take;
+      armed = after.armed ∙ ap (armed_left taken) first.armed;
+      fresh = after.fresh;
+      passed = after.passed;
+    }
+
+-- the queue had nothing
+pub taken_none : (classes : List Class) (old new : OwnerState) → old.state.waiting ≡ [] → new ≡ old → new.known ≡ new.drawn
+    → TakesHere classes old new Nothing
+taken_none classes old new none same fresh = rw same (record {
+  news = [];
+  draws = drawn_none old;
+  take = (rw none (All-nil (take.IsSaved classes)), refl);
+  armed = refl;
+  fresh = λ _. rw same at fresh;
+  passed = λ _ _. rw same at fresh;
+})
+
+-- the entry that was drawn is taken
+pub taken_next : (classes : List Class) (old new : OwnerState) (taken : Taken) → TakesNext classes old new taken
+    → taken ≢ Nothing → (Contains classes class.Priority → ⊥) → TakesHere classes old new taken
+taken_next classes old new taken next some ordinary = record {
+  news = next.placed ∷ [];
+  draws = next.draws;
+  take = next.take;
+  armed = next.armed;
+  fresh = λ e. absurd (some e);
+  passed = λ has _. absurd (ordinary has);
+}
+
+-- it is saved, and the take goes on
+pub taken_on : (classes : List Class) (old mid new : OwnerState) (result : Result Taken PortError)
+    → TakesNext classes old mid Nothing → TakeIs classes mid new result → TakeIs classes old new result
+taken_on classes old mid new result next more = goes result more
+  where
+    same : record mid { state = after_draw old.pid old.state next.placed; armed = old.armed } ≡ mid
+    same =
+        ap (λ (s : PortState). record mid { state = s; armed = old.armed }) (sym next.take.1)
+        ∙ ap (λ (a : List Armed). record mid { armed = a }) (sym next.armed)
+
+    drawn : IsDrawn old mid (next.placed ∷ [])
+    drawn = subst (λ (o : OwnerState). IsDrawn old o (next.placed ∷ [])) same next.draws
+
+    goes : (r : Result Taken PortError) → TakeIs classes mid new r → TakeIs classes old new r
+    goes (Ok taken) here = takes_more classes old mid new (next.placed ∷ []) taken drawn here
+    goes (Err error) failed = (failed.0, draws_more old mid new (next.placed ∷ [], drawn) failed.1)
+
+-- nothing was drawn
+pub none_drawn : (old new : OwnerState) → new ≡ old → HasDrawn old new
+none_drawn old new same = rw same ([], drawn_none old)

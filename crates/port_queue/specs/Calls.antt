@@ -1,12 +1,16 @@
 -- What the calls of senders and of what draws do, and what they answer.
-use Rattle.std.specs.Prelude.{◌≡◌, ℕ, Bool, true, ◌+◌, List, [], ◌∷◌, ◌++◌, length, Option, None, Some, Result, MatchBool, MatchResult}
+use Rattle.std.specs.Prelude.{◌≡◌, ℕ, Bool, true, ◌+◌, List, [], ◌∷◌, ◌++◌, length, Option, None, Some, Result, MatchBool, MatchOption, MatchResult}
+use Rattle.port_model.specs.PlainPort.{armed_left}
+use Rattle.port_model.specs.Take.{Takes}
 use Rattle.port_model.specs.declared.error.PortError.{PortError}
 use Rattle.port_model.specs.declared.error.PortError.TheVariants.{Memory}
+use Rattle.port_model.specs.declared.selection.Class.{Class}
+use Rattle.port_model.specs.declared.taken.Taken.{Taken}
 use Rattle.port_inbox.specs.declared.entry.Entry.{Entry}
 use Rattle.port_model.specs.declared.refused.Refused.{Refused}
 use Rattle.port_inbox.specs.declared.placed.Placed.{Placed}
 use Rattle.port_queue.specs.declared.rule.View.{View}
-use Rattle.port_inbox.specs.Calls.{known_after, AreNext, ComesBack, IsDrawn}
+use Rattle.port_inbox.specs.Calls.{after_draw, known_after, AreNext, ComesBack, IsDrawn}
 use Rattle.port_inbox.specs.Ends.{OwnerState}
 use Rattle.port_queue.specs.Ends.{SenderState, sent_by}
 use Rattle.port_inbox.specs.Put.{StartsWith, of, longer, AllThere, Apart}
@@ -32,6 +36,19 @@ DrainIs new result = MatchResult result (λ _. new.known ≡ new.drawn) (λ erro
 abbrev pub PullIs : OwnerState → OwnerState → Result Bool PortError → Type 0
 PullIs old new result = MatchResult result
     (λ more. MatchBool more ((placed : Placed) × IsDrawn old new (placed ∷ [])) ((new ≡ old) × (new.known ≡ new.drawn)))
+    (λ error. (error ≡ Memory) × (new ≡ old))
+
+-- Where nothing waits, one entry is drawn, and then taken as the standard says.
+pub record TakesNext (classes : List Class) (old new : OwnerState) (taken : Taken) : Type 0 where
+  pub placed : Placed
+  pub draws : IsDrawn old (record new { state = after_draw old.pid old.state placed; armed = old.armed }) (placed ∷ [])
+  pub take : Takes classes (after_draw old.pid old.state placed) taken new.state
+  pub armed : new.armed ≡ armed_left taken old.armed
+
+-- the answer to that: an entry was drawn, and what was taken; or else the owner is at a fresh point
+abbrev pub NextIs : List Class → OwnerState → OwnerState → Result (Option Taken) PortError → Type 0
+NextIs classes old new result = MatchResult result
+    (λ next. MatchOption next ((new ≡ old) × (new.known ≡ new.drawn)) (λ taken. TakesNext classes old new taken))
     (λ error. (error ≡ Memory) × (new ≡ old))
 
 -- what a pop gave, as a list

@@ -1,6 +1,6 @@
 -- The words of the contracts and the proofs of a port's queue, from here and from the crates below.
 pub use Rattle.crossbeam_queue.specs.SegTies.{IsSegPassOf}
-pub use Rattle.port_inbox.specs.Calls.{after_draw, after_draws, after_reset, after_stop, known_after, AreNext, ComesBack, HasDrawn, IsDrawn, SetIs, TakeIs, TakesHere}
+pub use Rattle.port_inbox.specs.Calls.{after_draw, after_draws, after_reset, after_stop, known_after, AreNext, ComesBack, HasDrawn, IsDrawn, NothingWaits, SetIs, TakeIs, TakesHere}
 pub use Rattle.port_inbox.specs.Ends.{is_signal, signals_drawn, OwnerState}
 pub use Rattle.port_inbox.specs.Left.{AreWaiting}
 pub use Rattle.port_inbox.specs.Put.{longer, of, one_to, shorter, AllThere, Apart, IsDueBy, IsTimely, StartsWith}
@@ -8,7 +8,7 @@ pub use Rattle.port_inbox.specs.declared.entry.Entry.{Entry}
 pub use Rattle.port_inbox.specs.declared.entry.Entry.TheVariants.{Signal, Timer}
 pub use Rattle.port_inbox.specs.declared.placed.Gone.{Gone}
 pub use Rattle.port_inbox.specs.declared.placed.Placed.{Placed}
-pub use Rattle.port_queue.specs.Calls.{popped_list, DrainIs, GatherIs, IsGathered, MeetIs, PullIs, PutIs, Puts, TakesIn}
+pub use Rattle.port_queue.specs.Calls.{popped_list, DrainIs, GatherIs, IsGathered, MeetIs, NextIs, PullIs, PutIs, Puts, TakesIn, TakesNext}
 pub use Rattle.port_queue.specs.Ends.{left_with, newborn, sent_by, signals_by, FinishedState, IsKnowing, IsOfOwner, IsOfSender, SenderState}
 pub use Rattle.port_queue.specs.Rule.{Book, EachView, Fits, FitsDesk, FitsOwner, FitsSender, IsGiven, IsGone, Kept}
 pub use Rattle.port_queue.specs.Steps.{Adds, Draws, IsFresh}

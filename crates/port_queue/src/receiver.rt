@@ -1,7 +1,8 @@
 //! What draws from a port, for an owner that lives and for one that has stopped. The atomic steps are those of `steps`.
-ghost use Rattle.std.specs.Prelude.{◌≡◌, ◌↔◌, ◌<◌, ◌+◌, ◌-◌, ◌^◌, [], ◌∷◌, ◌≤◌, true, None, length, count_by, IfErr, IfOk, IsErrOf, MatchOption};
-ghost use Rattle.port_queue.specs.Words.{after_draw, after_draws, after_reset, after_stop, armed_left, due_times, is_active, is_signal, left_with, newborn, owner, popped_list, signals_drawn, AreWaiting, DrainIs, GatherIs, HasDrawn, IsDrawn, IsGathered, IsKnowing, IsLeast, IsSegPassOf, MeetIs, MOST_SETS, Placed, PullIs, SetIs, TakeIs, TakesIn};
+ghost use Rattle.std.specs.Prelude.{◌≡◌, ◌↔◌, ◌<◌, ◌+◌, ◌-◌, ◌^◌, [], ◌∷◌, ◌≤◌, true, None, length, count_by, Contains, IfErr, IfOk, IsErrOf, MatchOption};
+ghost use Rattle.port_queue.specs.Words.{after_draw, after_draws, after_reset, after_stop, armed_left, due_times, is_active, is_signal, left_with, newborn, owner, popped_list, signals_drawn, AreWaiting, DrainIs, GatherIs, HasDrawn, IsDrawn, IsGathered, IsKnowing, IsLeast, IsSegPassOf, MeetIs, MOST_SETS, NextIs, NothingWaits, Placed, PullIs, SetIs, TakeIs, TakesIn};
 ghost use Rattle.port_model.specs.Take.{Takes};
+ghost use Rattle.port_model.specs.declared.selection.Class.TheVariants as class;
 
 use crate::refused::refused;
 use crate::rule::{Pass, Queue};
@@ -77,11 +78,32 @@ impl Receiver {
         self.signals
     }
 
+    /// How many entries wait in the port that are drawn.
+    pub fn waiting(&self) -> usize
+        ensures { result ≡ length self.now.state.waiting }
+    {
+        self.plain.waiting_len()
+    }
+
     /// Shows what every owner knows, as a fact.
     pub fn knows(&self)
         ensures { IsKnowing self.now }
     {
         let _ = &self.gathered;
+    }
+
+    /// Whether nothing waits, by a look: neither among what is drawn nor, at one moment of the call, in the queue. Nothing
+    /// changes. That it is the owner's port is the caller's condition.
+    #[inline(always)]
+    pub fn is_quiet(&mut self, port: &Port) -> bool
+        requires { self.old.port ≡ port.now.queue }
+        ensures same { self.new ≡ self.old }
+        ensures quiet { result ≡ true → NothingWaits self.old }
+    {
+        if !self.plain.is_empty() {
+            return false;
+        }
+        steps::is_empty(&port.queue, &mut self.pass)
     }
 
     /// Takes from the port (Z.102, priority input, save): draws entries until the selection takes one, or until none
@@ -101,6 +123,81 @@ impl Receiver {
         if selection.has_priority() {
             return self.take_urgent(rt, port, selection);
         }
+        if self.plain.is_empty() {
+            return self.take_drawn(rt, port, selection);
+        }
+        self.take_waiting(rt, port, selection)
+    }
+
+    /// Takes where nothing waits: the next entry of the queue, if there is one, and if it isn't saved. That it is the
+    /// owner's port, that nothing waits, and that no priority input is selected, is the caller's condition.
+    #[inline(always)]
+    #[tactic(auto, using(crate::proofs::Drawing::taken_none, crate::proofs::Drawing::taken_next, crate::proofs::Drawing::taken_on))]
+    fn take_drawn<R: Wait>(
+        &mut self,
+        rt: &R,
+        port: &Port,
+        selection: &Selection,
+    ) -> Result<Taken, PortError>
+        requires port { self.old.port ≡ port.now.queue }
+        requires ordinary { Contains selection.now class.Priority → ⊥ }
+        requires empty { self.old.state.waiting ≡ [] }
+        ensures port { self.new.port ≡ self.old.port }
+        ensures take { TakeIs selection.now self.old self.new result }
+    {
+        let Some(next) = self.take_next(rt, port, selection)? else {
+            return Ok(Taken::Nothing);
+        };
+        match next {
+            // It is saved.
+            Taken::Nothing => self.take_waiting(rt, port, selection),
+            taken => Ok(taken),
+        }
+    }
+
+    /// Draws one entry, if the queue has one, where nothing waits, and takes it at once, if it isn't saved. None: the
+    /// queue has none. For lack of memory nothing is drawn. That it is the owner's port, and that nothing waits, is the
+    /// caller's condition.
+    #[inline(always)]
+    fn take_next<R: Wait>(
+        &mut self,
+        rt: &R,
+        port: &Port,
+        selection: &Selection,
+    ) -> Result<Option<Taken>, PortError>
+        requires port { self.old.port ≡ port.now.queue }
+        requires empty { self.old.state.waiting ≡ [] }
+        ensures port { self.new.port ≡ self.old.port }
+        ensures next { NextIs selection.now self.old self.new result }
+    {
+        if steps::is_empty(&port.queue, &mut self.pass) {
+            return Ok(None);
+        }
+        if self.signals == u64::MAX || self.plain.reserve().is_err() {
+            return Err(PortError::Memory);
+        }
+        let Some(placed) = steps::pop(rt, &port.queue, &mut self.pass) else {
+            return Ok(None);
+        };
+        self.signals += placed.signals();
+        let taken = fused::take_drawn(&mut self.plain, self.pid, placed, selection);
+        Ok(Some(taken))
+    }
+
+    /// Takes from what waits, and else draws entries until the selection takes one, or until none is left. That it is
+    /// the owner's port, and that no priority input is selected, is the caller's condition.
+    #[inline(never)]
+    fn take_waiting<R: Wait>(
+        &mut self,
+        rt: &R,
+        port: &Port,
+        selection: &Selection,
+    ) -> Result<Taken, PortError>
+        requires port { self.old.port ≡ port.now.queue }
+        requires ordinary { Contains selection.now class.Priority → ⊥ }
+        ensures port { self.new.port ≡ self.old.port }
+        ensures take { TakeIs selection.now self.old self.new result }
+    {
         for _ in rt.forever() {
             match self.choose(selection) {
                 Taken::Nothing => {}
@@ -171,12 +268,15 @@ impl Receiver {
     }
 
     /// Draws one entry, if the queue has one. The room for it is made first, so that no entry is lost for lack of
-    /// memory.
+    /// memory. An empty queue costs a look.
     fn pull<R: Wait>(&mut self, rt: &R, port: &Port) -> Result<bool, PortError>
         requires { self.old.port ≡ port.now.queue }
         ensures port { self.new.port ≡ self.old.port }
         ensures pulled { PullIs self.old self.new result }
     {
+        if steps::is_empty(&port.queue, &mut self.pass) {
+            return Ok(false);
+        }
         if self.signals == u64::MAX || self.plain.reserve().is_err() {
             return Err(PortError::Memory);
         }

@@ -77,6 +77,7 @@ impl Sender {
 
     /// Puts a signal behind all that this sender has seen. For lack of memory, and after 2^61 entries, it comes back.
     /// That the port is the sender's is the caller's condition.
+    #[inline(always)]
     pub fn put<R: Wait>(&mut self, rt: &R, port: &Port, item: Item) -> Result<(), Refused<Item>>
         requires { self.old.port ≡ port.now.queue }
         ensures port { self.new.port ≡ self.old.port }
@@ -153,6 +154,7 @@ impl Sender {
         }
     }
 
+    #[inline(always)]
     fn push<R: Wait>(&mut self, rt: &R, port: &Port, at: Ticks, entry: Entry) -> Result<(), Entry>
         requires port { self.old.port ≡ port.now.queue }
         requires timely { IsDueBy at entry }

@@ -45,6 +45,7 @@ pub(crate) fn split_sender(queue: &Queue, pass: &mut Pass) -> Pass
 /// Push, by a sender's pass: the core's put or expiry. Before: the sender has seen a beginning of the put list, in
 /// which all its entries stand. After: the entry stands behind all that it had seen, and is the next of its number.
 /// Where the push is refused, nothing has changed.
+#[inline(always)]
 pub(crate) fn push<R: Wait>(
     rt: &R,
     queue: &Queue,
@@ -66,6 +67,7 @@ pub(crate) fn push<R: Wait>(
 /// Pop, by the owner's pass. Before: the drawn entries begin the put list, and the known list. With an entry: it is the
 /// next of the put list, and is drawn. With none, a fresh point: the drawn entries are the whole put list, and so all
 /// of the known list; no pass has changed.
+#[inline(always)]
 pub(crate) fn pop<R: Wait>(rt: &R, queue: &Queue, pass: &mut Pass) -> Option<Placed>
     requires queue { IsSegPassOf queue.now pass.old }
     requires rights { pass.old.me.view.client.takes ≡ true }
@@ -74,7 +76,25 @@ pub(crate) fn pop<R: Wait>(rt: &R, queue: &Queue, pass: &mut Pass) -> Option<Pla
         × IsFresh pass.old.me.view.client [])
         (λ placed. Draws pass.old.me.view.client placed pass.new.me.view.client) }
 {
-    queue.pop_as::<Popped, R>(rt, pass)
+    // Nobody else pops, so only a push that links the next block can be in the way of the first attempt.
+    let first = queue.head(pass);
+    match queue.try_pop_from::<Popped, R>(rt, pass, first) {
+        Ok(popped) => popped,
+        Err(_) => queue.pop_as::<Popped, R>(rt, pass),
+    }
+}
+
+/// A look by the owner's pass: two loads. Before: the drawn entries begin the put list, and the known list. If the queue
+/// had nothing at one moment of the call, that was a fresh point. No pass has changed.
+#[inline(always)]
+pub(crate) fn is_empty(queue: &Queue, pass: &mut Pass) -> bool
+    requires queue { IsSegPassOf queue.now pass.old }
+    requires rights { pass.old.me.view.client.takes ≡ true }
+    ensures queue { IsSegPassOf queue.now pass.new }
+    ensures same { pass.new.me.view.client ≡ pass.old.me.view.client }
+    ensures fresh { result ≡ true → IsFresh pass.old.me.view.client [] }
+{
+    queue.is_empty_as::<Popped>(pass)
 }
 
 /// Taking a sender's pass back, by the owner's. Before: each has seen a beginning of the put list. After: the owner

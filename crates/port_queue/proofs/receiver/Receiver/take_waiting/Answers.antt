@@ -1,7 +1,7 @@
 use Rattle.std.proofs.Common.{◌∙◌, ap, rules}
 use Rattle.port_inbox.specs.Calls.{HasDrawn}
 use Rattle.port_queue.proofs.Drawing.{goes_on}
-use Rattle.port_queue.proofs.receiver.Receiver.take.Goals as goal
+use Rattle.port_queue.proofs.receiver.Receiver.take_waiting.Goals as goal
 
 pub returns-in_err-pull-clause-take : goal.returns-in_err-pull-clause-take
 returns-in_err-pull-clause-take g c =
