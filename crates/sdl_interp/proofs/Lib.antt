@@ -5,5 +5,6 @@ mod Instances
 mod Reacting
 mod ReceptionLemmas
 mod Recorded
+mod Resting
 mod SelectionLemmas
 mod Stepping

@@ -1,5 +1,5 @@
 -- An instance of a process, as its callers see it (Z.101: agent).
-use Rattle.std.specs.Prelude.{◌≡◌, ◌≢◌, ◌⊎◌, Bool, true, false, List, [], ◌∷◌, ◌++◌, None, Some, drop, map, slice_get}
+use Rattle.std.specs.Prelude.{◌≡◌, ◌≢◌, ◌⊎◌, ◌+◌, ◌<◌, Bool, true, false, List, [], ◌∷◌, ◌++◌, None, Some, IfSome, drop, length, map, slice_get}
 use Rattle.port_inbox.specs.Ends.{OwnerState}
 use Rattle.port_model.specs.declared.selection.Class.{Class}
 use Rattle.port_values.specs.declared.value.Value.{Value}
@@ -24,9 +24,12 @@ use Rattle.run_transitions.specs.Running.{CoreValue, IsReady}
 use Rattle.run_transitions.specs.Work.{IsOf}
 use Rattle.run_transitions.specs.declared.machine.Position.{Position}
 use Rattle.run_transitions.specs.declared.machine.Position.TheVariants as at
+use Rattle.sdl_system.specs.Process.{table_of}
 use Rattle.sdl_system.specs.System.{SystemValue}
+use Rattle.sdl_system.specs.declared.id.StateId.{StateId}
 use Rattle.sdl_system.specs.declared.process.Process.{Process}
 use Rattle.sdl_system.specs.declared.process.Variable.{Variable}
+use Rattle.sdl_system.specs.declared.state.StateTable.{StateTable}
 
 -- The system and the process, who the instance is, where it is between two steps, what it knows, its port, and what it
 -- did so far.
@@ -161,3 +164,27 @@ pub record IsClosed (shared whole : Bool) (i : InstanceValue) (trace : RecordVal
   pub listed : slice_get i.system.processes trace.process.0 ≡ Some i.process
   pub events : trace.events ≡ i.events ++ closing whole i.position
   pub run : (d : Definition) → IsRunAs i d → HasRun shared d i.who trace.events (closed i.position) i.store i.owner
+
+-- ---- what is ahead
+
+-- Nothing waits, in a state that has neither an enabling condition nor a continuous signal.
+pub record WaitsForNothing (n : StateId) (i : InstanceValue) : Type 0 where
+  pub table : StateTable
+  pub listed : table_of i.process n ≡ Some table
+  pub conditions : table.conditions.items ≡ []
+  pub continuous : table.continuous.items ≡ []
+  pub waiting : i.owner.state.waiting ≡ []
+
+abbrev pub HasNothing : Position → InstanceValue → Type 0
+HasNothing at.BeforeStart i = ⊥
+HasNothing (at.In n) i = WaitsForNothing n i
+HasNothing at.Ended i = ⊥
+
+-- A look at the port does not tell what the next step finds: it is not in a state, or nothing waits, in a state that has
+-- an enabling condition or a continuous signal.
+abbrev pub NeedsStep : Position → InstanceValue → Type 0
+NeedsStep at.BeforeStart i = Unit {0}
+NeedsStep (at.In n) i =
+    IfSome (table_of i.process n) (λ (table : StateTable). (i.owner.state.waiting ≡ [])
+    × (0 < length table.conditions.items + length table.continuous.items))
+NeedsStep at.Ended i = Unit {0}

@@ -1,13 +1,14 @@
 //! An instance of a process (Z.101: agent).
 
-ghost use Rattle.std.specs.Prelude.{◌≡◌, ◌==◌, ◌&&◌, [], IfOk, IsTrue, MatchResult, Some, slice_get};
+ghost use Rattle.std.specs.Prelude.{◌≡◌, ◌==◌, ◌&&◌, ◌<◌, [], IfOk, IsTrue, MatchResult, Some, false, length, slice_get};
 ghost use Rattle.port_inbox.specs.Calls.{ComesBack, after_entry};
 ghost use Rattle.port_inbox.specs.Ends.{single};
 ghost use Rattle.port_inbox.specs.declared.entry.Entry.TheVariants.{Timer};
-ghost use Rattle.port_model.specs.Port.{empty_port, put_into, expires};
+ghost use Rattle.port_model.specs.Port.{empty_port, expires, is_spent, put_into};
 ghost use Rattle.run_semantics.specs.Instance.{parameters_from};
-ghost use Rattle.sdl_interp.specs.Instance.{HasRunOf, IsAtRest, IsClosed, Keeps, Steps, came_to, created, variables_from};
+ghost use Rattle.sdl_interp.specs.Instance.{HasNothing, HasRunOf, IsAtRest, IsClosed, Keeps, NeedsStep, Steps, came_to, created, variables_from};
 
+use crate::Ahead;
 use crate::stimulus::{fail_at, step_from};
 use port_inbox::{Alone, Fuse, Inbox, Refused};
 use port_values::{Item, Ticks, Value, Values};
@@ -125,6 +126,31 @@ impl<'s, P: Inbox + Drop> Instance<'s, P> {
         }
     }
 
+    /// What the next step may find, by a look at the port. Nothing changes.
+    #[inline(always)]
+    pub fn ahead(&mut self) -> Ahead
+        ensures same { self.new ≡ self.old }
+        ensures nothing { result ≡ Ahead.Nothing → IsAtRest self.old }
+        ensures quiet { result ≡ Ahead.Nothing → HasNothing self.old.position self.old }
+        ensures signals { P.shared ≡ false → result ≡ Ahead.Signals → 0 < length self.old.owner.state.waiting }
+        ensures perhaps { result ≡ Ahead.Perhaps → NeedsStep self.old.position self.old }
+    {
+        let Position::In(state) = self.position else {
+            return Ahead::Perhaps;
+        };
+        let Some(table) = self.core.process.table(state) else {
+            return Ahead::Perhaps;
+        };
+        if !self.core.inbox.is_quiet() {
+            return Ahead::Signals;
+        }
+        // An enabling condition may fail, whatever waits.
+        if !table.conditions.is_empty() || !table.continuous.is_empty() {
+            return Ahead::Perhaps;
+        }
+        Ahead::Nothing
+    }
+
     /// The record of what the instance did so far.
     pub fn trace(&self) -> &Record
         ensures events { result.now.events ≡ self.now.events }
@@ -204,6 +230,13 @@ impl<'s> Instance<'s, Alone> {
             (λ _. self.new ≡ self.old) }
     {
         self.core.inbox.expire(fuse, at)
+    }
+
+    /// Whether the set of a fuse of this instance is spent: its timer runs by it no more, and never will.
+    pub fn is_spent(&self, fuse: &Fuse) -> bool
+        ensures { result ≡ is_spent self.now.owner.state fuse.now.key fuse.now.arm fuse.now.due }
+    {
+        self.core.inbox.is_spent(fuse)
     }
 }
 

@@ -6,6 +6,7 @@
 //! keeps that.
 #![tactic(auto)]
 
+mod ahead;
 mod clock;
 mod condition;
 mod continuous;
@@ -15,4 +16,5 @@ mod reception;
 mod selection;
 mod stimulus;
 
+pub use ahead::Ahead;
 pub use instance::{Closed, Instance, Stepped};
