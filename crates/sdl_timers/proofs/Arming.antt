@@ -42,7 +42,7 @@ front fuse first more e = cond-true _ _ _ e
 pub behind : (fuse first : Fuse) (more : List Fuse) → is_before fuse first ≡ false → with_fuse fuse (first ∷ more) ≡ first ∷ with_fuse fuse more
 behind fuse first more e = cond-false _ _ _ e
 
-armed_by : (P : List Fuse → Type 0) (fuse first : Fuse) (more : List Fuse)
+pub armed_by : (P : List Fuse → Type 0) (fuse first : Fuse) (more : List Fuse)
     → (is_before fuse first ≡ true → P (fuse ∷ first ∷ more))
     → (is_before fuse first ≡ false → P (first ∷ with_fuse fuse more)) → P (with_fuse fuse (first ∷ more))
 armed_by P fuse first more early late =
@@ -140,7 +140,7 @@ arms_slot from (slot ∷ slots) (suc k) waiting fuse sorted ordered h e =
     ∙ ap (with_fuse fuse) (sym (armed-append waiting slot (together slots)))
 
 -- a fuse that is due before all others stands first
-stands_first : (fuse : Fuse) (waiting : List Fuse) → AllAfter fuse waiting → with_fuse fuse waiting ≡ fuse ∷ waiting
+pub stands_first : (fuse : Fuse) (waiting : List Fuse) → AllAfter fuse waiting → with_fuse fuse waiting ≡ fuse ∷ waiting
 stands_first fuse [] after = refl
 stands_first fuse (first ∷ more) after = front fuse first more (after 0 first (omega arith))
 

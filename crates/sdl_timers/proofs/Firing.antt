@@ -136,7 +136,7 @@ empty_wheel slots entrants long none empty = (
 )
 
 -- a fuse that isn't due before another is due no earlier
-no_earlier : (a b : Fuse) → is_before b a ≡ false → a.due ≤ b.due
+pub no_earlier : (a b : Fuse) → is_before b a ≡ false → a.due ≤ b.due
 no_earlier a b h = grind (arith, nat_tests)
 
 abbrev pub times : List Fuse → List ℕ

@@ -4,4 +4,5 @@ pub mod Firing
 pub mod Orders
 pub mod Playing
 pub mod Steps
+pub mod Thinning
 pub mod Turning

@@ -12,7 +12,7 @@ use Rattle.sdl_timers.specs.declared.turn.Turn.{Turn}
 use Rattle.sdl_timers.specs.DueOrder.{due_cmp, due_of, first_of, with_fuse}
 use Rattle.sdl_timers.specs.Turns.{HasItsTurn, HaveTheirTurns}
 
-abbrev Kept : Type 0
+abbrev pub Kept : Type 0
 Kept = Turn × Fuse
 
 abbrev pub turn_cmp : Turn → Turn → Ordering

@@ -1,9 +1,10 @@
 //! The fuses of one slot of a wheel.
 
-ghost use Rattle.std.specs.Prelude.{◌≡◌, [], ◌∷◌, length, IfErr, MatchOption, OnErr, OnOk};
+ghost use Rattle.std.specs.Prelude.{◌≡◌, [], ◌∷◌, filter, length, not, IfErr, MatchOption, OnErr, OnOk};
 ghost use Rattle.sdl_timers.specs.DueOrder.{first_of, with_fuse};
 
 use crate::due::Due;
+use crate::spent::SpentFuses;
 use crate::turn::Turn;
 use port_inbox::Fuse;
 use port_model::{PortError, Refused};
@@ -89,6 +90,13 @@ impl Slot {
             Some((_, fuse)) => Some(fuse),
             None => None,
         }
+    }
+
+    /// Takes out those fuses that are spent. The others stay where they are. Takes no memory.
+    pub fn thin<S: SpentFuses>(&mut self, known: &S)
+        ensures { self.new ≡ filter (λ fuse. not (S.spent known.now fuse)) self.old }
+    {
+        self.fuses.retain(|_, fuse| !known.is_spent(fuse));
     }
 }
 

@@ -3,9 +3,11 @@
 ghost use Rattle.std.specs.Prelude.{◌≡◌, ◌%◌, [], nat_eq, count_by, map, All, IfErr, IfSome, OnErr, OnOk, false};
 ghost use Rattle.port_model.specs.Timers.{IsLeast};
 ghost use Rattle.sdl_timers.specs.DueOrder.{is_before, with_fuse, Fires};
+ghost use Rattle.sdl_timers.specs.Thinned.{Thins};
 
 use crate::due::Due;
 use crate::slot::Slot;
+use crate::spent::SpentFuses;
 use crate::tournament::Tournament;
 use port_inbox::Fuse;
 use port_model::{PortError, Refused};
@@ -14,12 +16,19 @@ use std::alloc::Global;
 use std::array;
 use std::marker::Model;
 
+/// So many fuses are few.
+const FEW: usize = 1024;
+
 /// The fuses of the timers that are set. A fuse waits in the slot `due mod 256`, in due order among the others there,
 /// and a tournament of the slots' first fuses tells which of all fuses is due first.
 #[derive(Drop)]
 pub struct Wheel {
     slots: [Slot; 256],
     tournament: Tournament,
+    /// How many fuses wait.
+    held: usize,
+    /// With more fuses than this the wheel is crowded.
+    bound: usize,
 }
 
 impl Model for Wheel {
@@ -41,6 +50,8 @@ impl Wheel {
         Wheel {
             slots: array::from_fn(|_| Slot::new(alloc)),
             tournament: Tournament::new(),
+            held: 0,
+            bound: FEW,
         }
     }
 
@@ -56,8 +67,53 @@ impl Wheel {
         let waiting = &mut self.slots[usize::from(slot)];
         waiting.arm(fuse)?;
         let first = waiting.first();
+        self.held = self.held.saturating_add(1);
         self.tournament.set(slot, first);
         Ok(())
+    }
+
+    /// Takes spent fuses out, if there are more than a few fuses, and more than twice as many as were left the last
+    /// time. The others stay in their order. Takes no memory.
+    ///
+    /// The contract doesn't say whether the wheel is crowded: a spent fuse that stays has no effect, and costs memory.
+    pub fn thin<S: SpentFuses>(&mut self, known: &S)
+        ensures { Thins (S.spent known.now) self.old self.new }
+    {
+        if self.is_crowded() {
+            for slot in 0..=u8::MAX {
+                self.thin_slot(slot, known);
+            }
+            self.set_bound();
+        }
+    }
+
+    /// Whether there are more than a few fuses, and more than twice as many as were left when the wheel was thinned
+    /// last. Which fuses there are doesn't depend on it.
+    fn is_crowded(&self) -> bool {
+        self.held > self.bound
+    }
+
+    /// Takes the spent fuses out of one slot.
+    fn thin_slot<S: SpentFuses>(&mut self, slot: u8, known: &S)
+        ensures { Thins (S.spent known.now) self.old self.new }
+    {
+        if self.slot_len(slot) == 0 {
+            return;
+        }
+        let waiting = &mut self.slots[usize::from(slot)];
+        let had = waiting.len();
+        waiting.thin(known);
+        let gone = had.saturating_sub(waiting.len());
+        let next = waiting.first();
+        self.held = self.held.saturating_sub(gone);
+        self.tournament.set(slot, next);
+    }
+
+    /// From now on the wheel is crowded with more than twice as many fuses as wait now, and more than a few.
+    fn set_bound(&mut self)
+        ensures { self.new ≡ self.old }
+    {
+        self.bound = self.held.saturating_mul(2).max(FEW);
     }
 
     /// The least time at which a fuse is due. Takes no memory.
@@ -83,6 +139,7 @@ impl Wheel {
         let waiting = &mut self.slots[usize::from(slot)];
         let fuse = waiting.take_first();
         let first = waiting.first();
+        self.held = self.held.saturating_sub(1);
         self.tournament.set(slot, first);
         fuse
     }

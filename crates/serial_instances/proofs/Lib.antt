@@ -5,3 +5,4 @@ pub mod Changes
 pub mod Closing
 pub mod Entering
 pub mod Performing
+pub mod Thinning

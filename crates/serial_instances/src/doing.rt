@@ -4,9 +4,11 @@ ghost use Rattle.std.specs.Prelude.{◌≡◌, ◌⊎◌, ◌+◌, ◌++◌, ◌
 ghost use Rattle.std.specs.Prelude.{slice_get, vec_len};
 ghost use Rattle.serial_world.specs.StepWorld.{AreNumbered, effect_of};
 ghost use Rattle.serial_order.specs.Execution.{IsNoFuseBefore};
-ghost use Rattle.serial_order.specs.RunState.{after_effect, after_effects, armed, expired, heard_effects, instance_of, sent_to};
+ghost use Rattle.run_semantics.specs.Effect.{Create};
+ghost use Rattle.serial_order.specs.RunState.{RunState, after_effect, after_effects, armed, expired, heard_effects, instance_of, sent_to};
 ghost use Rattle.serial_order.specs.Told.{given_after_one};
 ghost use Rattle.serial_instances.specs.Serial.{IsSerial, state_of};
+ghost use Rattle.serial_instances.specs.Thinned.{IsThinned};
 ghost use Rattle.serial_sweeps.specs.Sweeps.{Moment, at_agenda};
 
 use crate::instances::Instances;
@@ -33,9 +35,9 @@ impl<'s> Instances<'s> {
         ensures kept { OnOk result (IsSerial agenda.new.ready self.new) }
         ensures system { self.new.system ≡ self.old.system }
         ensures clock { agenda.new.clock ≡ agenda.old.clock }
-        ensures state { (m : Moment) → OnOk result (AreNumbered self.old.living.given (map effect_of effects.old.items)
-            → state_of (at_agenda m agenda.new) self.new
-            ≡ after_effects (state_of (at_agenda m agenda.old) self.old) (map effect_of effects.old.items)) }
+        ensures state { (m : Moment) (g : RunState) → IsThinned g (state_of (at_agenda m agenda.old) self.old)
+            → OnOk result (AreNumbered self.old.living.given (map effect_of effects.old.items)
+            → IsThinned (after_effects g (map effect_of effects.old.items)) (state_of (at_agenda m agenda.new) self.new)) }
         ensures fuses { (until : ℕ) → until ≤ agenda.old.clock + 1 → IsNoFuseBefore until agenda.old.fuses
             → OnOk result (IsNoFuseBefore until agenda.new.fuses) }
     {
@@ -58,9 +60,9 @@ impl<'s> Instances<'s> {
         ensures system { self.new.system ≡ self.old.system }
         ensures clock { agenda.new.clock ≡ agenda.old.clock }
         ensures given { OnOk result (self.new.living.given ≡ given_after_one self.old.living.given (effect_of effect)) }
-        ensures state { (m : Moment) → OnOk result (AreNumbered self.old.living.given (effect_of effect ∷ [])
-            → state_of (at_agenda m agenda.new) self.new
-            ≡ after_effect (state_of (at_agenda m agenda.old) self.old) (effect_of effect)) }
+        ensures state { (m : Moment) (g : RunState) → IsThinned g (state_of (at_agenda m agenda.old) self.old)
+            → OnOk result (AreNumbered self.old.living.given (effect_of effect ∷ [])
+            → IsThinned (after_effect g (effect_of effect)) (state_of (at_agenda m agenda.new) self.new)) }
         ensures fuses { (until : ℕ) → until ≤ agenda.old.clock + 1 → IsNoFuseBefore until agenda.old.fuses
             → OnOk result (IsNoFuseBefore until agenda.new.fuses) }
     {
@@ -72,13 +74,33 @@ impl<'s> Instances<'s> {
                 number: _,
                 parent,
                 values,
-            } => match self.system.process(process) {
-                Some(definition) => {
-                    self.enter(alloc, agenda, process, definition, Pid::Of(parent), &values)
-                }
-                None => Err(AllocError),
-            },
+            } => self.create(alloc, agenda, process, parent, &values),
         }
+    }
+
+    /// An instance that another one makes. There is none if there is no such process.
+    fn create(
+        &mut self,
+        alloc: Global,
+        agenda: &mut Agenda,
+        id: ProcessId,
+        parent: u32,
+        values: &Values,
+    ) -> Result<(), AllocError>
+        requires { IsSerial agenda.old.ready self.old }
+        ensures kept { OnOk result (IsSerial agenda.new.ready self.new) }
+        ensures system { self.new.system ≡ self.old.system }
+        ensures clock { agenda.new.clock ≡ agenda.old.clock }
+        ensures given { OnOk result (self.new.living.given ≡ self.old.living.given + 1) }
+        ensures state { (m : Moment) → OnOk result (state_of (at_agenda m agenda.new) self.new
+            ≡ after_effect (state_of (at_agenda m agenda.old) self.old)
+            (Create id (self.old.living.given + 1) parent values.now)) }
+        ensures fuses { agenda.new.fuses ≡ agenda.old.fuses }
+    {
+        let Some(process) = self.system.process(id) else {
+            return Err(AllocError);
+        };
+        self.enter(alloc, agenda, id, process, Pid::Of(parent), values)
     }
 
     /// An instance of the process more, with the next number.
@@ -146,25 +168,27 @@ impl<'s> Instances<'s> {
         Ok(())
     }
 
-    /// A fuse whose time has come expires at once, another waits.
+    /// A fuse whose time has come expires at once, another waits. Fuses by which no timer runs any more go once there
+    /// may be many of them.
     fn arm(&mut self, agenda: &mut Agenda, fuse: Fuse) -> Result<(), AllocError>
         requires { IsSerial agenda.old.ready self.old }
         ensures kept { OnOk result (IsSerial agenda.new.ready self.new) }
         ensures system { self.new.system ≡ self.old.system }
         ensures clock { agenda.new.clock ≡ agenda.old.clock }
         ensures living { self.new.living ≡ self.old.living }
-        ensures state { (m : Moment) → OnOk result (state_of (at_agenda m agenda.new) self.new
-            ≡ armed (state_of (at_agenda m agenda.old) self.old) fuse) }
+        ensures state { (m : Moment) (g : RunState) → IsThinned g (state_of (at_agenda m agenda.old) self.old)
+            → OnOk result (IsThinned (armed g fuse) (state_of (at_agenda m agenda.new) self.new)) }
         ensures fuses { (until : ℕ) → until ≤ agenda.old.clock + 1 → IsNoFuseBefore until agenda.old.fuses
             → OnOk result (IsNoFuseBefore until agenda.new.fuses) }
     {
         if fuse.due() <= agenda.clock {
             return self.fire(agenda, fuse);
         }
-        match agenda.fuses.arm(fuse) {
-            Ok(()) => Ok(()),
-            Err(_) => Err(AllocError),
+        if let Err(_) = agenda.fuses.arm(fuse) {
+            return Err(AllocError);
         }
+        agenda.fuses.thin(&*self);
+        Ok(())
     }
 
     /// A fuse expires in the port of its instance.

@@ -1,21 +1,26 @@
 -- A run begins as the serial order says, and what it comes to is a serial report.
-use Rattle.std.proofs.Common.{◌≡◌, ◌⊎◌, ◌∙◌, ◌+◌, ◌<◌, Bool, true, false, IsTrue, ℕ, List, [], ◌∷◌, All, refl, inl, inr, sym, ap, subst, arith, length}
+use Rattle.std.proofs.Common.{◌≡◌, ◌⊎◌, ◌∙◌, ◌+◌, ◌<◌, ◌++◌, Bool, true, false, IsTrue, ℕ, List, [], ◌∷◌, All, refl, inl, inr, sym, ap, subst, arith, length}
 use Rattle.std.specs.List.{AllZip}
 use Rattle.std.proofs.lemmas.List.Elements.{All-head, All-tail}
 use Rattle.run_semantics.specs.Behaves.{AreBehaviours}
-use Rattle.serial_order.specs.Execution.{Execution, EndsInTransition, Happening, IsNoFuseBefore, transitions_of}
-use Rattle.serial_order.specs.RunState.{beginning, first_instances}
+use Rattle.port_inbox.specs.declared.entry.Fuse.{Fuse}
+use Rattle.serial_order.specs.Execution.{Execution, EndsInTransition, Happening, IsNoFuseBefore, IsNoLineBefore, Rests, transitions_of}
+use Rattle.serial_order.specs.RunState.{RunState, beginning, first_instances}
 use Rattle.serial_order.specs.Report.{Closes, Ends, IsSerialReport}
 use Rattle.serial_instances.specs.Serial.{IsOfSystem, IsSerial, state_of}
+use Rattle.serial_instances.specs.Thinned.{IsThinned}
 use Rattle.serial_instances.specs.declared.instances.Instances.{Instances}
 use Rattle.sdl_interp.specs.Instance.{InstanceValue, IsAtRest, IsClosed}
 use Rattle.run_record.specs.Record.{RecordValue}
 use Rattle.run_record.specs.declared.record.Report.{Report}
 use Rattle.sdl_script.specs.Script.{end_of}
 use Rattle.sdl_script.specs.declared.script.ScriptLine.{ScriptLine}
+use Rattle.serial_run.specs.Advances.{Advances, Reaches}
+use Rattle.serial_run.specs.Clearing.{with_all}
+use Rattle.serial_run.specs.ExecutionLaws.{execution_append, transitions_of-append}
 use Rattle.serial_run.specs.Meanings.{all_rest, meaning}
-use Rattle.serial_run.specs.Advances.{Reaches}
-use Rattle.serial_sweeps.specs.Sweeps.{Moment, until_of}
+use Rattle.serial_run.specs.Winding.{Wound, wound}
+use Rattle.serial_sweeps.specs.Sweeps.{Moment, until, until_of}
 use Rattle.sdl_system.specs.Behaviour.{Behaviour}
 use Rattle.sdl_system.specs.System.{SystemValue}
 
@@ -54,28 +59,87 @@ closes_all ps system whole (i ∷ rest) (trace ∷ more) behaviours members clos
 abbrev pub IsWhole : ℕ → Moment → Instances → Type 0
 IsWhole last n b = All IsAtRest b.instances.items × (n.script ≡ []) × IsNoFuseBefore (last + 1) n.fuses × (0 < n.left)
 
-ends_by : (ps : List Behaviour) (lines : List ScriptLine) (limit : ℕ) (ready : List ℕ) (n : Moment) (b : Instances) (happenings : List Happening)
-    (end : ℕ) (whole : Bool) → AreBehaviours b.system.now ps → IsSerial ready b
-    → n.left + transitions_of happenings ≡ limit → (n.left ≡ 0 → EndsInTransition happenings)
-    → (IsTrue whole → IsWhole (end_of lines) n b) → IsTrue whole ⊎ (n.left ≡ 0)
-    → ((whole ≡ true) × (end ≡ end_of lines)) ⊎ ((whole ≡ false) × (end ≡ n.clock))
-    → Ends whole ps lines limit happenings (state_of n b) end
-ends_by ps lines limit ready n b happenings end true behaviours serial counted reached rests cut is_end =
-    let h = rests refl in
-    record {
-      fewer = omega (arith, counted, h.3);
-      rest = all_rest ps b behaviours serial h.0;
-      heard = h.1;
-      no_fuse = h.2;
-      is_end = elim is_end [ inl w ↦ w.1 | inr w ↦ let wrong : ⊥ = cc (w.0) in absurd wrong ];
-    }
-ends_by ps lines limit ready n b happenings end false behaviours serial counted reached rests cut is_end =
-    let spent : n.left ≡ 0 = elim cut [ inl w ↦ let wrong : ⊥ = cc in absurd wrong | inr w ↦ w ] in
-    record {
+-- what a run comes to at its end: an execution that ends as a report does, with the instances of the run
+record Ended (ps : List Behaviour) (system : SystemValue) (lines : List ScriptLine) (limit : ℕ) (b : Instances)
+    (whole : Bool) (end : ℕ) : Type 0 where
+  happenings : List Happening
+  last : RunState
+  execution : Execution ps (end_of lines) (beginning system lines) happenings last
+  instances : last.instances ≡ b.instances.items
+  ends : Ends whole ps lines limit happenings last end
+
+module _ (ps : List Behaviour) (system : SystemValue) (lines : List ScriptLine) (limit : ℕ) (ready : List ℕ)
+    (n : Moment) (b : Instances) (behaviours : AreBehaviours b.system.now ps) (serial : IsSerial ready b)
+    (happenings : List Happening) (fuses : List Fuse)
+    (execution : Execution ps (end_of lines) (beginning system lines) happenings
+    (record (state_of n b) { fuses = fuses }))
+    (thinned : IsThinned (record (state_of n b) { fuses = fuses }) (state_of n b))
+    (counted : n.left + transitions_of happenings ≡ limit) where
+  abbrev at : RunState
+  at = record (state_of n b) { fuses = fuses }
+
+  -- a whole run: what spent fuses are left by its end expire
+  ends_whole : (end : ℕ) → IsWhole (end_of lines) n b → end ≡ end_of lines
+      → Ended ps system lines limit b true end
+  ends_whole end h is_end =
+      let rests : All (Rests ps) b.instances.items = all_rest ps b behaviours serial h.0 in
+      let w : Wound ps (end_of lines) at n.fuses (end_of lines + 1) =
+      wound ps (end_of lines) n.fuses (end_of lines + 1) at (record {
+        rest = rests;
+        in_order = thinned.in_order;
+        thins = thinned.thins;
+        no_fuse = h.2;
+        no_line = subst (IsNoLineBefore (end_of lines + 1)) (sym h.1) tt;
+        none_due = subst (IsNoLineBefore (until n)) (sym h.1) tt;
+        within = λ none. omega arith;
+      }) in
+      let all = transitions_of-append happenings w.happenings in
+      let none = w.none in
+      let left : 0 < n.left = h.3 in
+      record {
+        happenings = happenings ++ w.happenings;
+        last = record at { clock = w.clock; until = w.until; turn = w.turn; bound = w.bound; fuses = w.fuses };
+        execution = execution_append execution w.execution;
+        instances = refl;
+        ends = record {
+          fewer = omega (arith, counted, all, none, left);
+          rest = rests;
+          heard = h.1;
+          no_fuse = w.no_fuse;
+          is_end = is_end;
+        };
+      }
+
+  ends_cut : (end : ℕ) → n.left ≡ 0 → (n.left ≡ 0 → EndsInTransition happenings) → end ≡ n.clock
+      → Ended ps system lines limit b false end
+  ends_cut end spent reached is_end = record {
+    happenings = happenings;
+    last = at;
+    execution = execution;
+    instances = refl;
+    ends = record {
       as_many = omega (arith, counted, spent);
       in_transition = reached spent;
-      is_end = elim is_end [ inl w ↦ let wrong : ⊥ = cc (w.0) in absurd wrong | inr w ↦ w.1 ];
-    }
+      is_end = is_end;
+    };
+  }
+
+  ends_by : (end : ℕ) (whole : Bool) → (n.left ≡ 0 → EndsInTransition happenings)
+      → (IsTrue whole → IsWhole (end_of lines) n b) → IsTrue whole ⊎ (n.left ≡ 0)
+      → ((whole ≡ true) × (end ≡ end_of lines)) ⊎ ((whole ≡ false) × (end ≡ n.clock))
+      → Ended ps system lines limit b whole end
+  ends_by end true reached rests cut is_end =
+      ends_whole end (rests refl)
+      (elim is_end [ inl w ↦ w.1 | inr w ↦ let wrong : ⊥ = cc (w.0) in absurd wrong ])
+  ends_by end false reached rests cut is_end =
+      let spent : n.left ≡ 0 = elim cut [ inl w ↦ let wrong : ⊥ = cc in absurd wrong | inr w ↦ w ] in
+      ends_cut end spent reached
+      (elim is_end [ inl w ↦ let wrong : ⊥ = cc (w.0) in absurd wrong | inr w ↦ w.1 ])
+
+-- nothing is missing at the beginning
+begins_thinned : (system : SystemValue) (lines : List ScriptLine)
+    → IsThinned (beginning system lines) (beginning system lines)
+begins_thinned system lines = record { same = refl; in_order = tt; thins = refl }
 
 pub report : (ps : List Behaviour) (system : SystemValue) (lines : List ScriptLine) (limit : ℕ) (ready : List ℕ)
     (m n : Moment) (a b : Instances) (told : Report) → AreBehaviours system ps
@@ -86,13 +150,21 @@ pub report : (ps : List Behaviour) (system : SystemValue) (lines : List ScriptLi
     → IsSerialReport ps system lines limit told
 report ps system lines limit ready m n a b told behaviours state left reaches serial rests cut records is_end =
     let first = subst (λ all. AreBehaviours all ps) (sym (ap (λ g. g.system) state)) behaviours in
-    let run = reaches ps first in
+    let begun : RunState = beginning system lines in
+    let run : Advances ps (end_of lines) m a begun n b =
+    reaches ps first begun (subst (IsThinned begun) (sym state) (begins_thinned system lines)) in
     let last = subst (λ all. AreBehaviours all ps) (sym (ap (λ r. r.now) run.system)) first in
+    let is = with_all run.to (state_of n b) run.thinned in
+    let ended : Ended ps system lines limit b told.whole told.end =
+    ends_by ps system lines limit ready n b last serial run.happenings run.to.fuses
+    (subst (λ (x : RunState). Execution ps (end_of lines) begun run.happenings x) (sym is) run.execution)
+    (subst (λ (x : RunState). IsThinned x (state_of n b)) (sym is) run.thinned) (run.counted ∙ left) told.end told.whole
+    run.in_transition rests cut is_end in
     record {
-      happenings = run.happenings;
-      last = state_of n b;
-      execution = subst (λ g. Execution ps (end_of lines) g run.happenings (state_of n b)) state run.execution;
-      records = closes_all ps b.system.now told.whole b.instances.items told.records.items last serial.members records;
-      ends = ends_by ps lines limit ready n b run.happenings told.end told.whole last serial (run.counted ∙ left)
-          run.in_transition rests cut is_end;
+      happenings = ended.happenings;
+      last = ended.last;
+      execution = ended.execution;
+      records = subst (λ all. AllZip (Closes ps told.whole) all told.records.items) (sym ended.instances)
+          (closes_all ps b.system.now told.whole b.instances.items told.records.items last serial.members records);
+      ends = ended.ends;
     }

@@ -2,6 +2,7 @@
 use Rattle.std.proofs.Common.{◌≡◌, ◌≢◌, ◌∙◌, ◌+◌, ◌<◌, ◌++◌, Bool, true, false, cond, ℕ, suc, List, [], ◌∷◌, Option, None, Some, refl, sym, ap, subst, arith, slice_get, set, length, map, append-nil, append_assoc}
 use Rattle.std.specs.Option.{option_map}
 use Rattle.port_inbox.specs.Ends.{OwnerState, single}
+use Rattle.port_inbox.specs.declared.entry.Fuse.{Fuse}
 use Rattle.port_model.specs.History.{Expire, PortEvent, Put, Take}
 use Rattle.port_model.specs.Laws.{IsFromOutside}
 use Rattle.port_model.specs.Port.{PortState}
@@ -14,7 +15,9 @@ use Rattle.run_semantics.specs.Behaves.{AreBehaviours}
 use Rattle.serial_order.specs.Execution.{Moved, Steps, is_transition}
 use Rattle.serial_order.specs.RunState.{RunState, after_effects, world_at, living_of, instance_at, with_instance}
 use Rattle.serial_instances.proofs.LivingLemmas.{in_place}
+use Rattle.serial_instances.proofs.Thinning.{spent_with, thins_more}
 use Rattle.serial_instances.specs.Serial.{IsOfSystem, IsSerial, state_of}
+use Rattle.serial_instances.specs.Thinned.{IsThinned, is_spent_in}
 use Rattle.serial_instances.specs.declared.instances.Instances.{Instances}
 use Rattle.run_evaluation.specs.declared.identity.Identity.{Identity}
 use Rattle.run_evaluation.specs.declared.store.Store.{Store}
@@ -30,10 +33,12 @@ use Rattle.run_semantics.specs.ControlPoint.{Definition, ControlPoint}
 use Rattle.run_semantics.specs.Runs.{Runs, acts, hears, outside_of, still, turns, waits}
 use Rattle.run_semantics.specs.World as world
 use Rattle.run_semantics.specs.World.{WorldValue}
-use Rattle.serial_run.specs.ExecutionLaws.{advances_one, stays}
+use Rattle.serial_run.specs.Clearing.{advances_cleared}
+use Rattle.serial_run.specs.ExecutionLaws.{stays}
 use Rattle.serial_run.proofs.Places.{set_there}
-use Rattle.serial_run.specs.Meanings.{Meaning, all_at, meaning_at, nothing_due, turn_by}
+use Rattle.serial_run.specs.Meanings.{Meaning, all_at, meaning_at, nothing_due, turn_by, turn_with}
 use Rattle.serial_run.proofs.Refusals.{counts_is, refused_effects}
+use Rattle.serial_run.proofs.Spent.{spent_runs}
 use Rattle.serial_run.specs.Advances.{Advances, Reaches}
 use Rattle.run_transitions.specs.Machine.{place_of}
 use Rattle.run_transitions.specs.Work.{IsOf}
@@ -137,12 +142,44 @@ module _ (ready : List ℕ) (m n : Moment) (s t : Instances) (place number bound
   pid_is : old.who.pid ≡ suc place
   pid_is = (in_place 0 s.instances.items place old made.serial.places made.is_there).0 ∙ omega arith
 
+  -- the state after the step, with these fuses, before what it did outside is done
+  abbrev moved : List Fuse → ℕ → RunState
+  moved fuses k = record (state_of m s) {
+    instances = with_instance s.instances.items k new;
+    turn = k;
+    bound = bound;
+    fuses = fuses;
+  }
+
+  thinned_moved : (counts : Bool) (goes : Went counts) (fuses : List Fuse)
+      → IsThinned (record (state_of m s) { fuses = fuses }) (state_of m s)
+      → IsThinned (moved fuses old.who.pid) (stepped m s place number bound new)
+  thinned_moved counts goes fuses thinned =
+      let xs = s.instances.items in
+      let here : IsThinned (moved fuses (suc place)) (stepped m s place (suc place) bound new) = record {
+        same = refl;
+        in_order = thinned.in_order;
+        thins = thins_more (is_spent_in xs) (is_spent_in (set xs place new))
+            (λ fuse spent. spent_with fuse xs (suc place) old new made.is_there
+            (λ was. spent_runs fuse.key fuse.arm fuse.due goes.runs was) spent) fuses m.fuses thinned.thins;
+      } in
+      subst (λ k. IsThinned (moved fuses k) (stepped m s place number bound new)) (sym pid_is)
+      (subst (λ k. IsThinned (moved fuses (suc place)) (stepped m s place k bound new)) (sym number_is) here)
+
   goes_on : (counts : Bool) (goes : Went counts)
-      → state_of n t ≡ after_effects (stepped m s place number bound new) (effects_of goes.deeds)
-      → n.left + cond counts 1 0 ≡ m.left → t.system ≡ s.system → Advances ps last m s n t
+      → ((g : RunState) → IsThinned g (stepped m s place number bound new)
+      → IsThinned (after_effects g (effects_of goes.deeds)) (state_of n t))
+      → n.left + cond counts 1 0 ≡ m.left → t.system ≡ s.system → (g : RunState) → IsThinned g (state_of m s)
+      → Advances ps last m s g n t
   goes_on counts goes now counted system =
       let counted_is = counts_is counts goes.deeds goes.shape in
-      let step : Steps ps (state_of m s) old.who goes.deeds (state_of n t) = record {
+      let due = nothing_due m s made.time.nothing_due in
+      let transitions : n.left + cond (is_transition goes.deeds) 1 0 ≡ m.left =
+      subst (λ b. n.left + cond b 1 0 ≡ m.left) (sym counted_is) counted in
+      advances_cleared ps last m n s t due.fuses (λ fuses thinned none_due.
+      let whole : RunState = record (state_of m s) { fuses = fuses } in
+      let to : RunState = after_effects (moved fuses old.who.pid) (effects_of goes.deeds) in
+      let step : Steps ps whole old.who goes.deeds to = record {
         old = old;
         new = new;
         p = found.p;
@@ -154,31 +191,33 @@ module _ (ready : List ℕ) (m n : Moment) (s t : Instances) (place number bound
             made.is_there).system_is;
         lives = made.lives;
         meant = found.meant;
-        turn = turn_by ps ready m s old.who.pid bound behaviours made.serial
-            (subst (λ k. IsTurnBy ready m s.living.given k bound) (number_is ∙ sym pid_is) made.time.turn);
-        nothing_due = nothing_due m s made.time.nothing_due;
+        turn = turn_with ps (state_of m s) fuses old.who.pid bound
+            (turn_by ps ready m s old.who.pid bound behaviours made.serial
+            (subst (λ k. IsTurnBy ready m s.living.given k bound) (number_is ∙ sym pid_is) made.time.turn));
+        nothing_due = record { fuses = none_due; lines = due.lines };
         keeps = made.keeps;
         undrawn = made.undrawn;
         goes = reshaped goes (subst (λ b. IsOneStep b goes.deeds) (sym counted_is) goes.shape);
         deeds_are = refl;
-        now = now
-            ∙ ap (λ k. after_effects (stepped m s place k bound new) (effects_of goes.deeds)) number_is
-            ∙ ap (λ k. after_effects
-            (record (state_of m s) { instances = with_instance s.instances.items k new; turn = k; bound = bound })
-            (effects_of goes.deeds)) (sym pid_is);
+        now = refl;
       } in
-      let transitions : n.left + cond (is_transition goes.deeds) 1 0 ≡ m.left =
-      subst (λ b. n.left + cond b 1 0 ≡ m.left) (sym counted_is) counted in
-      advances_one ps last m n s t (Moved old.who goes.deeds) step transitions
-      (λ spent. ap (λ b. cond b 1 0)
-      (was_transition (is_transition goes.deeds) n.left m.left transitions made.time.some spent))
-      system
+      record {
+        happened = Moved old.who goes.deeds;
+        to = to;
+        follows = step;
+        thinned = now (moved fuses old.who.pid) (thinned_moved counts goes fuses thinned);
+        counted = transitions;
+        reached = λ spent. ap (λ b. cond b 1 0)
+            (was_transition (is_transition goes.deeds) n.left m.left transitions made.time.some spent);
+        system = system;
+      })
 
   -- a transition: what it did outside is done
   counting : Moves true old (world_at (state_of m s)) new v
-      → (AreNumbered (length s.instances.items) performed
-      → state_of n t ≡ after_effects (stepped m s place number bound new) performed)
-      → n.left + 1 ≡ m.left → t.system ≡ s.system → Advances ps last m s n t
+      → ((g : RunState) → IsThinned g (stepped m s place number bound new)
+      → AreNumbered (length s.instances.items) performed → IsThinned (after_effects g performed) (state_of n t))
+      → n.left + 1 ≡ m.left → t.system ≡ s.system → (g : RunState) → IsThinned g (state_of m s)
+      → Advances ps last m s g n t
   counting moves now counted system =
       let goes = moves d found.meant.is_run in
       let effects_are = effects_done (state_of m s) v goes.deeds performed goes.world made.known in
@@ -187,25 +226,28 @@ module _ (ready : List ℕ) (m n : Moment) (s t : Instances) (place number bound
       goes.are_true in
       let numbers = numbered s.system.now (length s.instances.items) (effects_of goes.deeds) make in
       goes_on true goes
-      (now (subst (AreNumbered (length s.instances.items)) (sym effects_are) numbers)
-      ∙ ap (after_effects (stepped m s place number bound new)) effects_are)
+      (λ g thinned. subst (λ (done : List Effect). IsThinned (after_effects g done) (state_of n t)) effects_are
+      (now g thinned (subst (AreNumbered (length s.instances.items)) (sym effects_are) numbers)))
       counted system
 
   -- what fails the instance in a state, which does nothing outside
   failing : Moves false old (world_at (state_of m s)) new v
-      → state_of n t ≡ stepped m s place number bound new → n.left ≡ m.left → t.system ≡ s.system → Advances ps last m s n t
+      → state_of n t ≡ stepped m s place number bound new → n.left ≡ m.left → t.system ≡ s.system
+      → (g : RunState) → IsThinned g (state_of m s) → Advances ps last m s g n t
   failing moves now counted system =
       let goes = moves d found.meant.is_run in
       let none = refused_effects d old.who (place_of old.position) (place_of new.position) old.store new.store
       old.owner.state new.owner.state goes.deeds goes.history goes.runs goes.shape in
-      goes_on false goes (now ∙ ap (after_effects (stepped m s place number bound new)) (sym none))
+      goes_on false goes
+      (λ g thinned. subst (λ (done : List Effect). IsThinned (after_effects g done) (state_of n t)) (sym none)
+      (subst (IsThinned g) (sym now) thinned))
       (omega (arith, counted)) system
 
 pub step_counts : (ready : List ℕ) (m n : Moment) (s t : Instances) (place number bound : ℕ) (old new : InstanceValue)
     (v : WorldValue) (performed : List Effect)
     → Made ready m s place number bound old new v performed → Moves true old (world_at (state_of m s)) new v
-    → (AreNumbered (length s.instances.items) performed
-    → state_of n t ≡ after_effects (stepped m s place number bound new) performed)
+    → ((g : RunState) → IsThinned g (stepped m s place number bound new)
+    → AreNumbered (length s.instances.items) performed → IsThinned (after_effects g performed) (state_of n t))
     → n.left + 1 ≡ m.left → t.system ≡ s.system → (last : ℕ) → Reaches last m s n t
 step_counts ready m n s t place number bound old new v performed made moves now counted system = λ last ps behaviours.
     counting ready m n s t place number bound old new v performed made last ps behaviours moves now counted system
@@ -271,7 +313,7 @@ pub step_idles : {ready : List ℕ} (m n : Moment) (s t : Instances) (place : �
     → IsIdle old (world_at (state_of m s)) new v
     → state_of n t ≡ record (state_of m s) { instances = set s.instances.items place new } → n.left ≡ m.left
     → t.system ≡ s.system → (last : ℕ) → Reaches last m s n t
-step_idles m n s t place old new v serial there keeps one other idle now left system = λ last ps behaviours.
+step_idles m n s t place old new v serial there keeps one other idle now left system = λ last ps behaviours g thinned.
     let found = meaning_at ps s place old behaviours serial there in
     let work : work_of new ≡ work_of old =
     waited (record { system = old.system; behaviour = found.p }) old.position (work_of old) (work_of new)
@@ -289,7 +331,7 @@ step_idles m n s t place old new v serial there keeps one other idle now left sy
     let state : state_of n t ≡ state_of m s =
     now ∙ ap (λ xs. record (state_of m s) { instances = xs })
     (ap (set s.instances.items place) same ∙ set_there s.instances.items place old there) in
-    stays last m n s t state left system ps behaviours
+    stays last m n s t state left system ps behaviours g thinned
 
 quiet_at : (d : Definition) (position : Position) (old new : InstanceValue) (w v : WorldValue)
     → WaitsAt d position (work_of old) w (work_of new) v → Keeps old new → IsQuietAt d position new

@@ -4,6 +4,7 @@ use Rattle.run_semantics.specs.Behaves.{AreBehaviours}
 use Rattle.serial_order.specs.Execution.{Execution, EndsInTransition, Follows, Happening, IsTransition, begins, goes, transitions_of, transitions_of_one}
 use Rattle.serial_order.specs.RunState.{RunState}
 use Rattle.serial_instances.specs.Serial.{state_of}
+use Rattle.serial_instances.specs.Thinned.{IsThinned}
 use Rattle.serial_instances.specs.declared.instances.Instances.{Instances}
 use Rattle.serial_run.specs.Advances.{Advances, Reaches}
 use Rattle.serial_sweeps.specs.Sweeps.{Moment}
@@ -35,10 +36,12 @@ ends_on before after ends first =
 -- nothing happened
 pub stays : (last : ℕ) (m n : Moment) (a b : Instances) → state_of n b ≡ state_of m a → n.left ≡ m.left
     → b.system ≡ a.system → Reaches last m a n b
-stays last m n a b same left system = λ ps behaviours. record {
+stays last m n a b same left system = λ ps behaviours g thinned. record {
   happenings = [];
-  execution = subst (λ g. Execution ps last (state_of m a) [] g) (sym same) begins;
-  counted = omega arith;
+  to = g;
+  execution = begins;
+  thinned = subst (IsThinned g) (sym same) thinned;
+  counted = omega (arith, left);
   in_transition = λ spent. inl refl;
   system = system;
 }
@@ -49,13 +52,16 @@ reaches_same last m a = stays last m m a a refl refl refl
 -- first to one state, and then on
 pub reaches_on : (last : ℕ) (m n o : Moment) (a b c : Instances) → Reaches last m a n b → Reaches last n b o c
     → Reaches last m a o c
-reaches_on last m n o a b c first second = λ ps behaviours.
-    let one = first ps behaviours in
-    let two = second ps (subst (λ system. AreBehaviours system ps) (sym (ap (λ r. r.now) one.system)) behaviours) in
+reaches_on last m n o a b c first second = λ ps behaviours g thinned.
+    let one = first ps behaviours g thinned in
+    let two = second ps (subst (λ system. AreBehaviours system ps) (sym (ap (λ r. r.now) one.system)) behaviours)
+    one.to one.thinned in
     let all = transitions_of-append one.happenings two.happenings in
     record {
       happenings = one.happenings ++ two.happenings;
+      to = two.to;
       execution = execution_append one.execution two.execution;
+      thinned = two.thinned;
       counted = omega (arith, all, one.counted, two.counted);
       in_transition = λ spent. ends_on one.happenings two.happenings (two.in_transition spent)
           (λ none. let made = ap transitions_of none in
@@ -63,14 +69,19 @@ reaches_on last m n o a b c first second = λ ps behaviours.
       system = two.system ∙ one.system;
     }
 
--- one thing happened, for these behaviours
-pub advances_one : (ps : List Behaviour) (last : ℕ) (m n : Moment) (a b : Instances) (happened : Happening)
-    → Follows ps last (state_of m a) happened (state_of n b) → n.left + transitions_of_one happened ≡ m.left
-    → (n.left ≡ 0 → IsTransition happened) → b.system ≡ a.system → Advances ps last m a n b
-advances_one ps last m n a b happened follows counted reached same = record {
-  happenings = [] ++ happened ∷ [];
-  execution = goes begins happened (state_of n b) follows;
-  counted = omega (arith, counted);
-  in_transition = λ spent. inr ([], happened, refl, reached spent);
-  system = same;
-}
+-- one thing happened after others that are no transitions, for these behaviours
+pub advances_one : (ps : List Behaviour) (last : ℕ) (m n : Moment) (a b : Instances) (g at to : RunState)
+    (before : List Happening) → Execution ps last g before at → transitions_of before ≡ 0 → (happened : Happening)
+    → Follows ps last at happened to → IsThinned to (state_of n b) → n.left + transitions_of_one happened ≡ m.left
+    → (n.left ≡ 0 → IsTransition happened) → b.system ≡ a.system → Advances ps last m a g n b
+advances_one ps last m n a b g at to before execution none happened follows thinned counted reached same =
+    let all = transitions_of-append before (happened ∷ []) in
+    record {
+      happenings = before ++ happened ∷ [];
+      to = to;
+      execution = goes execution happened to follows;
+      thinned = thinned;
+      counted = omega (arith, all, none, counted);
+      in_transition = λ spent. inr (before, happened, refl, reached spent);
+      system = same;
+    }

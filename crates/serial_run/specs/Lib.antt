@@ -1,4 +1,6 @@
 pub mod Advances
+pub mod Clearing
 pub mod ExecutionLaws
 pub mod Meanings
 pub mod Ticks
+pub mod Winding

@@ -4,8 +4,9 @@ use Rattle.std.specs.Prelude.{Contains}
 use Rattle.std.specs.List.{AllZip}
 use Rattle.std.proofs.lemmas.List.Elements.{All-get_or}
 use Rattle.std.proofs.lemmas.Option.{get_or_from_slice_get, slice_get_within}
+use Rattle.port_inbox.specs.declared.entry.Fuse.{Fuse}
 use Rattle.serial_order.specs.Execution.{IsMeant, IsNoLineBefore, IsNothingDue, IsTurn, RestBetween, Rests, begins_anew, goes_on, next_line}
-use Rattle.serial_order.specs.RunState.{instance_at}
+use Rattle.serial_order.specs.RunState.{RunState, instance_at}
 use Rattle.serial_instances.specs.Serial.{IsOfSystem, IsSerial, state_of}
 use Rattle.serial_instances.specs.declared.instances.Instances.{Instances}
 use Rattle.sdl_interp.specs.Instance.{InstanceValue, IsAtRest}
@@ -126,6 +127,12 @@ turn_by ps ready m a number bound behaviours serial (sweeps.begins_anew none fir
     subst (IsTurn ps (state_of m a) number) (sym (ap (λ living. living.given) serial.living))
     (begins_anew (rest_between ps ready a m.turn (m.bound + 1) behaviours serial none)
     (rest_between ps ready a 0 number behaviours serial first))
+
+-- whose turn it is doesn't depend on the fuses
+pub turn_with : (ps : List Behaviour) (g : RunState) (fuses : List Fuse) (number bound : ℕ) → IsTurn ps g number bound
+    → IsTurn ps (record g { fuses = fuses }) number bound
+turn_with ps g fuses number _ (goes_on later within rest) = goes_on later within rest
+turn_with ps g fuses number _ (begins_anew none first) = begins_anew none first
 
 -- where nobody may have something to do all are at rest
 pub none_ready : (ready : List ℕ) (a : Instances) → IsSerial ready a → ((n : ℕ) → Contains ready n → ⊥)

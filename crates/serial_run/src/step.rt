@@ -1,13 +1,13 @@
 //! A step of an instance of the run, with all that it does to others.
 
-ghost use Rattle.std.specs.Prelude.{◌≡◌, ◌⊎◌, ◌+◌, ◌<◌, ◌≤◌, ℕ, Contains, IfOk, OnOk, length};
+ghost use Rattle.std.specs.Prelude.{◌≡◌, ◌⊎◌, ◌+◌, ◌<◌, ◌≤◌, ℕ, Contains, IfOk, OnOk, length, vec_len};
 ghost use Rattle.serial_instances.specs.Serial.{IsSerial};
 ghost use Rattle.serial_run.specs.Advances.{Reaches};
 ghost use Rattle.serial_sweeps.specs.Sweeps.{IsNoFuseBefore, IsTime, Moment, after, at_agenda};
 ghost use Rattle.serial_sweeps.specs.declared.instance_set.Made.TheVariants.{Transition};
 
 use run_transitions::Position;
-use sdl_interp::Stepped;
+use sdl_interp::{Ahead, Stepped};
 use serial_instances::Instances;
 use serial_sweeps::{Agenda, Made};
 use serial_world::{Effects, SerialWorld};
@@ -57,6 +57,7 @@ pub fn step(
             Ok(Made::Nothing)
         }
         Stepped::Moved => {
+            unmark_resting(instances, agenda, place, number);
             instances.perform_all(alloc, agenda, effects)?;
             Ok(Made::Transition)
         }
@@ -69,5 +70,22 @@ pub fn step(
             instances.perform_all(alloc, agenda, effects)?;
             Ok(Made::Transition)
         }
+    }
+}
+
+/// An instance that plainly is at rest isn't asked again.
+#[inline(always)]
+fn unmark_resting(instances: &mut Instances<'_>, agenda: &mut Agenda, place: usize, number: u32)
+    requires fits { IsSerial agenda.old.ready instances.old }
+    requires place { (place + 1 ≡ number) × (place < vec_len instances.old.instances) }
+    ensures fits { IsSerial agenda.new.ready instances.new }
+    ensures system { instances.new.system ≡ instances.old.system }
+    ensures living { instances.new.living ≡ instances.old.living }
+    ensures items { instances.new.instances.items ≡ instances.old.instances.items }
+    ensures clock { agenda.new.clock ≡ agenda.old.clock }
+    ensures fuses { agenda.new.fuses ≡ agenda.old.fuses }
+{
+    if let Ahead::Nothing = instances.instances[place].ahead() {
+        agenda.ready.rest(number);
     }
 }

@@ -4,8 +4,9 @@ use Rattle.std.proofs.lemmas.List.{length-set}
 use Rattle.std.proofs.lemmas.Option.{slice_get_read, slice_get_within}
 use Rattle.port_inbox.specs.Ends.{OwnerState}
 use Rattle.serial_world.specs.StepWorld.{AreNumbered, effect_of, world_of}
-use Rattle.serial_order.specs.RunState.{after_effects, world_at, living_of, is_ended}
+use Rattle.serial_order.specs.RunState.{world_at, living_of, is_ended}
 use Rattle.serial_instances.specs.Serial.{IsOfSystem, state_of}
+use Rattle.serial_instances.specs.Thinned.{IsThinned}
 use Rattle.serial_instances.specs.declared.instances.Instances.{Instances}
 use Rattle.run_evaluation.specs.declared.identity.Identity.{Identity}
 use Rattle.sdl_interp.specs.Instance.{EndsBy, InstanceValue, IsIdle, Moves}
@@ -13,8 +14,8 @@ use Rattle.run_semantics.specs.World.{Living, WorldValue}
 use Rattle.serial_run.specs.ExecutionLaws.{stays}
 use Rattle.serial_run.proofs.Places.{living_same, in_place_set, marked_off, marked_on, not_ended, one_there, serial_set, set_back, set_here, set_there}
 use Rattle.serial_run.specs.Meanings.{all_at}
-use Rattle.serial_run.proofs.Steps.{IsAlone, Made, world_is, ended_rests, idle_rests, step_counts, step_fails, step_idles}
-use Rattle.serial_sweeps.specs.Sweeps.{after, at_agenda}
+use Rattle.serial_run.proofs.Steps.{IsAlone, Made, world_is, ended_rests, idle_rests, step_counts, step_fails, step_idles, stepped}
+use Rattle.serial_sweeps.specs.Sweeps.{Moment, after, at_agenda}
 use Rattle.serial_sweeps.specs.declared.instance_set.Made.TheVariants.{Failure, Transition}
 use Rattle.run_transitions.specs.declared.machine.Position.TheVariants as at
 use Rattle.serial_run.proofs.step.step.Goals as goal
@@ -63,8 +64,8 @@ returns-in-Ended-clause-runs c = λ last bound m time.
 
 -- it makes a transition, and lives on
 
-pub perform_all-requires : goal.perform_all-requires
-perform_all-requires c =
+pub unmark_resting-requires-clause-fits : goal.unmark_resting-requires-clause-fits
+unmark_resting-requires-clause-fits c =
     let s = c.args.instances.now in
     let place = c.in-Some.place in
     let xs = s.instances.items in
@@ -84,6 +85,14 @@ perform_all-requires c =
     serial_set s _ c.args.agenda.now.ready place old new c.requires.fits there keeps refl refl
     (c.requires.fits.living ∙ sym (living_same s.system.now xs place old new there keeps.who live_on))
     (marked_on c.args.agenda.now.ready xs place new c.requires.fits.marked (subst (Contains c.args.agenda.now.ready) number_is c.requires.ready))
+
+pub unmark_resting-requires-clause-place : goal.unmark_resting-requires-clause-place
+unmark_resting-requires-clause-place c =
+    let xs = c.args.instances.now.instances.items in
+    let long : vec_len c.args.instances.now.instances ≡ length xs = search rules in (
+      c.in-Some.ensures.some.0,
+      omega (arith, c.in-Some.ensures.some.1, length-set xs c.in-Some.place c.step-stepped.new.self, long),
+    )
 
 pub returns-in_ok-perform_all-in-Moved-clause-runs : goal.returns-in_ok-perform_all-in-Moved-clause-runs
 returns-in_ok-perform_all-in-Moved-clause-runs c = λ last bound m time.
@@ -130,12 +139,19 @@ returns-in_ok-perform_all-in-Moved-clause-runs c = λ last bound m time.
     let moves : Moves true old (world_at (state_of from s)) new v =
     subst (λ (w : WorldValue). Moves true old w new v) sees c.in-Moved.ensures.steps.0 in
     let given = ap (λ (living : Living). living.given) c.requires.fits.living in
+    let asked : Moment = record m { turn = c.args.number; bound = bound; left = m.left - 1 } in
+    let looked = c.unmark_resting.ensures in
+    let state : stepped from s place c.args.number bound new
+    ≡ state_of (at_agenda asked c.unmark_resting.new.agenda) c.unmark_resting.new.instances =
+    sym (λ i. record (state_of (record asked { clock = looked.clock i; fuses = looked.fuses i }) s) {
+      system = (looked.system i).now;
+      instances = looked.items i;
+    }) in
     step_counts agenda.ready from (after Transition c.args.number bound (at_agenda m c.perform_all.new.agenda)) s
     c.perform_all.new.self place c.args.number bound old new v effects made moves
-    (λ numbers. c.in_ok-perform_all-in-Moved.ensures.state
-    (record m { turn = c.args.number; bound = bound; left = m.left - 1 })
-    (subst (λ n. AreNumbered n effects) (sym given) numbers))
-    (omega (arith, time.some)) c.perform_all.ensures.system last
+    (λ g thinned numbers. c.in_ok-perform_all-in-Moved.ensures.state asked g (subst (IsThinned g) state thinned)
+    (subst (λ n. AreNumbered n effects) (sym (ap (λ (living : Living). living.given) looked.living ∙ given)) numbers))
+    (omega (arith, time.some)) (c.perform_all.ensures.system ∙ looked.system) last
 
 -- it ends
 
@@ -352,8 +368,9 @@ returns-in_ok-perform_all-in-Ended-stepped-clause-runs c = λ last bound m time.
     step_counts agenda.ready from
     (after Transition c.args.number bound (at_agenda m c.perform_all-in-Ended-stepped.new.agenda)) s t place c.args.number
     bound old new v effects made moves
-    (λ numbers. done.state spent (subst (λ n. AreNumbered n effects) (sym given) numbers)
-    ∙ ap (λ (u : Instances). after_effects (state_of (at_agenda spent agenda) u) effects) same)
+    (λ g thinned numbers. done.state spent g
+    (subst (IsThinned g) (sym (ap (λ (u : Instances). state_of (at_agenda spent agenda) u) same)) thinned)
+    (subst (λ n. AreNumbered n effects) (sym given) numbers))
     (omega (arith, time.some))
     (c.perform_all-in-Ended-stepped.ensures.system ∙ ap (λ (u : Instances). u.system) same) last
 
