@@ -68,6 +68,7 @@ impl<J: Run> Outbox<J> {
     /// Sends a signal: puts it into the port of this instance, if there is a sender into it. If there is none, for lack
     /// of memory, and after 2^61 entries, it comes back, and nothing changes. That it's this port is the caller's
     /// condition.
+    #[inline(always)]
     pub fn put<R: Wait>(
         &mut self,
         rt: &R,

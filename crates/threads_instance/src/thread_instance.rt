@@ -2,7 +2,7 @@
 
 ghost use Rattle.std.specs.Prelude.{◌≡◌, [], IsTrue, MatchResult, Some, slice_get};
 ghost use Rattle.port_model.specs.Port.{empty_port};
-ghost use Rattle.sdl_interp.specs.Instance.{HasRunOf, IsAtRest, IsClosed, IsRunAs, Keeps, Steps, created};
+ghost use Rattle.sdl_interp.specs.Instance.{HasNothing, HasRunOf, IsAtRest, IsClosed, IsRunAs, Keeps, NeedsStep, Steps, created};
 ghost use Rattle.threads_instance.specs.ThreadWorld.{world_of};
 ghost use Rattle.threads_instance.specs.ThreadInstance.{HasPut, HasSent, IsSeated};
 ghost use Rattle.threads_senders.specs.Peers.{ArePeersOf};
@@ -15,7 +15,7 @@ use port_inbox::Inbox;
 use port_values::{Ticks, Values};
 use run_evaluation::Identity;
 use run_record::Record;
-use sdl_interp::{Closed, Instance, Stepped};
+use sdl_interp::{Ahead, Closed, Instance, Stepped};
 use sdl_system::{Process, System};
 use std::alloc::Global;
 use std::marker::Model;
@@ -121,6 +121,17 @@ impl<'s, J: Run, P: Inbox + Drop> ThreadInstance<'s, J, P> {
         let ThreadWorld { outbox, .. } = world;
         self.outbox = outbox;
         stepped
+    }
+
+    /// What the next step may find, as `Instance::ahead` tells it. Nothing changes.
+    #[inline(always)]
+    pub fn ahead(&mut self) -> Ahead
+        ensures same { self.new ≡ self.old }
+        ensures nothing { result ≡ Ahead.Nothing → IsAtRest self.old.instance }
+        ensures quiet { result ≡ Ahead.Nothing → HasNothing self.old.instance.position self.old.instance }
+        ensures perhaps { result ≡ Ahead.Perhaps → NeedsStep self.old.instance.position self.old.instance }
+    {
+        self.instance.ahead()
     }
 
     /// The record of what the instance did so far.

@@ -1,3 +1,4 @@
 pub mod Desks
 pub mod Named
 pub mod Owners
+pub mod Site

@@ -14,6 +14,7 @@ pub mod laws;
 mod numbers;
 mod owners;
 mod ports;
+mod site;
 
 pub use birth::NewPorts;
 pub use numbers::{NumberSeat, Numbers};

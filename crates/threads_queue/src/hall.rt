@@ -78,6 +78,15 @@ impl Hall {
         Ok(())
     }
 
+    /// Queues all of these numbers, in their order. Refused for lack of memory: they stay where they are.
+    pub fn add_all(&mut self, numbers: &mut VecDeque<u32>) -> Result<(), AllocError>
+        ensures queued { OnOk result (self.new ≡ record self.old { queue = self.old.queue ++ numbers.old.items }) }
+        ensures moved { OnOk result (numbers.new.items ≡ []) }
+        ensures refused { OnErr result ((self.new ≡ self.old) × (numbers.new.items ≡ numbers.old.items)) }
+    {
+        self.queue.append(numbers)
+    }
+
     /// Gives the worker `me`, whose own queue is empty, its next turn. Its part of the common queue goes into its own.
     /// Refused for lack of memory: both queues stay as they are.
     pub fn turn(&mut self, me: usize, own: &mut VecDeque<u32>) -> Result<Turn, AllocError>
@@ -145,6 +154,13 @@ impl Hall {
             (λ worker. self.old ≡ record self.new { asleep = self.new.asleep ++ worker ∷ [] }) }
     {
         self.asleep.pop()
+    }
+
+    /// How many numbers are in the queue.
+    pub fn queued(&self) -> usize
+        ensures { result ≡ length self.now.queue }
+    {
+        self.queue.len()
     }
 
     /// How many workers sleep.

@@ -1,5 +1,6 @@
 pub mod Kept
 mod LawLemmas
+mod PlaceLemmas
 pub mod SenderLemmas
 pub mod SentLemmas
 pub mod Signals

@@ -1,6 +1,7 @@
 //! The senders of an instance, or of the environment.
 
-ghost use Rattle.std.specs.Prelude.{◌≡◌, ◌==◌, ◌≤◌, ◌++◌, ◌∷◌, [], ℕ, List, None, false, length, true, if◌then◌else◌, IfSome, MatchOption, MatchResult, OnOk};
+ghost use Rattle.std.specs.Map.{keys_of};
+ghost use Rattle.std.specs.Prelude.{◌≡◌, ◌==◌, ◌≤◌, ◌++◌, ◌∷◌, [], ℕ, List, None, Some, false, length, slice_get, true, if◌then◌else◌, IfSome, MatchOption, MatchResult, OnOk};
 ghost use Rattle.port_inbox.specs.Calls.{ComesBack};
 ghost use Rattle.port_inbox.specs.declared.entry.Entry.TheVariants.{Signal, Timer};
 ghost use Rattle.port_values.specs.declared.pid.Pid.{Pid};
@@ -23,9 +24,11 @@ use std::marker::{Model, PhantomData};
 use std::sync::Wait;
 
 /// The senders of an instance, or of the environment, each with the number of the instance into whose port it puts.
+/// Most instances send the next signal where they sent the last, so the place of its sender is looked at first.
 #[derive(Drop)]
 pub struct Peers<J: Run> {
     senders: IndexMap<u32, Sender>,
+    last: usize,
     of: PhantomData<J>,
 }
 
@@ -46,6 +49,7 @@ impl<J: Run> Peers<J> {
     {
         Peers {
             senders: IndexMap::new(alloc),
+            last: 0,
             of: PhantomData,
         }
     }
@@ -92,6 +96,7 @@ impl<J: Run> Peers<J> {
     ///
     /// Where what was put so far is the last of what an origin sends, and the signal is of that origin, it is so with
     /// the signal after all that it sent: of an instance, with its output after the record.
+    #[inline(always)]
     pub fn put<R: Wait>(
         &mut self,
         rt: &R,
@@ -109,13 +114,41 @@ impl<J: Run> Peers<J> {
             → ArePeersOf who events self.old
             → ArePeersOf who (events ++ output_of item named number ∷ []) self.new) }
     {
-        let Some(sender) = self.senders.get_mut(&number) else {
+        let Some(place) = self.place_of(number) else {
             return Err(NotPut::Unknown(item));
+        };
+        self.last = place;
+        let Some(sender) = self.senders.get_index_mut(place) else {
+            unreachable!()
         };
         if let Err(Refused { value, .. }) = sender.put(rt, port, item) {
             return Err(NotPut::Memory(value));
         }
         Ok(())
+    }
+
+    /// The place of the sender into the port of this instance. None: there is none.
+    #[inline(always)]
+    #[tactic(auto, using(crate::proofs::PlaceLemmas::found_at))]
+    fn place_of(&self, number: u32) -> Option<usize>
+        ensures { MatchOption result (is_known self.now number ≡ false)
+            (λ place. slice_get (keys_of self.now) place ≡ Some number) }
+    {
+        if self.is_at(self.last, number) {
+            return Some(self.last);
+        }
+        self.senders.get_index_of(&number)
+    }
+
+    /// Whether the sender into the port of this instance is at this place.
+    #[inline(always)]
+    fn is_at(&self, place: usize, number: u32) -> bool
+        ensures { result ≡ true → slice_get (keys_of self.now) place ≡ Some number }
+    {
+        match self.senders.get_index(place) {
+            Some((known, _)) => *known == number,
+            None => false,
+        }
     }
 
     /// Puts the expiry of a timer into the port of this instance, at the time `at`. For lack of memory, and after 2^61
