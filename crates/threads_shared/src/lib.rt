@@ -8,6 +8,7 @@
 //! place of the instance that steps. So there is no order of locks to keep.
 #![tactic(auto)]
 
+mod addressees;
 mod common;
 pub mod making;
 mod own;
@@ -16,6 +17,7 @@ mod signs;
 mod step_runtime;
 mod tables;
 
+pub use addressees::Addressees;
 pub use common::Common;
 pub use own::Own;
 pub use shared::{Seated, Shared};

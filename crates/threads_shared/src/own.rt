@@ -2,7 +2,7 @@
 
 ghost use Rattle.std.specs.Prelude.{◌≡◌, OnOk, true};
 
-use crate::Tables;
+use crate::{Addressees, Tables};
 use port_inbox::Fuse;
 use port_values::Ticks;
 use sdl_timers::Reader;
@@ -16,17 +16,20 @@ use threads_senders::Run;
 const MOST_NUMBERS: usize = 1_000;
 
 /// The state that a thread of the run `J` has for itself: its reader of the clock, its seat for numbers, its queue, the
-/// fuses of the step that it makes, and what it has seen of who lives.
+/// fuses of the step that it makes and to whom that has sent something, and what it has seen of who lives.
 #[derive(Drop)]
 pub struct Own<J: Run> {
     pub reader: Reader,
     pub seat: NumberSeat<J>,
     /// The numbers of those that have something to do and that this thread is to step.
     pub queue: VecDeque<u32>,
-    /// How many jobs this thread has done since it asked the hall for numbers.
+    /// How many jobs this thread has done since it asked the hall for numbers. A job of several turns counts as
+    /// so many.
     pub jobs: usize,
     /// The fuses of the step that is being made, which go into the wheel after it.
     pub fuses: Vec<Fuse>,
+    /// To whom the step that is being made has sent something: they are woken after it.
+    pub addressees: Addressees,
     /// For each process by its number, the least number of its living instances, as it was at a change of the roster.
     pub living: Vec<Option<u32>>,
     /// The change of the roster at which it was so.
@@ -56,6 +59,7 @@ impl<J: Run> Own<J> {
             queue,
             jobs: 0,
             fuses: Vec::new(alloc),
+            addressees: Addressees::Nobody,
             living,
             version: 0,
             moves: 0,

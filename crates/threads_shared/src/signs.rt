@@ -1,32 +1,44 @@
 //! The words that all threads look at.
 
+use crossbeam_utils::CachePadded;
+use std::hint::spin_loop;
 use std::sync::atomic::{AtomicBool, AtomicU64, AtomicUsize, Ordering};
+use threads_queue::Hall;
 
 /// How many transitions a thread makes at most before it adds them to the sum of all.
 const MOST_MOVES: u64 = 64;
 
+/// How often a worker without a number looks for one before it sleeps.
+const MOST_LOOKS: u32 = 5_000;
+
 /// The words of a run that all threads look at, without a lock. No contract says what is in one: another thread may change
-/// it at any time.
+/// it at any time. Each is on cache lines of its own, so a look at one costs nothing while another changes.
 #[derive(Drop)]
 pub struct Signs {
-    version: AtomicU64,
-    moves: AtomicU64,
-    sleepers: AtomicUsize,
-    closed: AtomicBool,
-    failed: AtomicBool,
+    version: CachePadded<AtomicU64>,
+    moves: CachePadded<AtomicU64>,
+    sleepers: CachePadded<AtomicUsize>,
+    seekers: CachePadded<AtomicUsize>,
+    queued: CachePadded<AtomicUsize>,
+    closed: CachePadded<AtomicBool>,
+    failed: CachePadded<AtomicBool>,
     limit: u64,
+    workers: usize,
 }
 
 impl Signs {
-    /// The words of a run that begins, with this limit of transitions.
-    pub fn new(limit: u64) -> Self {
+    /// The words of a run that begins, with this limit of transitions and so many workers.
+    pub fn new(limit: u64, workers: usize) -> Self {
         Signs {
-            version: AtomicU64::new(1),
-            moves: AtomicU64::new(0),
-            sleepers: AtomicUsize::new(0),
-            closed: AtomicBool::new(false),
-            failed: AtomicBool::new(false),
+            version: CachePadded::new(AtomicU64::new(1)),
+            moves: CachePadded::new(AtomicU64::new(0)),
+            sleepers: CachePadded::new(AtomicUsize::new(0)),
+            seekers: CachePadded::new(AtomicUsize::new(0)),
+            queued: CachePadded::new(AtomicUsize::new(0)),
+            closed: CachePadded::new(AtomicBool::new(false)),
+            failed: CachePadded::new(AtomicBool::new(false)),
             limit,
+            workers,
         }
     }
 
@@ -65,14 +77,48 @@ impl Signs {
         before.saturating_add(moves) >= self.limit
     }
 
-    /// Whether workers sleep. A look, which may be late: who sleeps then is woken by the next that looks.
-    pub fn has_sleepers(&self) -> bool {
-        self.sleepers.load(Ordering::SeqCst) > 0
+    /// Notes how many workers sleep, and how many numbers are in the hall's queue. The caller has the lock of the hall.
+    pub fn note(&self, hall: &Hall) {
+        // Before: the words are as the hall was when its lock was left last. After: as it is. Who looks without the lock
+        // may see the old ones: both are hints, and the hall itself is asked before a worker sleeps.
+        self.sleepers.store(hall.sleepers(), Ordering::SeqCst);
+        self.queued.store(hall.queued(), Ordering::SeqCst);
     }
 
-    /// Notes how many workers sleep. The caller has the lock of the hall.
-    pub fn set_sleepers(&self, sleepers: usize) {
-        self.sleepers.store(sleepers, Ordering::SeqCst);
+    /// Whether a worker has no number: it sleeps, or looks for one. A look, which may be late: what is shared by it is in
+    /// the hall, where the next worker without a number finds it.
+    pub fn has_idle(&self) -> bool {
+        self.sleepers.load(Ordering::SeqCst) > 0 || self.seekers.load(Ordering::SeqCst) > 0
+    }
+
+    /// Looks for a while whether a number is queued, on behalf of a worker that has none. Others share with it meanwhile.
+    /// Whatever it sees, the worker asks the hall then, which looks under its lock.
+    pub fn seek(&self) {
+        // Before: the worker has no number, and isn't counted among those that look. After: it is, so who has two numbers
+        // or more gives some to the hall.
+        self.seekers.fetch_add(1, Ordering::SeqCst);
+        for _ in 0..MOST_LOOKS {
+            if self.has_queued() || self.is_closed() || self.is_still() {
+                break;
+            }
+            spin_loop();
+        }
+        // Before: the worker is counted among those that look. After: it isn't, and it still has no number. What was given
+        // to the hall for it is there, unless another worker has it by now. It asks for it next, and isn't noted as asleep
+        // before that: so no wake-up is lost, whatever it saw.
+        self.seekers.fetch_sub(1, Ordering::SeqCst);
+    }
+
+    /// Whether numbers are in the hall's queue. A look, which may be late.
+    fn has_queued(&self) -> bool {
+        self.queued.load(Ordering::SeqCst) > 0
+    }
+
+    /// Whether no worker has a number: each sleeps or looks for one, so none comes before the clock moves. A look, which
+    /// may be late, or early if a parker let a worker go by itself. It tells only that it is no use to look on.
+    fn is_still(&self) -> bool {
+        let seekers = self.seekers.load(Ordering::SeqCst);
+        seekers.saturating_add(self.sleepers.load(Ordering::SeqCst)) >= self.workers
     }
 
     /// Whether the run is over.

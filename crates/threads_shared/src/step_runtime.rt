@@ -24,14 +24,19 @@ impl<'w, 'l, 's, 'p, J: Run, R: Wait + Copy> Runtime<J> for StepRuntime<'w, 'l, 
 
     ghost kept = { λ o. o.own.now.fuses.items };
 
+    /// Whom a signal reaches is noted, since it is asked for just before each signal is sent.
     fn route(&mut self, system: &System, signal: SignalId, from: ProcessId, to: Dest) -> Target {
         self.own.look(self.shared.rt, self.shared.tables);
-        system.route(
+        let target = system.route(
             signal,
             Source::Process(from),
             to,
             self.own.living.as_slice(),
-        )
+        );
+        if let Target::Instance(number) = target {
+            self.own.addressees = self.own.addressees.and(number);
+        }
+        target
     }
 
     fn port(&self, number: u32) -> Option<&Port> {

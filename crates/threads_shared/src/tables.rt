@@ -5,6 +5,7 @@ use sdl_instances::Roster;
 use sdl_system::System;
 use sdl_timers::Wheel;
 use std::alloc::{AllocError, Global};
+use std::collections::VecDeque;
 use std::sync::{Mutex, Wait};
 use threads_queue::Hall;
 
@@ -30,7 +31,7 @@ impl Tables {
             roster: Mutex::new(Roster::new(alloc, system)?),
             wheel: Mutex::new(Wheel::new(alloc)),
             hall: Mutex::new(Hall::new(alloc, workers)?),
-            signs: Signs::new(limit),
+            signs: Signs::new(limit, workers),
         })
     }
 
@@ -42,8 +43,39 @@ impl Tables {
         let mut hall = self.hall.lock(rt);
         hall.add(number)?;
         let wake = hall.sleeper();
-        self.signs.set_sleepers(hall.sleepers());
+        self.signs.note(&hall);
         Ok(wake)
+    }
+
+    /// Queues all of these numbers in the hall at once: who finds one of them there finds all that nobody has taken since.
+    /// The caller wakes workers then. Refused for lack of memory: they stay where they are.
+    pub fn queue_all<R: Wait>(
+        &self,
+        rt: &R,
+        numbers: &mut VecDeque<u32>,
+    ) -> Result<(), AllocError> {
+        // Before: the numbers are the caller's, and are in no queue. After: all are in the hall's. Workers that look into
+        // the hall find them, under this lock. Those that are noted as asleep stay so, until the caller takes one out and
+        // unparks it: it does so next, so the numbers aren't missed.
+        let mut hall = self.hall.lock(rt);
+        hall.add_all(numbers)?;
+        self.signs.note(&hall);
+        Ok(())
+    }
+
+    /// A worker that sleeps, which is to be unparked, where numbers are queued. None: nobody sleeps, or no number is
+    /// queued.
+    pub fn sleeper<R: Wait>(&self, rt: &R) -> Option<usize> {
+        // Before: numbers may be queued. After: where there are some, one that slept is no longer noted as asleep, and the
+        // caller unparks it; it looks into the hall under this lock before it sleeps again. Where there are none, workers
+        // that were awake have taken them.
+        let mut hall = self.hall.lock(rt);
+        if hall.queued() == 0 {
+            return None;
+        }
+        let wake = hall.sleeper();
+        self.signs.note(&hall);
+        wake
     }
 
     /// Ends the run: each worker ends at its next look. The answer is a worker that sleeps, which is to be unparked; it

@@ -9,6 +9,7 @@ use port_inbox::Fuse;
 use port_values::Ticks;
 use sdl_timers::Ticker;
 use std::alloc::{AllocError, Global};
+use std::collections::VecDeque;
 use std::sync::Wait;
 use threads_environment::Environment;
 use threads_senders::Run;
@@ -92,7 +93,8 @@ impl<'l, J: Run> Director<'l, J> {
     }
 
     /// Moves the clock to this time, and does what is due then: all of it is put before somebody is woken, so that who is
-    /// woken finds all of it.
+    /// woken finds all of it. All who are woken are queued at once: so none of them waits while those before it step on and
+    /// on.
     fn move_to<R: Wait + Copy>(
         &mut self,
         shared: &Shared<'_, '_, '_, J, R>,
@@ -106,9 +108,7 @@ impl<'l, J: Run> Director<'l, J> {
         let mut woken = Vec::new(shared.alloc);
         self.expire_due(shared, &mut woken)?;
         self.hear_due(shared, &mut woken)?;
-        for number in &woken {
-            wake(shared, crew, *number)?;
-        }
+        wake_all(shared, crew, woken.as_slice())?;
         Ok(true)
     }
 
@@ -193,17 +193,37 @@ fn fire<J: Run, R: Wait + Copy>(shared: &Shared<'_, '_, '_, J, R>, to: Ticks) ->
     if fuse.due() <= to { Some(fuse) } else { None }
 }
 
-/// Wakes the instance of this number: where its number is in no queue, it goes into the hall's.
-fn wake<J: Run, R: Wait + Copy>(
+/// Wakes the instances of these numbers: the number of each that is in no queue goes into the hall's. Refused for lack of
+/// memory: some may be marked, with their numbers in no queue, so the run is to end without a report.
+fn wake_all<J: Run, R: Wait + Copy>(
     shared: &Shared<'_, '_, '_, J, R>,
     crew: Crew<'_>,
-    number: u32,
+    woken: &[u32],
 ) -> Result<(), AllocError> {
-    let Some(place) = shared.places.of(number) else {
-        return Ok(());
-    };
-    if place.wake() {
-        crew.wake(shared.tables.queue(shared.rt, number)?);
+    let mut numbers = VecDeque::with_capacity(shared.alloc, woken.len())?;
+    for number in woken {
+        // A number may be there twice: it is queued at its first wake, and the second one finds it marked.
+        if is_to_queue(shared, *number) {
+            numbers.push_back(*number)?;
+        }
+    }
+    let count = numbers.len();
+    shared.tables.queue_all(shared.rt, &mut numbers)?;
+    for _ in 0..count {
+        let worker = shared.tables.sleeper(shared.rt);
+        if worker.is_none() {
+            break;
+        }
+        crew.wake(worker);
     }
     Ok(())
+}
+
+/// Marks the instance of this number, for which something came. True: its number is in no queue, and is the caller's to
+/// queue.
+fn is_to_queue<J: Run, R: Wait + Copy>(shared: &Shared<'_, '_, '_, J, R>, number: u32) -> bool {
+    match shared.places.of(number) {
+        Some(place) => place.wake(),
+        None => false,
+    }
 }

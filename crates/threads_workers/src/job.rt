@@ -1,31 +1,40 @@
 //! A job of a worker: some steps of one instance.
 
 use crate::Gate;
-use run_record::Entry;
-use sdl_interp::Stepped;
+use run_record::{Entry, Record};
+use sdl_interp::{Ahead, Stepped};
 use std::alloc::AllocError;
 use std::sync::Wait;
-use threads_queue::Place;
+use threads_queue::{MOST_TAKEN, Place};
 use threads_senders::Run;
-use threads_shared::{Own, Seated, Shared, StepRuntime};
+use threads_shared::{Addressees, Own, Seated, Shared, StepRuntime};
 
-/// How many steps a job has at most, so that all that have something to do get their turn: the others of a worker's queue
+/// How many steps a turn has at most, so that all that have something to do get theirs: the others of a worker's queue
 /// after it, and those in the hall when the worker looks there, after so many jobs.
-const MOST_STEPS: u32 = 32;
+const STEPS_PER_TURN: u32 = 32;
+
+/// After so many steps of a turn a worker looks whether another one has no number.
+const STEPS_PER_LOOK: u32 = 8;
+
+/// After how many jobs a worker looks into the hall, whatever its own queue has: as many as it takes numbers out at once
+/// at most. So each that it took has had its job by then, and what a look costs is shared by as many jobs.
+pub const JOBS_PER_LOOK: usize = MOST_TAKEN;
 
 /// The result of a job.
 #[derive(Clone, Copy, PartialEq, Eq)]
 enum Left {
-    /// The instance found nothing to do.
+    /// The instance has nothing to do.
     Idle,
     /// The instance has ended.
     Ended,
+    /// Signals wait for it, which may all be saved.
+    Signals,
     /// There may be more to do.
     More,
 }
 
-/// Makes steps of the instance of this number, until it finds nothing to do, ends, or has made a batch of them. Refused
-/// for lack of memory for the run's own tables.
+/// Makes steps of the instance of this number, until it has nothing to do, ends, or has had its turn. Refused for lack of
+/// memory for the run's own tables.
 pub fn steps_of<J: Run, R: Wait + Copy, G: Gate>(
     shared: &Shared<'_, '_, '_, J, R>,
     own: &mut Own<J>,
@@ -37,8 +46,8 @@ pub fn steps_of<J: Run, R: Wait + Copy, G: Gate>(
     };
     // The number is this thread's, so the lock is free. It is left before the mark is set, so the next that has the number
     // finds it free, too.
-    match steps_at(shared, own, gate, place, number)? {
-        Left::More => {
+    match turns_at(shared, own, gate, place, number)? {
+        Left::Signals | Left::More => {
             own.queue.push_back(number)?;
         }
         Left::Idle => {
@@ -51,8 +60,10 @@ pub fn steps_of<J: Run, R: Wait + Copy, G: Gate>(
     Ok(())
 }
 
-/// The steps of who is in the place.
-fn steps_at<'s, 'p, J: Run, R: Wait + Copy, G: Gate>(
+/// The turn of who is in the place, and more turns while signals wait for it and this worker has no other number: as if
+/// its number had gone into this worker's queue, and had come out again. Each counts as a job, so what waits in the hall
+/// waits no longer for that.
+fn turns_at<'s, 'p, J: Run, R: Wait + Copy, G: Gate>(
     shared: &Shared<'_, 's, 'p, J, R>,
     own: &mut Own<J>,
     gate: &G,
@@ -63,8 +74,27 @@ fn steps_at<'s, 'p, J: Run, R: Wait + Copy, G: Gate>(
     let Some(seated) = guard.as_mut() else {
         return Ok(Left::Ended);
     };
-    for _ in 0..MOST_STEPS {
-        if shared.tables.signs.is_closed() {
+    for _ in 0..JOBS_PER_LOOK {
+        let left = turn(shared, own, gate, seated, number)?;
+        if left != Left::Signals || !own.queue.is_empty() || own.jobs >= JOBS_PER_LOOK {
+            return Ok(left);
+        }
+        own.jobs = own.jobs.saturating_add(1);
+    }
+    Ok(Left::More)
+}
+
+/// A turn: steps of an instance, until it has nothing to do, ends, or has made so many.
+fn turn<'s, 'p, J: Run, R: Wait + Copy, G: Gate>(
+    shared: &Shared<'_, 's, 'p, J, R>,
+    own: &mut Own<J>,
+    gate: &G,
+    seated: &mut Seated<'s, 'p, J, R>,
+    number: u32,
+) -> Result<Left, AllocError> {
+    let mut ahead = Ahead::Perhaps;
+    for made in 0..STEPS_PER_TURN {
+        if shared.tables.signs.is_closed() || is_to_share(shared, own, made) {
             return Ok(Left::More);
         }
         gate.begun(shared.rt, number);
@@ -73,8 +103,30 @@ fn steps_at<'s, 'p, J: Run, R: Wait + Copy, G: Gate>(
             Stepped::Idle => return Ok(Left::Idle),
             Stepped::Ended { .. } => return Ok(Left::Ended),
         }
+        // A look alone, after all puts of the step. Before: the number is this thread's, so the mark is READY, or AGAIN if
+        // something came. After: as before. If nothing was there, the mark is set to rest, which looks for AGAIN. What
+        // comes after this look sets it, so the number is queued again then: no wake-up is lost.
+        ahead = seated.ahead();
+        if ahead == Ahead::Nothing {
+            return Ok(Left::Idle);
+        }
     }
-    Ok(Left::More)
+    Ok(match ahead {
+        Ahead::Signals => Left::Signals,
+        _ => Left::More,
+    })
+}
+
+/// Whether a turn in which so many steps were made ends early, since this worker has another number and some worker has
+/// none: it shares then. A look, which may be late: the next one is some steps later.
+fn is_to_share<J: Run, R: Wait + Copy>(
+    shared: &Shared<'_, '_, '_, J, R>,
+    own: &Own<J>,
+    made: u32,
+) -> bool {
+    made % STEPS_PER_LOOK == STEPS_PER_LOOK - 1
+        && !own.queue.is_empty()
+        && shared.tables.signs.has_idle()
 }
 
 /// One step of an instance, with all that comes after it: its fuses go into the wheel, whom it has sent something is woken,
@@ -86,13 +138,11 @@ pub fn step<'s, 'p, J: Run, R: Wait + Copy>(
 ) -> Result<Stepped, AllocError> {
     let told = seated.trace().len();
     let time = own.reader.now();
+    own.addressees = Addressees::Nobody;
     let mut runtime = StepRuntime { shared, own };
     let stepped = seated.step(shared.alloc, shared.rt, &mut runtime, time);
     own.arm(shared.rt, shared.tables)?;
-    let (entries, _) = seated.trace().kept();
-    if let Some(news) = entries.get(told..) {
-        wake_targets(shared, own, news)?;
-    }
+    wake_addressees(shared, own, seated.trace(), told)?;
     match stepped {
         Stepped::Moved => count(shared, own),
         Stepped::Idle => {}
@@ -132,7 +182,28 @@ pub fn tell_moves<J: Run, R: Wait + Copy>(shared: &Shared<'_, '_, '_, J, R>, own
     own.moves = 0;
 }
 
-/// Wakes whom these events of a step send something. All that it sends is put before.
+/// Wakes those to whom a step has sent something, after all that it sends is put. Of several, its record tells: its events
+/// there begin at `told`.
+fn wake_addressees<J: Run, R: Wait + Copy>(
+    shared: &Shared<'_, '_, '_, J, R>,
+    own: &mut Own<J>,
+    trace: &Record,
+    told: usize,
+) -> Result<(), AllocError> {
+    match own.addressees {
+        Addressees::Nobody => Ok(()),
+        Addressees::One(number) => wake(shared, own, number),
+        Addressees::Several => {
+            let (entries, _) = trace.kept();
+            match entries.get(told..) {
+                Some(news) => wake_targets(shared, own, news),
+                None => Ok(()),
+            }
+        }
+    }
+}
+
+/// Wakes whom these events send something.
 fn wake_targets<J: Run, R: Wait + Copy>(
     shared: &Shared<'_, '_, '_, J, R>,
     own: &mut Own<J>,

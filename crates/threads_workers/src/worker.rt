@@ -1,19 +1,15 @@
 //! The loop of a worker.
 
-use crate::job::{steps_of, tell_moves};
+use crate::job::{JOBS_PER_LOOK, steps_of, tell_moves};
 use crate::{Crew, Gate};
 use crossbeam_utils::sync::Parker;
 use sdl_timers::Reader;
 use std::alloc::{AllocError, Global};
 use std::sync::Wait;
 use threads_ports::NumberSeat;
-use threads_queue::{MOST_TAKEN, Turn};
+use threads_queue::Turn;
 use threads_senders::Run;
 use threads_shared::{Own, Shared};
-
-/// After how many jobs a worker looks into the hall, whatever its own queue has: as many as it takes numbers out at once
-/// at most. So each that it took has had its job by then, and what a look costs is shared by as many jobs.
-const JOBS_PER_LOOK: usize = MOST_TAKEN;
 
 /// Works until the run is over: takes numbers, and makes steps of those instances. `me` is its place in the crew, and it
 /// parks on `parker`. Where it finds no memory for the run's own tables, it ends the run.
@@ -76,6 +72,7 @@ fn round<J: Run, R: Wait + Copy, G: Gate>(
         return Ok(true);
     }
     tell_moves(shared, own);
+    shared.tables.signs.seek();
     if shared.tables.signs.is_closed() {
         end(shared, crew);
         return Ok(false);
@@ -110,7 +107,7 @@ fn next_turn<J: Run, R: Wait + Copy>(
     // a number later has this lock then, and sees the worker asleep.
     let mut hall = shared.tables.hall.lock(shared.rt);
     let turn = hall.turn(me, &mut own.queue)?;
-    shared.tables.signs.set_sleepers(hall.sleepers());
+    shared.tables.signs.note(&hall);
     Ok(turn)
 }
 
@@ -129,32 +126,36 @@ fn exchange<J: Run, R: Wait + Copy>(
     // others: each number is in one of the two still. Nobody falls asleep by this, and nobody is woken. No wake-up is lost:
     // if somebody sleeps while numbers wait, one that was unparked is on the way to the hall, and what it finds there is no
     // matter. It sleeps again only if the hall is empty then.
-    shared.tables.hall.lock(shared.rt).exchange(&mut own.queue)
+    let mut hall = shared.tables.hall.lock(shared.rt);
+    hall.exchange(&mut own.queue)?;
+    shared.tables.signs.note(&hall);
+    Ok(())
 }
 
-/// Gives half of this worker's numbers to the hall, where it has two or more and somebody sleeps.
+/// Gives half of this worker's numbers to the hall, where it has two or more and another worker has none.
 fn share<J: Run, R: Wait + Copy>(
     shared: &Shared<'_, '_, '_, J, R>,
     crew: Crew<'_>,
     own: &mut Own<J>,
 ) -> Result<(), AllocError> {
-    if own.queue.len() < 2 || !shared.tables.signs.has_sleepers() {
+    if own.queue.len() < 2 || !shared.tables.signs.has_idle() {
         return Ok(());
     }
     crew.wake(given(shared, own)?);
     Ok(())
 }
 
-/// Gives half of this worker's numbers to the hall. The answer is a worker that slept, which is to be unparked.
+/// Gives half of this worker's numbers to the hall. The answer is a worker that slept, which is to be unparked. Who looks
+/// for a number finds them by itself.
 fn given<J: Run, R: Wait + Copy>(
     shared: &Shared<'_, '_, '_, J, R>,
     own: &mut Own<J>,
 ) -> Result<Option<usize>, AllocError> {
     // Before: the numbers are this worker's. After: half of them are in the hall's queue, and one that slept is no longer
-    // noted as asleep; it wakes the next one if it leaves some. Where nobody sleeps, the next that is idle finds them.
+    // noted as asleep; it wakes the next one if it leaves some. Where nobody sleeps, the next that has none finds them.
     let mut hall = shared.tables.hall.lock(shared.rt);
     let wake = hall.share(&mut own.queue)?;
-    shared.tables.signs.set_sleepers(hall.sleepers());
+    shared.tables.signs.note(&hall);
     Ok(wake)
 }
 
