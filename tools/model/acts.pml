@@ -53,7 +53,7 @@ inline into_own() {
     woke()
 }
 
-/* job.rt: steps_of, steps_at. Place::lock: the lock is free, and somebody is there. */
+/* job.rt: steps_of, turns_at. Place::lock: the lock is free, and somebody is there. */
 inline lock_first() {
     own[me] ? number;
     assert(!locked[number] && seated[number]);

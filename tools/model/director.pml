@@ -57,20 +57,25 @@ inline check_whole() {
     skip
 }
 
-inline woke_one() {
+inline marked_one() {
     number = 0;
-    goto wakes
+    goto marks
 }
 
-inline into_hall() {
-    goto queues
+inline is_to_queue() {
+    numbers ! number;
+    number = 0;
+    goto marks
 }
 
 /* Whom to wake, in the order in which it was put. */
 chan woken = [INSTANCES + LINES] of { byte };
 
+/* The numbers of those that are marked and are to be queued. */
+chan numbers = [INSTANCES] of { byte };
+
 init {
-    byte started_workers, other = NOBODY, next, number;
+    byte started_workers, other = NOBODY, next, number, count;
 
     /* start.rt: begin. crew.rt: join_all */
     atomic {
@@ -109,10 +114,6 @@ look:
     /* It takes the run for one at rest while a worker is awake. */
     :: !hall_closed && !signs_closed && COUNT_OF(asleep) + 1 >= crew && empty(hall)
     :: !hall_closed && !signs_closed && (COUNT_OF(asleep) + 1 < crew || nempty(hall)) -> goto waits
-#elif defined(SEEKERS_REST)
-    /* It may count those that look for numbers as asleep: they have none. */
-    :: !hall_closed && !signs_closed && COUNT_OF(asleep) + seekers == crew && empty(hall)
-    :: !hall_closed && !signs_closed && (COUNT_OF(asleep) + seekers != crew || nempty(hall)) -> goto waits
 #else
     :: !hall_closed && !signs_closed && COUNT_OF(asleep) == crew && empty(hall)
     :: !hall_closed && !signs_closed && (COUNT_OF(asleep) != crew || nempty(hall)) -> goto waits
@@ -178,22 +179,36 @@ look:
     :: atomic { heard == LINES && !last_heard && clock >= LAST -> last_heard = true }
     :: (heard < LINES && clock < 1) || (heard == LINES && (last_heard || clock < LAST)) -> break
     od;
-    /* director.rt: wake */
-wakes:
+    /* director.rt: wake_all. Each that something came for is marked. If its number is in no queue, it is the director's
+       until all are marked. */
+marks:
     if
     :: atomic { nempty(woken) -> woken ? number };
-        MARK_WAKE(number, into_hall, woke_one)
-    :: empty(woken) -> goto look
+        MARK_WAKE(number, is_to_queue, marked_one)
+    :: empty(woken)
     fi;
-queues:
-    /* Tables::queue, under the hall's lock. */
+    /* Tables::queue_all, under the hall's lock. */
     atomic {
-        put_number(hall, number);
-        number = 0;
-        take_sleeper(other);
-        set_signs();
+        count = len(numbers);
+        do
+        :: nempty(numbers) -> numbers ? number; put_number(hall, number); number = 0
+        :: empty(numbers) -> break
+        od;
+        set_signs()
+    };
+#ifdef BUG_QUEUE_UNTOLD
+    /* Nobody is told of the numbers that were queued. */
+    count = 0;
+#endif
+wakes:
+    /* Tables::sleeper, under the hall's lock: as many as there were numbers, while some sleep and some are queued. */
+    atomic {
         if
-        :: other == NOBODY -> goto wakes
+        :: count > 0 && nempty(hall) -> count--; take_sleeper(other); set_signs()
+        :: count == 0 || empty(hall)
+        fi;
+        if
+        :: other == NOBODY -> count = 0; goto look
         :: else
         fi
     };

@@ -14,12 +14,14 @@ inline take_sleeper(one) {
     fi
 }
 
-/* signs.rt: Signs::set_sleepers, and the word that seekers look at. */
+/* signs.rt: Signs::set_queued, Signs::set_sleepers. */
+inline set_queued() {
+    queued = len(hall)
+}
+
 inline set_signs() {
     sleepers = COUNT_OF(asleep);
-#ifdef SEEKERS
-    queued = len(hall)
-#endif
+    set_queued()
 }
 
 /* Hall::part: of what waits, as much as each of the crew gets, and one at least. */

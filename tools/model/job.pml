@@ -182,14 +182,8 @@ counts:
     :: !stops_then
     fi;
 #endif
-    /* job.rt: steps_at, another turn of its loop; or it has made 32 steps: that is here whenever it likes. */
-#ifndef LOOK
-    if
-    :: !signs_closed -> goto take
-    :: true -> goto more
-    fi;
-#else
-    /* It looks at its port before. What waits there is the worker's own, so the step is a look at the queue. */
+    /* job.rt: turn. Instance::ahead, a look at the port. What is drawn and waits there is the worker's own, so the step is
+       a look at the queue. */
     if
 #ifdef BUG_LOOK_EARLY
     :: atomic { looked_empty -> looked_empty = false } -> goto idle
@@ -214,11 +208,11 @@ counts:
     :: true
 #endif
     fi;
+    /* Another step; or its turn is over: that is here whenever it likes. */
     if
     :: !signs_closed -> goto take
     :: true -> goto more
     fi;
-#endif
 
 more:
     /* job.rt: steps_of. The lock is left, and then its number is in its own queue again. */

@@ -63,8 +63,7 @@
 #ifndef PART
 #define PART 1
 #endif
-/* FEWER: each worker but the first may not start. LOOK: a job ends with a look at the port. SEEKERS: a worker looks for
-   numbers before it sleeps. SEEKERS_REST: the director takes it for asleep meanwhile. */
+/* FEWER: each worker but the first may not start. */
 
 #include "shared.pml"
 #include "waking.pml"

@@ -54,14 +54,12 @@ chan own[WORKERS] = [INSTANCES] of { byte };
 
 /* signs.rt: the words. */
 byte sleepers;
+byte seekers;
+byte queued;
 bool signs_closed;
 bool signs_failed;
 #ifdef LIMIT
 byte sum;
-#endif
-#ifdef SEEKERS
-byte seekers;
-byte queued;
 #endif
 
 /* The token of each thread's parker: the director's, then those of the workers. */

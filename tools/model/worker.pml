@@ -44,17 +44,12 @@ round:
     /* worker.rt: share. Signs::has_sleepers, if it has two numbers. */
     if
     :: sleepers > 0 -> goto gives
-#ifdef SEEKERS
     :: sleepers == 0
     fi;
     if
     :: seekers > 0 -> goto gives
     :: seekers == 0 -> goto gets
     fi;
-#else
-    :: sleepers == 0 -> goto gets
-    fi;
-#endif
 gives:
     /* worker.rt: given. Hall::share, under the hall's lock. */
     atomic {
@@ -77,9 +72,7 @@ gets:
     :: atomic { worked && nempty(hall) -> worked = false;
 #endif
         hall_exchange(me);
-#ifdef SEEKERS
-        queued = len(hall)
-#endif
+        set_queued()
        } -> goto begins
     :: atomic { nempty(own[me]) -> lock_first() } -> goto locked_first
 #if defined(LIMIT) && !defined(BUG_MOVES_UNTOLD)
@@ -88,13 +81,9 @@ gets:
 #else
 #define HAS_TOLD empty(own[me])
 #endif
-#ifdef SEEKERS
-    /* It looks at `queued` for a while. Whether it sees a number or has looked often enough, it asks the hall. */
+    /* signs.rt: Signs::seek. It looks for a while whether a number is queued, whether the run is over, and whether anybody
+       steps. Whatever it saw, it asks the hall then. */
     :: atomic { HAS_TOLD -> seekers++ } -> goto seeks
-#else
-    :: HAS_TOLD && signs_closed -> goto ends
-    :: HAS_TOLD && !signs_closed -> goto asks
-#endif
     fi;
 #ifdef LIMIT
 told_moves:
@@ -102,9 +91,6 @@ told_moves:
     :: atomic { count == 1 -> signs_closed = true; count = 0 }
     :: count == 0
     fi;
-#endif
-#ifdef SEEKERS
-#ifdef LIMIT
     seekers++;
 #endif
 seeks:
@@ -117,7 +103,6 @@ seeks:
 #else
     seekers--;
 #endif
-#endif
     if
     :: signs_closed -> goto ends
     :: !signs_closed
@@ -129,14 +114,7 @@ asks:
     :: true
     fi;
 #endif
-#ifdef BUG_SLEEP_UNSEEN
-    /* It looks for numbers in a section of its own, and doesn't look again as it is noted as asleep. */
-    if
-    :: !hall_closed && empty(hall) -> goto trusts
-    :: hall_closed || nempty(hall)
-    fi;
-#endif
-    /* worker.rt: next_turn. Hall::turn, and Signs::set_sleepers, under the hall's lock. */
+    /* worker.rt: next_turn. Hall::turn, and the words of the hall, under its lock. */
     atomic {
         worked = false;
 #if SPURIOUS
