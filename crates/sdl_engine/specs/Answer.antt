@@ -21,6 +21,7 @@ use Rattle.sdl_report.specs.declared.write_whole.WriteFault.TheVariants as writt
 use Rattle.run_record.specs.declared.record.Report.{Report}
 use Rattle.run_record.specs.declared.run_error.RunError.{RunError}
 use Rattle.run_record.specs.declared.run_error.RunError.TheVariants as run
+use Rattle.run_semantics.specs.Behaves.{AreBehaviours}
 use Rattle.sdl_script.specs.Script.{IsScript}
 use Rattle.sdl_script.specs.ScriptText.{SaysScript}
 use Rattle.sdl_script.specs.ScriptText as faults
@@ -30,7 +31,7 @@ use Rattle.sdl_system.specs.Behaviour.{Behaviour}
 use Rattle.sdl_system.specs.System.{SystemValue}
 use Rattle.sdl_tree.specs.Canonical.{canonical_text}
 use Rattle.sdl_tree.specs.Tree.{Tree}
-use Rattle.settle_meaning.specs.Report.{IsSettled}
+use Rattle.settle_meaning.specs.Settled.{IsSettledReport}
 use Rattle.sdl_engine.specs.Behaviours.{AreOfText}
 use Rattle.sdl_engine.specs.RefusalText.{refusal_line}
 use Rattle.sdl_engine.specs.Views.{IsTold}
@@ -60,10 +61,12 @@ pub record IsAccepted (texts : Texts) (tree : Tree) (system : SystemValue) (line
   pub says : SaysScript system script lines
 
 -- What the report of a run is, by its workers: without them that of a serial run; with so many it is whole, or cut at the
--- limit, and nothing is lost in it.
+-- limit, nothing is lost in it, and all is in time. The latter is said for all behaviours that the processes of the system
+-- mean, and these are such.
 abbrev pub IsReportBy : Option ℕ → List Behaviour → SystemValue → List ScriptLine → ℕ → Report → Type 0
 IsReportBy None ps system lines limit report = IsSerialReport ps system lines limit report
-IsReportBy (Some workers) ps system lines limit report = IsSettled ps system lines limit report
+IsReportBy (Some workers) ps system lines limit report =
+    AreBehaviours system ps × IsSettledReport system lines limit report
 
 -- The report is that of a run of the system of an accepted input on its script, cut at the limit if it comes to that: so
 -- for all behaviours that the texts of the processes have, and they have some. The script has these lines.

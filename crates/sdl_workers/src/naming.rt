@@ -1,9 +1,7 @@
 //! A run under its name.
 
-ghost use Rattle.std.specs.Prelude.{◌≡◌, All, IfOk, List, Some, vec_len};
-ghost use Rattle.run_semantics.specs.Behaves.{AreBehaviours};
-ghost use Rattle.sdl_system.specs.Behaviour.{Behaviour};
-ghost use Rattle.settle_meaning.specs.Report.{IsSettled};
+ghost use Rattle.std.specs.Prelude.{◌≡◌, All, IfOk, Some, vec_len};
+ghost use Rattle.settle_meaning.specs.Settled.{IsSettledReport};
 ghost use Rattle.threads_environment.specs.Environment.{IsOfEnv};
 ghost use Rattle.threads_ports.specs.Named.{AreMade, AreNamed};
 
@@ -50,8 +48,8 @@ pub fn run_named<J: Run + Send + Sync, R: Threads + Wait + Copy + Send + Sync, G
     requires table { table.id ≡ J.table }
     requires seat { seat.table ≡ J.table }
     requires lines { All IsOfEnv plan.lines.now }
-    ensures settled { IfOk result (λ report. (ps : List Behaviour) → AreBehaviours system.now ps
-        → IsSettled ps system.now plan.entry.lines.now plan.entry.limit report) }
+    ensures settled { IfOk result (λ report.
+        IsSettledReport system.now plan.entry.lines.now plan.entry.limit report) }
 {
     let common: Common<J> = Common {
         ports: Ports::new(made),
@@ -72,8 +70,8 @@ fn run_common<J: Run + Send + Sync, R: Threads + Wait + Copy + Send + Sync, G: G
 ) -> Result<Report, RunError>
     requires system { J.system ≡ Some system.now }
     requires lines { All IsOfEnv plan.lines.now }
-    ensures settled { IfOk result (λ report. (ps : List Behaviour) → AreBehaviours system.now ps
-        → IsSettled ps system.now plan.entry.lines.now plan.entry.limit report) }
+    ensures settled { IfOk result (λ report.
+        IsSettledReport system.now plan.entry.lines.now plan.entry.limit report) }
 {
     let alloc = plan.alloc;
     let tables = Tables::new(alloc, system, plan.workers, plan.limit)?;
@@ -97,8 +95,8 @@ fn run_shared<J: Run + Send + Sync, R: Threads + Wait + Copy + Send + Sync, G: G
     gate: &G,
 ) -> Result<Report, RunError>
     requires { All IsOfEnv plan.lines.now }
-    ensures settled { IfOk result (λ report. (ps : List Behaviour) → AreBehaviours shared.now.system.now ps
-        → IsSettled ps shared.now.system.now plan.entry.lines.now plan.entry.limit report) }
+    ensures settled { IfOk result (λ report.
+        IsSettledReport shared.now.system.now plan.entry.lines.now plan.entry.limit report) }
 {
     let mut seat = seat;
     let NewClock { ticker, mut reader } = clock(plan.alloc)?;
@@ -110,7 +108,7 @@ fn run_shared<J: Run + Send + Sync, R: Threads + Wait + Copy + Send + Sync, G: G
 }
 
 /// Settles a run whose threads are all joined, unless one of them found no memory for the run's own tables.
-fn settle_joined<J: Run, R: Wait + Copy>(
+fn settle_joined<J: Run, R: Threads + Wait + Copy + Sync>(
     shared: &Shared<'_, '_, '_, J, R>,
     plan: Plan<'_>,
     reader: Reader,
@@ -118,8 +116,8 @@ fn settle_joined<J: Run, R: Wait + Copy>(
     director: Director<'_, J>,
 ) -> Result<Report, RunError>
     requires { director.environment.lines ≡ plan.lines.now }
-    ensures settled { IfOk result (λ report. (ps : List Behaviour) → AreBehaviours shared.now.system.now ps
-        → IsSettled ps shared.now.system.now plan.entry.lines.now plan.entry.limit report) }
+    ensures settled { IfOk result (λ report.
+        IsSettledReport shared.now.system.now plan.entry.lines.now plan.entry.limit report) }
 {
     if shared.tables.signs.has_failed() {
         return Err(RunError::Memory);
@@ -131,5 +129,12 @@ fn settle_joined<J: Run, R: Wait + Copy>(
     } = director;
     let processes = shared.system.processes().len();
     let mut own = Own::new(plan.alloc, reader, seat, processes, 1)?;
-    settle(shared, &mut own, environment, time, plan.limit)
+    settle(
+        shared,
+        &mut own,
+        environment,
+        time,
+        plan.limit,
+        plan.workers,
+    )
 }

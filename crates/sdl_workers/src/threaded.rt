@@ -1,10 +1,8 @@
 //! A run on several threads.
 
-ghost use Rattle.std.specs.Prelude.{All, IfOk, List};
-ghost use Rattle.run_semantics.specs.Behaves.{AreBehaviours};
+ghost use Rattle.std.specs.Prelude.{All, IfOk};
 ghost use Rattle.sdl_script.specs.Script.{SendsFromEnv};
-ghost use Rattle.sdl_system.specs.Behaviour.{Behaviour};
-ghost use Rattle.settle_meaning.specs.Report.{IsSettled};
+ghost use Rattle.settle_meaning.specs.Settled.{IsSettledReport};
 
 use crate::naming::{Plan, run_named};
 use crate::stack::touch_stack;
@@ -24,8 +22,9 @@ use threads_workers::Gate;
 /// thread that can't be started is left out. `gate` hears of each step that a worker makes, before it is made. `workers`
 /// is 1 to 16, `limit` 1 at least, and the script is one for the system: the caller's conditions.
 ///
-/// The report is settled, for all behaviours that the processes of the system mean: whole, or cut at the limit; each record
-/// is a run of its process on a legal history of its port, and nothing was lost between threads.
+/// The report is settled. Whole, or cut at the limit, no timer's signal is taken before its time, nothing before it was
+/// sent, and instances start as they are created. For all behaviours that the processes of the system mean, each record is
+/// a run of its process on a legal history of its port, and nothing was lost between threads.
 ///
 /// Memory: the environment, or a table of the run, found none. Lost, with a number: a signal, an expiry or an instance is
 /// missing, or a target or a create's null is not what it may be. Every thread is joined, whatever the answer is.
@@ -40,11 +39,11 @@ pub fn run<R: Threads + Wait + Copy + Send + Sync, G: Gate + Sync>(
     gate: &G,
 ) -> Result<Report, RunError>
     requires { All (SendsFromEnv system.now) script.now.lines.items }
-    ensures { IfOk result (λ report. (ps : List Behaviour) → AreBehaviours system.now ps
-        → IsSettled ps system.now script.now.lines.items limit report) }
+    ensures { IfOk result (λ report.
+        IsSettledReport system.now script.now.lines.items limit report) }
 {
     touch_stack(alloc, workers)?;
-    let made = ports::ports(alloc)?;
+    let made = ports::ports(rt, alloc, workers.max(1))?;
     let (table, seat) = birth::table(alloc)?;
     let plan = Plan {
         alloc,

@@ -1,5 +1,5 @@
 -- What a loop keeps of each item at its place.
-use Rattle.std.proofs.Common.{◌≡◌, ◌<◌, ◌≤◌, ◌+◌, arith, get_or, length, subst, sym, ⊎_elim, ℕ, List, [], ◌∷◌, ◌++◌}
+use Rattle.std.proofs.Common.{◌≡◌, ◌<◌, ◌≤◌, ◌+◌, ◌∙◌, ap, arith, get_or, length, refl, subst, suc, sym, ⊎_elim, ℕ, List, [], ◌∷◌, ◌++◌}
 use Rattle.std.specs.List.{AllZip}
 use Rattle.std.proofs.lemmas.Bool.{cases_eq}
 use Rattle.std.proofs.lemmas.List.{get_or_append_left, get_or_push, get_or_read, length_push}
@@ -40,3 +40,13 @@ zip_push R [] [] x y zip fits = (fits, tt)
 zip_push R [] (b ∷ ys) x y zip fits = absurd zip
 zip_push R (a ∷ xs) [] x y zip fits = absurd zip
 zip_push R (a ∷ xs) (b ∷ ys) x y zip fits = (zip.0, zip_push R xs ys x y zip.1 fits)
+
+-- lists with the same at each place are the same
+pub same_each : {X : Type 0} (xs ys : List X) → length ys ≡ length xs
+    → ((i : ℕ) (d : X) → i < length xs → get_or ys i d ≡ get_or xs i d) → ys ≡ xs
+same_each [] [] same each = refl
+same_each [] (y ∷ ys) same each = absurd (omega (arith, same))
+same_each (x ∷ xs) [] same each = absurd (omega (arith, same))
+same_each (x ∷ xs) (y ∷ ys) same each =
+    ap (λ l. l ∷ ys) (each 0 x (omega arith))
+    ∙ ap (λ l. x ∷ l) (same_each xs ys (omega (arith, same)) (λ i d here. each (suc i) d (omega (arith, here))))

@@ -10,10 +10,13 @@ use Rattle.port_values.specs.declared.pid.Pid.{Pid}
 use Rattle.port_values.specs.declared.pid.Pid.TheVariants.{Env, Null, Of}
 use Rattle.run_record.specs.Record.{RecordValue}
 use Rattle.run_semantics.specs.Sent.{sent_to}
-use Rattle.settle_account.specs.Account.{AreAllPut, ArePlaces, CountedHavePut, IsAllHeard, put_at}
+use Rattle.sdl_script.specs.declared.script.ScriptLine.{ScriptLine}
+use Rattle.settle_account.specs.Account.{AreAllPut, AreOrdered, AreOrderedTo, ArePlaces, CountedHavePut, IsAllHeard, put_at}
 use Rattle.settle_checks.specs.Outputs.{EnoughIsHeard, EnoughIsPut, IsEnough, IsEnoughHeard}
 use Rattle.settle_gathering.specs.Gathering.{AllIsPut, AllOfAll, AreOwn, IsOfPlace}
 use Rattle.settle_meaning.specs.Identities.{AreRising}
+use Rattle.settle_meaning.specs.Order.{AreInOrder, IsOneInOrder, heard_from, times_heard}
+use Rattle.settle_meaning.specs.Times.{sends}
 use Rattle.settle_meaning.specs.Puts.{ArePut, EndsWith, Heard, IsNamed, IsOfOne, IsPutBy, IsPutByEnv, heard_by, sent_by}
 use Rattle.threads_senders.specs.Peers.{PeersState, put_to}
 
@@ -36,7 +39,7 @@ rising_less (t ∷ ts) last zero (suc k) d e rising less within =
 rising_less (t ∷ ts) last (suc j) (suc k) d e rising less within =
     rising_less ts t.pid j k d e rising.1 (omega (arith, less)) (omega (arith, within))
 
-rising_apart : (records : List RecordValue) (j k : ℕ) (d e : RecordValue) → AreRising 0 records → j < length records
+pub rising_apart : (records : List RecordValue) (j k : ℕ) (d e : RecordValue) → AreRising 0 records → j < length records
     → k < length records → (get_or records j d).pid ≡ (get_or records k e).pid → j ≡ k
 rising_apart records j k d e rising within_j within_k same =
     ⊎_elim (λ (is : j ≡ k). is)
@@ -165,10 +168,37 @@ module _ (heard : List Heard) (records : List RecordValue) (places : List PeersS
       no_other = All-weaker (IsOfPlace (origin_of records) (length places)) (IsOfOne records) of_one signals all.no_other;
     }
 
+-- what was put is taken in time: as many signals of each sender were drawn as its place has put
+module _ (lines : List ScriptLine) (heard : List Heard) (records : List RecordValue) (places : List PeersState)
+    (trace : RecordValue) (rising : AreRising 0 records) (are : ArePlaces heard records places)
+    (ordered : AreOrdered lines heard records places)
+    (among : Contains records trace) (signals : List Item)
+    (all : AllOfAll (origin_of records) (put_at places trace.pid) (length places) signals) where
+  ordered_to : AreOrderedTo lines heard records places trace
+  ordered_to = All-contains (AreOrderedTo lines heard records places) records trace ordered among
+
+  are_in_order : AreInOrder lines heard records trace signals
+  are_in_order = record {
+    instances = λ k d within.
+        let from : RecordValue = get_or records k d in
+        let each : sent_by (Of from.pid) signals ≡ put_to (get_or places (k + 1) []) trace.pid =
+        ap (λ (origin : Pid). sent_by origin signals) (sym (origin_at records k d within))
+        ∙ all.each (suc k) (within_places heard records places trace rising are k within)
+        ∙ sym (put_next heard records places trace rising are k) in
+        subst (λ n. IsOneInOrder records trace (Of from.pid) (sends from trace.pid) n)
+        (sym (ap (λ (l : List Item). length l) each)) (ordered_to.instances k d within);
+    environment = subst (λ n. IsOneInOrder records trace Env (heard_from (times_heard lines) heard trace.pid) n)
+        (sym (ap (λ (l : List Item). length l) (all.each 0 (omega (arith, are.long))))) ordered_to.environment;
+  }
+
 pub counted_have_put : AllIsPut → EnoughIsPut → EnoughIsHeard → CountedHavePut
-counted_have_put all_is_put enough_is_put enough_is_heard heard records places trace first owner rising are all_put
-    all_heard among counted =
-    are_put heard records places trace rising are enough_is_put enough_is_heard all_put all_heard among
-    (signals_in owner.drawn)
-    (all_is_put (put_at places trace.pid) (length places) first owner (origin_of records) counted
-    (are_own heard records places trace rising are))
+counted_have_put all_is_put enough_is_put enough_is_heard lines heard records places trace first owner rising are all_put
+    all_heard ordered among counted =
+    let all : AllOfAll (origin_of records) (put_at places trace.pid) (length places) (signals_in owner.drawn) =
+    all_is_put (put_at places trace.pid) (length places) first owner (origin_of records) counted
+    (are_own heard records places trace rising are) in
+    record {
+      put = are_put heard records places trace rising are enough_is_put enough_is_heard all_put all_heard among
+          (signals_in owner.drawn) all;
+      in_order = are_in_order lines heard records places trace rising are ordered among (signals_in owner.drawn) all;
+    }

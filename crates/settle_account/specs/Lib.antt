@@ -1,1 +1,4 @@
 pub mod Account
+pub mod Crossed
+pub mod Ending
+pub mod Looks

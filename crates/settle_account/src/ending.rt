@@ -1,48 +1,53 @@
 //! The end of a run.
 
 ghost use Rattle.std.specs.Prelude.{◌≡◌, List, IfOk, take};
+ghost use Rattle.settle_account.specs.Ending.{IsEnding};
+ghost use Rattle.settle_summing.specs.Summary.{AreSummaries};
 ghost use Rattle.sdl_script.specs.Script as script;
-ghost use Rattle.settle_meaning.specs.Closed.{Ends, EndsCut, EndsWhole};
 ghost use Rattle.settle_meaning.specs.Puts.{Heard, signals_heard, signals_of};
 
 use port_values::Ticks;
 use run_record::{Record, RunError};
 use sdl_script::ScriptLine;
-use settle_checks::{latest, transitions};
+use settle_summing::{Summary, latest, transitions};
 
-/// How a run ended: whether it is whole, the time by then, and its limit of transitions.
+/// How a run ended: whether it is whole, and its limit of transitions.
 #[derive(Clone, Copy)]
 pub struct Ending {
     pub whole: bool,
-    pub at: Ticks,
     pub limit: u64,
 }
 
-/// The time at which a run ends of whose script so many lines were heard. Lost with 0: it is whole, and a line of the
-/// script was not heard, or the limit is reached; or it is cut, and the limit isn't reached.
+/// The time at which a run ends of whose script so many lines were heard: that of the last line if it is whole, and that
+/// of the last event if it is cut. Lost with 0: it is whole, and a line of the script was not heard, something happened
+/// after the last line, or the limit is reached; or it is cut, and the limit isn't reached.
 pub fn end_of_run(
     lines: &[ScriptLine],
     line: usize,
     records: &[Record],
+    sums: &[Summary],
     ending: Ending,
 ) -> Result<Ticks, RunError>
+    requires { AreSummaries records.now sums.now }
     ensures { IfOk result (λ end. (heard : List Heard)
         → signals_heard heard ≡ signals_of (take line lines.now)
-        → Ends ending.whole lines.now ending.limit heard records.now end) }
+        → IsEnding ending.whole lines.now ending.limit heard records.now end) }
 {
-    let Some(count) = transitions(records) else {
+    let Some(count) = transitions(records, sums) else {
         return Err(RunError::Lost(0));
     };
+    let latest = latest(records, sums);
     if ending.whole {
-        if count >= ending.limit || line < lines.len() {
+        let end = last_time(lines);
+        if count >= ending.limit || line < lines.len() || latest > end.get() {
             return Err(RunError::Lost(0));
         }
-        return Ok(last_time(lines));
+        return Ok(end);
     }
     if count < ending.limit {
         return Err(RunError::Lost(0));
     }
-    Ok(Ticks::later_of(ending.at, latest(records)))
+    Ok(Ticks::new(latest))
 }
 
 /// The time of the last line, and 0 where there is none.

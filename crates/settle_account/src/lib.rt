@@ -10,11 +10,18 @@
 mod comparing;
 mod counting;
 mod ending;
+mod hearing;
 pub mod laws;
+mod look;
+mod looking;
+mod ordering;
 mod putting;
 mod records;
 mod routing;
+mod sending;
+mod summing;
 
 pub use comparing::compare;
 pub use counting::counts_of;
 pub use ending::{Ending, end_of_run};
+pub use looking::summaries_of;

@@ -3,21 +3,30 @@
 ghost use Rattle.std.specs.Prelude.{All, OnOk};
 ghost use Rattle.run_record.specs.Record.{RecordValue};
 ghost use Rattle.settle_account.specs.Account.{AreAllMade};
-ghost use Rattle.settle_meaning.specs.Identities.{HasCause};
+ghost use Rattle.settle_meaning.specs.Identities.{AreRising, HasCause};
+ghost use Rattle.settle_meaning.specs.Starts.{AreStarted, AreWithin};
+ghost use Rattle.settle_summing.specs.Summary.{AreSummaries};
 
 use run_record::{Record, RunError};
 use sdl_system::System;
-use settle_checks::{are_made, has_causes, have_causes, in_order};
+use settle_checks::in_order;
+use settle_summing::{Summary, are_caused, are_made, are_started, are_within};
 use std::alloc::Global;
 
 /// Looks whether each instance has its record, and there is no other. Lost: with the first number out of order, or 0.
-pub fn all_made(alloc: Global, system: &System, records: &[Record]) -> Result<(), RunError>
+pub fn all_made(
+    alloc: Global,
+    system: &System,
+    records: &[Record],
+    sums: &[Summary],
+) -> Result<(), RunError>
+    requires { AreSummaries records.now sums.now }
     ensures { OnOk result (AreAllMade system.now records.now) }
 {
     if !in_order(records) {
         return Err(RunError::Lost(out_of_order(records)));
     }
-    if !are_made(alloc, system, records)? {
+    if !are_made(alloc, system, records, sums)? {
         return Err(RunError::Lost(0));
     }
     Ok(())
@@ -35,23 +44,27 @@ fn out_of_order(records: &[Record]) -> u32 {
     last
 }
 
-/// Looks whether each create of null has a cause. Lost: with the number of the creator.
-pub fn all_caused(system: &System, records: &[Record]) -> Result<(), RunError>
+/// Looks whether each create of null has a cause. Lost: with 0.
+pub fn all_caused(system: &System, records: &[Record], sums: &[Summary]) -> Result<(), RunError>
+    requires { AreSummaries records.now sums.now }
     ensures { OnOk result (All (λ (trace : RecordValue). All (HasCause system.now records.now) trace.events)
         records.now) }
 {
-    if have_causes(system, records) {
+    if are_caused(system, records, sums) {
         return Ok(());
     }
-    Err(RunError::Lost(without_cause(system, records)))
+    Err(RunError::Lost(0))
 }
 
-/// The number of the first creator of null without a cause.
-fn without_cause(system: &System, records: &[Record]) -> u32 {
-    for record in records {
-        if !has_causes(system, records, record) {
-            return record.pid();
-        }
+/// Looks whether instances start as they are created, and no more of a process live on than may. Lost: with 0.
+pub fn all_lived(system: &System, records: &[Record], sums: &[Summary]) -> Result<(), RunError>
+    requires rising { AreRising 0 records.now }
+    requires sums { AreSummaries records.now sums.now }
+    ensures started { OnOk result (AreStarted records.now) }
+    ensures within { OnOk result (AreWithin system.now records.now) }
+{
+    if !are_started(records, sums) || !are_within(system, records, sums) {
+        return Err(RunError::Lost(0));
     }
-    0
+    Ok(())
 }

@@ -6,11 +6,13 @@ ghost use Rattle.settle_account.specs.Account.{IsRight};
 ghost use Rattle.settle_checks.specs.Outputs.{targets_of};
 ghost use Rattle.settle_meaning.specs.Living.{AreLiving, AreMeant};
 ghost use Rattle.settle_meaning.specs.Puts.{Heard, IsHeardRight, signals_heard, signals_of};
+ghost use Rattle.settle_summing.specs.Summary.{AreSummaries};
 
 use run_record::{Record, RunError};
 use sdl_script::{ScriptLine, ScriptSignal};
 use sdl_system::{Source, System, Target};
-use settle_checks::{Routed, are_meant, is_meant, lived};
+use settle_checks::{Routed, is_meant};
+use settle_summing::{Summary, are_meant, lived};
 use std::alloc::Global;
 
 /// Looks whether all signals of the records and of these lines of the script went where the routes lead them, by some
@@ -20,18 +22,20 @@ pub fn all_meant(
     alloc: Global,
     system: &System,
     records: &[Record],
+    sums: &[Summary],
     lines: &[ScriptLine],
     targets: &[Target],
 ) -> Result<(), RunError>
+    requires { AreSummaries records.now sums.now }
     ensures outputs { OnOk result (All (AreMeant system.now records.now) records.now) }
     ensures signals { OnOk result ((heard : List Heard) → signals_heard heard ≡ signals_of lines.now
         → targets_of heard ≡ targets.now → All (IsHeardRight system.now records.now) heard) }
 {
-    let Some(mut first) = lived(alloc, system.processes().len(), records)? else {
+    let Some(mut first) = lived(alloc, system.processes().len(), records, sums)? else {
         return Err(RunError::Lost(0));
     };
     let first = first.as_mut_slice();
-    outputs_right(system, records, first)?;
+    outputs_right(system, records, sums, first)?;
     if !signals_right(system, records, first, lines, targets) {
         return Err(RunError::Lost(0));
     }
@@ -42,15 +46,17 @@ pub fn all_meant(
 fn outputs_right(
     system: &System,
     records: &[Record],
+    sums: &[Summary],
     first: &mut [Option<u32>],
 ) -> Result<(), RunError>
-    requires { AreLiving records.now first.old }
+    requires living { AreLiving records.now first.old }
+    requires sums { AreSummaries records.now sums.now }
     ensures right { OnOk result (All (AreMeant system.now records.now) records.now) }
     ensures same { first.new ≡ first.old }
 {
-    for record in records {
-        if !are_meant(system, records, first, record) {
-            return Err(RunError::Lost(record.pid()));
+    for k in 0..records.len() {
+        if k >= sums.len() || !are_meant(system, records, first, &records[k], &sums[k]) {
+            return Err(RunError::Lost(records[k].pid()));
         }
     }
     Ok(())

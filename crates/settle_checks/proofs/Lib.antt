@@ -1,10 +1,8 @@
-mod CreatedLemmas
 mod HeardLemmas
 mod Least
 mod Lists
 mod LivingLemmas
 mod NameLemmas
-mod NullLemmas
 mod NumberLemmas
 mod TargetLemmas
 mod TallyLemmas

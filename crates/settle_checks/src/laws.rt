@@ -2,13 +2,13 @@
 
 ghost use Rattle.settle_checks.specs.Outputs.{EnoughIsHeard, EnoughIsPut};
 
-/// Where as many signals were put as `all_put` asks, and they are the last of those that were sent, nothing is missing
+/// Where enough signals were put, by `IsEnough`, and they are the last of those that were sent, nothing is missing
 /// but what may be (Z.102: output).
 pub fn enough_is_put()
     ensures { EnoughIsPut }
 {}
 
-/// So it is with the signals of the script, if as many were put as `all_heard` asks.
+/// So it is with the signals of the script, by `IsEnoughHeard`.
 pub fn enough_is_heard()
     ensures { EnoughIsHeard }
 {}

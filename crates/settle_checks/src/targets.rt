@@ -1,14 +1,13 @@
 //! Whether signals went where the routes lead them.
 
-ghost use Rattle.std.specs.Prelude.{◌≡◌, [], IfSome, IsTrue};
-ghost use Rattle.run_record.specs.Entry.{event_of};
+ghost use Rattle.std.specs.Prelude.{◌≡◌, IfSome, IsTrue};
 ghost use Rattle.sdl_system.specs.Route.{target_in};
-ghost use Rattle.settle_checks.specs.Events.{IsProcessOf, routed_in};
-ghost use Rattle.settle_meaning.specs.Living.{AreLiving, AreMeant, GoesBy, IsMeant};
+ghost use Rattle.settle_checks.specs.Events.{IsProcessOf};
+ghost use Rattle.settle_meaning.specs.Living.{AreLiving, GoesBy};
 
 use crate::living::least_of;
 use port_values::SignalId;
-use run_record::{Entry, Record};
+use run_record::Record;
 use sdl_system::{Dest, ProcessId, Source, System, Target};
 
 /// A signal that was sent: by whom, to which destination, and where it went.
@@ -18,75 +17,6 @@ pub struct Routed {
     pub from: Source,
     pub to: Dest,
     pub target: Target,
-}
-
-/// Whether each output of the record went where the routes lead it, by some instances that may have lived then. `first`
-/// has the least numbers of those that lived all the time, as `lived` gives it.
-pub fn are_meant(
-    system: &System,
-    records: &[Record],
-    first: &mut [Option<u32>],
-    record: &Record,
-) -> bool
-    requires { AreLiving records.now first.old }
-    ensures meant { IsTrue result → AreMeant system.now records.now record.now }
-    ensures same { first.new ≡ first.old }
-{
-    let process = record.process();
-    let (entries, _) = record.kept();
-    for entry in entries {
-        if !is_output_meant(system, records, first, process, *entry) {
-            return false;
-        }
-    }
-    true
-}
-
-/// Whether the event is no output of an instance of this process, or went where the routes lead it.
-fn is_output_meant(
-    system: &System,
-    records: &[Record],
-    first: &mut [Option<u32>],
-    process: ProcessId,
-    entry: Entry,
-) -> bool
-    requires { AreLiving records.now first.old }
-    ensures meant { IsTrue result → IsMeant system.now records.now process (event_of entry []) }
-    ensures same { first.new ≡ first.old }
-{
-    let Some(routed) = routed_by(process, entry) else {
-        return true;
-    };
-    is_meant(system, records, first, routed)
-}
-
-/// The output of an instance of this process.
-fn routed_by(process: ProcessId, entry: Entry) -> Option<Routed>
-    ensures { result ≡ routed_in process (event_of entry []) }
-{
-    let from = Source::Process(process);
-    let (signal, to, target) = match entry {
-        Entry::OutputOnPath { signal, target, .. } => (signal, Dest::Path, target),
-        Entry::OutputToProcess {
-            signal,
-            process,
-            target,
-            ..
-        } => (signal, Dest::Process(process), target),
-        Entry::OutputToPid {
-            signal,
-            pid,
-            target,
-            ..
-        } => (signal, Dest::Pid(pid), target),
-        _ => return None,
-    };
-    Some(Routed {
-        signal,
-        from,
-        to,
-        target,
-    })
 }
 
 /// Whether the signal went where the routes lead it, by some instances that may have lived then. `first` has the least

@@ -1,5 +1,5 @@
 -- What is left of an instance has a history of its port.
-use Rattle.std.proofs.Common.{◌≡◌, ◌∙◌, ◌⊎◌, ap, append-nil, inl, inr, refl, subst, sym, ℕ, Bool, true, false, List, [], ◌∷◌, ◌++◌, All, None, Some, count_by, slice_get}
+use Rattle.std.proofs.Common.{◌≡◌, ◌∙◌, ◌⊎◌, ap, append-nil, inl, inr, refl, subst, sym, ℕ, Bool, true, false, List, [], ◌∷◌, ◌++◌, All, None, Some, length, slice_get}
 use Rattle.std.specs.Prelude.{Option}
 use Rattle.std.proofs.lemmas.Grind.{flat_map-append}
 use Rattle.std.proofs.lemmas.List.{map-append}
@@ -8,8 +8,7 @@ use Rattle.std.specs.declared.alloc.Global.{Global}
 use Rattle.crossbeam_queue.specs.SegTies.{SegId}
 use Rattle.input_port.specs.Held.{IsKept}
 use Rattle.port_inbox.specs.Calls.{after_draws}
-use Rattle.port_inbox.specs.Ends.{OwnerState, is_signal}
-use Rattle.port_inbox.specs.declared.placed.Placed.{Placed}
+use Rattle.port_inbox.specs.Ends.{OwnerState}
 use Rattle.port_model.specs.History.{IsLegal, PortEvent, Take}
 use Rattle.port_model.specs.Port.{PortState, empty_port}
 use Rattle.port_model.specs.declared.selection.Class.{Class}
@@ -30,7 +29,7 @@ use Rattle.run_semantics.specs.Goes.{drawn_as}
 use Rattle.run_semantics.specs.Instance.{HasRun, first_store}
 use Rattle.run_semantics.specs.Leads.{IsQuiet}
 use Rattle.run_semantics.specs.RunLaws.{RunsAreLegal}
-use Rattle.run_semantics.specs.Runs.{Runs, outside_of}
+use Rattle.run_semantics.specs.Runs.{Runs, outside_of, waits}
 use Rattle.run_semantics.specs.Sent.{sent_by_one, sent_to}
 use Rattle.run_transitions.specs.Machine.{place_of}
 use Rattle.run_transitions.specs.declared.machine.Position.{Position}
@@ -49,7 +48,8 @@ use Rattle.settle_gathering.specs.Gathering.{Draws}
 use Rattle.settle_meaning.specs.Closed.{ClosesAs, EndsIn, IsCut, IsEnd}
 use Rattle.settle_meaning.specs.Histories.{IsInTime, puts_of}
 use Rattle.settle_meaning.specs.Identities.{identity_of}
-use Rattle.settle_meaning.specs.MeaningLaws.{ExpiriesHaveSets, LateIsNothing, PutsComeFromOutside, RestsAreForGood, RunsHearWhatIsDrawn, StoppedStays, rest_deed}
+use Rattle.settle_meaning.specs.Settled.{RestsAsItEnds}
+use Rattle.settle_meaning.specs.MeaningLaws.{ExpiriesHaveSets, PutsComeFromOutside, QuietDrawsChangeNothing, RestsAreForGood, RunsHearWhatIsDrawn, StoppedStays, rest_deed}
 use Rattle.threads_senders.specs.Peers.{AreLast, PeersState, put_to}
 
 -- ---- what is drawn after a close
@@ -90,6 +90,7 @@ record Found (d : Definition) (whole : Bool) (end : ℕ) (trace : RecordValue) (
   runs : Runs d (identity_of trace) AtStart (first_store d.behaviour values) empty_port deeds history to store
       owner.state
   closes : ClosesAs whole end trace.events history owner.state
+  rests : RestsAsItEnds whole trace.events history owner.state
 
 has_history : (ps : List Behaviour) (system : SystemValue) (p : Behaviour) (whole : Bool) (end : ℕ)
     (trace : RecordValue) (owner : OwnerState) → RunsAreLegal → ExpiriesHaveSets → PutsComeFromOutside
@@ -121,6 +122,7 @@ has_history ps system p whole end trace owner legal sets from_outside listed kep
           (drawn_in_time owner.pid owner.drawn kept.timely));
       sets = sets found.history owner.state is_legal;
       closes = found.closes;
+      rests = found.rests;
     }
 
 -- ---- two ways to it
@@ -131,8 +133,9 @@ module _ (d : Definition) (end : ℕ) (trace : RecordValue) (first owner : Owner
   heard : (whole : Bool) (to : ControlPoint) (store : Store) → RunsHearWhatIsDrawn
       → HasRun true d (identity_of trace) trace.events to store first
       → ((history : List PortEvent) → ClosesAs whole end trace.events history owner.state)
+      → ((history : List PortEvent) → RestsAsItEnds whole trace.events history owner.state)
       → Found d whole end trace owner
-  heard whole to store hear run closes =
+  heard whole to store hear run closes rests =
       let news : List PortEvent = drawn_as first.pid draws.news in
       let runs = hear d (identity_of trace) AtStart to (first_store d.behaviour run.values) store empty_port first.state
       run.deeds run.history first.pid draws.news run.runs in
@@ -149,18 +152,23 @@ module _ (d : Definition) (end : ℕ) (trace : RecordValue) (first owner : Owner
         runs = subst (λ (port : PortState). Runs d (identity_of trace) AtStart (first_store d.behaviour run.values)
             empty_port run.deeds (run.history ++ news) to store port) (sym state) runs;
         closes = closes (run.history ++ news);
+        rests = rests (run.history ++ news);
       }
 
   -- who rests still has rested for good
-  rested : (n : StateId) (events : List Event) (store : Store) (classes : List Class) → RestsAreForGood → LateIsNothing
-      → HasRun true d (identity_of trace) events (In n) store first
+  rested : (n : StateId) (events : List Event) (store : Store) (classes : List Class) → RunsAreLegal → RestsAreForGood
+      → QuietDrawsChangeNothing → HasRun true d (identity_of trace) events (In n) store first
       → IsQuiet d (identity_of trace) first.state n store classes → trace.events ≡ events ++ event.Rest n ∷ []
       → RestsStill end first owner → Found d true end trace owner
-  rested n events store classes good late run quiet closed_by still =
+  rested n events store classes legal good quiet_draws run quiet closed_by still =
       let news : List PortEvent = drawn_as first.pid draws.news in
-      let none : puts_of news ≡ [] =
-      late first.pid first.drawn draws.news (ap (λ (l : List Placed). count_by is_signal l) (sym draws.drawn)
-      ∙ still.signals) in
+      let nothing = quiet_draws first.pid first.state draws.news still.lived
+      (ap (λ (port : PortState). length port.waiting) (sym state) ∙ still.waiting) in
+      let none : puts_of news ≡ [] = nothing.1 in
+      let legal_then : IsLegal empty_port (run.history ++ Take classes Nothing ∷ []) first.state =
+      legal d (identity_of trace) AtStart (In n) (first_store d.behaviour run.values) store empty_port first.state
+      run.deeds (run.history ++ Take classes Nothing ∷ [])
+      (waits run.runs classes quiet (still.lived, quiet.nothing)) in
       let all = good d (identity_of trace) AtStart n (first_store d.behaviour run.values) store empty_port first.state
       run.deeds run.history classes first.pid draws.news run.runs still.lived quiet none in
       let history : List PortEvent = run.history ++ Take classes Nothing ∷ news in
@@ -182,6 +190,14 @@ module _ (d : Definition) (end : ℕ) (trace : RecordValue) (first owner : Owner
           rest = record { before = events; last = event.Rest n; events_are = closed_by; is_so = tt };
           found = all.found;
           timers = still.timers;
+        });
+        rests = inr (record {
+          before = run.history;
+          classes = classes;
+          later = news;
+          was = refl;
+          same = subst (λ (port : PortState). IsLegal empty_port (run.history ++ Take classes Nothing ∷ []) port)
+              (sym (state ∙ nothing.0)) legal_then;
         });
       }
 
@@ -205,8 +221,8 @@ cut_so events before at.Ended is ended = inl (ended refl)
 
 -- ---- the law
 
-module _ (legal : RunsAreLegal) (hear : RunsHearWhatIsDrawn) (good : RestsAreForGood) (late : LateIsNothing)
-    (stays : StoppedStays) (sets : ExpiriesHaveSets) (from_outside : PutsComeFromOutside) where
+module _ (legal : RunsAreLegal) (hear : RunsHearWhatIsDrawn) (good : RestsAreForGood)
+    (quiet_draws : QuietDrawsChangeNothing) (stays : StoppedStays) (sets : ExpiriesHaveSets) (from_outside : PutsComeFromOutside) where
   module _ (named : Option SystemValue) (ports : ℕ → SegId Global) (i : InstanceValue) (trace : RecordValue)
       (first owner : OwnerState) (peers : PeersState) (end : ℕ) (draws : Draws first owner) (kept : IsKept owner)
       (d : Definition) (is_run : IsRunAs i d) where
@@ -243,7 +259,7 @@ module _ (legal : RunsAreLegal) (hear : RunsHearWhatIsDrawn) (good : RestsAreFor
     found_ended : IsLeft named ports true i trace first peers → EndsIn IsEnd trace.events → Found d true end trace owner
     found_ended left ends =
         heard d end trace first owner draws state true (closed i.position) i.store hear (whole_run true left)
-        (λ history. inl ends)
+        (λ history. inl ends) (λ history. inl ends)
 
     -- where it was as it was closed
     found_at : (position : Position) → i.position ≡ position → IsLeft named ports true i trace first peers
@@ -252,7 +268,7 @@ module _ (legal : RunsAreLegal) (hear : RunsHearWhatIsDrawn) (good : RestsAreFor
         absurd (subst (λ (position : Position). IsQuietAt d position i) is (left.rests refl d is_run))
     found_at (at.In n) is left still =
         let quiet = subst (λ (position : Position). IsQuietAt d position i) is (left.rests refl d is_run) in
-        rested d end trace first owner draws state n i.events i.store quiet.0 good late
+        rested d end trace first owner draws state n i.events i.store quiet.0 legal good quiet_draws
         (subst
         (λ (position : Position). HasRun true d (identity_of trace) i.events (place_of position) i.store first) is
         (run_before true left))
@@ -271,7 +287,7 @@ module _ (legal : RunsAreLegal) (hear : RunsHearWhatIsDrawn) (good : RestsAreFor
         ]
     found false left ends =
         heard d end trace first owner draws state false (closed i.position) i.store hear (whole_run false left)
-        (λ history. cut_so trace.events i.events i.position left.closed.events (ended false left))
+        (λ history. cut_so trace.events i.events i.position left.closed.events (ended false left)) (λ history. tt)
 
   pub closed_have_histories : ClosedHaveHistories
   closed_have_histories named ports whole i trace first owner peers ps system end is behaviours left draws kept ends =

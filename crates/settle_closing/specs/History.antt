@@ -1,7 +1,7 @@
 -- The history of a port for the record of its instance (Z.101: agent, input port; Z.102: timer).
-use Rattle.std.specs.Prelude.{◌≡◌, ◌⊎◌, ℕ, Bool, true, false, List, All}
+use Rattle.std.specs.Prelude.{◌≡◌, ◌⊎◌, ℕ, Bool, true, false, List, All, length}
 use Rattle.input_port.specs.Counts.{signals_in}
-use Rattle.port_inbox.specs.Ends.{OwnerState, signals_drawn}
+use Rattle.port_inbox.specs.Ends.{OwnerState}
 use Rattle.port_inbox.specs.declared.placed.Placed.{Placed}
 use Rattle.port_model.specs.History.{IsLegal, PortEvent}
 use Rattle.port_model.specs.Port.{PortState, empty_port}
@@ -11,9 +11,11 @@ use Rattle.sdl_system.specs.Behaviour.{Behaviour}
 use Rattle.sdl_system.specs.System.{SystemValue}
 use Rattle.settle_meaning.specs.Closed.{AreDueAfter, ClosesAs, EndsIn, IsEnd}
 use Rattle.settle_meaning.specs.Histories.{HaveSets, IsInTime, IsRunOn, puts_of}
+use Rattle.settle_meaning.specs.Settled.{RestsAsItEnds}
 
 -- The record is a run of its process on a legal history of its port. Just these signals are put there, in their order;
--- each expiry is in time and of a timer that was set; and the record closes as the report says.
+-- each expiry is in time and of a timer that was set; the record closes as the report says; and an instance that rests
+-- stays at rest.
 pub record HasHistoryOf (ps : List Behaviour) (system : SystemValue) (whole : Bool) (end : ℕ) (trace : RecordValue)
     (drawn : List Placed) : Type 0 where
   pub history : List PortEvent
@@ -24,14 +26,15 @@ pub record HasHistoryOf (ps : List Behaviour) (system : SystemValue) (whole : Bo
   pub in_time : All IsInTime history
   pub sets : HaveSets history
   pub closes : ClosesAs whole end trace.events history port
+  pub rests : RestsAsItEnds whole trace.events history port
 
 -- ---- what is tested once all is drawn that was put
 
--- Nothing came that could wake it: the port lived as the record was closed, as many signals are drawn in the end as by
--- then, and no timer is due by the end.
+-- Nothing came that could wake it: the port lived as the record was closed, as many entries wait in the end as did then,
+-- and no timer is due by the end.
 pub record RestsStill (end : ℕ) (first owner : OwnerState) : Type 0 where
   pub lived : first.state.alive ≡ true
-  pub signals : signals_drawn owner ≡ signals_drawn first
+  pub waiting : length owner.state.waiting ≡ length first.state.waiting
   pub timers : AreDueAfter end owner.state.timers
 
 -- A record with these events closes as it is to: in a whole run it ends with a stop or a failure, or the instance rests

@@ -1,7 +1,8 @@
 -- What is known of a port as the record of its instance was closed.
-use Rattle.port_inbox.specs.Ends.{OwnerState, signals_drawn}
+use Rattle.std.specs.Prelude.{length}
+use Rattle.port_inbox.specs.Ends.{OwnerState}
 use Rattle.settle_closing.specs.declared.ending.PortThen.{PortThen}
 
 -- of the port of this owner
 abbrev pub then_of : OwnerState → PortThen
-then_of owner = record { lived = owner.state.alive; signals = signals_drawn owner }
+then_of owner = record { lived = owner.state.alive; waiting = length owner.state.waiting }

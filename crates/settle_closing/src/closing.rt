@@ -59,13 +59,13 @@ impl<'p, J: Run, R: Wait + Copy> Closing<'p, J, R> {
         &self.trace
     }
 
-    /// The state of the port as it is now: whether it lives, and how many signals were drawn from it.
+    /// The state of the port as it is now: whether it lives, and how many entries wait that were drawn.
     pub fn port_then(&self) -> PortThen
         ensures { result ≡ then_of self.now.owner }
     {
         PortThen {
             lived: !self.inbox.is_stopped(),
-            signals: self.inbox.signals(),
+            waiting: self.inbox.waiting(),
         }
     }
 

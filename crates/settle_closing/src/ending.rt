@@ -18,8 +18,8 @@ use std::sync::Wait;
 pub struct PortThen {
     /// Whether it lived.
     pub lived: bool,
-    /// How many signals had been drawn from it.
-    pub signals: u64,
+    /// How many entries waited in it.
+    pub waiting: usize,
 }
 
 /// Whether a record closes as it is to, in a run that ends at this time, by what is drawn from its port in the end. In
@@ -65,7 +65,7 @@ fn rests_still<R: Wait + Copy>(end: Ticks, then: PortThen, inbox: &Held<'_, R>) 
     ensures { (first : OwnerState) → then ≡ then_of first
         → (IsTrue result ↔ RestsStill end first inbox.now.owner) }
 {
-    then.lived && inbox.signals() == then.signals && rests_by(end, inbox)
+    then.lived && inbox.waiting() == then.waiting && rests_by(end, inbox)
 }
 
 /// Whether no timer is due by this time.

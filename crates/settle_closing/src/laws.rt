@@ -4,7 +4,7 @@ ghost use Rattle.settle_closing.specs.ClosingLaws.{ClosedHaveHistories, ClosedHa
 
 use run_semantics::laws::runs_are_legal;
 use settle_meaning::laws::{
-    expiries_have_sets, late_is_nothing, puts_come_from_outside, rests_are_for_good,
+    expiries_have_sets, puts_come_from_outside, quiet_draws_change_nothing, rests_are_for_good,
     runs_hear_what_is_drawn, stopped_stays,
 };
 
@@ -15,7 +15,7 @@ pub fn closed_have_histories()
     runs_are_legal();
     runs_hear_what_is_drawn();
     rests_are_for_good();
-    late_is_nothing();
+    quiet_draws_change_nothing();
     stopped_stays();
     expiries_have_sets();
     puts_come_from_outside();

@@ -1,4 +1,6 @@
 mod Drawn
 mod Expiries
+mod Ordered
+mod Quiet
 mod Reports
 mod Runs

@@ -10,6 +10,8 @@ use Rattle.settle_meaning.specs.Histories.{puts_of}
 use Rattle.settle_meaning.specs.MeaningLaws.{SettledIsWholeOrCut}
 use Rattle.settle_meaning.specs.Puts.{Heard, IsNamed, IsPutBy, IsPutByEnv, MayMiss, MayMissHeard, sent_by}
 use Rattle.settle_meaning.specs.Report.{HasHistory}
+use Rattle.settle_meaning.specs.Settled.{IsSettledOne}
+use Rattle.settle_meaning.specs.SettledLaws.{SettledReportsAreSettled}
 
 abbrev Any : ℕ → Type 0
 Any number = Unit {0}
@@ -81,4 +83,18 @@ settled_is_whole_or_cut ps system lines limit report settled = record {
   outputs = settled.outputs;
   signals = settled.signals;
   ends = settled.ends;
+}
+
+pub settled_reports_are_settled : SettledReportsAreSettled
+settled_reports_are_settled ps system lines limit report behaviours settled = record {
+  heard = settled.heard;
+  made = settled.accounted.made;
+  nulls = settled.accounted.nulls;
+  each = All-weaker
+      (IsSettledOne ps system lines settled.heard report.whole report.end report.records.items)
+      (HasHistory (IsNamed settled.heard) ps system settled.heard report.whole report.end report.records.items)
+      (λ trace one. one.has) report.records.items (settled.each ps behaviours);
+  outputs = settled.accounted.outputs;
+  signals = settled.accounted.signals;
+  ends = settled.accounted.ends;
 }

@@ -3,5 +3,12 @@ pub mod Histories
 pub mod Identities
 pub mod Living
 pub mod MeaningLaws
+pub mod Order
+pub mod OrderLaws
 pub mod Puts
 pub mod Report
+pub mod Settled
+pub mod SettledLaws
+pub mod Starts
+pub mod Timers
+pub mod Times

@@ -1,5 +1,5 @@
 -- Laws of runs and histories that settle what a report says.
-use Rattle.std.specs.Prelude.{◌≡◌, ℕ, true, false, List, [], ◌∷◌, ◌++◌, count_by}
+use Rattle.std.specs.Prelude.{◌≡◌, ℕ, true, false, List, [], ◌∷◌, ◌++◌, count_by, length}
 use Rattle.port_inbox.specs.Calls.{after_draws}
 use Rattle.port_inbox.specs.Ends.{is_signal}
 use Rattle.port_inbox.specs.declared.placed.Placed.{Placed}
@@ -60,6 +60,13 @@ abbrev pub LateIsNothing : Type 0
 LateIsNothing =
     (pid : ℕ) (drawn news : List Placed) → count_by is_signal (drawn ++ news) ≡ count_by is_signal drawn
     → puts_of (drawn_as pid news) ≡ []
+
+-- If in a port that lives no more waits after some draws than before, they have changed nothing, and put no signal.
+abbrev pub QuietDrawsChangeNothing : Type 0
+QuietDrawsChangeNothing =
+    (pid : ℕ) (port : PortState) (news : List Placed) → port.alive ≡ true
+    → length (after_draws pid port news).waiting ≡ length port.waiting
+    → (after_draws pid port news ≡ port) × (puts_of (drawn_as pid news) ≡ [])
 
 -- A port that has stopped, and in which no timer is active, stays as it is, whatever is drawn.
 abbrev pub StoppedStays : Type 0

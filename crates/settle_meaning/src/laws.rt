@@ -4,11 +4,14 @@ ghost use Rattle.settle_meaning.specs.MeaningLaws.{
   ExpiriesHaveSets,
   LateIsNothing,
   PutsComeFromOutside,
+  QuietDrawsChangeNothing,
   RestsAreForGood,
   RunsHearWhatIsDrawn,
   SettledIsWholeOrCut,
   StoppedStays,
 };
+ghost use Rattle.settle_meaning.specs.OrderLaws.{CountsKeepOrder};
+ghost use Rattle.settle_meaning.specs.SettledLaws.{SettledReportsAreSettled};
 
 /// A draw after a run is a part of its history (Z.101: input port).
 pub fn runs_hear_what_is_drawn()
@@ -23,6 +26,11 @@ pub fn rests_are_for_good()
 /// If no more signals are drawn in the end than by some moment, none was put in between.
 pub fn late_is_nothing()
     ensures { LateIsNothing }
+{}
+
+/// If no more waits in a port after some draws than before, they have changed nothing (Z.102: input, timer).
+pub fn quiet_draws_change_nothing()
+    ensures { QuietDrawsChangeNothing }
 {}
 
 /// A draw from a port after its stop changes nothing (Z.102: stop).
@@ -43,4 +51,14 @@ pub fn puts_come_from_outside()
 /// A settled report is whole or cut.
 pub fn settled_is_whole_or_cut()
     ensures { SettledIsWholeOrCut }
+{}
+
+/// By counts it is told whether what is taken comes after what is sent (Z.101: input port).
+pub fn counts_keep_order()
+    ensures { CountsKeepOrder }
+{}
+
+/// A settled report is settled for all behaviours of its processes.
+pub fn settled_reports_are_settled()
+    ensures { SettledReportsAreSettled }
 {}

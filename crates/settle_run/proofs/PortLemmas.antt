@@ -1,6 +1,5 @@
 -- Ports that were counted, of records that close as the run ends.
-use Rattle.std.proofs.Common.{◌≡◌, ◌∙◌, ◌<◌, ap, get_or, subst, sym, ℕ, Bool, List}
-use Rattle.std.proofs.lemmas.List.{get_or_read}
+use Rattle.std.proofs.Common.{subst, ℕ, Bool, List}
 use Rattle.port_inbox.specs.Ends.{OwnerState}
 use Rattle.port_values.specs.declared.item.Item.{Item}
 use Rattle.run_record.specs.Record.{RecordValue}

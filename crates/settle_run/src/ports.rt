@@ -10,7 +10,6 @@ use input_port::Held;
 use port_values::Ticks;
 use run_record::{Record, RunError};
 use settle_account::counts_of;
-use settle_checks::some_memory;
 use settle_closing::{PortThen, ends_as};
 use settle_gathering::{Counted, Fixed};
 use std::sync::Wait;
@@ -18,13 +17,15 @@ use threads_senders::Run;
 use threads_shared::Shared;
 
 /// Counts the ports of all records, and looks whether the records close as the run ends. That the name says what the
-/// places have put and who the owners are is the caller's condition. Lost: with the number of the port.
+/// places have put and who the owners are is the caller's condition. `lacks_memory`: an instance failed for lack of memory.
+/// Lost: with the number of the port.
 pub fn settle_ports<'p, J: Run, K: Fixed, R: Wait + Copy>(
     shared: &Shared<'_, '_, 'p, J, R>,
     records: &[Record],
     ports: PortParts<'p, J, R>,
     whole: bool,
     end: Ticks,
+    lacks_memory: bool,
 ) -> Result<(), RunError>
     requires puts { AllAt (HavePut K.puts) ports.places.items }
     requires owners { AreOwnersOf K.owners J.ports records.now ports.inboxes.items }
@@ -38,7 +39,7 @@ pub fn settle_ports<'p, J: Run, K: Fixed, R: Wait + Copy>(
     } = ports;
     let counted = counts_of::<J, K, R>(shared.alloc, records, inboxes, places)?;
     look_at_all(records, &thens, &counted, whole, end)?;
-    if !some_memory(records) {
+    if !lacks_memory {
         all_gathered(shared, &counted)?;
     }
     Ok(())

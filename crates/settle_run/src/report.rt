@@ -1,36 +1,37 @@
 //! The report of a run whose records are closed.
 
-ghost use Rattle.std.specs.Prelude.{List, IfOk};
-ghost use Rattle.run_semantics.specs.Behaves.{AreBehaviours};
-ghost use Rattle.sdl_system.specs.Behaviour.{Behaviour};
-ghost use Rattle.settle_meaning.specs.Report.{IsSettled};
+ghost use Rattle.std.specs.Prelude.{IfOk};
+ghost use Rattle.settle_meaning.specs.Settled.{IsSettledReport};
 
 use crate::parts::{Parts, parts_of};
 use crate::ports::settle_ports;
 use run_record::{Report, RunError};
 use settle_account::laws::counted_have_put;
-use settle_account::{Ending, compare, end_of_run};
+use settle_account::{Ending, compare, end_of_run, summaries_of};
 use settle_closing::Closing;
 use settle_closing::laws::{closed_have_histories, closed_have_put};
+use settle_summing::some_memory;
 use std::marker::Brand;
 use std::sync::Wait;
+use std::thread::Threads;
 use threads_environment::Environment;
 use threads_senders::Run;
 use threads_shared::Shared;
 
-/// The report of a run whose records are closed, in the order of their numbers. It is settled, for all behaviours that the
-/// processes of the system mean: whole or cut, and nothing was lost between threads.
+/// The report of a run whose records are closed, in the order of their numbers. It is settled: what the records say fits,
+/// and for all behaviours that the processes of the system mean it is whole or cut, and nothing was lost between threads.
 ///
 /// Lost, with a number: a record or a signal is missing, or what is recorded breaks what a report has to be, as `compare`,
-/// `end_of_run` and the counts of the ports tell it.
-pub fn report_of<'p, J: Run, R: Wait + Copy>(
+/// `end_of_run` and the counts of the ports tell it. At most `workers` threads look at the records.
+pub fn report_of<'p, J: Run, R: Threads + Wait + Copy + Sync>(
     shared: &Shared<'_, '_, 'p, J, R>,
     closings: Vec<Closing<'p, J, R>>,
     environment: Environment<'_, J>,
     ending: Ending,
+    workers: usize,
 ) -> Result<Report, RunError>
-    ensures { IfOk result (λ report. (ps : List Behaviour) → AreBehaviours shared.now.system.now ps
-        → IsSettled ps shared.now.system.now environment.entry.lines ending.limit report) }
+    ensures { IfOk result (λ report.
+        IsSettledReport shared.now.system.now environment.entry.lines ending.limit report) }
 {
     let alloc = shared.alloc;
     let system = shared.system;
@@ -45,12 +46,23 @@ pub fn report_of<'p, J: Run, R: Wait + Copy>(
     let targets = Vec::from_slice(alloc, environment.targets())?;
     let Parts { records, ports } = parts_of(alloc, whole, closings, environment.into_peers())?;
     let all = records.as_slice();
-    compare(alloc, system, all, &ports.places, heard, &targets)?;
-    let end = end_of_run(lines, line, all, ending)?;
+    let sums = summaries_of(shared.rt, alloc, workers, all)?;
+    compare(
+        alloc,
+        system,
+        all,
+        &sums,
+        &ports.places,
+        lines,
+        heard,
+        &targets,
+    )?;
+    let end = end_of_run(lines, line, all, &sums, ending)?;
+    let lacks_memory = some_memory(all, &sums);
     closed_have_histories();
     closed_have_put();
     counted_have_put();
-    settle_ports::<J, Brand, R>(shared, all, ports, whole, end)?;
+    settle_ports::<J, Brand, R>(shared, all, ports, whole, end, lacks_memory)?;
     Ok(Report {
         records,
         end,

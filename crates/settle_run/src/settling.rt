@@ -1,9 +1,7 @@
-//! The end of a run on threads, on the calling thread.
+//! The end of a run on threads: the calling thread goes on with it, and several look at its records.
 
-ghost use Rattle.std.specs.Prelude.{List, IfOk};
-ghost use Rattle.run_semantics.specs.Behaves.{AreBehaviours};
-ghost use Rattle.sdl_system.specs.Behaviour.{Behaviour};
-ghost use Rattle.settle_meaning.specs.Report.{IsSettled};
+ghost use Rattle.std.specs.Prelude.{IfOk};
+ghost use Rattle.settle_meaning.specs.Settled.{IsSettledReport};
 
 use crate::report::report_of;
 use port_values::Ticks;
@@ -13,6 +11,7 @@ use settle_checks::transitions_in;
 use settle_closing::{Closing, close};
 use settle_rest::run_rest;
 use std::sync::Wait;
+use std::thread::Threads;
 use threads_environment::Environment;
 use threads_senders::Run;
 use threads_shared::{Own, Seated, Shared};
@@ -21,27 +20,29 @@ use threads_shared::{Own, Seated, Shared};
 const MOST_NUMBERS: u32 = 1_000;
 
 /// Settles a run, at this time: goes on with it on this thread where fewer transitions than `limit` are made, closes all
-/// records, and gives the report. All threads of the run are joined: the caller's condition. The report is settled, for
-/// all behaviours that the processes of the system mean: whole or cut, and nothing was lost between threads.
+/// records, and gives the report. All threads of the run are joined: the caller's condition. The report is settled: for all
+/// behaviours that the processes of the system mean it is whole or cut, and nothing was lost between threads.
 ///
 /// Memory: no room for the records, or for what is sent. Lost, with a number: an instance that is entered isn't in its
-/// place; in a whole run one doesn't rest; or as `report_of` tells it.
-pub fn settle<J: Run, R: Wait + Copy>(
+/// place; in a whole run one doesn't rest; or as `report_of` tells it. At most `workers` threads look at the records.
+pub fn settle<J: Run, R: Threads + Wait + Copy + Sync>(
     shared: &Shared<'_, '_, '_, J, R>,
     own: &mut Own<J>,
     environment: Environment<'_, J>,
     at: Ticks,
     limit: u64,
+    workers: usize,
 ) -> Result<Report, RunError>
-    ensures { IfOk result (λ report. (ps : List Behaviour) → AreBehaviours shared.now.system.now ps
-        → IsSettled ps shared.now.system.now environment.entry.lines limit report) }
+    ensures { IfOk result (λ report.
+        IsSettledReport shared.now.system.now environment.entry.lines limit report) }
 {
     let mut environment = environment;
     let left = limit.saturating_sub(made_by(shared));
     let at = run_rest(shared, own, &mut environment, at, left)?;
     let whole = made_by(shared) < limit;
     let closings = close_all(shared, own, whole, at)?;
-    let report = report_of(shared, closings, environment, Ending { whole, at, limit })?;
+    let ending = Ending { whole, limit };
+    let report = report_of(shared, closings, environment, ending, workers)?;
     Ok(report)
 }
 

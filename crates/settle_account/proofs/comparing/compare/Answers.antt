@@ -6,14 +6,23 @@ use Rattle.settle_checks.specs.Outputs.{AreNamed}
 use Rattle.threads_senders.specs.Peers.{PeersState}
 use Rattle.settle_account.proofs.comparing.compare.Goals as goal
 
+pub all_lived-requires-clause-rising : goal.all_lived-requires-clause-rising
+all_lived-requires-clause-rising g c = c.in_ok-all_made.ensures.made.rising
+
+pub all_ordered-requires-clause-rising : goal.all_ordered-requires-clause-rising
+all_ordered-requires-clause-rising g c = c.in_ok-all_made.ensures.made.rising
+
 pub returns : goal.returns
-returns g c = λ heard signals targets.
+returns g c = λ heard signals targets script.
     let records = c.args.records.now in
     let places = c.args.places.now in
     let named : AreNamed heard c.in_ok-names.names.items = c.in_ok-names.ensures heard signals in
     let within : 0 < length places = search rules in
     record {
       made = c.in_ok-all_made.ensures.made;
+      started = c.in_ok-all_lived.ensures.started;
+      within = c.in_ok-all_lived.ensures.within;
+      timed = c.in_ok-all_timed.ensures;
       nulls = c.in_ok-all_caused.ensures;
       outputs = c.in_ok-all_meant.ensures.outputs;
       signals = c.in_ok-all_meant.ensures.signals heard signals targets;
@@ -21,4 +30,5 @@ returns g c = λ heard signals targets.
       heard_put = subst (λ (peers : PeersState). IsAllHeard heard records peers)
           (get_or_read places 0 c.index-places-0.result within c.index-places-0.is [])
           (c.in_ok-all_heard.ensures heard targets (subst (AreNamed heard) (sym c.deref.ensures.value) named));
+      ordered = c.in_ok-all_ordered.ensures heard targets script;
     }

@@ -3,9 +3,15 @@ use Rattle.std.proofs.Common.{◌+◌, get_or, rules, subst, []}
 use Rattle.std.proofs.lemmas.List.{get_or_read}
 use Rattle.run_record.specs.Record.{RecordValue}
 use Rattle.settle_account.proofs.Lists.{at_done, at_more}
+use Rattle.settle_account.proofs.TimedLemmas.{summary_of_both}
 use Rattle.settle_account.specs.Account.{IsAllPut}
 use Rattle.threads_senders.specs.Peers.{PeersState}
 use Rattle.settle_account.proofs.putting.all_put.Goals as goal
+
+pub all_put_by-requires : goal.all_put_by-requires
+all_put_by-requires g c =
+    summary_of_both c.args.records.now c.args.sums.now c.loop-k.k c.index-records-k-in-loop-k.result
+    c.index-sums-k.result c.requires (search rules) c.index-records-k-in-loop-k.is c.index-sums-k.is
 
 pub loop-k-preserved : goal.loop-k-preserved
 loop-k-preserved g c = λ heard named.

@@ -3,9 +3,9 @@ use Rattle.run_record.specs.Record.{RecordValue}
 use Rattle.settle_meaning.specs.Living.{AreMeant}
 use Rattle.settle_account.proofs.routing.outputs_right.Given as goal
 
-abbrev pub invariant-loop-record : goal.invariant-loop-record
-invariant-loop-record l =
+abbrev pub invariant-loop-k : goal.invariant-loop-k
+invariant-loop-k l =
     record {
       same : l.first ≡ l.initial.first;
-      right : (k : ℕ) (d : RecordValue) → k < l.record-index → AreMeant l.system l.records (get_or l.records k d);
+      right : (k : ℕ) (d : RecordValue) → k < l.k → AreMeant l.system l.records (get_or l.records k d);
     }

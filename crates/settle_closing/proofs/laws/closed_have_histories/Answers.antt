@@ -5,4 +5,4 @@ use Rattle.settle_closing.proofs.laws.closed_have_histories.Goals as goal
 pub returns : goal.returns
 returns c =
     law c.runs_are_legal.ensures c.runs_hear_what_is_drawn.ensures c.rests_are_for_good.ensures
-    c.late_is_nothing.ensures c.stopped_stays.ensures c.expiries_have_sets.ensures c.puts_come_from_outside.ensures
+    c.quiet_draws_change_nothing.ensures c.stopped_stays.ensures c.expiries_have_sets.ensures c.puts_come_from_outside.ensures

@@ -1,6 +1,5 @@
 -- One instance more.
-use Rattle.std.proofs.Common.{◌≡◌, ◌∙◌, [], ◌∷◌, ◌++◌, ap, rules, subst, sym}
-use Rattle.input_port.specs.Ends.{HeldState}
+use Rattle.std.proofs.Common.{◌≡◌, ◌∙◌, [], ◌∷◌, ◌++◌, ap, subst, sym}
 use Rattle.port_inbox.specs.Ends.{OwnerState}
 use Rattle.run_record.specs.Record.{RecordValue}
 use Rattle.settle_closing.specs.Left.{IsLeftOfOne}

@@ -1,5 +1,5 @@
 -- One port more.
-use Rattle.std.proofs.Common.{◌≡◌, ◌∙◌, ◌<◌, ap, length, rules, subst, sym}
+use Rattle.std.proofs.Common.{◌∙◌, ◌<◌, ap, length, rules, subst, sym}
 use Rattle.run_record.specs.Record.{RecordValue}
 use Rattle.settle_account.proofs.Lists.{at_done, at_more}
 use Rattle.settle_account.specs.Account.{IsCountOf}

@@ -1,6 +1,5 @@
 -- All ports are counted, and all are looked at.
-use Rattle.std.proofs.Common.{subst, sym, vec_len}
-use Rattle.settle_account.specs.Account.{AreCountsOf}
+use Rattle.std.proofs.Common.{subst, sym}
 use Rattle.settle_run.specs.Parts.{AreThensOf}
 use Rattle.settle_run.proofs.ports.settle_ports.Goals as goal
 

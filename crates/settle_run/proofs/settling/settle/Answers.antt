@@ -1,11 +1,10 @@
 -- The lines of the script are as they were.
 use Rattle.std.proofs.Common.{List, subst}
 use Rattle.sdl_script.specs.declared.script.ScriptLine.{ScriptLine}
-use Rattle.settle_meaning.specs.Report.{IsSettled}
+use Rattle.settle_meaning.specs.Settled.{IsSettledReport}
 use Rattle.settle_run.proofs.settling.settle.Goals as goal
 
 pub returns : goal.returns
-returns g c = λ ps meant.
-    subst
-    (λ (lines : List ScriptLine). IsSettled ps c.args.shared.now.system.now lines c.args.limit c.in_ok-report.report)
-    c.in_ok-at.ensures (c.in_ok-report.ensures ps meant)
+returns g c =
+    subst (λ (lines : List ScriptLine). IsSettledReport c.args.shared.now.system.now lines c.args.limit c.in_ok-report.report)
+    c.in_ok-at.ensures c.in_ok-report.ensures

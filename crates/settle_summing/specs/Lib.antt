@@ -1,0 +1,11 @@
+pub mod Covered
+pub mod Crossings
+pub mod Dues
+pub mod Enough
+pub mod Flows
+pub mod Late
+pub mod Places
+pub mod Routes
+pub mod Starts
+pub mod Summary
+pub mod Totals
