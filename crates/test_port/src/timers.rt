@@ -2,9 +2,9 @@
 
 ghost use Rattle.std.specs.Prelude.{◌≡◌, ◌≤◌, true};
 
-use port_inbox::{Alone, Inbox};
+use port_inbox::{Alone, Fuse, Inbox};
 use port_values::{SignalId, Ticks, TimerKey, Values};
-use sdl_timers::{NewClock, Reader, Ticker, Wheel, clock};
+use sdl_timers::{NewClock, Reader, SpentFuses, Ticker, Wheel, clock};
 use std::alloc::Global;
 use std::process::Abort;
 use std::thread;
@@ -123,4 +123,36 @@ fn fires_by_time_and_not_by_slot(rt: HostRuntime) {
         }
         assert!(rt; fired(&mut wheel, due) == Some((due, 7, 1)));
     }
+}
+
+/// Which fuses of one port have no effect any more.
+#[derive(Drop)]
+struct OfPort<'a> {
+    port: &'a Alone,
+}
+
+impl<'a> SpentFuses for OfPort<'a> {
+    ghost use Rattle.port_model.specs.Port.{is_spent};
+
+    ghost spent = { λ known fuse. is_spent known.port.now.state fuse.key fuse.arm fuse.due };
+
+    fn is_spent(&self, fuse: &Fuse) -> bool {
+        self.port.is_spent(fuse)
+    }
+}
+
+/// Each set of a timer leaves the fuse of the set before it without effect. Once there are many, they go, and no clause
+/// says when.
+#[test]
+fn spent_fuses_go(rt: HostRuntime) {
+    let alloc = rt.alloc();
+    let mut wheel = Wheel::new(alloc);
+    let mut port = Alone::new(alloc, 7);
+    for due in 1..=1_025 {
+        assert!(rt; due == 1 || wheel.next_due() == Some(Ticks::new(1)));
+        arm(&rt, alloc, &mut wheel, &mut port, 0, due);
+        wheel.thin(&OfPort { port: &port });
+    }
+    assert!(rt; fired(&mut wheel, 2_000) == Some((1_025, 7, 1_025)));
+    assert!(rt; wheel.next_due().is_none());
 }

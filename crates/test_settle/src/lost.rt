@@ -10,6 +10,7 @@ use run_record::{Report, RunError};
 use std::alloc::Global;
 use std::process::Abort;
 use std::sync::Wait;
+use std::thread::Threads;
 
 /// The report of `PING_PONG` after the first transition of both.
 static CUT: &str = "\
@@ -68,7 +69,12 @@ fn lost_senders(rt: HostRuntime) {
 }
 
 /// Sees what a run comes to whose senders are lost so.
-fn expect_loss<R: Wait + Abort + Copy>(rt: &R, alloc: Global, given: &Given, loss: &Loss)
+fn expect_loss<R: Threads + Wait + Abort + Copy + Sync>(
+    rt: &R,
+    alloc: Global,
+    given: &Given,
+    loss: &Loss,
+)
     requires { All IsOfEnv given.now.script.lines.items }
 {
     let plan = Plan {

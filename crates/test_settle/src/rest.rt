@@ -9,6 +9,7 @@ use crate::runs::{Plan, Way, settle_named};
 use std::alloc::Global;
 use std::process::Abort;
 use std::sync::Wait;
+use std::thread::Threads;
 
 /// The limits with which each case is run. With the last one those end that do not go on for ever.
 static LIMITS: [u64; 6] = [1, 2, 3, 5, 8, 1_000];
@@ -21,7 +22,7 @@ fn has_the_serial_text(rt: HostRuntime) {
     }
 }
 
-fn expect_serial<R: Wait + Abort + Copy>(rt: &R, alloc: Global, case: &Case) {
+fn expect_serial<R: Threads + Wait + Abort + Copy + Sync>(rt: &R, alloc: Global, case: &Case) {
     let given = make_given(rt, alloc, case.specification, case.script);
     for limit in &LIMITS {
         let plan = Plan {
@@ -44,7 +45,7 @@ fn goes_on(rt: HostRuntime) {
     }
 }
 
-fn expect_parted<R: Wait + Abort + Copy>(rt: &R, alloc: Global, case: &Case) {
+fn expect_parted<R: Threads + Wait + Abort + Copy + Sync>(rt: &R, alloc: Global, case: &Case) {
     let given = make_given(rt, alloc, case.specification, case.script);
     for count in 1..=9 {
         let plan = Plan {
@@ -57,7 +58,12 @@ fn expect_parted<R: Wait + Abort + Copy>(rt: &R, alloc: Global, case: &Case) {
 }
 
 /// Sees that a run that is settled so has the text of the serial run.
-fn expect_text<R: Wait + Abort + Copy>(rt: &R, name: &str, given: &Given, plan: Plan)
+fn expect_text<R: Threads + Wait + Abort + Copy + Sync>(
+    rt: &R,
+    name: &str,
+    given: &Given,
+    plan: Plan,
+)
     requires { All IsOfEnv given.now.script.lines.items }
 {
     let Plan { alloc, limit, .. } = plan;

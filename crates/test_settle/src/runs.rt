@@ -16,6 +16,7 @@ use settle_run::{Ending, report_of, settle};
 use std::alloc::Global;
 use std::marker::Brand;
 use std::sync::Wait;
+use std::thread::Threads;
 use threads_crew::begin;
 use threads_environment::Environment;
 use threads_ports::{NewPorts, NumberSeat, Numbers, Ports, birth as ports};
@@ -25,6 +26,9 @@ use threads_shared::{Common, Own, Shared, Tables};
 
 /// The greatest number of an instance in a test.
 const MOST_INSTANCES: u32 = 20;
+
+/// How many threads look at the records at most.
+const THREADS: usize = 3;
 
 /// How a run is settled that has begun.
 #[derive(Clone, Copy)]
@@ -48,16 +52,20 @@ pub struct Plan {
 }
 
 /// The report of a run that is settled so.
-pub fn settle_named<R: Wait + Copy>(rt: &R, given: &Given, plan: Plan) -> Result<Report, RunError>
+pub fn settle_named<R: Threads + Wait + Copy + Sync>(
+    rt: &R,
+    given: &Given,
+    plan: Plan,
+) -> Result<Report, RunError>
     requires { All IsOfEnv given.now.script.lines.items }
 {
-    let made = ports::ports(plan.alloc)?;
+    let made = ports::ports(rt, plan.alloc, 1)?;
     let (table, seat) = birth::table(plan.alloc)?;
     run_named::<Brand, R>(rt, given, plan, made, table, seat)
 }
 
 /// A run under the name `J`.
-fn run_named<J: Run, R: Wait + Copy>(
+fn run_named<J: Run, R: Threads + Wait + Copy + Sync>(
     rt: &R,
     given: &Given,
     plan: Plan,
@@ -82,7 +90,7 @@ fn run_named<J: Run, R: Wait + Copy>(
 }
 
 /// A run over what lasts as long as it.
-fn run_common<J: Run, R: Wait + Copy>(
+fn run_common<J: Run, R: Threads + Wait + Copy + Sync>(
     rt: &R,
     given: &Given,
     plan: Plan,
@@ -108,7 +116,7 @@ fn run_common<J: Run, R: Wait + Copy>(
 }
 
 /// A run over all that its threads would share.
-fn run_shared<J: Run, R: Wait + Copy>(
+fn run_shared<J: Run, R: Threads + Wait + Copy + Sync>(
     shared: &Shared<'_, '_, '_, J, R>,
     given: &Given,
     plan: Plan,
@@ -125,7 +133,7 @@ fn run_shared<J: Run, R: Wait + Copy>(
 }
 
 /// Settles a run that has begun.
-fn settle_by<J: Run, R: Wait + Copy>(
+fn settle_by<J: Run, R: Threads + Wait + Copy + Sync>(
     shared: &Shared<'_, '_, '_, J, R>,
     own: &mut Own<J>,
     environment: Environment<'_, J>,
@@ -135,14 +143,14 @@ fn settle_by<J: Run, R: Wait + Copy>(
     let Plan { limit, way, .. } = plan;
     let start = Ticks::new(0);
     match way {
-        Way::AtOnce => settle(shared, own, environment, start, limit),
+        Way::AtOnce => settle(shared, own, environment, start, limit, THREADS),
         Way::After(count) => {
             let at = run_rest(shared, own, &mut environment, start, count)?;
-            settle(shared, own, environment, at, limit)
+            settle(shared, own, environment, at, limit, THREADS)
         }
         Way::WithoutInstance(number) => {
             lose_instance(shared, number);
-            settle(shared, own, environment, start, limit)
+            settle(shared, own, environment, start, limit, THREADS)
         }
         Way::WithoutSenders(number) => cut_without(shared, own, environment, limit, number),
     }
@@ -156,7 +164,7 @@ fn lose_instance<J: Run, R: Wait + Copy>(shared: &Shared<'_, '_, '_, J, R>, numb
 }
 
 /// The report of a run that is cut at its limit, once the senders of this instance are let go.
-fn cut_without<J: Run, R: Wait + Copy>(
+fn cut_without<J: Run, R: Threads + Wait + Copy + Sync>(
     shared: &Shared<'_, '_, '_, J, R>,
     own: &mut Own<J>,
     environment: Environment<'_, J>,
@@ -168,10 +176,9 @@ fn cut_without<J: Run, R: Wait + Copy>(
     let closings = closings_without(shared, own, at, number)?;
     let ending = Ending {
         whole: false,
-        at,
         limit,
     };
-    report_of(shared, closings, environment, ending)
+    report_of(shared, closings, environment, ending, THREADS)
 }
 
 /// What is left of all instances, without the senders of one.

@@ -10,7 +10,7 @@ use settle_checks::transitions_in;
 use std::alloc::Global;
 use std::process::Abort;
 use std::sync::Wait;
-use std::sync::atomic::{AtomicU32, Ordering};
+use std::sync::atomic::{AtomicUsize, Ordering};
 use std::thread;
 use std::thread::Threads;
 use std::time::{Clock, Duration};
@@ -21,8 +21,8 @@ static CREWS: [usize; 5] = [1, 2, 3, 4, 16];
 /// How often a row is run with each number of workers.
 const ROUNDS: u32 = 2;
 
-/// After how many steps of all the thread that makes the next one sleeps a millisecond.
-const STEPS_AWAKE: u32 = 512;
+/// After how many steps of a crew each of its workers has had a break, on average.
+const STEPS_AWAKE: usize = 1_024;
 
 /// Each instance makes so great a part of its serial transitions, at least.
 const PART: usize = 10;
@@ -38,7 +38,7 @@ static THREE: &str = "system S;
 static SIX_HUNDRED: &str = "system S;
     process P (600); start; nextstate s; state s; provided true; nextstate -; endprocess; endsystem;";
 
-/// As many that the director wakes one by one.
+/// As many that the director wakes at once.
 static WOKEN: &str = "system S;
     process P (600); timer T; start; set(now + 1, T); nextstate w; state w; input T; nextstate s; endstate;
     state s; provided true; nextstate -; endprocess; endsystem;";
@@ -49,17 +49,33 @@ static STOPPED: &str = "system S; signal halt;
     process Q; dcl n Integer := 0; start; nextstate t;
     state t; provided n < 1000; task n := n + 1; output halt; nextstate -; endprocess; endsystem;";
 
-/// Has a thread sleep now and then before a step, so that each of a crew gets a processor, though there are fewer of these
-/// and the run is short.
+/// Has the thread that makes the next step sleep a millisecond, again and again. The more workers there are, the sooner
+/// each sleeps: so most of a crew sleep at a time, and who is awake has a processor at once, though there are two for
+/// sixteen workers, and other programs run. Else a worker could wait for one, with the numbers that it has, until the
+/// others have used up the limit.
 #[derive(Drop)]
 struct Breaks<'r, C: Clock> {
     clock: &'r C,
-    steps: AtomicU32,
+    /// After how many steps of all there is a break.
+    every: usize,
+    steps: AtomicUsize,
+}
+
+impl<'r, C: Clock> Breaks<'r, C> {
+    /// The breaks of a run with so many workers.
+    fn new(clock: &'r C, workers: usize) -> Self {
+        Breaks {
+            clock,
+            every: STEPS_AWAKE / workers.max(1),
+            steps: AtomicUsize::new(0),
+        }
+    }
 }
 
 impl<'r, C: Clock> Gate for Breaks<'r, C> {
     fn begun<R: Wait>(&self, _rt: &R, _number: u32) {
-        if self.steps.fetch_add(1, Ordering::SeqCst) % STEPS_AWAKE == 0 {
+        let step = self.steps.fetch_add(1, Ordering::SeqCst);
+        if step.is_multiple_of(self.every) {
             thread::sleep(self.clock, Duration::from_millis(1));
         }
     }
@@ -75,10 +91,7 @@ fn report_with<R: Threads + Wait + Abort + Clock + Copy + Send + Sync>(
 ) -> Report
     requires { All (SendsFromEnv given.now.system) given.now.script.lines.items }
 {
-    let breaks = Breaks {
-        clock: rt,
-        steps: AtomicU32::new(0),
-    };
+    let breaks = Breaks::new(rt, workers);
     let Given { system, script } = given;
     run(rt, alloc, system, script, workers, limit, &breaks).expect(rt, "a report")
 }
