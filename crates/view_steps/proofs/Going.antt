@@ -146,7 +146,7 @@ module _ (system : SystemValue) (records : List RecordValue) (told left : List S
 
   least-is : course.living.least.items ≡ least
   least-is =
-      now.living.least
+      now.living.least.numbers
       ∙ ap (λ rs. least_living (living_in course.living) rs course.living.processes) now.living.records_are
       ∙ ap (least_living (living_in course.living) records) now.living.processes_are
       ∙ least-same (living_in course.living) (living_after records told) now.living.numbers records

@@ -1,4 +1,5 @@
 mod Going
+pub mod Least
 mod Losing
 pub mod Opening
 pub mod Passing

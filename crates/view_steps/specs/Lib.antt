@@ -2,6 +2,7 @@ pub mod Course
 pub mod Fate
 pub mod Living
 pub mod Lost
+pub mod Numbered
 pub mod Occurrence
 pub mod Occurrences
 pub mod Sending

@@ -1,11 +1,12 @@
 //! Who lives along a timeline.
 
-ghost use Rattle.std.specs.Prelude.{◌≡◌, ◌==◌, ◌&&◌, ◌||◌, ℕ, nat_eq, IfOk, OnOk, false, if◌then◌else◌, length, option_copied, true};
+ghost use Rattle.std.specs.Prelude.{◌≡◌, ◌≤◌, ◌-◌, ◌==◌, ◌&&◌, ◌||◌, ◌↔◌, ℕ, Bool, nat_eq, IfOk, IsTrue, OnOk, drop, false, if◌then◌else◌, length, option_copied, take, true};
 ghost use Rattle.std.specs.List.{find};
 ghost use Rattle.indexmap.specs.IndexSet.{contains};
 ghost use Rattle.port_values.specs.Value.{ValueList};
 ghost use Rattle.run_record.specs.Entry.{event_of};
-ghost use Rattle.view_steps.specs.Living.{AreLiving, IsLeast, living_in};
+ghost use Rattle.view_steps.specs.Living.{AreLiving, IsLeast, IsMost, changed, living_in};
+ghost use Rattle.view_steps.specs.Numbered.{are_numbered, lesser, process_of};
 ghost use Rattle.view_steps.specs.Sending.{least_living, least_of, lives_of};
 ghost use Rattle.view_timeline.specs.Did.{did};
 ghost use Rattle.view_timeline.specs.Lives.{is_initial, is_null, lives_on};
@@ -24,6 +25,10 @@ pub struct Living<'t> {
     pub processes: usize,
     pub numbers: IndexSet<u32>,
     pub least: Vec<Option<u32>>,
+    /// None of a greater number lives.
+    pub most: u32,
+    /// Whether the records are numbered from 1 on, as those of a run are. Then that of a number is found at once.
+    pub is_numbered: bool,
 }
 
 impl<'t> Living<'t> {
@@ -42,6 +47,8 @@ impl<'t> Living<'t> {
             processes,
             numbers,
             least,
+            most: most_initial(records),
+            is_numbered: are_numbered(records),
         })
     }
 
@@ -69,9 +76,13 @@ impl<'t> Living<'t> {
         ensures processes { self.new.processes ≡ self.old.processes }
         ensures numbers { OnOk result ((other : ℕ) → living_in self.new other
             ≡ (if number == other then true else living_in self.old other)) }
-        ensures least { OnOk result (IsLeast self.new) }
+        ensures least { IsLeast self.old → OnOk result (IsLeast self.new) }
     {
-        self.numbers.insert(number)?;
+        self.add(number)?;
+        if self.is_numbered {
+            self.lower(number);
+            return Ok(());
+        }
         self.refresh()
     }
 
@@ -81,19 +92,80 @@ impl<'t> Living<'t> {
         ensures processes { self.new.processes ≡ self.old.processes }
         ensures numbers { OnOk result ((other : ℕ) → living_in self.new other
             ≡ (if number == other then false else living_in self.old other)) }
-        ensures least { OnOk result (IsLeast self.new) }
+        ensures least { IsLeast self.old → OnOk result (IsLeast self.new) }
+    {
+        self.remove(number);
+        if self.is_numbered {
+            self.raise(number);
+            return Ok(());
+        }
+        self.refresh()
+    }
+
+    /// Notes that one lives.
+    fn add(&mut self, number: u32) -> Result<(), AllocError>
+        ensures rest { self.new ≡ record self.old { numbers = self.new.numbers; most = self.new.most } }
+        ensures numbers { OnOk result ((other : ℕ) → living_in self.new other
+            ≡ changed true number (living_in self.old) other) }
+        ensures most { IsMost self.old.most (living_in self.old)
+            → OnOk result (IsMost self.new.most (living_in self.new)) }
+    {
+        self.numbers.insert(number)?;
+        self.most = greater(self.most, number);
+        Ok(())
+    }
+
+    /// Notes that one lives no more.
+    fn remove(&mut self, number: u32)
+        ensures rest { self.new ≡ record self.old { numbers = self.new.numbers } }
+        ensures numbers { (other : ℕ) → living_in self.new other
+            ≡ changed false number (living_in self.old) other }
     {
         self.numbers.swap_remove(&number);
-        self.refresh()
     }
 
     /// Finds the least numbers anew.
     fn refresh(&mut self) -> Result<(), AllocError>
         ensures rest { self.new ≡ record self.old { least = self.new.least } }
-        ensures least { OnOk result (IsLeast self.new) }
+        ensures least { OnOk result (self.new.least.items
+            ≡ least_living (living_in self.old) self.old.records.now self.old.processes) }
     {
         self.least = least_living(self.alloc, self.records, &self.numbers, self.processes)?;
         Ok(())
+    }
+
+    /// Puts the number of one that begins among the least ones: no other of them changes.
+    fn lower(&mut self, number: u32)
+        ensures rest { self.new ≡ record self.old { least = self.new.least } }
+        ensures least { are_numbered 1 self.old.records.now ≡ true → (lives : ℕ → Bool)
+            → self.old.least.items ≡ least_living lives self.old.records.now self.old.processes
+            → self.new.least.items
+            ≡ least_living (changed true number lives) self.old.records.now self.old.processes }
+    {
+        let Some(process) = process_of(self.records, number) else {
+            return;
+        };
+        if process < self.least.len() {
+            self.least[process] = lesser(self.least[process], number);
+        }
+    }
+
+    /// Takes the number of one that has ended from the least ones: if it is the least of its process, the next one of
+    /// those that live takes its place.
+    fn raise(&mut self, number: u32)
+        ensures rest { self.new ≡ record self.old { least = self.new.least } }
+        ensures least { are_numbered 1 self.old.records.now ≡ true → (lives : ℕ → Bool)
+            → self.old.least.items ≡ least_living lives self.old.records.now self.old.processes
+            → living_in self.old ≡ changed false number lives → IsMost self.old.most (living_in self.old)
+            → self.new.least.items
+            ≡ least_living (changed false number lives) self.old.records.now self.old.processes }
+    {
+        let Some(process) = process_of(self.records, number) else {
+            return;
+        };
+        if process < self.least.len() && is_number(self.least[process], number) {
+            self.least[process] = next_of(self.records, &self.numbers, process, number, self.most);
+        }
     }
 
     /// Whether the instance of this number lives.
@@ -128,6 +200,91 @@ fn admit(numbers: &mut IndexSet<u32>, record: &Record) -> Result<(), AllocError>
         }
         _ => Ok(()),
     }
+}
+
+/// No number of those with which the system begins is greater.
+fn most_initial(records: &[Record]) -> u32
+    ensures { IsMost result (is_initial records.now) }
+{
+    let mut most = 0;
+    for record in records {
+        if let Pid::Null = record.parent() {
+            most = greater(most, record.pid());
+        }
+    }
+    most
+}
+
+fn greater(one: u32, other: u32) -> u32
+    ensures one { one ≤ result }
+    ensures other { other ≤ result }
+{
+    if one < other { other } else { one }
+}
+
+/// Whether records are numbered from 1 on.
+fn are_numbered(records: &[Record]) -> bool
+    ensures { result ≡ are_numbered 1 records.now }
+{
+    let mut number: usize = 1;
+    let mut rest = records;
+    'rest: while let Some((record, more)) = rest.split_first() {
+        if record.pid() as usize != number {
+            return false;
+        }
+        number += 1;
+        rest = more;
+    }
+    true
+}
+
+/// The process of the instance with this number, if the records are numbered.
+fn process_of(records: &[Record], number: u32) -> Option<usize>
+    ensures { are_numbered 1 records.now ≡ true → result ≡ process_of records.now number }
+{
+    if number == 0 {
+        return None;
+    }
+    match records.get(number as usize - 1) {
+        Some(record) => Some(record.process().0 as usize),
+        None => None,
+    }
+}
+
+fn lesser(least: Option<u32>, number: u32) -> Option<u32>
+    ensures { result ≡ lesser least number }
+{
+    match least {
+        Some(least) if least < number => Some(least),
+        _ => Some(number),
+    }
+}
+
+fn is_number(least: Option<u32>, number: u32) -> bool
+    ensures { IsTrue result ↔ (least ≡ Some number) }
+{
+    match least {
+        Some(least) => least == number,
+        None => false,
+    }
+}
+
+/// The least number of a living instance of a process among the records from one number on, up to another.
+fn next_of(
+    records: &[Record],
+    numbers: &IndexSet<u32>,
+    process: usize,
+    number: u32,
+    most: u32,
+) -> Option<u32>
+    ensures { result ≡ least_of (λ number. contains nat_eq numbers.now number)
+        (take (most - number) (drop number records.now)) process }
+{
+    let from = (number as usize).min(records.len());
+    let (_, after) = records.split_at(from);
+    let count = (most.saturating_sub(number) as usize).min(after.len());
+    let (between, _) = after.split_at(count);
+    least_of(between, numbers, process)
 }
 
 /// The least number of a living instance of each process.
