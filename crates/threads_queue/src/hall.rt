@@ -1,8 +1,8 @@
 //! The common queue, and the workers that sleep.
 
-ghost use Rattle.std.specs.Prelude.{◌≡◌, ◌==◌, ◌≤◌, ◌+◌, ◌/◌, ◌++◌, ◌∷◌, ◌&&◌, [], IfOk, MatchOption, MatchResult, OnErr, OnOk, drop, false, length, max, min, take, true};
+ghost use Rattle.std.specs.Prelude.{◌≡◌, ◌==◌, ◌≤◌, ◌+◌, ◌/◌, ◌++◌, ◌∷◌, ◌&&◌, [], IfOk, MatchResult, OnErr, OnOk, drop, false, length, max, min, take, true};
 ghost use Rattle.std.specs.VecDeque.{deque_capacity, deque_len};
-ghost use Rattle.threads_queue.specs.Hall.{HallState, IsExchanged, IsServed, IsTold, part};
+ghost use Rattle.threads_queue.specs.Hall.{AreAsleep, HallState, HasWork, IsExchanged, IsServed, IsTold, IsWoken, part, without};
 
 use std::alloc::{AllocError, Global};
 use std::collections::VecDeque;
@@ -87,12 +87,15 @@ impl Hall {
         self.queue.append(numbers)
     }
 
-    /// Gives the worker `me`, whose own queue is empty, its next turn. Its part of the common queue goes into its own.
-    /// Refused for lack of memory: both queues stay as they are.
+    /// Gives the worker `me`, whose own queue is empty, its next turn. It is noted as awake first, also where it woke by
+    /// itself. Its part of the common queue goes into its own. Refused for lack of memory: both queues stay as they are.
     pub fn turn(&mut self, me: usize, own: &mut VecDeque<u32>) -> Result<Turn, AllocError>
+        ensures told { IfOk result (λ turn. IsTold turn self.old self.new) }
         ensures numbers { IfOk result (λ turn. IsServed turn self.old own.old.items self.new own.new.items) }
-        ensures refused { OnErr result ((self.new.queue ≡ self.old.queue) × (own.new.items ≡ own.old.items)) }
-        ensures told { IfOk result (λ turn. IsTold me turn self.old self.new) }
+        ensures work { IfOk result (λ turn. HasWork turn own.new.items) }
+        ensures sleepers { IfOk result (λ turn. AreAsleep me turn self.old self.new) }
+        ensures refused { OnErr result ((self.new ≡ record self.old { asleep = without me self.old.asleep })
+            × (own.new.items ≡ own.old.items)) }
         ensures same { (self.new.crew ≡ self.old.crew) × (self.new.closed ≡ self.old.closed) }
     {
         self.rouse(me);
@@ -137,8 +140,7 @@ impl Hall {
     pub fn share(&mut self, own: &mut VecDeque<u32>) -> Result<Option<usize>, AllocError>
         ensures queue { OnOk result (self.new.queue ≡ self.old.queue ++ take (length own.old.items / 2) own.old.items) }
         ensures own { OnOk result (own.new.items ≡ drop (length own.old.items / 2) own.old.items) }
-        ensures woken { IfOk result (λ wake. MatchOption wake ((self.old.asleep ≡ []) × (self.new.asleep ≡ []))
-            (λ worker. self.old.asleep ≡ self.new.asleep ++ worker ∷ [])) }
+        ensures woken { IfOk result (λ wake. IsWoken wake self.old.asleep self.new.asleep) }
         ensures refused { OnErr result ((self.new ≡ self.old) × (own.new.items ≡ own.old.items)) }
         ensures same { (self.new.crew ≡ self.old.crew) × (self.new.closed ≡ self.old.closed) }
     {
@@ -150,8 +152,8 @@ impl Hall {
 
     /// A worker that sleeps, which is to be unparked: there is something in the queue, or the run is over.
     pub fn sleeper(&mut self) -> Option<usize>
-        ensures { MatchOption result ((self.old.asleep ≡ []) × (self.new ≡ self.old))
-            (λ worker. self.old ≡ record self.new { asleep = self.new.asleep ++ worker ∷ [] }) }
+        ensures woken { IsWoken result self.old.asleep self.new.asleep }
+        ensures same { self.new ≡ record self.old { asleep = self.new.asleep } }
     {
         self.asleep.pop()
     }
@@ -193,11 +195,9 @@ impl Hall {
 
     /// Notes that the worker `me` is awake, also where it woke by itself.
     fn rouse(&mut self, me: usize)
-        ensures { self.new ≡ record self.old { asleep = self.new.asleep } }
+        ensures { self.new ≡ record self.old { asleep = without me self.old.asleep } }
     {
-        if let Some(place) = self.asleep.iter().position(|other| *other == me) {
-            self.asleep.swap_remove(place);
-        }
+        self.asleep.retain(|other| *other != me);
     }
 
     /// How many of the numbers in the queue are a worker's part: as many as each of the crew gets, one at least.

@@ -1,23 +1,31 @@
 //! The places of what steps.
 
+ghost use Rattle.std.specs.Prelude.{◌≡◌, IfSome, is_some, vec_len};
+ghost use Rattle.threads_queue.specs.Places.{AreNumbered, has_place};
+
 use crate::mark::Mark;
 use crossbeam_utils::CachePadded;
 use std::alloc::{AllocError, Global};
 use std::sync::{Mutex, MutexGuard, Wait};
 
 /// How many places there are: one for each number that may be given.
-const MOST_PLACES: usize = 1_000;
+const MOST_PLACES: u32 = 1_000;
 
 /// The place of one that steps, and its mark.
 #[derive(Drop)]
 pub struct Place<T: Drop> {
+    /// The number of who steps here.
+    pub number: u32,
     kept: Mutex<Option<T>>,
     mark: Mark,
 }
 
 impl<T: Drop> Place<T> {
-    fn new() -> Self {
+    fn new(number: u32) -> Self
+        ensures { result.number ≡ number }
+    {
         Place {
+            number,
             kept: Mutex::new(None),
             mark: Mark::new(),
         }
@@ -66,20 +74,25 @@ impl<T: Drop> Place<T> {
 #[derive(Drop)]
 pub struct Places<T: Drop> {
     rows: Vec<CachePadded<Place<T>>>,
+    ghost all: { vec_len rows ≡ 1000 },
+    ghost numbered: { AreNumbered rows.items },
 }
 
 impl<T: Drop> Places<T> {
     /// Places where nobody is. Refused for lack of memory.
     pub fn new(alloc: Global) -> Result<Self, AllocError> {
-        let mut rows = Vec::with_capacity(alloc, MOST_PLACES)?;
-        for _ in 0..MOST_PLACES {
-            rows.push(CachePadded::new(Place::new()))?;
+        let mut rows = Vec::with_capacity(alloc, MOST_PLACES as usize)?;
+        for place in 0..MOST_PLACES {
+            rows.push(CachePadded::new(Place::new(place + 1)))?;
         }
         Ok(Places { rows })
     }
 
     /// The place of a number. None: no instance can have the number.
-    pub fn of(&self, number: u32) -> Option<&Place<T>> {
+    pub fn of(&self, number: u32) -> Option<&Place<T>>
+        ensures there { is_some result ≡ has_place number }
+        ensures numbered { IfSome result (λ place. place.now.number ≡ number) }
+    {
         let row = self.rows.get(number.checked_sub(1)? as usize)?;
         Some(row)
     }

@@ -1,6 +1,6 @@
 //! What a thread of a run has for itself.
 
-ghost use Rattle.std.specs.Prelude.{◌≡◌, OnOk, true};
+ghost use Rattle.std.specs.Prelude.{◌≡◌, [], IfOk, OnOk, replicate, true};
 
 use crate::{Addressees, Tables};
 use port_inbox::Fuse;
@@ -40,17 +40,24 @@ pub struct Own<J: Run> {
 }
 
 impl<J: Run> Own<J> {
-    /// The state with which a thread begins, in a system of so many processes. Refused for lack of memory.
+    /// The state with which a thread begins, in a system of so many processes: it has no number, has sent nothing, has seen
+    /// nobody live, and has made no transition. Refused for lack of memory.
     pub fn new(
         alloc: Global,
         reader: Reader,
         seat: NumberSeat<J>,
         processes: usize,
         part: u64,
-    ) -> Result<Self, AllocError> {
+    ) -> Result<Self, AllocError>
+        ensures passed { IfOk result (λ own. (own.reader ≡ reader) × (own.seat ≡ seat)) }
+        ensures queue { IfOk result (λ own. (own.queue.items ≡ []) × (own.jobs ≡ 0)) }
+        ensures step { IfOk result (λ own. (own.fuses.items ≡ []) × (own.addressees ≡ Addressees.Nobody)) }
+        ensures seen { IfOk result (λ own. (own.living.items ≡ replicate processes None) × (own.version ≡ 0)) }
+        ensures moves { IfOk result (λ own. (own.moves ≡ 0) × (own.part ≡ part)) }
+    {
         let queue = VecDeque::with_capacity(alloc, MOST_NUMBERS)?;
         let mut living = Vec::with_capacity(alloc, processes)?;
-        for _ in 0..processes {
+        for _process in 0..processes {
             living.push(None)?;
         }
         Ok(Own {

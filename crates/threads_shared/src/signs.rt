@@ -1,5 +1,8 @@
 //! The words that all threads look at.
 
+ghost use Rattle.std.specs.Prelude.{◌≡◌, ◌≤◌, true};
+ghost use Rattle.threads_shared.specs.Signs.{limit_of, part_of, workers_of};
+
 use crossbeam_utils::CachePadded;
 use std::hint::spin_loop;
 use std::sync::atomic::{AtomicBool, AtomicU64, AtomicUsize, Ordering};
@@ -28,7 +31,10 @@ pub struct Signs {
 
 impl Signs {
     /// The words of a run that begins, with this limit of transitions and so many workers.
-    pub fn new(limit: u64, workers: usize) -> Self {
+    pub fn new(limit: u64, workers: usize) -> Self
+        ensures limit { limit_of result ≡ limit }
+        ensures workers { workers_of result ≡ workers }
+    {
         Signs {
             version: CachePadded::new(AtomicU64::new(1)),
             moves: CachePadded::new(AtomicU64::new(0)),
@@ -42,14 +48,11 @@ impl Signs {
         }
     }
 
-    /// The limit of transitions.
-    pub fn limit(&self) -> u64 {
-        self.limit
-    }
-
     /// How many transitions a thread makes at most before it adds them to the sum of all, where there are so many workers:
-    /// so few that the run goes past the limit by a quarter of it at most, and by 64 a worker.
-    pub fn part(&self, workers: usize) -> u64 {
+    /// so few that the run goes past the limit by a quarter of it at most, and by 64 a worker; one at least.
+    pub fn part(&self, workers: usize) -> u64
+        ensures { result ≡ part_of (limit_of self.now) workers }
+    {
         let parts = (workers as u64).saturating_mul(4);
         match self.limit.checked_div(parts) {
             Some(part) => part.clamp(1, MOST_MOVES),
@@ -70,7 +73,9 @@ impl Signs {
     }
 
     /// Adds transitions that were made. True: they are as many as the limit.
-    pub fn add_moves(&self, moves: u64) -> bool {
+    pub fn add_moves(&self, moves: u64) -> bool
+        ensures { limit_of self.now ≤ moves → result ≡ true }
+    {
         // Before: the sum of what was added. After: with these. The caller adds each transition once, after it is made, so
         // the sum is never more than the transitions made.
         let before = self.moves.fetch_add(moves, Ordering::SeqCst);

@@ -1,5 +1,8 @@
 //! The tables of a run.
 
+ghost use Rattle.std.specs.Prelude.{◌≡◌, IfOk};
+ghost use Rattle.threads_shared.specs.Signs.{limit_of, workers_of};
+
 use crate::Signs;
 use sdl_instances::Roster;
 use sdl_system::System;
@@ -26,7 +29,10 @@ impl Tables {
         system: &System,
         workers: usize,
         limit: u64,
-    ) -> Result<Self, AllocError> {
+    ) -> Result<Self, AllocError>
+        ensures limit { IfOk result (λ tables. limit_of tables.signs ≡ limit) }
+        ensures workers { IfOk result (λ tables. workers_of tables.signs ≡ workers) }
+    {
         Ok(Tables {
             roster: Mutex::new(Roster::new(alloc, system)?),
             wheel: Mutex::new(Wheel::new(alloc)),
