@@ -11,14 +11,13 @@ UNKNOWN = "answers of decisions: not known, since a run that counts them is anot
 
 @dataclass
 class Part:
-    """A part of a decision: its tokens, its body, the token and the number of its decision, and its own number."""
+    """A part of a decision: its tokens, its body, the token of its decision, and its own number."""
 
     start: int
     end: int
     is_else: bool
     body: object
     decision: int
-    decision_number: int
     number: int
 
 
@@ -37,7 +36,6 @@ class Notes:
 
     def __init__(self):
         self.processes = []
-        self.decisions = 0
 
     def process(self, process):
         self.processes.append(Covered(process))
@@ -48,17 +46,14 @@ class Notes:
     def stimulus(self, at, state, stimulus, signal=None):
         self.processes[-1].stimuli.append((at, state, stimulus, signal))
 
-    def decision(self):
-        self.decisions += 1
-        return self.decisions - 1
-
     def part(self, part):
         self.processes[-1].parts.append(part)
 
 
 @dataclass
 class Item:
-    """What may happen at a place, and how often it did; of an answer also its line, its decision and its part."""
+    """What may happen at a place, and how often it did. Of a stimulus also its place and the number of the state; of an
+    answer the place of its decision and the number of its part."""
 
     place: tuple
     kind: str
@@ -103,10 +98,11 @@ def items(covered, text, run, marked):
     for at, state, stimulus, signal in covered.stimuli:
         for name in states_of(state, covered.states):
             what, times = stimulus_of(process, name, stimulus, signal, numbers, passes)
-            found.append(Item(text.place(at), "stimulus", f"in {name}", what, times))
+            branch = *text.place(at), list(covered.states).index(name)
+            found.append(Item(text.place(at), "stimulus", f"in {name}", what, times, branch))
     for part in covered.parts if marked else []:
         line, column = text.place(part.decision)
-        branch = line, part.decision_number, part.number
+        branch = line, column, part.number
         owner, what = f"decision of {line}:{column}", text.shown(part.start, part.end)
         what = "else" if part.is_else else what
         found.append(Item(text.place(part.start), "answer", owner, what, marked.passes[part.body], branch))
@@ -175,13 +171,12 @@ class Widths:
 def tracefile(found, is_known, source):
     """The text for LCOV."""
     its = [it for _, its in found for it in its if it.kind != "state"]
-    branches = [it for it in its if it.kind == "answer"]
     lines = Counter()
     for it in its:
-        lines[it.branch[0] if it.branch else it.place[0]] += it.times
+        lines[it.branch[0]] += it.times
     told = [f"TN:{'' if is_known else 'answers_not_known'}", f"SF:{source}"]
-    told += ["BRDA:%d,%d,%d,%d" % (*it.branch, it.times) for it in branches]
-    told += [f"BRF:{len(branches)}", f"BRH:{sum(it.times > 0 for it in branches)}"]
+    told += ["BRDA:%d,%d,%d,%d" % (*it.branch, it.times) for it in its]
+    told += [f"BRF:{len(its)}", f"BRH:{sum(it.times > 0 for it in its)}"]
     told += [f"DA:{line},{times}" for line, times in sorted(lines.items())]
     told += [f"LF:{len(lines)}", f"LH:{sum(times > 0 for times in lines.values())}", "end_of_record"]
     return "".join(f"{line}\n" for line in told)

@@ -145,7 +145,7 @@ class Decision:
     label: object = None
 
     def put(self, writer):
-        decision = len(writer.shown), writer.covered.decision()
+        decision = len(writer.shown)
         writer.put("decision")
         self.question.put(writer)
         writer.end()
@@ -153,7 +153,7 @@ class Decision:
         for number, (answers, body) in enumerate(parts):
             start = len(writer.shown)
             self.put_answers(writer, answers)
-            writer.covered.part(Part(start, len(writer.shown), answers is None, body, *decision, number))
+            writer.covered.part(Part(start, len(writer.shown), answers is None, body, decision, number))
             writer.put(":")
             body.put(writer)
         writer.put("enddecision")
