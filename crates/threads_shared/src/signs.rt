@@ -115,7 +115,7 @@ impl Signs {
     }
 
     /// Whether numbers are in the hall's queue. A look, which may be late.
-    fn has_queued(&self) -> bool {
+    pub fn has_queued(&self) -> bool {
         self.queued.load(Ordering::SeqCst) > 0
     }
 

@@ -18,7 +18,10 @@ const STEPS_PER_LOOK: u32 = 8;
 
 /// After how many jobs a worker looks into the hall, whatever its own queue has: as many as it takes numbers out at once
 /// at most. So each that it took has had its job by then, and what a look costs is shared by as many jobs.
-pub const JOBS_PER_LOOK: usize = MOST_TAKEN;
+const JOBS_PER_LOOK: usize = MOST_TAKEN;
+
+/// After how many jobs a worker that has one number alone looks into the hall, if numbers are queued there.
+const JOBS_OF_ONE_PER_LOOK: usize = 8;
 
 /// The result of a job.
 #[derive(Clone, Copy, PartialEq, Eq)]
@@ -60,6 +63,18 @@ pub fn steps_of<J: Run, R: Wait + Copy, G: Gate>(
     Ok(())
 }
 
+/// Whether a worker that has so many numbers is to look into the hall, whatever its own queue has. With one alone it does so
+/// after fewer jobs, if numbers are queued there: else an instance that sends on and on would have sent much before those
+/// to whom it sends get their turn.
+pub fn is_to_look<J: Run, R: Wait + Copy>(
+    shared: &Shared<'_, '_, '_, J, R>,
+    own: &Own<J>,
+    numbers: usize,
+) -> bool {
+    let alone = numbers == 1 && own.jobs >= JOBS_OF_ONE_PER_LOOK;
+    own.jobs >= JOBS_PER_LOOK || (alone && shared.tables.signs.has_queued())
+}
+
 /// The turn of who is in the place, and more turns while signals wait for it and this worker has no other number: as if
 /// its number had gone into this worker's queue, and had come out again. Each counts as a job, so what waits in the hall
 /// waits no longer for that.
@@ -76,7 +91,7 @@ fn turns_at<'s, 'p, J: Run, R: Wait + Copy, G: Gate>(
     };
     for _ in 0..JOBS_PER_LOOK {
         let left = turn(shared, own, gate, seated, number)?;
-        if left != Left::Signals || !own.queue.is_empty() || own.jobs >= JOBS_PER_LOOK {
+        if left != Left::Signals || !own.queue.is_empty() || is_to_look(shared, own, 1) {
             return Ok(left);
         }
         own.jobs = own.jobs.saturating_add(1);

@@ -1,6 +1,6 @@
 //! The loop of a worker.
 
-use crate::job::{JOBS_PER_LOOK, steps_of, tell_moves};
+use crate::job::{is_to_look, steps_of, tell_moves};
 use crate::{Crew, Gate};
 use crossbeam_utils::sync::Parker;
 use sdl_timers::Reader;
@@ -63,7 +63,7 @@ fn round<J: Run, R: Wait + Copy, G: Gate>(
         return Ok(false);
     }
     share(shared, crew, own)?;
-    if own.jobs >= JOBS_PER_LOOK {
+    if is_to_look(shared, own, own.queue.len()) {
         exchange(shared, own)?;
     }
     if let Some(number) = own.queue.pop_front() {
