@@ -24,6 +24,10 @@ const ROUNDS: u32 = 2;
 /// After how many steps of a crew each of its workers has had a break, on average.
 const STEPS_AWAKE: usize = 1_024;
 
+/// After so few steps of all there is a break where one that is to be stopped must have a processor before another one has
+/// made 1,000 steps: else all signals go to it, and none to the next one.
+const STEPS_AT_ONCE: usize = 16;
+
 /// Each instance makes so great a part of its serial transitions, at least.
 const PART: usize = 10;
 
@@ -62,11 +66,11 @@ struct Breaks<'r, C: Clock> {
 }
 
 impl<'r, C: Clock> Breaks<'r, C> {
-    /// The breaks of a run with so many workers.
-    fn new(clock: &'r C, workers: usize) -> Self {
+    /// Breaks after so many steps of all.
+    fn new(clock: &'r C, every: usize) -> Self {
         Breaks {
             clock,
-            every: STEPS_AWAKE / workers.max(1),
+            every,
             steps: AtomicUsize::new(0),
         }
     }
@@ -81,17 +85,23 @@ impl<'r, C: Clock> Gate for Breaks<'r, C> {
     }
 }
 
-/// The report of a run with so many workers, in which each has its breaks.
+/// After how many steps of all there is a break with so many workers.
+fn steps_between(workers: usize) -> usize {
+    STEPS_AWAKE / workers.max(1)
+}
+
+/// The report of a run with so many workers, in which there is a break after so many steps of all.
 fn report_with<R: Threads + Wait + Abort + Clock + Copy + Send + Sync>(
     rt: &R,
     alloc: Global,
     given: &Given,
     workers: usize,
+    every: usize,
     limit: u64,
 ) -> Report
     requires { All (SendsFromEnv given.now.system) given.now.script.lines.items }
 {
-    let breaks = Breaks::new(rt, workers);
+    let breaks = Breaks::new(rt, every);
     let Given { system, script } = given;
     run(rt, alloc, system, script, workers, limit, &breaks).expect(rt, "a report")
 }
@@ -124,7 +134,8 @@ fn expect_turns<R: Threads + Wait + Abort + Clock + Copy + Send + Sync>(
     assert!(rt; !serial.whole, "serially");
     for workers in &CREWS {
         for _ in 0..ROUNDS {
-            let report = report_with(rt, alloc, &given, *workers, limit);
+            let every = steps_between(*workers);
+            let report = report_with(rt, alloc, &given, *workers, every, limit);
             expect_parts(rt, *workers, &report, &serial);
         }
     }
@@ -155,7 +166,7 @@ fn stopped(rt: HostRuntime) {
     assert!(rt; serial_report(&rt, alloc, &given, LIMIT).whole, "serially");
     for workers in &CREWS {
         for _ in 0..ROUNDS {
-            let report = report_with(&rt, alloc, &given, *workers, LIMIT);
+            let report = report_with(&rt, alloc, &given, *workers, STEPS_AT_ONCE, LIMIT);
             assert!(rt; report.whole, "{workers} workers");
         }
     }
