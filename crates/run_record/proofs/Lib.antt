@@ -1,1 +1,3 @@
-pub mod EntryLemmas
+pub mod PackedLemmas
+pub mod ReadLemmas
+pub mod ReceiverLemmas

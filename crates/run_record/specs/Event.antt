@@ -1,5 +1,5 @@
 -- What an instance does (Z.101: agent, transition; Z.102: input, output, timer, create).
-use Rattle.std.specs.Prelude.{ℕ, Bool, true, false, List, [], Option}
+use Rattle.std.specs.Prelude.{ℕ, Bool, true, false, List, [], ◌∷◌, ◌++◌, None, Option, Some, option_to_list}
 use Rattle.port_model.specs.declared.got.Got as got
 use Rattle.port_model.specs.declared.got.Got.TheVariants as came
 use Rattle.port_values.specs.declared.item.SignalId.{SignalId}
@@ -10,6 +10,7 @@ use Rattle.sdl_system.specs.declared.id.StateId.{StateId}
 use Rattle.sdl_system.specs.declared.id.VariableId.{VariableId}
 use Rattle.sdl_system.specs.declared.route.Dest.{Dest}
 use Rattle.sdl_system.specs.declared.route.Target.{Target}
+use Rattle.sdl_system.specs.declared.route.Target.TheVariants.{Instance}
 use Rattle.run_record.specs.declared.failure.Failure.{Failure}
 
 -- An event; times are in ticks. A transition begins with the start, with what was got from the port, be it by an input
@@ -59,3 +60,15 @@ values_of (Output signal to values target) = values
 values_of (Set key due) = key.values
 values_of (Reset key) = key.values
 values_of _ = []
+
+-- ---- whom outputs reach
+
+-- the instance to which a signal goes
+abbrev pub receiver_of : Event → Option ℕ
+receiver_of (Output signal to values (Instance number)) = Some number
+receiver_of _ = None
+
+-- those to which signals go, in the order of the outputs
+abbrev pub receivers : List Event → List ℕ
+receivers [] = []
+receivers (one ∷ rest) = option_to_list (receiver_of one) ++ receivers rest

@@ -1,23 +1,24 @@
 //! Records of instances and the report of a run.
 
-ghost use Rattle.std.specs.Prelude.{◌≡◌, ◌+◌, ◌<◌, ◌≤◌, ◌++◌, [], length, vec_len, vec_capacity, IsOk, OnOk};
+ghost use Rattle.std.specs.Prelude.{◌≡◌, ◌+◌, ◌^◌, ◌<◌, ◌≤◌, ◌++◌, ◌∷◌, [], ℕ, List, drop, length, vec_len, vec_capacity, IsOk, IsTrue, MatchOption, OnOk};
 ghost use Rattle.run_record.specs.Event as event;
-ghost use Rattle.run_record.specs.Event.{values_got};
-ghost use Rattle.run_record.specs.Entry.{count_of, counted, event_of, told};
+ghost use Rattle.run_record.specs.Event.{receivers};
+ghost use Rattle.run_record.specs.Packed.{count_of, is_event, time_to, told_at};
 ghost use Rattle.run_record.specs.Record.{noted, with_room};
+ghost use Rattle.run_record.specs.Told.{event_told};
 
-use crate::Failure;
-use crate::entry::{Entry, Stimulus, values_got};
 use crate::growing::grow;
-use port_model::Got;
-use port_values::{Pid, SignalId, Ticks, TimerKey, Value};
-use sdl_system::{Dest, ProcessId, StateId, Target, VariableId};
+use crate::packed::Packed;
+use crate::reader::{Reader, Told};
+use crate::receivers::{Receivers, last_entries};
+use port_values::{Pid, Ticks, Value};
+use sdl_system::ProcessId;
 use std::alloc::{AllocError, Global};
 use std::fmt;
 use std::marker::Model;
 
-/// A record that has no room gets room for at least so many entries and values, since most records soon have more.
-const LEAST_ENTRIES: usize = 32;
+/// A record that has no room gets room for at least so many events and values, since most records soon have more.
+const LEAST_EVENTS: usize = 32;
 
 const LEAST_VALUES: usize = 32;
 
@@ -27,9 +28,14 @@ pub struct Record {
     process: ProcessId,
     pid: u32,
     parent: Pid,
-    entries: Vec<Entry>,
+    entries: Vec<Packed>,
     // the values of all entries, in their order
     values: Vec<Value>,
+    // the time of the latest beginning
+    time: u64,
+    // how many events there are, and how many there may be without memory
+    len: usize,
+    most: usize,
     // so many values may come without memory
     values_room: u16,
 }
@@ -43,6 +49,9 @@ impl Drop for Record {
             parent: _,
             entries: _,
             values: _,
+            time: _,
+            len: _,
+            most: _,
             values_room: _,
         } = self;
     }
@@ -51,13 +60,13 @@ impl Drop for Record {
 /// Whose record it is, and how much is in it: its events are told in a report.
 impl fmt::Debug for Record {
     fn fmt<W: fmt::Write>(&self, f: &mut fmt::Formatter<W>) -> fmt::Result {
-        write!(f, "Record of #{}, {} events", self.pid, self.entries.len())
+        write!(f, "Record of #{}, {} events", self.pid, self.len)
     }
 }
 
 impl Model for Record {
-    ghost use Rattle.std.specs.Prelude.{◌-◌, vec_len, vec_capacity};
-    ghost use Rattle.run_record.specs.Entry.{told, IsKept};
+    ghost use Rattle.std.specs.Prelude.{◌-◌, vec_capacity};
+    ghost use Rattle.run_record.specs.Packed.{told, IsPacked};
     ghost use Rattle.run_record.specs.Record.{RecordValue};
 
     ghost Value = { RecordValue };
@@ -66,12 +75,13 @@ impl Model for Record {
       process = r.process;
       pid = r.pid;
       parent = r.parent;
-      events = told r.entries.items r.values.items;
-      room = vec_capacity r.entries - vec_len r.entries;
+      events = told 0 r.entries.items r.values.items;
+      room = r.most - r.len;
       values_room = r.values_room;
     } };
 
-    ghost invariant = { λ r. IsKept r.entries.items r.values.items r.values_room (vec_capacity r.values) };
+    ghost invariant = { λ r. IsPacked r.entries.items r.values.items r.time r.len r.most r.values_room
+        (vec_capacity r.entries) (vec_capacity r.values) };
 }
 
 /// The report of a run: the records by ascending number, the time at its end, and whether it is whole or was cut at the
@@ -106,12 +116,17 @@ impl Record {
           values_room = 0;
         } }
     {
+        let entries = Vec::new(alloc);
+        let values = Vec::new(alloc);
         Record {
             process,
             pid,
             parent,
-            entries: Vec::new(alloc),
-            values: Vec::new(alloc),
+            entries,
+            values,
+            time: 0,
+            len: 0,
+            most: 0,
             values_room: 0,
         }
     }
@@ -141,7 +156,41 @@ impl Record {
     pub fn len(&self) -> usize
         ensures { result ≡ length self.now.events }
     {
-        self.entries.len()
+        self.len
+    }
+
+    /// The events, from the first on.
+    pub fn reader(&self) -> Reader<'_>
+        ensures events { result ≡ self.now.events }
+        ensures bound { length result < 2 ^ 64 }
+    {
+        let _len: usize = self.len;
+        let entries = self.entries.as_slice();
+        let values = self.values.as_slice();
+        Reader::new(entries, values)
+    }
+
+    /// The last event, if there is one.
+    pub fn last(&self) -> Option<Told<'_>>
+        ensures { MatchOption result (self.now.events ≡ []) (λ told. (before : List event.Event)
+            × (self.now.events ≡ before ++ event_told told ∷ [])) }
+    {
+        let entries = self.entries.as_slice();
+        let values = self.values.as_slice();
+        let (last, _) = entries.split_last()?;
+        let place = values.len() - last.count();
+        let (_, own) = values.split_at(place);
+        let entry = last.entry_at(self.time)?;
+        Some(Told { entry, values: own })
+    }
+
+    /// Whom the outputs reach that come after so many events.
+    pub fn receivers_from(&self, told: usize) -> Receivers<'_>
+        ensures { result ≡ receivers (drop told self.now.events) }
+    {
+        let entries = self.entries.as_slice();
+        let count = self.len.saturating_sub(told);
+        Receivers::of(last_entries(entries, count))
     }
 
     /// Makes room for so many events and, with them, so many values. Nothing else changes, and there is never less room
@@ -154,12 +203,30 @@ impl Record {
         ensures values_room { self.old.values_room ≤ self.new.values_room }
         ensures enough { events ≤ self.old.room → values ≤ self.old.values_room → IsOk result }
     {
-        if self.entries.capacity() - self.entries.len() < events {
-            grow(&mut self.entries, events.max(LEAST_ENTRIES))?;
+        if self.most - self.len < events {
+            self.reserve_events(events)?;
         }
         if (self.values_room as usize) < values {
             self.reserve_values(values)?;
         }
+        Ok(())
+    }
+
+    /// Makes room for so many events, where there is less. Each may come with a time, so it has room for two entries.
+    #[inline(never)]
+    fn reserve_events(&mut self, events: usize) -> Result<(), AllocError>
+        requires { self.old.room < events }
+        ensures same { self.new ≡ with_room self.old self.new.room self.old.values_room }
+        ensures ok { OnOk result (events ≤ self.new.room) }
+        ensures room { self.old.room ≤ self.new.room }
+    {
+        let Some(entries) = events.max(LEAST_EVENTS).checked_mul(2) else {
+            return Err(AllocError);
+        };
+        grow(&mut self.entries, entries)?;
+        let spare = self.entries.capacity() - self.entries.len();
+        let most = self.len + spare / 2;
+        self.most = most;
         Ok(())
     }
 
@@ -180,170 +247,8 @@ impl Record {
         Ok(())
     }
 
-    /// Notes that the start transition begins.
-    pub fn start(&mut self, at: Ticks)
-        requires { 0 < self.old.room }
-        ensures { self.new ≡ noted self.old (event.Start at) }
-    {
-        self.note(Entry::Start { at: at.get() });
-    }
-
-    /// Notes that an input begins.
-    pub fn consumed(&mut self, at: Ticks, got: &Got)
-        requires room { 0 < self.old.room }
-        requires values_room { length (values_got got.now) ≤ self.old.values_room }
-        ensures { self.new ≡ noted self.old (event.Consumed at got.now) }
-    {
-        let values = values_got(got);
-        let at = at.get();
-        let got = Stimulus::of(got, self.count(values));
-        self.note_with(Entry::Consumed { at, got }, values);
-    }
-
-    /// Notes that a priority input begins.
-    pub fn prior(&mut self, at: Ticks, got: &Got)
-        requires room { 0 < self.old.room }
-        requires values_room { length (values_got got.now) ≤ self.old.values_room }
-        ensures { self.new ≡ noted self.old (event.Prior at got.now) }
-    {
-        let values = values_got(got);
-        let at = at.get();
-        let got = Stimulus::of(got, self.count(values));
-        self.note_with(Entry::Prior { at, got }, values);
-    }
-
-    /// Notes that what the state neither inputs nor saves is gone.
-    pub fn discarded(&mut self, at: Ticks, got: &Got)
-        requires room { 0 < self.old.room }
-        requires values_room { length (values_got got.now) ≤ self.old.values_room }
-        ensures { self.new ≡ noted self.old (event.Discarded at got.now) }
-    {
-        let values = values_got(got);
-        let at = at.get();
-        let got = Stimulus::of(got, self.count(values));
-        self.note_with(Entry::Discarded { at, got }, values);
-    }
-
-    /// Notes that the transition of a continuous signal begins, by its number among those of the state, from 1 in the
-    /// order of the text.
-    pub fn provided(&mut self, at: Ticks, number: u32)
-        requires { 0 < self.old.room }
-        ensures { self.new ≡ noted self.old (event.Provided at number) }
-    {
-        let at = at.get();
-        self.note(Entry::Provided { at, number });
-    }
-
-    /// Notes that a condition or a take fails the instance.
-    pub fn failed_at(&mut self, at: Ticks, why: Failure)
-        requires { 0 < self.old.room }
-        ensures { self.new ≡ noted self.old (event.FailedAt at why) }
-    {
-        let at = at.get();
-        self.note(Entry::FailedAt { at, why });
-    }
-
-    /// Notes an assignment of a task.
-    pub fn task(&mut self, variable: VariableId, value: Value)
-        requires { 0 < self.old.room }
-        ensures { self.new ≡ noted self.old (event.Task variable value) }
-    {
-        self.note(Entry::Task { variable, value });
-    }
-
-    /// Notes that a signal is sent to the destination that the output names, and whom it reached.
-    pub fn output(&mut self, signal: SignalId, to: Dest, values: &[Value], target: Target)
-        requires room { 0 < self.old.room }
-        requires values_room { length values.now ≤ self.old.values_room }
-        ensures { self.new ≡ noted self.old (event.Output signal to values.now target) }
-    {
-        let count = self.count(values);
-        self.note_with(Entry::output(signal, to, count, target), values);
-    }
-
-    /// Notes that a timer is set for the time `due`.
-    pub fn set(&mut self, key: &TimerKey, due: Ticks)
-        requires room { 0 < self.old.room }
-        requires values_room { length key.now.values ≤ self.old.values_room }
-        ensures { self.new ≡ noted self.old (event.Set key.now due) }
-    {
-        let values = key.values.as_slice();
-        let timer = key.name;
-        let count = self.count(values);
-        let due = due.get();
-        self.note_with(Entry::Set { timer, count, due }, values);
-    }
-
-    /// Notes that a timer is reset.
-    pub fn reset(&mut self, key: &TimerKey)
-        requires room { 0 < self.old.room }
-        requires values_room { length key.now.values ≤ self.old.values_room }
-        ensures { self.new ≡ noted self.old (event.Reset key.now) }
-    {
-        let values = key.values.as_slice();
-        let timer = key.name;
-        let count = self.count(values);
-        self.note_with(Entry::Reset { timer, count }, values);
-    }
-
-    /// Notes that a create made the instance of this number, or none.
-    pub fn create(&mut self, process: ProcessId, pid: Option<u32>)
-        requires { 0 < self.old.room }
-        ensures { self.new ≡ noted self.old (event.Create process pid) }
-    {
-        self.note(Entry::Create { process, pid });
-    }
-
-    /// Notes that the transition ends in this state.
-    pub fn next_state(&mut self, state: StateId)
-        requires { 0 < self.old.room }
-        ensures { self.new ≡ noted self.old (event.NextState state) }
-    {
-        self.note(Entry::NextState { state });
-    }
-
-    /// Notes that the instance ends by itself.
-    pub fn stop(&mut self)
-        requires { 0 < self.old.room }
-        ensures { self.new ≡ noted self.old event.Stop }
-    {
-        self.note(Entry::Stop);
-    }
-
-    /// Notes that a transition fails the instance.
-    pub fn failed(&mut self, why: Failure)
-        requires { 0 < self.old.room }
-        ensures { self.new ≡ noted self.old (event.Failed why) }
-    {
-        self.note(Entry::Failed { why });
-    }
-
-    /// Notes that the run is whole, and the instance waits in this state.
-    pub fn rest(&mut self, state: StateId)
-        requires { 0 < self.old.room }
-        ensures { self.new ≡ noted self.old (event.Rest state) }
-    {
-        self.note(Entry::Rest { state });
-    }
-
-    /// Notes that the run was cut, in this state, or before the start.
-    pub fn cut(&mut self, state: Option<StateId>)
-        requires { 0 < self.old.room }
-        ensures { self.new ≡ noted self.old (event.Cut state) }
-    {
-        self.note(Entry::Cut { state });
-    }
-
-    /// The entries, and the values of all of them in their order.
-    pub fn kept(&self) -> (&[Entry], &[Value])
-        ensures events { self.now.events ≡ told result.0.now result.1.now }
-        ensures counts { counted result.0.now ≡ length result.1.now }
-    {
-        (&self.entries, &self.values)
-    }
-
     /// How many values these are.
-    fn count(&self, values: &[Value]) -> u16
+    pub(crate) fn count(&self, values: &[Value]) -> u16
         requires { length values.now ≤ self.now.values_room }
         ensures { result ≡ length values.now }
     {
@@ -351,26 +256,50 @@ impl Record {
         values.len() as u16
     }
 
-    /// Puts an entry without values behind all others.
-    fn note(&mut self, entry: Entry)
-        requires room { 0 < self.old.room }
-        requires counts { count_of entry ≡ 0 }
-        ensures { self.new ≡ noted self.old (event_of entry []) }
-    {
-        self.note_with(entry, &[]);
-    }
-
-    /// Puts an entry with these values behind all others.
-    fn note_with(&mut self, entry: Entry, values: &[Value])
+    /// Puts an event that has no time of its own after all others, with these values.
+    #[inline(always)]
+    pub(crate) fn note(&mut self, entry: Packed, values: &[Value])
         requires room { 0 < self.old.room }
         requires values_room { length values.now ≤ self.old.values_room }
         requires counts { count_of entry ≡ length values.now }
-        ensures { self.new ≡ noted self.old (event_of entry values.now) }
+        requires event { IsTrue (is_event entry) }
+        ensures { (one : event.Event) → ((time : ℕ) → told_at time entry values.now ≡ one ∷ [])
+            → self.new ≡ noted self.old one }
     {
+        let time = self.time;
+        self.begin(Ticks::new(time), entry, values);
+    }
+
+    /// Puts an event of this time after all others, with these values.
+    #[inline(always)]
+    pub(crate) fn begin(&mut self, at: Ticks, entry: Packed, values: &[Value])
+        requires room { 0 < self.old.room }
+        requires values_room { length values.now ≤ self.old.values_room }
+        requires counts { count_of entry ≡ length values.now }
+        requires event { IsTrue (is_event entry) }
+        ensures { (one : event.Event) → told_at at entry values.now ≡ one ∷ [] → self.new ≡ noted self.old one }
+    {
+        let at = at.get();
+        put_time(&mut self.entries, self.time, at);
+        self.time = at;
         push_all(&mut self.values, values);
         self.values_room -= values.len() as u16;
         self.entries.push_reserved(entry);
+        self.len += 1;
     }
+}
+
+/// Puts the time after the other entries, if it is another one than before.
+#[inline(always)]
+fn put_time(entries: &mut Vec<Packed>, before: u64, at: u64)
+    requires { vec_len entries.old < vec_capacity entries.old }
+    ensures items { entries.new.items ≡ entries.old.items ++ time_to before at }
+    ensures capacity { vec_capacity entries.new ≡ vec_capacity entries.old }
+{
+    if at == before {
+        return;
+    }
+    entries.push_reserved(Packed::Time { at });
 }
 
 /// Puts the values behind those of the table.

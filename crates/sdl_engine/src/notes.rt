@@ -189,15 +189,17 @@ fn cut_text(alloc: Global, report: &Report) -> Result<String, AllocError> {
 fn transitions_in(report: &Report) -> u64 {
     let mut count = 0u64;
     for record in &report.records {
-        let (entries, _) = record.kept();
-        let own = entries.iter().filter(|entry| is_transition(entry)).count();
+        let own = record
+            .reader()
+            .filter(|told| is_transition(told.entry))
+            .count();
         count = count.saturating_add(own as u64);
     }
     count
 }
 
 /// Whether a transition begins with an event.
-fn is_transition(entry: &Entry) -> bool {
+fn is_transition(entry: Entry) -> bool {
     matches!(
         entry,
         Entry::Start { .. }
@@ -227,9 +229,8 @@ fn note_each<N: Write>(alloc: Global, run: &Run, notes: &mut Notes<'_, N>) {
 
 /// Why an instance failed, if it did: that is the last of its events.
 fn failure_of(record: &Record) -> Option<Failure> {
-    let (entries, _) = record.kept();
-    match entries.last()? {
-        Entry::FailedAt { why, .. } | Entry::Failed { why } => Some(*why),
+    match record.last()?.entry {
+        Entry::FailedAt { why, .. } | Entry::Failed { why } => Some(why),
         _ => None,
     }
 }

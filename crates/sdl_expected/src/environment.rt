@@ -122,17 +122,7 @@ fn sent_outside(entry: Entry) -> Option<SignalId>
         ≡ option_map_or (λ (signal : SignalId). output_line system now who signal values) result [] }
 {
     match entry {
-        Entry::OutputOnPath {
-            signal,
-            target: Target::Env,
-            ..
-        }
-        | Entry::OutputToProcess {
-            signal,
-            target: Target::Env,
-            ..
-        }
-        | Entry::OutputToPid {
+        Entry::Output {
             signal,
             target: Target::Env,
             ..

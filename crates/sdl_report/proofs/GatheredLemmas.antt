@@ -140,6 +140,39 @@ module _ {X : Type 0} (f : X → List ℕ) (head : List ℕ) (xs : List X) (i : 
       (Breaks-after a b c g h (head ++ flat_map f (take i xs)) (f x ++ flat_map f (drop (suc i) xs)) before
       (Breaks-before b c h (f x) (flat_map f (drop (suc i) xs)) break))
 
+-- the same, where the elements before it and after it are known
+module _ {X : Type 0} (f : X → List ℕ) (head : List ℕ) (before rest : List X) (x : X) where
+  one-onward : (head ++ flat_map f before) ++ f x ≡ head ++ flat_map f (before ++ x ∷ [])
+  one-onward = flat_map_more f head before x
+
+  pub Grows-onward : (a b c : Option (List ℕ)) (g h j : List ℕ) → Grows a g b h (head ++ flat_map f before)
+      → Grows b h c j (f x) → Grows a g c j (head ++ flat_map f (before ++ x ∷ []))
+  Grows-onward a b c g h j was more =
+      subst (Grows a g c j) one-onward (Grows-trans a b c g h j (head ++ flat_map f before) (f x) was more)
+
+  pub text-onward : (start text text' : List ℕ) → text ≡ start ++ (head ++ flat_map f before) → text' ≡ text ++ f x
+      → text' ≡ start ++ (head ++ flat_map f (before ++ x ∷ []))
+  text-onward start text text' was more =
+      more ∙ ap (λ l. l ++ f x) was ∙ append_assoc start (head ++ flat_map f before) (f x)
+      ∙ ap (λ l. start ++ l) one-onward
+
+  pub Breaks-onward : (a b c : Option (List ℕ)) (g h : List ℕ) → Grows a g b h (head ++ flat_map f before)
+      → Breaks b h c (f x) → Breaks a g c (head ++ flat_map f (before ++ x ∷ rest))
+  Breaks-onward a b c g h was break =
+      subst (Breaks a g c)
+      (append_assoc head (flat_map f before) (f x ++ flat_map f rest)
+      ∙ ap (λ l. head ++ l) (sym (flat_map-append f before (x ∷ rest))))
+      (Breaks-after a b c g h (head ++ flat_map f before) (f x ++ flat_map f rest) was
+      (Breaks-before b c h (f x) (flat_map f rest) break))
+
+  -- it is behind those before it
+  pub all-onward : (xs left : List X) → xs ≡ before ++ left → left ≡ x ∷ rest → xs ≡ (before ++ x ∷ []) ++ rest
+  all-onward xs left all next = all ∙ ap (λ l. before ++ l) next ∙ sym (append_assoc before (x ∷ []) rest)
+
+pub all-behind : {X : Type 0} (xs before left : List X) → xs ≡ before ++ left → left ≡ [] → before ≡ xs
+all-behind xs before left all none =
+    sym (append-nil before) ∙ ap (λ l. before ++ l) (sym none) ∙ sym all
+
 pub OnErr-any : {T E P : Type 0} (r : Result T E) → P → OnErr r P
 OnErr-any (Ok x) h = tt
 OnErr-any (Err e) h = h

@@ -1,4 +1,3 @@
-pub mod CursorLemmas
 pub mod DigitLemmas
 pub mod GatheredLemmas
 pub mod NumberLemmas

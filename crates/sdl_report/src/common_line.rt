@@ -60,17 +60,15 @@ pub fn put_event(
             let name = names.variable(record.process(), *variable)?;
             Some(put_task(bytes, end, name, value))
         }
-        Entry::OutputOnPath { signal, target, .. }
-        | Entry::OutputToProcess { signal, target, .. }
-        | Entry::OutputToPid { signal, target, .. } => {
+        Entry::Output { signal, target, .. } => {
             let name = names.signal(*signal)?;
             Some(put_output(bytes, end, name, values, *target))
         }
-        Entry::Set { timer, due, .. } => {
+        Entry::Set { timer, due } => {
             let name = names.signal(*timer)?;
             Some(put_set(bytes, end, name, values, *due))
         }
-        Entry::Reset { timer, .. } => {
+        Entry::Reset { timer } => {
             let name = names.signal(*timer)?;
             Some(put_reset(bytes, end, name, values))
         }

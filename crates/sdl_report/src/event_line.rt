@@ -43,13 +43,9 @@ pub fn push_event(
         Entry::Provided { at, number } => writeln!(text, "{at} provided {number}"),
         Entry::FailedAt { at, why } => writeln!(text, "{at} failed {why}"),
         Entry::Task { variable, value } => push_task(text, *variable, value, record, system),
-        Entry::OutputOnPath { signal, target, .. }
-        | Entry::OutputToProcess { signal, target, .. }
-        | Entry::OutputToPid { signal, target, .. } => {
-            push_output(text, *signal, values, *target, system)
-        }
-        Entry::Set { timer, due, .. } => push_set(text, *timer, values, *due, system),
-        Entry::Reset { timer, .. } => push_reset(text, *timer, values, system),
+        Entry::Output { signal, target, .. } => push_output(text, *signal, values, *target, system),
+        Entry::Set { timer, due } => push_set(text, *timer, values, *due, system),
+        Entry::Reset { timer } => push_reset(text, *timer, values, system),
         Entry::Create { process, pid } => push_create(text, *process, *pid, system),
         Entry::NextState { state } => push_name(
             text,

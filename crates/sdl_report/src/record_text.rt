@@ -17,12 +17,8 @@ pub fn push_record(text: &mut String, record: &Record, system: &System) -> Resul
         ++ record_text system.now «record».now) }
 {
     push_heading(text, record, system)?;
-    let (entries, values) = record.kept();
-    let mut rest = values;
-    for entry in entries {
-        let (own, more) = rest.split_at(entry.count());
-        rest = more;
-        push_event(text, entry, own, record, system)?;
+    for told in record.reader() {
+        push_event(text, &told.entry, told.values, record, system)?;
     }
     Ok(())
 }

@@ -78,12 +78,8 @@ fn write_record<W: Write>(
     spare.clear();
     push_heading(spare, record, names.system())?;
     page.push(spare.as_str(), writer)?;
-    let (entries, values) = record.kept();
-    let mut rest = values;
-    for entry in entries {
-        let (own, more) = rest.split_at(entry.count());
-        rest = more;
-        write_event(page, spare, entry, own, record, names, writer)?;
+    for told in record.reader() {
+        write_event(page, spare, &told.entry, told.values, record, names, writer)?;
     }
     Ok(())
 }

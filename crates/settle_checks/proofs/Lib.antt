@@ -6,4 +6,3 @@ mod NameLemmas
 mod NumberLemmas
 mod TargetLemmas
 mod TallyLemmas
-mod Told

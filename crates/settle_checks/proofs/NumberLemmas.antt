@@ -1,14 +1,11 @@
 -- Numbers of records that rise, and times and counts of them.
 use Rattle.std.proofs.Common.{◌≡◌, ◌∙◌, ◌<◌, ◌≤◌, ◌+◌, ap, arith, drop, get_or, length, subst, sym, take, ℕ, List, [], ◌∷◌, All}
 use Rattle.std.proofs.lemmas.List.{at_drop_all}
-use Rattle.std.proofs.lemmas.List.Elements.{All-more, All-weaker}
+use Rattle.std.proofs.lemmas.List.Elements.{All-weaker}
 use Rattle.std.proofs.lemmas.List.Sums.{sum_by-append}
 use Rattle.run_record.specs.Event.{Event}
 use Rattle.run_record.specs.Record.{RecordValue}
-use Rattle.run_record.specs.declared.entry.Entry.{Entry}
-use Rattle.run_semantics.specs.World.{time_after_one}
 use Rattle.settle_checks.proofs.Lists.{all_step, front_is, rest_is}
-use Rattle.settle_checks.proofs.Told.{bare}
 use Rattle.settle_meaning.specs.Closed.{AreBy, IsBy, transitions, transitions_in}
 use Rattle.settle_meaning.specs.Identities.{AreRising}
 
@@ -44,12 +41,3 @@ records_by_more records i trace old own new within is less least are here =
     all_step (AreBy new) records i trace within is
     (All-weaker (AreBy old) (AreBy new) (by_later old new less) (take i records) are)
     (by_later own new least trace here)
-
-pub events_by_more : (entries : List Entry) (i : ℕ) (d : Entry) (old new : ℕ) → i < length entries → old ≤ new
-    → time_after_one 0 (bare (get_or entries i d)) ≤ new → All (λ e. IsBy old (bare e)) (take i entries)
-    → All (λ e. IsBy new (bare e)) (take (i + 1) entries)
-events_by_more entries i d old new within less here are =
-    All-more (λ e. IsBy new (bare e)) entries i d within
-    (All-weaker (λ e. IsBy old (bare e)) (λ e. IsBy new (bare e)) (λ (e : Entry) is. omega (arith, less, is)) (take i entries)
-    are)
-    here

@@ -4,20 +4,15 @@ use Rattle.std.specs.Prelude.{IfSome, IsSomeAnd, is_some, map, slice_set}
 use Rattle.std.proofs.lemmas.Grind.{flat_map-append}
 use Rattle.std.specs.Option.{option_map}
 use Rattle.std.proofs.lemmas.Bool.{cases_eq}
-use Rattle.std.proofs.lemmas.List.{drop_all, length-append, map-append, take_all, take_more}
+use Rattle.std.proofs.lemmas.List.{drop_all, length-append, map-append, take_all}
 use Rattle.port_values.specs.declared.item.Item.{Item}
 use Rattle.port_values.specs.declared.pid.Pid.TheVariants.{Of}
-use Rattle.port_values.specs.declared.value.Value.{Value}
-use Rattle.run_record.specs.Entry.{count_of, event_of, told}
 use Rattle.run_record.specs.Event as event
 use Rattle.run_record.specs.Event.{Event}
 use Rattle.run_record.specs.Record.{RecordValue}
-use Rattle.run_record.specs.declared.entry.Entry.{Entry}
-use Rattle.run_record.specs.declared.entry.Entry.TheVariants as kept
 use Rattle.run_semantics.specs.Sent.{sent_by_one, sent_to}
 use Rattle.sdl_system.specs.declared.id.ProcessId.{ProcessId}
 use Rattle.sdl_system.specs.declared.route.Target.TheVariants as target
-use Rattle.settle_checks.proofs.Told.{bare}
 use Rattle.settle_checks.specs.Outputs.{AreTallied, EnoughIsPut, IsEnough, IsTallied, no_tally, outline_in, sends_one, sends_to}
 use Rattle.settle_checks.specs.declared.outputs.Outline.{Outline}
 use Rattle.settle_checks.specs.declared.outputs.Outline.TheVariants.{Creates, Other, Sends}
@@ -301,39 +296,6 @@ lent_back old new long is same =
     ∙ take_all long new (omega (arith, is, same))
 
 -- ---- the events of a record
-
-outline_same : (e : Entry) (values : List Value) → outline_in (event_of e values) ≡ outline_in (bare e)
-outline_same (kept.OutputOnPath signal count (target.Instance n)) values = refl
-outline_same (kept.OutputOnPath signal count t) values = refl
-outline_same (kept.OutputToProcess signal process count (target.Instance n)) values = refl
-outline_same (kept.OutputToProcess signal process count t) values = refl
-outline_same (kept.OutputToPid signal pid count (target.Instance n)) values = refl
-outline_same (kept.OutputToPid signal pid count t) values = refl
-outline_same e values = refl
-
-pub outlines_told : (entries : List Entry) (values : List Value)
-    → map outline_in (told entries values) ≡ map (λ e. outline_in (bare e)) entries
-outlines_told [] values = refl
-outlines_told (one ∷ rest) values =
-    ap (λ (o : Outline). o ∷ map outline_in (told rest (drop (count_of one) values)))
-    (outline_same one (take (count_of one) values))
-    ∙ ap (λ (l : List Outline). outline_in (bare one) ∷ l) (outlines_told rest (drop (count_of one) values))
-
--- one entry more
-pub outlines_more : (entries : List Entry) (i : ℕ) (d : Entry) → i < length entries
-    → map (λ e. outline_in (bare e)) (take (i + 1) entries)
-    ≡ map (λ e. outline_in (bare e)) (take i entries) ++ outline_in (bare (get_or entries i d)) ∷ []
-outlines_more entries i d within =
-    ap (map (λ e. outline_in (bare e))) (take_more entries i d within)
-    ∙ map-append (λ e. outline_in (bare e)) (take i entries) (get_or entries i d ∷ [])
-
-pub outlines_all : (events : List Event) (entries : List Entry) (values : List Value) (i : ℕ) (row : List Tally)
-    → length entries ≤ i → events ≡ told entries values
-    → AreTallied (map (λ e. outline_in (bare e)) (take i entries)) row → AreTallied (map outline_in events) row
-outlines_all events entries values i row past is are =
-    subst (λ l. AreTallied l row)
-    (ap (map (λ e. outline_in (bare e))) (take_all i entries past) ∙ sym (outlines_told entries values)
-    ∙ ap (map outline_in) (sym is)) are
 
 sent_one : (who n : ℕ) (e : Event) → length (sent_by_one who n e) ≡ sends_one n (outline_in e)
 sent_one who n (event.Output signal named values (target.Instance to)) = by_test (nat_eq to n) where

@@ -10,6 +10,5 @@ use run_record::Record;
 pub fn transitions_in(record: &Record) -> usize
     ensures { result ≡ meaning.transitions_in record.now }
 {
-    let (entries, _) = record.kept();
-    entries.iter().filter(|entry| is_beginning(**entry)).count()
+    record.reader().filter(|told| is_beginning(*told)).count()
 }

@@ -1,16 +1,16 @@
-//! What an event is, by its entry.
+//! What an event is.
 
-ghost use Rattle.std.specs.Prelude.{◌≡◌, []};
-ghost use Rattle.run_record.specs.Entry.{event_of};
+ghost use Rattle.std.specs.Prelude.{◌≡◌};
 ghost use Rattle.run_record.specs.Event as event;
+ghost use Rattle.run_record.specs.Told.{event_told};
 
-use run_record::Entry;
+use run_record::{Entry, Told};
 
 /// Whether a transition begins with it.
-pub fn is_beginning(entry: Entry) -> bool
-    ensures { result ≡ event.is_beginning (event_of entry []) }
+pub fn is_beginning(told: Told<'_>) -> bool
+    ensures { result ≡ event.is_beginning (event_told told.entry) }
 {
-    match entry {
+    match told.entry {
         Entry::Start { .. } => true,
         Entry::Consumed { .. } => true,
         Entry::Prior { .. } => true,

@@ -3,7 +3,7 @@
 //!
 //! Each function answers whether one clause holds, and may be wrong in one way alone: what it answers with `true` holds.
 //! They look at records, the system and the script, and at nothing of how the run went. So no schedule can deceive them.
-//! `Record::kept` gives the events without copies; no check looks at the values of an event.
+//! No check looks at the values of an event.
 #![tactic(auto)]
 
 mod end;

@@ -1,8 +1,8 @@
 //! Whether a record closes as it is to, once all is drawn that was put.
 
-ghost use Rattle.std.specs.Prelude.{◌≡◌, ◌↔◌, [], IsTrue};
+ghost use Rattle.std.specs.Prelude.{◌≡◌, ◌↔◌, IsTrue};
 ghost use Rattle.port_inbox.specs.Ends.{OwnerState};
-ghost use Rattle.run_record.specs.Entry.{event_of};
+ghost use Rattle.run_record.specs.Told.{event_told};
 ghost use Rattle.settle_closing.specs.History.{EndsAs, RestsStill};
 ghost use Rattle.settle_closing.specs.PortThen.{then_of};
 ghost use Rattle.settle_meaning.specs.Closed.{AreDueAfter, EndsIn, IsEnd};
@@ -10,7 +10,7 @@ ghost use Rattle.settle_meaning.specs.Living as living;
 
 use input_port::Held;
 use port_values::Ticks;
-use run_record::{Entry, Record};
+use run_record::{Entry, Record, Told};
 use std::sync::Wait;
 
 /// The state of a port as the record of its instance was closed.
@@ -41,18 +41,17 @@ pub fn ends_as<R: Wait + Copy>(
 fn has_ended(trace: &Record) -> bool
     ensures { IsTrue result ↔ EndsIn IsEnd trace.now.events }
 {
-    let (entries, _) = trace.kept();
-    match entries.last() {
-        Some(entry) => is_end(*entry),
+    match trace.last() {
+        Some(told) => is_end(told),
         None => false,
     }
 }
 
 /// Whether an instance ends with this event.
-fn is_end(entry: Entry) -> bool
-    ensures { result ≡ living.is_end (event_of entry []) }
+fn is_end(told: Told<'_>) -> bool
+    ensures { result ≡ living.is_end (event_told told.entry) }
 {
-    match entry {
+    match told.entry {
         Entry::Stop => true,
         Entry::Failed { .. } => true,
         Entry::FailedAt { .. } => true,

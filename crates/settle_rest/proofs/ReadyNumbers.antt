@@ -1,9 +1,7 @@
 -- Who is among those that may have something to do, once one more is woken.
-use Rattle.std.proofs.Common.{◌≡◌, ◌≢◌, ◌<◌, ◌≤◌, ◌⊎◌, ◌↔◌, ℕ, List, Option, None, Some, Result, Ok, Err, arith, inl, inr, refl, subst, sym}
-use Rattle.std.specs.Prelude.{Contains, IfSome, OnErr, OnOk}
-use Rattle.run_record.specs.Entry.{receiver_of}
-use Rattle.run_record.specs.declared.entry.Entry.{Entry}
-use Rattle.settle_rest.specs.Woken.{AreNumbers, AreUpTo, IsAwake}
+use Rattle.std.proofs.Common.{◌≡◌, ◌≢◌, ◌<◌, ◌≤◌, ◌⊎◌, ◌↔◌, ℕ, List, Result, Ok, Err, arith, inl, inr, subst, sym}
+use Rattle.std.specs.Prelude.{Contains, OnErr, OnOk}
+use Rattle.settle_rest.specs.Woken.{AreNumbers, AreUpTo}
 
 -- a number is not 0
 pub woken : (number : ℕ) (old new : List ℕ) → 0 < number
@@ -51,24 +49,3 @@ module _ {A B : Type 0} (number : ℕ) (old new : List ℕ) where
 pub numbers_left : (number : ℕ) (old new : List ℕ) → ((n : ℕ) → Contains new n ↔ (Contains old n × (n ≢ number)))
     → AreNumbers old → AreNumbers new
 numbers_left number old new is are n there = are n ((is n).0 there).0
-
--- whom an event names is awake still
-awake_on : (old new : List ℕ) (receiver : Option ℕ) → ((n : ℕ) → Contains old n → Contains new n)
-    → IfSome receiver (λ n. 0 < n → Contains old n) → IfSome receiver (λ n. 0 < n → Contains new n)
-awake_on old new None kept is = is
-awake_on old new (Some number) kept is = λ some. kept number (is some)
-
-pub awake_still : (old new : List ℕ) (entry : Entry) → ((n : ℕ) → Contains old n → Contains new n)
-    → IsAwake old entry → IsAwake new entry
-awake_still old new entry = awake_on old new (receiver_of entry)
-
--- the receiver was woken
-pub awake_now : (number : ℕ) (old new : List ℕ) (entry : Entry) → receiver_of entry ≡ Some number
-    → ((n : ℕ) → Contains new n ↔ (((0 < n) × (n ≡ number)) ⊎ Contains old n)) → IsAwake new entry
-awake_now number old new entry sent is =
-    subst (λ (receiver : Option ℕ). IfSome receiver (λ n. 0 < n → Contains new n)) (sym sent)
-    (λ some. (is number).1 (inl (some, refl)))
-
-pub nobody_awake : (ready : List ℕ) (entry : Entry) → receiver_of entry ≡ None → IsAwake ready entry
-nobody_awake ready entry sent =
-    subst (λ (receiver : Option ℕ). IfSome receiver (λ n. 0 < n → Contains ready n)) (sym sent) tt

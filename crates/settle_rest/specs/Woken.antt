@@ -1,8 +1,6 @@
 -- Who has something to do after a step, and which fuses wait then (Z.102: output, timer).
-use Rattle.std.specs.Prelude.{ℕ, ◌<◌, ◌≤◌, List, [], ◌∷◌, All, Contains, IfSome}
+use Rattle.std.specs.Prelude.{ℕ, ◌<◌, ◌≤◌, List, [], ◌∷◌, All, Contains}
 use Rattle.port_inbox.specs.declared.entry.Fuse.{Fuse}
-use Rattle.run_record.specs.Entry.{receiver_of}
-use Rattle.run_record.specs.declared.entry.Entry.{Entry}
 use Rattle.sdl_timers.specs.DueOrder.{with_fuse}
 
 -- these are numbers of instances: none is 0
@@ -16,11 +14,11 @@ AreUpTo greatest ready = (number : ℕ) → Contains ready number → number ≤
 -- ---- whom a step has sent something
 
 -- it is among those that may have something to do; no instance has the number 0
-abbrev pub IsAwake : List ℕ → Entry → Type 0
-IsAwake ready entry = IfSome (receiver_of entry) (λ number. 0 < number → Contains ready number)
+abbrev pub IsAwake : List ℕ → ℕ → Type 0
+IsAwake ready number = 0 < number → Contains ready number
 
-abbrev pub AreAwake : List ℕ → List Entry → Type 0
-AreAwake ready news = All (IsAwake ready) news
+abbrev pub AreAwake : List ℕ → List ℕ → Type 0
+AreAwake ready receivers = All (IsAwake ready) receivers
 
 -- ---- the fuses of a step
 

@@ -6,7 +6,7 @@ ghost use Rattle.serial_sweeps.specs.declared.instance_set.Made.TheVariants.{Tra
 ghost use Rattle.settle_rest.specs.Woken.{AreNumbers};
 
 use crate::instances::Rest;
-use crate::waking::{arm_all, wake, wake_receivers};
+use crate::waking::{arm_all, wake, wake_all};
 use port_values::Ticks;
 use run_evaluation::Identity;
 use run_record::RunError;
@@ -81,10 +81,7 @@ impl<'w, 'l, 's, 'p, 'e, J: Run, R: Wait + Copy> Rest<'w, 'l, 's, 'p, 'e, J, R> 
             }
         }
         self.wake_created(agenda)?;
-        let (entries, _) = seated.trace().kept();
-        if let Some(news) = entries.get(told..) {
-            wake_receivers(&mut agenda.ready, news)?;
-        }
+        wake_all(&mut agenda.ready, seated.trace().receivers_from(told))?;
         Ok(Made::Transition)
     }
 

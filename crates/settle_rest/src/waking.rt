@@ -3,10 +3,10 @@
 ghost use Rattle.std.specs.Prelude.{◌≡◌, ◌⊎◌, ◌↔◌, ◌+◌, ◌<◌, ◌≤◌, [], ℕ, All, Contains, OnErr, OnOk};
 ghost use Rattle.sdl_timers.specs.DueOrder.{with_fuse};
 ghost use Rattle.serial_sweeps.specs.Sweeps.{IsNoFuseBefore};
-ghost use Rattle.settle_rest.specs.Woken.{AreAwake, AreNumbers, IsAwake, with_fuses};
+ghost use Rattle.settle_rest.specs.Woken.{AreAwake, AreNumbers, with_fuses};
 
 use port_inbox::Fuse;
-use run_record::Entry;
+use run_record::Receivers;
 use serial_sweeps::{Agenda, ReadySet};
 use std::alloc::AllocError;
 
@@ -23,28 +23,16 @@ pub fn wake(ready: &mut ReadySet, number: u32) -> Result<(), AllocError>
     ready.wake(number)
 }
 
-/// Wakes whom these events of a step send something.
-pub fn wake_receivers(ready: &mut ReadySet, news: &[Entry]) -> Result<(), AllocError>
-    ensures awake { OnOk result (AreAwake ready.new news.now) }
+/// Wakes whom a step has sent something.
+pub fn wake_all(ready: &mut ReadySet, receivers: Receivers<'_>) -> Result<(), AllocError>
+    ensures awake { OnOk result (AreAwake ready.new receivers.entry) }
     ensures kept { (n : ℕ) → Contains ready.old n → Contains ready.new n }
     ensures numbers { AreNumbers ready.old → AreNumbers ready.new }
 {
-    for entry in news {
-        wake_receiver(ready, entry)?;
+    for number in receivers {
+        wake(ready, number)?;
     }
     Ok(())
-}
-
-/// Wakes whom this event sends something.
-fn wake_receiver(ready: &mut ReadySet, entry: &Entry) -> Result<(), AllocError>
-    ensures awake { OnOk result (IsAwake ready.new entry.now) }
-    ensures kept { (n : ℕ) → Contains ready.old n → Contains ready.new n }
-    ensures numbers { AreNumbers ready.old → AreNumbers ready.new }
-{
-    match entry.receiver() {
-        Some(number) => wake(ready, number),
-        None => Ok(()),
-    }
 }
 
 /// The fuses of a step wait for their time. A fuse whose time has come was left over, since memory found no room in its

@@ -1,20 +1,20 @@
 -- The times for which timers are set, with one event more.
-use Rattle.std.proofs.Common.{◌≡◌, ◌∙◌, ◌<◌, ◌+◌, ap, append_assoc, arith, cond, drop, get_or, length, refl, subst, sym, take, ⊎_elim, ℕ, Bool, false, Err, IfOk, IsTrue, List, [], ◌∷◌, ◌++◌, None, Ok, OnOk, Option, Result, Some, is_err}
+use Rattle.std.proofs.Common.{◌≡◌, ◌∙◌, ap, cond, refl, subst, sym, ⊎_elim, ℕ, Bool, false, Err, IfOk, IsTrue, List, [], ◌∷◌, ◌++◌, None, Ok, OnOk, Option, Result, Some, is_err}
 use Rattle.std.specs.BTreeMap.{BTreeMap, Updates, is_at}
-use Rattle.std.proofs.lemmas.List.{at_drop_more, length-take-le, length_push, take-append-le, take_all}
 use Rattle.port_model.specs.Timers.{key_order, same_key}
 use Rattle.port_model.specs.declared.got.Got as got
 use Rattle.port_values.specs.contracts.timer_key.TimerKeyOrd.TheImpl.Laws.{matches_eq-law}
 use Rattle.port_values.specs.declared.item.SignalId.{SignalId}
 use Rattle.port_values.specs.declared.timer_key.TimerKey.{TimerKey}
 use Rattle.port_values.specs.declared.value.Value.{Value}
-use Rattle.run_record.specs.Entry.{count_of, event_of, told}
+use Rattle.run_record.specs.Entry.{event_of}
 use Rattle.run_record.specs.Event as event
 use Rattle.run_record.specs.Event.{Event}
 use Rattle.run_record.specs.declared.entry.Entry.{Entry}
 use Rattle.run_record.specs.declared.entry.Entry.TheVariants as kept
 use Rattle.run_record.specs.declared.entry.Stimulus.{Stimulus}
 use Rattle.settle_meaning.specs.Timers.{AreDue, IsDue, due_after, due_after_one}
+use Rattle.settle_summing.proofs.Lists.{done_all, done_more}
 use Rattle.settle_summing.proofs.Splits.{IsLast, StandsIn, last_or}
 use Rattle.settle_summing.specs.Dues.{AreTimesAfter, IsDueNext, IsGotNext, IsWith, Times, time_of}
 
@@ -66,11 +66,11 @@ times_with done happened op due old new changed does are key =
 -- ---- one event
 
 -- a set
-pub due_set : (done : List Event) (entry : Entry) (values : List Value) (timer : SignalId) (count due : ℕ)
-    (key : TimerKey) (old new : Times) → entry ≡ kept.Set timer count due
+pub due_set : (done : List Event) (entry : Entry) (values : List Value) (timer : SignalId) (due : ℕ)
+    (key : TimerKey) (old new : Times) → entry ≡ kept.Set timer due
     → key ≡ record { name = timer; values = values } → IsWith key (Some due) old new → AreTimesAfter done old
     → IsDueNext done (event_of entry values) (done ++ event_of entry values ∷ []) new
-due_set done entry values timer count due key old new is key_is changed are =
+due_set done entry values timer due key old new is key_is changed are =
     subst (λ (e : Entry). IsDueNext done (event_of e values) (done ++ event_of e values ∷ []) new) (sym is) next where
       next : IsDueNext done (event.Set (record { name = timer; values = values }) due)
           (done ++ event.Set (record { name = timer; values = values }) due ∷ []) new
@@ -82,11 +82,11 @@ due_set done entry values timer count due key old new is key_is changed are =
       }
 
 -- a reset
-pub due_reset : (done : List Event) (entry : Entry) (values : List Value) (timer : SignalId) (count : ℕ)
-    (key : TimerKey) (old new : Times) → entry ≡ kept.Reset timer count
+pub due_reset : (done : List Event) (entry : Entry) (values : List Value) (timer : SignalId)
+    (key : TimerKey) (old new : Times) → entry ≡ kept.Reset timer
     → key ≡ record { name = timer; values = values } → IsWith key None old new → AreTimesAfter done old
     → IsDueNext done (event_of entry values) (done ++ event_of entry values ∷ []) new
-due_reset done entry values timer count key old new is key_is changed are =
+due_reset done entry values timer key old new is key_is changed are =
     subst (λ (e : Entry). IsDueNext done (event_of e values) (done ++ event_of e values ∷ []) new) (sym is) next where
       next : IsDueNext done (event.Reset (record { name = timer; values = values }))
           (done ++ event.Reset (record { name = timer; values = values }) ∷ []) new
@@ -125,18 +125,18 @@ pub due_other : (done : List Event) (entry : Entry) (values : List Value) (times
     → ((at : ℕ) (got : Stimulus) → entry ≡ kept.Consumed at got → ⊥)
     → ((at : ℕ) (got : Stimulus) → entry ≡ kept.Prior at got → ⊥)
     → ((at : ℕ) (got : Stimulus) → entry ≡ kept.Discarded at got → ⊥)
-    → ((timer : SignalId) (count due : ℕ) → entry ≡ kept.Set timer count due → ⊥)
-    → ((timer : SignalId) (count : ℕ) → entry ≡ kept.Reset timer count → ⊥) → AreTimesAfter done times
+    → ((timer : SignalId) (due : ℕ) → entry ≡ kept.Set timer due → ⊥)
+    → ((timer : SignalId) → entry ≡ kept.Reset timer → ⊥) → AreTimesAfter done times
     → IsDueNext done (event_of entry values) (done ++ event_of entry values ∷ []) times
 due_other done (kept.Consumed at got) values times consumed prior discarded set reset are =
     absurd (consumed at got refl)
 due_other done (kept.Prior at got) values times consumed prior discarded set reset are = absurd (prior at got refl)
 due_other done (kept.Discarded at got) values times consumed prior discarded set reset are =
     absurd (discarded at got refl)
-due_other done (kept.Set timer count due) values times consumed prior discarded set reset are =
-    absurd (set timer count due refl)
-due_other done (kept.Reset timer count) values times consumed prior discarded set reset are =
-    absurd (reset timer count refl)
+due_other done (kept.Set timer due) values times consumed prior discarded set reset are =
+    absurd (set timer due refl)
+due_other done (kept.Reset timer) values times consumed prior discarded set reset are =
+    absurd (reset timer refl)
 due_other done entry values times consumed prior discarded set reset are = record {
   due = tt;
   times_are = times_same done (event_of entry values) times (λ key due. refl) are;
@@ -154,60 +154,34 @@ due_one done happened are is before later next split =
     (λ (stands : StandsIn done happened next before later). are before stands.rest next stands.stands)
     (last_or happened next done before later split)
 
--- so many entries are looked at, and what is left of the values is that of the others
-pub record AreDueSoFar (events : List Event) (entries : List Entry) (left : List Value) (i : ℕ) (times : Times) : Type 0
-  where
-    pub split : events ≡ take i events ++ told (drop i entries) left
-    pub long : length events ≡ length entries
-    pub due : AreDue (take i events)
-    pub times_are : AreTimesAfter (take i events) times
+-- some of the events are looked at, and these are left
+pub record AreDueSoFar (events left : List Event) (times : Times) : Type 0 where
+  pub done : List Event
+  pub split : events ≡ done ++ left
+  pub due : AreDue done
+  pub times_are : AreTimesAfter done times
 
--- the first so many of a list
-take_front : {X : Type 0} (front : List X) (x : X) (rest xs : List X) (i : ℕ) → xs ≡ front ++ x ∷ rest
-    → length front ≡ i → take (i + 1) xs ≡ front ++ x ∷ []
-take_front {X} front x rest xs i is long =
-    ap (λ (l : List X). take (i + 1) l) (is ∙ sym (append_assoc front (x ∷ []) rest))
-    ∙ take-append-le (i + 1) (front ++ x ∷ []) rest (omega (arith, long, length_push front x))
-    ∙ take_all (i + 1) (front ++ x ∷ []) (omega (arith, long, length_push front x))
-
-pub due_next : (events : List Event) (entries : List Entry) (left own more : List Value) (i : ℕ) (d : Entry)
-    (old new : Times) → i < length entries → own ≡ take (count_of (get_or entries i d)) left
-    → more ≡ drop (count_of (get_or entries i d)) left → AreDueSoFar events entries left i old
-    → IsDueNext (take i events) (event_of (get_or entries i d) own)
-    (take i events ++ event_of (get_or entries i d) own ∷ []) new
-    → AreDueSoFar events entries more (i + 1) new
-due_next events entries left own more i d old new within own_is more_is far next = record {
-  split = subst (λ (l : List Event). events ≡ l ++ told (drop (i + 1) entries) more) (sym front)
-      (stands ∙ sym (append_assoc (take i events) (event_of (get_or entries i d) own ∷ [])
-      (told (drop (i + 1) entries) more)));
-  long = far.long;
-  due = subst AreDue (sym front) (due_one (take i events) (event_of (get_or entries i d) own) far.due next.due);
-  times_are = subst (λ (l : List Event). AreTimesAfter l new) (sym front) next.times_are;
-} where
-  rest_is : drop i entries ≡ get_or entries i d ∷ drop (i + 1) entries
-  rest_is = at_drop_more (λ (l : List Entry). l) entries i d within
-
-  stands : events ≡ take i events ++ event_of (get_or entries i d) own ∷ told (drop (i + 1) entries) more
-  stands = far.split
-      ∙ ap (λ (l : List Entry). take i events ++ told l left) rest_is
-      ∙ ap (λ (v : List Value). take i events ++ event_of (get_or entries i d) v
-      ∷ told (drop (i + 1) entries) (drop (count_of (get_or entries i d)) left)) (sym own_is)
-      ∙ ap (λ (v : List Value). take i events ++ event_of (get_or entries i d) own
-      ∷ told (drop (i + 1) entries) v) (sym more_is)
-
-  front : take (i + 1) events ≡ take i events ++ event_of (get_or entries i d) own ∷ []
-  front = take_front (take i events) (event_of (get_or entries i d) own) (told (drop (i + 1) entries) more) events i
-      stands (length-take-le i events (omega (arith, within, far.long)))
-
-pub due_none : (events : List Event) (entries : List Entry) (values : List Value) (times : Times)
-    → events ≡ told entries values → length events ≡ length entries → AreTimesAfter [] times
-    → AreDueSoFar events entries values 0 times
-due_none events entries values times told_is long none = record {
-  split = told_is;
-  long = long;
+pub due_none : (events left : List Event) (times : Times) → events ≡ left → AreTimesAfter [] times
+    → AreDueSoFar events left times
+due_none events left times all none = record {
+  done = [];
+  split = all;
   due = λ before later happened split. let wrong : ⊥ = no_split before later happened split in absurd wrong;
   times_are = none;
 } where
   no_split : (before later : List Event) (happened : Event) → [] ≡ before ++ happened ∷ later → ⊥
   no_split [] later happened is = cc
   no_split (b ∷ bs) later happened is = cc
+
+pub due_next : (events left later : List Event) (one : Event) (old new : Times) → left ≡ one ∷ later
+    → (far : AreDueSoFar events left old) → IsDueNext far.done one (far.done ++ one ∷ []) new
+    → AreDueSoFar events later new
+due_next events left later one old new is far next = record {
+  done = far.done ++ one ∷ [];
+  split = done_more far.done later one events left far.split is;
+  due = due_one far.done one far.due next.due;
+  times_are = next.times_are;
+}
+
+pub due_all : (events left : List Event) (times : Times) → left ≡ [] → AreDueSoFar events left times → AreDue events
+due_all events left times none far = subst AreDue (done_all far.done events left far.split none) far.due

@@ -2,15 +2,11 @@
 use Rattle.std.proofs.Common.{◌≡◌, ◌∙◌, ◌<◌, ◌≤◌, ◌+◌, ◌-◌, ap, append-nil, arith, cond, drop, get_or, length, refl, subst, sym, take, ℕ, Bool, true, false, List, [], ◌∷◌, ◌++◌, All}
 use Rattle.std.proofs.lemmas.List.{drop-append-le, drop_all, length-append, take-append-le, take_all, take_more}
 use Rattle.std.proofs.lemmas.List.Elements.{All-nil, All-push, filter-append}
-use Rattle.port_values.specs.declared.value.Value.{Value}
-use Rattle.run_record.specs.Entry.{told}
 use Rattle.run_record.specs.Event.{Event}
-use Rattle.run_record.specs.declared.entry.Entry.{Entry}
 use Rattle.run_semantics.specs.World.{time_after_one}
 use Rattle.settle_meaning.specs.Times.{time_by}
 use Rattle.settle_summing.proofs.CourseLemmas.{time_more}
 use Rattle.settle_summing.proofs.SendingLemmas.{sent_more}
-use Rattle.settle_summing.proofs.Told.{length_told}
 use Rattle.settle_summing.specs.Flows.{AreFlows, is_with, passes_out, sent_passes}
 use Rattle.settle_summing.specs.Late.{IsLate, IsRestOf, IsSightOf, passes_with}
 use Rattle.settle_summing.specs.declared.flows.Flow.{Flow}
@@ -128,8 +124,8 @@ rest_all passes i number missing born left flows past is =
 
 -- ---- the signals of a record
 
-pub sight_none : (events : List Event) → IsSightOf (take 0 events) 0 []
-sight_none events = record { time_is = refl; passes_are = refl }
+pub sight_none : IsSightOf [] 0 []
+sight_none = record { time_is = refl; passes_are = refl }
 
 module _ (done : List Event) (e : Event) (time time_then : ℕ) (passes : List Pass)
     (is : IsSightOf done time passes) (time_is : time_then ≡ time_after_one time e) where
@@ -155,14 +151,3 @@ module _ (done : List Event) (e : Event) (time time_then : ℕ) (passes : List P
     time_is = then_time;
     passes_are = pushed ∙ sym (then_sent (pass ∷ []) one);
   }
-
-pub sight_all : (events : List Event) (entries : List Entry) (values : List Value) (i time : ℕ) (passes : List Pass)
-    → events ≡ told entries values → length entries ≤ i → IsSightOf (take i events) time passes
-    → passes ≡ sent_passes 0 events
-sight_all events entries values i time passes told_is past is =
-    is.passes_are ∙ ap (λ (l : List Event). sent_passes 0 l) (take_all i events long) where
-      long : length events ≤ i
-      long =
-          let same = ap (λ (l : List Event). length l) told_is in
-          let told_long = length_told entries values in
-          omega (arith, past, same, told_long)

@@ -22,7 +22,6 @@ mod SendingLemmas
 mod Splits
 mod StartLemmas
 mod TakingLemmas
-mod Told
 mod TotalLemmas
 mod WithinLemmas
 mod Zips

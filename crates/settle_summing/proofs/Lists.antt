@@ -1,5 +1,5 @@
 -- What a loop over a list keeps.
-use Rattle.std.proofs.Common.{◌≡◌, ◌∙◌, ◌<◌, ◌≤◌, ◌+◌, ap, arith, drop, get_or, length, refl, subst, sym, take, ℕ, zero, suc, List, [], ◌∷◌, ◌++◌, All}
+use Rattle.std.proofs.Common.{◌≡◌, ◌∙◌, ◌<◌, ◌≤◌, ◌+◌, ap, append-nil, append_assoc, arith, drop, get_or, length, refl, subst, sym, take, ℕ, zero, suc, List, [], ◌∷◌, ◌++◌, All}
 use Rattle.std.specs.Prelude.{Contains, map, slice_set}
 use Rattle.std.proofs.lemmas.List.{at_drop_more, take_all, take_more}
 use Rattle.std.proofs.lemmas.List.Elements.{All-contains_itself, All-head, All-more, All-nil, All-cons, All-same, All-tail}
@@ -36,3 +36,13 @@ pub set_back : {X : Type 0} (xs : List X) (i : ℕ) (y d : X) → i < length xs
 set_back [] i y d within = let wrong : ⊥ = omega (arith, within) in absurd wrong
 set_back (z ∷ zs) zero y d within = refl
 set_back (z ∷ zs) (suc i) y d within = ap (λ l. z ∷ l) (set_back zs i y d (omega (arith, within)))
+
+-- ---- a list of which the first item is taken, turn by turn
+
+-- those that were taken, and those that are left
+pub done_more : {X : Type 0} (done later : List X) (x : X) (all left : List X) → all ≡ done ++ left → left ≡ x ∷ later
+    → all ≡ (done ++ x ∷ []) ++ later
+done_more done later x all left is next = is ∙ ap (λ l. done ++ l) next ∙ sym (append_assoc done (x ∷ []) later)
+
+pub done_all : {X : Type 0} (done all left : List X) → all ≡ done ++ left → left ≡ [] → done ≡ all
+done_all done all left is none = sym (append-nil done) ∙ ap (λ l. done ++ l) (sym none) ∙ sym is

@@ -17,19 +17,11 @@ pub fn are_due(alloc: Global, trace: &Record) -> Result<bool, AllocError>
     ensures { IfOk result (λ due. IsTrue due → AreDue trace.now.events) }
 {
     let mut dues = Dues::new(alloc);
-    let (entries, values) = trace.kept();
-    let mut left = values;
-    for entry in entries {
-        let count = entry.count();
-        if count > left.len() {
-            return Ok(false);
-        }
-        let (own, more) = left.split_at(count);
-        let is_due = dues.note(*entry, own)?;
+    for told in trace.reader() {
+        let is_due = dues.note(told.entry, told.values)?;
         if !is_due {
             return Ok(false);
         }
-        left = more;
     }
     Ok(true)
 }
@@ -67,12 +59,12 @@ impl Dues {
             → IsDueNext done (event_of entry values.now) (done ++ event_of entry values.now ∷ []) self.new) }
     {
         match entry {
-            Entry::Set { timer, due, .. } => {
+            Entry::Set { timer, due } => {
                 let key = self.key_of(timer, values)?;
                 self.set(key, due)?;
                 Ok(true)
             }
-            Entry::Reset { timer, .. } => {
+            Entry::Reset { timer } => {
                 let key = self.key_of(timer, values)?;
                 self.take(&key);
                 Ok(true)

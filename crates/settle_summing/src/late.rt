@@ -74,7 +74,6 @@ struct Sight {
 }
 
 /// All signals that the record sends to instances, each with the time of its transition.
-#[tactic(auto, using(crate::proofs::LateLemmas::sight_none))]
 pub fn passes_of(alloc: Global, trace: &Record) -> Result<Vec<Pass>, AllocError>
     ensures { IfOk result (λ passes. passes.items ≡ sent_passes 0 trace.now.events) }
 {
@@ -82,9 +81,8 @@ pub fn passes_of(alloc: Global, trace: &Record) -> Result<Vec<Pass>, AllocError>
         time: 0,
         passes: Vec::new(alloc),
     };
-    let (entries, _) = trace.kept();
-    for entry in entries {
-        sight.note(*entry)?;
+    for told in trace.reader() {
+        sight.note(told.entry)?;
     }
     let Sight { passes, .. } = sight;
     Ok(passes)

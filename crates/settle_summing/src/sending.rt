@@ -77,29 +77,15 @@ pub fn sent_by(at: u64, entry: Entry) -> Option<Pass>
 fn routed_by(process: ProcessId, entry: Entry) -> Option<Routed>
     ensures { (values : List Value) → result ≡ routed_in process (event_of entry values) }
 {
-    let from = Source::Process(process);
-    let (signal, to, target) = match entry {
-        Entry::OutputOnPath { signal, target, .. } => (signal, Dest::Path, target),
-        Entry::OutputToProcess {
+    match entry {
+        Entry::Output { signal, to, target } => Some(Routed {
             signal,
-            process,
+            from: Source::Process(process),
+            to,
             target,
-            ..
-        } => (signal, Dest::Process(process), target),
-        Entry::OutputToPid {
-            signal,
-            pid,
-            target,
-            ..
-        } => (signal, Dest::Pid(pid), target),
-        _ => return None,
-    };
-    Some(Routed {
-        signal,
-        from,
-        to,
-        target,
-    })
+        }),
+        _ => None,
+    }
 }
 
 /// The signal that an output sends to an instance.

@@ -32,9 +32,8 @@ pub fn summary_of(alloc: Global, trace: &Record) -> Result<Option<Summary>, Allo
 {
     let process = trace.process();
     let mut summary = Summary::new(alloc);
-    let (entries, _) = trace.kept();
-    for entry in entries {
-        let noted = summary.note(process, *entry)?;
+    for told in trace.reader() {
+        let noted = summary.note(process, told.entry)?;
         if !noted {
             return Ok(None);
         }

@@ -1,7 +1,7 @@
 //! A job of a worker: some steps of one instance.
 
 use crate::Gate;
-use run_record::{Entry, Record};
+use run_record::{Receivers, Record};
 use sdl_interp::{Ahead, Stepped};
 use std::alloc::AllocError;
 use std::sync::Wait;
@@ -208,26 +208,18 @@ fn wake_addressees<J: Run, R: Wait + Copy>(
     match own.addressees {
         Addressees::Nobody => Ok(()),
         Addressees::One(number) => wake(shared, own, number),
-        Addressees::Several => {
-            let (entries, _) = trace.kept();
-            match entries.get(told..) {
-                Some(news) => wake_targets(shared, own, news),
-                None => Ok(()),
-            }
-        }
+        Addressees::Several => wake_all(shared, own, trace.receivers_from(told)),
     }
 }
 
-/// Wakes whom these events send something.
-fn wake_targets<J: Run, R: Wait + Copy>(
+/// Wakes all of these.
+fn wake_all<J: Run, R: Wait + Copy>(
     shared: &Shared<'_, '_, '_, J, R>,
     own: &mut Own<J>,
-    news: &[Entry],
+    receivers: Receivers<'_>,
 ) -> Result<(), AllocError> {
-    for entry in news {
-        if let Some(number) = entry.receiver() {
-            wake(shared, own, number)?;
-        }
+    for number in receivers {
+        wake(shared, own, number)?;
     }
     Ok(())
 }

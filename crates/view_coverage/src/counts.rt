@@ -54,11 +54,10 @@ impl Counts {
             counted self.new point ≡ counted self.old point + times «record».now point) }
     {
         let process = record.process();
-        let (entries, _) = record.kept();
         let mut state = None;
-        for entry in entries {
-            self.add_passed(point_of(process, state, *entry))?;
-            state = state_after(state, *entry);
+        for told in record.reader() {
+            self.add_passed(point_of(process, state, told))?;
+            state = state_after(state, told);
         }
         Ok(())
     }

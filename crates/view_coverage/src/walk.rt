@@ -1,19 +1,18 @@
 //! What an event means for coverage.
 
 ghost use Rattle.std.specs.Prelude.{◌≡◌};
-ghost use Rattle.port_values.specs.Value.{ValueList};
-ghost use Rattle.run_record.specs.Entry.{event_of};
+ghost use Rattle.run_record.specs.Told.{event_told};
 ghost use Rattle.view_coverage.specs.Coverage.{in_state, point_of, state_after};
 
 use crate::point::{Passage, Point};
-use run_record::Entry;
+use run_record::{Entry, Told};
 use sdl_system::{ProcessId, StateId};
 
 /// The state of an instance after an event: the one that it entered last, none before the first.
-pub fn state_after(state: Option<StateId>, entry: Entry) -> Option<StateId>
-    ensures { (values : ValueList) → result ≡ state_after state (event_of entry values) }
+pub fn state_after(state: Option<StateId>, told: Told<'_>) -> Option<StateId>
+    ensures { result ≡ state_after state (event_told told.entry) }
 {
-    match entry {
+    match told.entry {
         Entry::NextState { state: entered } => Some(entered),
         _ => state,
     }
@@ -21,10 +20,10 @@ pub fn state_after(state: Option<StateId>, entry: Entry) -> Option<StateId>
 
 /// The point that an instance of this process passes with an event in this state. What is discarded passes none, and
 /// before the first state there is none to pass.
-pub fn point_of(process: ProcessId, state: Option<StateId>, entry: Entry) -> Option<Point>
-    ensures { (values : ValueList) → result ≡ point_of process state (event_of entry values) }
+pub fn point_of(process: ProcessId, state: Option<StateId>, told: Told<'_>) -> Option<Point>
+    ensures { result ≡ point_of process state (event_told told.entry) }
 {
-    match entry {
+    match told.entry {
         Entry::NextState { state: entered } => {
             in_state(process, Some(entered), Passage::Entered)
         }

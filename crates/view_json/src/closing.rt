@@ -93,9 +93,8 @@ fn push_last(text: &mut String, record: &Record, system: &System) -> Result<(), 
     ensures { OnOk result (string_bytes text.new ≡ string_bytes text.old
         ++ closing_json system.now «record».now (last_event «record».now.events)) }
 {
-    let (entries, _) = record.kept();
-    match entries.last() {
-        Some(entry) => push_closed(text, entry, record, system),
+    match record.last() {
+        Some(told) => push_closed(text, &told.entry, record, system),
         None => Ok(()),
     }
 }

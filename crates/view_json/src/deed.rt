@@ -32,13 +32,11 @@ pub fn push_deed(
 {
     match &step.entry {
         Entry::Task { variable, value } => push_task(text, *variable, value, step.record, system),
-        Entry::OutputOnPath { signal, target, .. }
-        | Entry::OutputToProcess { signal, target, .. }
-        | Entry::OutputToPid { signal, target, .. } => {
+        Entry::Output { signal, target, .. } => {
             push_output(text, *signal, *target, step, told, system)
         }
-        Entry::Set { timer, due, .. } => push_set(text, *timer, step.values, *due, system),
-        Entry::Reset { timer, .. } => push_reset(text, *timer, step.values, system),
+        Entry::Set { timer, due } => push_set(text, *timer, step.values, *due, system),
+        Entry::Reset { timer } => push_reset(text, *timer, step.values, system),
         Entry::Create { process, pid } => push_create(text, *process, *pid, system),
         Entry::NextState { state } => push_word(
             text,

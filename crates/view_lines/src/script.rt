@@ -1,11 +1,13 @@
 //! What of the script was heard.
 
-ghost use Rattle.std.specs.Prelude.{◌≡◌, ◌++◌, [], IfOk, OnOk};
+ghost use Rattle.std.specs.Prelude.{◌≡◌, ◌++◌, IfOk, OnOk};
 ghost use Rattle.std.specs.String.{string_bytes};
-ghost use Rattle.run_record.specs.Entry.{event_of, got_of};
+ghost use Rattle.port_values.specs.Value.{ValueList};
+ghost use Rattle.run_record.specs.Entry.{got_of};
+ghost use Rattle.run_record.specs.Told.{event_told};
 ghost use Rattle.view_lines.specs.LinesText.{heard, heard_in, is_env, is_heard, script_text};
 
-use run_record::{Entry, Origin, Record, Report, Stimulus};
+use run_record::{Entry, Origin, Record, Report, Stimulus, Told};
 use std::alloc::AllocError;
 
 /// Appends `script: 3 signals, 1 taken`, if not all were.
@@ -35,15 +37,14 @@ fn heard(records: &[Record]) -> Result<usize, AllocError>
 fn heard_in(record: &Record) -> usize
     ensures { result ≡ heard_in «record».now }
 {
-    let (entries, _) = record.kept();
-    entries.iter().filter(|entry| is_heard(**entry)).count()
+    record.reader().filter(|told| is_heard(*told)).count()
 }
 
 /// Whether the entry takes a signal of the environment.
-fn is_heard(entry: Entry) -> bool
-    ensures { result ≡ is_heard (event_of entry []) }
+fn is_heard(told: Told<'_>) -> bool
+    ensures { result ≡ is_heard (event_told told.entry) }
 {
-    match entry {
+    match told.entry {
         Entry::Consumed { got, .. } => is_from_env(got),
         Entry::Prior { got, .. } => is_from_env(got),
         Entry::Discarded { got, .. } => is_from_env(got),
@@ -53,7 +54,7 @@ fn is_heard(entry: Entry) -> bool
 
 /// Whether the environment sent it.
 fn is_from_env(got: Stimulus) -> bool
-    ensures { result ≡ is_env (got_of got []) }
+    ensures { (values : ValueList) → result ≡ is_env (got_of got values) }
 {
     match got.origin {
         Origin::Env => true,

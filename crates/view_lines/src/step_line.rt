@@ -45,9 +45,7 @@ pub fn push_step_line(
         }
         Entry::Rest { .. } => push_owned(text, step, system),
         Entry::Cut { .. } => push_owned(text, step, system),
-        Entry::OutputOnPath { signal, target, .. }
-        | Entry::OutputToProcess { signal, target, .. }
-        | Entry::OutputToPid { signal, target, .. } => {
+        Entry::Output { signal, target, .. } => {
             push_sent(text, "  output ", *signal, step.values, *target, system)?;
             push_fate(text, fate_of(told, *target, step.link))?;
             text.push('\n')

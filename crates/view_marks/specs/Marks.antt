@@ -7,10 +7,8 @@ use Rattle.port_values.specs.declared.value.Value.TheVariants.{Int}
 use Rattle.sdl_system.specs.System.{SystemValue}
 use Rattle.sdl_system.specs.declared.id.ProcessId.{ProcessId}
 use Rattle.sdl_system.specs.declared.id.VariableId.{VariableId}
-use Rattle.run_record.specs.Entry.{event_of}
 use Rattle.run_record.specs.Event as event
 use Rattle.run_record.specs.Record.{RecordValue}
-use Rattle.run_record.specs.declared.entry.Entry.{Entry}
 use Rattle.run_record.specs.declared.record.Report.{Report}
 
 -- the variable of the marks of a process: the one after all that the system without marks has there
@@ -25,10 +23,6 @@ mark_of variable other = None
 
 abbrev pub is_no_mark : VariableId → event.Event → Bool
 is_no_mark variable one = not (is_some (mark_of variable one))
-
--- the same of an entry, of which the values say nothing
-abbrev pub is_kept : VariableId → Entry → Bool
-is_kept variable one = is_no_mark variable (event_of one [])
 
 -- ---- a marked run
 

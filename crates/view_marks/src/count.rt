@@ -77,9 +77,8 @@ fn add_marks(counts: &mut Vec<u64>, variable: VariableId, one: &Record) -> Resul
         + marks_of variable one.now.events part) }
     ensures size { vec_len counts.new ≡ vec_len counts.old }
 {
-    let (entries, _) = one.kept();
-    for entry in entries {
-        add_mark(counts, mark_of(variable, *entry))?;
+    for told in one.reader() {
+        add_mark(counts, mark_of(variable, told))?;
     }
     Ok(())
 }

@@ -1,11 +1,11 @@
 //! Marks among the entries of a record.
 
-ghost use Rattle.std.specs.Prelude.{◌≡◌, [], IfOk};
-ghost use Rattle.run_record.specs.Entry.{event_of};
+ghost use Rattle.std.specs.Prelude.{◌≡◌, IfOk};
+ghost use Rattle.run_record.specs.Told.{event_told};
 ghost use Rattle.view_marks.specs.Marks.{mark_of, variable_in};
 
 use port_values::Value;
-use run_record::Entry;
+use run_record::{Entry, Told};
 use sdl_system::{ProcessId, System, VariableId};
 use std::alloc::AllocError;
 
@@ -23,11 +23,11 @@ pub fn variable_in(system: &System, process: ProcessId) -> Result<Option<Variabl
     }
 }
 
-/// The number of the part of a decision of which an entry is the mark. Its values say nothing.
-pub fn mark_of(variable: VariableId, entry: Entry) -> Option<i64>
-    ensures { result ≡ mark_of variable (event_of entry []) }
+/// The number of the part of a decision of which an entry is the mark.
+pub fn mark_of(variable: VariableId, told: Told<'_>) -> Option<i64>
+    ensures { result ≡ mark_of variable (event_told told.entry) }
 {
-    match entry {
+    match told.entry {
         Entry::Task {
             variable: to,
             value: Value::Int(part),

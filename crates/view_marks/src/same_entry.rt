@@ -15,10 +15,11 @@ pub fn same_entry(one: Entry, other: Entry) -> bool
         | Entry::Discarded { .. }
         | Entry::Provided { .. }
         | Entry::FailedAt { .. } => same_beginning(one, other),
-        Entry::OutputOnPath { .. } | Entry::OutputToProcess { .. } | Entry::OutputToPid { .. } =>
-            same_output(one, other),
-        Entry::Task { .. } | Entry::Set { .. } | Entry::Reset { .. } | Entry::Create { .. } =>
-            same_action(one, other),
+        Entry::Task { .. }
+        | Entry::Output { .. }
+        | Entry::Set { .. }
+        | Entry::Reset { .. }
+        | Entry::Create { .. } => same_action(one, other),
         Entry::NextState { .. }
         | Entry::Stop
         | Entry::Failed { .. }
@@ -74,7 +75,7 @@ fn same_beginning(one: Entry, other: Entry) -> bool
 fn same_stimulus(one: Stimulus, other: Stimulus) -> bool
     ensures { IsTrue result → one ≡ other }
 {
-    one.name == other.name && one.count == other.count && same_origin(one.origin, other.origin)
+    one.name == other.name && same_origin(one.origin, other.origin)
 }
 
 fn same_origin(one: Origin, other: Origin) -> bool
@@ -85,54 +86,6 @@ fn same_origin(one: Origin, other: Origin) -> bool
         (Origin::Null, Origin::Null) => true,
         (Origin::Env, Origin::Env) => true,
         (Origin::Instance(number), Origin::Instance(other)) => number == other,
-        _ => false,
-    }
-}
-
-fn same_output(one: Entry, other: Entry) -> bool
-    ensures { IsTrue result → one ≡ other }
-{
-    match (one, other) {
-        (
-            Entry::OutputOnPath {
-                signal,
-                count,
-                target,
-            },
-            Entry::OutputOnPath {
-                signal: name,
-                count: values,
-                target: reached,
-            },
-        ) => signal == name && count == values && target == reached,
-        (
-            Entry::OutputToProcess {
-                signal,
-                process,
-                count,
-                target,
-            },
-            Entry::OutputToProcess {
-                signal: name,
-                process: to,
-                count: values,
-                target: reached,
-            },
-        ) => signal == name && process == to && count == values && target == reached,
-        (
-            Entry::OutputToPid {
-                signal,
-                pid,
-                count,
-                target,
-            },
-            Entry::OutputToPid {
-                signal: name,
-                pid: to,
-                count: values,
-                target: reached,
-            },
-        ) => signal == name && pid == to && count == values && target == reached,
         _ => false,
     }
 }
@@ -149,20 +102,21 @@ fn same_action(one: Entry, other: Entry) -> bool
             },
         ) => { variable == to && value == other }
         (
-            Entry::Set { timer, count, due },
+            Entry::Output { signal, to, target },
+            Entry::Output {
+                signal: name,
+                to: named,
+                target: reached,
+            },
+        ) => { signal == name && to == named && target == reached }
+        (
+            Entry::Set { timer, due },
             Entry::Set {
                 timer: name,
-                count: values,
                 due: at,
             },
-        ) => { timer == name && count == values && due == at }
-        (
-            Entry::Reset { timer, count },
-            Entry::Reset {
-                timer: name,
-                count: values,
-            },
-        ) => { timer == name && count == values }
+        ) => { timer == name && due == at }
+        (Entry::Reset { timer }, Entry::Reset { timer: name }) => timer == name,
         (
             Entry::Create { process, pid },
             Entry::Create {

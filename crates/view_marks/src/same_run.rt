@@ -1,14 +1,14 @@
 //! Whether a marked run is the run itself, except for the marks.
 
-ghost use Rattle.std.specs.Prelude.{◌≡◌, [], ◌∷◌, ◌++◌, IfSome, IsTrue, if◌then◌else◌, map};
+ghost use Rattle.std.specs.Prelude.{◌≡◌, [], ◌∷◌, ◌++◌, IsTrue, if◌then◌else◌, map};
 ghost use Rattle.std.specs.List.{filter};
-ghost use Rattle.run_record.specs.Entry.{told};
-ghost use Rattle.view_marks.specs.Marks.{IsMarkedRun, deeds, is_kept, is_no_mark, unmarked};
+ghost use Rattle.run_record.specs.Told.{event_told};
+ghost use Rattle.view_marks.specs.Marks.{IsMarkedRun, deeds, is_no_mark, unmarked};
 
 use crate::entry::{mark_of, variable_in};
 use crate::same_entry::same_entry;
 use port_values::Value;
-use run_record::{Entry, Record, Report};
+use run_record::{Reader, Record, Report, Told};
 use sdl_system::{System, VariableId};
 
 /// Whether the report of a marked run is the report of the run itself, except for the marks. The system is that
@@ -55,56 +55,54 @@ fn is_marked(system: &System, plain: &Record, marked: &Record) -> bool
 fn has_events(variable: VariableId, plain: &Record, marked: &Record) -> bool
     ensures { IsTrue result → plain.now.events ≡ filter (is_no_mark variable) marked.now.events }
 {
-    let (entries, values) = plain.kept();
-    let (marked_entries, marked_values) = marked.kept();
-    are_events(variable, entries, marked_entries, values, marked_values)
-}
-
-/// Whether these entries with their values are those of marked ones that are no marks.
-#[tactic(auto, using(crate::proofs::MarkLemmas::same_told))]
-fn are_events(
-    variable: VariableId,
-    plain: &[Entry],
-    marked: &[Entry],
-    own: &[Value],
-    other: &[Value],
-) -> bool
-    ensures { IsTrue result → told plain.now own.now ≡ filter (is_no_mark variable) (told marked.now other.now) }
-{
-    if has_entries(variable, plain, marked) {
-        are_same(own, other)
-    } else {
-        false
-    }
-}
-
-/// Whether these entries are those of marked ones that are no marks.
-fn has_entries(variable: VariableId, plain: &[Entry], marked: &[Entry]) -> bool
-    ensures { IsTrue result → plain.now ≡ filter (is_kept variable) marked.now }
-{
-    let mut rest = plain;
-    for entry in marked {
-        match after_entry(variable, rest, *entry) {
-            Some(more) => rest = more,
-            None => return false,
+    let mut rest = plain.reader();
+    for told in marked.reader() {
+        if !goes_on(variable, &mut rest, told) {
+            return false;
         }
     }
-    rest.is_empty()
+    is_done(&mut rest)
 }
 
-/// What is left of entries after one of a marked run: all if that is a mark, else all after the first, if that is the
-/// same.
-fn after_entry(variable: VariableId, rest: &[Entry], entry: Entry) -> Option<&[Entry]>
-    ensures { IfSome result (λ more. (if is_kept variable entry then entry ∷ [] else []) ++ more.now ≡ rest.now) }
+/// Whether an event of a marked run is a mark, or the next of these. Then they go on after it.
+fn goes_on(variable: VariableId, rest: &mut Reader<'_>, told: Told<'_>) -> bool
+    ensures { IsTrue result → (if is_no_mark variable (event_told told.entry)
+        then event_told told.entry ∷ [] else []) ++ rest.new ≡ rest.old }
 {
-    if mark_of(variable, entry).is_some() {
-        return Some(rest);
+    if mark_of(variable, told).is_some() {
+        return true;
     }
-    let (first, more) = rest.split_first()?;
-    if same_entry(*first, entry) {
-        Some(more)
+    is_next(rest, told)
+}
+
+/// Whether the next of these events is this one. Then they go on after it.
+fn is_next(rest: &mut Reader<'_>, told: Told<'_>) -> bool
+    ensures { IsTrue result → rest.old ≡ event_told told.entry ∷ rest.new }
+{
+    match rest.next() {
+        Some(next) => is_same(next, told),
+        None => false,
+    }
+}
+
+/// Whether no event is left.
+fn is_done(rest: &mut Reader<'_>) -> bool
+    ensures { IsTrue result → rest.old ≡ [] }
+{
+    match rest.next() {
+        Some(_) => false,
+        None => true,
+    }
+}
+
+/// Whether the two are the same event.
+fn is_same(one: Told<'_>, other: Told<'_>) -> bool
+    ensures { IsTrue result → event_told one.entry ≡ event_told other.entry }
+{
+    if same_entry(one.entry, other.entry) {
+        are_same(one.values, other.values)
     } else {
-        None
+        false
     }
 }
 

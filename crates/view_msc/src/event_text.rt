@@ -46,13 +46,11 @@ pub fn push_event_text(
         Entry::Task { variable, value } => {
             push_task(text, variable_name(system, process, *variable), value)
         }
-        Entry::OutputOnPath { signal, target, .. }
-        | Entry::OutputToProcess { signal, target, .. }
-        | Entry::OutputToPid { signal, target, .. } => {
+        Entry::Output { signal, target, .. } => {
             push_output(text, *signal, values, *target, link, cast)
         }
-        Entry::Set { timer, due, .. } => push_set(text, *timer, values, *due, system),
-        Entry::Reset { timer, .. } => push_reset(text, *timer, values, system),
+        Entry::Set { timer, due } => push_set(text, *timer, values, *due, system),
+        Entry::Reset { timer } => push_reset(text, *timer, values, system),
         Entry::Create { process, pid } => push_create(text, *process, *pid, system),
         Entry::NextState { state } => push_entered(text, state_name(system, process, *state)),
         Entry::Stop => text.push_str("stop"),

@@ -2,7 +2,6 @@ pub mod ActLemmas
 pub mod Channels
 pub mod Closed
 pub mod Closings
-pub mod CursorLemmas
 pub mod EarlyLemmas
 pub mod Firsts
 pub mod Gathering

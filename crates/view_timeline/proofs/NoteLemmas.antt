@@ -13,7 +13,6 @@ use Rattle.run_record.specs.declared.entry.Origin as origin
 use Rattle.run_record.specs.declared.entry.Origin.TheVariants as from
 use Rattle.run_record.specs.declared.entry.Stimulus.{Stimulus}
 use Rattle.sdl_system.specs.declared.route.Dest.{Dest}
-use Rattle.sdl_system.specs.declared.route.Dest.TheVariants as to
 use Rattle.sdl_system.specs.declared.route.Target as target
 use Rattle.sdl_system.specs.declared.route.Target.TheVariants as reached
 use Rattle.view_timeline.specs.Did.{Message, did, message_got, sent_by, taken_by}
@@ -58,14 +57,10 @@ notes-effect own (kept.Discarded at got) values old new to_begun does = record {
 notes-effect own (kept.Provided at number) values old new to_begun does = record { living = does.1; begun = does.2; to_begun = to_begun; links = does.0 }
 notes-effect own (kept.FailedAt at why) values old new to_begun does = record { living = does.1; begun = does.2; to_begun = to_begun; links = does.0 }
 notes-effect own (kept.Task variable value) values old new to_begun does = record { living = does.1; begun = does.2; to_begun = to_begun; links = does.0 }
-notes-effect own (kept.OutputOnPath signal count target) values old new to_begun does =
-    record { living = does.1; begun = does.2; to_begun = to_begun; links = does.0 to.Path }
-notes-effect own (kept.OutputToProcess signal process count target) values old new to_begun does =
-    record { living = does.1; begun = does.2; to_begun = to_begun; links = does.0 (to.Process process) }
-notes-effect own (kept.OutputToPid signal pid count target) values old new to_begun does =
-    record { living = does.1; begun = does.2; to_begun = to_begun; links = does.0 (to.Pid pid) }
-notes-effect own (kept.Set timer count due) values old new to_begun does = record { living = does.1; begun = does.2; to_begun = to_begun; links = does.0 }
-notes-effect own (kept.Reset timer count) values old new to_begun does = record { living = does.1; begun = does.2; to_begun = to_begun; links = does.0 }
+notes-effect own (kept.Output signal named target) values old new to_begun does =
+    record { living = does.1; begun = does.2; to_begun = to_begun; links = does.0 named }
+notes-effect own (kept.Set timer due) values old new to_begun does = record { living = does.1; begun = does.2; to_begun = to_begun; links = does.0 }
+notes-effect own (kept.Reset timer) values old new to_begun does = record { living = does.1; begun = does.2; to_begun = to_begun; links = does.0 }
 notes-effect own (kept.Create process None) values old new to_begun does = record { living = does.1; begun = does.2; to_begun = to_begun; links = does.0 }
 notes-effect own (kept.Create process (Some number)) values old new to_begun does = record { living = does.1; begun = does.2; to_begun = to_begun; links = does.0 }
 notes-effect own (kept.NextState state) values old new to_begun does = record { living = does.1; begun = does.2; to_begun = to_begun; links = does.0 }

@@ -9,9 +9,7 @@ abbrev pub effect_in : entry.Entry → Effect
 effect_in (kept.Consumed at got) = Takes got
 effect_in (kept.Prior at got) = Takes got
 effect_in (kept.Discarded at got) = Takes got
-effect_in (kept.OutputOnPath signal count target) = Sends signal target
-effect_in (kept.OutputToProcess signal process count target) = Sends signal target
-effect_in (kept.OutputToPid signal pid count target) = Sends signal target
+effect_in (kept.Output signal to target) = Sends signal target
 effect_in (kept.Create process (Some number)) = Creates number
 effect_in (kept.FailedAt at why) = Ends
 effect_in kept.Stop = Ends

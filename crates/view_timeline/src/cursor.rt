@@ -4,7 +4,7 @@ ghost use Rattle.std.specs.Prelude.{◌≡◌, ◌+◌, ◌∷◌, [], IfOk, IfS
 ghost use Rattle.run_record.specs.Entry.{event_of};
 
 use port_values::Value;
-use run_record::{Entry, Record};
+use run_record::{Entry, Reader, Record};
 use std::alloc::AllocError;
 use std::marker::Model;
 
@@ -13,13 +13,11 @@ use std::marker::Model;
 pub struct Cursor<'r> {
     number: u32,
     passed: u32,
-    entries: &'r [Entry],
-    values: &'r [Value],
+    events: Reader<'r>,
 }
 
 impl<'r> Model for Cursor<'r> {
-    ghost use Rattle.std.specs.Prelude.{◌≡◌, ◌+◌, ◌^◌, ◌<◌, length};
-    ghost use Rattle.run_record.specs.Entry.{counted, told};
+    ghost use Rattle.std.specs.Prelude.{◌+◌, ◌^◌, ◌<◌, length};
     ghost use Rattle.view_timeline.specs.Cursor.{CursorValue};
 
     ghost Value = { CursorValue };
@@ -27,11 +25,10 @@ impl<'r> Model for Cursor<'r> {
     ghost view = { λ c. record {
       number = c.number;
       told = c.passed;
-      left = told c.entries.now c.values.now;
+      left = c.events;
     } };
 
-    ghost invariant = { λ c.
-        (counted c.entries.now ≡ length c.values.now) × (c.passed + length c.entries.now < 2 ^ 32) };
+    ghost invariant = { λ c. c.passed + length c.events < 2 ^ 32 };
 }
 
 /// The next event of a record, of the instance of this number: an entry with its place and its values, and what is left
@@ -46,7 +43,7 @@ pub struct Next<'r> {
 }
 
 impl<'r> Cursor<'r> {
-    /// The record of which nothing is told. Refused where it has more than 2^32 entries.
+    /// The record of which nothing is told. Refused where it has 2^32 events or more.
     pub fn new(of: &'r Record) -> Result<Self, AllocError>
         ensures { IfOk result (λ c. c ≡ record {
           number = of.now.pid;
@@ -54,19 +51,17 @@ impl<'r> Cursor<'r> {
           left = of.now.events;
         }) }
     {
-        let (entries, values) = of.kept();
-        if u32::try_from(entries.len()).is_err() {
+        if u32::try_from(of.len()).is_err() {
             return Err(AllocError);
         }
         Ok(Cursor {
             number: of.pid(),
             passed: 0,
-            entries,
-            values,
+            events: of.reader(),
         })
     }
 
-    /// How many entries are told.
+    /// How many events are told.
     pub fn told(&self) -> u32
         ensures { result ≡ self.now.told }
     {
@@ -82,18 +77,17 @@ impl<'r> Cursor<'r> {
         ensures rest_told { IfSome result (λ next. next.rest.told ≡ self.now.told + 1) }
         ensures rest_number { IfSome result (λ next. next.rest.number ≡ self.now.number) }
     {
-        let (entry, entries) = self.entries.split_first()?;
-        let (values, more) = self.values.split_at(entry.count());
+        let mut events = self.events.again();
+        let told = events.next()?;
         Some(Next {
             number: self.number,
             first: self.passed,
-            entry: *entry,
-            values,
+            entry: told.entry,
+            values: told.values,
             rest: Cursor {
                 number: self.number,
                 passed: self.passed + 1,
-                entries,
-                values: more,
+                events,
             },
         })
     }

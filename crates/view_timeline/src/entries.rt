@@ -10,7 +10,7 @@ ghost use Rattle.view_timeline.specs.Lives.{creates};
 
 use port_values::{SignalId, Ticks};
 use run_record::{Entry, Origin, Stimulus};
-use sdl_system::Target;
+use sdl_system::{Dest, Target};
 
 /// What an entry does to other instances, or to the life of one.
 #[derive(Clone, Copy)]
@@ -35,9 +35,7 @@ pub fn effect_of(entry: &Entry) -> Effect
         Entry::Consumed { got, .. } | Entry::Prior { got, .. } | Entry::Discarded { got, .. } => {
             Effect::Takes(got)
         }
-        Entry::OutputOnPath { signal, target, .. }
-        | Entry::OutputToProcess { signal, target, .. }
-        | Entry::OutputToPid { signal, target, .. } => Effect::Sends { signal, target },
+        Entry::Output { signal, target, .. } => Effect::Sends { signal, target },
         Entry::Create {
             pid: Some(number),
             ..
@@ -52,11 +50,13 @@ pub fn looked_up(entry: &Entry) -> Option<u32>
     ensures { (values : ValueList) → result ≡ looked_up (event_of entry.now values) }
 {
     match *entry {
-        Entry::OutputOnPath {
+        Entry::Output {
+            to: Dest::Path,
             target: Target::Instance(number),
             ..
         }
-        | Entry::OutputToProcess {
+        | Entry::Output {
+            to: Dest::Process(_),
             target: Target::Instance(number),
             ..
         } => Some(number),

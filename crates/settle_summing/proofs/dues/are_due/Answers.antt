@@ -1,25 +1,22 @@
 -- The event is one more.
-use Rattle.std.proofs.Common.{◌∙◌, ap, drop, length, take}
-use Rattle.run_record.specs.declared.entry.Entry.TheVariants as kept
-use Rattle.settle_summing.proofs.DueLemmas.{due_next, due_none}
-use Rattle.settle_summing.proofs.Told.{length_told}
+use Rattle.std.proofs.Common.{◌≡◌, rules, sym}
+use Rattle.run_record.specs.Told.{event_told}
+use Rattle.settle_summing.proofs.DueLemmas.{due_all, due_next, due_none}
 use Rattle.settle_summing.proofs.dues.are_due.Goals as goal
 
-pub loop-entry-init : goal.loop-entry-init
-loop-entry-init c =
-    let events = c.args.trace.now.events in
-    let entries = c.kept.result.0.now in
-    let values = c.kept.result.1.now in
-    due_none events entries values c.new-dues.result c.kept.ensures.events
-    (ap length c.kept.ensures.events ∙ length_told entries values) c.new-dues.ensures
+pub loop-told-init : goal.loop-told-init
+loop-told-init c =
+    let read : c.into_iter-told-iterator.result ≡ c.args.trace.now.events = search rules in
+    due_none c.args.trace.now.events c.into_iter-told-iterator.result c.new-dues.result (sym read) c.new-dues.ensures
 
-pub loop-entry-preserved : goal.loop-entry-preserved
-loop-entry-preserved c =
-    let events = c.args.trace.now.events in
-    let left = c.loop-entry.left.now in
-    let i = c.loop-entry.entry-index in
-    due_next events c.kept.result.0.now left c.split_at.result.0.now c.split_at.result.1.now i (kept.Start 0)
-    c.loop-entry.dues c.note.new.self c.loop-entry-test.true
-    (c.split_at.ensures.front ∙ ap (λ n. take n left) c.count-count.ensures)
-    (c.split_at.ensures.back ∙ ap (λ n. drop n left) c.count-count.ensures) c.loop-entry.invariant
-    (c.in_ok-is_due.ensures c.if-not-is_due.false (take i events) c.loop-entry.invariant.times_are)
+pub loop-told-preserved : goal.loop-told-preserved
+loop-told-preserved c =
+    let far = c.loop-told.invariant in
+    due_next c.args.trace.now.events c.loop-told.told-iterator c.next.new.self (event_told c.in-Some.told)
+    c.loop-told.dues c.note.new.self c.in-Some.ensures.steps far
+    (c.in_ok-is_due.ensures c.if-not-is_due.false far.done far.times_are)
+
+pub returns : goal.returns
+returns c =
+    λ _. due_all c.args.trace.now.events c.loop-told.told-iterator c.loop-told.dues c.in-None.ensures.steps.0
+    c.loop-told.invariant

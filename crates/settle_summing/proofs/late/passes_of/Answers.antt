@@ -1,24 +1,31 @@
 -- One event more is looked at.
-use Rattle.std.proofs.Common.{List, subst, sym, take}
+use Rattle.std.proofs.Common.{◌≡◌, ◌∙◌, ◌++◌, ◌∷◌, [], List, ap, rules, subst, sym}
 use Rattle.run_record.specs.Event.{Event}
-use Rattle.run_record.specs.declared.entry.Entry.TheVariants as kept
-use Rattle.settle_summing.proofs.LateLemmas.{sight_all}
-use Rattle.settle_summing.proofs.Told.{one_event_more}
+use Rattle.run_record.specs.Told.{event_told}
+use Rattle.settle_summing.proofs.LateLemmas.{sight_none}
+use Rattle.settle_summing.proofs.Lists.{done_all, done_more}
+use Rattle.settle_summing.specs.Flows.{sent_passes}
 use Rattle.settle_summing.specs.Late.{IsSightOf}
+use Rattle.settle_summing.specs.declared.flows.Pass.{Pass}
 use Rattle.settle_summing.proofs.late.passes_of.Goals as goal
 
-pub loop-entry-preserved : goal.loop-entry-preserved
-loop-entry-preserved c =
-    let events : List Event = c.args.trace.now.events in
-    let entries = c.kept.result.0.now in
-    let i = c.loop-entry.entry-index in
-    let one = one_event_more events entries c.kept.result.1.now i (kept.Start 0) c.kept.ensures.events
-    c.loop-entry-test.true in
-    subst (λ (l : List Event). IsSightOf l c.note.new.self.time c.note.new.self.passes.items) (sym one.1)
-    (c.in_ok-note.ensures (take i events) one.0 c.loop-entry.invariant)
+pub loop-told-init : goal.loop-told-init
+loop-told-init c =
+    let read : c.into_iter-told-iterator.result ≡ c.args.trace.now.events = search rules in
+    ([], sym read, subst (λ (l : List Pass). IsSightOf [] 0 l) (sym c.new.ensures.items) sight_none)
+
+pub loop-told-preserved : goal.loop-told-preserved
+loop-told-preserved c =
+    let done : List Event = c.loop-told.invariant.0 in
+    let one : Event = event_told c.in-Some.told in (
+      done ++ one ∷ [],
+      done_more done c.next.new.self one _ _ c.loop-told.invariant.1 c.in-Some.ensures.steps,
+      c.in_ok-note.ensures done c.in-Some.told.values.now c.loop-told.invariant.2,
+    )
 
 pub returns : goal.returns
 returns c =
-    sight_all c.args.trace.now.events c.kept.result.0.now c.kept.result.1.now c.loop-entry.entry-index
-    c.loop-entry.sight.time c.loop-entry.sight.passes.items c.kept.ensures.events c.loop-entry-test.false
-    c.loop-entry.invariant
+    let done : List Event = c.loop-told.invariant.0 in
+    c.loop-told.invariant.2.passes_are
+    ∙ ap (λ (l : List Event). sent_passes 0 l)
+    (done_all done _ _ c.loop-told.invariant.1 c.in-None.ensures.steps.0)

@@ -1,34 +1,30 @@
 -- One event more is summed up.
-use Rattle.std.proofs.Common.{◌≡◌, ◌∙◌, ◌≤◌, List, ap, arith, length, subst, sym, take}
-use Rattle.std.proofs.lemmas.List.{take_all}
+use Rattle.std.proofs.Common.{◌≡◌, ◌++◌, ◌∷◌, [], List, rules, subst, sym}
 use Rattle.run_record.specs.Event.{Event}
-use Rattle.run_record.specs.declared.entry.Entry.TheVariants as kept
-use Rattle.settle_summing.proofs.Told.{length_told, one_event_more}
+use Rattle.run_record.specs.Told.{event_told}
 use Rattle.sdl_system.specs.declared.id.ProcessId.{ProcessId}
+use Rattle.settle_summing.proofs.Lists.{done_all, done_more}
 use Rattle.settle_summing.specs.Summary.{IsSummedUp}
 use Rattle.settle_summing.proofs.summary.summary_of.Goals as goal
 
-pub loop-entry-preserved : goal.loop-entry-preserved
-loop-entry-preserved c =
-    let events : List Event = c.args.trace.now.events in
-    let entries = c.kept.result.0.now in
-    let i = c.loop-entry.entry-index in
-    let one = one_event_more events entries c.kept.result.1.now i (kept.Start 0) c.kept.ensures.events
-    c.loop-entry-test.true in
-    subst (λ (l : List Event). IsSummedUp c.process-process.result l c.note.new.self) (sym one.1)
-    (c.in_ok-noted.ensures c.if-not-noted.false (take i events) one.0 c.loop-entry.invariant)
+pub loop-told-init : goal.loop-told-init
+loop-told-init c =
+    let read : c.into_iter-told-iterator.result ≡ c.args.trace.now.events = search rules in
+    ([], sym read, c.new-summary.ensures c.process-process.result)
 
-pub loop-entry-init : goal.loop-entry-init
-loop-entry-init c = c.new-summary.ensures c.process-process.result
+pub loop-told-preserved : goal.loop-told-preserved
+loop-told-preserved c =
+    let done : List Event = c.loop-told.invariant.0 in
+    let one : Event = event_told c.in-Some.told in (
+      done ++ one ∷ [],
+      done_more done c.next.new.self one _ _ c.loop-told.invariant.1 c.in-Some.ensures.steps,
+      c.in_ok-noted.ensures c.if-not-noted.false done c.in-Some.told.values.now c.loop-told.invariant.2,
+    )
 
 pub returns : goal.returns
 returns c =
     let events : List Event = c.args.trace.now.events in
-    let entries = c.kept.result.0.now in
-    let i = c.loop-entry.entry-index in
-    let same : length events ≡ length entries =
-    ap (λ (l : List Event). length l) c.kept.ensures.events ∙ length_told entries c.kept.result.1.now in
-    let past : length events ≤ i = omega (arith, same, c.loop-entry-test.false) in
-    subst (λ (p : ProcessId). IsSummedUp p events c.loop-entry.summary) c.process-process.ensures
-    (subst (λ (l : List Event). IsSummedUp c.process-process.result l c.loop-entry.summary) (take_all i events past)
-    c.loop-entry.invariant)
+    let done : List Event = c.loop-told.invariant.0 in
+    subst (λ (p : ProcessId). IsSummedUp p events c.loop-told.summary) c.process-process.ensures
+    (subst (λ (l : List Event). IsSummedUp c.process-process.result l c.loop-told.summary)
+    (done_all done _ _ c.loop-told.invariant.1 c.in-None.ensures.steps.0) c.loop-told.invariant.2)

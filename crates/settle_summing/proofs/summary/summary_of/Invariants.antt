@@ -1,7 +1,8 @@
-use Rattle.std.proofs.Common.{take}
+use Rattle.std.proofs.Common.{◌≡◌, ◌++◌, List}
+use Rattle.run_record.specs.Event.{Event}
 use Rattle.settle_summing.specs.Summary.{IsSummedUp}
 use Rattle.settle_summing.proofs.summary.summary_of.Given as goal
 
-abbrev pub invariant-loop-entry : goal.invariant-loop-entry
-invariant-loop-entry l =
-    IsSummedUp l.process (take l.entry-index l.trace.events) l.summary
+abbrev pub invariant-loop-told : goal.invariant-loop-told
+invariant-loop-told l =
+    (done : List Event) × (l.trace.events ≡ done ++ l.told-iterator) × IsSummedUp l.process done l.summary

@@ -15,8 +15,8 @@ returns-then-not-counts-clause-fits g c =
     numbers_left c.args.number c.arm_all.new.agenda.ready c.rest-in-Ended.new.self c.rest-in-Ended.ensures.left
     (subst AreNumbers (sym c.arm_all.ensures.ready) c.requires.fits)
 
-pub returns-in_ok-wake_receivers-clause-fits : goal.returns-in_ok-wake_receivers-clause-fits
-returns-in_ok-wake_receivers-clause-fits g c =
+pub returns-clause-fits : goal.returns-clause-fits
+returns-clause-fits g c =
     let armed : AreNumbers c.arm_all.new.agenda.ready = subst AreNumbers (sym c.arm_all.ensures.ready) c.requires.fits in
     let moved : AreNumbers c.match-stepped.agenda.ready =
     elim c.match-stepped.branch as (λ _. AreNumbers c.match-stepped.agenda.ready) [
@@ -24,15 +24,4 @@ returns-in_ok-wake_receivers-clause-fits g c =
       | in-Ended+else-not-counts w ↦ subst (λ (a : Agenda). AreNumbers a.ready) (sym w.agenda-is)
           (numbers_left c.args.number c.arm_all.new.agenda.ready w.rest-in-Ended.new.self w.rest-in-Ended.ensures.left armed)
     ] in
-    c.wake_receivers.ensures.numbers (c.wake_created.ensures.numbers moved)
-
-pub returns-in_default-clause-fits : goal.returns-in_default-clause-fits
-returns-in_default-clause-fits g c =
-    let armed : AreNumbers c.arm_all.new.agenda.ready = subst AreNumbers (sym c.arm_all.ensures.ready) c.requires.fits in
-    let moved : AreNumbers c.match-stepped.agenda.ready =
-    elim c.match-stepped.branch as (λ _. AreNumbers c.match-stepped.agenda.ready) [
-      | in-Moved w ↦ subst (λ (a : Agenda). AreNumbers a.ready) (sym w.agenda-is) armed
-      | in-Ended+else-not-counts w ↦ subst (λ (a : Agenda). AreNumbers a.ready) (sym w.agenda-is)
-          (numbers_left c.args.number c.arm_all.new.agenda.ready w.rest-in-Ended.new.self w.rest-in-Ended.ensures.left armed)
-    ] in
-    c.wake_created.ensures.numbers moved
+    c.wake_all.ensures.numbers (c.wake_created.ensures.numbers moved)

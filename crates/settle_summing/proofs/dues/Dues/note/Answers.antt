@@ -8,12 +8,12 @@ use Rattle.settle_summing.proofs.dues.Dues.note.Goals as goal
 
 pub returns-in_ok-set-in-Set : goal.returns-in_ok-set-in-Set
 returns-in_ok-set-in-Set c = λ right done are.
-    due_set done c.args.entry c.args.values.now c.in-Set.timer c.in-Set.count c.in-Set.due c.in_ok-key-in-Set.key
+    due_set done c.args.entry c.args.values.now c.in-Set.timer c.in-Set.due c.in_ok-key-in-Set.key
     c.args.self.now c.set.new.self c.in-Set.is c.in_ok-key-in-Set.ensures c.in_ok-set-in-Set.ensures are
 
 pub returns-in_ok-key-in-Reset : goal.returns-in_ok-key-in-Reset
 returns-in_ok-key-in-Reset c = λ right done are.
-    due_reset done c.args.entry c.args.values.now c.in-Reset.timer c.in-Reset.count c.in_ok-key-in-Reset.key
+    due_reset done c.args.entry c.args.values.now c.in-Reset.timer c.in_ok-key-in-Reset.key
     c.args.self.now c.take.new.self c.in-Reset.is c.in_ok-key-in-Reset.ensures c.take.ensures.after are
 
 pub returns-in-Consumed : goal.returns-in-Consumed
