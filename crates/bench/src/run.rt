@@ -103,8 +103,7 @@ pub fn bare_run<R: Clock + Threads + Wait + Copy + Send + Sync>(
 fn events(report: &Report) -> u64 {
     let mut count: u64 = 0;
     for record in &report.records {
-        let (entries, _) = record.kept();
-        count = count.saturating_add(entries.len() as u64);
+        count = count.saturating_add(record.len() as u64);
     }
     count
 }
