@@ -2,6 +2,7 @@ mod CountLemmas
 mod CrossedLemmas
 mod EndLemmas
 mod EnoughLemmas
+mod GatherLemmas
 mod HearLemmas
 pub mod Lists
 mod MatchLemmas

@@ -1,4 +1,5 @@
 pub mod Account
 pub mod Crossed
 pub mod Ending
+pub mod Gatherings
 pub mod Looks

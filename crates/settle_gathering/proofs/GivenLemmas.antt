@@ -1,6 +1,6 @@
 -- The senders that a port has gathered, one place after the other.
-use Rattle.std.proofs.Common.{◌≡◌, ◌∙◌, ◌⊎◌, ◌<◌, ◌+◌, ap, append_assoc, arith, inl, inr, length, refl, subst, sym, ⊎_elim, ℕ, List, [], ◌∷◌, ◌++◌, count_by}
-use Rattle.std.proofs.lemmas.Bool.{cases_eq}
+use Rattle.std.proofs.Common.{◌≡◌, ◌∙◌, ◌<◌, ◌≤◌, ◌+◌, ap, append_assoc, arith, length, refl, subst, sym, ⊎_elim, ℕ, List, [], ◌∷◌, ◌++◌, count_by}
+use Rattle.std.proofs.lemmas.Bool.{cases_lt}
 use Rattle.input_port.specs.Counts.{signals_in}
 use Rattle.port_inbox.specs.Ends.{OwnerState, is_signal}
 use Rattle.port_inbox.specs.Put.{Apart, StartsWith, of}
@@ -12,7 +12,7 @@ use Rattle.port_values.specs.declared.item.Item.{Item}
 use Rattle.threads_senders.proofs.Signals.{count_by-signals, signals_in-append}
 use Rattle.threads_senders.specs.Peers.{put_by}
 use Rattle.settle_gathering.proofs.DrawLemmas.{DrawsMore, TakesIn, draws_more, draws_none}
-use Rattle.settle_gathering.specs.Gathering.{AreHeld, Given, IsCounted, IsFirst, IsGathering, numbers_of, put_by_all}
+use Rattle.settle_gathering.specs.Gathering.{AreHeld, Given, IsCounted, IsFirst, IsGathering, PutNothing, numbers_of, put_by_all}
 
 -- ---- what is known grows
 
@@ -39,26 +39,24 @@ held_more put known more next (given ∷ before) starts held = (
   held_more put known more given.place before starts held.3,
 )
 
--- ---- one place more
+-- ---- further places
 
-last_or : (place next : ℕ) → place < next + 1 → (place < next) ⊎ (place ≡ next)
-last_or place next within =
-    ⊎_elim (λ (same : place ≡ next). inr same) (λ (apart : place ≡ next → ⊥). inl (grind (arith, within, apart)))
-    (cases_eq place next)
-
--- it has put nothing
-pub held_none : (put : ℕ → List Item) (known : List Placed) (next : ℕ) (given : List Given) → put next ≡ []
-    → AreHeld put known next given → AreHeld put known (next + 1) given
-held_none put known next [] none held = λ place within.
-    ⊎_elim (λ less. held place less) (λ same. ap put same ∙ none) (last_or place next within)
-held_none put known next (given ∷ before) none held = (
-  omega (arith, held.0),
-  λ place past within. ⊎_elim (λ less. held.1 place past less) (λ same. ap put same ∙ none) (last_or place next within),
+-- they have put nothing
+pub held_nothing : (put : ℕ → List Item) (known : List Placed) (next to : ℕ) (given : List Given) → next ≤ to
+    → PutNothing put next to → AreHeld put known next given → AreHeld put known to given
+held_nothing put known next to [] past none held = λ place within.
+    ⊎_elim (λ (less : place < next). held place less) (λ (from : next ≤ place). none place from within)
+    (cases_lt place next)
+held_nothing put known next to (given ∷ before) past none held = (
+  omega (arith, held.0, past),
+  λ place over within.
+      ⊎_elim (λ (less : place < next). held.1 place over less) (λ (from : next ≤ place). none place from within)
+      (cases_lt place next),
   held.2,
   held.3,
 )
 
--- its sender was gathered
+-- the sender of the next one was gathered
 pub held_one : (put : ℕ → List Item) (known : List Placed) (next number : ℕ) (given : List Given)
     → IsFirst put known (record { place = next; number = number }) → AreHeld put known next given
     → AreHeld put known (next + 1) (record { place = next; number = number } ∷ given)
@@ -91,42 +89,35 @@ module _ (put : ℕ → List Item) where
     draws = draws_none owner;
   }
 
-  pub gathers_none : (next now sent : ℕ) (first owner : OwnerState) → now ≡ next + 1 → put next ≡ []
-      → IsGathering put next sent first owner → IsGathering put now sent first owner
-  gathers_none next now sent first owner is none gathers = record {
-    given = gathers.given;
-    held = subst (λ n. AreHeld put owner.known n gathers.given) (sym is)
-        (held_none put owner.known next gathers.given none gathers.held);
-    sent_is = gathers.sent_is;
-    gathered = gathers.gathered;
-    draws = gathers.draws;
-  }
-
-  pub gathers_one : (next now sent more total : ℕ) (first old new : OwnerState) (sender : SenderState) → now ≡ next + 1
-      → put_by sender ≡ put next → more ≡ signals_by sender → total ≡ sent + more → TakesIn old new sender
+  pub gathers_one : (next place now sent more total : ℕ) (first old new : OwnerState) (sender : SenderState)
+      → next ≤ place → now ≡ place + 1 → PutNothing put next place → put_by sender ≡ put place
+      → more ≡ signals_by sender → total ≡ sent + more → TakesIn old new sender
       → IsGathering put next sent first old → IsGathering put now total first new
-  gathers_one next now sent more total first old new sender is puts many sum takes gathers =
-      let one : Given = record { place = next; number = sender.number } in
-      let long : more ≡ length (put next) =
+  gathers_one next place now sent more total first old new sender past is none puts many sum takes gathers =
+      let one : Given = record { place = place; number = sender.number } in
+      let long : more ≡ length (put place) =
       many ∙ count_by-signals (of sender.number sender.seen) ∙ ap length puts in
       record {
         given = one ∷ gathers.given;
         held = subst (λ n. AreHeld put new.known n (one ∷ gathers.given)) (sym is)
-            (held_one put new.known next sender.number gathers.given (first_of put new.known next sender puts takes.told)
-            (held_more put old.known new.known next gathers.given takes.draws.known gathers.held));
+            (held_one put new.known place sender.number gathers.given
+            (first_of put new.known place sender puts takes.told)
+            (held_nothing put new.known next place gathers.given past none
+            (held_more put old.known new.known next gathers.given takes.draws.known gathers.held)));
         sent_is = sum ∙ ap (λ n. n + more) gathers.sent_is ∙ ap (λ n. put_by_all put gathers.given + n) long ∙ omega arith;
         gathered = ap numbers_of takes.gathered ∙ ap (λ l. sender.number ∷ l) gathers.gathered;
         draws = draws_more first old new gathers.draws takes.draws;
       }
 
   -- all is drawn, and as many signals as they have put
-  pub are_counted : (next sent : ℕ) (first old new : OwnerState) → DrawsMore old new → new.gathered ≡ old.gathered
-      → new.known ≡ new.drawn → Apart new.gathered → count_by is_signal new.drawn ≡ sent
-      → IsGathering put next sent first old → IsCounted put next first new
-  are_counted next sent first old new draws same fresh apart many gathers = record {
+  pub are_counted : (next places sent : ℕ) (first old new : OwnerState) → next ≤ places → PutNothing put next places
+      → DrawsMore old new → new.gathered ≡ old.gathered → new.known ≡ new.drawn → Apart new.gathered
+      → count_by is_signal new.drawn ≡ sent → IsGathering put next sent first old → IsCounted put places first new
+  are_counted next places sent first old new past none draws same fresh apart many gathers = record {
     given = gathers.given;
-    held = subst (λ l. AreHeld put l next gathers.given) fresh
-        (held_more put old.known new.known next gathers.given draws.known gathers.held);
+    held = subst (λ l. AreHeld put l places gathers.given) fresh
+        (held_nothing put new.known next places gathers.given past none
+        (held_more put old.known new.known next gathers.given draws.known gathers.held));
     as_many = many ∙ gathers.sent_is;
     gathered = ap numbers_of same ∙ gathers.gathered;
     apart = apart;

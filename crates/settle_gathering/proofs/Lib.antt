@@ -1,4 +1,3 @@
-mod BundleLemmas
 mod DrawLemmas
 mod GivenLemmas
 mod PutLemmas

@@ -1,35 +1,19 @@
--- Ports that gather the senders of all places, one place after the other (Z.101: input port).
-use Rattle.std.specs.Prelude.{◌≡◌, ◌<◌, ◌≤◌, ◌+◌, ℕ, true, false, List, [], ◌∷◌, ◌++◌, All, Option, MatchOption, length, map, count_by}
-use Rattle.std.specs.declared.alloc.Global.{Global}
-use Rattle.crossbeam_queue.specs.SegTies.{SegId}
+-- Ports that gather the senders of all places, by ascending places (Z.101: input port).
+use Rattle.std.specs.Prelude.{◌≡◌, ◌<◌, ◌≤◌, ◌+◌, ℕ, true, false, List, [], ◌∷◌, ◌++◌, All, length, map, count_by}
 use Rattle.input_port.specs.Counts.{sent_by, signals_in}
 use Rattle.port_inbox.specs.Calls.{after_draws}
 use Rattle.port_inbox.specs.Ends.{OwnerState, is_signal}
 use Rattle.port_inbox.specs.Put.{Apart, of}
 use Rattle.port_inbox.specs.declared.placed.Gone.{Gone}
 use Rattle.port_inbox.specs.declared.placed.Placed.{Placed}
-use Rattle.port_queue.specs.Ends.{SenderState}
 use Rattle.port_values.specs.declared.item.Item.{Item}
 use Rattle.port_values.specs.declared.pid.Pid.{Pid}
-use Rattle.threads_senders.specs.Peers.{PeersState, put_by, put_to}
 
--- ---- the senders of one place
+-- ---- places that have put nothing
 
--- what a caller sees of them: the place, from which number of a port on they are all there, and the senders
-pub record BundleState : Type 0 where
-  pub place : ℕ
-  pub from : ℕ
-  pub peers : PeersState
-
--- those into ports from this number on are there, and have put what the place has put
-abbrev pub AreLeft : (ℕ → ℕ → List Item) → ℕ → ℕ → PeersState → Type 0
-AreLeft puts place from peers = (number : ℕ) → from ≤ number → put_to peers number ≡ puts number place
-
--- a sender that is taken has put what the place has put into the port of the number; if there is none, that is nothing
-abbrev pub IsTaken : (ℕ → SegId Global) → (ℕ → ℕ → List Item) → ℕ → ℕ → Option SenderState → Type 0
-IsTaken ports puts place number sender =
-    MatchOption sender (puts number place ≡ [])
-    (λ s. (put_by s ≡ puts number place) × (s.port ≡ ports number))
+-- neither the place `from` has put anything, nor one after it and before the place `to`
+abbrev pub PutNothing : (ℕ → List Item) → ℕ → ℕ → Type 0
+PutNothing put from to = (place : ℕ) → from ≤ place → place < to → put place ≡ []
 
 -- ---- the senders of a port
 

@@ -1,15 +1,17 @@
 //! A port that gathers its senders.
 
-ghost use Rattle.std.specs.Prelude.{◌≡◌, ◌+◌, IfOk, OnOk};
+ghost use Rattle.std.specs.Prelude.{◌≡◌, ◌+◌, ◌≤◌, IfOk, OnOk};
+ghost use Rattle.threads_senders.specs.Peers.{put_by};
+ghost use Rattle.settle_gathering.specs.Gathering.{PutNothing};
 
-use crate::{Bundle, Counted, Fault, Fixed};
-use input_port::Held;
+use crate::{Counted, Fault, Fixed};
+use input_port::{Held, Sender};
 use std::marker::{Model, PhantomData};
 use std::sync::Wait;
 use threads_senders::Run;
 
-/// The port of an instance, which gathers its senders, one place after the other. `at` is its place among the owners,
-/// `number` its number, `next` the place whose sender comes next, and `sent` how many signals the gathered ones have
+/// The port of an instance, which gathers its senders by ascending places. `at` is its place among the owners, `number`
+/// its number, `next` the place after the last one that was gathered, and `sent` how many signals the gathered ones have
 /// put.
 #[derive(Drop)]
 pub struct Gathering<'a, J: Run, K: Fixed, R: Wait + Copy> {
@@ -61,22 +63,21 @@ impl<'a, J: Run, K: Fixed, R: Wait + Copy> Gathering<'a, J, K, R> {
         self.number
     }
 
-    /// Gathers the sender of the next place, where it has one. Lost: it is another place's turn.
-    pub fn gather(&mut self, bundle: &mut Bundle<J, K>) -> Result<(), Fault>
-        ensures next { OnOk result (self.new.next ≡ self.old.next + 1) }
+    /// Gathers the sender of a place. That it has put what the place has put, and that the places between the last one
+    /// and this one have put nothing, is the caller's condition. Lost: this place or a later one was gathered before.
+    pub fn gather(&mut self, place: u32, sender: Sender) -> Result<(), Fault>
+        requires puts { self.old.next ≤ place → put_by sender ≡ K.puts self.old.number place }
+        requires port { sender.port ≡ J.ports self.old.number }
+        requires between { PutNothing (K.puts self.old.number) self.old.next place }
+        ensures next { OnOk result (self.new.next ≡ place + 1) }
         ensures at { self.new.at ≡ self.old.at }
         ensures number { self.new.number ≡ self.old.number }
-        ensures place { bundle.new.place ≡ bundle.old.place }
     {
-        if bundle.place() != self.next {
+        if place < self.next {
             return Err(Fault::Lost(self.number));
         }
-        let Some(next) = self.next.checked_add(1) else {
+        let Some(next) = place.checked_add(1) else {
             return Err(Fault::Lost(self.number));
-        };
-        let Some(sender) = bundle.take(self.number)? else {
-            self.next = next;
-            return Ok(());
         };
         let Some(sent) = self.sent.checked_add(sender.sent()) else {
             return Err(Fault::Lost(self.number));
@@ -89,9 +90,14 @@ impl<'a, J: Run, K: Fixed, R: Wait + Copy> Gathering<'a, J, K, R> {
         Ok(())
     }
 
-    /// Draws all that is in the port, and counts. Lost: other signals were drawn than the gathered senders have put.
-    pub fn count(self) -> Result<Counted<'a, J, K, R>, Fault>
-        ensures { IfOk result (λ c. (c.at ≡ self.entry.at) × (c.number ≡ self.entry.number) × (c.places ≡ self.entry.next)) }
+    /// Draws all that is in the port, and counts, once the senders of so many places were gathered. That the places after
+    /// the last one have put nothing is the caller's condition. Lost: a later place was gathered, or other signals were
+    /// drawn than the gathered senders have put.
+    pub fn count(self, places: u32) -> Result<Counted<'a, J, K, R>, Fault>
+        requires rest { PutNothing (K.puts self.number) self.next places }
+        ensures at { IfOk result (λ c. c.at ≡ self.entry.at) }
+        ensures number { IfOk result (λ c. c.number ≡ self.entry.number) }
+        ensures places { IfOk result (λ c. c.places ≡ places) }
     {
         let Gathering {
             at,
@@ -101,6 +107,9 @@ impl<'a, J: Run, K: Fixed, R: Wait + Copy> Gathering<'a, J, K, R> {
             mut inbox,
             ..
         } = self;
+        if places < next {
+            return Err(Fault::Lost(number));
+        }
         if inbox.drain().is_err() {
             return Err(Fault::Memory);
         }
@@ -108,6 +117,6 @@ impl<'a, J: Run, K: Fixed, R: Wait + Copy> Gathering<'a, J, K, R> {
             return Err(Fault::Lost(number));
         }
         inbox.knows();
-        Ok(Counted::new(at, number, next, inbox))
+        Ok(Counted::new(at, number, places, inbox))
     }
 }

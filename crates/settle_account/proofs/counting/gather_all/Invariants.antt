@@ -1,10 +1,11 @@
-use Rattle.std.proofs.Common.{◌≡◌, ◌+◌}
+use Rattle.std.proofs.Common.{◌≡◌, All, length}
+use Rattle.settle_account.specs.Gatherings.{AreGatheringsOf, HasGathered}
 use Rattle.settle_account.proofs.counting.gather_all.Given as goal
 
-abbrev pub invariant-loop-bundle : goal.invariant-loop-bundle
-invariant-loop-bundle g l =
+abbrev pub invariant-loop-peers : goal.invariant-loop-peers
+invariant-loop-peers g l =
     record {
-      next : l.gathering.next ≡ l.initial.gathering.next + l.bundle-index;
-      at : l.gathering.at ≡ l.initial.gathering.at;
-      number : l.gathering.number ≡ l.initial.gathering.number;
+      place : l.place ≡ length l.yielded;
+      of : AreGatheringsOf l.records l.all.items;
+      gathered : All (HasGathered g.K.Fixed.puts l.place) l.all.items;
     }
