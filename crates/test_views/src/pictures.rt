@@ -24,6 +24,15 @@ static SAID: [&str; 14] = [
     ">Again, due 2</text>",
 ];
 
+/// The times of the page, as high as what is drawn at them. The first is in the row 0, the second in 10, the last in 13,
+/// and there are 21 rows.
+static TIMES: &str = concat!(
+    "<div style=\"height:14px\"></div>",
+    "<div style=\"height:260px\"><b>0</b></div>",
+    "<div style=\"height:78px\"><b>2</b></div>",
+    "<div style=\"height:226px\"><b>3</b></div></div>",
+);
+
 /// Whether a picture says all that is to be said, closes each group, and takes nothing from elsewhere.
 fn is_whole(picture: &str) -> bool {
     SAID.iter().all(|words| picture.contains(*words))
@@ -43,6 +52,8 @@ fn draws_a_picture(rt: HostRuntime) {
     assert!(rt; picture.starts_with("<svg xmlns=\"http://www.w3.org/2000/svg\" viewBox=\"0 0 "));
     assert!(rt; picture.ends_with("</svg>\n"));
     assert!(rt; is_whole(picture));
+    assert!(rt; picture.matches("class=\"time\"").count() == 3);
+    assert!(rt; picture.contains(">end 3 whole</text>\n"));
 }
 
 #[test]
@@ -55,6 +66,10 @@ fn draws_a_page(rt: HostRuntime) {
     let page = str::from_utf8(written.as_slice()).expect(&rt, "a text");
     assert!(rt; page.starts_with("<!DOCTYPE html>\n<html lang=\"en\">"));
     assert!(rt; page.ends_with("</html>\n"));
-    assert!(rt; page.contains("position:sticky"));
     assert!(rt; is_whole(page));
+    // Heads and times stay in sight, and the picture beside them has none.
+    assert!(rt; page.matches("position:sticky").count() == 3);
+    assert!(rt; page.contains(TIMES));
+    assert!(rt; !page.contains("class=\"time\""));
+    assert!(rt; page.contains("<footer>end 3 whole</footer>"));
 }

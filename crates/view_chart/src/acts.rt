@@ -20,12 +20,12 @@ impl<'r> Layout<'r> {
         values: &[Value],
     ) -> Result<(), AllocError> {
         match entry {
-            Entry::Set { timer, due, .. } => {
+            Entry::Set { timer, due } => {
                 let mut label = signal_label(self.alloc, self.system, *timer, values)?;
                 write!(label, ", due {due}")?;
                 self.mark(column, record, Sign::Set, label)
             }
-            Entry::Reset { timer, .. } => {
+            Entry::Reset { timer } => {
                 let label = signal_label(self.alloc, self.system, *timer, values)?;
                 self.mark(column, record, Sign::Reset, label)
             }
@@ -164,7 +164,7 @@ impl<'r> Layout<'r> {
             None => true,
         };
         if !left_out && let Some(line) = self.chart.columns.get_mut(column.0 as usize) {
-            line.ending = match passage.entries.first() {
+            line.ending = match passage.first() {
                 Some(Entry::Rest { .. }) => Ending::Rest,
                 _ => Ending::Cut,
             };
@@ -207,9 +207,9 @@ impl<'r> Layout<'r> {
 
 /// Whether a move is a start that only enters a state.
 fn is_mere_start(passage: &Passage) -> bool {
-    passage.entries.iter().all(|entry| {
+    passage.events().all(|told| {
         matches!(
-            entry,
+            told.entry,
             Entry::Start { .. } | Entry::Task { .. } | Entry::NextState { .. }
         )
     })

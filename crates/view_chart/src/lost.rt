@@ -19,7 +19,7 @@ impl<'r> Layout<'r> {
         selection: &Selection,
     ) -> Result<(), AllocError> {
         let told = self.told;
-        self.told = told.saturating_add(passage.entries.len());
+        self.told = told.saturating_add(passage.links.len());
         self.lost_up_to(told, selection)
     }
 

@@ -1,29 +1,41 @@
 //! The moves of a timeline, each with what happens in it.
 
-use port_values::{Ticks, Value};
-use run_record::{Entry, Record, Report};
+use port_values::Ticks;
+use run_record::{Entry, Reader, Record, Report};
 use std::alloc::{AllocError, Global};
+use std::iter::Take;
 use view_timeline::{Link, Move, Timeline};
 
-/// A move of an instance: its entries with their values and links.
+/// A move of an instance: its events, and the link of each.
 #[derive(Drop)]
 pub struct Passage<'r> {
     pub record: &'r Record,
-    pub entries: &'r [Entry],
-    pub values: &'r [Value],
     pub links: &'r [Link],
+    /// From its first event on.
+    reader: Reader<'r>,
 }
 
 impl<'r> Passage<'r> {
+    /// Its events.
+    pub fn events(&self) -> Take<Reader<'r>> {
+        self.reader.again().take(self.links.len())
+    }
+
+    /// Its first event.
+    pub fn first(&self) -> Option<Entry> {
+        let mut events = self.events();
+        Some(events.next()?.entry)
+    }
+
     /// When it begins: how a record closes has no time.
     pub fn at(&self) -> Option<Ticks> {
-        match self.entries.first()? {
+        match self.first()? {
             Entry::Start { at }
             | Entry::Consumed { at, .. }
             | Entry::Prior { at, .. }
             | Entry::Discarded { at, .. }
             | Entry::Provided { at, .. }
-            | Entry::FailedAt { at, .. } => Some(Ticks::new(*at)),
+            | Entry::FailedAt { at, .. } => Some(Ticks::new(at)),
             _ => None,
         }
     }
@@ -35,8 +47,8 @@ pub struct MoveWalk<'r> {
     report: &'r Report,
     /// The links of the events that are still to come.
     links: &'r [Link],
-    /// How many values of each record are behind.
-    behind: Vec<usize>,
+    /// The events of each record that are still to come.
+    readers: Vec<Reader<'r>>,
 }
 
 impl<'r> MoveWalk<'r> {
@@ -46,12 +58,14 @@ impl<'r> MoveWalk<'r> {
         report: &'r Report,
         timeline: &'r Timeline,
     ) -> Result<Self, AllocError> {
-        let mut behind = Vec::new(alloc);
-        behind.resize(report.records.len(), 0usize)?;
+        let mut readers = Vec::new(alloc);
+        for record in &report.records {
+            readers.push(record.reader())?;
+        }
         Ok(MoveWalk {
             report,
             links: timeline.links.as_slice(),
-            behind,
+            readers,
         })
     }
 
@@ -60,29 +74,19 @@ impl<'r> MoveWalk<'r> {
         let place = next.record.0 as usize;
         let report: &'r Report = self.report;
         let record = report.records.get(place)?;
-        let (entries, values) = record.kept();
-        let entries = entries.get(next.first.0 as usize..next.end.0 as usize)?;
-        let behind = self.behind.get_mut(place)?;
-        let values = values.get(*behind..)?;
-        let values = values.get(..count_of(entries))?;
-        *behind = behind.saturating_add(values.len());
+        let count = (next.end.0 as usize).checked_sub(next.first.0 as usize)?;
         let links = self.links;
-        let own = links.get(..entries.len())?;
-        self.links = links.get(entries.len()..)?;
+        let own = links.get(..count)?;
+        self.links = links.get(count..)?;
+        let left = self.readers.get_mut(place)?;
+        let reader = left.again();
+        for _ in 0..count {
+            left.next()?;
+        }
         Some(Passage {
             record,
-            entries,
-            values,
             links: own,
+            reader,
         })
     }
-}
-
-/// How many values the entries have.
-fn count_of(entries: &[Entry]) -> usize {
-    let mut count = 0usize;
-    for entry in entries {
-        count = count.saturating_add(entry.count());
-    }
-    count
 }

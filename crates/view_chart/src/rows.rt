@@ -149,25 +149,15 @@ impl<'r> Layout<'r> {
     ) -> Result<(), AllocError> {
         self.span = None;
         self.sign = None;
-        let mut rest = passage.values;
-        for (place, entry) in passage.entries.iter().enumerate() {
-            let (own, more) = rest.split_at(entry.count().min(rest.len()));
-            rest = more;
-            let link = passage.links.get(place).copied().unwrap_or(Link::Plain);
-            self.event(column, passage, entry, own, link, at)?;
+        for (told, link) in passage.events().zip(passage.links) {
+            self.event(column, passage, &told.entry, told.values, *link, at)?;
         }
         self.bar(column, passage)
     }
 
     /// Draws the bar of the transition that is drawn: where it exchanges something, else behind its state or its end.
     fn bar(&mut self, column: ColumnId, passage: &Passage) -> Result<(), AllocError> {
-        let told = lines_of(
-            self.alloc,
-            self.system,
-            passage.record,
-            passage.entries,
-            passage.values,
-        )?;
+        let told = lines_of(self.alloc, self.system, passage)?;
         let (first, last, is_behind_sign) = match (self.span, self.sign) {
             (Some(Span { first, last }), _) => (first, last, false),
             (None, Some(row)) => (row, row, true),
@@ -206,9 +196,7 @@ impl<'r> Layout<'r> {
             Entry::Discarded { got, .. } => {
                 self.take(column, passage.record, *got, values, link, Take::Discard)
             }
-            Entry::OutputOnPath { signal, target, .. }
-            | Entry::OutputToProcess { signal, target, .. }
-            | Entry::OutputToPid { signal, target, .. } => {
+            Entry::Output { signal, target, .. } => {
                 self.output(column, passage.record, *signal, values, *target, link, at)
             }
             Entry::NextState { state } => self.next_state(column, passage, *state),

@@ -5,8 +5,9 @@ ghost use Rattle.std.specs.String.{string_bytes};
 ghost use Rattle.view_chart.specs.Words.{instance_words, number_words, target_words};
 
 use crate::chart::Tip;
+use crate::passage::Passage;
 use port_values::{SignalId, Value};
-use run_record::{Entry, Record, Report};
+use run_record::{Record, Report};
 use sdl_report::{process_name, push_event, push_signal, record_of};
 use sdl_system::{System, Target};
 use std::alloc::{AllocError, Global};
@@ -58,19 +59,14 @@ pub fn push_instance(text: &mut String, system: &System, record: &Record) -> Res
 pub fn lines_of(
     alloc: Global,
     system: &System,
-    record: &Record,
-    entries: &[Entry],
-    values: &[Value],
+    passage: &Passage<'_>,
 ) -> Result<String, AllocError> {
+    let record = passage.record;
     let mut text = String::new(alloc);
     push_instance(&mut text, system, record)?;
-    let mut rest = values;
-    for entry in entries {
+    for told in passage.events() {
         text.push('\n')?;
-        let count = entry.count().min(rest.len());
-        let (own, more) = rest.split_at(count);
-        rest = more;
-        push_event(&mut text, entry, own, record, system)?;
+        push_event(&mut text, &told.entry, told.values, record, system)?;
         let _ = text.pop();
     }
     Ok(text)

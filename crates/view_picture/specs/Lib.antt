@@ -1,2 +1,3 @@
+pub mod Ends
 pub mod Markup
 pub mod Written

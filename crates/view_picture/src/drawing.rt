@@ -1,7 +1,8 @@
 //! From rows and columns to places in a picture.
 
 use crate::pixels::Pixels;
-use crate::spacing::{Spacing, half_head};
+use crate::room::half_head;
+use crate::spacing::Spacing;
 use std::alloc::{AllocError, Global};
 use view_chart::{Chart, Column, ColumnId, Ending, Head, Row};
 
@@ -33,6 +34,11 @@ impl<'c> Drawing<'c> {
     /// How wide the picture is.
     pub fn width(&self) -> Pixels {
         self.spacing.width
+    }
+
+    /// How much of it the times take, at its left edge.
+    pub fn width_of_times(&self) -> Pixels {
+        self.spacing.times
     }
 
     /// Where the lines of the instances end that live on.

@@ -1,7 +1,7 @@
 //! The heads of columns.
 
 use crate::pixels::Pixels;
-use crate::spacing::half_head;
+use crate::room::half_head;
 use std::alloc::AllocError;
 use view_chart::{Column, Head};
 

@@ -1,13 +1,14 @@
-//! A chart in a page that scrolls, with heads that stay at the top.
+//! A chart in a page that scrolls: heads stay at the top, and times at the left edge.
 
 ghost use Rattle.std.specs.Prelude.{OnErr, OnOk};
 ghost use Rattle.view_picture.specs.Written.{IsBrokenOff, IsWritten};
 
 use crate::drawing::Drawing;
 use crate::markup::push_escaped;
-use crate::picture::{height, push_body, push_description, push_heads};
+use crate::picture::{push_body, push_description, push_heads};
 use crate::pixels::Pixels;
 use crate::style::{PAGE_STYLE, STYLE, TIPS};
+use port_values::Ticks;
 use sdl_report::{WriteFault, write_text};
 use std::alloc::{AllocError, Global};
 use std::io::Write;
@@ -19,6 +20,7 @@ const SIGNS: &str = concat!(
     "<li>A column is an instance of a process. Time, in ticks, runs downwards; its number is at the left edge.</li>\n",
     "<li>A bar is a transition. Point at it, and it shows its lines of the trace, with the tasks.</li>\n",
     "<li>An arrow is a signal. It is level where the receiver takes it at once, else it slopes. ",
+    "One that leads far has its label at both ends, with who is at the other one. ",
     "A dashed one with the word discarded is taken to no effect. ",
     "One with a dot at its end is gone: nobody takes it. One with a ring at its end waits in the port.</li>\n",
     "<li>A hexagon is a state that is entered.</li>\n",
@@ -46,11 +48,15 @@ pub fn write_html<W: Write>(
 /// The page as HTML.
 fn html_text(alloc: Global, chart: &Chart, title: &str) -> Result<String, AllocError> {
     let drawing = Drawing::new(alloc, chart, Pixels(14))?;
+    let end = &chart.end;
     let mut text = String::new(alloc);
     push_top(&mut text, title)?;
-    push_sticky(&mut text, &drawing)?;
+    text.push_str("<div class=\"box\" tabindex=\"0\" role=\"region\" aria-label=\"chart\">\n")?;
+    push_sticky_heads(&mut text, &drawing)?;
+    text.push_str("<div class=\"rows\">")?;
+    push_sticky_times(&mut text, &drawing)?;
     push_chart(&mut text, &drawing, title)?;
-    text.push_str("</div></body></html>\n")?;
+    write!(text, "</div></div>\n<footer>{end}</footer></body></html>\n")?;
     Ok(text)
 }
 
@@ -70,26 +76,69 @@ fn push_top(text: &mut String, title: &str) -> Result<(), AllocError> {
     text.push_str("</header>\n")
 }
 
-/// Appends the heads, which stay at the top of the box.
-fn push_sticky(text: &mut String, drawing: &Drawing) -> Result<(), AllocError> {
-    let width = drawing.width().0;
-    text.push_str("<div class=\"box\" tabindex=\"0\" role=\"region\" aria-label=\"chart\">")?;
+/// Appends the heads, which stay at the top of the box. What is above the times stays in its corner.
+fn push_sticky_heads(text: &mut String, drawing: &Drawing) -> Result<(), AllocError> {
+    let left = drawing.width_of_times().0;
+    let width = drawing.width().minus(left).0;
     write!(
         text,
-        "<div class=\"heads\"><svg width=\"{width}\" height=\"44\" aria-hidden=\"true\">\n"
+        "<div class=\"heads\" aria-hidden=\"true\"><div class=\"corner\" style=\"width:{left}px\">time</div>"
+    )?;
+    writeln!(
+        text,
+        "<svg viewBox=\"{left} 0 {width} 44\" width=\"{width}\" height=\"44\">"
     )?;
     push_heads(text, drawing, Pixels(5), true)?;
     text.push_str("</svg></div>\n")
 }
 
-/// Appends the chart below its heads.
-fn push_chart(text: &mut String, drawing: &Drawing, title: &str) -> Result<(), AllocError> {
-    let width = drawing.width().0;
-    let height = height(drawing).0;
+/// Appends the times, which stay at the left edge of the box: each is as high as what is drawn at it, and its number
+/// stays in sight as long as something of that is.
+fn push_sticky_times(text: &mut String, drawing: &Drawing) -> Result<(), AllocError> {
+    let width = drawing.width_of_times().0;
     write!(
         text,
-        "<svg width=\"{width}\" height=\"{height}\" role=\"img\" aria-labelledby=\"t d\">\n<title id=\"t\">"
+        "<div class=\"times\" style=\"width:{width}px\" aria-hidden=\"true\">"
     )?;
+    let mut top = Pixels(0);
+    let mut before: Option<Ticks> = None;
+    for time in &drawing.chart.times {
+        let next = drawing.y(time.row);
+        push_time(text, before, next.minus(top.0))?;
+        top = next;
+        before = Some(time.at);
+    }
+    push_time(text, before, height_of(drawing).minus(top.0))?;
+    text.push_str("</div>\n")
+}
+
+/// Appends a time that is so high, or what is above the first one.
+fn push_time(text: &mut String, time: Option<Ticks>, height: Pixels) -> Result<(), AllocError> {
+    let height = height.0;
+    write!(text, "<div style=\"height:{height}px\">")?;
+    if let Some(time) = time {
+        let at = time.get();
+        write!(text, "<b>{at}</b>")?;
+    }
+    text.push_str("</div>")
+}
+
+/// How high the chart is below its heads.
+fn height_of(drawing: &Drawing) -> Pixels {
+    drawing.bottom().plus(14)
+}
+
+/// Appends the chart below its heads, beside the times.
+fn push_chart(text: &mut String, drawing: &Drawing, title: &str) -> Result<(), AllocError> {
+    let left = drawing.width_of_times().0;
+    let width = drawing.width().minus(left).0;
+    let height = height_of(drawing).0;
+    writeln!(
+        text,
+        "<svg viewBox=\"{left} 0 {width} {height}\" width=\"{width}\" height=\"{height}\" role=\"img\" \
+         aria-labelledby=\"t d\">"
+    )?;
+    text.push_str("<title id=\"t\">")?;
     push_escaped(text, title)?;
     text.push_str(": message sequence chart of a run</title>\n<desc id=\"d\">")?;
     push_description(text, drawing.chart)?;

@@ -7,14 +7,19 @@
 #![tactic(auto)]
 
 mod arrows;
+mod creations;
 mod drawing;
+mod ends;
 mod heads;
 mod html;
+mod levels;
 mod lines;
 mod markup;
 mod picture;
 mod pixels;
+mod room;
 mod signs;
+mod slopes;
 mod spacing;
 mod style;
 mod svg;

@@ -3,30 +3,29 @@
 use crate::drawing::{BAR, Drawing, ROW};
 use crate::pixels::Pixels;
 use std::alloc::AllocError;
-use view_chart::{Bar, Column, ColumnId, Ending, Head, TimeLine};
+use view_chart::{Bar, Column, ColumnId, Ending, Head};
 
 /// Appends the lines of the times.
 pub fn push_times(text: &mut String, drawing: &Drawing) -> Result<(), AllocError> {
+    let right = drawing.width().minus(8).0;
     for time in &drawing.chart.times {
-        push_time(text, drawing, *time)?;
+        let y = drawing.y(time.row).0;
+        writeln!(
+            text,
+            "<line class=\"tick\" x1=\"8\" y1=\"{y}\" x2=\"{right}\" y2=\"{y}\"/>"
+        )?;
     }
     Ok(())
 }
 
-fn push_time(text: &mut String, drawing: &Drawing, time: TimeLine) -> Result<(), AllocError> {
-    let y = drawing.y(time.row);
-    let line = y.0;
-    let right = drawing.width().minus(8).0;
-    let below = y.plus(15).0;
-    let at = time.at.get();
-    write!(
-        text,
-        "<line class=\"tick\" x1=\"8\" y1=\"{line}\" x2=\"{right}\" y2=\"{line}\"/>"
-    )?;
-    writeln!(
-        text,
-        "<text class=\"time\" x=\"10\" y=\"{below}\">{at}</text>"
-    )
+/// Appends the times themselves, at the left edge.
+pub fn push_numbers_of_times(text: &mut String, drawing: &Drawing) -> Result<(), AllocError> {
+    for time in &drawing.chart.times {
+        let y = drawing.y(time.row).plus(15).0;
+        let at = time.at.get();
+        writeln!(text, "<text class=\"time\" x=\"10\" y=\"{y}\">{at}</text>")?;
+    }
+    Ok(())
 }
 
 /// Appends the lines of the columns. `above` is how far they begin above the first row, except those of instances that

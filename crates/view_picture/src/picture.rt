@@ -1,23 +1,21 @@
 //! The whole of a picture: what is drawn under what, and its words for those who don't see it.
 
-use crate::arrows::{push_creations, push_levels, push_slope_labels, push_slopes};
+use crate::creations::push_creations;
 use crate::drawing::Drawing;
 use crate::heads::push_head;
+use crate::levels::push_levels;
 use crate::lines::{push_bars, push_columns, push_times};
 use crate::pixels::Pixels;
 use crate::signs::push_signs;
+use crate::slopes::{push_slope_labels, push_slopes};
 use std::alloc::AllocError;
 use view_chart::{Chart, ColumnId, Head};
 
 /// How far the lines of columns begin above the first row, in a picture with its heads.
 pub const ABOVE: Pixels = Pixels(20);
 
-/// How high a picture is.
-pub fn height(drawing: &Drawing) -> Pixels {
-    drawing.bottom().plus(32)
-}
-
-/// Appends all that is drawn below the heads. What comes later lies above, so that no line goes through a label.
+/// Appends all that is drawn below the heads, beside the times. What comes later lies above, so that no line goes
+/// through a label.
 pub fn push_body(text: &mut String, drawing: &Drawing, above: Pixels) -> Result<(), AllocError> {
     push_times(text, drawing)?;
     push_columns(text, drawing, above)?;
@@ -26,13 +24,7 @@ pub fn push_body(text: &mut String, drawing: &Drawing, above: Pixels) -> Result<
     push_creations(text, drawing)?;
     push_levels(text, drawing)?;
     push_signs(text, drawing)?;
-    push_slope_labels(text, drawing)?;
-    let y = drawing.bottom().plus(22).0;
-    let end = &drawing.chart.end;
-    writeln!(
-        text,
-        "<text class=\"small\" x=\"10\" y=\"{y}\">{end}</text>"
-    )
+    push_slope_labels(text, drawing)
 }
 
 /// Appends the heads of the columns, with their upper edges at `y`: of all, or of those alone that aren't created in
@@ -43,11 +35,6 @@ pub fn push_heads(
     y: Pixels,
     all: bool,
 ) -> Result<(), AllocError> {
-    let line = y.plus(21).0;
-    writeln!(
-        text,
-        "<text class=\"small\" x=\"10\" y=\"{line}\">time</text>"
-    )?;
     for (place, column) in drawing.chart.columns.iter().enumerate() {
         if column.used
             && (all || column.created.is_none())

@@ -69,3 +69,16 @@ fn width_of_byte(byte: u8) -> u32 {
         _ => 8,
     }
 }
+
+/// How wide a number is.
+pub fn width_of_number(number: u64) -> Pixels {
+    let mut digits = 1u32;
+    let mut rest = number / 10;
+    for _digit in 0..20 {
+        if rest > 0 {
+            digits = digits.saturating_add(1);
+            rest /= 10;
+        }
+    }
+    Pixels(8).times(digits)
+}

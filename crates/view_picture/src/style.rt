@@ -16,7 +16,7 @@ pub const STYLE: &str = concat!(
     ".timertip,.timertext{fill:#5b3d7d}\n",
     ".tick{stroke:#dde1e7}.time{font-weight:bold;fill:#566170}.end{stroke:#1c2430;fill:#1c2430}",
     ".cut{stroke:#1c2430;fill:#fff}.stop{stroke:#1c2430;stroke-width:2;fill:none}\n",
-    ".halo{paint-order:stroke;stroke:#fff;stroke-width:3px;stroke-linejoin:round}\n",
+    ".halo{paint-order:stroke;stroke:#fff;stroke-width:5px;stroke-linejoin:round}\n",
     "@media (prefers-color-scheme:dark){\n",
     "text{fill:#e3e7ed}.page{fill:#14181f}.head{fill:#22304a;stroke:#7fa3d9}",
     ".outer{fill:#14181f;stroke:#8c96a5}.small,.time{fill:#a6b0be}\n",
@@ -29,19 +29,27 @@ pub const STYLE: &str = concat!(
     "}",
 );
 
-/// The classes of the page round a picture: its heads stay at the top.
+/// The classes of the page round a picture: its heads stay at the top, and its times at the left edge. Heads are 44
+/// pixels high, and have a line below.
 pub const PAGE_STYLE: &str = concat!(
     "html,body{height:100%;margin:0}\n",
     "body{display:flex;flex-direction:column;background:#fff;color:#1c2430;",
     "font:14px Helvetica,Arial,\"Liberation Sans\",\"DejaVu Sans\",sans-serif}\n",
     "header{padding:8px 12px}h1{font-size:16px;margin:0}p{margin:4px 0}",
     "details{font-size:13px;max-width:60em}ul{margin:4px 0;padding-left:20px}\n",
-    ".box{flex:1;overflow:auto;border-top:1px solid #b9c1cc}",
+    "footer{padding:5px 10px;font-size:12px;color:#566170;border-top:1px solid #b9c1cc}\n",
+    ".box{flex:1;min-height:0;overflow:auto;border-top:1px solid #b9c1cc}",
     ".box:focus{outline:2px solid #1d4f91;outline-offset:-2px}\n",
-    ".heads{position:sticky;top:0;background:#fff;border-bottom:1px solid #b9c1cc;width:max-content;",
-    "min-width:100%}svg{display:block}\n",
+    ".heads,.rows{display:flex;width:max-content;min-width:100%}svg{display:block;flex:none}\n",
+    ".heads{position:sticky;top:0;z-index:2;background:#fff;border-bottom:1px solid #b9c1cc}\n",
+    ".corner,.times{position:sticky;left:0;z-index:1;flex:none;box-sizing:border-box;background:#fff;",
+    "border-right:1px solid #b9c1cc}\n",
+    ".corner{padding:14px 0 0 10px;font-size:11px}.corner,.times b{color:#566170}\n",
+    ".times div{box-sizing:border-box}.times div+div{border-top:1px solid #dde1e7}",
+    ".times b{display:block;position:sticky;top:45px;padding:4px 0 3px 10px;font-size:12px;line-height:14px}\n",
     "@media (prefers-color-scheme:dark){\n",
-    "body,.heads{background:#14181f;color:#e3e7ed}.box,.heads{border-color:#3b4452}",
+    "body,.heads,.corner,.times{background:#14181f;color:#e3e7ed}.corner,.times b,footer{color:#a6b0be}\n",
+    ".box,.heads,.corner,.times,footer{border-color:#3b4452}.times div+div{border-color:#2b323d}",
     ".box:focus{outline-color:#8ab4f0}\n",
     "}\n",
 );

@@ -4,8 +4,9 @@ ghost use Rattle.std.specs.Prelude.{OnErr, OnOk};
 ghost use Rattle.view_picture.specs.Written.{IsBrokenOff, IsWritten};
 
 use crate::drawing::Drawing;
+use crate::lines::push_numbers_of_times;
 use crate::markup::push_escaped;
-use crate::picture::{ABOVE, height, push_body, push_description, push_heads};
+use crate::picture::{ABOVE, push_body, push_description, push_heads};
 use crate::pixels::Pixels;
 use crate::style::{STYLE, TIPS};
 use sdl_report::{WriteFault, write_text};
@@ -31,7 +32,7 @@ pub fn write_svg<W: Write>(
 fn svg_text(alloc: Global, chart: &Chart, title: &str) -> Result<String, AllocError> {
     let drawing = Drawing::new(alloc, chart, Pixels(62))?;
     let width = drawing.width().0;
-    let height = height(&drawing).0;
+    let height = drawing.bottom().plus(32).0;
     let mut text = String::new(alloc);
     text.push_str("<svg xmlns=\"http://www.w3.org/2000/svg\"")?;
     write!(
@@ -48,6 +49,19 @@ fn svg_text(alloc: Global, chart: &Chart, title: &str) -> Result<String, AllocEr
     )?;
     push_body(&mut text, &drawing, ABOVE)?;
     push_heads(&mut text, &drawing, Pixels(4), false)?;
+    push_edge(&mut text, &drawing)?;
     text.push_str("</svg>\n")?;
     Ok(text)
+}
+
+/// Appends what is at the left edge: the times, and below them the last line.
+fn push_edge(text: &mut String, drawing: &Drawing) -> Result<(), AllocError> {
+    text.push_str("<text class=\"small\" x=\"10\" y=\"25\">time</text>\n")?;
+    push_numbers_of_times(text, drawing)?;
+    let y = drawing.bottom().plus(22).0;
+    let end = &drawing.chart.end;
+    writeln!(
+        text,
+        "<text class=\"small\" x=\"10\" y=\"{y}\">{end}</text>"
+    )
 }
