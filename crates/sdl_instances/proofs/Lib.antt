@@ -6,4 +6,3 @@ pub mod Members
 pub mod Moves
 pub mod Ranges
 pub mod Sums
-pub mod Without

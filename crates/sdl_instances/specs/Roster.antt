@@ -1,7 +1,9 @@
--- The instances of all processes of a system: a list that has those of each process at its number.
-use Rattle.std.specs.Prelude.{◌≡◌, ℕ, Bool, false, List, All, Option, map, slice_get, slice_set}
+-- The instances of all processes of a system: a list that has those of each process at its number. And how often it has
+-- changed who lives.
+use Rattle.std.specs.Prelude.{◌≡◌, ◌+◌, ◌-◌, ◌^◌, ℕ, Bool, false, List, All, Option, map, min, slice_get, slice_set}
 use Rattle.std.specs.Option.{option_map_or}
 use Rattle.sdl_instances.specs.Instances.{InstancesValue, AreAscending, AreWithinLimit, can_live, has_room, least, none_of}
+use Rattle.sdl_instances.specs.NumberSets.{is_in}
 use Rattle.sdl_system.specs.declared.id.ProcessId.{ProcessId}
 use Rattle.sdl_system.specs.declared.process.Process.{Process}
 
@@ -21,6 +23,11 @@ has_room_in roster process = option_map_or has_room (slice_get roster process.0)
 abbrev pub can_live_in : List InstancesValue → ProcessId → ℕ → Bool
 can_live_in roster process number = option_map_or (can_live number) (slice_get roster process.0) false
 
+-- whether an instance of a process lives
+abbrev pub lives_in : List InstancesValue → ProcessId → ℕ → Bool
+lives_in roster process number =
+    option_map_or (λ (instances : InstancesValue). is_in number instances.living) (slice_get roster process.0) false
+
 -- the instances of one process are changed, and those of no other
 abbrev pub with_changed : (InstancesValue → InstancesValue) → List InstancesValue → ProcessId → List InstancesValue
 with_changed change roster process =
@@ -31,3 +38,28 @@ pub record IsKept (roster : List InstancesValue) (at_hand : List (Option ℕ)) :
   pub least_is : at_hand ≡ least_living roster
   pub within : All AreWithinLimit roster
   pub ascending : All AreAscending roster
+
+-- ---- the version
+
+-- what a caller sees of a roster: the instances of each process, and its version
+pub record RosterValue : Type 0 where
+  pub processes : List InstancesValue
+  pub version : ℕ
+
+-- the next version, as 64 bits count
+abbrev pub next_version : ℕ → ℕ
+next_version version = min (version + 1) (2 ^ 64 - 1)
+
+-- the reservations of a process are changed: the version stays
+abbrev pub reserved_in : (InstancesValue → InstancesValue) → RosterValue → ProcessId → RosterValue
+reserved_in change roster process = record {
+  processes = with_changed change roster.processes process;
+  version = roster.version;
+}
+
+-- it is changed who lives: the next version
+abbrev pub turned_in : (InstancesValue → InstancesValue) → RosterValue → ProcessId → RosterValue
+turned_in change roster process = record {
+  processes = with_changed change roster.processes process;
+  version = next_version roster.version;
+}

@@ -1,6 +1,7 @@
 //! The instances of one process (Z.101: agent instance set).
 
 ghost use Rattle.std.specs.Prelude.{◌≡◌, ◌<◌, ◌≤◌, if◌then◌else◌};
+ghost use Rattle.sdl_instances.specs.NumberSets.{is_in};
 ghost use Rattle.sdl_instances.specs.Instances.{can_live, has_room, least, none_of, AreWithinLimit, with_one, without_one, with_reservation, without_reservation};
 
 use crate::numbers::Numbers;
@@ -94,15 +95,17 @@ impl Instances {
         true
     }
 
-    /// One lives no more.
-    pub fn end(&mut self, number: u32)
-        ensures after { self.new ≡ without_one number self.old }
+    /// One lives no more. False: it didn't live; then nothing changes.
+    pub fn end(&mut self, number: u32) -> bool
+        ensures lived { result ≡ is_in number self.old.living }
+        ensures after { self.new ≡ (if result then without_one number self.old else self.old) }
         ensures within { AreWithinLimit self.new }
     {
         if !self.living.contains(number) {
-            return;
+            return false;
         }
         self.living.remove(number);
+        true
     }
 
     /// The least number of those that live.

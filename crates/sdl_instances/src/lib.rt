@@ -7,8 +7,9 @@
 //!
 //! `Entries` has for each number what was entered for it: all threads share it without a lock, and what is found under a
 //! number is the entry of that number. `Roster` is the registry of the living: for each process it has the numbers of
-//! those that live, and how many creates are under way. Each call is exact on that, and those that live and those that
-//! are reserved are never more than the process's maximum. Once made, a roster needs no memory.
+//! those that live, and how many creates are under way; and it counts how often somebody came to life or ended: its
+//! version. Each call is exact on that, and those that live and those that are reserved are never more than the process's
+//! maximum. Once made, a roster needs no memory.
 #![tactic(auto)]
 
 pub mod birth;
@@ -17,6 +18,7 @@ mod entries;
 mod full;
 mod instances;
 mod numbers;
+mod processes;
 mod roster;
 mod rule;
 mod seat;

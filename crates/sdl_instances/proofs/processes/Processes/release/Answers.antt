@@ -1,11 +1,11 @@
 use Rattle.std.proofs.Common.{ap}
 use Rattle.sdl_instances.specs.Instances.{InstancesValue, without_reservation}
 use Rattle.sdl_instances.proofs.Kept.{changed, kept_same, lent_at}
-use Rattle.sdl_instances.proofs.roster.Roster.release.Goals as goal
+use Rattle.sdl_instances.proofs.processes.Processes.release.Goals as goal
 
 pub invariant_of-self-2 : goal.invariant_of-self-2
 invariant_of-self-2 c =
-    let items = c.self.inside.processes.items in
+    let items = c.self.inside.rows.items in
     let old = c.in-Some.instances.now in
     let at = lent_at items c.args.process.0 old c.in-Some.ensures.item.3.0 c.in-Some.ensures.item.1 in
     kept_same items c.self.inside.least.items c.args.process.0 old c.release.new.self
@@ -13,7 +13,7 @@ invariant_of-self-2 c =
 
 pub returns : goal.returns
 returns c =
-    let items = c.self.inside.processes.items in
+    let items = c.self.inside.rows.items in
     let old = c.in-Some.instances.now in
     let at = lent_at items c.args.process.0 old c.in-Some.ensures.item.3.0 c.in-Some.ensures.item.1 in
     changed items c.args.self.now c.args.process old at c.self.view_is

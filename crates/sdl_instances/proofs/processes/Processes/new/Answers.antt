@@ -1,10 +1,10 @@
 use Rattle.std.proofs.Common.{ap, ◌∙◌, arith}
 use Rattle.sdl_instances.specs.Roster.{none_living}
 use Rattle.sdl_instances.proofs.Made.{made_all, made_more, made_none}
-use Rattle.sdl_instances.proofs.roster.Roster.new.Goals as goal
+use Rattle.sdl_instances.proofs.processes.Processes.new.Goals as goal
 
 pub loop-process-init : goal.loop-process-init
-loop-process-init c = made_none _ _ _ c.in_ok-processes.ensures.items c.in_ok-least.ensures.items
+loop-process-init c = made_none _ _ _ c.in_ok-rows.ensures.items c.in_ok-least.ensures.items
 
 pub invariant_of-result : goal.invariant_of-result
 invariant_of-result c = c.loop-process.invariant.kept

@@ -1,11 +1,11 @@
 use Rattle.std.proofs.Common.{◌∙◌}
 use Rattle.sdl_instances.specs.Instances.{has_room, with_reservation}
 use Rattle.sdl_instances.proofs.Kept.{changed_if, kept_same, living_reserved, lent_at, said_of}
-use Rattle.sdl_instances.proofs.roster.Roster.reserve.Goals as goal
+use Rattle.sdl_instances.proofs.processes.Processes.reserve.Goals as goal
 
 pub invariant_of-self-2 : goal.invariant_of-self-2
 invariant_of-self-2 c =
-    let items = c.self.inside.processes.items in
+    let items = c.self.inside.rows.items in
     let old = c.in-Some.instances.now in
     let at = lent_at items c.args.process.0 old c.in-Some.ensures.item.3.0 c.in-Some.ensures.item.1 in
     kept_same items c.self.inside.least.items c.args.process.0 old c.reserve.new.self
@@ -14,7 +14,7 @@ invariant_of-self-2 c =
 
 pub returns-clause-room : goal.returns-clause-room
 returns-clause-room c =
-    let items = c.self.inside.processes.items in
+    let items = c.self.inside.rows.items in
     let old = c.in-Some.instances.now in
     let at = lent_at items c.args.process.0 old c.in-Some.ensures.item.3.0 c.in-Some.ensures.item.1 in
     c.reserve.ensures.room
@@ -22,7 +22,7 @@ returns-clause-room c =
 
 pub returns-clause-after : goal.returns-clause-after
 returns-clause-after c =
-    let items = c.self.inside.processes.items in
+    let items = c.self.inside.rows.items in
     let old = c.in-Some.instances.now in
     let at = lent_at items c.args.process.0 old c.in-Some.ensures.item.3.0 c.in-Some.ensures.item.1 in
     changed_if items c.args.self.now c.args.process old at c.self.view_is

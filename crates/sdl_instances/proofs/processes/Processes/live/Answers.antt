@@ -1,11 +1,11 @@
 use Rattle.std.proofs.Common.{◌∙◌}
 use Rattle.sdl_instances.specs.Instances.{can_live, with_one}
 use Rattle.sdl_instances.proofs.Kept.{changed, kept_with, lent_at, said_of}
-use Rattle.sdl_instances.proofs.roster.Roster.live.Goals as goal
+use Rattle.sdl_instances.proofs.processes.Processes.live.Goals as goal
 
 pub invariant_of-self-2 : goal.invariant_of-self-2
 invariant_of-self-2 c =
-    let items = c.self.inside.processes.items in
+    let items = c.self.inside.rows.items in
     let old = c.in-Some.instances.now in
     let at = lent_at items c.args.process.0 old c.in-Some.ensures.item.3.0 c.in-Some.ensures.item.1 in
     kept_with items c.self.inside.least.items c.args.process.0 c.args.number old c.live.new.self c.least.result
@@ -13,7 +13,7 @@ invariant_of-self-2 c =
 
 pub returns-clause-can : goal.returns-clause-can
 returns-clause-can c =
-    let items = c.self.inside.processes.items in
+    let items = c.self.inside.rows.items in
     let old = c.in-Some.instances.now in
     let at = lent_at items c.args.process.0 old c.in-Some.ensures.item.3.0 c.in-Some.ensures.item.1 in
     c.if-not-live.ensures.can
@@ -21,7 +21,7 @@ returns-clause-can c =
 
 pub returns-clause-after : goal.returns-clause-after
 returns-clause-after c =
-    let items = c.self.inside.processes.items in
+    let items = c.self.inside.rows.items in
     let old = c.in-Some.instances.now in
     let at = lent_at items c.args.process.0 old c.in-Some.ensures.item.3.0 c.in-Some.ensures.item.1 in
     changed items c.args.self.now c.args.process old at c.self.view_is
