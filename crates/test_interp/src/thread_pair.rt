@@ -213,7 +213,7 @@ fn instance<'s, 'a, J: Run, R: Abort + Wait + Copy>(
     requires drawn { inbox.owner.drawn ≡ [] }
 {
     let process = system.process(who.process).expect(rt, "a process");
-    match ThreadInstance::new(alloc, system, process, who, &Values::none(alloc), inbox) {
+    match ThreadInstance::new(alloc, system, process, who, Values::none(alloc), inbox) {
         Ok(instance) => instance,
         Err(_) => panic!(rt; "no memory for an instance"),
     }

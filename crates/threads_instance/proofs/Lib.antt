@@ -1,4 +1,7 @@
+pub mod Beginning
+pub mod EffectLemmas
 pub mod Leaving
 pub mod Puts
+pub mod RunBy
 pub mod Stepping
 mod Walks

@@ -46,21 +46,22 @@ deeds_clock : (w : WorldValue) (deeds : List Deed) → (after_deeds w deeds).clo
 deeds_clock w [] = refl
 deeds_clock w (deed ∷ rest) = deeds_clock (after_effects w deed.effects) rest ∙ effects_clock w deed.effects
 
-module _ (old new : InstanceValue) (before after : List (ℕ × Item)) (system other : SystemValue) (time later : ℕ) where
+module _ (old new : InstanceValue) (before after : List (ℕ × Item)) (first last : List Effect)
+    (system other : SystemValue) (time later : ℕ) where
   abbrev was : WorldValue
-  was = world_of system time before
+  was = world_of system time before first
 
   abbrev is : WorldValue
-  is = world_of other later after
+  is = world_of other later after last
 
   abbrev own : WorldValue
-  own = world_of system time after
+  own = world_of system time after last
 
   same_world : (v : WorldValue) → is ≡ v → v.system ≡ system → v.clock ≡ Some time → is ≡ own
   same_world v same of_system of_clock =
       let of_time : later ≡ time = same_Some later time (ap (λ (w : WorldValue). w.clock) same ∙ of_clock) in
-      ap (λ (s : SystemValue). world_of s later after) (ap (λ (w : WorldValue). w.system) same ∙ of_system)
-      ∙ ap (λ (t : ℕ). world_of system t after) of_time
+      ap (λ (s : SystemValue). world_of s later after last) (ap (λ (w : WorldValue). w.system) same ∙ of_system)
+      ∙ ap (λ (t : ℕ). world_of system t after last) of_time
 
   moves_as : (counts : Bool) → Moves counts old was new is → Moves counts old was new own
   moves_as counts moves = λ d is_run.
@@ -106,16 +107,20 @@ seat_stays system ports old new keeps seated = record {
   own = keeps.pid ∙ seated.own ∙ ap (λ (who : Identity). who.pid) (sym keeps.who);
 }
 
--- A step in a world of the instance's own system, with what it had sent, is one in the worlds of that system and time.
+-- A step in a world of the instance's own system, with what it had sent and done, is one in the worlds of that system and
+-- time.
 pub steps_own : (result : Stepped) (old new : InstanceValue) (system other : SystemValue) (time later : ℕ)
-    (taken before after : List (ℕ × Item)) → old.system ≡ system → taken ≡ before
-    → Steps result old (world_of system time taken) new (world_of other later after)
-    → Steps result old (world_of old.system time before) new (world_of old.system time after)
-steps_own result old new system other time later taken before after own same steps =
-    subst (λ (s : SystemValue). Steps result old (world_of s time before) new (world_of s time after)) (sym own)
-    (steps_as old new before after system other time later result
-    (subst (λ (sent : List (ℕ × Item)). Steps result old (world_of system time sent) new (world_of other later after))
-    same steps))
+    (taken before after : List (ℕ × Item)) (done first last : List Effect) → old.system ≡ system → taken ≡ before
+    → done ≡ first → Steps result old (world_of system time taken done) new (world_of other later after last)
+    → Steps result old (world_of old.system time before first) new (world_of old.system time after last)
+steps_own result old new system other time later taken before after done first last own same same_done steps =
+    subst (λ (s : SystemValue). Steps result old (world_of s time before first) new (world_of s time after last))
+    (sym own)
+    (steps_as old new before after first last system other time later result
+    (subst (λ (sent : List (ℕ × Item)).
+    Steps result old (world_of system time sent first) new (world_of other later after last)) same
+    (subst (λ (l : List Effect).
+    Steps result old (world_of system time taken l) new (world_of other later after last)) same_done steps)))
 
 -- ---- what was sent
 
@@ -131,13 +136,13 @@ waits_still d at.BeforeStart m n w v waits = absurd waits
 waits_still d (at.In state) m n w v waits = (waits.world, waits.recorded)
 waits_still d at.Ended m n w v waits = absurd waits
 
-module _ (old new : InstanceValue) (before after : List (ℕ × Item)) (keeps : Keeps old new) (sent : HasSent old before)
-    (system : SystemValue) (time : ℕ) where
+module _ (old new : InstanceValue) (before after : List (ℕ × Item)) (first last : List Effect)
+    (keeps : Keeps old new) (sent : HasSent old before) (system : SystemValue) (time : ℕ) where
   abbrev start : WorldValue
-  start = world_of system time before
+  start = world_of system time before first
 
   abbrev end : WorldValue
-  end = world_of system time after
+  end = world_of system time after last
 
   was_run : (d : Definition) → IsRunAs new d → IsRunAs old d
   was_run d is_run = subst (λ (system : SystemValue). IsOf system old.process d) keeps.system

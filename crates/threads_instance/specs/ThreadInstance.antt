@@ -3,20 +3,27 @@ use Rattle.std.specs.Prelude.{◌≡◌, ℕ, List, [], Option, Some, if◌then�
 use Rattle.std.specs.declared.alloc.Global.{Global}
 use Rattle.crossbeam_queue.specs.SegTies.{SegId}
 use Rattle.port_values.specs.declared.item.Item.{Item}
+use Rattle.port_values.specs.declared.value.Value.{Value}
 use Rattle.sdl_interp.specs.Instance.{InstanceValue, IsRunAs}
 use Rattle.sdl_system.specs.System.{SystemValue}
 use Rattle.threads_instance.specs.Outbox.{sent_in}
 use Rattle.threads_senders.specs.Peers.{ArePeersOf, PeersState}
+use Rattle.threads_instance.specs.declared.doings.Child.{Child}
 use Rattle.run_semantics.specs.ControlPoint.{Definition}
+use Rattle.run_semantics.specs.Effect.{Effect}
 use Rattle.run_semantics.specs.Sent.{sent_to}
 use Rattle.run_semantics.specs.World.{has_port}
 
 -- What a caller sees of a thread instance: the instance, its senders, and all signals that it sent to instances that have
--- a port, in their order, each after the number of its target.
+-- a port, in their order, each after the number of its target; the values that its parameters got, all that it has done
+-- outside of itself, and its children.
 pub record ThreadInstanceState : Type 0 where
   pub instance : InstanceValue
   pub peers : PeersState
   pub sent : List (ℕ × Item)
+  pub given : List Value
+  pub effects : List Effect
+  pub children : List Child
 
 -- Where the process of the instance means something, just what its events say was sent to each instance that has a port.
 abbrev pub HasSent : InstanceValue → List (ℕ × Item) → Type 0

@@ -2,15 +2,17 @@
 use Rattle.std.specs.Prelude.{ℕ, List, None, Some}
 use Rattle.port_values.specs.declared.item.Item.{Item}
 use Rattle.threads_instance.specs.Outbox.{sent_in}
+use Rattle.run_semantics.specs.Effect.{Effect}
 use Rattle.run_semantics.specs.World.{WorldValue}
 use Rattle.sdl_system.specs.System.{SystemValue}
 
--- Of the run it is known at what time the step is made, and what the instance has sent. Others come and end meanwhile.
-abbrev pub world_of : SystemValue → ℕ → List (ℕ × Item) → WorldValue
-world_of system time sent = record {
+-- Of the run it is known at what time the step is made, what the instance has sent, and all that it has done. Others come
+-- and end meanwhile.
+abbrev pub world_of : SystemValue → ℕ → List (ℕ × Item) → List Effect → WorldValue
+world_of system time sent effects = record {
   system = system;
   clock = Some time;
   living = None;
-  effects = None;
+  effects = Some effects;
   sent = Some (sent_in sent);
 }

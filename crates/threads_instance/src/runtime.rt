@@ -52,8 +52,9 @@ pub trait Runtime<J: Run> {
         requires { prepared self.old ≡ true }
         ensures { kept self.new ≡ kept self.old ++ fuse ∷ [] };
 
-    /// Makes an instance of a process, for the instance of the number `parent`, with the values of its parameters. The
-    /// number of the new instance is the answer; None: as many live as may. For lack of memory nothing has changed.
+    /// Makes an instance of a process, for the instance of the number `parent`, with the values of its parameters: at one
+    /// moment it is entered and lives. Its number is the answer; None: as many live as may, or all numbers are given. For
+    /// lack of memory nobody is entered, and nobody lives who didn't before; a number may be spent, which nobody gets then.
     fn create(
         &mut self,
         process: ProcessId,

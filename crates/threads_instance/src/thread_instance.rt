@@ -3,14 +3,17 @@
 ghost use Rattle.std.specs.Prelude.{◌≡◌, [], IsTrue, MatchResult, Some, slice_get};
 ghost use Rattle.port_model.specs.Port.{empty_port};
 ghost use Rattle.sdl_interp.specs.Instance.{HasNothing, HasRunOf, IsAtRest, IsClosed, IsRunAs, Keeps, NeedsStep, Steps, created};
+ghost use Rattle.threads_instance.specs.Doings.{children_of};
+ghost use Rattle.threads_instance.specs.RunBy.{HasRunBy};
 ghost use Rattle.threads_instance.specs.ThreadWorld.{world_of};
 ghost use Rattle.threads_instance.specs.ThreadInstance.{HasPut, HasSent, IsSeated};
 ghost use Rattle.threads_senders.specs.Peers.{ArePeersOf};
 ghost use Rattle.run_semantics.specs.ControlPoint.{Definition};
 
-use crate::Runtime;
+use crate::doings::Doings;
 use crate::outbox::Outbox;
 use crate::thread_world::ThreadWorld;
+use crate::{Gifts, Runtime};
 use port_inbox::Inbox;
 use port_values::{Ticks, Values};
 use run_evaluation::Identity;
@@ -24,17 +27,21 @@ use std::sync::Wait;
 use threads_senders::{Peers, Run};
 
 /// An instance of a process in a run on threads, with its senders, in its seat: of the run's system, and with the port of
-/// its number. What was put into each port is the end of what its record sends there.
+/// its number. What was put into each port is the end of what its record sends there. It began with the values that are
+/// given, and has done just what is noted.
 #[derive(Drop)]
 pub struct ThreadInstance<'s, J: Run, P: Inbox + Drop> {
     system: &'s System,
     instance: Instance<'s, P>,
     outbox: Outbox<J>,
+    given: Values,
+    doings: Doings,
 }
 
 impl<'s, J: Run, P: Inbox + Drop> Model for ThreadInstance<'s, J, P> {
     ghost use Rattle.std.specs.Prelude.{◌≡◌};
     ghost use Rattle.std.specs.Coded.{codes};
+    ghost use Rattle.threads_instance.specs.RunBy.{HasRunBy};
     ghost use Rattle.threads_instance.specs.ThreadInstance.{HasSent, IsSeated, ThreadInstanceState};
     ghost use Rattle.sdl_system.specs.contracts.expression.Expression as expression;
 
@@ -42,30 +49,39 @@ impl<'s, J: Run, P: Inbox + Drop> Model for ThreadInstance<'s, J, P> {
 
     ghost coded = { Prim.hlevel (codes, expression.the_row.coded) };
 
-    ghost view = { λ m. record { instance = m.instance; peers = m.outbox.peers; sent = m.outbox.sent } };
+    ghost view = { λ m. record {
+      instance = m.instance;
+      peers = m.outbox.peers;
+      sent = m.outbox.sent;
+      given = m.given;
+      effects = m.doings.effects;
+      children = m.doings.children;
+    } };
 
     ghost invariant = { λ m. (m.instance.system ≡ m.system.now) × HasSent m.instance m.outbox.sent
-        × IsSeated J.system J.ports m.instance };
+        × IsSeated J.system J.ports m.instance × HasRunBy P.shared m.instance m.given m.doings.effects };
 }
 
-/// A closed instance: its record, its port, and its senders, which are to be gathered at their ports.
+/// A closed instance: its record, its port, and its senders, which are to be gathered at their ports; and what it was
+/// given, and gave to those that it created.
 #[derive(Drop)]
 pub struct Left<J: Run, P: Inbox + Drop> {
     pub trace: Record,
     pub inbox: P,
     pub peers: Peers<J>,
+    pub gifts: Gifts,
 }
 
 impl<'s, J: Run, P: Inbox + Drop> ThreadInstance<'s, J, P> {
-    /// An instance before its start, as `Instance::new` makes it, that has no senders yet. That the system is the run's,
-    /// the process the one that the identity names, and the port that of its number, is the caller's condition. For want
-    /// of memory the inbox comes back.
+    /// An instance before its start, as `Instance::new` makes it with these values, that has no senders yet and has done
+    /// nothing. That the system is the run's, the process the one that the identity names, and the port that of its
+    /// number, is the caller's condition. For want of memory the inbox comes back.
     pub fn new(
         alloc: Global,
         system: &'s System,
         process: &'s Process,
         who: Identity,
-        values: &Values,
+        values: Values,
         inbox: P,
     ) -> Result<Self, P>
         requires system { J.system ≡ Some system.now }
@@ -76,13 +92,16 @@ impl<'s, J: Run, P: Inbox + Drop> ThreadInstance<'s, J, P> {
         requires drawn { (P.owning inbox).drawn ≡ [] }
         ensures { MatchResult result
             (λ m. m ≡ record {
-              instance = created system.now process.now who values.now (P.owning inbox);
+              instance = created system.now process.now who values (P.owning inbox);
               peers = [];
               sent = [];
+              given = values;
+              effects = [];
+              children = [];
             })
             (λ back. back ≡ inbox) }
     {
-        let instance = match Instance::new(alloc, system, process, who, values, inbox) {
+        let instance = match Instance::new(alloc, system, process, who, &values, inbox) {
             Ok(instance) => instance,
             Err(back) => return Err(back),
         };
@@ -90,6 +109,8 @@ impl<'s, J: Run, P: Inbox + Drop> ThreadInstance<'s, J, P> {
             system,
             instance,
             outbox: Outbox::new(alloc),
+            given: values,
+            doings: Doings::new(alloc),
         })
     }
 
@@ -104,11 +125,13 @@ impl<'s, J: Run, P: Inbox + Drop> ThreadInstance<'s, J, P> {
     ) -> Stepped
         ensures keeps { Keeps self.old.instance self.new.instance }
         ensures steps { let system = self.old.instance.system in
-            Steps result self.old.instance (world_of system time self.old.sent) self.new.instance
-            (world_of system time self.new.sent) }
+            Steps result self.old.instance (world_of system time self.old.sent self.old.effects) self.new.instance
+            (world_of system time self.new.sent self.new.effects) }
+        ensures given { self.new.given ≡ self.old.given }
     {
         let own = self.instance.who().pid;
         let outbox = mem::replace(&mut self.outbox, Outbox::new(alloc));
+        let doings = mem::replace(&mut self.doings, Doings::new(alloc));
         let mut world = ThreadWorld {
             rt,
             system: self.system,
@@ -116,10 +139,12 @@ impl<'s, J: Run, P: Inbox + Drop> ThreadInstance<'s, J, P> {
             time,
             runtime,
             outbox,
+            doings,
         };
         let stepped = self.instance.step(alloc, &mut world);
-        let ThreadWorld { outbox, .. } = world;
+        let ThreadWorld { outbox, doings, .. } = world;
         self.outbox = outbox;
+        self.doings = doings;
         stepped
     }
 
@@ -157,6 +182,15 @@ impl<'s, J: Run, P: Inbox + Drop> ThreadInstance<'s, J, P> {
         self.outbox.ends();
     }
 
+    /// That its record is that of a run which began with the values that are given, and has done just what is noted, and
+    /// that its children are those that this run has created, as a fact.
+    pub fn has_run(&self)
+        ensures run { HasRunBy P.shared self.now.instance self.now.given self.now.effects }
+        ensures children { self.now.children ≡ children_of self.now.effects }
+    {
+        self.doings.are_children();
+    }
+
     /// That the instance is in its seat, as a fact.
     pub fn is_seated(&self)
         ensures { IsSeated J.system J.ports self.now.instance }
@@ -164,8 +198,8 @@ impl<'s, J: Run, P: Inbox + Drop> ThreadInstance<'s, J, P> {
         let _instance = &self.instance;
     }
 
-    /// Closes its record, as `Instance::close` does, and gives it with the port of its number and its senders. These
-    /// have put the end of what the record sends.
+    /// Closes its record, as `Instance::close` does, and gives it with the port of its number and its senders, which have
+    /// put the end of what the record sends; and with the values with which it began, and its children.
     pub fn close(self, whole: bool) -> Left<J, P>
         requires { IsTrue whole → IsAtRest self.instance }
         ensures closed { IsClosed P.shared whole self.entry.instance result.trace }
@@ -173,12 +207,16 @@ impl<'s, J: Run, P: Inbox + Drop> ThreadInstance<'s, J, P> {
         ensures port { (P.owning result.inbox).port ≡ J.ports result.trace.pid }
         ensures own { (P.owning result.inbox).pid ≡ result.trace.pid }
         ensures peers { result.peers ≡ self.entry.peers }
+        ensures given { result.gifts.given ≡ self.entry.given }
+        ensures children { result.gifts.children.items ≡ self.entry.children }
         ensures last { (d : Definition) → IsRunAs self.entry.instance d
             → ArePeersOf result.trace.pid result.trace.events result.peers }
     {
         let ThreadInstance {
             instance,
             outbox,
+            given,
+            doings,
             ..
         } = self;
         let Closed { trace, inbox } = instance.close(whole);
@@ -186,6 +224,10 @@ impl<'s, J: Run, P: Inbox + Drop> ThreadInstance<'s, J, P> {
             trace,
             inbox,
             peers: outbox.into_peers(),
+            gifts: Gifts {
+                given,
+                children: doings.into_children(),
+            },
         }
     }
 }

@@ -8,6 +8,7 @@ ghost use Rattle.threads_senders.specs.Peers.{is_known, PutsTo};
 ghost use Rattle.run_semantics.specs.World.{has_port, sent_on};
 
 use crate::Runtime;
+use crate::doings::Doings;
 use crate::outbox::Outbox;
 use port_inbox::Fuse;
 use port_values::{Item, SignalId, Ticks, Values};
@@ -17,8 +18,8 @@ use std::alloc::AllocError;
 use std::sync::Wait;
 use threads_senders::{NotPut, Run};
 
-/// The run, and what the instance sends with. Its number is `own`, and `time` the time of the step, for which the clock
-/// was read once. A signal is put at once.
+/// The run, what the instance sends with, and what it has done. Its number is `own`, and `time` the time of the step, for
+/// which the clock was read once. A signal is put at once.
 #[derive(Drop)]
 pub struct ThreadWorld<'a, J: Run, R: Wait, O: Runtime<J>> {
     pub rt: &'a R,
@@ -27,10 +28,11 @@ pub struct ThreadWorld<'a, J: Run, R: Wait, O: Runtime<J>> {
     pub time: Ticks,
     pub runtime: &'a mut O,
     pub outbox: Outbox<J>,
+    pub doings: Doings,
 }
 
 impl<'a, J: Run, R: Wait, O: Runtime<J>> World for ThreadWorld<'a, J, R, O> {
-    ghost value = { λ w. world_of w.system.now w.time w.outbox.sent };
+    ghost value = { λ w. world_of w.system.now w.time w.outbox.sent w.doings.effects };
 
     ghost prepared = { λ w. O.prepared w.runtime.now };
 
@@ -42,11 +44,17 @@ impl<'a, J: Run, R: Wait, O: Runtime<J>> World for ThreadWorld<'a, J, R, O> {
         self.runtime.route(system, signal, from, to)
     }
 
+    #[tactic(auto, using(crate::proofs::EffectLemmas::sent_same))]
     fn send(&mut self, target: Target, item: Item) -> Result<(), AllocError> {
-        let Target::Instance(number) = target else {
-            return Ok(());
-        };
-        send(self.rt, self.runtime, &mut self.outbox, number, item)
+        let effects = self.doings.effects().and_sent(target, &item);
+        match target {
+            Target::Instance(number) => {
+                send(self.rt, self.runtime, &mut self.outbox, number, item)?;
+            }
+            _ => drop(item),
+        }
+        self.doings.note(effects);
+        Ok(())
     }
 
     /// A timer that is due when it's set is put into the own port.
@@ -57,17 +65,27 @@ impl<'a, J: Run, R: Wait, O: Runtime<J>> World for ThreadWorld<'a, J, R, O> {
         self.runtime.prepare()
     }
 
+    #[tactic(auto, using(crate::proofs::EffectLemmas::armed_same))]
     fn arm(&mut self, fuse: Fuse) {
+        let effects = self.doings.effects().and_armed(&fuse);
+        self.doings.note(effects);
         arm(self.rt, self.runtime, &mut self.outbox, self.time, fuse);
     }
 
+    /// The values are kept, to be compared with those with which the instance began.
     fn create(
         &mut self,
         process: ProcessId,
         parent: u32,
         values: Values,
     ) -> Result<Option<u32>, AllocError> {
-        self.runtime.create(process, parent, values)
+        self.doings.reserve()?;
+        let kept = values.copied()?;
+        let made = self.runtime.create(process, parent, values)?;
+        if let Some(number) = made {
+            self.doings.create(process, number, parent, kept);
+        }
+        Ok(made)
     }
 }
 
