@@ -8,11 +8,13 @@ use Rattle.std.specs.declared.sync.Wait as wait
 use Rattle.std.proofs.Crossing as owners
 use Rattle.input_port.proofs.held.Held.TheSendSync as held
 use Rattle.port_inbox.specs.declared.inbox.Inbox as inbox
+use Rattle.port_values.proofs.values.Values.TheSendSync as some-values
 use Rattle.run_transitions.proofs.machine.Machine.TheSendSync as a-machine
 use Rattle.run_transitions.proofs.machine.Position.TheSendSync as a-position
 use Rattle.run_transitions.specs.contracts.running.Core as Core
 use Rattle.sdl_interp.specs.contracts.instance.Instance as Instance
 use Rattle.sdl_interp.specs.contracts.instance.Instance.TheInside as InsideInstance
+use Rattle.threads_instance.proofs.doings.Doings.TheSendSync as some-doings
 use Rattle.threads_instance.proofs.outbox.Outbox.TheSendSync as an-outbox
 use Rattle.threads_instance.specs.contracts.thread_instance.ThreadInstance as ThreadInstance
 use Rattle.threads_instance.specs.contracts.thread_instance.ThreadInstance.TheInside as InsideThread
@@ -36,8 +38,16 @@ module _ (κ : NamedLft) (P : RattleType) (g : inbox.Ghosts P.Denot) where
 
   module _ (J : RattleType) (j : run.Ghosts J.Denot) where
     within_thread : IsSend P → IsSend (InsideThread.the_row κ J P j g)
-    within_thread s = declared_send (InsideThread.the_type κ J P j g)
-        (search (system, sendable), (search (instance, sendable), (search (an-outbox.the_send, sendable), tt)))
+    within_thread s = declared_send (InsideThread.the_type κ J P j g) (
+      search (system, sendable),
+      (
+        search (instance, sendable),
+        (
+          search (an-outbox.the_send, sendable),
+          (search (some-values.the_send, sendable), (search (some-doings.the_send, sendable), tt)),
+        ),
+      ),
+    )
 
     thread_instance : IsSend P → IsSend (ThreadInstance.the_row κ J P j g)
     thread_instance s = let i = within_thread s in search sendable depth 20

@@ -4,8 +4,11 @@
 //! few words. `Shared` lends both to all threads, with the places of the instances; its type says that the system is the
 //! one that the run names, so an instance that is made has its seat in this run. `Own` is what one thread has for itself.
 //! `StepRuntime` is the `Runtime` of a step: a route is by some list of living instances, and all else fits the run's
-//! name by the types. Locks are never held two at a time, except that others are taken, one by one, under that of the
-//! place of the instance that steps. So there is no order of locks to keep.
+//! name by the types.
+//!
+//! The order of locks: that of the place of the instance that steps comes first, then that of the roster. Under the
+//! roster's an instance is made, which takes those of the owners and of its own place, one by one. No other thread takes
+//! the lock of a place before somebody is there. All other locks are taken one by one, and none under them.
 #![tactic(auto)]
 
 mod addressees;

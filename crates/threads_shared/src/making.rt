@@ -1,6 +1,7 @@
 //! How an instance is made (Z.102: create).
 
-ghost use Rattle.std.specs.Prelude.{◌≡◌, ◌<◌, ◌≤◌, IfOk, IfSome, Some};
+ghost use Rattle.std.specs.Prelude.{◌≡◌, ◌<◌, ◌≤◌, IfNone, IfOk, IfSome, OnErr, Some};
+ghost use Rattle.threads_shared.specs.Making.{IsMade, IsSpent};
 
 use crate::{Seated, Shared};
 use input_port::Held;
@@ -14,39 +15,59 @@ use threads_instance::ThreadInstance;
 use threads_ports::NumberSeat;
 use threads_senders::Run;
 
-/// Makes an instance of a process: it is entered, lives, and is in its place before its start, where it has something to
-/// do. Its number is the answer, and is the caller's to queue. None: as many live as may, or all numbers are drawn. Refused
-/// for lack of memory.
+/// Makes an instance of a process, with these values of its parameters: at one moment it is entered, lives, and is in its
+/// place before its start, where it has something to do. Its number is the answer, and is the caller's to queue. None: as
+/// many live as may, or all numbers are drawn.
+///
+/// Refused for lack of memory: nobody is entered, and nobody lives who didn't before. The instance is made for the port of
+/// its number, so it is made after the draw. If it finds no memory, the number is spent: nobody gets it.
+#[tactic(auto, using(crate::proofs::CreateLemmas::spent_none))]
 pub fn make<J: Run, R: Wait + Copy>(
     shared: &Shared<'_, '_, '_, J, R>,
     seat: &mut NumberSeat<J>,
     process: ProcessId,
     parent: Pid,
-    values: &Values,
-) -> Result<Option<u32>, AllocError> {
-    // Before: those that live and those that are reserved are within the process's maximum, by the roster's type. After:
-    // there is a reservation for this one, or there is no room.
-    if !shared.tables.roster.lock(shared.rt).reserve(process) {
+    values: Values,
+) -> Result<Option<u32>, AllocError>
+    ensures number { IfOk result (λ made. IfSome made (λ number. IsMade number seat.old.drawn seat.new.drawn)) }
+    ensures none { IfOk result (λ made. IfNone made (IsSpent seat.old.drawn seat.new.drawn)) }
+    ensures refused { OnErr result (IsSpent seat.old.drawn seat.new.drawn) }
+    ensures rights { (seat.new.parts ≡ seat.old.parts) × (seat.new.left ≡ seat.old.left) }
+{
+    // Before: those that live are within the process's maximum, by the roster's type, and no create is under way, since
+    // each is made under this lock. After: the same, and there is one instance more, or none: with its number, its entry,
+    // its life and the version of all in this one section. So who finds as many living as may finds them by their numbers.
+    // A job has the lock of its instance's place while it makes one. The place that is locked here is one that no other
+    // thread can step in yet, and who has the lock of the owners takes no other: so no two threads wait for each other.
+    // Nobody waits for an instance to be made, so nobody is woken.
+    let mut roster = shared.tables.roster.lock(shared.rt);
+    if !roster.reserve(process) {
         return Ok(None);
     }
-    match make_reserved(shared, seat, process, parent, values) {
-        Ok(Some(number)) => Ok(Some(number)),
-        other => {
-            // Before: the reservation is this caller's, and nothing came of it. After: another create may have it.
-            shared.tables.roster.lock(shared.rt).release(process);
-            other
-        }
+    let made = make_reserved(shared, seat, process, parent, values);
+    if let Ok(Some(number)) = made {
+        roster.live(process, number);
+        shared.tables.signs.note_version(&roster);
+    } else {
+        roster.release(process);
     }
+    made
 }
 
-/// Makes an instance for which there is a reservation.
+/// Makes an instance for which there is a reservation. The caller has the lock of the roster.
+#[tactic(auto, using(crate::proofs::CreateLemmas::spent_none, crate::proofs::CreateLemmas::spent_one))]
 fn make_reserved<J: Run, R: Wait + Copy>(
     shared: &Shared<'_, '_, '_, J, R>,
     seat: &mut NumberSeat<J>,
     process: ProcessId,
     parent: Pid,
-    values: &Values,
-) -> Result<Option<u32>, AllocError> {
+    values: Values,
+) -> Result<Option<u32>, AllocError>
+    ensures number { IfOk result (λ made. IfSome made (λ number. IsMade number seat.old.drawn seat.new.drawn)) }
+    ensures none { IfOk result (λ made. IfNone made (IsSpent seat.old.drawn seat.new.drawn)) }
+    ensures refused { OnErr result (IsSpent seat.old.drawn seat.new.drawn) }
+    ensures rights { (seat.new.parts ≡ seat.old.parts) × (seat.new.left ≡ seat.old.left) }
+{
     let Some(pid) = seat.draw(&shared.common.numbers) else {
         return Ok(None);
     };
@@ -66,7 +87,7 @@ fn make_reserved<J: Run, R: Wait + Copy>(
 fn instance_of<'s, 'p, J: Run, R: Wait + Copy>(
     shared: &Shared<'_, 's, 'p, J, R>,
     who: Identity,
-    values: &Values,
+    values: Values,
 ) -> Result<Option<Seated<'s, 'p, J, R>>, AllocError> {
     let system = shared.system;
     let Some(process) = system.process(who.process) else {
@@ -89,7 +110,7 @@ fn instance_of<'s, 'p, J: Run, R: Wait + Copy>(
     }
 }
 
-/// Enters an instance: from now on a signal to its number reaches its port, it lives, and it is in its place.
+/// Enters an instance: from now on a signal to its number reaches its port, and it is in its place.
 fn enter<'s, 'p, J: Run, R: Wait + Copy>(
     shared: &Shared<'_, 's, 'p, J, R>,
     who: Identity,
@@ -116,8 +137,5 @@ fn enter<'s, 'p, J: Run, R: Wait + Copy>(
     // Before: the instance is entered, and nobody is in its place. After: it is there and marked, and no queue has its
     // number yet, so no other thread steps it. A signal that came between is in its port, and its first steps take it.
     place.enter(shared.rt, instance);
-    // Before: there is a reservation. After: it is spent, and the instance lives. Who sees the new count sees it there.
-    shared.tables.roster.lock(shared.rt).live(process, pid);
-    shared.tables.signs.roster_changed();
     Ok(())
 }

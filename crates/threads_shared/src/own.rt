@@ -30,9 +30,9 @@ pub struct Own<J: Run> {
     pub fuses: Vec<Fuse>,
     /// To whom the step that is being made has sent something: they are woken after it.
     pub addressees: Addressees,
-    /// For each process by its number, the least number of its living instances, as it was at a change of the roster.
+    /// For each process by its number, the least number of its living instances, as it was in a version of the roster.
     pub living: Vec<Option<u32>>,
-    /// The change of the roster at which it was so.
+    /// That version.
     pub version: u64,
     /// How many transitions were made that are not in the sum of all, and how many may be at most.
     pub moves: u64,
@@ -40,8 +40,8 @@ pub struct Own<J: Run> {
 }
 
 impl<J: Run> Own<J> {
-    /// The state with which a thread begins, in a system of so many processes: it has no number, has sent nothing, has seen
-    /// nobody live, and has made no transition. Refused for lack of memory.
+    /// The state with which a thread begins, in a system of so many processes: it has no number, has sent nothing, knows
+    /// the roster's first version, in which nobody lives, and has made no transition. Refused for lack of memory.
     pub fn new(
         alloc: Global,
         reader: Reader,
@@ -74,18 +74,21 @@ impl<J: Run> Own<J> {
         })
     }
 
-    /// Looks who lives, where the roster was changed since the last look.
+    /// Looks who lives, where that was changed since the last look. All else stays.
     pub fn look<R: Wait>(&mut self, rt: &R, tables: &Tables)
-        ensures { self.new.fuses ≡ self.old.fuses }
+        ensures own { (self.new.reader ≡ self.old.reader) × (self.new.seat ≡ self.old.seat) }
+        ensures queue { (self.new.queue ≡ self.old.queue) × (self.new.jobs ≡ self.old.jobs) }
+        ensures step { (self.new.fuses ≡ self.old.fuses) × (self.new.addressees ≡ self.old.addressees) }
+        ensures moves { (self.new.moves ≡ self.old.moves) × (self.new.part ≡ self.old.part) }
     {
-        let version = tables.signs.version();
-        if version == self.version {
+        if tables.signs.version() == self.version {
             return;
         }
-        self.version = version;
-        // Before: who changed the roster has left its lock, and counted up to `version` then. After: what is copied has
-        // that change, and perhaps later ones, which are counted later and looked at then.
+        // Before: another version was noted than the one that this thread knows. After: what is copied is the roster of
+        // just the version that is kept, since both are read under its lock. What is changed later is noted later, and
+        // looked at then.
         let roster = tables.roster.lock(rt);
+        self.version = roster.version();
         for (mine, theirs) in self.living.iter_mut().zip(roster.living().iter()) {
             *mine = *theirs;
         }

@@ -4,6 +4,7 @@ ghost use Rattle.std.specs.Prelude.{◌≡◌, ◌≤◌, true};
 ghost use Rattle.threads_shared.specs.Signs.{limit_of, part_of, workers_of};
 
 use crossbeam_utils::CachePadded;
+use sdl_instances::Roster;
 use std::hint::spin_loop;
 use std::sync::atomic::{AtomicBool, AtomicU64, AtomicUsize, Ordering};
 use threads_queue::Hall;
@@ -36,7 +37,7 @@ impl Signs {
         ensures workers { workers_of result ≡ workers }
     {
         Signs {
-            version: CachePadded::new(AtomicU64::new(1)),
+            version: CachePadded::new(AtomicU64::new(0)),
             moves: CachePadded::new(AtomicU64::new(0)),
             sleepers: CachePadded::new(AtomicUsize::new(0)),
             seekers: CachePadded::new(AtomicUsize::new(0)),
@@ -60,16 +61,17 @@ impl Signs {
         }
     }
 
-    /// How often the roster was changed, and one.
+    /// The roster's version, as it was noted last. A look: who changes the roster now has its lock still.
     pub fn version(&self) -> u64 {
         self.version.load(Ordering::SeqCst)
     }
 
-    /// Notes that the roster was changed.
-    pub fn roster_changed(&self) {
-        // Before: the roster is changed, and its lock is left. After: the count is one more. So who sees the new count,
-        // and takes the lock then, sees the change.
-        self.version.fetch_add(1, Ordering::SeqCst);
+    /// Notes the roster's version. The caller has the lock of the roster.
+    pub fn note_version(&self, roster: &Roster) {
+        // Before: the word has the version with which the lock of the roster was left last. After: that with which it is
+        // left next. So who sees the version that it knows already knows the roster as it was at that look, and who sees
+        // another one looks at it under its lock.
+        self.version.store(roster.version(), Ordering::SeqCst);
     }
 
     /// Adds transitions that were made. True: they are as many as the limit.
@@ -80,6 +82,12 @@ impl Signs {
         // the sum is never more than the transitions made.
         let before = self.moves.fetch_add(moves, Ordering::SeqCst);
         before.saturating_add(moves) >= self.limit
+    }
+
+    /// How many transitions were added to the sum of all. Once all threads are joined, these are all that were made: each
+    /// adds what it has before it ends.
+    pub fn moves(&self) -> u64 {
+        self.moves.load(Ordering::SeqCst)
     }
 
     /// Notes how many workers sleep, and how many numbers are in the hall's queue. The caller has the lock of the hall.

@@ -5,7 +5,7 @@ ghost use Rattle.threads_shared.specs.Signs.{limit_of, workers_of};
 
 use crate::Signs;
 use sdl_instances::Roster;
-use sdl_system::System;
+use sdl_system::{ProcessId, System};
 use sdl_timers::Wheel;
 use std::alloc::{AllocError, Global};
 use std::collections::VecDeque;
@@ -39,6 +39,15 @@ impl Tables {
             hall: Mutex::new(Hall::new(alloc, workers)?),
             signs: Signs::new(limit, workers),
         })
+    }
+
+    /// An instance of the process lives no more.
+    pub fn end<R: Wait>(&self, rt: &R, process: ProcessId, number: u32) {
+        // Before: the instance lives, by the roster. After: it doesn't, and the next version is noted: both in one section,
+        // so each version of the roster is that of one change. Nobody waits for it, so nobody is woken.
+        let mut roster = self.roster.lock(rt);
+        roster.end(process, number);
+        self.signs.note_version(&roster);
     }
 
     /// Queues a number in the hall. The answer is a worker that sleeps, which is to be unparked.

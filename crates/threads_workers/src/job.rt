@@ -163,13 +163,7 @@ pub fn step<'s, 'p, J: Run, R: Wait + Copy>(
         Stepped::Idle => {}
         Stepped::Ended { counts } => {
             let who = seated.who();
-            // Before: the instance lives, by the roster. After: it doesn't. Who sees the new count sees that there.
-            shared
-                .tables
-                .roster
-                .lock(shared.rt)
-                .end(who.process, who.pid);
-            shared.tables.signs.roster_changed();
+            shared.tables.end(shared.rt, who.process, who.pid);
             if counts {
                 count(shared, own);
             }

@@ -46,6 +46,8 @@ fn rounds<J: Run, R: Wait + Copy, G: Gate>(
             break;
         }
     }
+    // Once all workers have ended, the sum has all transitions.
+    tell_moves(shared, &mut own);
     Ok(())
 }
 
