@@ -26,7 +26,7 @@ use threads_senders::{Peers, Run};
 /// has no cause, an instance starts at another time than it is created, or more of a process live on than may, 0; the
 /// signal of a timer is taken before its time, the number of that instance; a signal went another way than the routes lead,
 /// the sender's, 0 for the environment; or it is missing, the number that it should have reached; or it is taken before it
-/// was sent, the receiver's.
+/// was sent, 0.
 pub fn compare<J: Run>(
     alloc: Global,
     system: &System,

@@ -21,10 +21,11 @@ use Rattle.run_evaluation.specs.declared.store.Store.{Store}
 use Rattle.run_record.specs.Event as event
 use Rattle.run_record.specs.Event.{Event}
 use Rattle.run_record.specs.Record.{RecordValue}
+use Rattle.run_semantics.proofs.Deeds.{effects_of-append}
 use Rattle.run_semantics.proofs.Outside.{drawn_as-append, outside_of-append, outside_of-drawn}
 use Rattle.run_semantics.specs.ControlPoint as place
 use Rattle.run_semantics.specs.ControlPoint.{AtStart, ControlPoint, Definition, In}
-use Rattle.run_semantics.specs.Effect.{Deed, events_of}
+use Rattle.run_semantics.specs.Effect.{Deed, Effect, effects_of, events_of}
 use Rattle.run_semantics.specs.Goes.{drawn_as}
 use Rattle.run_semantics.specs.Instance.{HasRun, first_store}
 use Rattle.run_semantics.specs.Leads.{IsQuiet}
@@ -50,6 +51,10 @@ use Rattle.settle_meaning.specs.Histories.{IsInTime, puts_of}
 use Rattle.settle_meaning.specs.Identities.{identity_of}
 use Rattle.settle_meaning.specs.Settled.{RestsAsItEnds}
 use Rattle.settle_meaning.specs.MeaningLaws.{ExpiriesHaveSets, PutsComeFromOutside, QuietDrawsChangeNothing, RestsAreForGood, RunsHearWhatIsDrawn, StoppedStays, rest_deed}
+use Rattle.threads_instance.proofs.RunBy.{by_closed}
+use Rattle.threads_instance.specs.Doings.{children_of}
+use Rattle.threads_instance.specs.RunBy.{IsRunBy}
+use Rattle.threads_instance.specs.declared.doings.Child.{Child}
 use Rattle.threads_senders.specs.Peers.{AreLast, PeersState, put_to}
 
 -- ---- what is drawn after a close
@@ -78,8 +83,10 @@ drawn_outside first owner draws history outside =
 
 -- ---- a run to the end
 
--- The record is a run on a history of the port, which draws what was drawn in the end, and closes as it is to.
-record Found (d : Definition) (whole : Bool) (end : ℕ) (trace : RecordValue) (owner : OwnerState) : Type 0 where
+-- The record is a run on a history of the port, which draws what was drawn in the end, and closes as it is to. It began
+-- with these values and had these effects.
+record Found (d : Definition) (whole : Bool) (end : ℕ) (trace : RecordValue) (owner : OwnerState) (given : List Value)
+    (effects : List Effect) : Type 0 where
   values : List Value
   deeds : List Deed
   history : List PortEvent
@@ -91,12 +98,16 @@ record Found (d : Definition) (whole : Bool) (end : ℕ) (trace : RecordValue) (
       owner.state
   closes : ClosesAs whole end trace.events history owner.state
   rests : RestsAsItEnds whole trace.events history owner.state
+  begins : values ≡ given
+  does : effects_of deeds ≡ effects
 
 has_history : (ps : List Behaviour) (system : SystemValue) (p : Behaviour) (whole : Bool) (end : ℕ)
-    (trace : RecordValue) (owner : OwnerState) → RunsAreLegal → ExpiriesHaveSets → PutsComeFromOutside
-    → slice_get ps trace.process.0 ≡ Some p → IsKept owner → Found (definition system p) whole end trace owner
-    → HasHistoryOf ps system whole end trace owner.drawn
-has_history ps system p whole end trace owner legal sets from_outside listed kept found =
+    (trace : RecordValue) (owner : OwnerState) (given : List Value) (effects : List Effect) (children : List Child)
+    → RunsAreLegal → ExpiriesHaveSets → PutsComeFromOutside
+    → slice_get ps trace.process.0 ≡ Some p → IsKept owner
+    → Found (definition system p) whole end trace owner given effects → children ≡ children_of effects
+    → HasHistoryOf ps system whole end trace owner.drawn given children
+has_history ps system p whole end trace owner given effects children legal sets from_outside listed kept found created =
     let is_legal : IsLegal empty_port found.history owner.state =
     legal (definition system p) (identity_of trace) AtStart found.to (first_store p found.values) found.store empty_port
     owner.state found.deeds found.history found.runs in
@@ -123,19 +134,22 @@ has_history ps system p whole end trace owner legal sets from_outside listed kep
       sets = sets found.history owner.state is_legal;
       closes = found.closes;
       rests = found.rests;
+      begins = found.begins;
+      created = created ∙ ap children_of (sym found.does);
     }
 
 -- ---- two ways to it
 
 module _ (d : Definition) (end : ℕ) (trace : RecordValue) (first owner : OwnerState) (draws : Draws first owner)
-    (state : owner.state ≡ after_draws first.pid first.state draws.news) where
+    (state : owner.state ≡ after_draws first.pid first.state draws.news) (given : List Value) (effects : List Effect) where
   -- what is drawn after the close is heard
   heard : (whole : Bool) (to : ControlPoint) (store : Store) → RunsHearWhatIsDrawn
-      → HasRun true d (identity_of trace) trace.events to store first
+      → IsRunBy true d (identity_of trace) trace.events to store first given effects
       → ((history : List PortEvent) → ClosesAs whole end trace.events history owner.state)
       → ((history : List PortEvent) → RestsAsItEnds whole trace.events history owner.state)
-      → Found d whole end trace owner
-  heard whole to store hear run closes rests =
+      → Found d whole end trace owner given effects
+  heard whole to store hear by closes rests =
+      let run = by.run in
       let news : List PortEvent = drawn_as first.pid draws.news in
       let runs = hear d (identity_of trace) AtStart to (first_store d.behaviour run.values) store empty_port first.state
       run.deeds run.history first.pid draws.news run.runs in
@@ -153,14 +167,17 @@ module _ (d : Definition) (end : ℕ) (trace : RecordValue) (first owner : Owner
             empty_port run.deeds (run.history ++ news) to store port) (sym state) runs;
         closes = closes (run.history ++ news);
         rests = rests (run.history ++ news);
+        begins = by.begins;
+        does = by.does;
       }
 
   -- who rests still has rested for good
   rested : (n : StateId) (events : List Event) (store : Store) (classes : List Class) → RunsAreLegal → RestsAreForGood
-      → QuietDrawsChangeNothing → HasRun true d (identity_of trace) events (In n) store first
+      → QuietDrawsChangeNothing → IsRunBy true d (identity_of trace) events (In n) store first given effects
       → IsQuiet d (identity_of trace) first.state n store classes → trace.events ≡ events ++ event.Rest n ∷ []
-      → RestsStill end first owner → Found d true end trace owner
-  rested n events store classes legal good quiet_draws run quiet closed_by still =
+      → RestsStill end first owner → Found d true end trace owner given effects
+  rested n events store classes legal good quiet_draws by quiet closed_by still =
+      let run = by.run in
       let news : List PortEvent = drawn_as first.pid draws.news in
       let nothing = quiet_draws first.pid first.state draws.news still.lived
       (ap (λ (port : PortState). length port.waiting) (sym state) ∙ still.waiting) in
@@ -199,6 +216,8 @@ module _ (d : Definition) (end : ℕ) (trace : RecordValue) (first owner : Owner
           same = subst (λ (port : PortState). IsLegal empty_port (run.history ++ Take classes Nothing ∷ []) port)
               (sym (state ∙ nothing.0)) legal_then;
         });
+        begins = by.begins;
+        does = effects_of-append run.deeds (rest_deed n ∷ []) ∙ append-nil (effects_of run.deeds) ∙ by.does;
       }
 
 -- a record that has come to the end of its instance ends with a stop or a failure
@@ -224,77 +243,87 @@ cut_so events before at.Ended is ended = inl (ended refl)
 module _ (legal : RunsAreLegal) (hear : RunsHearWhatIsDrawn) (good : RestsAreForGood)
     (quiet_draws : QuietDrawsChangeNothing) (stays : StoppedStays) (sets : ExpiriesHaveSets) (from_outside : PutsComeFromOutside) where
   module _ (named : Option SystemValue) (ports : ℕ → SegId Global) (i : InstanceValue) (trace : RecordValue)
-      (first owner : OwnerState) (peers : PeersState) (end : ℕ) (draws : Draws first owner) (kept : IsKept owner)
-      (d : Definition) (is_run : IsRunAs i d) where
+      (first owner : OwnerState) (peers : PeersState) (given : List Value) (children : List Child) (end : ℕ)
+      (draws : Draws first owner) (kept : IsKept owner) (d : Definition) (is_run : IsRunAs i d) where
     state : owner.state ≡ after_draws first.pid first.state draws.news
     state = drawn_state first owner draws stays kept
 
-    who_is : (whole : Bool) → IsLeft named ports whole i trace first peers → i.who ≡ identity_of trace
-    who_is whole left = λ k. record {
-      process = sym left.closed.process k;
-      pid = sym left.closed.pid k;
-      parent = sym left.closed.parent k;
-    }
+    module _ (whole : Bool) (left : IsLeft named ports whole i trace first peers given children) where
+      who_is : i.who ≡ identity_of trace
+      who_is = λ k. record {
+        process = sym left.closed.process k;
+        pid = sym left.closed.pid k;
+        parent = sym left.closed.parent k;
+      }
 
-    -- the run of the record
-    whole_run : (whole : Bool) → IsLeft named ports whole i trace first peers
-        → HasRun true d (identity_of trace) trace.events (closed i.position) i.store first
-    whole_run whole left =
-        subst (λ (who : Identity). HasRun true d who trace.events (closed i.position) i.store first) (who_is whole left)
-        (subst (λ (o : OwnerState). HasRun true d i.who trace.events (closed i.position) i.store o) (sym left.owner_is)
-        (left.closed.run d is_run))
+      -- what is known of the instance is known of its record and its port
+      of_record : (events : List Event) (place : ControlPoint)
+          → IsRunBy true d i.who events place i.store i.owner given left.effects
+          → IsRunBy true d (identity_of trace) events place i.store first given left.effects
+      of_record events place by =
+          subst (λ (who : Identity). IsRunBy true d who events place i.store first given left.effects) who_is
+          (subst (λ (o : OwnerState). IsRunBy true d i.who events place i.store o given left.effects)
+          (sym left.owner_is) by)
 
-    -- the run before the close
-    run_before : (whole : Bool) → IsLeft named ports whole i trace first peers
-        → HasRun true d (identity_of trace) i.events (place_of i.position) i.store first
-    run_before whole left =
-        subst (λ (who : Identity). HasRun true d who i.events (place_of i.position) i.store first) (who_is whole left)
-        (subst (λ (o : OwnerState). HasRun true d i.who i.events (place_of i.position) i.store o) (sym left.owner_is)
-        (left.run d is_run))
+      -- the run of the record
+      whole_run : IsRunBy true d (identity_of trace) trace.events (closed i.position) i.store first given left.effects
+      whole_run =
+          of_record trace.events (closed i.position)
+          (by_closed d true given whole i.position i trace.events left.effects (λ is_whole. left.rests is_whole d is_run)
+          left.closed.events (left.run d is_run))
 
-    ended : (whole : Bool) → IsLeft named ports whole i trace first peers → i.position ≡ at.Ended
-        → EndsIn IsEnd trace.events
-    ended whole left is = ended_so d trace i.position i.store first (whole_run whole left) is
+      -- the run before the close
+      run_before : IsRunBy true d (identity_of trace) i.events (place_of i.position) i.store first given left.effects
+      run_before = of_record i.events (place_of i.position) (left.run d is_run)
 
-    found_ended : IsLeft named ports true i trace first peers → EndsIn IsEnd trace.events → Found d true end trace owner
-    found_ended left ends =
-        heard d end trace first owner draws state true (closed i.position) i.store hear (whole_run true left)
-        (λ history. inl ends) (λ history. inl ends)
+      ended : i.position ≡ at.Ended → EndsIn IsEnd trace.events
+      ended is = ended_so d trace i.position i.store first whole_run.run is
 
-    -- where it was as it was closed
-    found_at : (position : Position) → i.position ≡ position → IsLeft named ports true i trace first peers
-        → RestsStill end first owner → Found d true end trace owner
-    found_at at.BeforeStart is left still =
-        absurd (subst (λ (position : Position). IsQuietAt d position i) is (left.rests refl d is_run))
-    found_at (at.In n) is left still =
-        let quiet = subst (λ (position : Position). IsQuietAt d position i) is (left.rests refl d is_run) in
-        rested d end trace first owner draws state n i.events i.store quiet.0 legal good quiet_draws
-        (subst
-        (λ (position : Position). HasRun true d (identity_of trace) i.events (place_of position) i.store first) is
-        (run_before true left))
-        (subst (λ (who : Identity). IsQuiet d who first.state n i.store quiet.0) (who_is true left)
-        (subst (λ (o : OwnerState). IsQuiet d i.who o.state n i.store quiet.0) (sym left.owner_is) quiet.1))
-        (left.closed.events ∙ ap (λ (position : Position). i.events ++ closing true position) is)
-        still
-    found_at at.Ended is left still = found_ended left (ended true left is)
+    module _ (left : IsLeft named ports true i trace first peers given children) where
+      found_ended : EndsIn IsEnd trace.events → Found d true end trace owner given left.effects
+      found_ended ends =
+          heard d end trace first owner draws state given left.effects true (closed i.position) i.store hear
+          (whole_run true left) (λ history. inl ends) (λ history. inl ends)
 
-    found : (whole : Bool) → IsLeft named ports whole i trace first peers → EndsAs whole end trace.events first owner
-        → Found d whole end trace owner
+      -- where it was as it was closed
+      found_at : (position : Position) → i.position ≡ position → RestsStill end first owner
+          → Found d true end trace owner given left.effects
+      found_at at.BeforeStart is still =
+          absurd (subst (λ (position : Position). IsQuietAt d position i) is (left.rests refl d is_run))
+      found_at (at.In n) is still =
+          let quiet = subst (λ (position : Position). IsQuietAt d position i) is (left.rests refl d is_run) in
+          rested d end trace first owner draws state given left.effects n i.events i.store quiet.0 legal good quiet_draws
+          (subst
+          (λ (position : Position).
+          IsRunBy true d (identity_of trace) i.events (place_of position) i.store first given left.effects) is
+          (run_before true left))
+          (subst (λ (who : Identity). IsQuiet d who first.state n i.store quiet.0) (who_is true left)
+          (subst (λ (o : OwnerState). IsQuiet d i.who o.state n i.store quiet.0) (sym left.owner_is) quiet.1))
+          (left.closed.events ∙ ap (λ (position : Position). i.events ++ closing true position) is)
+          still
+      found_at at.Ended is still = found_ended (ended true left is)
+
+    found : (whole : Bool) (left : IsLeft named ports whole i trace first peers given children)
+        → EndsAs whole end trace.events first owner → Found d whole end trace owner given left.effects
     found true left ends =
         elim ends [
           | inl stopped ↦ found_ended left stopped
-          | inr still ↦ found_at i.position refl left still
+          | inr still ↦ found_at left i.position refl still
         ]
     found false left ends =
-        heard d end trace first owner draws state false (closed i.position) i.store hear (whole_run false left)
+        heard d end trace first owner draws state given left.effects false (closed i.position) i.store hear
+        (whole_run false left)
         (λ history. cut_so trace.events i.events i.position left.closed.events (ended false left)) (λ history. tt)
 
   pub closed_have_histories : ClosedHaveHistories
-  closed_have_histories named ports whole i trace first owner peers ps system end is behaviours left draws kept ends =
+  closed_have_histories named ports whole i trace first owner peers given children ps system end is behaviours left draws
+      kept ends =
       let means = meant named ports whole i trace ps system is behaviours left.seated left.closed in
-      has_history ps system means.p whole end trace owner legal sets from_outside means.listed kept
-      (found named ports i trace first owner peers end draws kept (definition system means.p) means.is_run whole left
-      ends)
+      has_history ps system means.p whole end trace owner given left.effects children legal sets from_outside
+      means.listed kept
+      (found named ports i trace first owner peers given children end draws kept (definition system means.p)
+      means.is_run whole left ends)
+      left.created
 
 -- ---- what was put
 
@@ -306,7 +335,7 @@ closing_sends who number false (at.In n) = refl
 closing_sends who number whole at.Ended = refl
 
 pub closed_have_put : ClosedHavePut
-closed_have_put named ports whole i trace first peers ps system is behaviours left = λ number.
+closed_have_put named ports whole i trace first peers given children ps system is behaviours left = λ number.
     let means = meant named ports whole i trace ps system is behaviours left.seated left.closed in
     let sends : sent_to i.who.pid i.events number ≡ sent_to i.who.pid trace.events number =
     sym (ap (λ (l : List Event). sent_to i.who.pid l number) left.closed.events
@@ -319,14 +348,16 @@ closed_have_put named ports whole i trace first peers ps system is behaviours le
     (left.put (definition system means.p) means.is_run number))
 
 pub left_without_peers : LeftWithoutPeers
-left_without_peers named ports whole trace owner peers of_one =
+left_without_peers named ports whole trace owner peers given children of_one =
     let i = of_one.instance in
     let left = of_one.left in
     record {
       instance = i;
       left = record {
         closed = left.closed;
+        effects = left.effects;
         run = left.run;
+        created = left.created;
         rests = left.rests;
         seated = left.seated;
         owner_is = left.owner_is;

@@ -6,25 +6,29 @@ use Rattle.std.proofs.lemmas.List.Sums.{sum_by-append, sum_by-cons}
 use Rattle.std.specs.declared.alloc.Global.{Global}
 use Rattle.crossbeam_queue.specs.SegTies.{SegId}
 use Rattle.port_inbox.specs.Ends.{OwnerState}
+use Rattle.port_values.specs.declared.value.Value.{Value}
 use Rattle.run_evaluation.specs.declared.identity.Identity.{Identity}
 use Rattle.run_evaluation.specs.declared.store.Store.{Store}
 use Rattle.run_record.specs.Event as event
 use Rattle.run_record.specs.Event.{Event, is_beginning}
 use Rattle.run_record.specs.Record.{RecordValue}
 use Rattle.run_semantics.specs.ControlPoint.{Definition}
-use Rattle.run_semantics.specs.Effect.{Deed, events_of}
+use Rattle.run_semantics.specs.Effect.{Deed, Effect, events_of}
 use Rattle.run_semantics.specs.Goes.{AreInner, IsInner, IsOneStep}
 use Rattle.run_semantics.specs.Leads.{IsQuiet}
 use Rattle.run_semantics.specs.World.{WorldValue}
 use Rattle.run_transitions.specs.Work.{IsOf}
 use Rattle.run_transitions.specs.declared.machine.Position.{Position}
 use Rattle.run_transitions.specs.declared.machine.Position.TheVariants as at
-use Rattle.sdl_interp.specs.Instance.{EndsBy, HasRunOf, InstanceValue, IsAtRest, IsClosed, IsIdle, IsQuietAt, IsRunAs, Keeps, Moves, closing, work_of}
+use Rattle.sdl_interp.specs.Instance.{EndsBy, InstanceValue, IsAtRest, IsClosed, IsIdle, IsQuietAt, IsRunAs, Keeps, Moves, closing, work_of}
 use Rattle.sdl_interp.specs.Stimulus.{WaitsAt}
 use Rattle.sdl_system.specs.System.{SystemValue}
 use Rattle.sdl_system.specs.declared.process.Process.{Process}
 use Rattle.settle_closing.specs.Left.{HasNoMore, IsClosedNow, IsLeftOfOne}
+use Rattle.threads_instance.specs.Doings.{children_of}
+use Rattle.threads_instance.specs.RunBy.{HasRunBy}
 use Rattle.threads_instance.specs.ThreadInstance.{HasPut, IsSeated}
+use Rattle.threads_instance.specs.declared.doings.Child.{Child}
 use Rattle.threads_senders.specs.Peers.{PeersState}
 
 -- ---- events with which no transition begins
@@ -174,14 +178,17 @@ closed_rested old new trace keeps now events = record {
 
 -- what is left of an instance, by what is known as it is closed
 pub is_left : (named : Option SystemValue) (ports : ℕ → SegId Global) (whole : Bool) (i : InstanceValue)
-    (trace : RecordValue) (owner : OwnerState) (peers : PeersState) → IsClosed true whole i trace → HasRunOf true i
-    → (IsTrue whole → IsAtRest i) → IsSeated named ports i → owner ≡ i.owner → HasPut i peers
-    → IsLeftOfOne named ports whole trace owner peers
-is_left named ports whole i trace owner peers done run rests seated owner_is put = record {
+    (trace : RecordValue) (owner : OwnerState) (peers : PeersState) (given : List Value) (children : List Child)
+    → IsClosed true whole i trace → (effects : List Effect) → HasRunBy true i given effects
+    → children ≡ children_of effects → (IsTrue whole → IsAtRest i) → IsSeated named ports i → owner ≡ i.owner
+    → HasPut i peers → IsLeftOfOne named ports whole trace owner peers given children
+is_left named ports whole i trace owner peers given children done effects run created rests seated owner_is put = record {
   instance = i;
   left = record {
     closed = done;
+    effects = effects;
     run = run;
+    created = created;
     rests = rests;
     seated = seated;
     owner_is = owner_is;

@@ -5,19 +5,23 @@ use Rattle.port_inbox.specs.Ends.{OwnerState}
 use Rattle.port_inbox.specs.declared.placed.Placed.{Placed}
 use Rattle.port_model.specs.History.{IsLegal, PortEvent}
 use Rattle.port_model.specs.Port.{PortState, empty_port}
+use Rattle.port_values.specs.declared.value.Value.{Value}
 use Rattle.run_record.specs.Event.{Event}
 use Rattle.run_record.specs.Record.{RecordValue}
+use Rattle.run_semantics.specs.Effect.{effects_of}
 use Rattle.sdl_system.specs.Behaviour.{Behaviour}
 use Rattle.sdl_system.specs.System.{SystemValue}
 use Rattle.settle_meaning.specs.Closed.{AreDueAfter, ClosesAs, EndsIn, IsEnd}
 use Rattle.settle_meaning.specs.Histories.{HaveSets, IsInTime, IsRunOn, puts_of}
 use Rattle.settle_meaning.specs.Settled.{RestsAsItEnds}
+use Rattle.threads_instance.specs.Doings.{children_of}
+use Rattle.threads_instance.specs.declared.doings.Child.{Child}
 
 -- The record is a run of its process on a legal history of its port. Just these signals are put there, in their order;
 -- each expiry is in time and of a timer that was set; the record closes as the report says; and an instance that rests
--- stays at rest.
+-- stays at rest. The run began with these values, and has created these children.
 pub record HasHistoryOf (ps : List Behaviour) (system : SystemValue) (whole : Bool) (end : ℕ) (trace : RecordValue)
-    (drawn : List Placed) : Type 0 where
+    (drawn : List Placed) (given : List Value) (children : List Child) : Type 0 where
   pub history : List PortEvent
   pub port : PortState
   pub legal : IsLegal empty_port history port
@@ -27,6 +31,8 @@ pub record HasHistoryOf (ps : List Behaviour) (system : SystemValue) (whole : Bo
   pub sets : HaveSets history
   pub closes : ClosesAs whole end trace.events history port
   pub rests : RestsAsItEnds whole trace.events history port
+  pub begins : run.values ≡ given
+  pub created : children ≡ children_of (effects_of run.deeds)
 
 -- ---- what is tested once all is drawn that was put
 

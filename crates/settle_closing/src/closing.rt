@@ -9,16 +9,19 @@ use input_port::Held;
 use run_record::Record;
 use std::marker::Model;
 use std::sync::Wait;
+use threads_instance::{Gifts, Left};
 use threads_senders::{Peers, Run};
 
-/// A closed instance: its record, its port and its senders. The type keeps that the record is a run of the instance's
-/// process, that in a `whole` run the instance was at rest, and what the senders have put.
+/// A closed instance: its record, its port, its senders, and what it was given and gave. The type keeps that the record is a
+/// run of the instance's process, which began with the values that it was given and created the children to which it gave
+/// theirs, that in a `whole` run the instance was at rest, and what the senders have put.
 #[derive(Drop)]
 pub struct Closing<'p, J: Run, R: Wait + Copy> {
     whole: bool,
     trace: Record,
     inbox: Held<'p, R>,
     peers: Peers<J>,
+    gifts: Gifts,
 }
 
 impl<'p, J: Run, R: Wait + Copy> Model for Closing<'p, J, R> {
@@ -26,22 +29,45 @@ impl<'p, J: Run, R: Wait + Copy> Model for Closing<'p, J, R> {
 
     ghost Value = { ClosingState };
 
-    ghost view = { λ c. record { whole = c.whole; trace = c.trace; owner = c.inbox.owner; peers = c.peers } };
+    ghost view = { λ c. record {
+      whole = c.whole;
+      trace = c.trace;
+      owner = c.inbox.owner;
+      peers = c.peers;
+      given = c.gifts.given;
+      children = c.gifts.children.items;
+    } };
 
-    ghost invariant = { λ c. IsLeftOfOne J.system J.ports c.whole c.trace c.inbox.owner c.peers };
+    ghost invariant = { λ c. IsLeftOfOne J.system J.ports c.whole c.trace c.inbox.owner c.peers c.gifts.given
+        c.gifts.children.items };
 }
 
 impl<'p, J: Run, R: Wait + Copy> Closing<'p, J, R> {
-    /// A closed instance of these parts. That they are left of one is the caller's condition.
-    pub fn new(whole: bool, trace: Record, inbox: Held<'p, R>, peers: Peers<J>) -> Self
-        requires { IsLeftOfOne J.system J.ports whole trace inbox.owner peers }
-        ensures { result ≡ record { whole = whole; trace = trace; owner = inbox.entry.owner; peers = peers } }
+    /// A closed instance of what is left of it. That this is left of one is the caller's condition.
+    pub fn new(whole: bool, left: Left<J, Held<'p, R>>) -> Self
+        requires { IsLeftOfOne J.system J.ports whole left.trace left.inbox.owner left.peers left.gifts.given
+            left.gifts.children.items }
+        ensures { result ≡ record {
+          whole = whole;
+          trace = left.entry.trace;
+          owner = left.entry.inbox.owner;
+          peers = left.entry.peers;
+          given = left.entry.gifts.given;
+          children = left.entry.gifts.children.items;
+        } }
     {
+        let Left {
+            trace,
+            inbox,
+            peers,
+            gifts,
+        } = left;
         Closing {
             whole,
             trace,
             inbox,
             peers,
+            gifts,
         }
     }
 
@@ -71,23 +97,32 @@ impl<'p, J: Run, R: Wait + Copy> Closing<'p, J, R> {
 
     /// That it is left of an instance, as a fact.
     pub fn is_left(&self)
-        ensures { let c = self.now in IsLeftOfOne J.system J.ports c.whole c.trace c.owner c.peers }
+        ensures { let c = self.now in
+            IsLeftOfOne J.system J.ports c.whole c.trace c.owner c.peers c.given c.children }
     {
         let _trace = &self.trace;
     }
 
-    /// The record, the port and the senders.
-    pub fn into_parts(self) -> (Record, Held<'p, R>, Peers<J>)
-        ensures trace { result.0 ≡ self.entry.trace }
-        ensures owner { result.1.owner ≡ self.entry.owner }
-        ensures peers { result.2 ≡ self.entry.peers }
+    /// What is left of the instance.
+    pub fn into_left(self) -> Left<J, Held<'p, R>>
+        ensures trace { result.trace ≡ self.entry.trace }
+        ensures owner { result.inbox.owner ≡ self.entry.owner }
+        ensures peers { result.peers ≡ self.entry.peers }
+        ensures given { result.gifts.given ≡ self.entry.given }
+        ensures children { result.gifts.children.items ≡ self.entry.children }
     {
         let Closing {
             trace,
             inbox,
             peers,
+            gifts,
             ..
         } = self;
-        (trace, inbox, peers)
+        Left {
+            trace,
+            inbox,
+            peers,
+            gifts,
+        }
     }
 }

@@ -12,7 +12,7 @@ use port_values::Ticks;
 use run_record::RunError;
 use sdl_interp::Stepped;
 use std::sync::Wait;
-use threads_instance::{Left, ThreadInstance};
+use threads_instance::ThreadInstance;
 use threads_senders::Run;
 use threads_shared::{Own, Seated, Shared, StepRuntime};
 
@@ -76,12 +76,8 @@ fn closed<'s, 'p, J: Run, R: Wait + Copy>(
     ensures whole { result.whole ≡ whole }
 {
     instance.has_put();
+    instance.has_run();
     instance.is_seated();
-    let _trace = instance.trace();
-    let Left {
-        trace,
-        inbox,
-        peers,
-    } = instance.close(whole);
-    Closing::new(whole, trace, inbox, peers)
+    let left = instance.close(whole);
+    Closing::new(whole, left)
 }

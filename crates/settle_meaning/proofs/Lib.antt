@@ -1,5 +1,6 @@
 mod Drawn
 mod Expiries
+mod Headlines
 mod Ordered
 mod Quiet
 mod Reports

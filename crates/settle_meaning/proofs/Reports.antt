@@ -91,7 +91,7 @@ settled_reports_are_settled ps system lines limit report behaviours settled = re
   made = settled.accounted.made;
   nulls = settled.accounted.nulls;
   each = All-weaker
-      (IsSettledOne ps system lines settled.heard report.whole report.end report.records.items)
+      (IsSettledOne ps system lines settled.heard settled.given report.whole report.end report.records.items)
       (HasHistory (IsNamed settled.heard) ps system settled.heard report.whole report.end report.records.items)
       (λ trace one. one.has) report.records.items (settled.each ps behaviours);
   outputs = settled.accounted.outputs;

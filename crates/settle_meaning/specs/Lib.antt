@@ -1,4 +1,6 @@
 pub mod Closed
+pub mod Given
+pub mod Headline
 pub mod Histories
 pub mod Identities
 pub mod Living

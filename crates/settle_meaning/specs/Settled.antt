@@ -4,6 +4,7 @@ use Rattle.port_model.specs.History.{IsLegal, PortEvent, Take}
 use Rattle.port_model.specs.Port.{PortState, empty_port}
 use Rattle.port_model.specs.declared.selection.Class.{Class}
 use Rattle.port_model.specs.declared.taken.Taken.TheVariants.{Nothing}
+use Rattle.port_values.specs.declared.value.Value.{Value}
 use Rattle.run_record.specs.Event.{Event}
 use Rattle.run_record.specs.Record.{RecordValue}
 use Rattle.run_record.specs.declared.record.Report.{Report}
@@ -12,6 +13,7 @@ use Rattle.sdl_script.specs.declared.script.ScriptLine.{ScriptLine}
 use Rattle.sdl_system.specs.Behaviour.{Behaviour}
 use Rattle.sdl_system.specs.System.{SystemValue}
 use Rattle.settle_meaning.specs.Closed.{AreBy, EndsIn, Ends, IsEnd}
+use Rattle.settle_meaning.specs.Given.{AreGiven}
 use Rattle.settle_meaning.specs.Histories.{puts_of}
 use Rattle.settle_meaning.specs.Identities.{AreMade, HasCause}
 use Rattle.settle_meaning.specs.Living.{AreMeant}
@@ -37,11 +39,13 @@ abbrev pub RestsAsItEnds : Bool → List Event → List PortEvent → PortState 
 RestsAsItEnds true events history port = EndsIn IsEnd events ⊎ StaysAtRest history port
 RestsAsItEnds false events history port = Unit {0}
 
--- The record has a history, as each report's does. What was put is taken in order, and an instance that rests stays at
--- rest.
+-- The record has a history, as each report's does. What was put is taken in order, the instance began with the values
+-- that it was given, and if it rests it stays at rest.
 pub record IsSettledOne (ps : List Behaviour) (system : SystemValue) (lines : List ScriptLine) (heard : List Heard)
-    (whole : Bool) (end : ℕ) (records : List RecordValue) (trace : RecordValue) : Type 0 where
+    (given : ℕ → List Value) (whole : Bool) (end : ℕ) (records : List RecordValue) (trace : RecordValue)
+    : Type 0 where
   pub has : HasHistory (IsNamed heard) ps system heard whole end records trace
+  pub given_are : AreGiven given trace has.run.values has.run.deeds
   pub in_order : AreInOrder lines heard records trace (puts_of has.history)
   pub rests : RestsAsItEnds whole trace.events has.history has.port
 
@@ -78,5 +82,8 @@ pub record AreAccounted (system : SystemValue) (lines : List ScriptLine) (limit 
 pub record IsSettledReport (system : SystemValue) (lines : List ScriptLine) (limit : ℕ) (report : Report) : Type 0 where
   pub heard : List Heard
   pub accounted : AreAccounted system lines limit report heard
+  -- for the number of each instance the values with which its parameters begin
+  pub given : ℕ → List Value
   pub each : (ps : List Behaviour) → AreBehaviours system ps
-      → All (IsSettledOne ps system lines heard report.whole report.end report.records.items) report.records.items
+      → All (IsSettledOne ps system lines heard given report.whole report.end report.records.items)
+      report.records.items

@@ -11,7 +11,7 @@ ghost use Rattle.settle_meaning.specs.MeaningLaws.{
   StoppedStays,
 };
 ghost use Rattle.settle_meaning.specs.OrderLaws.{CountsKeepOrder};
-ghost use Rattle.settle_meaning.specs.SettledLaws.{SettledReportsAreSettled};
+ghost use Rattle.settle_meaning.specs.SettledLaws.{SettledReportsAreSettled, SettledReportsHaveHeadline};
 
 /// A draw after a run is a part of its history (Z.101: input port).
 pub fn runs_hear_what_is_drawn()
@@ -61,4 +61,9 @@ pub fn counts_keep_order()
 /// A settled report is settled for all behaviours of its processes.
 pub fn settled_reports_are_settled()
     ensures { SettledReportsAreSettled }
+{}
+
+/// A settled report has the headline: each instance has done what its process does, over the standard's port.
+pub fn settled_reports_have_headline()
+    ensures { SettledReportsHaveHeadline }
 {}

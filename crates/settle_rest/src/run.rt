@@ -16,8 +16,9 @@ use threads_shared::{Own, Shared};
 
 /// Goes on with a run on one thread, from the time `from` on: the instances step in sweeps by ascending number, and the
 /// clock moves only if all rest, until all rest, the script is at its end and no timer is due by then, or until `left`
-/// more transitions are made. Answers the time at which it stands. All threads of the run are joined: the caller's
-/// condition. What came of it is for the caller to check, since no clause says it. Refused for lack of memory.
+/// more transitions are made, which are added to the sum of all. Answers the time at which it stands. All threads of the
+/// run are joined: the caller's condition. What came of it is for the caller to check, since no clause says it. Refused
+/// for lack of memory.
 pub fn run_rest<J: Run, R: Wait + Copy>(
     shared: &Shared<'_, '_, '_, J, R>,
     own: &mut Own<J>,
@@ -55,6 +56,8 @@ pub fn run_rest<J: Run, R: Wait + Copy>(
     let has_begun = heard > 0 || from > Ticks::new(0);
     catch_up(&mut sweeps, &mut rest, has_begun)?;
     let _whole = sweeps.run(alloc, &mut rest, end_of(lines))?;
+    let made = left.saturating_sub(sweeps.left);
+    let _ = shared.tables.signs.add_moves(made);
     let Agenda { clock, fuses, .. } = sweeps.agenda;
     put_fuses(shared.rt, &shared.tables.wheel, fuses);
     Ok(clock)

@@ -90,12 +90,7 @@ impl<'w, 'l, 's, 'p, 'e, J: Run, R: Wait + Copy> Rest<'w, 'l, 's, 'p, 'e, J, R> 
         ensures { self.new ≡ self.old }
     {
         let shared = self.shared;
-        shared
-            .tables
-            .roster
-            .lock(shared.rt)
-            .end(who.process, who.pid);
-        shared.tables.signs.roster_changed();
+        shared.tables.end(shared.rt, who.process, who.pid);
     }
 
     /// Whom a step has created has a number now, and has its start to make.

@@ -1,3 +1,4 @@
+mod GiftLemmas
 mod PartLemmas
 mod PortLemmas
 mod SettledLemmas

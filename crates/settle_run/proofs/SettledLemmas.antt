@@ -27,20 +27,24 @@ use Rattle.settle_meaning.specs.Puts.{ArePut, Heard, IsNamed, heard_by, signals_
 use Rattle.settle_meaning.specs.Settled.{IsSettledOne, IsSettledReport}
 use Rattle.settle_meaning.specs.Timers.{AreDue}
 use Rattle.settle_meaning.specs.Times.{AreRisingFrom}
+use Rattle.settle_run.proofs.GiftLemmas.{are_given}
+use Rattle.settle_run.specs.Gifts.{AreAllGiven, children_at, given_at}
 use Rattle.settle_run.specs.Parts.{AreParts, AreSettledPorts, IsSettledPort, owner_at}
 use Rattle.threads_environment.specs.Environment.{IsHeardBy}
+use Rattle.threads_instance.specs.declared.doings.Gifts.{Gifts}
 use Rattle.threads_senders.specs.Peers.{ArePeers, PeersState}
 
 module _ (closed_have_histories : ClosedHaveHistories) (closed_have_put : ClosedHavePut)
     (counted_have_put : CountedHavePut) (named : Option SystemValue) (ports : ℕ → SegId Global)
     (system : SystemValue) (lines : List ScriptLine) (line limit : ℕ) (targets : List Target) (environment : PeersState)
-    (report : Report) (inboxes : List HeldState) (thens : List PortThen) (places : List PeersState)
+    (report : Report) (gifts : List Gifts) (inboxes : List HeldState) (thens : List PortThen) (places : List PeersState)
     (is : named ≡ Some system) (by_lines : IsHeardBy lines line targets environment)
-    (parts : AreParts named ports report.whole environment report.records.items inboxes thens places)
+    (parts : AreParts named ports report.whole environment report.records.items gifts inboxes thens places)
     (compared : AreCompared system lines by_lines.heard report.records.items places)
     (ended : IsEnding report.whole lines limit by_lines.heard report.records.items report.end)
     (settled : AreSettledPorts (put_at places) (owner_at inboxes) (length places) report.whole report.end
-    report.records.items) where
+    report.records.items)
+    (given : AreAllGiven report.records.items gifts) where
   abbrev records : List RecordValue
   records = report.records.items
 
@@ -56,23 +60,25 @@ module _ (closed_have_histories : ClosedHaveHistories) (closed_have_put : Closed
           by_lines.put;
       instances = λ k d within.
           let left : IsLeftOfOne named ports report.whole (get_or records k d) (owner_at inboxes k)
-          (get_or places (k + 1) []) = parts.left k d within in
+          (get_or places (k + 1) []) (given_at gifts k) (children_at gifts k) = parts.left k d within in
           closed_have_put named ports report.whole left.instance (get_or records k d) (owner_at inboxes k)
-          (get_or places (k + 1) []) ps system is meant left.left;
+          (get_or places (k + 1) []) (given_at gifts k) (children_at gifts k) ps system is meant left.left;
     }
 
     -- each record has a history of its port, into which all was put that was sent there, and was taken in time
     settled_one : (k : ℕ) (d : RecordValue) → k < length records
-        → IsSettledOne ps system lines heard report.whole report.end records (get_or records k d)
+        → IsSettledOne ps system lines heard given.given report.whole report.end records (get_or records k d)
     settled_one k d within =
         let trace : RecordValue = get_or records k d in
-        let left : IsLeftOfOne named ports report.whole trace (owner_at inboxes k) (get_or places (k + 1) []) =
-        parts.left k d within in
+        let left : IsLeftOfOne named ports report.whole trace (owner_at inboxes k) (get_or places (k + 1) [])
+        (given_at gifts k) (children_at gifts k) = parts.left k d within in
         let port : IsSettledPort (put_at places trace.pid) (length places) report.whole report.end (owner_at inboxes k)
         trace = settled k d within in
-        let history : HasHistoryOf ps system report.whole report.end trace port.owner.drawn =
+        let history : HasHistoryOf ps system report.whole report.end trace port.owner.drawn (given_at gifts k)
+        (children_at gifts k) =
         closed_have_histories named ports report.whole left.instance trace (owner_at inboxes k) port.owner
-        (get_or places (k + 1) []) ps system report.end is meant left.left port.counted.draws port.kept port.ends in
+        (get_or places (k + 1) []) (given_at gifts k) (children_at gifts k) ps system report.end is meant left.left
+        port.counted.draws port.kept port.ends in
         let has : HasPut lines heard records trace (signals_in port.owner.drawn) =
         counted_have_put lines heard records places trace (owner_at inboxes k) port.owner compared.made.rising are_places
         compared.put compared.heard_put compared.ordered
@@ -89,6 +95,8 @@ module _ (closed_have_histories : ClosedHaveHistories) (closed_have_put : Closed
             sets = history.sets;
             closes = history.closes;
           };
+          given_are = are_given given.given trace (given_at gifts k) (children_at gifts k) history.run.values
+              history.run.deeds history.begins history.created (given.each k d within);
           in_order = subst (λ (puts : List Item). AreInOrder lines heard records trace puts) (sym history.puts)
               has.in_order;
           rests = history.rests;
@@ -97,6 +105,7 @@ module _ (closed_have_histories : ClosedHaveHistories) (closed_have_put : Closed
   pub is_settled : IsSettledReport system lines limit report
   is_settled = record {
     heard = heard;
+    given = given.given;
     accounted = record {
       made = compared.made;
       nulls = compared.nulls;
@@ -119,7 +128,7 @@ module _ (closed_have_histories : ClosedHaveHistories) (closed_have_put : Closed
 module _ (closed_have_histories : ClosedHaveHistories) (closed_have_put : ClosedHavePut)
     (counted_have_put : CountedHavePut) (named : Option SystemValue) (ports : ℕ → SegId Global)
     (system : SystemValue) (lines : List ScriptLine) (line limit : ℕ) (targets : List Target) (environment : PeersState)
-    (report : Report) (inboxes : List HeldState) (thens : List PortThen) (places : List PeersState)
+    (report : Report) (gifts : List Gifts) (inboxes : List HeldState) (thens : List PortThen) (places : List PeersState)
     (is : named ≡ Some system) (by_lines : IsHeardBy lines line targets environment)
   where
     abbrev of_report : List RecordValue
@@ -127,16 +136,16 @@ module _ (closed_have_histories : ClosedHaveHistories) (closed_have_put : Closed
 
     pub report_settled : (senders : PeersState) (all first : List ScriptLine) (count long : ℕ) (went : List Target)
         (traces : List RecordValue) (peers : List PeersState) → senders ≡ environment
-        → AreParts named ports report.whole senders of_report inboxes thens places → all ≡ lines → count ≡ line
+        → AreParts named ports report.whole senders of_report gifts inboxes thens places → all ≡ lines → count ≡ line
         → first ≡ take count all → went ≡ targets → traces ≡ of_report → peers ≡ places → long ≡ length places
         → ((heard : List Heard) → signals_heard heard ≡ signals_of first → targets_of heard ≡ went
         → HaveSignals heard all → AreCompared system all heard traces peers)
         → ((heard : List Heard) → signals_heard heard ≡ signals_of (take count all)
         → IsEnding report.whole all limit heard traces report.end)
         → AreSettledPorts (put_at places) (owner_at inboxes) long report.whole report.end traces
-        → IsSettledReport system lines limit report
+        → AreAllGiven of_report gifts → IsSettledReport system lines limit report
     report_settled senders all first count long went traces peers senders_are parts all_is count_is first_is went_is
-        traces_are peers_are long_is compares ends settled =
+        traces_are peers_are long_is compares ends settled given =
         let heard : List Heard = by_lines.heard in
         let taken : take count all ≡ take line lines =
         ap (λ n. take n all) count_is ∙ ap (λ (l : List ScriptLine). take line l) all_is in
@@ -160,6 +169,7 @@ module _ (closed_have_histories : ClosedHaveHistories) (closed_have_put : Closed
         (λ (l : List RecordValue). AreSettledPorts (put_at places) (owner_at inboxes) long report.whole report.end l)
         traces_are settled) in
         is_settled closed_have_histories closed_have_put counted_have_put named ports system lines line limit targets
-        environment report inboxes thens places is by_lines
-        (subst (λ (p : PeersState). AreParts named ports report.whole p of_report inboxes thens places) senders_are parts)
-        compared ended counted
+        environment report gifts inboxes thens places is by_lines
+        (subst (λ (p : PeersState). AreParts named ports report.whole p of_report gifts inboxes thens places) senders_are
+        parts)
+        compared ended counted given

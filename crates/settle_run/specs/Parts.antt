@@ -15,6 +15,8 @@ use Rattle.settle_closing.specs.Left.{IsLeftOfOne}
 use Rattle.settle_closing.specs.PortThen.{then_of}
 use Rattle.settle_closing.specs.declared.ending.PortThen.{PortThen}
 use Rattle.settle_gathering.specs.Gathering.{IsCounted}
+use Rattle.settle_run.specs.Gifts.{children_at, given_at}
+use Rattle.threads_instance.specs.declared.doings.Gifts.{Gifts}
 use Rattle.threads_senders.specs.Peers.{PeersState}
 
 -- the owner of a port, by its place among the records
@@ -25,17 +27,19 @@ owner_at inboxes k = (slice_index_or inboxes k (record { owner = newborn no_port
 abbrev pub AreThensOf : (ℕ → OwnerState) → List PortThen → Type 0
 AreThensOf owners thens = AllAt (λ k (one : PortThen). one ≡ then_of (owners k)) thens
 
--- The record k, its port, what was known of the port as the record was closed, and its senders, at the place k + 1, are
--- what is left of one instance. The senders at the place 0 are the environment's.
+-- The record k, what its instance was given and gave, its port, what was known of the port as the record was closed, and its
+-- senders, at the place k + 1, are what is left of one instance. The senders at the place 0 are the environment's.
 pub record AreParts (named : Option SystemValue) (ports : ℕ → SegId Global) (whole : Bool) (environment : PeersState)
-    (records : List RecordValue) (inboxes : List HeldState) (thens : List PortThen) (places : List PeersState)
-    : Type 0 where
+    (records : List RecordValue) (gifts : List Gifts) (inboxes : List HeldState) (thens : List PortThen)
+    (places : List PeersState) : Type 0 where
+  pub gifts_long : length gifts ≡ length records
   pub inboxes_long : length inboxes ≡ length records
   pub thens_long : length thens ≡ length records
   pub places_long : length places ≡ length records + 1
   pub environment_is : slice_index_or places 0 [] ≡ environment
   pub left : AllAt (λ k (trace : RecordValue).
-      IsLeftOfOne named ports whole trace (owner_at inboxes k) (slice_index_or places (k + 1) [])) records
+      IsLeftOfOne named ports whole trace (owner_at inboxes k) (slice_index_or places (k + 1) []) (given_at gifts k)
+      (children_at gifts k)) records
   pub thens_are : AreThensOf (owner_at inboxes) thens
 
 -- The port of a record was counted, with the senders of so many places, and the record closes as the run ends.

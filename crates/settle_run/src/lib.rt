@@ -6,6 +6,7 @@
 //! an instance at which something is missing.
 #![tactic(auto)]
 
+mod gifts;
 mod parts;
 mod ports;
 mod report;

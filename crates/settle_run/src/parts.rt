@@ -8,12 +8,14 @@ use run_record::{Record, RunError};
 use settle_closing::{Closing, PortThen};
 use std::alloc::Global;
 use std::sync::Wait;
+use threads_instance::{Gifts, Left};
 use threads_senders::{Peers, Run};
 
-/// The parts of a run that are left: the records, and their ports.
+/// The parts of a run that are left: the records, what the instance of each was given and gave, and their ports.
 #[derive(Drop)]
 pub struct Parts<'p, J: Run, R: Wait + Copy> {
     pub records: Vec<Record>,
+    pub gifts: Vec<Gifts>,
     pub ports: PortParts<'p, J, R>,
 }
 
@@ -33,11 +35,12 @@ pub fn parts_of<'p, J: Run, R: Wait + Copy>(
     closings: Vec<Closing<'p, J, R>>,
     environment: Peers<J>,
 ) -> Result<Parts<'p, J, R>, RunError>
-    ensures { IfOk result (λ parts. AreParts J.system J.ports whole environment parts.records.items
+    ensures { IfOk result (λ parts. AreParts J.system J.ports whole environment parts.records.items parts.gifts.items
         parts.ports.inboxes.items parts.ports.thens.items parts.ports.places.items) }
 {
     let count = closings.len();
     let mut records = Vec::with_capacity(alloc, count)?;
+    let mut gifts = Vec::with_capacity(alloc, count)?;
     let mut inboxes = Vec::with_capacity(alloc, count)?;
     let mut thens = Vec::with_capacity(alloc, count)?;
     let mut places = Vec::new(alloc);
@@ -48,8 +51,14 @@ pub fn parts_of<'p, J: Run, R: Wait + Copy>(
         }
         closing.is_left();
         thens.push(closing.port_then())?;
-        let (record, inbox, peers) = closing.into_parts();
-        records.push(record)?;
+        let Left {
+            trace,
+            inbox,
+            peers,
+            gifts: own,
+        } = closing.into_left();
+        records.push(trace)?;
+        gifts.push(own)?;
         inboxes.push(inbox)?;
         places.push(peers)?;
     }
@@ -58,5 +67,9 @@ pub fn parts_of<'p, J: Run, R: Wait + Copy>(
         thens,
         places,
     };
-    Ok(Parts { records, ports })
+    Ok(Parts {
+        records,
+        gifts,
+        ports,
+    })
 }

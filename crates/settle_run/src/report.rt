@@ -3,6 +3,7 @@
 ghost use Rattle.std.specs.Prelude.{IfOk};
 ghost use Rattle.settle_meaning.specs.Settled.{IsSettledReport};
 
+use crate::gifts::all_given;
 use crate::parts::{Parts, parts_of};
 use crate::ports::settle_ports;
 use run_record::{Report, RunError};
@@ -22,7 +23,7 @@ use threads_shared::Shared;
 /// and for all behaviours that the processes of the system mean it is whole or cut, and nothing was lost between threads.
 ///
 /// Lost, with a number: a record or a signal is missing, or what is recorded breaks what a report has to be, as `compare`,
-/// `end_of_run` and the counts of the ports tell it. At most `workers` threads look at the records.
+/// `all_given`, `end_of_run` and the counts of the ports tell it. At most `workers` threads look at the records.
 pub fn report_of<'p, J: Run, R: Threads + Wait + Copy + Sync>(
     shared: &Shared<'_, '_, 'p, J, R>,
     closings: Vec<Closing<'p, J, R>>,
@@ -44,7 +45,11 @@ pub fn report_of<'p, J: Run, R: Threads + Wait + Copy + Sync>(
     let (heard, _) = lines.split_at(line);
     environment.is_heard();
     let targets = Vec::from_slice(alloc, environment.targets())?;
-    let Parts { records, ports } = parts_of(alloc, whole, closings, environment.into_peers())?;
+    let Parts {
+        records,
+        gifts,
+        ports,
+    } = parts_of(alloc, whole, closings, environment.into_peers())?;
     let all = records.as_slice();
     let sums = summaries_of(shared.rt, alloc, workers, all)?;
     compare(
@@ -57,6 +62,7 @@ pub fn report_of<'p, J: Run, R: Threads + Wait + Copy + Sync>(
         heard,
         &targets,
     )?;
+    all_given(alloc, all, gifts.as_slice())?;
     let end = end_of_run(lines, line, all, &sums, ending)?;
     let lacks_memory = some_memory(all, &sums);
     closed_have_histories();

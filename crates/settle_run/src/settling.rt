@@ -7,7 +7,6 @@ use crate::report::report_of;
 use port_values::Ticks;
 use run_record::{Report, RunError};
 use settle_account::Ending;
-use settle_checks::transitions_in;
 use settle_closing::{Closing, close};
 use settle_rest::run_rest;
 use std::sync::Wait;
@@ -37,35 +36,14 @@ pub fn settle<J: Run, R: Threads + Wait + Copy + Sync>(
         IsSettledReport shared.now.system.now environment.entry.lines limit report) }
 {
     let mut environment = environment;
-    let left = limit.saturating_sub(made_by(shared));
+    // All threads are joined, so the sum has all transitions, and nobody but this thread adds to it.
+    let left = limit.saturating_sub(shared.tables.signs.moves());
     let at = run_rest(shared, own, &mut environment, at, left)?;
-    let whole = made_by(shared) < limit;
+    let whole = shared.tables.signs.moves() < limit;
     let closings = close_all(shared, own, whole, at)?;
     let ending = Ending { whole, limit };
     let report = report_of(shared, closings, environment, ending, workers)?;
     Ok(report)
-}
-
-/// How many transitions all instances have recorded.
-fn made_by<J: Run, R: Wait + Copy>(shared: &Shared<'_, '_, '_, J, R>) -> u64 {
-    let mut count: u64 = 0;
-    for number in 1..=MOST_NUMBERS {
-        count = count.saturating_add(made_at(shared, number));
-    }
-    count
-}
-
-/// How many transitions the instance of this number has recorded. 0: there is none in its place.
-fn made_at<J: Run, R: Wait + Copy>(shared: &Shared<'_, '_, '_, J, R>, number: u32) -> u64 {
-    let Some(place) = shared.places.of(number) else {
-        return 0;
-    };
-    // Before: all threads are joined, so the lock is free. After: nobody but this thread has changed what is there.
-    let guard = place.lock(shared.rt);
-    match guard.as_ref() {
-        Some(seated) => transitions_in(seated.trace()) as u64,
-        None => 0,
-    }
 }
 
 /// Closes the records of all instances that are entered, by ascending numbers.
