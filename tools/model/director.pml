@@ -232,7 +232,7 @@ over:
         :: signs_failed
         :: !signs_failed ->
 #ifdef LIMIT
-            assert(sum <= made);
+            assert(sum == made);
             if
             :: made >= LIMIT ->
                 /* The run is cut. The sum reached the limit once, and the run went past it by little. */

@@ -179,5 +179,18 @@ ends:
 told_end:
     unpark(other);
 gone:
+#if defined(LIMIT) && !defined(BUG_LAST_UNTOLD)
+    /* worker.rt: rounds. It adds what it has, once it has made its last round. */
+    atomic {
+        if
+        :: moves > 0 -> add_moves()
+        :: moves == 0
+        fi
+    };
+    if
+    :: atomic { count == 1 -> signs_closed = true; count = 0 }
+    :: count == 0
+    fi;
+#endif
     done++
 }
