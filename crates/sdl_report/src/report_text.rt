@@ -84,9 +84,10 @@ fn write_record<W: Write>(
     Ok(())
 }
 
-/// Writes the line of an event, an entry with its values. It may stay on the page.
+/// Writes the line of an event of the record, an entry with its values. It may stay on the page. `spare` is for a line
+/// that is no common one.
 #[inline(always)]
-fn write_event<W: Write>(
+pub fn write_event<W: Write>(
     page: &mut Page,
     spare: &mut String,
     entry: &Entry,

@@ -1,1 +1,3 @@
-pub mod PartLemmas
+pub mod Crossing
+pub mod LineLemmas
+pub mod PieceLemmas

@@ -1,11 +1,15 @@
 //! The text of a report, made by several threads.
 //!
-//! `write_report_by_workers` writes the text that `sdl_report::write_report` writes. Each of several threads makes the
-//! text of some neighbouring records; the calling thread writes the texts in their order, once all are made.
+//! `write_report_by_workers` writes the text that `sdl_report::write_report` writes. The report is cut, in its order,
+//! into pieces of so many lines, also in the middle of a record. In each round every thread makes the text of one of
+//! the next pieces, into a buffer that is used again, and then the calling thread writes these texts in their order.
 #![tactic(auto)]
 
-mod part;
-mod parts;
+mod line;
+mod lines;
+mod piece;
 mod report_text;
+mod shares;
+mod stretch;
 
 pub use report_text::write_report_by_workers;
