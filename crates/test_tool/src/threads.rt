@@ -90,14 +90,14 @@ fn expect_write_fault<R: Threads + Wait + Copy + Send + Sync + Abort>(
     assert!(rt; writer.taken.len() == room);
 }
 
-/// Instances whose reports are long, and the same whatever the schedule: three; one; one after three others that stop
-/// at once, so that a thread is left without a record.
+/// Instances whose reports are long, and the same whatever the schedule: three; one, whose text takes several rounds; one
+/// after three others that stop at once.
 static LONG: [&str; 3] = [
     "system S; process P (3); dcl n Integer := 0; start; nextstate s;
 state s; provided n < 1000; task n := n + 1; nextstate -; endprocess; endsystem;
 ",
     "system S; process P; dcl n Integer := 0; start; nextstate s;
-state s; provided n < 1000; task n := n + 1; nextstate -; endprocess; endsystem;
+state s; provided n < 15000; task n := n + 1; nextstate -; endprocess; endsystem;
 ",
     "system S; process Q (3); start; stop; endprocess;
 process P; dcl n Integer := 0; start; nextstate s;

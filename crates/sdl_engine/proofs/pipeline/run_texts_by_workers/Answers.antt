@@ -12,7 +12,7 @@ returns-in-Ok-clause-ok g c =
       accepted = accepted;
       behaves = some_behaviours (tree_value taken.tree) taken.system accepted.built;
       ran = λ ps of.
-          (behaviours_of_text (tree_value taken.tree) taken.system accepted.built ps of, c.in-Ok.ensures);
+          (behaviours_of_text (tree_value taken.tree) taken.system accepted.built ps of, c.in-Ok.ensures.settled);
     })
 
 pub returns-in-Err-clause-err : goal.returns-in-Err-clause-err
