@@ -9,6 +9,8 @@
 #[cfg(test)]
 mod cases;
 #[cfg(test)]
+mod counted;
+#[cfg(test)]
 mod gates;
 #[cfg(test)]
 mod given;

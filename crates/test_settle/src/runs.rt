@@ -19,6 +19,7 @@ use std::sync::Wait;
 use std::thread::Threads;
 use threads_crew::begin;
 use threads_environment::Environment;
+use threads_instance::Left;
 use threads_ports::{NewPorts, NumberSeat, Numbers, Ports, birth as ports};
 use threads_queue::Places;
 use threads_senders::{Peers, Run};
@@ -225,6 +226,17 @@ fn without_peers<'p, J: Run, R: Wait + Copy>(
     left_without_peers();
     closing.is_left();
     let whole = closing.whole();
-    let (trace, inbox, _peers) = closing.into_parts();
-    Closing::new(whole, trace, inbox, Peers::new(alloc))
+    let Left {
+        trace,
+        inbox,
+        gifts,
+        ..
+    } = closing.into_left();
+    let left = Left {
+        trace,
+        inbox,
+        peers: Peers::new(alloc),
+        gifts,
+    };
+    Closing::new(whole, left)
 }
