@@ -7,8 +7,10 @@
 mod naming;
 mod stack;
 mod threaded;
+mod watch;
 
 pub use run_record::RunError;
 pub use serial_run::run_serial;
 pub use threaded::run;
 pub use threads_workers::{Gate, Open};
+pub use watch::{Stage, Watch};

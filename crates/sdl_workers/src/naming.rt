@@ -5,6 +5,7 @@ ghost use Rattle.settle_meaning.specs.Settled.{IsSettledReport};
 ghost use Rattle.threads_environment.specs.Environment.{IsOfEnv};
 ghost use Rattle.threads_ports.specs.Named.{AreMade, AreNamed};
 
+use crate::watch::{Stage, Watch};
 use run_record::{Report, RunError};
 use sdl_instances::{Entries, Seat, Table};
 use sdl_script::ScriptLine;
@@ -32,7 +33,11 @@ pub struct Plan<'a> {
 }
 
 /// A run under the name `J`: its system, ports and table are those that the name says.
-pub fn run_named<J: Run + Send + Sync, R: Threads + Wait + Copy + Send + Sync, G: Gate + Sync>(
+pub fn run_named<
+    J: Run + Send + Sync,
+    R: Threads + Wait + Copy + Send + Sync,
+    G: Gate + Watch + Sync,
+>(
     rt: &R,
     system: &System,
     plan: Plan<'_>,
@@ -60,7 +65,7 @@ pub fn run_named<J: Run + Send + Sync, R: Threads + Wait + Copy + Send + Sync, G
 }
 
 /// A run over what lasts as long as it.
-fn run_common<J: Run + Send + Sync, R: Threads + Wait + Copy + Send + Sync, G: Gate + Sync>(
+fn run_common<J: Run + Send + Sync, R: Threads + Wait + Copy + Send + Sync, G: Gate + Watch + Sync>(
     rt: &R,
     system: &System,
     plan: Plan<'_>,
@@ -88,7 +93,7 @@ fn run_common<J: Run + Send + Sync, R: Threads + Wait + Copy + Send + Sync, G: G
 }
 
 /// A run over all that its threads share: they work, are joined, and the run is settled.
-fn run_shared<J: Run + Send + Sync, R: Threads + Wait + Copy + Send + Sync, G: Gate + Sync>(
+fn run_shared<J: Run + Send + Sync, R: Threads + Wait + Copy + Send + Sync, G: Gate + Watch + Sync>(
     shared: &Shared<'_, '_, '_, J, R>,
     plan: Plan<'_>,
     seat: NumberSeat<J>,
@@ -104,7 +109,10 @@ fn run_shared<J: Run + Send + Sync, R: Threads + Wait + Copy + Send + Sync, G: G
     begin(shared, &mut seat)?;
     let director = Director::new(environment, ticker);
     let director = direct(shared, director, &mut reader, &mut seat, plan.workers, gate)?;
-    settle_joined(shared, plan, reader, seat, director)
+    gate.reached(Stage::Joined);
+    let report = settle_joined(shared, plan, reader, seat, director)?;
+    gate.reached(Stage::Settled);
+    Ok(report)
 }
 
 /// Settles a run whose threads are all joined, unless one of them found no memory for the run's own tables.

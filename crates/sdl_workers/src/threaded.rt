@@ -7,6 +7,7 @@ ghost use Rattle.settle_meaning.specs.Settled.{IsSettledReport};
 
 use crate::naming::{Plan, run_named};
 use crate::stack::touch_stack;
+use crate::watch::Watch;
 use run_record::{Report, RunError};
 use sdl_instances::birth;
 use sdl_script::Script;
@@ -21,9 +22,9 @@ use threads_workers::Gate;
 
 /// Runs a system on a script, on so many threads beside the calling one, which is the environment: until nobody can act,
 /// the script is at its end and no timer is due by then, or until `limit` transitions are made, and perhaps some more. A
-/// thread that can't be started is left out. `gate` hears of each step that a worker makes, before it is made. It answers
-/// nothing, and no clause names it: each report has the headline and is settled, whatever `gate` does. `workers` is 1 to
-/// 16, `limit` 1 at least, and the script is one for the system: the caller's conditions.
+/// thread that can't be started is left out. `gate` hears of each step that a worker makes, before it is made, and how far
+/// the run has come. It answers nothing, and no clause names it: each report has the headline and is settled, whatever
+/// `gate` does. `workers` is 1 to 16, `limit` 1 at least, and the script is one for the system: the caller's conditions.
 ///
 /// The headline: for all behaviours that the processes of the system mean, each record is a run of its process, on a legal
 /// history of its port, in which each take that found nothing had nothing to consume at its moment; and once stopped or
@@ -35,7 +36,7 @@ use threads_workers::Gate;
 /// Memory: the environment, or a table of the run, found none. Lost, with a number: a signal, an expiry or an instance is
 /// missing, or a target or a create's null is not what it may be. Every thread is joined, whatever the answer is.
 #[tactic(auto, using(crate::proofs::Sending::lines_of_env))]
-pub fn run<R: Threads + Wait + Copy + Send + Sync, G: Gate + Sync>(
+pub fn run<R: Threads + Wait + Copy + Send + Sync, G: Gate + Watch + Sync>(
     rt: &R,
     alloc: Global,
     system: &System,
