@@ -5,7 +5,7 @@ ghost use Rattle.sdl_script.specs.Script.{SendsFromEnv};
 
 use crate::given::{Given, make_given};
 use run_record::Report;
-use sdl_workers::{Gate, run};
+use sdl_workers::{Gate, Stage, Watch, run};
 use settle_checks::transitions_in;
 use std::alloc::Global;
 use std::process::Abort;
@@ -43,6 +43,10 @@ impl Gate for Begun {
     fn begun<R: Wait>(&self, _rt: &R, _number: u32) {
         self.steps.fetch_add(1, Ordering::SeqCst);
     }
+}
+
+impl Watch for Begun {
+    fn reached(&self, _stage: Stage) {}
 }
 
 #[test]

@@ -1,7 +1,7 @@
 //! That two workers make steps at the same time, which no text tells.
 
 use crate::given::{make_given, text_with};
-use sdl_workers::Gate;
+use sdl_workers::{Gate, Stage, Watch};
 use std::sync::Wait;
 use std::sync::atomic::{AtomicBool, AtomicU32, Ordering};
 use std::thread;
@@ -91,6 +91,10 @@ impl<'r, C: Clock> Gate for Both<'r, C> {
             self.hold(&self.second, &self.first);
         }
     }
+}
+
+impl<'r, C: Clock> Watch for Both<'r, C> {
+    fn reached(&self, _stage: Stage) {}
 }
 
 /// All six steps begin, each beside the other instance's of the same transition, and no hold runs out. One thread alone

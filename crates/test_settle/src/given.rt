@@ -10,7 +10,7 @@ use sdl_parse::parse;
 use sdl_report::write_report;
 use sdl_script::{Script, read_script};
 use sdl_system::System;
-use sdl_workers::{Gate, run, run_serial};
+use sdl_workers::{Gate, Watch, run, run_serial};
 use std::alloc::Global;
 use std::process::Abort;
 use std::sync::Wait;
@@ -36,7 +36,7 @@ pub fn make_given(rt: &impl Abort, alloc: Global, specification: &str, script: &
 }
 
 /// The text of the run with so many workers, with this limit of transitions.
-pub fn text_with<R: Threads + Wait + Abort + Copy + Send + Sync, G: Gate + Sync>(
+pub fn text_with<R: Threads + Wait + Abort + Copy + Send + Sync, G: Gate + Watch + Sync>(
     rt: &R,
     alloc: Global,
     given: &Given,

@@ -3,9 +3,11 @@
 //! Rows of whole runs have one text whatever the schedule is; what no text tells is tested by a gate. Each row is run
 //! many times, so that what few schedules have, as a wrong text or a hang, is to show. A run that is settled from its
 //! start on, so that the calling thread alone makes it, has the text of the serial run. If senders or an instance are
-//! lost, the number is told at which something is missing.
+//! lost, or the run was made wrongly, the number is told at which something is missing.
 #![tactic(auto)]
 
+#[cfg(test)]
+mod by_hand;
 #[cfg(test)]
 mod cases;
 #[cfg(test)]
@@ -26,3 +28,7 @@ mod runs;
 mod texts;
 #[cfg(test)]
 mod turns;
+#[cfg(test)]
+mod withholding;
+#[cfg(test)]
+mod wrong;

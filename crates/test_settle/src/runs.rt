@@ -4,6 +4,7 @@ ghost use Rattle.std.specs.Prelude.{◌≡◌, All, Some, vec_len};
 ghost use Rattle.threads_environment.specs.Environment.{IsOfEnv};
 ghost use Rattle.threads_ports.specs.Named.{AreMade, AreNamed};
 
+use crate::by_hand::{Made, by_hand};
 use crate::given::Given;
 use port_values::Ticks;
 use run_record::{Report, RunError};
@@ -42,6 +43,8 @@ pub enum Way {
     WithoutInstance(u32),
     /// As a run that is cut at its limit, once the senders of this instance are let go. None: all are there.
     WithoutSenders(Option<u32>),
+    /// As a run that is made so by hand.
+    ByHand(Made),
 }
 
 /// The limit of a run, and how it is settled.
@@ -154,6 +157,7 @@ fn settle_by<J: Run, R: Threads + Wait + Copy + Sync>(
             settle(shared, own, environment, start, limit, THREADS)
         }
         Way::WithoutSenders(number) => cut_without(shared, own, environment, limit, number),
+        Way::ByHand(made) => by_hand(shared, own, environment, limit, made),
     }
 }
 

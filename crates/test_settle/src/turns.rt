@@ -5,7 +5,7 @@ ghost use Rattle.sdl_script.specs.Script.{SendsFromEnv};
 
 use crate::given::{Given, make_given};
 use run_record::Report;
-use sdl_workers::{Gate, run, run_serial};
+use sdl_workers::{Gate, Stage, Watch, run, run_serial};
 use settle_checks::transitions_in;
 use std::alloc::Global;
 use std::process::Abort;
@@ -83,6 +83,10 @@ impl<'r, C: Clock> Gate for Breaks<'r, C> {
             thread::sleep(self.clock, Duration::from_millis(1));
         }
     }
+}
+
+impl<'r, C: Clock> Watch for Breaks<'r, C> {
+    fn reached(&self, _stage: Stage) {}
 }
 
 /// After how many steps of all there is a break with so many workers.
