@@ -1,0 +1,4 @@
+pub mod ChangeLemmas
+pub mod GapLemmas
+pub mod RestLemmas
+pub mod ScanLemmas
