@@ -1,0 +1,7 @@
+use Rattle.std.proofs.Common.{◌≡◌, ◌++◌, drop, map}
+use Rattle.sdl_warnings.specs.Heads.{head_value, inner, inner_at, scan}
+use Rattle.sdl_warnings.proofs.heads.inner.Given as goal
+
+abbrev pub invariant-loop-word : goal.invariant-loop-word
+invariant-loop-word l =
+    map head_value l.found.items ++ scan inner_at l.list l.spot (drop l.word-index l.words) ≡ inner l.list l.words

@@ -1,0 +1,15 @@
+pub mod Answers
+pub mod Colons
+pub mod Decisions
+pub mod Defined
+pub mod Found
+pub mod Heads
+pub mod Loops
+pub mod Missing
+pub mod Processes
+pub mod Sets
+pub mod Signals
+pub mod Times
+pub mod Unset
+pub mod Unused
+pub mod Words
