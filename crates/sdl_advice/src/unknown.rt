@@ -35,6 +35,10 @@ pub fn unknown_advice(
         });
     }
     let text = match nearest_name(alloc, names, word, kind)? {
+        Some(near) if near == word => format!(in alloc;
+            "`{word}` is the {wanted} of another scope. A channel ends at what its own scope defines, or at `env`; and \
+             a `connect` names channels of the system before `and`, and those of its block after it."
+        )?,
         Some(near) => format!(in alloc;
             "`{word}` is no {wanted} in this scope or around it. Is `{near}` meant? Capitals count."
         )?,

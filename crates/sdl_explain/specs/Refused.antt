@@ -1,5 +1,5 @@
 -- What is shown of a text that is refused.
-use Rattle.std.specs.Prelude.{◌≡◌, ℕ, List, Option, None, Some}
+use Rattle.std.specs.Prelude.{◌≡◌, ℕ, Bool, true, false, List, Option, None, Some}
 use Rattle.std.specs.String.{string_bytes}
 use Rattle.sdl_build.specs.declared.error.BuildError.{BuildError}
 use Rattle.sdl_build.specs.declared.error.BuildError.TheVariants as build
@@ -35,6 +35,12 @@ parse_place (parse.Expected place wanted) = Some place
 parse_place (parse.LeftOut place word) = Some place
 parse_place (parse.TooDeep place) = Some place
 parse_place parse.Memory = None
+
+-- whether a text has no tree only because memory is lacking
+abbrev pub is_lack : ParseError → Bool
+is_lack parse.Memory = true
+is_lack (parse.Lex lex.Memory) = true
+is_lack _ = false
 
 -- where a rule is broken
 abbrev pub build_place : BuildError → Option Place

@@ -5,20 +5,29 @@
 //! refused. What is shown is the line of the place (`explain_lines`), and if another place matters one before it: for a
 //! name that is there again, the place of the same word. The contracts promise so much. Which sentence belongs to which
 //! refusal is a table, of which no contract speaks. What was wanted of a name or a sort is said by `sdl_advice`.
+//!
+//! `other_faults` and `other_lines` find what else is wrong: each of these is told of the same text, in which what is
+//! around the faults before it is left out. `warnings_text` says what is suspicious (`sdl_warnings`) in the same way.
 #![tactic(auto)]
 
 mod build;
 mod explanation;
 mod marked;
+mod more;
 mod origin;
+mod others;
 mod parse;
+mod refused;
 mod script;
 mod script_line;
 mod sentence;
 mod shown;
+mod told;
+mod warned;
 
-pub use build::explain_build;
 pub use explanation::{Explanation, Other};
 pub use origin::Origin;
+pub use others::Others;
 pub use parse::explain_parse;
-pub use script::explain_script;
+pub use told::{faults_text, lines_text};
+pub use warned::{warnings_of, warnings_text};

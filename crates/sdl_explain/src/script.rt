@@ -35,7 +35,7 @@ pub fn explain_script<'t>(
 }
 
 /// The number of the line that is refused.
-fn script_line(error: ScriptError) -> Option<usize>
+pub fn script_line(error: ScriptError) -> Option<usize>
     ensures { result ≡ script_line error }
 {
     match error {

@@ -66,7 +66,7 @@ pub fn sort_advice(alloc: Global, word: &str) -> Result<Advice, AllocError> {
             alloc,
             word,
             "is no sort. The sorts are Integer, Natural, Boolean, Pid, Time and \
-            Duration, and no others can be defined.",
+            Duration, no others can be defined, and a sort follows its names: `dcl n Integer;`.",
         ),
     }
 }

@@ -37,21 +37,30 @@ fn broken_sentence(rule: Rule, word: &str) -> &'static str {
         Rule::NoState => no_state(word),
         Rule::NoLabel => {
             "is no label of this process, and a join can't leave its process. Write `NAME:` before the action to \
-             go on at, or a connection of this name, or mend the spelling."
+             go on at, or a connection of this name, or mend the spelling. A state follows `nextstate`."
         }
         Rule::NoRoute => {
             "reaches nobody: no path leads it from here to a process or to the environment. Name it after `with` \
-             in a channel that begins here, or say by `to` who gets it."
+             in a channel that begins here, in a block also in one outside that `connect` joins to it, or say by `to` \
+             who gets it."
         }
         Rule::BadCount => bad_count(word),
-        Rule::NoEnd => {
-            "begins a path that runs off its end. Let each way through it end with `nextstate`, `stop` or `join`, \
-             those too that go on after an `enddecision`."
-        }
+        Rule::NoEnd => no_end(word),
         Rule::Limit => {
             "is one more than this tool takes: 1,000 signals with timers, 16 parameters, 200 processes, 1,000 \
              instances at the start, 1,000 states of a process, 50,000 statements. Leave something out."
         }
+    }
+}
+
+/// Gives the sentence about the word with which a way begins that has no end.
+fn no_end(word: &str) -> &'static str {
+    if word.eq_ignore_ascii_case("provided") {
+        "begins a path that runs off its end. A condition of an input comes after it: `input a; provided n > 0; \
+         nextstate -;`. Else let each way end with `nextstate`, `stop` or `join`."
+    } else {
+        "begins a path that runs off its end. Let each way through it end with `nextstate`, `stop` or `join`, those too \
+         that go on after an `enddecision`."
     }
 }
 
@@ -60,7 +69,8 @@ fn no_state(word: &str) -> &'static str {
         "means the state from which the transition began, and the start, which can come here, begins in none. Name \
          a state instead."
     } else {
-        "is no state of this process: no `state` names it. Add one, or mend the spelling; capitals count."
+        "is no state of this process: no `state` names it. Add one, or mend the spelling; capitals count. A label \
+         follows `join`."
     }
 }
 

@@ -1,6 +1,6 @@
 //! Sentences about a parenthesis after a word that takes none.
 
-use explain_lines::{Around, mark_of, name_of};
+use explain_lines::{Around, name_of};
 use sdl_tree::Mark;
 
 /// Gives the sentence about a parenthesis that opens after a word, where a semicolon has to be.
@@ -14,6 +14,7 @@ pub fn call_sentence(around: &Around<'_>) -> &'static str {
         }
         Some(Mark::Stop | Mark::Join | Mark::Start) => "Nothing is in parentheses here.",
         Some(Mark::Decision) => QUESTION,
+        Some(Mark::Save) => "A save has no variables: it leaves the signal where it is.",
         _ => match name_of(around.before) {
             Some(name) => function_sentence(name),
             None => "Nothing can be in parentheses after this.",

@@ -22,6 +22,13 @@ const SEND: &str = "An output sends a signal: `output a;`, or `output a(1) to p;
 
 const RECEIVE: &str = "A state takes a signal by an input: `state s; input a; nextstate -;`.";
 
+const CONDITION: &str =
+    "A condition follows an input and its `;`: `input a; provided n > 0; nextstate -;`.";
+
+const ENTRY: &str =
+    "A state has no actions of its own. Do this in each transition that leads to it, or in a connection to which these \
+     join.";
+
 const WAIT: &str =
     "A transition can't wait. Set a timer, and take its signal in a state: `set(now + 5, t);`, and there `input t;`.";
 
@@ -76,7 +83,7 @@ const NOTHING: &str =
     "Nothing stands for doing nothing: write the terminator alone, as in `nextstate -;`.";
 
 /// Words of other languages, in lower case, and what is written for them.
-static HABITS: [(&str, &str); 99] = [
+static HABITS: [(&str, &str); 100] = [
     ("while", LOOP),
     ("for", LOOP),
     ("foreach", LOOP),
@@ -101,7 +108,7 @@ static HABITS: [(&str, &str); 99] = [
     ("publish", SEND),
     ("receive", RECEIVE),
     ("recv", RECEIVE),
-    ("when", RECEIVE),
+    ("when", CONDITION),
     ("on", RECEIVE),
     ("wait", WAIT),
     ("sleep", WAIT),
@@ -113,6 +120,7 @@ static HABITS: [(&str, &str); 99] = [
     ("continue", JUMP),
     ("goon", JUMP),
     ("become", JUMP),
+    ("entry", ENTRY),
     ("break", BREAK),
     ("exit", END),
     ("quit", END),

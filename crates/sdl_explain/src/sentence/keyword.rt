@@ -1,7 +1,7 @@
 //! The keyword that is meant by a word that is none.
 
 use crate::sentence::habit::habit_sentence;
-use explain_lines::{Around, name_of};
+use explain_lines::{Around, mark_of, name_of};
 use parse_cursor::Wanted;
 use sdl_advice::{Advice, Nearest, lowered};
 use sdl_tree::{Mark, keyword_of};
@@ -31,6 +31,8 @@ pub fn keyword_advice(
 /// the place.
 fn misplaced_name<'t>(around: &Around<'t>, wanted: &Wanted) -> Option<&'t str> {
     match wanted {
+        // A variable, whose `task` is missing.
+        Wanted::Mark(Mark::Colon) if mark_of(around.at) == Some(Mark::Assign) => None,
         Wanted::Mark(Mark::Colon) => name_of(around.before).or(name_of(around.at)),
         Wanted::Mark(Mark::Semicolon) if !around.goes_on() => None,
         Wanted::Mark(Mark::Semicolon | Mark::Close) if is_sort(name_of(around.at)) => None,

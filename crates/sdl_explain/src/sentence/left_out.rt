@@ -16,7 +16,7 @@ pub fn left_out_sentence(word: &str) -> &'static str {
         }
         "procedure" | "call" | "return" | "remote" => {
             "isn't part of this language, which has no procedures. A connection, to which joins lead, shares a part of \
-             transitions."
+             transitions, and these end with `nextstate`, `stop` or `join`."
         }
         "type" => {
             "isn't part of this language. A system, a block and a process have no types: write each where it is, as in \
@@ -31,6 +31,13 @@ pub fn left_out_sentence(word: &str) -> &'static str {
         "service" | "substructure" | "package" | "interface" => {
             "isn't part of this language. A system has blocks and processes, and a block has processes."
         }
+        _ => left_out_in_process(word),
+    }
+}
+
+/// Gives the sentence about a word of what a process does.
+fn left_out_in_process(word: &str) -> &'static str {
+    match word {
         "via" => {
             "isn't part of this language. An output goes along the channels that carry its signal, or `to` a \
              process or a Pid."

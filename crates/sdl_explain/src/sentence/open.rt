@@ -115,6 +115,9 @@ pub fn outside_sentence(mark: Mark) -> Option<&'static str> {
         | Mark::Join => Some(
             "What is done belongs to a process: write `process P;` before its start, and `endprocess;` at its end.",
         ),
+        Mark::Env => Some(
+            "The environment isn't defined. A channel names it: `channel c from env to P with a; endchannel;`.",
+        ),
         Mark::Connect => Some(
             "A `connect` belongs to a block: it joins channels of the system with channels in it.",
         ),

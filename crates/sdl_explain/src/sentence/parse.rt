@@ -212,7 +212,9 @@ const LEFT_OUT_AS_NAME: &str =
     "is a word of SDL, though this language leaves it out, and so it can't be a name. Choose another.";
 
 /// The sentence about a keyword that stands at the place of a name.
-const KEYWORD_AS_NAME: &str = "is a keyword, and a name has to stand here. Choose another word.";
+const KEYWORD_AS_NAME: &str =
+    "is a keyword, and a name has to stand here. Choose another word for a name; or what is before it is wrong, as is \
+     a `,` for a `;`.";
 
 /// The sentence about a parenthesis or a decision that opens inside of too many others.
 const TOO_DEEP: &str =
@@ -249,6 +251,8 @@ fn lex_sentence(error: LexError) -> &'static str {
 /// Gives the sentence about a place at which something else has to stand.
 fn expected_sentence(wanted: &Wanted) -> &'static str {
     match wanted {
+        Wanted::Mark(Mark::System) =>
+            "begins a specification: `system S;`. Comments alone can be before it.",
         Wanted::Mark(_) => { "has to stand here, or something that can come before it." }
         Wanted::Name => "A name has to stand here.",
         Wanted::Number => "A number has to stand here: a priority is no expression.",

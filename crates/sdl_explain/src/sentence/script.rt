@@ -97,7 +97,17 @@ const NO_COMMENT: &str =
 
 /// Whether something that could be a comment stands in a line.
 fn has_comment(line: &[u8]) -> bool {
-    line.windows(2).any(|pair| matches!(pair, b"//" | b"/*" | b"--" | b" #" | b"\t#"))
+    line.windows(2)
+        .any(|pair| matches!(pair, b"//" | b"/*" | b"--"))
+        || line.windows(3).any(|three| begins_comment(three))
+}
+
+/// Whether a comment could begin here: by `#` after a blank. Before a digit it is the number of an instance.
+fn begins_comment(bytes: &[u8]) -> bool {
+    match bytes {
+        [b' ' | b'\t', b'#', next, ..] => !next.is_ascii_digit(),
+        _ => false,
+    }
 }
 
 /// Gives the sentence about a fault in a script.
@@ -105,7 +115,8 @@ fn script_sentence(error: ScriptError) -> &'static str {
     match error {
         ScriptError::Syntax(_) => {
             "This line isn't `TIME`, `TIME NAME` or `TIME NAME(VALUES)`, perhaps with `to #NUMBER` or `to NAME` \
-             after it, or its time is past 1000000000000000. A comment has `#` as its first byte."
+             after it. A time is a whole number, 1000000000000000 at most. Values are whole numbers, `true`, `false`, \
+             `null`, `env` and `#NUMBER`, with commas between them. A comment has `#` as its first byte."
         }
         ScriptError::BackInTime(_) => {
             "is less than the time of a line before. Sort the lines by their times."

@@ -1,0 +1,3 @@
+pub mod BesideLemmas
+pub mod OthersLemmas
+pub mod ToldLemmas
