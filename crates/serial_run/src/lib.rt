@@ -4,12 +4,14 @@
 //! rest, expires the timers that are due then in their order, and hears the script's lines of that time in theirs: so
 //! do the sweeps (`serial_sweeps`), over instances with ports of their own (`serial_instances`). A step of one of them is made
 //! here, and what it does to others is done behind it. The report is that of one execution, of all that happens
-//! (`serial_order`).
+//! (`serial_order`). `run_serial_heard` does the same, and lets a listener hear how far it is.
 #![tactic(auto)]
 
+mod listener;
 mod run;
 mod step;
 mod stepping;
 
-pub use run::run_serial;
+pub use listener::{Listener, Nobody};
+pub use run::{run_serial, run_serial_heard};
 pub use run_record::RunError;

@@ -5,6 +5,7 @@ ghost use Rattle.run_semantics.specs.Behaves.{AreBehaviours};
 ghost use Rattle.serial_order.specs.Report.{IsSerialReport};
 ghost use Rattle.sdl_system.specs.Behaviour.{Behaviour};
 
+use crate::listener::{Listener, Nobody};
 use crate::stepping::Stepping;
 use port_values::Ticks;
 use run_record::{Report, RunError};
@@ -27,15 +28,33 @@ pub fn run_serial(
         → IsSerialReport ps system.now script.now.lines.items limit report) }
     ensures err { IfErr result (λ why. why ≡ RunError.Memory) }
 {
+    run_serial_heard(alloc, system, script, limit, Nobody)
+}
+
+/// Does the same while somebody listens: who hears of the end once the last transition is made, also if memory fails.
+pub fn run_serial_heard<L: Listener>(
+    alloc: Global,
+    system: &System,
+    script: &Script,
+    limit: u64,
+    listener: L,
+) -> Result<Report, RunError>
+    ensures serial { IfOk result (λ report. (ps : List Behaviour) → AreBehaviours system.now ps
+        → IsSerialReport ps system.now script.now.lines.items limit report) }
+    ensures err { IfErr result (λ why. why ≡ RunError.Memory) }
+{
     let mut agenda = Agenda::new(alloc);
     let instances = Instances::begin(alloc, &mut agenda, system)?;
     let mut stepping = Stepping {
         instances,
         effects: Effects::new(alloc),
+        listener,
     };
     let mut sweeps = Scheduler::new(agenda, script.lines.as_slice(), stepping.given(), limit);
     let last = script.end();
-    let whole = sweeps.run(alloc, &mut stepping, last)?;
+    let ran = sweeps.run(alloc, &mut stepping, last);
+    stepping.listener.end();
+    let whole = ran?;
     let clock = clock_of(&sweeps);
     let end = if whole { last } else { clock };
     let records = stepping.instances.close(alloc, whole)?;

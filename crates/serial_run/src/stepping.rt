@@ -1,5 +1,6 @@
 //! What the sweeps of a run ask of its instances.
 
+use crate::listener::Listener;
 use crate::step::step;
 use port_inbox::Fuse;
 use sdl_script::ScriptLine;
@@ -8,14 +9,15 @@ use serial_sweeps::{Agenda, InstanceSet, Made};
 use serial_world::Effects;
 use std::alloc::{AllocError, Global};
 
-/// The instances of a run, and the acts of a step.
+/// The instances of a run, the acts of a step, and who hears of transitions.
 #[derive(Drop)]
-pub struct Stepping<'s> {
+pub struct Stepping<'s, L> {
     pub instances: Instances<'s>,
     pub effects: Effects,
+    pub listener: L,
 }
 
-impl<'s> InstanceSet for Stepping<'s> {
+impl<'s, L: Listener> InstanceSet for Stepping<'s, L> {
     ghost use Rattle.std.specs.Prelude.{All};
     ghost use Rattle.serial_instances.specs.Serial.{IsSerial};
     ghost use Rattle.sdl_interp.specs.Instance.{IsAtRest};
@@ -44,13 +46,17 @@ impl<'s> InstanceSet for Stepping<'s> {
         agenda: &mut Agenda,
         number: u32,
     ) -> Result<Made, AllocError> {
-        step(
+        let made = step(
             &mut self.instances,
             alloc,
             agenda,
             number,
             &mut self.effects,
-        )
+        )?;
+        if made == Made::Transition {
+            self.listener.transition(agenda.clock);
+        }
+        Ok(made)
     }
 
     fn expire(&mut self, agenda: &mut Agenda, fuse: Fuse) -> Result<(), AllocError> {

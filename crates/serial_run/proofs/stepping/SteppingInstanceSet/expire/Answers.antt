@@ -5,7 +5,7 @@ use Rattle.serial_sweeps.specs.Sweeps.{at_agenda}
 use Rattle.serial_run.proofs.stepping.SteppingInstanceSet.expire.Goals as goal
 
 pub returns-clause-runs : goal.returns-clause-runs
-returns-clause-runs c = λ last m some begun.
+returns-clause-runs g c = λ last m some begun.
     let agenda = c.args.agenda.now in
     let fuse = c.args.fuse in
     on_ok_weaker c.fire.result
