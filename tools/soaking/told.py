@@ -87,9 +87,10 @@ class Replay:
         return None
 
     def taken(self, own: int, line: str) -> tuple[tuple[int, int, str], str] | None:
-        """Whose row a line takes from, and the signal with its values; nothing of the environment or of a timer."""
+        """Whose row a line takes from, and the signal with its values; nothing of the environment or of a timer, whose
+        signal comes from the instance itself. A signal of another may have the name of a timer."""
         took = CONSUMED.fullmatch(line)
-        if not took or took[4] == "env" or (own, took[3]) in self.timers:
+        if not took or took[4] == "env" or (took[4] == f"#{own}" and (own, took[3]) in self.timers):
             return None
         return (int(took[4][1:]), own, took[3].partition("(")[0]), took[3]
 
