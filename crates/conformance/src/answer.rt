@@ -4,10 +4,16 @@ ghost use Rattle.conformance.specs.Judgement.{IsAnswer, status_of};
 ghost use Rattle.std.specs.Prelude.{◌≡◌};
 
 use crate::case::Answer;
-use sdl_engine::{Names, Notes, Options, Outcome, Source, TextFault, run_and_note, run_text};
-use std::alloc::Global;
+use sdl_engine::{
+    Names, Notes, Options, Outcome, Source, TextFault, run_and_note, run_text, suspicions_of,
+};
+use sdl_input::Texts;
+use std::alloc::{AllocError, Global};
 use std::sync::Wait;
 use std::thread::Threads;
+
+/// The least status of a text that is refused.
+const REFUSED: u8 = 2;
 
 /// Runs the engine on an input.
 pub fn answer_of<T: Threads + Wait + Copy + Send + Sync>(
@@ -25,18 +31,29 @@ pub fn answer_of<T: Threads + Wait + Copy + Send + Sync>(
     Answer { status, output }
 }
 
-/// What the engine notes of an input for a human.
+/// What the engine notes of an input for a human: why it is refused, or what is suspicious in it.
 pub fn notes_of<T: Threads + Wait + Copy + Send + Sync>(
     rt: &T,
     alloc: Global,
     input: &[u8],
     options: &Options,
-) -> Vec<u8> {
+) -> Result<Vec<u8>, AllocError> {
     let mut notes = silent_notes(alloc);
     notes.explains = true;
-    let _ = noted_answer(rt, alloc, input, &mut notes, options);
-    let Notes { writer, .. } = notes;
-    writer
+    let answer = noted_answer(rt, alloc, input, &mut notes, options);
+    let Notes {
+        mut writer,
+        names,
+        ..
+    } = notes;
+    if answer.status < REFUSED {
+        let texts = Texts {
+            text: Vec::from_slice(alloc, input)?,
+            script: None,
+        };
+        writer.extend_from_slice(&suspicions_of(alloc, &texts, &names)?)?;
+    }
+    Ok(writer)
 }
 
 /// Notes that tell nothing, of an input from standard input.

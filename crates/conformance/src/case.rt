@@ -30,6 +30,6 @@ pub struct Case {
     pub asked: Asked,
     pub input: Vec<u8>,
     pub wanted: Answer,
-    /// What standard error has to say of a refused text that is explained.
+    /// What standard error has to say of the text: why it is refused, what cut its run, and its warnings.
     pub explained: Option<Vec<u8>>,
 }

@@ -98,7 +98,7 @@ fn judge_notes<T: Threads + Wait + Copy + Send + Sync>(
     let Some(want) = &case.explained else {
         return Ok(Verdict::AsWanted);
     };
-    let told = notes_of(rt, alloc, case.input.as_slice(), options);
+    let told = notes_of(rt, alloc, case.input.as_slice(), options)?;
     match first_difference(alloc, want.as_slice(), told.as_slice())? {
         Some(pair) => Ok(Verdict::Differs(Difference::Explained(pair))),
         None => Ok(Verdict::AsWanted),

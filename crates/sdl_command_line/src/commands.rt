@@ -24,6 +24,7 @@ Exit status:
   3  the run is refused, or a file can't be opened or written, or reading, writing or memory failed
   4  the command line has a mistake
   6  an instance failed, in a run with --strict
+  7  there is a warning of the specification, with --deny-warnings
   8  a run differs from what --expect names
   141  standard output is a pipe that nobody reads any more
 
@@ -78,6 +79,7 @@ fn check<'a>(alloc: Global) -> Result<Command<'a>, AllocError> {
             alloc,
             "Writes nothing of an accepted text, and of another one its line alone; the exit status tells",
         ))?
+        .arg(deny_warnings(alloc))?
         .arg(explain(alloc))
 }
 
@@ -110,8 +112,9 @@ fn run<'a>(alloc: Global) -> Result<Command<'a>, AllocError> {
         .arg(strict(alloc))?
         .arg(quiet(
             alloc,
-            "Explains no refusal of the text: its line on standard output says it alone",
+            "Explains no refusal of the text, whose line on standard output says it alone, and shows no warning",
         ))?
+        .arg(deny_warnings(alloc))?
         .arg(explain(alloc))
 }
 
@@ -247,7 +250,7 @@ fn bless<'a>(alloc: Global) -> Result<Arg<'a>, AllocError> {
         .requires_arg("expect")
 }
 
-/// Whether no refusal is explained, and nothing is written of a text that a check accepts.
+/// Whether no refusal is explained, no warning is shown, and nothing is written of a text that a check accepts.
 fn quiet<'a>(alloc: Global, help: &'a str) -> Arg<'a> {
     Arg::new(alloc, "quiet")
         .short('q')
@@ -264,10 +267,20 @@ fn strict<'a>(alloc: Global) -> Arg<'a> {
         .action(ArgAction::SetTrue)
 }
 
-/// Whether a refusal is explained after all: one that is not quiet is.
+/// Whether what is suspicious in the specification counts.
+fn deny_warnings<'a>(alloc: Global) -> Arg<'a> {
+    Arg::new(alloc, "deny-warnings")
+        .long("deny-warnings")
+        .help("Ends with status 7 if there is a warning of the specification")
+        .action(ArgAction::SetTrue)
+}
+
+/// Whether a refusal is explained after all, and warnings are shown: they are where it is not quiet.
 fn explain<'a>(alloc: Global) -> Arg<'a> {
     Arg::new(alloc, "explain")
         .long("explain")
-        .help("Explains a refusal of the text on standard error, with --quiet, too")
+        .help(
+            "Explains a refusal of the text on standard error, and shows warnings, with --quiet, too",
+        )
         .action(ArgAction::SetTrue)
 }

@@ -14,12 +14,14 @@ use std::alloc::{AllocError, Global};
 #[derive(Drop)]
 pub struct Task {
     pub options: Options,
-    /// Whether a refusal of the text is explained on standard error.
+    /// Whether standard error has what helps a human: why the text is refused, its warnings, and how far a long run is.
     pub explain: bool,
     /// Whether nothing is written of a text that is accepted.
     pub quiet: bool,
     /// Whether a failure of an instance counts as one of the program.
     pub strict: bool,
+    /// Whether what is suspicious in the specification counts as a mistake.
+    pub denies_warnings: bool,
     /// The specification, which a script may follow.
     pub text: InputFile,
     /// A script of its own, which takes the place of the one that follows the specification.
@@ -33,6 +35,11 @@ pub struct Task {
 }
 
 impl Task {
+    /// Whether it matters that something in the specification is suspicious: that is told or counts.
+    pub fn warns(&self) -> bool {
+        self.explain || self.denies_warnings
+    }
+
     /// Whether the specification or its script is read from standard input.
     pub fn reads_standard_input(&self) -> bool {
         self.text.is_standard_input() || self.reads_script_there()
@@ -111,6 +118,7 @@ fn met_task(alloc: Global, matches: &ArgMatches<'_>) -> Result<Task, Mistake> {
             explain: false,
             quiet: false,
             strict: false,
+            denies_warnings: false,
             text: InputFile::StandardInput,
             script: None,
             chart: None,
@@ -173,6 +181,7 @@ fn task_of(alloc: Global, options: Options, named: &ArgMatches<'_>) -> Result<Ta
         explain: named.get_flag("explain") || !named.get_flag("quiet"),
         quiet: false,
         strict: false,
+        denies_warnings: named.get_flag("deny-warnings"),
         text,
         script,
         chart: None,

@@ -3,7 +3,7 @@
 use crate::notes::Names;
 use crate::pipeline::check_input;
 use crate::refusal::Refusal;
-use sdl_explain::{Origin, explain_build, explain_parse, explain_script};
+use sdl_explain::{Origin, explain_parse, faults_text, lines_text};
 use sdl_input::{Input, Texts};
 use std::alloc::{AllocError, Global};
 
@@ -36,13 +36,10 @@ fn explained(
             let explanation = explain_parse(alloc, specification, error)?;
             explanation.text(alloc, &origin)
         }
-        Refusal::Build(error) => {
-            let explanation = explain_build(alloc, specification, error)?;
-            explanation.text(alloc, &origin)
-        }
+        Refusal::Build(error) => faults_text(alloc, specification, &origin, error),
         Refusal::Script(error) => {
-            let explanation = explain_script(alloc, specification, script, *error)?;
-            explanation.text(alloc, &origin_of_script(input, names))
+            let origin = origin_of_script(input, names);
+            lines_text(alloc, specification, script, &origin, *error)
         }
         Refusal::Run(_) => Ok(Vec::new(alloc)),
     }

@@ -22,6 +22,7 @@ mod run;
 mod serial;
 mod text;
 mod views;
+mod warned;
 
 pub use notes::{Names, Notes};
 pub use options::{Command, Options, Outcome, TextFault, View};
@@ -31,4 +32,6 @@ pub use refusal_text::{fixed_line, refusal_line};
 pub use run::Run;
 pub use sdl_input::Source;
 pub use serial::{run_and_note_serially, run_text_serially};
+pub use serial_run::{Listener, Nobody};
 pub use text::{run_and_note, run_text};
+pub use warned::suspicions_of;

@@ -17,7 +17,8 @@ use sdl_print::print;
 use sdl_script::{Script, read_script};
 use sdl_system::System;
 use sdl_tree::Tree;
-use sdl_workers::{Open, run, run_serial};
+use sdl_workers::{Open, run};
+use serial_run::{Listener, run_serial_heard};
 use std::alloc::Global;
 use std::sync::Wait;
 use std::thread::Threads;
@@ -94,23 +95,33 @@ fn check_texts(alloc: Global, texts: &Texts) -> Result<String, Refusal>
     }
 }
 
-/// The serial run of an input, cut after so many transitions, or why there is none.
-pub fn run_input(alloc: Global, input: &Input, limit: u64) -> Result<Run, Refusal>
+/// The serial run of an input, cut after so many transitions, or why there is none. The listener hears how far it is.
+pub fn run_input<L: Listener>(
+    alloc: Global,
+    input: &Input,
+    limit: u64,
+    listener: L,
+) -> Result<Run, Refusal>
     ensures ok { IfOk result (λ run. IsRunOfInput input.now None limit run.system run.report run.script.lines.items) }
     ensures err { IfErr result (Allows Command.Run None input.now) }
 {
     match input {
-        Input::Held(texts) => run_texts(alloc, texts, limit),
+        Input::Held(texts) => run_texts(alloc, texts, limit, listener),
         Input::TooLong => Err(Refusal::Parse(ParseError::Lex(LexError::TooLong))),
     }
 }
 
-fn run_texts(alloc: Global, texts: &Texts, limit: u64) -> Result<Run, Refusal>
+fn run_texts<L: Listener>(
+    alloc: Global,
+    texts: &Texts,
+    limit: u64,
+    listener: L,
+) -> Result<Run, Refusal>
     ensures ok { IfOk result (λ run. IsRunOf texts.now None limit run.system run.report run.script.lines.items) }
     ensures err { IfErr result (AllowsOf Command.Run None texts.now) }
 {
     let accepted = accept(alloc, texts)?;
-    match run_serial(alloc, &accepted.system, &accepted.script, limit) {
+    match run_serial_heard(alloc, &accepted.system, &accepted.script, limit, listener) {
         Ok(report) => Ok(accepted.into_run(report)),
         Err(error) => Err(Refusal::Run(error)),
     }

@@ -11,6 +11,7 @@ use crate::options::{Command, Options, Outcome, TextFault};
 use crate::pipeline::{check_input, run_input};
 use crate::reading::{read_input, read_source};
 use sdl_input::{Input, Source};
+use serial_run::{Listener, Nobody};
 use std::alloc::Global;
 use std::io::{Read, Write};
 
@@ -30,17 +31,18 @@ pub fn run_text_serially<R: Read, W: Write>(
 {
     let input = read_input(alloc, reader)?;
     let mut notes = silent_notes();
-    tell_serially(alloc, &input, writer, &mut notes, options)
+    tell_serially(alloc, &input, writer, &mut notes, options, Nobody)
 }
 
 /// Does what `run_and_note` does where no thread is asked for: this is a check, or a run without workers (the
-/// caller's condition).
-pub fn run_and_note_serially<R: Read, S: Read, W: Write, N: Write>(
+/// caller's condition). While it runs the listener hears how far it is.
+pub fn run_and_note_serially<R: Read, S: Read, W: Write, N: Write, L: Listener>(
     alloc: Global,
     source: &mut Source<R, S>,
     writer: &mut W,
     notes: &mut Notes<'_, N>,
     options: &Options,
+    listener: L,
 ) -> Result<Outcome, TextFault>
     requires { IsSerial options.now }
     ensures ok { IfOk result (λ how. Written (R.remaining source.old.text) (option_map S.remaining source.old.script)
@@ -58,19 +60,20 @@ pub fn run_and_note_serially<R: Read, S: Read, W: Write, N: Write>(
     let input = read_source(alloc, source)?;
     let explains = notes.explains;
     notes.run = None;
-    let told = tell_serially(alloc, &input, writer, notes, options);
+    let told = tell_serially(alloc, &input, writer, notes, options, listener);
     note_refusal(alloc, &input, &told, explains, notes);
     keep_texts(input, notes);
     told
 }
 
 /// Writes what the command asks for of an input, or the line of its refusal, and notes what there is to say of a run.
-pub fn tell_serially<W: Write, N: Write>(
+pub fn tell_serially<W: Write, N: Write, L: Listener>(
     alloc: Global,
     input: &Input,
     writer: &mut W,
     notes: &mut Notes<'_, N>,
     options: &Options,
+    listener: L,
 ) -> Result<Outcome, TextFault>
     requires { IsSerial options.now }
     ensures ok { IfOk result (λ how. Tells input.now options.now how (W.contents writer.old) (W.contents writer.new)) }
@@ -83,7 +86,7 @@ pub fn tell_serially<W: Write, N: Write>(
 {
     match options.command {
         Command::Check => tell_check(alloc, input, writer, options),
-        Command::Run => tell_run(alloc, input, writer, notes, options),
+        Command::Run => tell_run(alloc, input, writer, notes, options, listener),
     }
 }
 
@@ -106,12 +109,13 @@ fn tell_check<W: Write>(
 }
 
 /// Runs an input serially and writes the report, or the line of its refusal.
-fn tell_run<W: Write, N: Write>(
+fn tell_run<W: Write, N: Write, L: Listener>(
     alloc: Global,
     input: &Input,
     writer: &mut W,
     notes: &mut Notes<'_, N>,
     options: &Options,
+    listener: L,
 ) -> Result<Outcome, TextFault>
     requires command { options.now.command ≡ Command.Run }
     requires workers { options.now.workers ≡ None }
@@ -124,7 +128,7 @@ fn tell_run<W: Write, N: Write>(
         notes.new.run notes.new.stuck (W.contents writer.old) (W.contents writer.new)) }
 {
     let keeps = notes.keeps;
-    match run_input(alloc, input, options.limit) {
+    match run_input(alloc, input, options.limit, listener) {
         Ok(run) => {
             let told = report(alloc, &run, writer, notes, options);
             keep_run(run, keeps, notes);

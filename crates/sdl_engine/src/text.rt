@@ -12,6 +12,7 @@ use crate::pipeline::run_input_by_workers;
 use crate::reading::{read_input, read_source};
 use crate::serial::tell_serially;
 use sdl_input::{Input, Source};
+use serial_run::Nobody;
 use std::alloc::Global;
 use std::io::{Read, Write};
 use std::sync::Wait;
@@ -92,7 +93,7 @@ fn tell<T: Threads + Wait + Copy + Send + Sync, W: Write, N: Write>(
         (Command::Run, Some(workers)) => {
             tell_run_by_workers(rt, alloc, input, writer, notes, options, workers)
         }
-        _ => tell_serially(alloc, input, writer, notes, options),
+        _ => tell_serially(alloc, input, writer, notes, options, Nobody),
     }
 }
 

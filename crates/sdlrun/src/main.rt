@@ -15,7 +15,9 @@ mod failure;
 mod message;
 mod opened;
 mod paper;
+mod progress;
 mod reading;
+mod warned;
 
 use failure::Failure;
 use reading::{Told, tell};
@@ -56,6 +58,9 @@ fn status_of(told: Told) -> ExitCode {
     }
     if told.differs {
         return ExitCode::from(8);
+    }
+    if told.warned {
+        return ExitCode::from(7);
     }
     if told.failed {
         return ExitCode::from(6);

@@ -23,13 +23,42 @@ impl Read for Opened {
     }
 }
 
+/// A text that is read, and what was read of it, if that is kept. Where there is no memory for that it is let go.
+#[derive(Drop)]
+pub struct Kept {
+    input: Opened,
+    pub read: Option<Vec<u8>>,
+}
+
+impl Kept {
+    fn keep(&mut self, bytes: &[u8]) {
+        let Some(read) = &mut self.read else {
+            return;
+        };
+        if read.extend_from_slice(bytes).is_err() {
+            self.read = None;
+        }
+    }
+}
+
+impl Read for Kept {
+    fn read(&mut self, buffer: &mut [u8]) -> io::Result<usize> {
+        let count = self.input.read(buffer)?;
+        self.keep(&buffer[..count]);
+        Ok(count)
+    }
+}
+
 /// The text and the script that a task names, opened. If standard input is closed, the first file that is opened gets
 /// its number, and would be read in its place. So that is looked at before.
-pub fn open_source(rt: &HostRuntime, task: &Task) -> Result<Source<Opened, Opened>, Failure> {
+pub fn open_source(rt: &HostRuntime, task: &Task) -> Result<Source<Kept, Opened>, Failure> {
     if task.reads_standard_input() && !is_open(rt.stdin()) {
         return Err(Failure::Text(TextFault::Read));
     }
-    let text = open_input(rt, &task.text)?;
+    let text = Kept {
+        input: open_input(rt, &task.text)?,
+        read: task.warns().then_some(Vec::new(rt.alloc())),
+    };
     let script = match &task.script {
         Some(script) => Some(open_input(rt, script)?),
         None => None,

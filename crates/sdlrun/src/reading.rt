@@ -6,7 +6,9 @@ use crate::drawn::draw_file;
 use crate::expected::{Compared, Expected};
 use crate::failure::Failure;
 use crate::message::Message;
-use crate::opened::{Opened, open_source};
+use crate::opened::{Kept, Opened, open_source};
+use crate::progress::Progress;
+use crate::warned::warn;
 use sdl_command_line::{InputFile, Task};
 use sdl_engine::{
     Names, Notes, Options, Outcome, Source, TextFault, View, run_and_note, run_and_note_serially,
@@ -26,6 +28,8 @@ pub struct Told {
     pub stuck: bool,
     /// Whether the run differs from what is expected.
     pub differs: bool,
+    /// Whether something in the specification is suspicious, if that counts.
+    pub warned: bool,
 }
 
 /// Does what the command line asks for with the text that it names. Then it draws the run, tells what it covered, and
@@ -39,6 +43,7 @@ pub fn tell<T: Threads + Wait + Copy + Send + Sync>(
     let expected = Expected::read(rt, task)?;
     let mut notes = notes_of(rt, task);
     let written = tell_text(rt, threads, task, &mut source, &mut notes)?;
+    let warned = warn(rt, task, &source, written.outcome)?;
     let drawn = draw_run(rt, task, &notes)?;
     cover_run(rt, task, &notes)?;
     let compared = compare_run(rt, task, &expected, &notes, &written)?;
@@ -47,6 +52,7 @@ pub fn tell<T: Threads + Wait + Copy + Send + Sync>(
         failed: notes.failed,
         stuck: notes.stuck.or(drawn).or(compared.stuck).is_some(),
         differs: compared.differs,
+        warned: warned && task.denies_warnings,
     })
 }
 
@@ -83,7 +89,7 @@ fn tell_text<T: Threads + Wait + Copy + Send + Sync>(
     rt: &HostRuntime,
     threads: &T,
     task: &Task,
-    source: &mut Source<Opened, Opened>,
+    source: &mut Source<Kept, Opened>,
     notes: &mut Notes<'_, Message>,
 ) -> Result<Written, Failure> {
     let mut answer = Answer::new(rt.stdout());
@@ -171,20 +177,21 @@ fn note_stuck(rt: &HostRuntime, number: u32) {
 fn tell_to<T: Threads + Wait + Copy + Send + Sync, W: Write>(
     rt: &HostRuntime,
     threads: &T,
-    source: &mut Source<Opened, Opened>,
+    source: &mut Source<Kept, Opened>,
     writer: &mut W,
     notes: &mut Notes<'_, Message>,
     options: &Options,
 ) -> Result<Outcome, TextFault> {
     if options.is_serial() {
-        run_and_note_serially(rt.alloc(), source, writer, notes, options)
+        let progress = Progress::new(rt, notes.explains);
+        run_and_note_serially(rt.alloc(), source, writer, notes, options, progress)
     } else {
         run_and_note(threads, rt.alloc(), source, writer, notes, options)
     }
 }
 
 /// How explanations name the files.
-fn names_of(task: &Task) -> Names<'_> {
+pub fn names_of(task: &Task) -> Names<'_> {
     Names {
         text: name_of(&task.text),
         script: match &task.script {

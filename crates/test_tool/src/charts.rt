@@ -1,7 +1,9 @@
 //! Charts of runs that the whole tool has made.
 
 use crate::devices::Narrow;
-use sdl_engine::{Command, Names, Notes, Options, Source, TextFault, View, run_and_note_serially};
+use sdl_engine::{
+    Command, Names, Nobody, Notes, Options, Source, TextFault, View, run_and_note_serially,
+};
 use sdl_views::{Form, draw};
 use std::alloc::Global;
 use std::process::Abort;
@@ -48,7 +50,7 @@ fn notes(alloc: Global, text: &str, keeps: bool) -> Notes<'static, Vec<u8>> {
         texts: None,
     };
     let mut written = Vec::new(alloc);
-    let _ = run_and_note_serially(alloc, &mut source, &mut written, &mut notes, &RUN);
+    let _ = run_and_note_serially(alloc, &mut source, &mut written, &mut notes, &RUN, Nobody);
     notes
 }
 

@@ -361,6 +361,29 @@ fn explains_unless_quiet(rt: HostRuntime) {
     }
 }
 
+/// Command lines, and whether warnings are looked for and whether they count.
+static WARNED: [(&str, bool, bool); 4] = [
+    ("sdlrun check", true, false),
+    ("sdlrun run -q a", false, false),
+    ("sdlrun run --deny-warnings a", true, true),
+    ("sdlrun check --quiet --deny-warnings", true, true),
+];
+
+#[test]
+fn warns_as_asked(rt: HostRuntime) {
+    for (line, warns, denies) in &WARNED {
+        let told = told(&rt, rt.alloc(), line);
+        assert!(rt; warned_by(&told) == Some((*warns, *denies)), "{line}");
+    }
+}
+
+fn warned_by(told: &Result<Task, Error>) -> Option<(bool, bool)> {
+    match told {
+        Ok(task) => Some((task.warns(), task.denies_warnings)),
+        Err(_) => None,
+    }
+}
+
 /// Command lines, and whether they have both texts read from standard input.
 static BOTH: [(&str, bool); 5] = [
     ("sdlrun run", false),

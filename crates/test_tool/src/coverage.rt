@@ -5,7 +5,7 @@ ghost use Rattle.sdl_engine.specs.Answer.{IsSerial};
 use crate::covered::COVERED;
 use crate::devices::Narrow;
 use sdl_engine::{
-    Command, Names, Notes, Options, Outcome, Source, TextFault, View, run_and_note,
+    Command, Names, Nobody, Notes, Options, Outcome, Source, TextFault, View, run_and_note,
     run_and_note_serially,
 };
 use sdl_views::{ToldRun, cover, draw};
@@ -170,7 +170,14 @@ fn told(alloc: Global, text: &str, keeps: bool, options: &Options) -> Notes<'sta
     let mut source = source(text);
     let mut notes = notes(alloc, keeps);
     let mut written = Vec::new(alloc);
-    let _ = run_and_note_serially(alloc, &mut source, &mut written, &mut notes, options);
+    let _ = run_and_note_serially(
+        alloc,
+        &mut source,
+        &mut written,
+        &mut notes,
+        options,
+        Nobody,
+    );
     notes
 }
 
@@ -221,6 +228,7 @@ fn forgets_an_earlier_run(rt: HostRuntime) {
         &mut written,
         &mut notes,
         &SERIAL,
+        Nobody,
     );
     assert!(rt; outcome == Ok(Outcome::TextRefused));
     assert!(rt; notes.run.is_none());

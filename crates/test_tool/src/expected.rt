@@ -1,6 +1,8 @@
 //! What is expected of a run, and what it sent.
 
-use sdl_engine::{Command, Names, Notes, Options, Run, Source, View, run_and_note_serially};
+use sdl_engine::{
+    Command, Names, Nobody, Notes, Options, Run, Source, View, run_and_note_serially,
+};
 use sdl_expected::{by_sender, difference_text, first_difference, lines_of};
 use sdl_views::sent_signals;
 use std::alloc::Global;
@@ -136,6 +138,6 @@ fn run_of(rt: &impl Abort, alloc: Global) -> Run {
         texts: None,
     };
     let mut written = Vec::new(alloc);
-    let _ = run_and_note_serially(alloc, &mut source, &mut written, &mut notes, &RUN);
+    let _ = run_and_note_serially(alloc, &mut source, &mut written, &mut notes, &RUN, Nobody);
     notes.run.expect(rt, "a run")
 }

@@ -1,4 +1,5 @@
-//! Tests of the views of a report that no text shows: what is laid out in a chart, and what its pictures say in words.
+//! Tests of what no text shows: what is laid out in a chart, what its pictures say in words, and what a listener hears of
+//! a run.
 //! They stand above the views, so that these aren't proved a second time for their tests. Lines, JSON, texts of Z.120 and
 //! whole pictures are cases of `conformance`.
 #![tactic(auto)]
@@ -7,6 +8,8 @@
 mod charts;
 #[cfg(test)]
 mod crowd;
+#[cfg(test)]
+mod heard;
 #[cfg(test)]
 mod orders;
 #[cfg(test)]

@@ -7,7 +7,7 @@ use Rattle.sdl_engine.specs.declared.refusal.Refusal.TheVariants as refusal
 use Rattle.sdl_engine.proofs.pipeline.run_texts.Goals as goal
 
 pub returns-in-Ok-clause-ok : goal.returns-in-Ok-clause-ok
-returns-in-Ok-clause-ok c =
+returns-in-Ok-clause-ok g c =
     let taken = c.in_ok-accepted.accepted in
     let accepted = c.in_ok-accepted.ensures.ok in
     rw (c.into_run.ensures.system, c.into_run.ensures.report, c.into_run.ensures.script) (record {
@@ -19,7 +19,7 @@ returns-in-Ok-clause-ok c =
     })
 
 pub returns-in-Err-clause-err : goal.returns-in-Err-clause-err
-returns-in-Err-clause-err c =
+returns-in-Err-clause-err g c =
     let taken = c.in_ok-accepted.accepted in
     let refused : IsRunRefused c.args.texts.now = record {
       tree = tree_value taken.tree;
