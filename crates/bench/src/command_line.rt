@@ -41,7 +41,8 @@ Checks of texts of one shape, in N bytes:
   all N        each of them, with N for all numbers and 10000 N bytes
 
 A run is serial without --workers. With --bare its time is that of the run alone: the text is read before, and no report
-is written.";
+is written. With --time the parts of a run follow: its steps until all threads are joined, its settling, the text of
+its report, and the release of all that it had.";
 
 /// What the command line asks for.
 #[derive(Drop)]
@@ -143,7 +144,11 @@ fn with_options<'a>(alloc: Global, command: Command<'a>) -> Result<Command<'a>, 
     command
         .arg(flag(alloc, "down", "Hands the token of a ring down the numbers"))?
         .arg(flag(alloc, "print", "Prints the text, and does nothing with it"))?
-        .arg(flag(alloc, "time", "Prints how long it took, too"))?
+        .arg(flag(
+            alloc,
+            "time",
+            "Prints how long it took, too, a run in its parts",
+        ))?
         .arg(flag(
             alloc,
             "bare",

@@ -1,6 +1,6 @@
 //! Measures the port and whole runs: what calls cost with much in a port, and what runs and checks of great texts
 //! cost. `bench WHAT N` does one thing with N of something, and prints how much was done; with `--time` it prints how
-//! long that took, too. `bench --help` lists what there is.
+//! long that took, too, and what the parts of a run took. `bench --help` lists what there is.
 //!
 //! `docs/PERFORMANCE.md` has the method and the figures. The gate runs all of it with a small number. Calls of the shared
 //! port that are refused for lack of memory are made again, once (`retry`); `tools/refuse-growth --rows` refuses each
@@ -13,6 +13,7 @@ mod command_line;
 mod dense;
 mod fault;
 mod measure;
+mod parts;
 mod retry;
 mod rows;
 mod run;
@@ -68,6 +69,9 @@ fn answered<R: AllocGlobal + Print + Clock + Threads + Wait + Copy + Send + Sync
     }
     if manner.is_timed {
         print!(rt; ", {} us", done.took.as_micros())?;
+        if let Some(parts) = done.parts {
+            print!(rt; " ({parts})")?;
+        }
     }
     println!(rt; "")?;
     Ok(())

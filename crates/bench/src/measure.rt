@@ -2,7 +2,8 @@
 
 use crate::call::Call;
 use crate::fault::Fault;
-use crate::run::{bare_run, written};
+use crate::parts::Parts;
+use crate::run::{timed_run, written};
 use crate::things::{ANY, Numbers, STATION, THINGS, Thing, What};
 use crate::{alone, rows, shared};
 use sdl_engine::Command;
@@ -28,7 +29,7 @@ pub struct Measure {
 pub struct Manner {
     /// Whether the text is printed, and nothing is measured.
     pub is_printed: bool,
-    /// Whether the time is printed.
+    /// Whether the time is printed, that of a run by its parts, too.
     pub is_timed: bool,
     /// Whether the time of a run is that of the run alone.
     pub is_bare: bool,
@@ -36,11 +37,12 @@ pub struct Manner {
     pub workers: Option<u8>,
 }
 
-/// How much was done, how long that took, and which call was refused and made again.
+/// How much was done, how long that took, in which parts if it is a run, and which call was refused and made again.
 #[derive(Clone, Copy)]
 pub struct Done {
     pub count: u64,
     pub took: Duration,
+    pub parts: Option<Parts>,
     pub again: Option<Call>,
 }
 
@@ -82,15 +84,28 @@ synonym n Integer = {first}, h Integer = {second}, twice Integer = 2 * n, most I
         alloc: Global,
         manner: Manner,
     ) -> Result<Done, Fault> {
-        if manner.is_bare {
+        if manner.is_bare || (manner.is_timed && self.is_run()) {
             let text = self.text(alloc)?;
-            return bare_run(rt, alloc, text.as_str(), manner.workers);
+            return timed_run(rt, alloc, text.as_str(), manner.workers, manner.is_bare);
         }
         let mut again = None;
         let start = Instant::now(rt)?;
         let count = self.count(rt, alloc, manner.workers, &mut again)?;
         let took = start.elapsed(rt)?;
-        Ok(Done { count, took, again })
+        Ok(Done {
+            count,
+            took,
+            parts: None,
+            again,
+        })
+    }
+
+    /// Whether it is a run.
+    fn is_run(self) -> bool {
+        match self.thing.what {
+            What::Run(_) | What::Ring(_) => true,
+            _ => false,
+        }
     }
 
     /// Does it, and tells how much was done.

@@ -1,18 +1,25 @@
-//! Whole runs and checks, through the function that `sdlrun` is over, and runs alone.
+//! Whole runs and checks, through the function that `sdlrun` is over, and runs by their parts.
+
+ghost use Rattle.std.specs.Prelude.{All, IfOk};
+ghost use Rattle.sdl_script.specs.Script.{SendsFromEnv};
 
 use crate::fault::Fault;
 use crate::measure::Done;
+use crate::parts::Stopwatch;
 use run_record::Report;
 use sdl_build::build;
 use sdl_engine::{Command, Options, Outcome, View, run_text};
 use sdl_parse::parse;
-use sdl_script::read_script;
-use sdl_workers::{Open, run, run_serial};
+use sdl_report::write_report;
+use sdl_script::{Script, read_script};
+use sdl_system::System;
+use sdl_workers::{run, run_serial};
 use std::alloc::Global;
 use std::io::{self, Write};
 use std::sync::Wait;
 use std::thread::Threads;
 use std::time::{Clock, Instant};
+use threads_report::write_report_by_workers;
 
 /// The line between a specification and its script.
 const MARK: &str = "%script\n";
@@ -56,13 +63,48 @@ pub fn written<R: Threads + Wait + Copy + Send + Sync>(
     }
 }
 
-/// Runs a text, and tells how many events its report has, and the time without that of its reading and its report.
-pub fn bare_run<R: Clock + Threads + Wait + Copy + Send + Sync>(
+/// A system with its script.
+#[derive(Drop)]
+struct Given {
+    system: System,
+    script: Script,
+}
+
+/// Runs a text, and tells how long its parts took. If the run is bare, its time is that without the text's reading and the
+/// report's text, and its count that of the events. Otherwise the count is that of the bytes that are written.
+pub fn timed_run<R: Clock + Threads + Wait + Copy + Send + Sync>(
     rt: &R,
     alloc: Global,
     text: &str,
     workers: Option<u8>,
+    is_bare: bool,
 ) -> Result<Done, Fault> {
+    let start = Instant::now(rt)?;
+    let given = given_by(alloc, text)?;
+    let watch = Stopwatch::new(rt)?;
+    let report = report_of(rt, alloc, &given, workers, &watch)?;
+    let ran = watch.elapsed()?;
+    let count = if is_bare {
+        events(&report)
+    } else {
+        bytes(rt, alloc, &given.system, &report, workers)?
+    };
+    let told = watch.elapsed()?;
+    drop(report);
+    let released = watch.elapsed()?;
+    let took = if is_bare { ran } else { start.elapsed(rt)? };
+    Ok(Done {
+        count,
+        took,
+        parts: Some(watch.parts(ran, told, released)),
+        again: None,
+    })
+}
+
+/// The system and the script of a text.
+fn given_by(alloc: Global, text: &str) -> Result<Given, Fault>
+    ensures { IfOk result (λ given. All (SendsFromEnv given.system) given.script.lines.items) }
+{
     let Some((specification, lines)) = text.split_once(MARK) else {
         return Err(Fault::Text);
     };
@@ -75,26 +117,61 @@ pub fn bare_run<R: Clock + Threads + Wait + Copy + Send + Sync>(
     let Ok(script) = read_script(alloc, &system, lines.as_bytes()) else {
         return Err(Fault::Text);
     };
-    let start = Instant::now(rt)?;
+    Ok(Given { system, script })
+}
+
+/// The report of a run with so many workers, or of a serial one.
+fn report_of<R: Clock + Threads + Wait + Copy + Send + Sync>(
+    rt: &R,
+    alloc: Global,
+    given: &Given,
+    workers: Option<u8>,
+    watch: &Stopwatch<'_, R>,
+) -> Result<Report, Fault>
+    requires { All (SendsFromEnv given.now.system) given.now.script.lines.items }
+{
+    let Given { system, script } = given;
+    let limit = Options::MOST_LIMIT;
     let report = match workers {
-        None => run_serial(alloc, &system, &script, Options::MOST_LIMIT),
+        None => run_serial(alloc, system, script, limit),
         Some(workers) => run(
             rt,
             alloc,
-            &system,
-            &script,
+            system,
+            script,
             usize::from(workers),
-            Options::MOST_LIMIT,
-            &Open,
+            limit,
+            watch,
         ),
     };
-    let took = start.elapsed(rt)?;
     match report {
-        Ok(report) => Ok(Done {
-            count: events(&report),
-            took,
-            again: None,
-        }),
+        Ok(report) => Ok(report),
+        Err(_) => Err(Fault::Memory),
+    }
+}
+
+/// Makes the text of a report, and tells how many bytes it has.
+fn bytes<R: Threads + Sync>(
+    rt: &R,
+    alloc: Global,
+    system: &System,
+    report: &Report,
+    workers: Option<u8>,
+) -> Result<u64, Fault> {
+    let mut counter = Counter { bytes: 0 };
+    let written = match workers {
+        None => write_report(alloc, report, system, &mut counter),
+        Some(workers) => write_report_by_workers(
+            rt,
+            alloc,
+            usize::from(workers),
+            report,
+            system,
+            &mut counter,
+        ),
+    };
+    match written {
+        Ok(()) => Ok(counter.bytes),
         Err(_) => Err(Fault::Memory),
     }
 }
