@@ -67,6 +67,7 @@ pub enum InputFile {
 }
 
 impl InputFile {
+    /// Whether it is standard input.
     pub fn is_standard_input(&self) -> bool {
         match self {
             InputFile::StandardInput => true,

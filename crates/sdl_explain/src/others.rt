@@ -51,7 +51,8 @@ impl<F: Drop> Others<F> {
     /// One more was found. It is told if there is room.
     fn add(&mut self, fault: F) -> Result<(), AllocError>
         requires { self.old.more + 1 < 2 ^ 64 }
-        ensures told { OnOk result ((all : List F) → TellsFirst F all self.old → TellsFirst F (all ++ fault ∷ []) self.new) }
+        ensures told { OnOk result ((all : List F) → TellsFirst F all self.old
+            → TellsFirst F (all ++ fault ∷ []) self.new) }
         ensures is_all { self.new.is_all ≡ self.old.is_all }
     {
         if self.told.len() < MOST_TOLD {

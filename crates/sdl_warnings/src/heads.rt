@@ -40,7 +40,7 @@ impl Spot {
         begins: true,
     };
 
-    /// After this word, where lists begin with this mark. A semicolon ends them, and so does any other keyword.
+    /// After this word, where lists begin with this mark. A semicolon ends them.
     pub fn after(self, list: Mark, word: PlacedWord<'_>) -> Spot
         ensures { result ≡ after list self word.entry }
     {
