@@ -41,24 +41,24 @@ inline next_act() {
     fi
 }
 
-/* job.rt: wake, wake_targets. Who is woken goes into the worker's own queue; then the next one is woken. */
+/* job.rt: wake, wake_all. The number of who is woken is in the worker's hand; then the next one is woken. */
 inline woke() {
     to_wake = then_wake;
     then_wake = 0;
     next_act()
 }
 
-inline into_own() {
-    put_number(own[me], to_wake);
+inline into_hand() {
+    put_number(hand[me], to_wake);
     woke()
 }
 
 /* job.rt: steps_of, turns_at. Place::lock: the lock is free, and somebody is there. */
-inline lock_first() {
-    own[me] ? number;
+inline lock_place() {
     assert(!locked[number] && seated[number]);
     locked[number] = true;
-    worked = true
+    worked = true;
+    may_relieve = true
 }
 
 /* job.rt: tell_moves. Signs::add_moves; `count` is whether the sum has reached the limit. */

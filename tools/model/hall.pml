@@ -33,20 +33,20 @@ inline part(count) {
     fi
 }
 
-/* Hall::take: a worker's part goes to the end of its own queue. */
+/* Hall::take: a worker's part goes to the end of its local queue. */
 inline hall_take(me) {
     part(count);
     do
-    :: count > 0 -> move_number(hall, own[me]); count--
+    :: count > 0 -> move_number(hall, locals[me]); count--
     :: else -> break
     od
 }
 
-/* Hall::share: the first half of a worker's own queue goes to the end of the hall's. */
+/* Hall::share: the first half of a worker's local queue goes to the end of the hall's. */
 inline hall_share(me, one) {
-    count = len(own[me]) / 2;
+    count = len(locals[me]) / 2;
     do
-    :: count > 0 -> move_number(own[me], hall); count--
+    :: count > 0 -> move_number(locals[me], hall); count--
     :: else -> break
     od;
     take_sleeper(one);
@@ -57,32 +57,48 @@ inline hall_share(me, one) {
 }
 
 /* Hall::exchange: the first numbers of a worker go to the end of the hall's queue, those from its front to the front of
-   the worker's own. */
+   the worker's local queue. */
 inline hall_exchange(me) {
     part(taken);
-    count = (len(own[me]) < len(hall) -> len(own[me]) : len(hall));
+    count = (len(locals[me]) < len(hall) -> len(locals[me]) : len(hall));
     taken = (count > taken -> count : taken);
-    kept = len(own[me]) - count;
+    kept = len(locals[me]) - count;
 #ifdef BUG_EXCHANGE_DROPS
     /* One of the numbers that it gives goes nowhere. */
     if
-    :: count > 0 -> own[me] ? moved; moved = 0; count--
+    :: count > 0 -> locals[me] ? moved; moved = 0; count--
     :: else
     fi;
 #endif
     do
-    :: count > 0 -> move_number(own[me], hall); count--
+    :: count > 0 -> move_number(locals[me], hall); count--
     :: else -> break
     od;
     do
-    :: taken > 0 -> move_number(hall, own[me]); taken--
+    :: taken > 0 -> move_number(hall, locals[me]); taken--
     :: else -> break
     od;
     /* VecDeque::rotate_right: what is new is in front. */
     do
-    :: kept > 0 -> own[me] ? moved; own[me] ! moved; moved = 0; kept--
+    :: kept > 0 -> locals[me] ? moved; locals[me] ! moved; moved = 0; kept--
     :: else -> break
     od
+}
+
+/* tables.rt: Tables::relieve. LocalQueue::relieve, under that queue's lock: all of its numbers go to the end of the hall's
+   queue. One that sleeps is taken out, to be unparked. */
+inline hall_relieve(worker, one) {
+#ifdef BUG_RELIEF_DROPS
+    locals[worker] ? moved;
+    moved = 0;
+#endif
+    move_all(locals[worker], hall);
+    take_sleeper(one);
+#ifdef BUG_RELIEF_UNTOLD
+    /* The sleeper that was taken out is told nothing. */
+    one = NOBODY;
+#endif
+    set_signs()
 }
 
 /* tables.rt: Tables::close. The word, and then a section under the hall's lock. */

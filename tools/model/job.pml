@@ -1,8 +1,7 @@
 /* A job, in the loop of a worker: some steps of one instance. */
 
 begins:
-    atomic { lock_first() };
-locked_first:
+    atomic { lock_place() };
     if
     :: signs_closed -> goto more
     :: !signs_closed
@@ -118,7 +117,7 @@ makes:
         mark[INSTANCES] = READY;
 #endif
         /* step_runtime.rt: create */
-        put_number(own[me], INSTANCES);
+        put_number(hand[me], INSTANCES);
         creates = false;
         next_act()
     };
@@ -152,7 +151,7 @@ arms:
     atomic { fuse[number] = clock + 1; sets = false; next_act() };
 
 wakes:
-    MARK_WAKE(to_wake, into_own, woke);
+    MARK_WAKE(to_wake, into_hand, woke);
 
 counts:
 #if FAILS
@@ -210,13 +209,17 @@ counts:
     fi;
     /* Another step; or its turn is over: that is here whenever it likes. */
     if
-    :: !signs_closed -> goto take
+    :: !signs_closed && empty(hand[me]) -> goto take
+    :: !signs_closed && nempty(hand[me])
     :: true -> goto more
     fi;
+    /* job.rt: turn. LocalQueue::put_all, under its lock. */
+    atomic { move_all(hand[me], locals[me]) };
+    goto take;
 
 more:
-    /* job.rt: steps_of. The lock is left, and then its number is in its own queue again. */
-    atomic { locked[number] = false; put_number(own[me], number); number = 0 };
+    /* job.rt: steps_of. The lock is left, and then its number is in this worker's hand. */
+    atomic { locked[number] = false; note_job(0); put_number(hand[me], number); number = 0 };
     goto round;
 
 #if STOPS
@@ -236,6 +239,7 @@ ended:
 #if CONDITIONS
         conditions[number] = 0;
 #endif
+        note_job(0);
         number = 0
     };
     goto round;
@@ -257,6 +261,7 @@ idle:
 #endif
         fi;
 #ifndef BUG_REST_LOCKED
+        note_job(0);
         number = 0;
         goto round
 #endif
@@ -274,7 +279,8 @@ again:
 #ifdef BUG_REST_LOCKED
         locked[number] = false;
 #endif
-        put_number(own[me], number);
+        note_job(0);
+        put_number(hand[me], number);
         number = 0
     };
     goto round;

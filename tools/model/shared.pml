@@ -49,8 +49,11 @@ byte asleep;
 byte crew = WORKERS;
 bool hall_closed;
 
-/* own.rt: the queue of each worker. Only it looks there. */
-chan own[WORKERS] = [INSTANCES] of { byte };
+/* local.rt: the local queue of each worker. Only it puts numbers in; others may take them out. */
+chan locals[WORKERS] = [INSTANCES] of { byte };
+
+/* own.rt: the numbers that a worker has in its hand, beside that of its job. Only it looks there. */
+chan hand[WORKERS] = [INSTANCES] of { byte };
 
 /* signs.rt: the words. */
 byte sleepers;
@@ -102,6 +105,14 @@ byte cuts;
 /* Whether a queue or a worker has the number. */
 bool ticket[INSTANCES + 1];
 
+#ifdef BUG_RELIEF_TAKES_JOB
+/* The number of each worker's job. */
+byte at_job[WORKERS];
+#define note_job(y) at_job[me] = y
+#else
+#define note_job(y) skip
+#endif
+
 #if WORKERS == 1
 #define COUNT_OF(set) ((set) & 1)
 #elif WORKERS == 2
@@ -115,15 +126,17 @@ inline be_ticket(y) {
     ticket[y] = true
 }
 
-/* A number goes into a queue: it is in no other. */
+#define HAS_NUMBER(worker, y) ((locals[worker] ?? [eval(y)]) || (hand[worker] ?? [eval(y)]))
+
+/* A number goes into a queue, or into a hand: it is in no other. */
 inline put_number(into, y) {
     assert(ticket[y]);
-    assert(!(hall ?? [eval(y)]) && !(own[0] ?? [eval(y)]));
+    assert(!(hall ?? [eval(y)]) && !HAS_NUMBER(0, y));
 #if WORKERS > 1
-    assert(!(own[1] ?? [eval(y)]));
+    assert(!HAS_NUMBER(1, y));
 #endif
 #if WORKERS > 2
-    assert(!(own[2] ?? [eval(y)]));
+    assert(!HAS_NUMBER(2, y));
 #endif
     into ! y
 }
@@ -132,4 +145,11 @@ inline move_number(from, into) {
     from ? moved;
     put_number(into, moved);
     moved = 0
+}
+
+inline move_all(from, into) {
+    do
+    :: nempty(from) -> move_number(from, into)
+    :: empty(from) -> break
+    od
 }

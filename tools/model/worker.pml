@@ -7,6 +7,7 @@ proctype worker(byte me) {
     byte other = NOBODY;        /* Who is to be unparked. */
     byte count, taken, kept, moved;
     bool worked;                /* Whether it has made a job since it asked the hall. */
+    bool may_relieve;           /* Whether it has made one since it relieved another one. */
     bool sets, creates, stops_then;
 #if AT_ONCE
     bool sets_now;
@@ -33,15 +34,15 @@ proctype worker(byte me) {
 #endif
 
 round:
-    /* worker.rt: round */
+    /* worker.rt: round, help. LocalQueue::len */
     atomic {
         if
         :: signs_closed -> goto ends
-        :: !signs_closed && len(own[me]) < 2 -> goto gets
-        :: !signs_closed && len(own[me]) >= 2
+        :: !signs_closed && len(locals[me]) + len(hand[me]) < 2 -> goto gets
+        :: !signs_closed && len(locals[me]) + len(hand[me]) >= 2
         fi
     };
-    /* worker.rt: share. Signs::has_sleepers, if it has two numbers. */
+    /* worker.rt: help. Signs::has_idle, if it has two numbers. */
     if
     :: sleepers > 0 -> goto gives
     :: sleepers == 0
@@ -51,7 +52,8 @@ round:
     :: seekers == 0 -> goto gets
     fi;
 gives:
-    /* worker.rt: given. Hall::share, under the hall's lock. */
+    /* worker.rt: share. LocalQueue::put_all, under its lock. LocalQueue::share, under the hall's lock and its own. */
+    atomic { move_all(hand[me], locals[me]) };
     atomic {
         hall_share(me, other);
         set_signs();
@@ -64,27 +66,70 @@ gives:
 
 gets:
     if
-    /* worker.rt: exchange, after 61 jobs: that is here after any job, or not. Under the hall's lock. */
+    /* worker.rt: exchange, after 61 jobs: that is here after any job, or not. */
 #ifdef BUG_EXCHANGE_ASLEEP
     /* It counts jobs from before it slept. So one that woke by itself exchanges while it is noted as asleep. */
-    :: atomic { nempty(hall) ->
+    :: nempty(hall) -> goto exchanges
 #else
-    :: atomic { worked && nempty(hall) -> worked = false;
+    :: atomic { worked && nempty(hall) -> worked = false } -> goto exchanges
 #endif
-        hall_exchange(me);
-        set_queued()
+    /* relief.rt: relieve_others, after 61 jobs, of those that haven't come to their queues: that is here after any job, or
+       not, of any other worker. Tables::relieve, under the hall's lock and that queue's. */
+#if WORKERS > 1
+    :: atomic { may_relieve && me != 0 && nempty(locals[0]) -> may_relieve = false; hall_relieve(0, other) } -> goto relieves
+    :: atomic { may_relieve && me != 1 && nempty(locals[1]) -> may_relieve = false; hall_relieve(1, other) } -> goto relieves
+#endif
+#if WORKERS > 2
+    :: atomic { may_relieve && me != 2 && nempty(locals[2]) -> may_relieve = false; hall_relieve(2, other) } -> goto relieves
+#endif
+#ifdef BUG_RELIEF_TAKES_JOB
+    /* It takes the number of a job, too. */
+    :: atomic { at_job[1 - me] > 0 -> put_number(hall, at_job[1 - me]); set_queued() } -> goto gets
+#endif
+#ifdef BUG_RELIEF_TO_A_WORKER
+    /* It puts the numbers into another worker's queue, which may sleep. */
+    :: atomic { nempty(locals[me]) -> move_number(locals[me], locals[1 - me]) } -> goto gets
+#endif
+#ifdef BUG_RELIEF_KEEPS
+    /* It takes them for itself, even if it is noted as asleep. */
+    :: atomic { nempty(locals[1 - me]) -> move_all(locals[1 - me], locals[me]) } -> goto gets
+#endif
+    /* LocalQueue::next. With an empty queue, which stays so, the number in hand is the next one. Else, under its lock, the
+       first of all. */
+    :: atomic { empty(locals[me]) && len(hand[me]) == 1 -> hand[me] ? number; note_job(number) } -> goto begins
+    :: atomic { nempty(locals[me]) || len(hand[me]) > 1 ->
+        move_all(hand[me], locals[me]);
+        locals[me] ? number;
+        note_job(number)
        } -> goto begins
-    :: atomic { nempty(own[me]) -> lock_first() } -> goto locked_first
-#if defined(LIMIT) && !defined(BUG_MOVES_UNTOLD)
-    :: atomic { empty(own[me]) && moves > 0 -> add_moves() } -> goto told_moves
-#define HAS_TOLD (empty(own[me]) && moves == 0)
+#ifdef BUG_SLEEPS_WITH_NUMBERS
+    /* It asks the hall for its turn though its local queue has a number. */
+#define HAS_NONE empty(hand[me])
 #else
-#define HAS_TOLD empty(own[me])
+#define HAS_NONE (empty(hand[me]) && empty(locals[me]))
+#endif
+#if defined(LIMIT) && !defined(BUG_MOVES_UNTOLD)
+    :: atomic { HAS_NONE && moves > 0 -> add_moves() } -> goto told_moves
+#define HAS_TOLD (HAS_NONE && moves == 0)
+#else
+#define HAS_TOLD HAS_NONE
 #endif
     /* signs.rt: Signs::seek. It looks for a while whether a number is queued, whether the run is over, and whether anybody
        steps. Whatever it saw, it asks the hall then. */
     :: atomic { HAS_TOLD -> seekers++ } -> goto seeks
     fi;
+exchanges:
+    /* LocalQueue::put_all, under its lock. LocalQueue::exchange, under the hall's lock and its own. */
+    atomic { move_all(hand[me], locals[me]) };
+    atomic { hall_exchange(me); set_queued() };
+    goto gets;
+relieves:
+    if
+    :: other == NOBODY -> goto gets
+    :: other != NOBODY
+    fi;
+    unpark(other);
+    goto gets;
 #ifdef LIMIT
 told_moves:
     if
@@ -114,7 +159,7 @@ asks:
     :: true
     fi;
 #endif
-    /* worker.rt: next_turn. Hall::turn, and the words of the hall, under its lock. */
+    /* worker.rt: next_turn. LocalQueue::turn: Hall::turn, and the words of the hall, under its lock and the queue's. */
     atomic {
         worked = false;
 #if SPURIOUS

@@ -38,8 +38,8 @@ pub fn run_rest<J: Run, R: Wait + Copy>(
         ready: all.ready,
         fuses: take_fuses(alloc, shared.rt, &shared.tables.wheel),
     };
-    // Who is queued is entered, and so is ready.
-    own.queue.clear();
+    // Whose number is in hand is entered, and so is ready.
+    own.hand.clear();
     let lines = environment.lines();
     let heard = environment.line();
     let script = match lines.get(heard..) {

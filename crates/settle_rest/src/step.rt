@@ -102,7 +102,7 @@ impl<'w, 'l, 's, 'p, 'e, J: Run, R: Wait + Copy> Rest<'w, 'l, 's, 'p, 'e, J, R> 
         ensures environment { self.new.environment ≡ self.old.environment }
         ensures given { self.old.given ≤ self.new.given }
     {
-        while let Some(number) = self.own.queue.pop_front() {
+        while let Some(number) = self.own.hand.pop_front() {
             self.given = self.given.max(number);
             wake(&mut agenda.ready, number)?;
         }
@@ -110,8 +110,8 @@ impl<'w, 'l, 's, 'p, 'e, J: Run, R: Wait + Copy> Rest<'w, 'l, 's, 'p, 'e, J, R> 
     }
 }
 
-/// One step of an instance at this time. The fuses of its timers and the numbers of whom it has created are this thread's
-/// own then.
+/// One step of an instance at this time. The fuses of its timers and the numbers of whom it has created are in this
+/// thread's hand then.
 fn step<'s, 'p, J: Run, R: Wait + Copy>(
     shared: &Shared<'_, 's, 'p, J, R>,
     own: &mut Own<J>,

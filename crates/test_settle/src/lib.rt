@@ -1,9 +1,10 @@
 //! Tests of runs on threads and of their settling.
 //!
 //! Rows of whole runs have one text whatever the schedule is; what no text tells is tested by a gate. Each row is run
-//! many times, so that what few schedules have, as a wrong text or a hang, is to show. A run that is settled from its
-//! start on, so that the calling thread alone makes it, has the text of the serial run. If senders or an instance are
-//! lost, or the run was made wrongly, the number is told at which something is missing.
+//! many times, so that what few schedules have, as a wrong text or a hang, is to show. While a worker is held in a step,
+//! all instances but that of its job go on. A run that is settled from its start on, so that the calling thread alone
+//! makes it, has the text of the serial run. If senders or an instance are lost, or the run was made wrongly, the number is
+//! told at which something is missing.
 #![tactic(auto)]
 
 #[cfg(test)]
@@ -17,7 +18,11 @@ mod gates;
 #[cfg(test)]
 mod given;
 #[cfg(test)]
+mod held;
+#[cfg(test)]
 mod lost;
+#[cfg(test)]
+mod relief;
 #[cfg(test)]
 mod rest;
 #[cfg(test)]

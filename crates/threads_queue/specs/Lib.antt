@@ -1,2 +1,3 @@
 pub mod Hall
+pub mod Local
 pub mod Places

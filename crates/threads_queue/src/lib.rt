@@ -2,14 +2,17 @@
 //!
 //! What steps is in its place all the time, under a lock of its own that nobody waits for: a number is in one queue at
 //! most, and in none while a worker has it. A mark at each place says whether its number is in a queue already. So a
-//! signal costs a look at a mark, and no number is in two queues. Each worker has a queue of its own; the common one is
-//! in the hall, with the workers that sleep, and each call there loses no number. Which of them steps when isn't fixed,
-//! and no contract says that one gets on.
+//! signal costs a look at a mark, and no number is in two queues. Each worker has a local queue; the common one is in the
+//! hall, with the workers that sleep, and each call there loses no number. If the system doesn't run a worker, another one
+//! moves what is in its local queue into the hall. Which of them steps when isn't fixed, and no contract says that one
+//! gets on.
 #![tactic(auto)]
 
 mod hall;
+mod local;
 mod mark;
 mod places;
 
 pub use hall::{Hall, MOST_TAKEN, Turn};
+pub use local::LocalQueue;
 pub use places::{Place, Places};

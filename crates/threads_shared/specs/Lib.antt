@@ -1,2 +1,3 @@
+pub mod Lookout
 pub mod Making
 pub mod Signs

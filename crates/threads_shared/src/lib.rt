@@ -1,18 +1,21 @@
 //! What the threads of a run share, and what an instance's step asks of it (Z.101: system, create).
 //!
-//! `Common` is what lasts as long as the run: ports, numbers, entries. `Tables` are the roster, the wheel, the hall and a
-//! few words. `Shared` lends both to all threads, with the places of the instances; its type says that the system is the
-//! one that the run names, so an instance that is made has its seat in this run. `Own` is what one thread has for itself.
+//! `Common` is what lasts as long as the run: ports, numbers, entries. `Tables` are the roster, the wheel, the hall, the
+//! local queues of the workers and a few words. `Shared` lends both to all threads, with the places of the instances; its
+//! type says that the system is the one that the run names, so an instance that is made has its seat in this run. `Own` is
+//! what one thread has for itself.
 //! `StepRuntime` is the `Runtime` of a step: a route is by some list of living instances, and all else fits the run's
 //! name by the types.
 //!
 //! The order of locks: that of the place of the instance that steps comes first, then that of the roster. Under the
 //! roster's an instance is made, which takes those of the owners and of its own place, one by one. No other thread takes
-//! the lock of a place before somebody is there. All other locks are taken one by one, and none under them.
+//! the lock of a place before somebody is there. Under that of the hall a local queue's may be taken, and none under that.
+//! All other locks are taken one by one, and none under them.
 #![tactic(auto)]
 
 mod addressees;
 mod common;
+mod lookout;
 pub mod making;
 mod own;
 mod shared;
@@ -22,6 +25,7 @@ mod tables;
 
 pub use addressees::Addressees;
 pub use common::Common;
+pub use lookout::Lookout;
 pub use own::Own;
 pub use shared::{Seated, Shared};
 pub use signs::Signs;

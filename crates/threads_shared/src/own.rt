@@ -2,7 +2,7 @@
 
 ghost use Rattle.std.specs.Prelude.{◌≡◌, [], IfOk, OnOk, replicate, true};
 
-use crate::{Addressees, Tables};
+use crate::{Addressees, Lookout, Tables};
 use port_inbox::Fuse;
 use port_values::Ticks;
 use sdl_timers::Reader;
@@ -12,20 +12,24 @@ use std::sync::Wait;
 use threads_ports::NumberSeat;
 use threads_senders::Run;
 
-/// How many numbers a queue has room for from the start: each number is in it once at most.
-const MOST_NUMBERS: usize = 1_000;
+/// How many numbers a thread has room for in hand from the start: each number is in hand once at most.
+const MOST_IN_HAND: usize = 1_000;
 
-/// The state that a thread of the run `J` has for itself: its reader of the clock, its seat for numbers, its queue, the
-/// fuses of the step that it makes and to whom that has sent something, and what it has seen of who lives.
+/// The state that a thread of the run `J` has for itself: its reader of the clock, its seat for numbers, the numbers in
+/// its hand, the fuses of the step that it makes and to whom that has sent something, and what it has seen of who lives
+/// and of the other workers.
 #[derive(Drop)]
 pub struct Own<J: Run> {
     pub reader: Reader,
     pub seat: NumberSeat<J>,
-    /// The numbers of those that have something to do and that this thread is to step.
-    pub queue: VecDeque<u32>,
+    /// The numbers that this thread has, and that are in no queue yet: of those that its step has created or woken, and of
+    /// its last job. A worker puts them into its local queue before it makes another step.
+    pub hand: VecDeque<u32>,
     /// How many jobs this thread has done since it asked the hall for numbers. A job of several turns counts as
     /// so many.
     pub jobs: usize,
+    /// What it has seen of the local queues of the crew.
+    pub lookout: Lookout,
     /// The fuses of the step that is being made, which go into the wheel after it.
     pub fuses: Vec<Fuse>,
     /// To whom the step that is being made has sent something: they are woken after it.
@@ -41,7 +45,8 @@ pub struct Own<J: Run> {
 
 impl<J: Run> Own<J> {
     /// The state with which a thread begins, in a system of so many processes: it has no number, has sent nothing, knows
-    /// the roster's first version, in which nobody lives, and has made no transition. Refused for lack of memory.
+    /// the roster's first version, in which nobody lives, looks at no other worker, and has made no transition. Refused for
+    /// lack of memory.
     pub fn new(
         alloc: Global,
         reader: Reader,
@@ -50,12 +55,13 @@ impl<J: Run> Own<J> {
         part: u64,
     ) -> Result<Self, AllocError>
         ensures passed { IfOk result (λ own. (own.reader ≡ reader) × (own.seat ≡ seat)) }
-        ensures queue { IfOk result (λ own. (own.queue.items ≡ []) × (own.jobs ≡ 0)) }
+        ensures hand { IfOk result (λ own. (own.hand.items ≡ []) × (own.jobs ≡ 0)) }
+        ensures lookout { IfOk result (λ own. (own.lookout.visits.items ≡ []) × (own.lookout.jobs ≡ 0)) }
         ensures step { IfOk result (λ own. (own.fuses.items ≡ []) × (own.addressees ≡ Addressees.Nobody)) }
         ensures seen { IfOk result (λ own. (own.living.items ≡ replicate processes None) × (own.version ≡ 0)) }
         ensures moves { IfOk result (λ own. (own.moves ≡ 0) × (own.part ≡ part)) }
     {
-        let queue = VecDeque::with_capacity(alloc, MOST_NUMBERS)?;
+        let hand = VecDeque::with_capacity(alloc, MOST_IN_HAND)?;
         let mut living = Vec::with_capacity(alloc, processes)?;
         for _process in 0..processes {
             living.push(None)?;
@@ -63,8 +69,9 @@ impl<J: Run> Own<J> {
         Ok(Own {
             reader,
             seat,
-            queue,
+            hand,
             jobs: 0,
+            lookout: Lookout::none(alloc),
             fuses: Vec::new(alloc),
             addressees: Addressees::Nobody,
             living,
@@ -77,7 +84,8 @@ impl<J: Run> Own<J> {
     /// Looks who lives, where that was changed since the last look. All else stays.
     pub fn look<R: Wait>(&mut self, rt: &R, tables: &Tables)
         ensures own { (self.new.reader ≡ self.old.reader) × (self.new.seat ≡ self.old.seat) }
-        ensures queue { (self.new.queue ≡ self.old.queue) × (self.new.jobs ≡ self.old.jobs) }
+        ensures hand { (self.new.hand ≡ self.old.hand) × (self.new.jobs ≡ self.old.jobs) }
+        ensures lookout { self.new.lookout ≡ self.old.lookout }
         ensures step { (self.new.fuses ≡ self.old.fuses) × (self.new.addressees ≡ self.old.addressees) }
         ensures moves { (self.new.moves ≡ self.old.moves) × (self.new.part ≡ self.old.part) }
     {

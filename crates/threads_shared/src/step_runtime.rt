@@ -62,7 +62,7 @@ impl<'w, 'l, 's, 'p, J: Run, R: Wait + Copy> Runtime<J> for StepRuntime<'w, 'l, 
         self.own.fuses.push_reserved(fuse);
     }
 
-    /// A new instance has its start to make, so its number is in this thread's queue. Room for it there is made before
+    /// A new instance has its start to make, so its number is in this thread's hand. Room for it there is made before
     /// there is a number.
     fn create(
         &mut self,
@@ -70,12 +70,12 @@ impl<'w, 'l, 's, 'p, J: Run, R: Wait + Copy> Runtime<J> for StepRuntime<'w, 'l, 
         parent: u32,
         values: Values,
     ) -> Result<Option<u32>, AllocError> {
-        self.own.queue.reserve(1)?;
+        self.own.hand.reserve(1)?;
         let seat = &mut self.own.seat;
         let Some(number) = making::make(self.shared, seat, process, Pid::Of(parent), values)? else {
             return Ok(None);
         };
-        self.own.queue.push_back_reserved(number);
+        self.own.hand.push_back_reserved(number);
         Ok(Some(number))
     }
 }

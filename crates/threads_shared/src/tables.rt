@@ -1,23 +1,26 @@
 //! The tables of a run.
 
-ghost use Rattle.std.specs.Prelude.{◌≡◌, IfOk};
+ghost use Rattle.std.specs.Prelude.{◌≡◌, IfOk, is_some, nat_lt, vec_len};
 ghost use Rattle.threads_shared.specs.Signs.{limit_of, workers_of};
 
 use crate::Signs;
+use crossbeam_utils::CachePadded;
 use sdl_instances::Roster;
 use sdl_system::{ProcessId, System};
 use sdl_timers::Wheel;
 use std::alloc::{AllocError, Global};
 use std::collections::VecDeque;
 use std::sync::{Mutex, Wait};
-use threads_queue::Hall;
+use threads_queue::{Hall, LocalQueue};
 
-/// The tables of a run that all threads change: who lives, which fuses wait, who is to step next, and the words.
+/// The tables of a run that all threads change: who lives, which fuses wait, who is to step next, and the words. Each
+/// worker has a local queue, by its place in the crew.
 #[derive(Drop)]
 pub struct Tables {
     pub roster: Mutex<Roster>,
     pub wheel: Mutex<Wheel>,
     pub hall: Mutex<Hall>,
+    pub locals: Vec<CachePadded<LocalQueue>>,
     pub signs: Signs,
 }
 
@@ -32,11 +35,13 @@ impl Tables {
     ) -> Result<Self, AllocError>
         ensures limit { IfOk result (λ tables. limit_of tables.signs ≡ limit) }
         ensures workers { IfOk result (λ tables. workers_of tables.signs ≡ workers) }
+        ensures locals { IfOk result (λ tables. vec_len tables.locals ≡ workers) }
     {
         Ok(Tables {
             roster: Mutex::new(Roster::new(alloc, system)?),
             wheel: Mutex::new(Wheel::new(alloc)),
             hall: Mutex::new(Hall::new(alloc, workers)?),
+            locals: locals_of(alloc, workers)?,
             signs: Signs::new(limit, workers),
         })
     }
@@ -78,6 +83,35 @@ impl Tables {
         Ok(())
     }
 
+    /// The local queue of this worker. None: the crew has no such worker.
+    pub fn local(&self, worker: usize) -> Option<&LocalQueue>
+        ensures { is_some result ≡ nat_lt worker (vec_len self.now.locals) }
+    {
+        let local = self.locals.get(worker)?;
+        Some(local)
+    }
+
+    /// Moves the numbers of a local queue into the hall, if its worker hasn't come to it since it had come so often. The
+    /// answer is a worker that sleeps, which is to be unparked. Refused for lack of memory: they stay where they are.
+    pub fn relieve<R: Wait>(
+        &self,
+        rt: &R,
+        local: &LocalQueue,
+        visits: u64,
+    ) -> Result<Option<usize>, AllocError> {
+        // Before: the numbers are in the local queue of a worker that isn't run, or is at a long step. After: they are in
+        // the hall's queue, where each worker finds them, and one that slept is no longer noted as asleep; it wakes the
+        // next one if it leaves some. Both are done under this lock. The caller and that worker are awake, so the run
+        // isn't at rest before or after.
+        let mut hall = self.hall.lock(rt);
+        if !local.relieve(&mut hall, visits)? {
+            return Ok(None);
+        }
+        let wake = hall.sleeper();
+        self.signs.note(&hall);
+        Ok(wake)
+    }
+
     /// A worker that sleeps, which is to be unparked, where numbers are queued. None: nobody sleeps, or no number is
     /// queued.
     pub fn sleeper<R: Wait>(&self, rt: &R) -> Option<usize> {
@@ -109,4 +143,15 @@ impl Tables {
         self.signs.fail();
         self.close(rt)
     }
+}
+
+/// The local queues of so many workers. Refused for lack of memory.
+fn locals_of(alloc: Global, workers: usize) -> Result<Vec<CachePadded<LocalQueue>>, AllocError>
+    ensures { IfOk result (λ locals. vec_len locals ≡ workers) }
+{
+    let mut locals = Vec::with_capacity(alloc, workers)?;
+    for _worker in 0..workers {
+        locals.push(CachePadded::new(LocalQueue::new(alloc)?))?;
+    }
+    Ok(locals)
 }

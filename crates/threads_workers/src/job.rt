@@ -5,19 +5,20 @@ use run_record::{Receivers, Record};
 use sdl_interp::{Ahead, Stepped};
 use std::alloc::AllocError;
 use std::sync::Wait;
-use threads_queue::{MOST_TAKEN, Place};
+use threads_queue::{LocalQueue, MOST_TAKEN, Place};
 use threads_senders::Run;
 use threads_shared::{Addressees, Own, Seated, Shared, StepRuntime};
 
-/// How many steps a turn has at most, so that all that have something to do get theirs: the others of a worker's queue
-/// after it, and those in the hall when the worker looks there, after so many jobs.
+/// How many steps a turn has at most, so that all that have something to do get theirs: the others of a worker's local
+/// queue after it, and those in the hall when the worker looks there, after so many jobs.
 const STEPS_PER_TURN: u32 = 32;
 
 /// After so many steps of a turn a worker looks whether another one has no number.
 const STEPS_PER_LOOK: u32 = 8;
 
-/// After how many jobs a worker looks into the hall, whatever its own queue has: as many as it takes numbers out at once
-/// at most. So each that it took has had its job by then, and what a look costs is shared by as many jobs.
+/// After how many jobs a worker looks into the hall, whatever its local queue has, and at the others' local queues: as many
+/// as it takes numbers out at once at most. So each that it took has had its job by then, and what a look costs is shared
+/// by as many jobs.
 const JOBS_PER_LOOK: usize = MOST_TAKEN;
 
 /// After how many jobs a worker that has one number alone looks into the hall, if numbers are queued there.
@@ -36,11 +37,12 @@ enum Left {
     More,
 }
 
-/// Makes steps of the instance of this number, until it has nothing to do, ends, or has had its turn. Refused for lack of
-/// memory for the run's own tables.
+/// Makes steps of the instance of this number, until it has nothing to do, ends, or has had its turn. The numbers that are
+/// to be queued then are in this worker's hand. Refused for lack of memory for the run's own tables.
 pub fn steps_of<J: Run, R: Wait + Copy, G: Gate>(
     shared: &Shared<'_, '_, '_, J, R>,
     own: &mut Own<J>,
+    local: &LocalQueue,
     gate: &G,
     number: u32,
 ) -> Result<(), AllocError> {
@@ -49,13 +51,13 @@ pub fn steps_of<J: Run, R: Wait + Copy, G: Gate>(
     };
     // The number is this thread's, so the lock is free. It is left before the mark is set, so the next that has the number
     // finds it free, too.
-    match turns_at(shared, own, gate, place, number)? {
+    match turns_at(shared, own, local, gate, place, number)? {
         Left::Signals | Left::More => {
-            own.queue.push_back(number)?;
+            own.hand.push_back(number)?;
         }
         Left::Idle => {
             if place.rest() {
-                own.queue.push_back(number)?;
+                own.hand.push_back(number)?;
             }
         }
         Left::Ended => place.end(),
@@ -63,9 +65,9 @@ pub fn steps_of<J: Run, R: Wait + Copy, G: Gate>(
     Ok(())
 }
 
-/// Whether a worker that has so many numbers is to look into the hall, whatever its own queue has. With one alone it does so
-/// after fewer jobs, if numbers are queued there: else an instance that sends on and on would have sent much before those
-/// to whom it sends get their turn.
+/// Whether a worker that has so many numbers is to look into the hall, whatever its local queue has. With one alone it does
+/// so after fewer jobs, if numbers are queued there: else an instance that sends on and on would have sent much before
+/// those to whom it sends get their turn.
 pub fn is_to_look<J: Run, R: Wait + Copy>(
     shared: &Shared<'_, '_, '_, J, R>,
     own: &Own<J>,
@@ -75,12 +77,24 @@ pub fn is_to_look<J: Run, R: Wait + Copy>(
     own.jobs >= JOBS_PER_LOOK || (alone && shared.tables.signs.has_queued())
 }
 
+/// Whether a worker is to look at the others' local queues.
+pub fn is_to_look_at_others<J: Run>(own: &Own<J>) -> bool {
+    own.lookout.jobs >= JOBS_PER_LOOK
+}
+
+/// Counts a job of a worker.
+pub fn count_job<J: Run>(own: &mut Own<J>) {
+    own.jobs = own.jobs.saturating_add(1);
+    own.lookout.jobs = own.lookout.jobs.saturating_add(1);
+}
+
 /// The turn of who is in the place, and more turns while signals wait for it and this worker has no other number: as if
-/// its number had gone into this worker's queue, and had come out again. Each counts as a job, so what waits in the hall
-/// waits no longer for that.
+/// its number had gone into this worker's local queue, and had come out again. Each counts as a job, so what waits in the
+/// hall or for a worker that isn't run waits no longer for that.
 fn turns_at<'s, 'p, J: Run, R: Wait + Copy, G: Gate>(
     shared: &Shared<'_, 's, 'p, J, R>,
     own: &mut Own<J>,
+    local: &LocalQueue,
     gate: &G,
     place: &Place<Seated<'s, 'p, J, R>>,
     number: u32,
@@ -90,27 +104,37 @@ fn turns_at<'s, 'p, J: Run, R: Wait + Copy, G: Gate>(
         return Ok(Left::Ended);
     };
     for _ in 0..JOBS_PER_LOOK {
-        let left = turn(shared, own, gate, seated, number)?;
-        if left != Left::Signals || !own.queue.is_empty() || is_to_look(shared, own, 1) {
+        let left = turn(shared, own, local, gate, seated, number)?;
+        if left != Left::Signals || has_others(own, local) || is_to_look(shared, own, 1) {
             return Ok(left);
         }
-        own.jobs = own.jobs.saturating_add(1);
+        count_job(own);
     }
     Ok(Left::More)
 }
 
-/// A turn: steps of an instance, until it has nothing to do, ends, or has made so many.
+/// Whether this worker has a number beside that of its job.
+fn has_others<J: Run>(own: &Own<J>, local: &LocalQueue) -> bool {
+    !own.hand.is_empty() || !local.is_empty()
+}
+
+/// A turn: steps of an instance, until it has nothing to do, ends, or has made so many. Whom a step has created or woken
+/// is queued before the next step, so that its number doesn't wait for this worker.
 fn turn<'s, 'p, J: Run, R: Wait + Copy, G: Gate>(
     shared: &Shared<'_, 's, 'p, J, R>,
     own: &mut Own<J>,
+    local: &LocalQueue,
     gate: &G,
     seated: &mut Seated<'s, 'p, J, R>,
     number: u32,
 ) -> Result<Left, AllocError> {
     let mut ahead = Ahead::Perhaps;
     for made in 0..STEPS_PER_TURN {
-        if shared.tables.signs.is_closed() || is_to_share(shared, own, made) {
+        if shared.tables.signs.is_closed() || is_to_share(shared, own, local, made) {
             return Ok(Left::More);
+        }
+        if !own.hand.is_empty() {
+            local.put_all(shared.rt, &mut own.hand)?;
         }
         gate.begun(shared.rt, number);
         match step(shared, own, seated)? {
@@ -137,10 +161,11 @@ fn turn<'s, 'p, J: Run, R: Wait + Copy, G: Gate>(
 fn is_to_share<J: Run, R: Wait + Copy>(
     shared: &Shared<'_, '_, '_, J, R>,
     own: &Own<J>,
+    local: &LocalQueue,
     made: u32,
 ) -> bool {
     made % STEPS_PER_LOOK == STEPS_PER_LOOK - 1
-        && !own.queue.is_empty()
+        && has_others(own, local)
         && shared.tables.signs.has_idle()
 }
 
@@ -218,7 +243,7 @@ fn wake_all<J: Run, R: Wait + Copy>(
     Ok(())
 }
 
-/// Wakes the instance of this number: where its number is in no queue, it goes into this thread's.
+/// Wakes the instance of this number: where its number is in no queue, it is in this thread's hand then.
 fn wake<J: Run, R: Wait + Copy>(
     shared: &Shared<'_, '_, '_, J, R>,
     own: &mut Own<J>,
@@ -228,7 +253,7 @@ fn wake<J: Run, R: Wait + Copy>(
         return Ok(());
     };
     if place.wake() {
-        own.queue.push_back(number)?;
+        own.hand.push_back(number)?;
     }
     Ok(())
 }

@@ -1,14 +1,16 @@
 //! The loops of a run on threads: those of the workers, which make the steps, and that of the director, which has the
 //! environment hear the script and moves the clock (Z.101: system, environment).
 //!
-//! A worker takes a number out of its queue, makes steps of that instance, and wakes whom it has sent something. Time moves
-//! only at rest: all workers sleep, and no number is queued. Which instance steps when isn't fixed, and no contract says
-//! that a thread gets on: who waits has the bound `Wait`.
+//! A worker takes a number out of its local queue, makes steps of that instance, and wakes whom it has sent something. What
+//! waits for a worker that isn't run goes to the others. Time moves only at rest: all workers sleep, and no number is
+//! queued. Which instance steps when isn't fixed, and no contract says that a thread gets on: who waits has the bound
+//! `Wait`.
 #![tactic(auto)]
 
 mod director;
 mod gate;
 mod job;
+mod relief;
 mod waking;
 mod worker;
 

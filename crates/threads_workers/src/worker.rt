@@ -1,15 +1,16 @@
 //! The loop of a worker.
 
-use crate::job::{is_to_look, steps_of, tell_moves};
+use crate::job::{count_job, is_to_look, is_to_look_at_others, steps_of, tell_moves};
+use crate::relief::relieve_others;
 use crate::{Crew, Gate};
 use crossbeam_utils::sync::Parker;
 use sdl_timers::Reader;
 use std::alloc::{AllocError, Global};
 use std::sync::Wait;
 use threads_ports::NumberSeat;
-use threads_queue::Turn;
+use threads_queue::{LocalQueue, Turn};
 use threads_senders::Run;
-use threads_shared::{Own, Shared};
+use threads_shared::{Lookout, Own, Shared};
 
 /// Works until the run is over: takes numbers, and makes steps of those instances. `me` is its place in the crew, and it
 /// parks on `parker`. Where it finds no memory for the run's own tables, it ends the run.
@@ -38,11 +39,17 @@ fn rounds<J: Run, R: Wait + Copy, G: Gate>(
     reader: Reader,
     seat: NumberSeat<J>,
 ) -> Result<(), AllocError> {
+    // Each of the crew has a local queue.
+    let Some(local) = shared.tables.local(me) else {
+        return Err(AllocError);
+    };
+    let workers = crew.workers.len();
     let processes = shared.system.processes().len();
-    let part = shared.tables.signs.part(crew.workers.len());
+    let part = shared.tables.signs.part(workers);
     let mut own = Own::new(shared.alloc, reader, seat, processes, part)?;
+    own.lookout = Lookout::new(shared.alloc, workers)?;
     for _ in shared.rt.forever() {
-        if !round(shared, crew, gate, me, parker, &mut own)? {
+        if !round(shared, crew, gate, me, parker, &mut own, local)? {
             break;
         }
     }
@@ -59,18 +66,16 @@ fn round<J: Run, R: Wait + Copy, G: Gate>(
     me: usize,
     parker: &Parker<Global>,
     own: &mut Own<J>,
+    local: &LocalQueue,
 ) -> Result<bool, AllocError> {
     if shared.tables.signs.is_closed() {
         end(shared, crew);
         return Ok(false);
     }
-    share(shared, crew, own)?;
-    if is_to_look(shared, own, own.queue.len()) {
-        exchange(shared, own)?;
-    }
-    if let Some(number) = own.queue.pop_front() {
-        own.jobs = own.jobs.saturating_add(1);
-        steps_of(shared, own, gate, number)?;
+    help(shared, crew, own, local)?;
+    if let Some(number) = local.next(shared.rt, &mut own.hand)? {
+        count_job(own);
+        steps_of(shared, own, local, gate, number)?;
         return Ok(true);
     }
     tell_moves(shared, own);
@@ -79,7 +84,7 @@ fn round<J: Run, R: Wait + Copy, G: Gate>(
         end(shared, crew);
         return Ok(false);
     }
-    match next_turn(shared, me, own)? {
+    match next_turn(shared, me, own, local)? {
         Turn::Work { wake } => crew.wake(wake),
         Turn::End { wake } => {
             crew.wake(wake);
@@ -98,17 +103,39 @@ fn round<J: Run, R: Wait + Copy, G: Gate>(
     Ok(true)
 }
 
-/// Asks the hall for the next turn of this worker, whose own queue is empty.
+/// Does what the other workers and those in the hall need: gives numbers to a worker that has none, looks into the hall,
+/// and looks whether the others come to their local queues.
+fn help<J: Run, R: Wait + Copy>(
+    shared: &Shared<'_, '_, '_, J, R>,
+    crew: Crew<'_>,
+    own: &mut Own<J>,
+    local: &LocalQueue,
+) -> Result<(), AllocError> {
+    let numbers = local.len().saturating_add(own.hand.len());
+    if numbers >= 2 && shared.tables.signs.has_idle() {
+        crew.wake(share(shared, own, local)?);
+    }
+    if is_to_look(shared, own, numbers) {
+        exchange(shared, own, local)?;
+    }
+    if is_to_look_at_others(own) {
+        relieve_others(shared, crew, own)?;
+    }
+    Ok(())
+}
+
+/// Asks the hall for the next turn of this worker, which has no number.
 fn next_turn<J: Run, R: Wait + Copy>(
     shared: &Shared<'_, '_, '_, J, R>,
     me: usize,
     own: &mut Own<J>,
+    local: &LocalQueue,
 ) -> Result<Turn, AllocError> {
     own.jobs = 0;
     // Before: this worker has no number. After: it has some, or it is noted as asleep while the queue is empty. Who queues
     // a number later has this lock then, and sees the worker asleep.
     let mut hall = shared.tables.hall.lock(shared.rt);
-    let turn = hall.turn(me, &mut own.queue)?;
+    let turn = local.turn(shared.rt, &mut hall, me)?;
     shared.tables.signs.note(&hall);
     Ok(turn)
 }
@@ -117,46 +144,37 @@ fn next_turn<J: Run, R: Wait + Copy>(
 fn exchange<J: Run, R: Wait + Copy>(
     shared: &Shared<'_, '_, '_, J, R>,
     own: &mut Own<J>,
+    local: &LocalQueue,
 ) -> Result<(), AllocError> {
     own.jobs = 0;
+    local.put_all(shared.rt, &mut own.hand)?;
     // This worker isn't noted as asleep: `jobs` is 0 after it has asked the hall, and it has made jobs since, with numbers
     // that the hall gave it awake. So a worker whose parker let it go by itself asks the hall before it looks here. If it
     // looked here first, it would have numbers while all of the crew are noted as asleep and the queue is empty: the run
     // would be at rest, and the director would move the clock during a job.
     //
-    // Before: the numbers of this worker's queue are its own, and those in the hall's are nobody's. After: the same, of
+    // Before: the numbers of this worker's queue are in it, and those in the hall's are there. After: the same, of
     // others: each number is in one of the two still. Nobody falls asleep by this, and nobody is woken. No wake-up is lost:
     // if somebody sleeps while numbers wait, one that was unparked is on the way to the hall, and what it finds there is no
     // matter. It sleeps again only if the hall is empty then.
     let mut hall = shared.tables.hall.lock(shared.rt);
-    hall.exchange(&mut own.queue)?;
+    local.exchange(shared.rt, &mut hall)?;
     shared.tables.signs.note(&hall);
     Ok(())
 }
 
-/// Gives half of this worker's numbers to the hall, where it has two or more and another worker has none.
+/// Gives half of this worker's numbers to the hall, where another worker has none. The answer is a worker that slept, which
+/// is to be unparked. Who looks for a number finds them by itself.
 fn share<J: Run, R: Wait + Copy>(
     shared: &Shared<'_, '_, '_, J, R>,
-    crew: Crew<'_>,
     own: &mut Own<J>,
-) -> Result<(), AllocError> {
-    if own.queue.len() < 2 || !shared.tables.signs.has_idle() {
-        return Ok(());
-    }
-    crew.wake(given(shared, own)?);
-    Ok(())
-}
-
-/// Gives half of this worker's numbers to the hall. The answer is a worker that slept, which is to be unparked. Who looks
-/// for a number finds them by itself.
-fn given<J: Run, R: Wait + Copy>(
-    shared: &Shared<'_, '_, '_, J, R>,
-    own: &mut Own<J>,
+    local: &LocalQueue,
 ) -> Result<Option<usize>, AllocError> {
+    local.put_all(shared.rt, &mut own.hand)?;
     // Before: the numbers are this worker's. After: half of them are in the hall's queue, and one that slept is no longer
     // noted as asleep; it wakes the next one if it leaves some. Where nobody sleeps, the next that has none finds them.
     let mut hall = shared.tables.hall.lock(shared.rt);
-    let wake = hall.share(&mut own.queue)?;
+    let wake = local.share(shared.rt, &mut hall)?;
     shared.tables.signs.note(&hall);
     Ok(wake)
 }

@@ -14,4 +14,4 @@ invariant-loop-number g l = record {
 }
 
 abbrev pub decreases-loop-number : goal.decreases-loop-number
-decreases-loop-number g l = length l.self.own.now.queue.items
+decreases-loop-number g l = length l.self.own.now.hand.items
