@@ -6,17 +6,13 @@
 //! words are said.
 #![tactic(auto)]
 
-mod advice;
 mod misfit;
 mod names;
-mod nearest;
 mod script;
 mod sorts;
 mod target;
 mod unknown;
 mod wanted;
 
-pub use advice::Advice;
-pub use nearest::{Nearest, lowered};
 pub use script::{Sent, has_signal, sent_values_advice, unsent_advice};
 pub use wanted::wanted_advice;

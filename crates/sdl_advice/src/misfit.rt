@@ -4,12 +4,12 @@ mod operator;
 mod parameter;
 mod value;
 
-use crate::advice::Advice;
 use crate::misfit::operator::{operator_advice, sign_advice};
 use crate::misfit::parameter::{alone_advice, applied_advice, received_advice, taking_advice};
 use crate::misfit::value::value_advice;
 use crate::names::Names;
 use build_expressions::ValueEntry;
+use explain_lines::Advice;
 use explain_sites::{Kind, What};
 use sdl_tree::Name;
 use std::alloc::{AllocError, Global};

@@ -2,15 +2,14 @@
 
 mod values;
 
-use crate::advice::Advice;
 use crate::names::Names;
-use crate::nearest::{Nearest, lowered};
 use crate::script::values::values_text;
 use crate::unknown::nearest_name;
 use build_definitions::{Definitions, SignalEntry, SignalKind};
 use build_faults::Faults;
 use build_scopes::ScopeId;
-use explain_sites::Kind;
+use explain_lines::{Advice, Nearest, lowered};
+use explain_sites::{Kind, What, sites_of};
 use sdl_tree::{Definition, SystemDefinition, Tree};
 use std::alloc::{AllocError, Global};
 
@@ -44,9 +43,54 @@ pub fn unsent_advice(alloc: Global, tree: &Tree, sent: Sent<'_>) -> Result<Advic
     match sent.receiver {
         _ if names.signal(sent.signal).is_none() => unknown_advice(alloc, &names, sent.signal),
         Some(receiver) => receiver_advice(alloc, &tables, receiver),
-        None => Advice::about(alloc, sent.signal, NO_WAY),
+        None => unled_advice(alloc, tree, &tables, sent.signal),
     }
 }
+
+/// Of a signal that no channel leads from the environment to a process.
+fn unled_advice<'t>(
+    alloc: Global,
+    tree: &'t Tree,
+    tables: &Definitions<'t>,
+    word: &str,
+) -> Result<Advice, AllocError> {
+    if only_leaves(alloc, tree, tables, word)? {
+        Advice::about(alloc, word, OUTWARD)
+    } else {
+        Advice::about(alloc, word, NO_WAY)
+    }
+}
+
+/// Whether outputs send a signal that no input and no save names.
+fn only_leaves<'t>(
+    alloc: Global,
+    tree: &'t Tree,
+    tables: &Definitions<'t>,
+    signal: &str,
+) -> Result<bool, AllocError> {
+    let sites = sites_of(alloc, tree, tables)?;
+    let is_taken = sites.iter().any(|site| names_signal(site.what, signal) && !is_sent(site.what));
+    let is_output = sites.iter().any(|site| names_signal(site.what, signal) && is_sent(site.what));
+    Ok(is_output && !is_taken)
+}
+
+/// Whether a signal is named in an input, a save or an output.
+fn names_signal(what: What<'_>, signal: &str) -> bool {
+    match what {
+        What::Name(name, Kind::Stimulus | Kind::Saved | Kind::Signal) => name.text.as_str()
+            == signal,
+        _ => false,
+    }
+}
+
+/// Whether what is named is in an output.
+fn is_sent(what: What<'_>) -> bool {
+    matches!(what, What::Name(_, Kind::Signal))
+}
+
+const OUTWARD: &str =
+    "goes from the system to the environment, and no input takes it. A line of a script sends a signal to the \
+     system: one that an input takes.";
 
 const NO_WAY: &str =
     "reaches no process: no channel carries it from `env`, and where there are no channels, no process names it. Name \

@@ -1,9 +1,8 @@
 //! Advice on a state or a label to which nothing leads.
 
-use crate::advice::Advice;
-use crate::nearest::{Nearest, lowered};
 use build_definitions::Definitions;
 use build_faults::Rule;
+use explain_lines::{Advice, Nearest, lowered};
 use sdl_lex::Place;
 use sdl_system::ProcessId;
 use sdl_tree::Name;
@@ -29,14 +28,45 @@ pub fn target_advice(
         try_labels(alloc, tables, process, &mut nearest)?;
         "label"
     };
-    let Some(near) = nearest.found else {
-        return Ok(None);
-    };
-    Ok(Some(Advice {
-        text: format!(in alloc;
-            "`{text}` is no {kind} of this process. Is `{near}` meant? Capitals count."
-        )?,
-    }))
+    if let Some(near) = nearest.found {
+        return Ok(Some(Advice {
+            text: format!(in alloc;
+                "`{text}` is no {kind} of this process. Is `{near}` meant? Capitals count."
+            )?,
+        }));
+    }
+    match other_sentence(tables, process, rule, text) {
+        Some(sentence) => Ok(Some(Advice::about(alloc, text, sentence)?)),
+        None => Ok(None),
+    }
+}
+
+/// Gives the sentence about a label in a `nextstate`, or a state in a `join`.
+fn other_sentence(
+    tables: &Definitions<'_>,
+    process: ProcessId,
+    rule: Rule,
+    word: &str,
+) -> Option<&'static str> {
+    if rule == Rule::NoState && has_label(tables, process, word) {
+        Some(
+            "is a label, and a state follows `nextstate`. To go on at a label write `join` and its name.",
+        )
+    } else if rule == Rule::NoLabel && has_state(tables, process, word) {
+        Some(
+            "is a state, and a label follows `join`. To go into a state write `nextstate` and its name.",
+        )
+    } else {
+        None
+    }
+}
+
+fn has_label(tables: &Definitions<'_>, process: ProcessId, word: &str) -> bool {
+    tables.labels.iter().any(|label| label.process == process && label.name.text.as_str() == word)
+}
+
+fn has_state(tables: &Definitions<'_>, process: ProcessId, word: &str) -> bool {
+    tables.states.iter().any(|state| state.process == process && state.name.text.as_str() == word)
 }
 
 /// The process around a place: the last one that begins before it.

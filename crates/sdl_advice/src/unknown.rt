@@ -1,13 +1,16 @@
 //! Advice on a name that stands for nothing that is wanted.
 
+mod foreign;
+mod other_kind;
 mod sort;
 
-use crate::advice::Advice;
 use crate::names::Names;
-use crate::nearest::{Nearest, lowered};
+use crate::unknown::foreign::foreign_sentence;
+use crate::unknown::other_kind::other_kind_sentence;
 use crate::unknown::sort::sort_advice;
 use build_definitions::{Agent, SignalKind};
 use build_expressions::ValueEntry;
+use explain_lines::{Advice, Nearest, lowered};
 use explain_sites::Kind;
 use std::alloc::{AllocError, Global};
 
@@ -26,6 +29,9 @@ pub fn unknown_advice(
             return Ok(advice);
         }
     }
+    if let Some(sentence) = other_kind_sentence(names, word, kind) {
+        return Advice::about(alloc, word, sentence);
+    }
     let wanted = kind_text(kind);
     if let Some(meaning) = names.meaning(word) {
         return Ok(Advice {
@@ -34,6 +40,17 @@ pub fn unknown_advice(
             )?,
         });
     }
+    nameless_advice(alloc, names, word, kind)
+}
+
+/// Gives the advice on a name that stands for nothing here.
+fn nameless_advice(
+    alloc: Global,
+    names: &Names<'_, '_>,
+    word: &str,
+    kind: Kind,
+) -> Result<Advice, AllocError> {
+    let wanted = kind_text(kind);
     let text = match nearest_name(alloc, names, word, kind)? {
         Some(near) if near == word => format!(in alloc;
             "`{word}` is the {wanted} of another scope. A channel ends at what its own scope defines, or at `env`; and \
@@ -42,11 +59,23 @@ pub fn unknown_advice(
         Some(near) => format!(in alloc;
             "`{word}` is no {wanted} in this scope or around it. Is `{near}` meant? Capitals count."
         )?,
-        None => format!(in alloc;
-            "`{word}` is no {wanted} in this scope or around it. Define it, or mend the spelling; capitals count."
-        )?,
+        None => return unnamed_advice(alloc, word, kind),
     };
     Ok(Advice { text })
+}
+
+/// Gives the advice on a word that is near to no name.
+fn unnamed_advice(alloc: Global, word: &str, kind: Kind) -> Result<Advice, AllocError> {
+    let lower = lowered(alloc, word)?;
+    if let Some(sentence) = foreign_sentence(lower.as_str(), kind) {
+        return Advice::about(alloc, word, sentence);
+    }
+    let wanted = kind_text(kind);
+    Ok(Advice {
+        text: format!(in alloc;
+            "`{word}` is no {wanted} in this scope or around it. Define it, or mend the spelling; capitals count."
+        )?,
+    })
 }
 
 /// Gives the advice on a signal list where a signal is wanted.

@@ -1,12 +1,12 @@
 //! Advice on a name or a sort, in the words of what was wanted at its place.
 
-use crate::advice::Advice;
 use crate::misfit::misfit_advice;
 use crate::names::Names;
 use crate::target::target_advice;
 use crate::unknown::unknown_advice;
 use build_definitions::Definitions;
 use build_faults::{Faults, Rule};
+use explain_lines::Advice;
 use explain_sites::{Site, What, sites_of};
 use sdl_tree::{Name, Tree};
 use std::alloc::{AllocError, Global};

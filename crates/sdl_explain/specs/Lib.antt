@@ -1,6 +1,3 @@
-pub mod Explanation
-pub mod More
-pub mod Origin
 pub mod Others
 pub mod Refused
 pub mod Told

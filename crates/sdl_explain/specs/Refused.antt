@@ -14,7 +14,7 @@ use Rattle.sdl_script.specs.declared.script.ScriptError.TheVariants as script
 use Rattle.explain_lines.specs.Earlier.{IsEarlier, StandsBefore}
 use Rattle.explain_lines.specs.Excerpt.{IsExcerpt, IsNowhere}
 use Rattle.explain_lines.specs.declared.excerpt.Excerpt.{Excerpt}
-use Rattle.sdl_explain.specs.declared.explanation.Other.{Other}
+use Rattle.explain_lines.specs.declared.explanation.Other.{Other}
 
 -- ---- the line of the refusal
 

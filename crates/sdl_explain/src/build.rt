@@ -5,13 +5,12 @@ ghost use Rattle.std.specs.String.{string_bytes};
 ghost use Rattle.explain_lines.specs.Earlier.{IsEarlier};
 ghost use Rattle.sdl_explain.specs.Refused.{IsShown, Repeats, build_place, repeated_by};
 
-use crate::explanation::{Explanation, Other};
 use crate::sentence::build_advice;
 use crate::shown::shown_at;
 use build_faults::Rule;
-use explain_lines::earlier_word;
+use explain_lines::{Advice, Explanation, Other, earlier_word};
 use explain_sites::{first_definition, first_mention};
-use sdl_advice::{Advice, wanted_advice};
+use sdl_advice::wanted_advice;
 use sdl_build::BuildError;
 use sdl_lex::Place;
 use sdl_parse::parse;

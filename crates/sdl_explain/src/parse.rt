@@ -4,10 +4,11 @@ ghost use Rattle.std.specs.Prelude.{◌≡◌, IfOk, IfSome};
 ghost use Rattle.explain_lines.specs.Earlier.{IsEarlier, StandsBefore};
 ghost use Rattle.sdl_explain.specs.Refused.{IsShown, PrecedesFault, lex_place, parse_place};
 
-use crate::explanation::{Explanation, Other};
-use crate::sentence::{opening_sentence, parse_advice};
 use crate::shown::shown_at;
-use explain_lines::{Around, earlier_place, earlier_word, opening_of, unclosed_before};
+use explain_lines::{
+    Around, Explanation, Other, earlier_place, earlier_word, opening_of, unclosed_before,
+};
+use explain_syntax::{opening_sentence, parse_advice};
 use parse_cursor::Wanted;
 use sdl_lex::{LexError, Place};
 use sdl_parse::ParseError;

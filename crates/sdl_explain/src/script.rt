@@ -3,10 +3,9 @@
 ghost use Rattle.std.specs.Prelude.{◌≡◌, None, IfOk};
 ghost use Rattle.sdl_explain.specs.Refused.{IsShownLine, script_line};
 
-use crate::explanation::Explanation;
-use crate::script_line::{fault_column, name_column, name_in, receiver_column, time_column};
 use crate::sentence::script_advice;
-use explain_lines::Excerpt;
+use explain_lines::{Excerpt, Explanation};
+use explain_syntax::{line_fault, name_column, name_in, receiver_column, time_column};
 use sdl_advice::has_signal;
 use sdl_lex::Place;
 use sdl_parse::parse;
@@ -75,8 +74,16 @@ fn column_of(line: &[u8], tree: Option<&Tree>, error: ScriptError) -> usize {
     match error {
         ScriptError::UnknownSignal(_) => unsent_column(line, tree),
         ScriptError::Arguments(_) => name_column(line),
-        ScriptError::Syntax(_) => fault_column(line),
+        ScriptError::Syntax(_) => wrong_column(line),
         _ => time_column(line),
+    }
+}
+
+/// In which column a line is wrong that says nothing: at its time, if nothing more is known.
+fn wrong_column(line: &[u8]) -> usize {
+    match line_fault(line) {
+        Some(fault) => fault.column(line),
+        None => time_column(line),
     }
 }
 

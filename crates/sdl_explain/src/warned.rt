@@ -7,14 +7,11 @@ ghost use Rattle.sdl_warnings.specs.declared.suspicion.Warning.{Warning};
 ghost use Rattle.sdl_parse.specs.Parser.{SpellsText};
 ghost use Rattle.sdl_tree.specs.Views.{tree_value};
 
-use crate::explanation::Explanation;
-use crate::more::push_more;
-use crate::origin::Origin;
 use crate::refused::is_lack;
 use crate::sentence::warning_sentence;
 use crate::shown::shown_at;
+use explain_lines::{Advice, Explanation, Origin, marked_word, push_more};
 use parse_cursor::placed_words;
-use sdl_advice::Advice;
 use sdl_lex::lex;
 use sdl_parse::parse;
 use sdl_tree::Tree;
@@ -108,9 +105,11 @@ fn message_of<'t>(
 ) -> Result<Explanation<'t>, AllocError>
     ensures { IfOk result (IsMessage specification.now warning) }
 {
-    let (name, sentence) = warning_sentence(warning.suspicion);
+    let shown = shown_at(specification, Some(warning.place));
+    let word = marked_word(&shown).unwrap_or("");
+    let (name, sentence) = warning_sentence(warning.suspicion, word);
     Ok(Explanation {
-        shown: shown_at(specification, Some(warning.place)),
+        shown,
         advice: Advice {
             text: format!(in alloc; "warning {name}: {sentence}")?,
         },

@@ -1,9 +1,9 @@
 //! Advice on an operator or a sign, and operands that it doesn't take.
 
-use crate::advice::Advice;
 use crate::names::Names;
 use crate::sorts::{operand_of, sides_of, sort_of};
 use build_operators::OperandSort;
+use explain_lines::Advice;
 use sdl_tree::{Chain, Expression, UnaryOperator};
 use std::alloc::{AllocError, Global};
 
@@ -18,6 +18,9 @@ pub fn operator_advice(
     let Some((left, right)) = sides_of(names, chain, number) else {
         return Ok(None);
     };
+    if is_chained(word, left, right) {
+        return Ok(Some(Advice::about(alloc, word, CHAINED)?));
+    }
     let takes = if is_duration_wanted(left, right) {
         DURATION
     } else {
@@ -29,6 +32,23 @@ pub fn operator_advice(
         text: format!(in alloc; "`{word}` stands between {left} and {right}. It takes {takes}.")?,
     }))
 }
+
+/// Whether a comparison is compared with a number.
+fn is_chained(word: &str, left: OperandSort, right: OperandSort) -> bool {
+    let is_comparison = matches!(word, "<" | "<=" | ">" | ">=" | "=" | "/=");
+    is_comparison && left == OperandSort::Boolean && is_ordered(right)
+}
+
+fn is_ordered(sort: OperandSort) -> bool {
+    match sort {
+        OperandSort::Free | OperandSort::Integer | OperandSort::Time | OperandSort::Duration =>
+            true,
+        OperandSort::Boolean | OperandSort::Pid => false,
+    }
+}
+
+const CHAINED: &str =
+    "compares two values, and a Boolean is before it, as a comparison gives. Join two comparisons: `0 < n and n < 5`.";
 
 /// Whether a Time or a Duration stands beside an Integer.
 fn is_duration_wanted(left: OperandSort, right: OperandSort) -> bool {

@@ -1,10 +1,10 @@
 //! Advice on what is given for the parameters of a signal, a timer or a process, and on what takes their values.
 
-use crate::advice::Advice;
 use crate::names::Names;
 use crate::sorts::{one_of, sort_of_name};
 use build_definitions::SignalKind;
 use build_operators::OperandSort;
+use explain_lines::Advice;
 use explain_sites::Kind;
 use sdl_system::Sort;
 use sdl_tree::Name;

@@ -1,10 +1,10 @@
 //! Advice on a value for something of another sort.
 
-use crate::advice::Advice;
 use crate::misfit::parameter::parameter;
 use crate::names::Names;
 use crate::sorts::{operand_of, sort_named, sort_of, sort_of_name};
 use build_operators::OperandSort;
+use explain_lines::Advice;
 use explain_sites::Use;
 use sdl_tree::Expression;
 use std::alloc::{AllocError, Global};

@@ -1,7 +1,6 @@
 //! Advice on a name that is no sort.
 
-use crate::advice::Advice;
-use crate::nearest::{Nearest, lowered};
+use explain_lines::{Advice, Nearest, lowered};
 use std::alloc::{AllocError, Global};
 
 static SORTS: [&str; 6] = ["Integer", "Natural", "Boolean", "Pid", "Time", "Duration"];
@@ -58,6 +57,9 @@ pub fn sort_advice(alloc: Global, word: &str) -> Result<Advice, AllocError> {
             Natural, Boolean, Pid, Time and Duration.",
         );
     }
+    if lower.as_str() == "timer" {
+        return Advice::alone(alloc, TIMER);
+    }
     match near_sort(alloc, lower.as_str())? {
         Some(near) => Ok(Advice {
             text: format!(in alloc; "`{word}` is no sort. Is `{near}` meant? Capitals count.")?,
@@ -70,6 +72,10 @@ pub fn sort_advice(alloc: Global, word: &str) -> Result<Advice, AllocError> {
         ),
     }
 }
+
+const TIMER: &str =
+    "A timer is no variable. It has a definition of its own, `timer t := 5;`, and is set by `set(t);` or `set(now + 5, \
+     t);`.";
 
 fn is_among(words: &[&'static str], word: &str) -> bool {
     words.iter().any(|other| *other == word)

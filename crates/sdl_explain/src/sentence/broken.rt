@@ -1,7 +1,8 @@
 //! Sentences about the rules that a specification breaks.
 
 use build_faults::Rule;
-use sdl_advice::Advice;
+use explain_lines::Advice;
+use explain_syntax::NO_MEMORY;
 use sdl_build::BuildError;
 use std::alloc::{AllocError, Global};
 
@@ -12,7 +13,7 @@ pub fn build_advice(alloc: Global, error: &BuildError) -> Result<Advice, AllocEr
             let word = word.text.as_str();
             Advice::about(alloc, word, broken_sentence(*rule, word))
         }
-        BuildError::Memory => Advice::alone(alloc, super::NO_MEMORY),
+        BuildError::Memory => Advice::alone(alloc, NO_MEMORY),
     }
 }
 
@@ -59,8 +60,8 @@ fn no_end(word: &str) -> &'static str {
         "begins a path that runs off its end. A condition of an input comes after it: `input a; provided n > 0; \
          nextstate -;`. Else let each way end with `nextstate`, `stop` or `join`."
     } else {
-        "begins a path that runs off its end. Let each way through it end with `nextstate`, `stop` or `join`, those too \
-         that go on after an `enddecision`."
+        "begins a path that runs off its end. Let each way through it end with `nextstate`, `stop` or `join`, \
+         those too that go on after an `enddecision`."
     }
 }
 

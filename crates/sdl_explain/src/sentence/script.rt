@@ -1,12 +1,12 @@
 //! Sentences about the lines of a script.
 
-use crate::marked::about_marked;
-use crate::script_line::{name_in, receiver_in};
-use explain_lines::Excerpt;
-use sdl_advice::{Advice, Sent, sent_values_advice, unsent_advice};
+use explain_lines::{Advice, Excerpt, about_marked};
+use explain_syntax::{NO_MEMORY, line_fault, name_in, receiver_in};
+use sdl_advice::{Sent, sent_values_advice, unsent_advice};
 use sdl_script::ScriptError;
 use sdl_tree::Tree;
 use std::alloc::{AllocError, Global};
+use std::str;
 
 /// Gives the advice on a script for this specification that is refused. `shown` is the part of it that is shown.
 pub fn script_advice(
@@ -20,7 +20,8 @@ pub fn script_advice(
     };
     match error {
         ScriptError::Syntax(_) => {
-            Advice::alone(alloc, syntax_sentence(excerpt.before, excerpt.behind))
+            let line = line_of(alloc, excerpt)?;
+            Advice::alone(alloc, syntax_sentence(&line))
         }
         ScriptError::UnknownSignal(_) => {
             let line = line_of(alloc, excerpt)?;
@@ -44,10 +45,13 @@ fn line_of(alloc: Global, excerpt: &Excerpt<'_>) -> Result<Vec<u8>, AllocError> 
 
 /// Of a signal with other values than its definition says, or a receiver whose number is past 32 bits.
 fn values_advice(alloc: Global, tree: &Tree, excerpt: &Excerpt<'_>) -> Result<Advice, AllocError> {
-    if ends_with_great_number(excerpt.behind) {
+    let line = line_of(alloc, excerpt)?;
+    if ends_with_great_number(&line) {
+        return Advice::alone(alloc, GREAT_INSTANCE);
+    }
+    if has_great_number(&line) {
         return Advice::alone(alloc, GREAT_NUMBER);
     }
-    let line = line_of(alloc, excerpt)?;
     let signal = name_in(&line);
     match sent_values_advice(alloc, tree, signal)? {
         Some(advice) => Ok(advice),
@@ -67,46 +71,29 @@ fn ends_with_great_number(line: &[u8]) -> bool {
     len >= 10 && before.ends_with(b"#")
 }
 
-const GREAT_NUMBER: &str = "The number of an instance is 4294967295 at most.";
+/// Whether a number of a line doesn't fit 64 bits.
+fn has_great_number(line: &[u8]) -> bool {
+    line.split(|byte| !byte.is_ascii_digit() && *byte != b'-')
+        .any(|number| is_great(number))
+}
 
-/// Gives the sentence about a line that is none of a script, from the word on at which it is wrong.
-fn syntax_sentence(before: &[u8], line: &[u8]) -> &'static str {
-    match line.trim_ascii_end() {
-        [b'%', ..] =>
-            "The line `%script` stands once, before the script. What follows is `TIME NAME(VALUES)`.",
-        [b'#', ..] => NO_COMMENT,
-        [b':', ..] => "No mark follows the time: `0 a`.",
-        [b'A'..=b'Z' | b'a'..=b'z', ..] if before.trim_ascii().is_empty() => {
-            "A line of a script begins with its time: `0 a` sends the signal `a` at the time 0."
-        }
-        [b'A'..=b'Z' | b'a'..=b'z', ..] => {
-            "A keyword is no signal: after its time a line has the name of a signal alone, `0 a`, or with its values: \
-             `0 a(1)`."
-        }
-        [b'-', b'-', ..] | [b'/', b'/' | b'*', ..] => NO_COMMENT,
-        [b'-', b'0'..=b'9', ..] => "A time isn't negative: a run begins at the time 0.",
-        [.., b';'] => "A line of a script ends without a semicolon: `0 a(1)`.",
-        [.., b'(', b')'] => "A signal without values has no parentheses: `0 a`.",
-        line if has_comment(line) => NO_COMMENT,
-        _ => script_sentence(ScriptError::Syntax(1)),
+fn is_great(number: &[u8]) -> bool {
+    match str::from_utf8(number) {
+        Ok(number) => number.len() >= 19 && number.parse::<i64>().is_err(),
+        Err(_) => false,
     }
 }
 
-const NO_COMMENT: &str =
-    "A comment of a script has a line of its own, and `#` is the first byte of that line.";
+const GREAT_INSTANCE: &str = "The number of an instance is 4294967295 at most.";
 
-/// Whether something that could be a comment stands in a line.
-fn has_comment(line: &[u8]) -> bool {
-    line.windows(2)
-        .any(|pair| matches!(pair, b"//" | b"/*" | b"--"))
-        || line.windows(3).any(|three| begins_comment(three))
-}
+const GREAT_NUMBER: &str =
+    "A number is between -9223372036854775808 and 9223372036854775807: it has 64 bits.";
 
-/// Whether a comment could begin here: by `#` after a blank. Before a digit it is the number of an instance.
-fn begins_comment(bytes: &[u8]) -> bool {
-    match bytes {
-        [b' ' | b'\t', b'#', next, ..] => !next.is_ascii_digit(),
-        _ => false,
+/// Gives the sentence about a line that is none of a script.
+fn syntax_sentence(line: &[u8]) -> &'static str {
+    match line_fault(line) {
+        Some(fault) => fault.sentence,
+        None => script_sentence(ScriptError::Syntax(1)),
     }
 }
 
@@ -129,6 +116,6 @@ fn script_sentence(error: ScriptError) -> &'static str {
         ScriptError::Arguments(_) => {
             "has other values than its definition says. Write one for each parameter, of its sort and in its range."
         }
-        ScriptError::Memory => super::NO_MEMORY,
+        ScriptError::Memory => NO_MEMORY,
     }
 }

@@ -2,8 +2,8 @@
 
 use sdl_warnings::{Behaviour, Suspicion};
 
-/// The name of a warning, and its sentence.
-pub fn warning_sentence(suspicion: Suspicion) -> (&'static str, &'static str) {
+/// The name of a warning about a word, and its sentence.
+pub fn warning_sentence(suspicion: Suspicion, word: &str) -> (&'static str, &'static str) {
     match suspicion {
         Suspicion::UnreachedState => (
             "UnreachedState",
@@ -24,6 +24,7 @@ pub fn warning_sentence(suspicion: Suspicion) -> (&'static str, &'static str) {
             "UnsetVariable",
             "no input and no task gives this variable a first value. An instance that reads it fails.",
         ),
+        Suspicion::UnusedLabel if is_else(word) => ("UnusedLabel", NO_ELSE),
         Suspicion::UnusedLabel => ("UnusedLabel", "no `join` leads to this label."),
         Suspicion::ConstantTime => (
             "ConstantTime",
@@ -32,6 +33,14 @@ pub fn warning_sentence(suspicion: Suspicion) -> (&'static str, &'static str) {
         Suspicion::Behaviour(behaviour) => behaviour_sentence(behaviour),
     }
 }
+
+/// Whether a label is a word that other languages have for the last part of a choice.
+fn is_else(word: &str) -> bool {
+    word.eq_ignore_ascii_case("otherwise") || word.eq_ignore_ascii_case("default")
+}
+
+const NO_ELSE: &str =
+    "no `join` leads to this label. If it is to be the part of a decision for all other values, write `else:`.";
 
 fn behaviour_sentence(behaviour: Behaviour) -> (&'static str, &'static str) {
     match behaviour {

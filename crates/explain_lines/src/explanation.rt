@@ -1,11 +1,12 @@
 //! The explanation of a refusal, and its text.
 
 ghost use Rattle.std.specs.Prelude.{◌≡◌, [], ◌∷◌, ◌++◌, IfOk, OnOk};
-ghost use Rattle.sdl_explain.specs.Explanation.{explanation_text, other_text, shown_rows};
+ghost use Rattle.explain_lines.specs.Explanation.{explanation_text, other_text, shown_rows};
 
+use crate::advice::Advice;
+use crate::excerpt::Excerpt;
 use crate::origin::{Origin, push_location};
-use explain_lines::{Excerpt, push_line_end, push_rows};
-use sdl_advice::Advice;
+use crate::rows::{push_line_end, push_rows};
 use std::alloc::{AllocError, Global};
 
 /// A place before that of the refusal that has to do with it, and what is said of it.

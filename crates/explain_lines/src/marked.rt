@@ -1,7 +1,7 @@
 //! Advice about the word that is marked.
 
-use explain_lines::Excerpt;
-use sdl_advice::Advice;
+use crate::advice::Advice;
+use crate::excerpt::Excerpt;
 use std::alloc::{AllocError, Global};
 use std::str;
 
@@ -18,7 +18,7 @@ pub fn about_marked(
 }
 
 /// The marked bytes as a word, if they are in ASCII.
-fn marked_word<'t>(shown: &Option<Excerpt<'t>>) -> Option<&'t str> {
+pub fn marked_word<'t>(shown: &Option<Excerpt<'t>>) -> Option<&'t str> {
     let Some(excerpt) = shown else {
         return None;
     };

@@ -1,6 +1,6 @@
 //! Sentences about a parenthesis after a word that takes none.
 
-use explain_lines::{Around, name_of};
+use explain_lines::{Around, mark_of, name_of};
 use sdl_tree::Mark;
 
 /// Gives the sentence about a parenthesis that opens after a word, where a semicolon has to be.
@@ -12,8 +12,20 @@ pub fn call_sentence(around: &Around<'_>) -> &'static str {
         Some(Mark::Dcl | Mark::Fpar | Mark::Synonym) => {
             "A sort is a name alone: there are no arrays, ranges or lengths."
         }
+        Some(Mark::Block | Mark::System | Mark::Channel) => {
+            "Nothing is in parentheses here: processes alone have numbers of instances, `process P(2);`."
+        }
+        Some(Mark::Timer) =>
+            "The sorts of a timer's values come before `:=`: `timer t(Integer) := 5;`.",
+        Some(Mark::With | Mark::SignalList | Mark::SignalSet) => {
+            "Signals are named alone here, and have their sorts where they are defined: `with a, b;`."
+        }
         Some(Mark::Stop | Mark::Join | Mark::Start) => "Nothing is in parentheses here.",
         Some(Mark::Decision) => QUESTION,
+        Some(Mark::Output) if mark_of(around.earlier) == Some(Mark::To) => {
+            "`to` takes a process, or a Pid: no instance has an index. Keep its Pid in a variable, `task p := \
+             offspring;`, and send `to p`."
+        }
         Some(Mark::Save) => "A save has no variables: it leaves the signal where it is.",
         _ => match name_of(around.before) {
             Some(name) => function_sentence(name),

@@ -1,7 +1,6 @@
 //! The words of a line of a script.
 
 use sdl_lex::is_word_byte;
-use sdl_tree::is_reserved;
 use std::str;
 
 /// In which column the time is.
@@ -43,41 +42,40 @@ pub fn receiver_in(line: &[u8]) -> Option<&str> {
     Some(word_in(from_column(line, receiver_column(line)?)))
 }
 
-/// In which column a line is wrong that says nothing: at its time, or at the word after it if that is none.
-pub fn fault_column(line: &[u8]) -> usize {
-    let word = from_column(line, name_column(line));
-    let has_name = match word.first() {
-        Some(byte) => byte.is_ascii_alphabetic() && !is_reserved(word_in(word).as_bytes()),
-        None => true,
-    };
-    let time = from_column(line, time_column(line));
-    if has_name || digits_len(time) == 0 {
-        time_column(line)
-    } else {
-        name_column(line)
-    }
-}
-
 /// The bytes of a line from a column on.
 fn from_column(line: &[u8], column: usize) -> &[u8] {
     skipped(line, column.saturating_sub(1))
 }
 
 /// The bytes after so many.
-fn skipped(bytes: &[u8], count: usize) -> &[u8] {
+pub fn skipped(bytes: &[u8], count: usize) -> &[u8] {
     match bytes.get(count..) {
         Some(rest) => rest,
         None => &[],
     }
 }
 
+/// The bytes after so many, and after blanks and tabs that follow them.
+pub fn past_spaces(bytes: &[u8], count: usize) -> &[u8] {
+    let rest = skipped(bytes, count);
+    skipped(rest, spaces_len(rest))
+}
+
+/// Whether a letter comes first.
+pub fn begins_word(bytes: &[u8]) -> bool {
+    match bytes.first() {
+        Some(byte) => byte.is_ascii_alphabetic(),
+        None => false,
+    }
+}
+
 /// The column in which these last bytes of a line begin.
-fn column_in(line: &[u8], rest: &[u8]) -> usize {
+pub fn column_in(line: &[u8], rest: &[u8]) -> usize {
     line.len().saturating_sub(rest.len()).saturating_add(1)
 }
 
 /// The word with which these bytes begin.
-fn word_in(bytes: &[u8]) -> &str {
+pub fn word_in(bytes: &[u8]) -> &str {
     let len = bytes.iter().take_while(|byte| is_word_byte(**byte)).count();
     match str::from_utf8(bytes.get(..len).unwrap_or(&[])) {
         Ok(word) => word,
@@ -86,7 +84,7 @@ fn word_in(bytes: &[u8]) -> &str {
 }
 
 /// How many blanks and tabs come first.
-fn spaces_len(bytes: &[u8]) -> usize {
+pub fn spaces_len(bytes: &[u8]) -> usize {
     bytes
         .iter()
         .take_while(|byte| **byte == b' ' || **byte == b'\t')
@@ -94,7 +92,7 @@ fn spaces_len(bytes: &[u8]) -> usize {
 }
 
 /// How many digits come first.
-fn digits_len(bytes: &[u8]) -> usize {
+pub fn digits_len(bytes: &[u8]) -> usize {
     bytes
         .iter()
         .take_while(|byte| byte.is_ascii_digit())

@@ -1,12 +1,12 @@
 //! Sentences about habits from other languages, and about words at a place that is not theirs.
 
-use crate::sentence::keyword::keyword_advice;
-use crate::sentence::open::missing_sentence;
-use crate::sentence::wanted_mark::mark_sentence;
-use crate::sentence::wanted_name::name_sentence;
-use explain_lines::{Around, mark_of, name_of};
-use parse_cursor::Wanted;
-use sdl_advice::Advice;
+use crate::habit::SORT;
+use crate::keyword::keyword_advice;
+use crate::open::missing_sentence;
+use crate::wanted_mark::mark_sentence;
+use crate::wanted_name::name_sentence;
+use explain_lines::{Advice, Around, mark_of, name_of};
+use parse_cursor::{PlacedWord, Wanted, Word};
 use sdl_tree::Mark;
 use std::alloc::{AllocError, Global};
 
@@ -44,6 +44,8 @@ fn word_sentence(around: &Around<'_>) -> Option<&'static str> {
         Some(BARE_END)
     } else if around.has_unit() {
         Some(NUMBER)
+    } else if is_type(around) {
+        Some(SORT)
     } else {
         None
     }
@@ -52,6 +54,19 @@ fn word_sentence(around: &Around<'_>) -> Option<&'static str> {
 const BARE_END: &str =
     "`end` is a name. What ends has a keyword of its own: `endsystem`, `endblock`, `endprocess`, \
     `endstate`, `endchannel`, `endconnection` or `enddecision`.";
+
+/// Whether `value type` or `object type` is here, with which the standard defines sorts.
+fn is_type(around: &Around<'_>) -> bool {
+    let is_kind = matches!(name_of(around.at), Some("value" | "object"));
+    is_kind
+        && matches!(
+            around.after,
+            Some(PlacedWord {
+                word: Word::LeftOut("type", _),
+                ..
+            })
+        )
+}
 
 /// The sentence about letters that follow a number at once.
 const NUMBER: &str = "A number has decimal digits alone: no unit, no `_`, and no other base.";
@@ -163,6 +178,20 @@ fn expression_sentence(around: &Around<'_>) -> Option<&'static str> {
         (_, Some(Mark::Create)) => Some(
             "`create` is an action of its own: `create P;`. After it `offspring` is the Pid of the new instance.",
         ),
+        (_, Some(Mark::Plus)) => Some("No plus sign is before an operand: write `n` alone."),
+        (
+            _,
+            Some(
+                Mark::Mod
+                | Mark::Rem
+                | Mark::And
+                | Mark::Or
+                | Mark::Xor
+                | Mark::Asterisk
+                | Mark::Slash
+                | Mark::Implies,
+            ),
+        ) => Some("This operator stands between two operands: `n mod 5`, `a and b`."),
         (Some(Mark::Minus | Mark::Not), Some(Mark::Minus | Mark::Not)) => Some(
             "One sign alone can stand before an operand. Write parentheses: `-(-n)`, `not (not b)`.",
         ),

@@ -1,12 +1,11 @@
 //! Sentences about a text that is no specification.
 
-use crate::marked::about_marked;
-use crate::sentence::byte::byte_sentence;
-use crate::sentence::foreign::{COMMENT, foreign_advice};
-use crate::sentence::left_out::left_out_sentence;
-use explain_lines::{Around, Excerpt, mark_of};
+use crate::byte::byte_sentence;
+use crate::foreign::{COMMENT, foreign_advice};
+use crate::left_out::left_out_sentence;
+use crate::memory::NO_MEMORY;
+use explain_lines::{Advice, Around, Excerpt, about_marked, mark_of};
 use parse_cursor::Wanted;
-use sdl_advice::Advice;
 use sdl_lex::{LexError, Place};
 use sdl_parse::ParseError;
 use sdl_tree::Mark;
@@ -27,7 +26,7 @@ pub fn parse_advice(
         }
         ParseError::LeftOut(place, word) => { left_out_advice(alloc, text, *place, word.as_str()) }
         ParseError::TooDeep(_) => about_marked(alloc, shown, TOO_DEEP),
-        ParseError::Memory => Advice::alone(alloc, super::NO_MEMORY),
+        ParseError::Memory => Advice::alone(alloc, NO_MEMORY),
     }
 }
 
@@ -244,7 +243,7 @@ fn lex_sentence(error: LexError) -> &'static str {
         LexError::NameTooLong(_) => {
             "This word has more than 255 bytes. Choose a shorter one wherever it stands."
         }
-        LexError::Memory => super::NO_MEMORY,
+        LexError::Memory => NO_MEMORY,
     }
 }
 

@@ -1,7 +1,7 @@
 //! How much more there is than is shown.
 
 ghost use Rattle.std.specs.Prelude.{◌≡◌, ◌++◌, OnOk};
-ghost use Rattle.sdl_explain.specs.More.{amount, more_text};
+ghost use Rattle.explain_lines.specs.More.{amount, more_text};
 
 use crate::origin::Origin;
 use std::alloc::{AllocError, Global};

@@ -1,9 +1,9 @@
 //! Where a part of the input comes from.
 
 ghost use Rattle.std.specs.Prelude.{◌≡◌, ◌++◌, OnOk};
-ghost use Rattle.sdl_explain.specs.Origin.{line_number, location, numbered, place_text};
+ghost use Rattle.explain_lines.specs.Origin.{line_number, location, numbered, place_text};
 
-use explain_lines::Excerpt;
+use crate::excerpt::Excerpt;
 use std::alloc::{AllocError, Global};
 
 /// The file in which a specification or a script is, for messages from which editors jump to a place.

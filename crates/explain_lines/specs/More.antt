@@ -1,7 +1,7 @@
 -- How much more there is than is shown.
 use Rattle.std.specs.Prelude.{ℕ, ◌==◌, Bool, List, [], ◌++◌, codes, if◌then◌else◌}
 use Rattle.std.specs.Fmt.{decimal}
-use Rattle.sdl_explain.specs.declared.origin.Origin.{Origin}
+use Rattle.explain_lines.specs.declared.origin.Origin.{Origin}
 
 -- a number, and what is so many
 abbrev pub amount : ℕ → List ℕ

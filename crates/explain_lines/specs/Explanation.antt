@@ -1,12 +1,12 @@
 -- The text of an explanation.
 use Rattle.std.specs.Prelude.{ℕ, List, [], ◌∷◌, ◌++◌, Option, None, Some}
 use Rattle.std.specs.String.{string_bytes}
-use Rattle.sdl_explain.specs.Origin.{line_number, location}
+use Rattle.explain_lines.specs.Origin.{line_number, location}
 use Rattle.explain_lines.specs.Rows.{rows}
 use Rattle.explain_lines.specs.declared.excerpt.Excerpt.{Excerpt}
-use Rattle.sdl_explain.specs.declared.explanation.Explanation.{Explanation}
-use Rattle.sdl_explain.specs.declared.explanation.Other.{Other}
-use Rattle.sdl_explain.specs.declared.origin.Origin.{Origin}
+use Rattle.explain_lines.specs.declared.explanation.Explanation.{Explanation}
+use Rattle.explain_lines.specs.declared.explanation.Other.{Other}
+use Rattle.explain_lines.specs.declared.origin.Origin.{Origin}
 
 -- the rows of an excerpt, with the number that its line has in the file
 abbrev pub shown_rows : Origin → Option Excerpt → List ℕ

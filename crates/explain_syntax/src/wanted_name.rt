@@ -43,6 +43,12 @@ fn action_name_sentence(around: &Around<'_>) -> Option<&'static str> {
         (Some(Mark::Output), Some(Mark::Comma), Some(Mark::To)) => {
             Some("No comma is before `to`: `output a to P;`.")
         }
+        (Some(Mark::Output), Some(Mark::Output), Some(Mark::To)) => Some(
+            "The signal comes first, and who gets it follows: `output a to p;`.",
+        ),
+        (Some(Mark::NextState), Some(Mark::NextState), Some(Mark::Stop | Mark::Join)) => Some(
+            "`stop;` and `join NAME;` end a transition without a `nextstate` before them.",
+        ),
         (Some(Mark::Output | Mark::Create), _, Some(Mark::Open)) => Some(
             "A name comes first, and its values follow in parentheses: `output a(1);`, `create P(1);`.",
         ),
@@ -90,6 +96,9 @@ fn any_name_sentence(around: &Around<'_>) -> Option<&'static str> {
         _ if is_number(around.at) => Some("A name begins with a letter, and not with a digit."),
         (None, Some(Mark::Minus)) => Some(
             "A name has letters, digits and `_`, and no `-`. A sort follows the names: `dcl n Integer;`.",
+        ),
+        (Some(_), Some(Mark::Open)) => Some(
+            "A name has to stand here, and no parenthesis opens before it.",
         ),
         (None, Some(Mark::Colon)) => Some(
             "The sort follows the names without a colon: `dcl n Integer;`.",

@@ -10,7 +10,7 @@ pub fn habit_sentence(word: &str) -> Option<&'static str> {
     None
 }
 
-const LOOP: &str =
+pub const LOOP: &str =
     "There are no loops. A `join` goes back to a label before an action: `again: task n := n + 1; decision n < 3; \
      (true): join again; else: enddecision;`.";
 
@@ -40,7 +40,7 @@ const BREAK: &str =
 
 const END: &str = "`stop;` ends the instance.";
 
-const CHOICE: &str =
+pub const CHOICE: &str =
     "A `decision` chooses: `decision n; (1): stop; (2:5): nextstate s; else: nextstate -; enddecision;`.";
 
 const ANSWER: &str =
@@ -63,7 +63,7 @@ const PACKAGE: &str =
 const PROCESS: &str =
     "A process says what its instances do: `process P; start; stop; endprocess;`.";
 
-const SORT: &str =
+pub const SORT: &str =
     "No sorts can be defined. There are Integer, Natural, Boolean, Pid, Time and Duration; write a variable for each \
      field.";
 
@@ -79,11 +79,14 @@ const SIGNAL: &str = "`signal a, b(Integer);` defines signals.";
 
 const START: &str = "A process begins with its start: `start; nextstate s;`.";
 
+const EQUAL: &str =
+    "`=` asks whether two values are equal, and `/=` whether they differ: `decision n = 0;`.";
+
 const NOTHING: &str =
     "Nothing stands for doing nothing: write the terminator alone, as in `nextstate -;`.";
 
 /// Words of other languages, in lower case, and what is written for them.
-static HABITS: [(&str, &str); 100] = [
+static HABITS: [(&str, &str); 104] = [
     ("while", LOOP),
     ("for", LOOP),
     ("foreach", LOOP),
@@ -179,6 +182,10 @@ static HABITS: [(&str, &str); 100] = [
     ("message", SIGNAL),
     ("init", START),
     ("initial", START),
+    ("is", EQUAL),
+    ("equals", EQUAL),
+    ("eq", EQUAL),
+    ("ne", EQUAL),
     ("skip", NOTHING),
     ("pass", NOTHING),
     (

@@ -1,9 +1,10 @@
 //! The keyword that is meant by a word that is none.
 
-use crate::sentence::habit::habit_sentence;
-use explain_lines::{Around, mark_of, name_of};
+use crate::habit::habit_sentence;
+use crate::misplaced::continues_list;
+use crate::wanted_mark::is_end_of_path;
+use explain_lines::{Advice, Around, Nearest, lowered, mark_of, name_of};
 use parse_cursor::Wanted;
-use sdl_advice::{Advice, Nearest, lowered};
 use sdl_tree::{Mark, keyword_of};
 use std::alloc::{AllocError, Global};
 
@@ -23,7 +24,7 @@ pub fn keyword_advice(
     }
     match habit_sentence(lower) {
         Some(sentence) => Ok(Some(Advice::alone(alloc, sentence)?)),
-        None => near_advice(alloc, name, lower),
+        None => near_advice(alloc, around, name, lower),
     }
 }
 
@@ -33,6 +34,7 @@ fn misplaced_name<'t>(around: &Around<'t>, wanted: &Wanted) -> Option<&'t str> {
     match wanted {
         // A variable, whose `task` is missing.
         Wanted::Mark(Mark::Colon) if mark_of(around.at) == Some(Mark::Assign) => None,
+        Wanted::Mark(Mark::From | Mark::EndChannel) if is_end_of_path(around) => None,
         Wanted::Mark(Mark::Colon) => name_of(around.before).or(name_of(around.at)),
         Wanted::Mark(Mark::Semicolon) if !around.goes_on() => None,
         Wanted::Mark(Mark::Semicolon | Mark::Close) if is_sort(name_of(around.at)) => None,
@@ -60,17 +62,28 @@ fn mixed_advice(alloc: Global, name: &str, lower: &str) -> Result<Advice, AllocE
 }
 
 /// About a word to which a keyword is near.
-fn near_advice(alloc: Global, name: &str, lower: &str) -> Result<Option<Advice>, AllocError> {
+fn near_advice(
+    alloc: Global,
+    around: &Around<'_>,
+    name: &str,
+    lower: &str,
+) -> Result<Option<Advice>, AllocError> {
     let mut nearest = Nearest::to(lower);
     for keyword in &KEYWORDS {
         nearest.try_name(alloc, *keyword)?;
     }
     match nearest.found {
-        Some(near) if !is_sort(Some(name)) => Ok(Some(Advice {
+        Some(near) if !is_sort(Some(name)) && !is_of_list(around, near) => Ok(Some(Advice {
             text: format!(in alloc; "`{name}` is no keyword. Is `{near}` meant?")?,
         })),
         _ => Ok(None),
     }
+}
+
+/// Whether a name belongs to the list before it, though a keyword is near to it: that isn't one that stands alone.
+fn is_of_list(around: &Around<'_>, near: &str) -> bool {
+    let stands_alone = near.starts_with("end") || near == "start" || near == "stop";
+    continues_list(around) && !stands_alone
 }
 
 /// The keywords with three letters and more. Of two that are equally near, the first is told.

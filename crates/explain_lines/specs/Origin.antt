@@ -2,7 +2,7 @@
 use Rattle.std.specs.Prelude.{ℕ, ◌+◌, ◌-◌, ◌^◌, min, List, [], ◌++◌, Option, None, Some, codes}
 use Rattle.std.specs.Fmt.{decimal}
 use Rattle.explain_lines.specs.declared.excerpt.Excerpt.{Excerpt}
-use Rattle.sdl_explain.specs.declared.origin.Origin.{Origin}
+use Rattle.explain_lines.specs.declared.origin.Origin.{Origin}
 
 -- the number of the line in the file
 abbrev pub line_number : Origin → Excerpt → ℕ

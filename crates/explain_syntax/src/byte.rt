@@ -1,5 +1,7 @@
 //! Sentences about bytes with which no word, number or mark begins, most of which come from other languages.
 
+use crate::habit::{CHOICE, LOOP, SORT};
+
 /// Gives the sentence about bytes, the first of which begins nothing, after these in its line.
 pub fn byte_sentence(before: &[u8], bytes: &[u8]) -> &'static str {
     match bytes {
@@ -10,10 +12,8 @@ pub fn byte_sentence(before: &[u8], bytes: &[u8]) -> &'static str {
         [b'"', ..] => {
             "A character string is written `'..'`, and can follow `comment` alone: no sort has it as a value."
         }
-        [b'{' | b'}', ..] => {
-            "There are no braces. What opens with a keyword such as `process` or `state` closes with `endprocess` or \
-             `endstate`, and a task has commas: `task n := 1, m := 2;`."
-        }
+        [b'{', ..] => brace_sentence(before),
+        [b'}', ..] => NO_BRACES,
         [b'[' | b']', ..] => {
             "There are no brackets and no arrays. Numbers of instances and values are in parentheses, as in `process \
              P(2);`, a condition follows `provided`, and each place of an array has a variable of its own."
@@ -22,7 +22,10 @@ pub fn byte_sentence(before: &[u8], bytes: &[u8]) -> &'static str {
             "The number of an instance is for scripts alone. Name a process after `to`, or a Pid: `sender`, \
              `offspring`, `parent`, or a variable of the sort Pid."
         }
-        [b'#', ..] => "A comment is written `/* .. */` here. `#` begins one in a script alone.",
+        [b'#', ..] => {
+            "A comment is written `/* .. */` here. `#` begins one in a script alone, which follows a line that is \
+             `%script`."
+        }
         [b'%', ..] => percent_sentence(bytes),
         [b'_', ..] if ends_with_word(before) => {
             "A number has decimal digits alone: no unit, no `_`, and no other base."
@@ -39,6 +42,25 @@ pub fn byte_sentence(before: &[u8], bytes: &[u8]) -> &'static str {
         }
     }
 }
+
+/// Gives the sentence about a brace that opens, after these bytes in its line.
+fn brace_sentence(before: &[u8]) -> &'static str {
+    let line = before.trim_ascii_start();
+    let len = line
+        .iter()
+        .take_while(|byte| byte.is_ascii_alphabetic())
+        .count();
+    match line.get(..len).unwrap_or(&[]) {
+        b"if" | b"switch" | b"case" | b"match" => CHOICE,
+        b"while" | b"for" | b"loop" | b"do" | b"repeat" => LOOP,
+        b"struct" | b"enum" | b"record" | b"typedef" => SORT,
+        _ => NO_BRACES,
+    }
+}
+
+const NO_BRACES: &str =
+    "There are no braces. What opens with a keyword such as `process` or `state` closes with `endprocess` or \
+     `endstate`, and a task has commas: `task n := 1, m := 2;`.";
 
 /// Gives the sentence about an exclamation mark.
 fn exclamation_sentence(before: &[u8], bytes: &[u8]) -> &'static str {
@@ -100,12 +122,14 @@ fn ends_with_word(before: &[u8]) -> bool {
 
 /// Gives the sentence about a percent sign, which begins the line before a script.
 fn percent_sentence(bytes: &[u8]) -> &'static str {
-    let begins_script = match bytes.get(..7) {
-        Some(word) => word.eq_ignore_ascii_case(b"%script"),
+    let word = bytes.get(1..).unwrap_or(&[]).trim_ascii_start();
+    let begins_script = match word.get(..6) {
+        Some(word) => word.eq_ignore_ascii_case(b"script"),
         None => false,
     };
     if begins_script {
-        "A script follows a line that is `%script` and nothing else: in lower case, with no blank before or after it."
+        "A script follows a line that is `%script` and nothing else: in lower case, with no blank in it, before \
+         it or after it."
     } else {
         "The remainder of a division is `mod` or `rem`, and not `%`."
     }

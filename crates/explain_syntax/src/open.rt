@@ -11,6 +11,9 @@ pub fn missing_sentence(around: &Around<'_>, end: Mark) -> Option<&'static str> 
     }
     match end {
         Mark::EndSystem => Some("`endsystem` is missing at the end of the text."),
+        Mark::EndBlock if mark_of(around.at) == Some(Mark::Block) => Some(
+            "`endblock` is missing: a block is still open here, and a block has no blocks in it.",
+        ),
         Mark::EndBlock => Some("`endblock` is missing: a block is still open here."),
         Mark::EndProcess => Some("`endprocess` is missing: a process is still open here."),
         Mark::EndChannel => Some("`endchannel` is missing: a channel is still open here."),
@@ -45,7 +48,8 @@ fn is_missing(around: &Around<'_>, end: Mark) -> bool {
         return true;
     }
     match (end, mark_of(around.at)) {
-        (Mark::Close, Some(Mark::Semicolon | Mark::Assign)) => true,
+        (Mark::Close, Some(Mark::Assign)) => around.leading != Some(Mark::Set),
+        (Mark::Close, Some(Mark::Semicolon)) => true,
         (Mark::EndChannel, Some(Mark::Signal | Mark::SignalList | Mark::Synonym)) => true,
         (Mark::EndDecision, Some(Mark::Open)) => true,
         (_, Some(mark)) => is_outside(mark, end),
