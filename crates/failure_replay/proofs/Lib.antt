@@ -1,0 +1,12 @@
+pub mod BeginLemmas
+pub mod CameLemmas
+pub mod CauseLemmas
+pub mod ConditionLemmas
+pub mod CreateLemmas
+pub mod EndingLemmas
+pub mod FollowLemmas
+pub mod GoneLemmas
+pub mod GotLemmas
+pub mod PartLemmas
+pub mod ReceivedLemmas
+pub mod ToldLemmas

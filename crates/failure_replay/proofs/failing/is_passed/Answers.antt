@@ -1,0 +1,1 @@
+-- It is no end.
