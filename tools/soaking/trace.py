@@ -19,6 +19,10 @@ CUT_NOTE = re.compile(
     rb"(; the clock never moved; --limit shows less| at time [1-9]\d*; --limit shows less, or more)\n"
 )
 WARNING = re.compile(rb"<stdin>:\d+:\d+: warning \w+: [^\n]+\n\d+ \| [^\n]*\n[ \t]*\^+\n|<stdin>: \d+ more, not shown\n")
+FAILURE = re.compile(
+    rb"<stdin>(:\d+:\d+)?: Instance #\d+ \w+ failed at time \d+: [^\n]+\n(\d+ \| [^\n]*\n[ \t]*\^+\n)?"
+    rb"|sdlrun: \d+ more instances? failed\n"
+)
 EXPLANATION = re.compile(rb"[^\n:]+(:\d+:\d+)?: [^\n]+\n(?:[^\n]*\n)*")
 
 
@@ -55,10 +59,10 @@ class Trace:
 
 def is_note(status, said):
     """Whether standard error says what it has to, and nothing else: what cut a run, or why a text is refused. Of a text
-    that is accepted, whatever came of the run, there may be warnings, too."""
+    that is accepted, whatever came of the run, there may be warnings and failures of instances, too."""
     wanted = {1: CUT_NOTE, 2: EXPLANATION}.get(status)
     if status != 2:
-        said = WARNING.sub(b"", said)
+        said = FAILURE.sub(b"", WARNING.sub(b"", said))
     return wanted.fullmatch(said) is not None if wanted else not said
 
 

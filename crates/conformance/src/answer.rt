@@ -31,7 +31,8 @@ pub fn answer_of<T: Threads + Wait + Copy + Send + Sync>(
     Answer { status, output }
 }
 
-/// What the engine notes of an input for a human: why it is refused, or what is suspicious in it.
+/// What the engine notes of an input for a human: why it is refused, or which instances of its run failed, and what is
+/// suspicious in it.
 pub fn notes_of<T: Threads + Wait + Copy + Send + Sync>(
     rt: &T,
     alloc: Global,
@@ -40,6 +41,7 @@ pub fn notes_of<T: Threads + Wait + Copy + Send + Sync>(
 ) -> Result<Vec<u8>, AllocError> {
     let mut notes = silent_notes(alloc);
     notes.explains = true;
+    notes.failures = true;
     let answer = noted_answer(rt, alloc, input, &mut notes, options);
     let Notes {
         mut writer,
@@ -65,7 +67,7 @@ pub fn silent_notes(alloc: Global) -> Notes<'static, Vec<u8>> {
             script: Names::STANDARD_INPUT,
         },
         explains: false,
-        strict: false,
+        failures: false,
         failed: false,
         stuck: None,
         keeps: false,

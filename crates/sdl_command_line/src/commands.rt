@@ -112,7 +112,7 @@ fn run<'a>(alloc: Global) -> Result<Command<'a>, AllocError> {
         .arg(strict(alloc))?
         .arg(quiet(
             alloc,
-            "Explains no refusal of the text, whose line on standard output says it alone, and shows no warning",
+            "Explains no refusal, whose line on standard output says it alone, and shows no warning and no failure",
         ))?
         .arg(deny_warnings(alloc))?
         .arg(explain(alloc))
@@ -263,7 +263,7 @@ fn quiet<'a>(alloc: Global, help: &'a str) -> Arg<'a> {
 fn strict<'a>(alloc: Global) -> Arg<'a> {
     Arg::new(alloc, "strict")
         .long("strict")
-        .help("Ends with status 6 if an instance failed, and tells each failure on standard error")
+        .help("Ends with status 6 if an instance failed")
         .action(ArgAction::SetTrue)
 }
 

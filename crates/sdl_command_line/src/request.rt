@@ -1,5 +1,6 @@
 //! What the command line asks for.
 
+use crate::misuse::mistake_text;
 use crate::overwriting::{Overwriting, overwritten_by};
 use crate::task::{Task, chosen};
 use clap::Error;
@@ -33,7 +34,7 @@ pub fn read_command_line<R: Env + AllocGlobal + Print + Eprint + Files>(rt: &R) 
     };
     match chosen(rt.alloc(), words.as_slice()) {
         Ok(task) => request_of(rt, task),
-        Err(error) => told(rt, &error),
+        Err(error) => told(rt, &error, words.as_slice()),
     }
 }
 
@@ -53,14 +54,28 @@ fn request_of<R: Eprint + Files>(rt: &R, task: Task) -> Request {
     Request::Read(task)
 }
 
-/// Prints what clap has to say.
-fn told<R: Print + Eprint>(rt: &R, error: &Error) -> Request {
+/// Prints what clap has to say of these words: help, or a mistake.
+fn told<R: AllocGlobal + Print + Eprint>(rt: &R, error: &Error, words: &[String]) -> Request {
     if error.kind() == ErrorKind::OutOfMemory {
         return Request::Fault(TextFault::Memory);
     }
+    if error.use_stderr() {
+        return match mistake_text(rt.alloc(), error, words) {
+            Ok(text) => misused(rt, text.as_str()),
+            Err(_) => Request::Fault(TextFault::Memory),
+        };
+    }
     match error.print(rt) {
-        Ok(()) if error.use_stderr() => Request::Misused,
         Ok(()) => Request::Answered,
+        Err(fault) if fault.kind() == io::ErrorKind::BrokenPipe => Request::PipeClosed,
+        Err(_) => Request::Fault(TextFault::Write),
+    }
+}
+
+/// Prints what is wrong.
+fn misused<R: Eprint>(rt: &R, text: &str) -> Request {
+    match eprint!(rt; "{text}") {
+        Ok(()) => Request::Misused,
         Err(fault) if fault.kind() == io::ErrorKind::BrokenPipe => Request::PipeClosed,
         Err(_) => Request::Fault(TextFault::Write),
     }

@@ -18,6 +18,8 @@ pub struct Task {
     pub explain: bool,
     /// Whether nothing is written of a text that is accepted.
     pub quiet: bool,
+    /// Whether failures of instances are told on standard error.
+    pub failures: bool,
     /// Whether a failure of an instance counts as one of the program.
     pub strict: bool,
     /// Whether what is suspicious in the specification counts as a mistake.
@@ -101,6 +103,7 @@ fn told_mistake(alloc: Global, mistake: Mistake) -> Result<Error, AllocError> {
 fn met_task(alloc: Global, matches: &ArgMatches<'_>) -> Result<Task, Mistake> {
     if let Some(run) = matches.subcommand_matches("run") {
         let mut task = task_of(alloc, run_options(run), run)?;
+        task.failures = !run.get_flag("quiet");
         task.strict = run.get_flag("strict");
         task.chart = chart_file(alloc, run)?;
         task.coverage = coverage_file(alloc, run)?;
@@ -118,6 +121,7 @@ fn met_task(alloc: Global, matches: &ArgMatches<'_>) -> Result<Task, Mistake> {
             options: CHECK,
             explain: false,
             quiet: false,
+            failures: false,
             strict: false,
             denies_warnings: false,
             text: InputFile::StandardInput,
@@ -181,6 +185,7 @@ fn task_of(alloc: Global, options: Options, named: &ArgMatches<'_>) -> Result<Ta
         options,
         explain: named.get_flag("explain") || !named.get_flag("quiet"),
         quiet: false,
+        failures: false,
         strict: false,
         denies_warnings: named.get_flag("deny-warnings"),
         text,

@@ -1,5 +1,6 @@
 -- What is kept of a run for those who draw it, or tell what it covered.
 use Rattle.std.specs.Prelude.{◌≡◌, ◌⊎◌, ℕ, Bool, true, false, List, Option, None, Some}
+use Rattle.failure_replay.specs.Ending.{has_failed}
 use Rattle.sdl_input.specs.Input.{IsRead}
 use Rattle.sdl_input.specs.declared.input.Input.{Input}
 use Rattle.sdl_input.specs.declared.input.Input.TheVariants.{Held, TooLong}
@@ -20,10 +21,14 @@ pub record IsToldRun (input : Input) (options : Options) (how : Outcome) (run : 
   pub came : how ≡ outcome_by run.report.whole
   pub tells : TellsRun options.view run.system run.report run.script.lines.items stuck old new
 
+-- No run was told: it was a check, or something was refused.
+abbrev pub TellsNoRun : Options → Outcome → Type 0
+TellsNoRun options how =
+    (options.command ≡ command.Check) ⊎ (how ≡ outcome.TextRefused) ⊎ (how ≡ outcome.RunRefused)
+
 -- There is no run to keep: none is to be kept, or none was told.
 abbrev pub HasNone : Bool → Options → Outcome → Type 0
-HasNone keeps options how = (keeps ≡ false) ⊎ (options.command ≡ command.Check) ⊎ (how ≡ outcome.TextRefused)
-    ⊎ (how ≡ outcome.RunRefused)
+HasNone keeps options how = (keeps ≡ false) ⊎ TellsNoRun options how
 
 -- The run that is kept is the one that was told.
 abbrev pub KeepsRun : Bool → Input → Options → Outcome → Option Run → Option ℕ → Option (List ℕ) → Option (List ℕ)
@@ -47,3 +52,26 @@ pub record IsKept (keeps : Bool) (text : Option (List ℕ)) (script : Option (Op
   pub read : IsRead text script input
   pub keeps_run : KeepsRun keeps input options how run stuck old new
   pub keeps_texts : texts ≡ texts_with run input
+
+-- no failure is told: none is to be told, or none came
+abbrev pub TellsNone : Bool → Bool → Type 0
+TellsNone tells failed = tells ≡ true → failed ≡ false
+
+-- this is whether an instance of the run that was told failed, by its records
+pub record FailsAsTold (input : Input) (options : Options) (how : Outcome) (stuck : Option ℕ) (failed : Bool)
+    (old new : Option (List ℕ)) : Type 0 where
+  pub run : Run
+  pub told : IsToldRun input options how run stuck old new
+  pub is : failed ≡ has_failed run.report.records.items
+
+-- the same of any command: where no run was told, none failed
+abbrev pub SaysFailed : Input → Options → Outcome → Option ℕ → Bool → Option (List ℕ) → Option (List ℕ) → Type 0
+SaysFailed input options how stuck failed old new =
+    (TellsNoRun options how × (failed ≡ false)) ⊎ FailsAsTold input options how stuck failed old new
+
+-- The whole input was read, and this is whether an instance of the run of it that was told failed.
+pub record KnowsFailed (text : Option (List ℕ)) (script : Option (Option (List ℕ))) (options : Options) (how : Outcome)
+    (stuck : Option ℕ) (failed : Bool) (old new : Option (List ℕ)) : Type 0 where
+  pub input : Input
+  pub read : IsRead text script input
+  pub says : SaysFailed input options how stuck failed old new

@@ -1,6 +1,6 @@
 //! What is written of a text: its run, a canonical text, or the line of a refusal.
 
-ghost use Rattle.std.specs.Prelude.{◌≡◌, ◌≢◌, IfOk, IfErr, OnOk, false};
+ghost use Rattle.std.specs.Prelude.{◌≡◌, ◌≢◌, IfOk, IfErr, OnOk};
 ghost use Rattle.std.specs.Io.KnownBytes.{Appends, Keeps};
 ghost use Rattle.sdl_engine.specs.Answer.{BreaksOff, FailsToTell, FailsToTellRun, TellsRun, outcome_by, outcome_of};
 ghost use Rattle.sdl_engine.specs.RefusalText.{refusal_line};
@@ -29,7 +29,7 @@ pub fn report<W: Write, N: Write>(
         notes.new.stuck (W.contents writer.old) (W.contents writer.new)) }
     ensures err { IfErr result (λ fault. FailsToTellRun fault options.now.view run.now.system run.now.report
         run.now.script.lines.items (W.contents writer.old) (W.contents writer.new)) }
-    ensures quiet { result ≢ Ok Outcome.Cut → notes.old.strict ≡ false → options.now.view ≡ View.Trace →
+    ensures quiet { result ≢ Ok Outcome.Cut → options.now.view ≡ View.Trace →
         Keeps (N.contents notes.old.writer) (N.contents notes.new.writer) }
 {
     let stuck = write_view(alloc, run, options.view, writer)?;
@@ -54,7 +54,7 @@ pub fn report_by_workers<T: Threads + Sync, W: Write, N: Write>(
         notes.new.stuck (W.contents writer.old) (W.contents writer.new)) }
     ensures err { IfErr result (λ fault. FailsToTellRun fault options.now.view run.now.system run.now.report
         run.now.script.lines.items (W.contents writer.old) (W.contents writer.new)) }
-    ensures quiet { result ≢ Ok Outcome.Cut → notes.old.strict ≡ false → options.now.view ≡ View.Trace →
+    ensures quiet { result ≢ Ok Outcome.Cut → options.now.view ≡ View.Trace →
         Keeps (N.contents notes.old.writer) (N.contents notes.new.writer) }
 {
     let stuck = write_view_by_workers(rt, alloc, workers, run, options.view, writer)?;

@@ -1,9 +1,12 @@
-//! The explanation of a refusal, for a human.
+//! The explanation of a refusal, and the failures of a run, for a human.
 
 use crate::notes::Names;
 use crate::pipeline::check_input;
 use crate::refusal::Refusal;
-use sdl_explain::{Origin, explain_parse, faults_text, lines_text};
+use crate::run::Run;
+use explain_lines::Origin;
+use sdl_explain::{explain_parse, faults_text, lines_text};
+use sdl_failures::{Told, failures_text};
 use sdl_input::{Input, Texts};
 use std::alloc::{AllocError, Global};
 
@@ -43,6 +46,24 @@ fn explained(
         }
         Refusal::Run(_) => Ok(Vec::new(alloc)),
     }
+}
+
+/// The text that tells the failures of a run of an input, empty if none came.
+pub fn failures_of(
+    alloc: Global,
+    input: &Input,
+    run: &Run,
+    names: &Names<'_>,
+) -> Result<Vec<u8>, AllocError> {
+    let (specification, _) = parts_of(input);
+    let told = Told {
+        text: specification,
+        name: names.text,
+        tree: &run.tree,
+        system: &run.system,
+        report: &run.report,
+    };
+    failures_text(alloc, &told)
 }
 
 /// The specification and the script of an input; nothing of one that is too long.

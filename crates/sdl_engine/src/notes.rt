@@ -3,12 +3,14 @@
 
 ghost use Rattle.std.specs.Prelude.{◌≡◌, ◌≢◌, None, Some, false, true};
 ghost use Rattle.std.specs.Io.KnownBytes.{Keeps};
-ghost use Rattle.sdl_engine.specs.Kept.{texts_with};
+ghost use Rattle.failure_replay.specs.Ending.{has_failed};
+ghost use Rattle.sdl_engine.specs.Kept.{TellsNone, texts_with};
 
-use crate::explained::explanation_of;
+use crate::explained::{explanation_of, failures_of};
 use crate::options::{Outcome, TextFault};
 use crate::run::Run;
-use run_record::{Entry, Failure, Record, Report};
+use failure_replay::has_failed;
+use run_record::{Entry, Report};
 use sdl_input::{Input, Texts};
 use sdl_report::write_text;
 use std::alloc::{AllocError, Global};
@@ -36,9 +38,9 @@ pub struct Notes<'n, N> {
     pub names: Names<'n>,
     /// Whether a refusal of the text is explained.
     pub explains: bool,
-    /// Whether each failure of an instance is told.
-    pub strict: bool,
-    /// Whether an instance failed, as far as failures are told.
+    /// Whether failures of instances are told.
+    pub failures: bool,
+    /// Whether an instance of the run failed.
     pub failed: bool,
     /// The instance that can't go on in the order of the run, if that is told and isn't known to its end.
     pub stuck: Option<u32>,
@@ -59,7 +61,7 @@ pub fn silent_notes() -> Notes<'static, Empty> {
             script: Names::STANDARD_INPUT,
         },
         explains: false,
-        strict: false,
+        failures: false,
         failed: false,
         stuck: None,
         keeps: false,
@@ -92,8 +94,7 @@ pub fn note_refusal<N: Write>(
     }
 }
 
-/// Tells each failure of an instance, if that is asked for, what cut a run that came to this, and from which instance on
-/// its order isn't known.
+/// Tells what cut a run that came to this, and from which instance on its order isn't known.
 pub fn note_run<N: Write>(
     alloc: Global,
     run: &Run,
@@ -101,19 +102,41 @@ pub fn note_run<N: Write>(
     stuck: Option<u32>,
     notes: &mut Notes<'_, N>,
 )
-    ensures quiet { outcome ≢ Outcome.Cut → notes.old.strict ≡ false → stuck ≡ None →
+    ensures quiet { outcome ≢ Outcome.Cut → stuck ≡ None →
         Keeps (N.contents notes.old.writer) (N.contents notes.new.writer) }
     ensures order { notes.new.stuck ≡ stuck }
 {
-    note_failures(alloc, run, notes);
     note_cut(alloc, run, outcome, notes);
     note_stuck(alloc, stuck, notes);
+}
+
+/// Notes whether an instance of a run failed, and tells the failures, if that is asked for.
+pub fn note_failures<N: Write>(
+    alloc: Global,
+    input: &Input,
+    run: &Run,
+    tells: bool,
+    notes: &mut Notes<'_, N>,
+)
+    ensures failed { notes.new.failed ≡ has_failed run.now.report.records.items }
+    ensures quiet { TellsNone tells notes.new.failed →
+        Keeps (N.contents notes.old.writer) (N.contents notes.new.writer) }
+    ensures rest { notes.new ≡ record notes.old { writer = notes.new.writer; failed = notes.new.failed } }
+{
+    notes.failed = has_failed(&run.report.records);
+    if !notes.failed || !tells {
+        return;
+    }
+    if let Ok(text) = failures_of(alloc, input, run, &notes.names) {
+        let _ = write_text(&mut notes.writer, &text);
+    }
 }
 
 /// Keeps a run for those who draw it, or tell what it covered, if that is asked for.
 pub fn keep_run<N: Write>(run: Run, keeps: bool, notes: &mut Notes<'_, N>)
     ensures kept { keeps ≡ true → notes.new ≡ record notes.old { run = Some run } }
     ensures asked { keeps ≡ false → notes.new ≡ record notes.old { run = None } }
+    ensures rest { notes.new ≡ record notes.old { run = notes.new.run } }
     ensures quiet { Keeps (N.contents notes.old.writer) (N.contents notes.new.writer) }
 {
     notes.run = if keeps { Some(run) } else { None };
@@ -154,16 +177,6 @@ fn note_cut<N: Write>(alloc: Global, run: &Run, outcome: Outcome, notes: &mut No
     if let Ok(text) = cut_text(alloc, &run.report) {
         let _ = write_text(&mut notes.writer, text.as_str().as_bytes());
     }
-}
-
-/// Tells each failure of an instance, if that is asked for.
-fn note_failures<N: Write>(alloc: Global, run: &Run, notes: &mut Notes<'_, N>)
-    ensures { notes.old.strict ≡ false → Keeps (N.contents notes.old.writer) (N.contents notes.new.writer) }
-{
-    if !notes.strict {
-        return;
-    }
-    note_each(alloc, run, notes);
 }
 
 /// What is said of a run that was cut at its limit.
@@ -213,38 +226,4 @@ fn is_transition(entry: Entry) -> bool {
 /// What is said of an order that isn't known from this instance on.
 fn stuck_text(alloc: Global, number: u32) -> Result<String, AllocError> {
     format!(in alloc; "sdlrun: the order isn't known from instance #{number} on\n")
-}
-
-/// Tells each failure of an instance.
-fn note_each<N: Write>(alloc: Global, run: &Run, notes: &mut Notes<'_, N>) {
-    for record in &run.report.records {
-        if let Some(failure) = failure_of(record) {
-            notes.failed = true;
-            if let Ok(text) = failure_text(alloc, run, record, failure) {
-                let _ = write_text(&mut notes.writer, text.as_str().as_bytes());
-            }
-        }
-    }
-}
-
-/// Why an instance failed, if it did: that is the last of its events.
-fn failure_of(record: &Record) -> Option<Failure> {
-    match record.last()?.entry {
-        Entry::FailedAt { why, .. } | Entry::Failed { why } => Some(why),
-        _ => None,
-    }
-}
-
-fn failure_text(
-    alloc: Global,
-    run: &Run,
-    record: &Record,
-    failure: Failure,
-) -> Result<String, AllocError> {
-    let number = record.pid();
-    let name = match run.system.process(record.process()) {
-        Some(process) => process.name.as_str(),
-        None => "",
-    };
-    format!(in alloc; "sdlrun: instance #{number} {name} failed: {failure}\n")
 }

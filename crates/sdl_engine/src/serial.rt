@@ -1,12 +1,13 @@
 //! The program without threads: a check, or a run on the thread that calls it. No call here waits, so each returns.
 
-ghost use Rattle.std.specs.Prelude.{◌≡◌, ◌≢◌, IfOk, IfErr, None, false, option_map};
+ghost use Rattle.std.specs.Prelude.{◌≡◌, ◌≢◌, IfOk, IfErr, IfSome, None, false, option_map};
 ghost use Rattle.std.specs.Io.KnownBytes.{Keeps};
+ghost use Rattle.failure_replay.specs.Ending.{has_failed};
 ghost use Rattle.sdl_engine.specs.Answer.{Faulted, Fails, IsSerial, Tells, TellsNoOrder, Written};
-ghost use Rattle.sdl_engine.specs.Kept.{IsKept, KeepsRun};
+ghost use Rattle.sdl_engine.specs.Kept.{IsKept, KeepsRun, KnowsFailed, SaysFailed, TellsNone};
 
 use crate::answer::{canonical, refuse, report};
-use crate::notes::{Notes, keep_run, keep_texts, note_refusal, silent_notes};
+use crate::notes::{Notes, keep_run, keep_texts, note_failures, note_refusal, silent_notes};
 use crate::options::{Command, Options, Outcome, TextFault};
 use crate::pipeline::{check_input, run_input};
 use crate::reading::{read_input, read_source};
@@ -49,17 +50,24 @@ pub fn run_and_note_serially<R: Read, S: Read, W: Write, N: Write, L: Listener>(
         options.now how (W.contents writer.old) (W.contents writer.new)) }
     ensures err { IfErr result (λ fault. Faulted fault (R.remaining source.old.text)
         (option_map S.remaining source.old.script) options.now (W.contents writer.old) (W.contents writer.new)) }
-    ensures quiet { result ≢ Ok Outcome.TextRefused → result ≢ Ok Outcome.Cut → notes.old.strict ≡ false →
-        TellsNoOrder options.now → Keeps (N.contents notes.old.writer) (N.contents notes.new.writer) }
-    ensures silent { notes.old.explains ≡ false → result ≢ Ok Outcome.Cut → notes.old.strict ≡ false →
-        TellsNoOrder options.now → Keeps (N.contents notes.old.writer) (N.contents notes.new.writer) }
+    ensures quiet { result ≢ Ok Outcome.TextRefused → result ≢ Ok Outcome.Cut →
+        TellsNone notes.old.failures notes.new.failed → TellsNoOrder options.now →
+        Keeps (N.contents notes.old.writer) (N.contents notes.new.writer) }
+    ensures silent { notes.old.explains ≡ false → result ≢ Ok Outcome.Cut →
+        TellsNone notes.old.failures notes.new.failed → TellsNoOrder options.now →
+        Keeps (N.contents notes.old.writer) (N.contents notes.new.writer) }
     ensures kept { IfOk result (λ how. IsKept notes.old.keeps (R.remaining source.old.text)
         (option_map S.remaining source.old.script) options.now how notes.new.run notes.new.texts
         notes.new.stuck (W.contents writer.old) (W.contents writer.new)) }
+    ensures failed { IfSome notes.new.run (λ run. notes.new.failed ≡ has_failed run.report.records.items) }
+    ensures told_failed { IfOk result (λ how. KnowsFailed (R.remaining source.old.text)
+        (option_map S.remaining source.old.script) options.now how notes.new.stuck notes.new.failed
+        (W.contents writer.old) (W.contents writer.new)) }
 {
+    notes.run = None;
+    notes.failed = false;
     let input = read_source(alloc, source)?;
     let explains = notes.explains;
-    notes.run = None;
     let told = tell_serially(alloc, &input, writer, notes, options, listener);
     note_refusal(alloc, &input, &told, explains, notes);
     keep_texts(input, notes);
@@ -79,10 +87,14 @@ pub fn tell_serially<W: Write, N: Write, L: Listener>(
     ensures ok { IfOk result (λ how. Tells input.now options.now how (W.contents writer.old) (W.contents writer.new)) }
     ensures err { IfErr result (λ fault. Fails fault input.now options.now
         (W.contents writer.old) (W.contents writer.new)) }
-    ensures quiet { result ≢ Ok Outcome.Cut → notes.old.strict ≡ false → TellsNoOrder options.now →
-        Keeps (N.contents notes.old.writer) (N.contents notes.new.writer) }
+    ensures quiet { result ≢ Ok Outcome.Cut → TellsNone notes.old.failures notes.new.failed →
+        TellsNoOrder options.now → Keeps (N.contents notes.old.writer) (N.contents notes.new.writer) }
     ensures kept { notes.old.run ≡ None → IfOk result (λ how. KeepsRun notes.old.keeps input.now options.now how
         notes.new.run notes.new.stuck (W.contents writer.old) (W.contents writer.new)) }
+    ensures failed { notes.old.run ≡ None →
+        IfSome notes.new.run (λ run. notes.new.failed ≡ has_failed run.report.records.items) }
+    ensures told_failed { notes.old.failed ≡ false → IfOk result (λ how. SaysFailed input.now options.now how
+        notes.new.stuck notes.new.failed (W.contents writer.old) (W.contents writer.new)) }
 {
     match options.command {
         Command::Check => tell_check(alloc, input, writer, options),
@@ -122,15 +134,21 @@ fn tell_run<W: Write, N: Write, L: Listener>(
     ensures ok { IfOk result (λ how. Tells input.now options.now how (W.contents writer.old) (W.contents writer.new)) }
     ensures err { IfErr result (λ fault. Fails fault input.now options.now
         (W.contents writer.old) (W.contents writer.new)) }
-    ensures quiet { result ≢ Ok Outcome.Cut → notes.old.strict ≡ false → TellsNoOrder options.now →
-        Keeps (N.contents notes.old.writer) (N.contents notes.new.writer) }
+    ensures quiet { result ≢ Ok Outcome.Cut → TellsNone notes.old.failures notes.new.failed →
+        TellsNoOrder options.now → Keeps (N.contents notes.old.writer) (N.contents notes.new.writer) }
     ensures kept { notes.old.run ≡ None → IfOk result (λ how. KeepsRun notes.old.keeps input.now options.now how
         notes.new.run notes.new.stuck (W.contents writer.old) (W.contents writer.new)) }
+    ensures failed { notes.old.run ≡ None →
+        IfSome notes.new.run (λ run. notes.new.failed ≡ has_failed run.report.records.items) }
+    ensures told_failed { notes.old.failed ≡ false → IfOk result (λ how. SaysFailed input.now options.now how
+        notes.new.stuck notes.new.failed (W.contents writer.old) (W.contents writer.new)) }
 {
     let keeps = notes.keeps;
+    let tells = notes.failures;
     match run_input(alloc, input, options.limit, listener) {
         Ok(run) => {
             let told = report(alloc, &run, writer, notes, options);
+            note_failures(alloc, input, &run, tells, notes);
             keep_run(run, keeps, notes);
             told
         }

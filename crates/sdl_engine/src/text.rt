@@ -1,12 +1,13 @@
 //! The whole program over any reader and writer.
 
-ghost use Rattle.std.specs.Prelude.{◌≡◌, ◌≢◌, IfOk, IfErr, None, Some, false, option_map};
+ghost use Rattle.std.specs.Prelude.{◌≡◌, ◌≢◌, IfOk, IfErr, IfSome, None, Some, false, option_map};
 ghost use Rattle.std.specs.Io.KnownBytes.{Keeps};
+ghost use Rattle.failure_replay.specs.Ending.{has_failed};
 ghost use Rattle.sdl_engine.specs.Answer.{Faulted, Fails, Tells, TellsNoOrder, Written};
-ghost use Rattle.sdl_engine.specs.Kept.{IsKept, KeepsRun};
+ghost use Rattle.sdl_engine.specs.Kept.{IsKept, KeepsRun, KnowsFailed, SaysFailed, TellsNone};
 
 use crate::answer::{refuse, report_by_workers};
-use crate::notes::{Notes, keep_run, keep_texts, note_refusal, silent_notes};
+use crate::notes::{Notes, keep_run, keep_texts, note_failures, note_refusal, silent_notes};
 use crate::options::{Command, Options, Outcome, TextFault};
 use crate::pipeline::run_input_by_workers;
 use crate::reading::{read_input, read_source};
@@ -55,17 +56,24 @@ pub fn run_and_note<T: Threads + Wait + Copy + Send + Sync, R: Read, S: Read, W:
         options.now how (W.contents writer.old) (W.contents writer.new)) }
     ensures err { IfErr result (λ fault. Faulted fault (R.remaining source.old.text)
         (option_map S.remaining source.old.script) options.now (W.contents writer.old) (W.contents writer.new)) }
-    ensures quiet { result ≢ Ok Outcome.TextRefused → result ≢ Ok Outcome.Cut → notes.old.strict ≡ false →
-        TellsNoOrder options.now → Keeps (N.contents notes.old.writer) (N.contents notes.new.writer) }
-    ensures silent { notes.old.explains ≡ false → result ≢ Ok Outcome.Cut → notes.old.strict ≡ false →
-        TellsNoOrder options.now → Keeps (N.contents notes.old.writer) (N.contents notes.new.writer) }
+    ensures quiet { result ≢ Ok Outcome.TextRefused → result ≢ Ok Outcome.Cut →
+        TellsNone notes.old.failures notes.new.failed → TellsNoOrder options.now →
+        Keeps (N.contents notes.old.writer) (N.contents notes.new.writer) }
+    ensures silent { notes.old.explains ≡ false → result ≢ Ok Outcome.Cut →
+        TellsNone notes.old.failures notes.new.failed → TellsNoOrder options.now →
+        Keeps (N.contents notes.old.writer) (N.contents notes.new.writer) }
     ensures kept { IfOk result (λ how. IsKept notes.old.keeps (R.remaining source.old.text)
         (option_map S.remaining source.old.script) options.now how notes.new.run notes.new.texts
         notes.new.stuck (W.contents writer.old) (W.contents writer.new)) }
+    ensures failed { IfSome notes.new.run (λ run. notes.new.failed ≡ has_failed run.report.records.items) }
+    ensures told_failed { IfOk result (λ how. KnowsFailed (R.remaining source.old.text)
+        (option_map S.remaining source.old.script) options.now how notes.new.stuck notes.new.failed
+        (W.contents writer.old) (W.contents writer.new)) }
 {
+    notes.run = None;
+    notes.failed = false;
     let input = read_source(alloc, source)?;
     let explains = notes.explains;
-    notes.run = None;
     let told = tell(rt, alloc, &input, writer, notes, options);
     note_refusal(alloc, &input, &told, explains, notes);
     keep_texts(input, notes);
@@ -84,10 +92,14 @@ fn tell<T: Threads + Wait + Copy + Send + Sync, W: Write, N: Write>(
     ensures ok { IfOk result (λ how. Tells input.now options.now how (W.contents writer.old) (W.contents writer.new)) }
     ensures err { IfErr result (λ fault. Fails fault input.now options.now
         (W.contents writer.old) (W.contents writer.new)) }
-    ensures quiet { result ≢ Ok Outcome.Cut → notes.old.strict ≡ false → TellsNoOrder options.now →
-        Keeps (N.contents notes.old.writer) (N.contents notes.new.writer) }
+    ensures quiet { result ≢ Ok Outcome.Cut → TellsNone notes.old.failures notes.new.failed →
+        TellsNoOrder options.now → Keeps (N.contents notes.old.writer) (N.contents notes.new.writer) }
     ensures kept { notes.old.run ≡ None → IfOk result (λ how. KeepsRun notes.old.keeps input.now options.now how
         notes.new.run notes.new.stuck (W.contents writer.old) (W.contents writer.new)) }
+    ensures failed { notes.old.run ≡ None →
+        IfSome notes.new.run (λ run. notes.new.failed ≡ has_failed run.report.records.items) }
+    ensures told_failed { notes.old.failed ≡ false → IfOk result (λ how. SaysFailed input.now options.now how
+        notes.new.stuck notes.new.failed (W.contents writer.old) (W.contents writer.new)) }
 {
     match (options.command, options.workers) {
         (Command::Run, Some(workers)) => {
@@ -112,15 +124,21 @@ fn tell_run_by_workers<T: Threads + Wait + Copy + Send + Sync, W: Write, N: Writ
     ensures ok { IfOk result (λ how. Tells input.now options.now how (W.contents writer.old) (W.contents writer.new)) }
     ensures err { IfErr result (λ fault. Fails fault input.now options.now
         (W.contents writer.old) (W.contents writer.new)) }
-    ensures quiet { result ≢ Ok Outcome.Cut → notes.old.strict ≡ false → TellsNoOrder options.now →
-        Keeps (N.contents notes.old.writer) (N.contents notes.new.writer) }
+    ensures quiet { result ≢ Ok Outcome.Cut → TellsNone notes.old.failures notes.new.failed →
+        TellsNoOrder options.now → Keeps (N.contents notes.old.writer) (N.contents notes.new.writer) }
     ensures kept { notes.old.run ≡ None → IfOk result (λ how. KeepsRun notes.old.keeps input.now options.now how
         notes.new.run notes.new.stuck (W.contents writer.old) (W.contents writer.new)) }
+    ensures failed { notes.old.run ≡ None →
+        IfSome notes.new.run (λ run. notes.new.failed ≡ has_failed run.report.records.items) }
+    ensures told_failed { notes.old.failed ≡ false → IfOk result (λ how. SaysFailed input.now options.now how
+        notes.new.stuck notes.new.failed (W.contents writer.old) (W.contents writer.new)) }
 {
     let keeps = notes.keeps;
+    let tells = notes.failures;
     match run_input_by_workers(rt, alloc, input, workers, options.limit) {
         Ok(run) => {
             let told = report_by_workers(rt, alloc, workers, &run, writer, notes, options);
+            note_failures(alloc, input, &run, tells, notes);
             keep_run(run, keeps, notes);
             told
         }

@@ -1,7 +1,8 @@
 //! What is suspicious in a specification, for a human.
 
 use crate::notes::Names;
-use sdl_explain::{Origin, warnings_of, warnings_text};
+use explain_lines::Origin;
+use sdl_explain::{warnings_of, warnings_text};
 use sdl_input::Texts;
 use std::alloc::{AllocError, Global};
 

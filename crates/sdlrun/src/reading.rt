@@ -49,7 +49,7 @@ pub fn tell<T: Threads + Wait + Copy + Send + Sync>(
     let compared = compare_run(rt, task, &expected, &notes, &written)?;
     Ok(Told {
         outcome: written.outcome,
-        failed: notes.failed,
+        failed: task.strict && notes.failed,
         stuck: notes.stuck.or(drawn).or(compared.stuck).is_some(),
         differs: compared.differs,
         warned: warned && task.denies_warnings,
@@ -69,7 +69,7 @@ fn notes_of<'t>(rt: &HostRuntime, task: &'t Task) -> Notes<'t, Message> {
         writer: Message::new(rt),
         names: names_of(task),
         explains: task.explain,
-        strict: task.strict,
+        failures: task.failures,
         failed: false,
         stuck: None,
         keeps: keeps_run(task),

@@ -42,7 +42,7 @@ fn notes(alloc: Global, text: &str, keeps: bool) -> Notes<'static, Vec<u8>> {
             script: Names::STANDARD_INPUT,
         },
         explains: false,
-        strict: false,
+        failures: false,
         failed: false,
         stuck: None,
         keeps,

@@ -430,7 +430,8 @@ fn told(rt: &impl Abort, alloc: Global, line: &str) -> Result<Task, Error> {
     chosen(alloc, words.as_slice())
 }
 
-fn words(rt: &impl Abort, alloc: Global, line: &str) -> Vec<String> {
+/// The words of a line.
+pub fn words(rt: &impl Abort, alloc: Global, line: &str) -> Vec<String> {
     let mut words = Vec::new(alloc);
     for word in line.split(" ") {
         let word = String::from_str(alloc, word).expect(rt, "memory");

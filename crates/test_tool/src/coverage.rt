@@ -154,7 +154,7 @@ fn notes(alloc: Global, keeps: bool) -> Notes<'static, Vec<u8>> {
             script: Names::STANDARD_INPUT,
         },
         explains: false,
-        strict: false,
+        failures: false,
         failed: false,
         stuck: None,
         keeps,

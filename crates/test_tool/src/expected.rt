@@ -130,7 +130,7 @@ fn run_of(rt: &impl Abort, alloc: Global) -> Run {
             script: Names::STANDARD_INPUT,
         },
         explains: false,
-        strict: false,
+        failures: false,
         failed: false,
         stuck: None,
         keeps: true,

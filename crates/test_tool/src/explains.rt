@@ -44,7 +44,7 @@ fn explaining<N>(writer: N) -> Notes<'static, N> {
             script: "own.script",
         },
         explains: true,
-        strict: false,
+        failures: false,
         failed: false,
         stuck: None,
         keeps: false,
@@ -74,39 +74,6 @@ fn expect_notes(rt: &impl Abort, alloc: Global, text: &str, explained: &str) {
     let told = run_and_note_serially(alloc, &mut source, &mut written, &mut notes, &CHECK, Nobody);
     assert!(rt; told == Ok(Outcome::TextRefused));
     assert!(rt; notes.writer.as_slice() == explained.as_bytes());
-}
-
-static FAILING: &str =
-    "system S; process P (2, 2); dcl n Integer := 0; start; task n := 1 / n; stop; endprocess;
-process Q; start; stop; endprocess; endsystem;
-";
-
-static FAILURES: &str = "sdlrun: instance #1 P failed: ZeroDivisor
-sdlrun: instance #2 P failed: ZeroDivisor
-";
-
-#[test]
-fn tells_failures_where_asked(rt: HostRuntime) {
-    let told = failures_of(&rt, rt.alloc(), FAILING, true);
-    assert!(rt; told.failed);
-    assert!(rt; told.writer.as_slice() == FAILURES.as_bytes());
-    let told = failures_of(&rt, rt.alloc(), FAILING, false);
-    assert!(rt; !told.failed);
-    assert!(rt; told.writer.is_empty());
-}
-
-/// What a run that is whole notes, strictly or not.
-fn failures_of(
-    rt: &impl Abort,
-    alloc: Global,
-    text: &str,
-    strict: bool,
-) -> Notes<'static, Vec<u8>> {
-    let mut notes = explaining(Vec::new(alloc));
-    notes.strict = strict;
-    let told = run(alloc, text, 1_000, &mut notes);
-    assert!(rt; told == Ok(Outcome::Whole));
-    notes
 }
 
 fn run(

@@ -14,6 +14,8 @@ mod charts;
 #[cfg(test)]
 mod command_line;
 #[cfg(test)]
+mod command_tips;
+#[cfg(test)]
 mod coverage;
 #[cfg(test)]
 mod covered;
@@ -27,6 +29,8 @@ mod engine;
 mod expected;
 #[cfg(test)]
 mod explains;
+#[cfg(test)]
+mod failures;
 #[cfg(test)]
 mod files;
 #[cfg(test)]

@@ -38,9 +38,9 @@ end 7 whole
 
 static BAD_SCRIPT: &str = "0 a to P\n\n0 a;\n";
 
-static EXPLAINED: &str = "own.script:3:1: A line of a script ends without a semicolon: `0 a(1)`.
+static EXPLAINED: &str = "own.script:3:4: A line of a script ends without a semicolon: `0 a(1)`.
 3 | 0 a;
-    ^
+       ^
 ";
 
 /// What a run writes and notes.
@@ -64,7 +64,7 @@ fn run<S: Read + Drop>(alloc: Global, script: Option<S>) -> Told {
             script: "own.script",
         },
         explains: true,
-        strict: false,
+        failures: false,
         failed: false,
         stuck: None,
         keeps: false,

@@ -1,6 +1,7 @@
-use Rattle.std.proofs.Common.{Some}
+use Rattle.std.proofs.Common.{Some, arith}
 use Rattle.std.proofs.KnownBytes.{Keeps-trans}
 use Rattle.sdl_engine.specs.declared.options.Command.TheVariants as command
+use Rattle.sdl_engine.proofs.FailedLaws.{refused_failed, run_failed, tells_kept, tells_none}
 use Rattle.sdl_engine.proofs.AnswerLaws.{failed_by, refused_by, run_fails, run_tells}
 use Rattle.sdl_engine.proofs.text.tell_run_by_workers.Goals as goal
 
@@ -19,9 +20,20 @@ returns-in-Ok-clause-err g c =
     c.report_by_workers-told.ensures.err
 
 pub returns-in-Ok-clause-quiet : goal.returns-in-Ok-clause-quiet
-returns-in-Ok-clause-quiet g c = λ cut strict order.
-    Keeps-trans _ _ _ (c.report_by_workers-told.ensures.quiet cut strict (order c.requires.command))
-    c.keep_run.ensures.quiet
+returns-in-Ok-clause-quiet g c = λ cut none order.
+    Keeps-trans _ _ _ (c.report_by_workers-told.ensures.quiet cut (order c.requires.command))
+    (Keeps-trans _ _ _
+    (c.note_failures.ensures.quiet (λ tells. grind (arith, c.keep_run.ensures.rest, none tells)))
+    c.keep_run.ensures.quiet)
+
+pub returns-in-Ok-clause-failed : goal.returns-in-Ok-clause-failed
+returns-in-Ok-clause-failed g c = λ start.
+    tells_kept c.args.notes.now.keeps _ c.in-Ok.run' _
+    (grind (arith, c.note_failures.ensures.failed, c.keep_run.ensures.rest))
+    (λ asked. grind (arith, c.keep_run.ensures.kept asked)) (λ other. grind (arith, c.keep_run.ensures.asked other))
+
+pub returns-in-Err-clause-failed : goal.returns-in-Err-clause-failed
+returns-in-Err-clause-failed g c = λ start. tells_none _ _ start
 
 pub returns-in-Err-clause-ok : goal.returns-in-Err-clause-ok
 returns-in-Err-clause-ok g c =
@@ -32,3 +44,15 @@ pub returns-in-Err-clause-err : goal.returns-in-Err-clause-err
 returns-in-Err-clause-err g c =
     failed_by command.Run (Some c.args.workers) c.args.input.now c.args.options.now c.in-Err.refusal _ _ c.refuse.result
     c.requires.command c.requires.workers c.in-Err.ensures.err c.refuse.ensures.err
+
+pub returns-in-Ok-clause-told_failed : goal.returns-in-Ok-clause-told_failed
+returns-in-Ok-clause-told_failed g c = λ start.
+    let notes = c.keep_run.new.notes in
+    run_failed c.args.input.now c.args.options.now (Some c.args.workers) c.in-Ok.run' c.report_by_workers-told.new.notes.stuck notes.stuck
+    notes.failed _ _ c.report_by_workers-told.result c.requires.command c.requires.workers c.in-Ok.ensures.ok c.report_by_workers-told.ensures.how
+    c.report_by_workers-told.ensures.ok (grind (arith, c.note_failures.ensures.rest, c.keep_run.ensures.rest))
+    (grind (arith, c.note_failures.ensures.failed, c.keep_run.ensures.rest))
+
+pub returns-in-Err-clause-told_failed : goal.returns-in-Err-clause-told_failed
+returns-in-Err-clause-told_failed g c = λ start.
+    refused_failed c.args.input.now c.args.options.now c.in-Err.refusal _ _ _ _ c.refuse.result c.refuse.ensures.how start
