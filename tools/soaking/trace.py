@@ -18,9 +18,11 @@ CUT_NOTE = re.compile(
     rb"sdlrun: cut after (?:1 transition|\d+ transitions)"
     rb"(; the clock never moved; --limit shows less| at time [1-9]\d*; --limit shows less, or more)\n"
 )
-WARNING = re.compile(rb"<stdin>:\d+:\d+: warning \w+: [^\n]+\n\d+ \| [^\n]*\n[ \t]*\^+\n|<stdin>: \d+ more, not shown\n")
+WARNING = re.compile(
+    rb"[^\n:]+:\d+:\d+: warning \w+: [^\n]+\n\d+ \| [^\n]*\n[ \t]*\^+\n|[^\n:]+: \d+ more, not shown\n"
+)
 FAILURE = re.compile(
-    rb"<stdin>(:\d+:\d+)?: Instance #\d+ \w+ failed at time \d+: [^\n]+\n(\d+ \| [^\n]*\n[ \t]*\^+\n)?"
+    rb"[^\n:]+(:\d+:\d+)?: Instance #\d+ \w+ failed at time \d+: [^\n]+\n(\d+ \| [^\n]*\n[ \t]*\^+\n)?"
     rb"|sdlrun: \d+ more instances? failed\n"
 )
 EXPLANATION = re.compile(rb"[^\n:]+(:\d+:\d+)?: [^\n]+\n(?:[^\n]*\n)*")
